@@ -1,0 +1,21 @@
+-- How many characters there are.
+use Rattle.std.proofs.Common.{ℕ, zero, suc, ◌+◌, ◌-◌, ◌*◌, ◌^◌, ◌<◌, ◌≤◌, List, [], ◌∷◌, length, arith}
+use Rattle.std.specs.Str.{chars_after, continuation_len, lead_bits}
+use Rattle.std.specs.Str as str
+use Rattle.std.proofs.lemmas.Nat.{mul-lt}
+
+length-chars_after : (n c : ℕ) (bs : List ℕ) → length (chars_after n c bs) ≤ length bs + 1
+length-chars_after zero c [] = omega arith
+length-chars_after zero c (b ∷ bs) = omega (arith, length-chars_after (continuation_len b) (lead_bits b) bs)
+length-chars_after (suc n) c [] = omega arith
+length-chars_after (suc n) c (b ∷ bs) = omega (arith, length-chars_after n (c * 64 + (b - 128)) bs)
+
+-- a text has no more characters than bytes
+pub length-chars : (bs : List ℕ) → length (str.chars bs) ≤ length bs
+unfolding str.chars
+length-chars [] = omega arith
+length-chars (b ∷ bs) = omega (arith, length-chars_after (continuation_len b) (lead_bits b) bs)
+
+-- the product of two counts of 64 bits has 128
+pub product_fits : (m n : ℕ) → m < 2 ^ 64 → n < 2 ^ 64 → m * n < 2 ^ 128
+product_fits m n below_m below_n = mul-lt m n (2 ^ 64) (2 ^ 64) below_m below_n

@@ -1,0 +1,38 @@
+-- The characters that patterns, paths and lines give a meaning.
+use Rattle.std.specs.Prelude.{ℕ}
+
+-- `/`, the only separator
+abbrev pub slash : ℕ
+slash = 47
+
+-- `.`
+abbrev pub dot : ℕ
+dot = 46
+
+-- `*`
+abbrev pub star : ℕ
+star = 42
+
+-- `?`
+abbrev pub question_mark : ℕ
+question_mark = 63
+
+-- `[`
+abbrev pub open_bracket : ℕ
+open_bracket = 91
+
+-- `]`
+abbrev pub close_bracket : ℕ
+close_bracket = 93
+
+-- `!`
+abbrev pub exclamation_mark : ℕ
+exclamation_mark = 33
+
+-- `-`
+abbrev pub hyphen : ℕ
+hyphen = 45
+
+-- the end of a line
+abbrev pub line_feed : ℕ
+line_feed = 10

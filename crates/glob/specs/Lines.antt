@@ -1,0 +1,36 @@
+-- The lines of some bytes, and those of them that a pattern matches.
+use Rattle.std.specs.Prelude.{◌≡◌, ℕ, ◌==◌, ◌⊎◌, if◌then◌else◌, List, [], ◌∷◌, ◌++◌, true}
+use Rattle.std.specs.Str.{chars, is_utf8}
+use Rattle.std.specs.List.{flat_map}
+use Rattle.glob.specs.Characters.{line_feed}
+use Rattle.glob.specs.Matching.{Matches}
+use Rattle.glob.specs.declared.options.MatchOptions.{MatchOptions}
+
+-- the lines of the bytes, where `line` was read of the first of them
+abbrev pub lines_after : (line : List ℕ) → List ℕ → List (List ℕ)
+lines_after [] [] = []
+lines_after (x ∷ xs) [] = (x ∷ xs) ∷ []
+lines_after line (b ∷ bs) = if b == line_feed then line ∷ lines_after [] bs else lines_after (line ++ b ∷ []) bs
+
+-- A line ends before a line feed. What follows the last one is a line if it is not empty.
+abbrev pub lines_of : List ℕ → List (List ℕ)
+lines_of bytes = lines_after [] bytes
+
+-- the line is text, and the pattern matches it
+abbrev pub LineMatches : MatchOptions → (pattern : List ℕ) → List ℕ → Type 0
+LineMatches o pattern line = (is_utf8 line ≡ true) × Matches o (chars pattern) (chars line)
+
+-- `kept` are those of the lines of which P holds, in order
+abbrev pub AreKept : (List ℕ → Type 0) → (lines : List (List ℕ)) → (kept : List (List ℕ)) → Type 0
+AreKept P [] kept = kept ≡ []
+AreKept P (line ∷ lines) kept =
+    (P line × ((others : List (List ℕ)) × (kept ≡ line ∷ others) × AreKept P lines others))
+    ⊎ ((¬ (P line)) × AreKept P lines kept)
+
+-- each line and a line feed
+abbrev pub with_line_feeds : List (List ℕ) → List ℕ
+with_line_feeds lines = flat_map (λ line. line ++ line_feed ∷ []) lines
+
+-- the lines of the input that the pattern matches, in order
+abbrev pub AreMatchingLines : MatchOptions → (pattern input : List ℕ) → List (List ℕ) → Type 0
+AreMatchingLines o pattern input kept = AreKept (LineMatches o pattern) (lines_of input) kept

@@ -1,0 +1,15 @@
+//! Unix shell patterns for texts and paths.
+#![tactic(auto)]
+
+mod class;
+mod error;
+mod grammar;
+mod laws;
+mod matcher;
+mod options;
+mod pattern;
+
+pub use error::{PatternError, PatternRefusal};
+pub use matcher::{Judge, Shape, run_positions};
+pub use options::MatchOptions;
+pub use pattern::Pattern;

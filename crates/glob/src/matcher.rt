@@ -1,0 +1,84 @@
+ghost use Rattle.std.specs.Prelude.{◌≡◌, ℕ, ◌+◌, ◌-◌, ◌*◌, ◌^◌, ◌<◌, ◌≤◌, ◌↔◌, false, length, IsTrue, IfOk};
+ghost use Rattle.glob.specs.Splits.{Table, Splits};
+
+mod row;
+
+use row::{first_row, next_row};
+use std::alloc::{AllocError, Allocator};
+
+/// Which pieces a token may have.
+#[derive(Clone, Copy, Debug, PartialEq, Eq)]
+pub enum Shape {
+    /// One character.
+    One,
+    /// Any number of characters.
+    Run,
+    /// Any number of characters; where shapes follow, none or up to a place that opens.
+    Deep,
+}
+
+/// What is asked about a list of characters and a list of tokens, both numbered from 0. A judge stands at a place: the
+/// number of characters that it has stepped over.
+pub trait Judge {
+    ghost table: { Self → Table };
+
+    ghost place: { Self → ℕ };
+
+    ghost count: { Self → ℕ };
+
+    /// Goes to the next character. Answers true, or false where none is left.
+    fn step(&mut self) -> bool
+        ensures same { table self.new ≡ table self.old }
+        ensures count { count self.new ≡ count self.old }
+        ensures stepped { IsTrue result
+            → (place self.new ≡ place self.old + 1) × (place self.new ≤ (table self.new).characters) }
+        ensures ended { result ≡ false
+            → (place self.new ≡ place self.old) × ((table self.new).characters ≡ place self.old) };
+
+    /// Whether the place after the characters stepped over opens.
+    fn opens(&self) -> bool
+        ensures { result ≡ (table self.now).opens (place self.now) };
+
+    /// Whether a token takes the character last stepped onto. Raises the count by one.
+    fn takes(&mut self, token: usize) -> bool
+        requires stepped { 0 < place self.old }
+        requires token { token < (table self.old).tokens }
+        requires room { count self.old + 1 < 2 ^ 128 }
+        ensures same { table self.new ≡ table self.old }
+        ensures place { place self.new ≡ place self.old }
+        ensures count { count self.new ≡ count self.old + 1 }
+        ensures value { result ≡ (table self.old).takes token (place self.old - 1) };
+
+    /// The count: how often a token was asked about a character.
+    fn asked(&self) -> u128
+        ensures { result ≡ count self.now };
+}
+
+/// Whether all characters of a judge that has not stepped split into pieces, one a shape, where the token of the
+/// shape's number takes each character of the piece. Each token is asked at most once a character. An error where
+/// there is no memory for the work.
+pub fn run_positions<A: Allocator + Copy, J: Judge>(
+    alloc: A,
+    shapes: &[Shape],
+    judge: &mut J,
+) -> Result<bool, AllocError>
+    requires tokens { length shapes.now ≤ (J.table judge.old).tokens }
+    requires start { J.place judge.old ≡ 0 }
+    requires room { J.count judge.old + length shapes.now * (J.table judge.old).characters < 2 ^ 128 }
+    ensures answer { IfOk result (λ yes. IsTrue yes ↔ Splits (J.table judge.old) shapes.now) }
+
+    // The asks: at most one for each token and character, and for a yes at least one for each character.
+    ensures most { J.count judge.new ≤ J.count judge.old + length shapes.now * (J.table judge.old).characters }
+    ensures least { IfOk result
+        (λ yes. IsTrue yes → J.count judge.old + (J.table judge.old).characters ≤ J.count judge.new) }
+    ensures monotone { J.count judge.old ≤ J.count judge.new }
+    ensures same { J.table judge.new ≡ J.table judge.old }
+{
+    let mut rows = Vec::new(alloc);
+    rows.push(first_row(alloc, shapes)?)?;
+    while judge.step() {
+        let row = next_row(alloc, shapes, &rows[rows.len() - 1], judge)?;
+        rows.push(row)?;
+    }
+    Ok(rows[rows.len() - 1][shapes.len()])
+}

@@ -1,0 +1,104 @@
+ghost use Rattle.std.specs.Prelude.{◌≡◌, ◌↔◌, IsTrue, IfOk, IfErr, chars};
+ghost use Rattle.std.specs.Path.{path_bytes};
+ghost use Rattle.glob.specs.Units.{IsAccepted};
+ghost use Rattle.glob.specs.Faults.{Refuses};
+ghost use Rattle.glob.specs.Matching.{Matches};
+ghost use Rattle.glob.specs.Options.{new_options};
+
+mod judge;
+mod taking;
+
+use crate::class::Class;
+use crate::error::PatternRefusal;
+use crate::grammar::{self, Token};
+use crate::matcher::{self, Shape};
+use crate::options::MatchOptions;
+use judge::TextJudge;
+use std::alloc::{AllocError, Allocator, Global};
+use std::marker::Model;
+use std::path::Path;
+
+/// A pattern that was read.
+#[derive(Debug, Drop)]
+pub struct Pattern<A: Allocator = Global> {
+    text: String<A>,
+    tokens: Vec<Token<Class<A>>, A>,
+    shapes: Vec<Shape, A>,
+    alloc: A,
+}
+
+impl<A: Allocator> Model for Pattern<A> {
+    ghost use Rattle.std.specs.Prelude.{List, ℕ, string_bytes};
+
+    ghost Value = { List ℕ };
+
+    ghost use Rattle.std.specs.Prelude.{chars};
+    ghost use Rattle.glob.specs.Patterns.{KeepsTokens};
+
+    ghost view = { λ p. string_bytes p.text };
+
+    ghost invariant = { λ p. KeepsTokens (chars (string_bytes p.text)) p.tokens.items p.shapes.items };
+}
+
+impl<A: Allocator> Pattern<A> {
+    /// The text that the pattern was read from.
+    pub fn as_str(&self) -> &str
+        ensures { result.now ≡ self.now }
+    {
+        self.text.as_str()
+    }
+}
+
+impl<A: Allocator + Copy> Pattern<A> {
+    /// Reads a pattern. A text that is not accepted is refused with its first fault from the left, whose place is a
+    /// number of characters; and any text may be refused for want of memory.
+    pub fn new(alloc: A, pattern: &str) -> Result<Self, PatternRefusal>
+        ensures accepted { IfOk result (λ _. IsAccepted (chars pattern.now)) }
+        ensures text { IfOk result (λ p. p ≡ pattern.now) }
+        ensures refused { IfErr result (Refuses (chars pattern.now)) }
+    {
+        let tokens = grammar::read_tokens(alloc, pattern)?;
+        let shapes = grammar::shapes_of(alloc, tokens.as_slice())?;
+        let text = String::from_str(alloc, pattern)?;
+        Ok(Pattern {
+            text,
+            tokens,
+            shapes,
+            alloc,
+        })
+    }
+
+    /// Whether the pattern matches the whole text, with case and without the separator rule and the dot rule:
+    /// [`matches_with`](Self::matches_with) under `MatchOptions::new()`.
+    pub fn matches(&self, str: &str) -> Result<bool, AllocError>
+        ensures { IfOk result (λ yes. IsTrue yes ↔ Matches new_options (chars self.now) (chars str.now)) }
+    {
+        self.matches_with(str, MatchOptions::new())
+    }
+
+    /// Whether the pattern matches the whole text: whether the text splits into one allowed piece for each token.
+    pub fn matches_with(&self, str: &str, options: MatchOptions) -> Result<bool, AllocError>
+        ensures { IfOk result (λ yes. IsTrue yes ↔ Matches options (chars self.now) (chars str.now)) }
+    {
+        let mut judge = TextJudge::new(self.tokens.as_slice(), str, options);
+        matcher::run_positions(self.alloc, self.shapes.as_slice(), &mut judge)
+    }
+
+    /// [`matches`](Self::matches) on the path's text.
+    pub fn matches_path(&self, path: Path<'_>) -> Result<bool, AllocError>
+        ensures { IfOk result (λ yes. IsTrue yes ↔ Matches new_options (chars self.now) (chars (path_bytes path.entry))) }
+    {
+        self.matches(path.as_str())
+    }
+
+    /// [`matches_with`](Self::matches_with) on the path's text.
+    pub fn matches_path_with(
+        &self,
+        path: Path<'_>,
+        options: MatchOptions,
+    ) -> Result<bool, AllocError>
+        ensures { IfOk result (λ yes. IsTrue yes ↔ Matches options (chars self.now) (chars (path_bytes path.entry))) }
+    {
+        self.matches_with(path.as_str(), options)
+    }
+}

@@ -1,0 +1,83 @@
+ghost use Rattle.std.specs.Prelude.{◌≡◌, ℕ, ◌-◌, ◌<◌, ◌≤◌, length, drop, slice_index, chars};
+ghost use Rattle.std.specs.Str.Iter.{chars_rest};
+ghost use Rattle.glob.specs.Stepping.{StandsBefore, place_before};
+ghost use Rattle.glob.specs.TextTable.{table_of};
+
+use crate::class::Class;
+use crate::grammar::Token;
+use crate::matcher::Judge;
+use crate::options::MatchOptions;
+use crate::pattern::taking::takes;
+use std::alloc::Allocator;
+use std::str::Chars;
+
+/// Asks of a text what a pattern's tokens take.
+#[derive(Drop)]
+pub struct TextJudge<'a, A: Allocator> {
+    tokens: &'a [Token<Class<A>>],
+    options: MatchOptions,
+    text: &'a str,
+    rest: Chars<'a>,
+    // the character last stepped onto, and whether its place opens
+    current: char,
+    opened: bool,
+    // whether the place after it opens
+    opens: bool,
+    count: u128,
+    ghost stands: { StandsBefore (chars text.now) (chars (chars_rest rest)) current opened opens },
+}
+
+impl<'a, A: Allocator> TextJudge<'a, A> {
+    /// Before the first character, with nothing asked.
+    pub fn new(tokens: &'a [Token<Class<A>>], text: &'a str, options: MatchOptions) -> Self
+        ensures tokens { result.tokens.now ≡ tokens.now }
+        ensures text { result.text.now ≡ text.now }
+        ensures options { result.options ≡ options }
+        ensures count { result.count ≡ 0 }
+        ensures start { place_before (chars text.now) (chars (chars_rest result.rest)) ≡ 0 }
+    {
+        TextJudge {
+            tokens,
+            options,
+            text,
+            rest: text.chars(),
+            current: '/',
+            opened: true,
+            opens: true,
+            count: 0,
+        }
+    }
+}
+
+#[tactic(auto, unfolding(crate::specs::TextTable::table_of))]
+impl<A: Allocator> Judge for TextJudge<'_, A> {
+    ghost table = { λ j. table_of j.options j.tokens.now (chars j.text.now) };
+
+    ghost place = { λ j. place_before (chars j.text.now) (chars (chars_rest j.rest)) };
+
+    ghost count = { λ j. j.count };
+
+    fn step(&mut self) -> bool {
+        let _left = self.rest.as_str();
+        let Some(c) = self.rest.next() else {
+            return false;
+        };
+        self.current = c;
+        self.opened = self.opens;
+        self.opens = c == '/';
+        true
+    }
+
+    fn opens(&self) -> bool {
+        self.opens
+    }
+
+    fn takes(&mut self, token: usize) -> bool {
+        self.count += 1;
+        takes(&self.tokens[token], self.options, self.opened, self.current)
+    }
+
+    fn asked(&self) -> u128 {
+        self.count
+    }
+}

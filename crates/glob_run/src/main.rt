@@ -1,0 +1,109 @@
+//! Shell patterns at the command line. `glob_run match PATTERN` copies the matching lines of standard input.
+#![tactic(auto)]
+
+mod command;
+
+use command::Command;
+use glob::{MatchOptions, Pattern, Watch, filter_lines};
+use std::alloc::Allocator;
+use std::fmt::Display;
+use std::io::{self, Read, Write};
+use std::process::ExitCode;
+use std::env;
+
+/// The line that a usage fault prints.
+const USAGE: &str = "usage: glob_run match [-i] [-s] [-d] PATTERN | escape TEXT | find [-i] [-s] [-d] [-n LIMIT] PATTERN";
+
+/// Something matched.
+const MATCHED: u8 = 0;
+
+/// Nothing matched.
+const UNMATCHED: u8 = 1;
+
+/// There was a fault.
+const FAULT: u8 = 2;
+
+/// Runs the program on the words after its name, and answers its exit status: 0 where something matched, 1 where
+/// nothing did, 2 at a fault. A fault is one line on `errors`; a fault of `errors` itself is dropped. A usage fault is
+/// found first, then a fault of the pattern, both before anything is read or written.
+pub fn run_words<A: Allocator + Copy, R: Read + Drop, W: Write + Drop, E: Write>(
+    alloc: A,
+    words: &[&str],
+    input: R,
+    output: W,
+    errors: &mut E,
+) -> u8 {
+    match Command::parse(words) {
+        None => fault(errors, USAGE),
+        Some(Command::Match { options, pattern }) => {
+            run_match(alloc, options, pattern, input, output, errors)
+        }
+    }
+}
+
+fn run_match<A: Allocator + Copy, R: Read + Drop, W: Write + Drop, E: Write>(
+    alloc: A,
+    options: MatchOptions,
+    pattern: &str,
+    input: R,
+    output: W,
+    errors: &mut E,
+) -> u8 {
+    let pattern = match Pattern::new(alloc, pattern) {
+        Ok(pattern) => pattern,
+        Err(refusal) => return fault(errors, refusal),
+    };
+    let mut reader = Watch::new(input);
+    let mut writer = Watch::new(output);
+    match filter_lines(alloc, &pattern, options, &mut reader, &mut writer) {
+        Ok(0) => UNMATCHED,
+        Ok(_) => MATCHED,
+        Err(line_fault) => fault(errors, line_fault),
+    }
+}
+
+/// Writes the one line of a fault, and answers its status.
+fn fault<E: Write, D: Display + Drop>(errors: &mut E, message: D) -> u8 {
+    let _ = writeln!(errors, "{message}");
+    FAULT
+}
+
+/// The line of words that could not be had: too little memory for them, or a word that is not UTF-8.
+fn words_fault<E: Write>(errors: &mut E, error: &io::Error) -> u8 {
+    match error.kind() {
+        io::ErrorKind::OutOfMemory => fault(errors, "out of memory"),
+        _ => fault(errors, USAGE),
+    }
+}
+
+/// Runs the program on its arguments, the first of which is its name.
+fn run_arguments<A: Allocator + Copy, R: Read + Drop, W: Write + Drop, E: Write>(
+    alloc: A,
+    arguments: &[String<A>],
+    input: R,
+    output: W,
+    errors: &mut E,
+) -> u8 {
+    let words = arguments.iter().skip(1).map(|word| word.as_str());
+    match words.collect::<Vec<&str, A>>(alloc) {
+        Ok(words) => run_words(alloc, words.as_slice(), input, output, errors),
+        Err(_) => fault(errors, "out of memory"),
+    }
+}
+
+fn main(rt: HostRuntime) -> ExitCode {
+    let mut errors = rt.stderr();
+    ExitCode::from(match env::args(&rt) {
+        Ok(arguments) => run_arguments(
+            rt.alloc(),
+            arguments.as_slice(),
+            rt.stdin(),
+            rt.stdout(),
+            &mut errors,
+        ),
+        Err(error) => words_fault(&mut errors, &error),
+    })
+}
+
+#[cfg(test)]
+mod tests;

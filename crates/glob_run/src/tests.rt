@@ -1,0 +1,72 @@
+use super::*;
+use std::test::Fail;
+
+const USAGE_LINE: &str = "usage: glob_run match [-i] [-s] [-d] PATTERN | escape TEXT | find [-i] [-s] [-d] [-n LIMIT] PATTERN\n";
+
+const FAULT_LINE: &str = "Pattern syntax error near position 3: invalid range pattern\n";
+
+/// The words, the input, the output, what is printed of faults, and the status.
+type Row = (
+    &'static [&'static str],
+    &'static [u8],
+    &'static str,
+    &'static str,
+    u8,
+);
+
+const LINES: [Row; 13] = [
+    (&["match", "*.rs"], b"a.rs\nb.c\n", "a.rs\n", "", 0),
+    (&["match", "a?"], b"ab", "ab\n", "", 0),
+    (&["match", "*"], b"", "", "", 1),
+    (&["match", "*"], b"\xff\na\n", "a\n", "", 0),
+    (&["match", ""], b"\n", "\n", "", 0),
+    (&["match", "--", "-*"], b"-x\n", "-x\n", "", 0),
+    (&["match", "a[b-d]"], b"ac\nae\n", "ac\n", "", 0),
+    (&["match", "-i", "A*"], b"ab\n", "ab\n", "", 0),
+    (&["match", "-s", "a*"], b"a/b\nab\n", "ab\n", "", 0),
+    (&["match", "-d", "-d", "*"], b".x\ny\n", "y\n", "", 0),
+    (&["match", "-i", "É"], "é\n".as_bytes(), "", "", 1),
+    (&["match", "abc[def"], b"abc\n", "", FAULT_LINE, 2),
+    (&["match", "-d", "--", "*"], b".x\ny\n", "y\n", "", 0),
+];
+
+const USAGE_FAULTS: [&[&str]; 12] = [
+    &[],
+    &["match"],
+    &["match", "-*"],
+    &["match", "-n", "3", "*"],
+    &["match", "-is", "*"],
+    &["match", "-"],
+    &["match", "a", "b"],
+    &["match", "a", "--"],
+    &["match", "--"],
+    &["match", "--", "a", "b"],
+    &["catch", "*"],
+    &["--", "match", "*"],
+];
+
+#[test]
+fn lines(rt: HostRuntime) -> Result<(), Fail> {
+    for (words, input, output, faults, status) in &LINES {
+        let mut written = Vec::new(rt.alloc());
+        let mut errors = Vec::new(rt.alloc());
+        let answer = run_words(rt.alloc(), words, *input, &mut written, &mut errors);
+        assert_eq!(rt; answer, *status, "{words:?}");
+        assert_eq!(rt; written.as_slice(), output.as_bytes(), "{words:?}");
+        assert_eq!(rt; errors.as_slice(), faults.as_bytes(), "{words:?}");
+    }
+    Ok(())
+}
+
+#[test]
+fn usage_faults(rt: HostRuntime) -> Result<(), Fail> {
+    for words in USAGE_FAULTS {
+        let mut written = Vec::new(rt.alloc());
+        let mut errors = Vec::new(rt.alloc());
+        let answer = run_words(rt.alloc(), words, b"a\n".as_slice(), &mut written, &mut errors);
+        assert_eq!(rt; answer, 2, "{words:?}");
+        assert!(rt; written.is_empty(), "{words:?}");
+        assert_eq!(rt; errors.as_slice(), USAGE_LINE.as_bytes(), "{words:?}");
+    }
+    Ok(())
+}

@@ -1,0 +1,153 @@
+//! An allocator that counts the requests for memory and refuses a chosen one.
+ghost use Rattle.std.specs.Prelude.{◌≡◌, false, Option, None, Some, ℕ};
+
+use std::alloc::{AllocError, Allocator};
+use std::cell::Cell;
+use std::marker::Model;
+
+/// The number of requests for memory so far, and which request is refused, if any.
+#[derive(Drop)]
+pub struct Ration {
+    asked: Cell<u64>,
+    refused: Option<u64>,
+}
+
+// A clause sees the number of the refused request, and not the count, which a cell hides.
+impl Model for Ration {
+    ghost Value = { Option ℕ };
+
+    ghost view = { λ ration. ration.refused };
+}
+
+impl Ration {
+    /// A ration that refuses nothing, at 0 requests.
+    pub fn new() -> Ration
+        ensures { result ≡ None }
+    {
+        Ration {
+            asked: Cell::new(0),
+            refused: None,
+        }
+    }
+
+    /// A ration that refuses the request of this number, counted from 1, at 0 requests.
+    /// At 0 it refuses nothing.
+    pub fn refusing(number: u64) -> Ration
+        ensures { result ≡ Some number }
+    {
+        Ration {
+            asked: Cell::new(0),
+            refused: Some(number),
+        }
+    }
+
+    /// How many requests were counted so far, those that were refused or failed among them.
+    pub fn asked(&self) -> u64 {
+        self.asked.get()
+    }
+
+    /// Counts a request, and says whether it is the refused one.
+    /// The count stops at `u64::MAX`.
+    pub fn refuses_next(&self) -> bool
+        ensures { self.now ≡ None → result ≡ false }
+    {
+        let number = self.asked.get().saturating_add(1);
+        self.asked.set(number);
+        self.refused == Some(number)
+    }
+}
+
+impl Default for Ration {
+    fn default() -> Ration {
+        Ration::new()
+    }
+}
+
+/// The allocator `inner`, each of whose requests is first counted by `ration`, which may refuse it.
+/// To grow or to shrink a block is one request, and to give a block back is none.
+///
+/// A `&Rationed<A>` is an allocator too, and is `Copy`: hand that on, and read the count afterwards
+/// by `rationed.ration.asked()`.
+#[derive(Drop)]
+pub struct Rationed<A> {
+    pub ration: Ration,
+    pub inner: A,
+}
+
+unsafe impl<A: Allocator> Allocator for Rationed<A> {
+    ghost dealloc_token = { λ rationed. A.dealloc_token rationed.inner };
+
+    fn allocate(&self, size: usize, align: usize) -> Result<*mut u8, AllocError> {
+        if self.ration.refuses_next() {
+            return Err(AllocError);
+        }
+        self.inner.allocate(size, align)
+    }
+
+    unsafe fn deallocate(&self, ptr: *mut u8, size: usize, align: usize) {
+        unsafe { self.inner.deallocate(ptr, size, align) }
+    }
+}
+
+#[cfg(test)]
+mod tests {
+    use super::*;
+    use std::alloc::Global;
+    use std::test::Fail;
+
+    // Each sum of the first bytes.
+    fn sums<A: Allocator + Copy>(alloc: A, bytes: &[u8]) -> Result<Vec<u8, A>, AllocError> {
+        let mut sums = Vec::new(alloc);
+        let mut sum = 0u8;
+        for &byte in bytes {
+            sum = sum.wrapping_add(byte);
+            sums.push(sum)?;
+        }
+        Ok(sums)
+    }
+
+    // A list and a text, each of which grows more than once.
+    fn grown<A: Allocator + Copy>(alloc: A) -> Result<(Vec<u8, A>, String<A>), AllocError> {
+        let list = sums(alloc, &[1; 40])?;
+        let mut text = String::new(alloc);
+        for _ in 0..10 {
+            text.push_str("text")?;
+        }
+        Ok((list, text))
+    }
+
+    // No request is refused at `None`.
+    fn rationed(refused: Option<u64>, inner: Global) -> Rationed<Global> {
+        let ration = match refused {
+            Some(number) => Ration::refusing(number),
+            None => Ration::new(),
+        };
+        Rationed { ration, inner }
+    }
+
+    #[test]
+    fn each_request_is_refused_in_turn(rt: HostRuntime) -> Result<(), Fail> {
+        let ample = rationed(None, rt.alloc());
+        let (list, text) = grown(&ample)?;
+        assert_eq!(rt; list.len(), 40);
+        assert_eq!(rt; text.len(), 40);
+        let requests = ample.ration.asked();
+        assert!(rt; requests > 2);
+
+        for number in 1..=requests {
+            let scarce = rationed(Some(number), rt.alloc());
+            assert!(rt; matches!(grown(&scarce), Err(AllocError)), "at {number}");
+            assert_eq!(rt; scarce.ration.asked(), number);
+        }
+        Ok(())
+    }
+
+    #[test]
+    fn a_later_request_is_answered(rt: HostRuntime) -> Result<(), Fail> {
+        let scarce = rationed(Some(1), rt.alloc());
+        assert!(rt; sums(&scarce, &[1, 2]).is_err());
+        assert_eq!(rt; sums(&scarce, &[1, 2])?.as_slice(), [1, 3].as_slice());
+        assert_eq!(rt; scarce.ration.asked(), 2);
+        Ok(())
+    }
+}

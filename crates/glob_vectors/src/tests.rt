@@ -1,0 +1,6 @@
+mod faults;
+mod lines;
+mod matching;
+mod memory;
+mod options;
+mod texts;

@@ -1,0 +1,86 @@
+//! Each request for memory refused in turn: the answer is want of memory, or the one with ample memory.
+use crate::rationing::{Ration, Rationed};
+use crate::readers::{ShortReader, ShortWriter};
+use glob::{LineFault, MatchOptions, Pattern, PatternRefusal, Watch, filter_lines};
+use std::alloc::{Allocator, Global};
+use std::test::Fail;
+
+fn rationed(refused: u64, inner: Global) -> Rationed<Global> {
+    Rationed {
+        ration: Ration::refusing(refused),
+        inner,
+    }
+}
+
+/// Whether the pattern matches the text, or `None` for want of memory.
+fn decided<A: Allocator + Copy>(alloc: A, text: &str, str: &str) -> Option<bool> {
+    let pattern = Pattern::new(alloc, text).ok()?;
+    pattern.matches(str).ok()
+}
+
+#[test]
+fn patterns_and_matches(rt: HostRuntime) {
+    let rows = [
+        ("*.rs", "main.rs", true),
+        ("[a-c]*[!x]", "beta", true),
+        ("a/**/[xyz]?", "a/b/c/y", false),
+    ];
+    for (text, str, answer) in rows {
+        let ample = rationed(0, rt.alloc());
+        assert_eq!(rt; decided(&ample, text, str), Some(answer), "{text}");
+        let requests = ample.ration.asked();
+        assert!(rt; requests > 2);
+        for number in 1..=requests {
+            let scarce = rationed(number, rt.alloc());
+            assert_eq!(rt; decided(&scarce, text, str), None, "{text} at {number}");
+        }
+    }
+}
+
+#[test]
+fn a_refused_pattern_is_refused_alike(rt: HostRuntime) {
+    let ample = rationed(0, rt.alloc());
+    assert!(rt; matches!(Pattern::new(&ample, "[a]b[c"), Err(PatternRefusal::Syntax(_))));
+    for number in 1..=ample.ration.asked() {
+        let scarce = rationed(number, rt.alloc());
+        assert!(rt; Pattern::new(&scarce, "[a]b[c").is_err());
+    }
+}
+
+/// Copies lines with memory from `alloc`: the count, or `None` for want of memory; and what was written.
+fn copied<A: Allocator + Copy>(
+    rt: &HostRuntime,
+    alloc: A,
+    pattern: &Pattern,
+    input: &[u8],
+) -> Result<(Option<u64>, Vec<u8>), Fail> {
+    let mut reader = Watch::new(ShortReader::new(input, 5));
+    let mut writer = Watch::new(ShortWriter::new(rt.alloc(), 100));
+    let options = MatchOptions::new();
+    let count = match filter_lines(alloc, pattern, options, &mut reader, &mut writer) {
+        Ok(count) => Some(count),
+        Err(LineFault::Memory) => None,
+        Err(_) => panic!(rt; "a fault of the reader or the writer"),
+    };
+    let written = Vec::from_slice(rt.alloc(), writer.into_inner().written())?;
+    Ok((count, written))
+}
+
+#[test]
+fn lines(rt: HostRuntime) -> Result<(), Fail> {
+    let pattern = Pattern::new(rt.alloc(), "*")?;
+    let ample = rationed(0, rt.alloc());
+    let (count, written) = copied(&rt, &ample, &pattern, b"ab\nc\nd")?;
+    assert_eq!(rt; count, Some(3));
+    assert_eq!(rt; written.as_slice(), b"ab\nc\nd\n".as_slice());
+    let requests = ample.ration.asked();
+    assert!(rt; requests > 0);
+    for number in 1..=requests {
+        let scarce = rationed(number, rt.alloc());
+        let (count, part) = copied(&rt, &scarce, &pattern, b"ab\nc\nd")?;
+        assert_eq!(rt; count, None);
+        assert!(rt; written.starts_with(part.as_slice()));
+        assert!(rt; part.is_empty() || part.ends_with(b"\n"));
+    }
+    Ok(())
+}

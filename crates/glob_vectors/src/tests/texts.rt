@@ -1,0 +1,40 @@
+//! Texts and patterns of a million characters.
+use glob::{Pattern, PatternRefusal};
+use std::test::Fail;
+
+const MILLION: usize = 1_000_000;
+
+/// The text `unit` so many times.
+fn repeated(rt: &HostRuntime, unit: &str, times: usize) -> Result<String, Fail> {
+    let mut text = String::new(rt.alloc());
+    for _ in 0..times {
+        text.push_str(unit)?;
+    }
+    Ok(text)
+}
+
+#[test]
+fn a_long_pattern_is_refused_at_its_first_fault(rt: HostRuntime) -> Result<(), Fail> {
+    let text = repeated(&rt, "[", 100_000)?;
+    match Pattern::new(rt.alloc(), text.as_str()) {
+        Err(PatternRefusal::Syntax(error)) => assert_eq!(rt; error.pos, 0),
+        _ => panic!(rt; "no fault is told"),
+    }
+    Ok(())
+}
+
+#[test]
+fn a_long_text_is_matched(rt: HostRuntime) -> Result<(), Fail> {
+    let text = repeated(&rt, "a", MILLION)?;
+    let pattern = Pattern::new(rt.alloc(), "*a")?;
+    assert!(rt; pattern.matches(text.as_str())?);
+    Ok(())
+}
+
+#[test]
+fn a_long_pattern_is_read(rt: HostRuntime) -> Result<(), Fail> {
+    let text = repeated(&rt, "[b-y]", MILLION / 5)?;
+    let pattern = Pattern::new(rt.alloc(), text.as_str())?;
+    assert!(rt; !pattern.matches("b")?);
+    Ok(())
+}
