@@ -4,12 +4,17 @@ pub mod Closing
 pub mod Counts
 pub mod DecidingLemmas
 pub mod EscapingLemmas
+pub mod FilteredLines
 pub mod FoldedMatching
 pub mod Folding
+pub mod KeptLines
+pub mod KnownMoves
 pub mod Leading
+pub mod LineSplits
 pub mod Literals
 pub mod Loosening
 pub mod MatchingLemmas
+pub mod Passing
 pub mod PiecesAndSplits
 pub mod Places
 pub mod PlainPatterns
@@ -21,3 +26,4 @@ pub mod SplitsLemmas
 pub mod SteppingLemmas
 pub mod Units
 pub mod WrittenUnits
+pub mod MatchingLines

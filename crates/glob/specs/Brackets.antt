@@ -23,7 +23,8 @@ is_ascii c = nat_lt c 128
 abbrev pub is_small_letter : ℕ → Bool
 is_small_letter c = nat_le 97 c && nat_le c 122
 
--- c and x are the same character. Without case, two of ASCII are the same where their small letters are.
+-- c and x are the same character. Without case, two of ASCII are the same too if they are equal once capital letters
+-- are made small.
 abbrev pub same : (case : Bool) → ℕ → ℕ → Bool
 same case c x =
     c == x || (not case && is_ascii c && is_ascii x && to_ascii_lowercase c == to_ascii_lowercase x)
@@ -32,7 +33,7 @@ same case c x =
 abbrev pub in_range : ℕ → ℕ → ℕ → Bool
 in_range x y c = nat_le x c && nat_le c y
 
--- The range from x to y holds the small letter of c: the three are of ASCII, and both ends are letters.
+-- The three are of ASCII and both ends are letters, and c lies between the ends once capital letters are made small.
 abbrev pub in_folded_range : ℕ → ℕ → ℕ → Bool
 in_folded_range x y c =
     is_ascii x && is_ascii y && is_ascii c

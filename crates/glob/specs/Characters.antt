@@ -33,6 +33,6 @@ exclamation_mark = 33
 abbrev pub hyphen : ℕ
 hyphen = 45
 
--- the end of a line
+-- LF, which ends a line
 abbrev pub line_feed : ℕ
 line_feed = 10

@@ -28,6 +28,7 @@ abbrev pub only_empty : List (Bool × ℕ) → List Bool
 only_empty [] = true ∷ []
 only_empty (x ∷ xs) = false ∷ only_empty xs
 
+-- the token takes the character
 abbrev pub take_placed : MatchOptions → Token → Bool × ℕ → Bool
 take_placed o t (opening, c) = takes o opening c t
 
@@ -44,7 +45,7 @@ many_before o t (x ∷ xs) rests = many_more x (many_before o t xs (shorter rest
     many_more : Bool × ℕ → List Bool → List Bool
     many_more y later = (whole rests || (take_placed o t y && whole later)) ∷ later
 
--- a piece that is not empty, of characters that the token takes, and ends in `/`
+-- a piece of characters that the token takes, which is not empty and ends in `/`, before tokens that match the `rests`
 abbrev pub closed_before : MatchOptions → Token → List (Bool × ℕ) → (rests : List Bool) → List Bool
 closed_before o t [] rests = false ∷ []
 closed_before o t ((opening, c) ∷ xs) rests = closed_more (closed_before o t xs (shorter rests))
@@ -53,6 +54,7 @@ closed_before o t ((opening, c) ∷ xs) rests = closed_more (closed_before o t x
     closed_more later =
         (takes o opening c t && ((c == slash && whole (shorter rests)) || whole later)) ∷ later
 
+-- of each rest, whether one of two lists says yes
 abbrev pub either : List Bool → List Bool → List Bool
 either [] bs = bs
 either (x ∷ xs) bs = (x || whole bs) ∷ either xs (shorter bs)

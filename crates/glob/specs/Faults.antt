@@ -16,6 +16,7 @@ recursive_message = codes "recursive wildcards must form a single path component
 abbrev pub range_message : List ℕ
 range_message = codes "invalid range pattern"
 
+-- whether the character at place k is c
 abbrev pub has : Text → ℕ → ℕ → Bool
 has text k c = nat_lt k (length text) && slice_index text k == c
 
@@ -24,8 +25,9 @@ pub record Fault : Type 0 where
   pub place : ℕ
   pub message : List ℕ
 
--- What is told of place f, where no unit stands: three stars or more; two stars that are no component, for what
--- stands before them or else for what follows; or a bracket that is not closed.
+-- What is told of place f, which units reach and at which none stands. It is a star or a `[`, and a star has another
+-- after it. So it is three stars or more; two stars that are no component, for what stands before them or else for what
+-- follows; or a bracket that is not closed.
 abbrev pub fault_at : Text → ℕ → Fault
 fault_at text f =
     if not (has text f star) then record { place = f; message = range_message }

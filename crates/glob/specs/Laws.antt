@@ -24,7 +24,7 @@ TokensLoosened =
     (strict loose : MatchOptions) → IsLooser strict loose → (tokens : List Token) (text : Text)
     → TokensMatch strict tokens text → TokensMatch loose tokens text
 
--- and so for patterns
+-- a yes under strict rules stays a yes under looser ones, for patterns
 abbrev pub PatternsLoosened : Type 0
 PatternsLoosened =
     (strict loose : MatchOptions) → IsLooser strict loose → (pattern text : Text) → Matches strict pattern text → Matches loose pattern text
@@ -45,12 +45,12 @@ SameTexts case xs ys = (length xs ≡ length ys) × ((k : ℕ) → k < length ys
 abbrev pub PlainAccepted : Type 0
 PlainAccepted = (pattern : Text) → IsPlain pattern → IsAccepted pattern
 
--- and matches the texts that are the same as it, whatever the rules
+-- a text without wildcards matches the texts that are the same as it, whatever the rules
 abbrev pub PlainMatchesSame : Type 0
 PlainMatchesSame =
     (o : MatchOptions) (pattern text : Text) → IsPlain pattern → (Matches o pattern text ↔ SameTexts o.case_sensitive text pattern)
 
--- with case, itself alone
+-- a text without wildcards matches with case itself alone
 abbrev pub PlainMatchesItself : Type 0
 PlainMatchesItself =
     (o : MatchOptions) (pattern text : Text) → IsPlain pattern → IsTrue o.case_sensitive → (Matches o pattern text ↔ (pattern ≡ text))
@@ -64,12 +64,12 @@ FoldedMatchSame =
 abbrev pub EscapedAccepted : Type 0
 EscapedAccepted = (text : Text) → IsAccepted (escaped text)
 
--- and matches the texts that are the same as it, whatever the rules
+-- what is written for a text matches the texts that are the same as it, whatever the rules
 abbrev pub EscapedMatchesSame : Type 0
 EscapedMatchesSame =
     (o : MatchOptions) (text other : Text) → (Matches o (escaped text) other ↔ SameTexts o.case_sensitive other text)
 
--- with case, itself alone
+-- what is written for a text matches with case that text alone
 abbrev pub EscapedMatchesItself : Type 0
 EscapedMatchesItself =
     (o : MatchOptions) (text other : Text) → IsTrue o.case_sensitive → (Matches o (escaped text) other ↔ (text ≡ other))
@@ -78,6 +78,6 @@ EscapedMatchesItself =
 abbrev pub TokensDecided : Type 0
 TokensDecided = (o : MatchOptions) (tokens : List Token) (text : Text) → Decides (tokens_match o tokens text) (TokensMatch o tokens text)
 
--- and so for patterns
+-- the decider says yes where the pattern matches, and nowhere else
 abbrev pub PatternsDecided : Type 0
 PatternsDecided = (o : MatchOptions) (pattern text : Text) → Decides (is_match o pattern text) (Matches o pattern text)

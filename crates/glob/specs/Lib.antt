@@ -17,3 +17,5 @@ pub mod Stepping
 pub mod Patterns
 pub mod Laws
 pub mod Leading
+pub mod LineFaults
+pub mod Watch

@@ -1,7 +1,8 @@
 -- The lines of some bytes, and those of them that a pattern matches.
-use Rattle.std.specs.Prelude.{◌≡◌, ℕ, ◌==◌, ◌⊎◌, if◌then◌else◌, List, [], ◌∷◌, ◌++◌, true}
+use Rattle.std.specs.Prelude.{◌≡◌, ℕ, ◌-◌, ◌^◌, ◌==◌, ◌⊎◌, if◌then◌else◌, List, [], ◌∷◌, ◌++◌, Option, length, min, take, true}
 use Rattle.std.specs.Str.{chars, is_utf8}
 use Rattle.std.specs.List.{flat_map}
+use Rattle.std.specs.Io.KnownBytes.{Appends}
 use Rattle.glob.specs.Characters.{line_feed}
 use Rattle.glob.specs.Matching.{Matches}
 use Rattle.glob.specs.declared.options.MatchOptions.{MatchOptions}
@@ -34,3 +35,35 @@ with_line_feeds lines = flat_map (λ line. line ++ line_feed ∷ []) lines
 -- the lines of the input that the pattern matches, in order
 abbrev pub AreMatchingLines : MatchOptions → (pattern input : List ℕ) → List (List ℕ) → Type 0
 AreMatchingLines o pattern input kept = AreKept (LineMatches o pattern) (lines_of input) kept
+
+-- The lines that match were written, each with a line feed, after what the writer held before. `count` is the number of
+-- them, which stops at `u64::MAX`.
+abbrev pub WritesLines : MatchOptions → (pattern input : List ℕ) → (old new : Option (List ℕ)) → (count : ℕ) → Type 0
+WritesLines o pattern input old new count =
+    (kept : List (List ℕ))
+    × AreMatchingLines o pattern input kept
+    × Appends old new (with_line_feeds kept)
+    × (count ≡ min (length kept) (2 ^ 64 - 1))
+
+-- of the lines that match, the first n were written, for some n
+abbrev pub WritesSomeLines : MatchOptions → (pattern input : List ℕ) → (old new : Option (List ℕ)) → Type 0
+WritesSomeLines o pattern input old new =
+    (kept : List (List ℕ))
+    × AreMatchingLines o pattern input kept
+    × ((n : ℕ) × Appends old new (with_line_feeds (take n kept)))
+
+-- of the bytes of the lines that match, the first n were written, for some n
+abbrev pub WritesSomeBytes : MatchOptions → (pattern input : List ℕ) → (old new : Option (List ℕ)) → Type 0
+WritesSomeBytes o pattern input old new =
+    (kept : List (List ℕ))
+    × AreMatchingLines o pattern input kept
+    × ((n : ℕ) × Appends old new (take n (with_line_feeds kept)))
+
+-- The same of each list of the lines that match, where not every line was decided.
+abbrev pub WritesFrontLines : MatchOptions → (pattern input : List ℕ) → (old new : Option (List ℕ)) → Type 0
+WritesFrontLines o pattern input old new =
+    (kept : List (List ℕ)) → AreMatchingLines o pattern input kept → (n : ℕ) × Appends old new (with_line_feeds (take n kept))
+
+abbrev pub WritesFrontBytes : MatchOptions → (pattern input : List ℕ) → (old new : Option (List ℕ)) → Type 0
+WritesFrontBytes o pattern input old new =
+    (kept : List (List ℕ)) → AreMatchingLines o pattern input kept → (n : ℕ) × Appends old new (take n (with_line_feeds kept))

@@ -17,8 +17,8 @@ TakesPiece o text t k piece =
 abbrev pub EndsInSlash : Text → Type 0
 EndsInSlash piece = (front : Text) × (piece ≡ front ++ slash ∷ [])
 
--- The form of a token's piece, where `others` are the tokens after it: one character; of a run any number of them;
--- and so of a deep run, but where tokens follow it is empty or ends in `/`.
+-- The form of a token's piece, where `others` are the tokens after it: one character; of a run any number of them; of a
+-- deep run too, but if tokens follow, the piece is empty or ends in `/`.
 abbrev pub HasForm : Token → (others : List Token) → Text → Type 0
 HasForm (Plain c) others piece = length piece ≡ 1
 HasForm Any others piece = length piece ≡ 1

@@ -38,6 +38,7 @@ unit_at text f =
     else if slice_index text f == open_bracket then bracket_at text f
     else Some (Plain (slice_index text f), f + 1)
 
+-- a token before those that were read
 abbrev pub with_first : Token → Result (List Token) Fault → Result (List Token) Fault
 with_first t (Ok ts) = Ok (t ∷ ts)
 with_first t (Err fault) = Err fault

@@ -16,7 +16,7 @@ abbrev pub TakesAll : Table → (token : ℕ) → ℕ → ℕ → Type 0
 TakesAll table token i j = (k : ℕ) → i ≤ k → k < j → IsTrue (table.takes token k)
 
 -- The piece of a shape may reach from place i up to place j, where `others` are the shapes after it: one character;
--- of a run any number; and so of a deep run, but where shapes follow it is empty or ends where the place opens.
+-- of a run any number; of a deep run too, but if shapes follow, the piece is empty or ends where the place opens.
 abbrev pub MayReach : Table → Shape → (others : List Shape) → ℕ → ℕ → Type 0
 MayReach table One others i j = j ≡ i + 1
 MayReach table Run others i j = i ≤ j

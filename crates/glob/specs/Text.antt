@@ -9,7 +9,7 @@ Text = List ℕ
 abbrev pub Has : Text → ℕ → ℕ → Type 0
 Has text k c = (k < length text) × (slice_index text k ≡ c)
 
--- place k opens: it is the start, or `/` stands before it
+-- place k opens: it is the start, or `/` stands right before it
 abbrev pub opens : Text → ℕ → Bool
 opens text k = k == 0 || slice_index text (k - 1) == slash
 

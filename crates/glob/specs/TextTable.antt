@@ -7,7 +7,7 @@ use Rattle.glob.specs.Splits.{Table}
 use Rattle.glob.specs.declared.options.MatchOptions.{MatchOptions}
 use Rattle.glob.specs.declared.grammar.Token.TheVariants.{Any}
 
--- Of a number past the last token nothing is asked.
+-- Of a number past the last token, or a place past the last character, nothing is asked.
 unfoldable pub table_of : MatchOptions → List Token → Text → Table
 table_of o tokens text = record {
   characters = length text;

@@ -18,10 +18,12 @@ is_deep Run = false
 is_deep (Within entries) = false
 is_deep (Except entries) = false
 
+-- the first of the tokens is deep
 abbrev pub begins_deep : List Token → Bool
 begins_deep [] = false
 begins_deep (t ∷ ts) = is_deep t
 
+-- the last of the tokens is deep
 abbrev pub ends_deep : List Token → Bool
 ends_deep [] = false
 ends_deep (t ∷ []) = is_deep t

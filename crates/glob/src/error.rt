@@ -1,8 +1,9 @@
 ghost use Rattle.std.specs.Prelude.{Some, ◌++◌, codes, decimal};
+ghost use Rattle.glob.specs.LineFaults.{words_of_line_fault};
 
 use std::alloc::{AllocError, AllocFailed};
 use std::error::Error;
-use std::fmt;
+use std::{fmt, io};
 
 /// A fault of a pattern.
 #[derive(Debug, Drop)]
@@ -57,3 +58,28 @@ impl<T: Drop> From<AllocFailed<T>> for PatternRefusal {
         PatternRefusal::Memory
     }
 }
+
+/// Why the lines of some input were not all filtered.
+#[derive(Debug, Drop)]
+pub enum LineFault {
+    /// A read failed, with this fault of the reader.
+    Read(io::Error),
+    /// There was no memory.
+    Memory,
+    /// A write failed, with this fault of the writer.
+    Write(io::Error),
+}
+
+impl fmt::Display for LineFault {
+    ghost output = { λ fault. Some (words_of_line_fault fault) };
+
+    fn fmt<W: fmt::Write>(&self, f: &mut fmt::Formatter<W>) -> fmt::Result {
+        f.write_str(match self {
+            LineFault::Read(_) => "reading failed",
+            LineFault::Memory => "out of memory",
+            LineFault::Write(_) => "writing failed",
+        })
+    }
+}
+
+impl Error for LineFault {}

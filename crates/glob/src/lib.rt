@@ -8,8 +8,10 @@ mod laws;
 mod matcher;
 mod options;
 mod pattern;
+mod walk;
 
-pub use error::{PatternError, PatternRefusal};
+pub use error::{LineFault, PatternError, PatternRefusal};
 pub use matcher::{Judge, Shape, run_positions};
 pub use options::MatchOptions;
 pub use pattern::Pattern;
+pub use walk::{Watch, filter_lines};

@@ -7,10 +7,10 @@ pub struct MatchOptions {
     /// Whether letters in upper and lower case differ. Without it, letters of ASCII in either case are the same, in
     /// brackets too; other characters are the same only as themselves.
     pub case_sensitive: bool,
-    /// Whether `/` is taken only by a `/` in the pattern and by `**`: the separator rule.
+    /// Whether `/` is taken only by a `/` outside brackets and by `**`: the separator rule.
     pub require_literal_separator: bool,
-    /// Whether a `.` at the start of the text, or right after a `/`, is taken only by a `.` in the pattern: the dot
-    /// rule.
+    /// Whether a `.` at the start of the text, or right after a `/`, is taken only by a `.` outside
+    /// brackets: the dot rule.
     pub require_literal_leading_dot: bool,
 }
 

@@ -76,7 +76,7 @@ fn words_fault<E: Write>(errors: &mut E, error: &io::Error) -> u8 {
     }
 }
 
-/// Runs the program on its arguments, the first of which is its name.
+/// Runs the program on its arguments, without its name.
 fn run_arguments<A: Allocator + Copy, R: Read + Drop, W: Write + Drop, E: Write>(
     alloc: A,
     arguments: &[String<A>],
@@ -84,19 +84,23 @@ fn run_arguments<A: Allocator + Copy, R: Read + Drop, W: Write + Drop, E: Write>
     output: W,
     errors: &mut E,
 ) -> u8 {
-    let words = arguments.iter().skip(1).map(|word| word.as_str());
-    match words.collect::<Vec<&str, A>>(alloc) {
+    match arguments.iter().map(|word| word.as_str()).collect::<Vec<&str, A>>(alloc) {
         Ok(words) => run_words(alloc, words.as_slice(), input, output, errors),
         Err(_) => fault(errors, "out of memory"),
     }
 }
 
+/// The words after the program's name.
+fn arguments(rt: &HostRuntime) -> io::Result<Vec<String>> {
+    Ok(env::args(rt)?.skip(1).collect(rt.alloc())?)
+}
+
 fn main(rt: HostRuntime) -> ExitCode {
     let mut errors = rt.stderr();
-    ExitCode::from(match env::args(&rt) {
-        Ok(arguments) => run_arguments(
+    ExitCode::from(match arguments(&rt) {
+        Ok(words) => run_arguments(
             rt.alloc(),
-            arguments.as_slice(),
+            words.as_slice(),
             rt.stdin(),
             rt.stdout(),
             &mut errors,

@@ -4,20 +4,23 @@ ghost use Rattle.std.specs.Prelude.{Some};
 use std::alloc::{Allocator, Global};
 use std::io::{self, ErrorKind, Read, Write};
 
-/// Counts calls down to one that is picked.
+/// What is done in place of one call, and how many calls go before it.
 #[derive(Clone, Copy, Debug)]
-struct Countdown(Option<u64>);
+struct Upset<T> {
+    calls_before: u64,
+    what: T,
+}
 
-impl Countdown {
-    /// Whether this call is the one that is picked. The calls after it are not.
-    fn is_now(&mut self) -> bool {
-        let now = self.0 == Some(0);
-        self.0 = match self.0 {
-            Some(left) => left.checked_sub(1),
-            None => None,
-        };
-        now
+/// Whether this call is the one that is upset. The calls after it are not.
+fn due<T: Copy>(planned: &mut Option<Upset<T>>) -> Option<T> {
+    let mut upset = (*planned)?;
+    if upset.calls_before == 0 {
+        *planned = None;
+        return Some(upset.what);
     }
+    upset.calls_before -= 1;
+    *planned = Some(upset);
+    None
 }
 
 /// A reader of some bytes, which gives at most so many a call.
@@ -25,8 +28,7 @@ impl Countdown {
 pub struct ShortReader<'a> {
     rest: &'a [u8],
     most: usize,
-    faults_in: Countdown,
-    kind: ErrorKind,
+    planned: Option<Upset<ErrorKind>>,
 }
 
 impl<'a> ShortReader<'a> {
@@ -34,19 +36,21 @@ impl<'a> ShortReader<'a> {
     pub fn new(bytes: &'a [u8], most: usize) -> Self {
         ShortReader {
             rest: bytes,
-            most,
-            faults_in: Countdown(None),
-            kind: ErrorKind::Other,
+            most: most.max(1),
+            planned: None,
         }
     }
 
     /// The same reader, whose call number `call`, counted from 0, gives nothing and fails with an error of this kind.
     pub fn failing_at(self, call: u64, kind: ErrorKind) -> Self {
+        let planned = Upset {
+            calls_before: call,
+            what: kind,
+        };
         ShortReader {
             rest: self.rest,
             most: self.most,
-            faults_in: Countdown(Some(call)),
-            kind,
+            planned: Some(planned),
         }
     }
 }
@@ -55,8 +59,8 @@ impl Read for ShortReader<'_> {
     ghost remaining = { λ r. Some r.rest.now };
 
     fn read(&mut self, buf: &mut [u8]) -> io::Result<usize> {
-        if self.faults_in.is_now() {
-            return Err(io::Error::from(self.kind));
+        if let Some(kind) = due(&mut self.planned) {
+            return Err(io::Error::from(kind));
         }
         let rest = self.rest;
         let len = rest.len().min(buf.len()).min(self.most.max(1));
@@ -66,9 +70,9 @@ impl Read for ShortReader<'_> {
     }
 }
 
-/// What the picked call of a writer does.
+/// What a writer does in place of one call.
 #[derive(Clone, Copy, Debug)]
-pub enum Upset {
+pub enum Refusal {
     /// It fails with an error of this kind.
     Fails(ErrorKind),
     /// It takes no byte, and answers 0.
@@ -80,8 +84,7 @@ pub enum Upset {
 pub struct ShortWriter<A: Allocator = Global> {
     written: Vec<u8, A>,
     most: usize,
-    upset_in: Countdown,
-    upset: Upset,
+    planned: Option<Upset<Refusal>>,
 }
 
 impl<A: Allocator> ShortWriter<A> {
@@ -90,18 +93,20 @@ impl<A: Allocator> ShortWriter<A> {
         ShortWriter {
             written: Vec::new(alloc),
             most,
-            upset_in: Countdown(None),
-            upset: Upset::TakesNone,
+            planned: None,
         }
     }
 
-    /// The same writer, whose call number `call`, counted from 0, takes nothing and does this.
-    pub fn upset_at(self, call: u64, upset: Upset) -> Self {
+    /// The same writer, whose call number `call`, counted from 0, takes nothing and refuses in this way.
+    pub fn refusing_at(self, call: u64, refusal: Refusal) -> Self {
+        let planned = Upset {
+            calls_before: call,
+            what: refusal,
+        };
         ShortWriter {
             written: self.written,
             most: self.most,
-            upset_in: Countdown(Some(call)),
-            upset,
+            planned: Some(planned),
         }
     }
 
@@ -115,11 +120,10 @@ impl<A: Allocator> Write for ShortWriter<A> {
     ghost contents = { λ w. Some w.written.items };
 
     fn write(&mut self, buf: &[u8]) -> io::Result<usize> {
-        if self.upset_in.is_now() {
-            return match self.upset {
-                Upset::Fails(kind) => Err(io::Error::from(kind)),
-                Upset::TakesNone => Ok(0),
-            };
+        match due(&mut self.planned) {
+            Some(Refusal::Fails(kind)) => return Err(io::Error::from(kind)),
+            Some(Refusal::TakesNone) => return Ok(0),
+            None => {}
         }
         let len = buf.len().min(self.most);
         self.written.extend_from_slice(&buf[..len])?;

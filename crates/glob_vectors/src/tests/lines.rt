@@ -1,5 +1,5 @@
 //! The lines that a pattern matches, copied; and readers and writers that fail.
-use crate::readers::{ShortReader, ShortWriter, Upset};
+use crate::readers::{ShortReader, ShortWriter, Refusal};
 use glob::{LineFault, MatchOptions, Pattern, Watch, filter_lines};
 use std::io::ErrorKind;
 use std::test::Fail;
@@ -63,15 +63,15 @@ fn a_reader_that_fails_writes_nothing(rt: HostRuntime) -> Result<(), Fail> {
 #[test]
 fn a_writer_that_fails_ends_the_copy(rt: HostRuntime) -> Result<(), Fail> {
     let rows = [
-        (2, Upset::Fails(ErrorKind::Other), ErrorKind::Other, "ab"),
-        (3, Upset::Fails(ErrorKind::Other), ErrorKind::Other, "ab\n"),
-        (0, Upset::TakesNone, ErrorKind::WriteZero, ""),
-        (0, Upset::Fails(ErrorKind::Interrupted), ErrorKind::Interrupted, ""),
+        (2, Refusal::Fails(ErrorKind::Other), ErrorKind::Other, "ab"),
+        (3, Refusal::Fails(ErrorKind::Other), ErrorKind::Other, "ab\n"),
+        (0, Refusal::TakesNone, ErrorKind::WriteZero, ""),
+        (0, Refusal::Fails(ErrorKind::Interrupted), ErrorKind::Interrupted, ""),
     ];
-    for (call, upset, kind, written) in rows {
+    for (call, refusal, kind, written) in rows {
         let pattern = Pattern::new(rt.alloc(), "*")?;
         let mut reader = Watch::new(ShortReader::new(b"ab\nc\n", 100));
-        let mut writer = Watch::new(ShortWriter::new(rt.alloc(), 1).upset_at(call, upset));
+        let mut writer = Watch::new(ShortWriter::new(rt.alloc(), 1).refusing_at(call, refusal));
         let options = MatchOptions::new();
         match filter_lines(rt.alloc(), &pattern, options, &mut reader, &mut writer) {
             Err(LineFault::Write(error)) => assert!(rt; error.kind() == kind),

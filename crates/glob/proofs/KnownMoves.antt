@@ -1,0 +1,31 @@
+-- What reads and writes in a row do to known bytes.
+use Rattle.std.proofs.Common.{◌≡◌, ℕ, ◌+◌, List, ◌++◌, Option, length, take, drop, sym, ap, ◌∙◌, subst, append_assoc, ◌-◌, Result, Ok, Err, OnErr}
+use Rattle.std.proofs.lemmas.List.{take-append-drop, take_rest}
+use lib.Seq.{take-add, take-append_seam}
+use Rattle.std.specs.Io.KnownBytes.{Appends, Keeps, Consumes}
+use Rattle.std.proofs.KnownBytes.{Appends-trans, Appends-kept, Consumes-trans}
+
+-- a read put n bytes after the filled ones
+pub Consumes-filled : (a b c : Option (List ℕ)) (xs ys : List ℕ) (filled n : ℕ) → take filled ys ≡ take filled xs
+    → Consumes a b (take filled xs) → Consumes b c (take n (drop filled ys)) → Consumes a c (take (filled + n) ys)
+Consumes-filled a b c xs ys filled n front before read =
+    subst (Consumes a c) (ap (λ l. l ++ take n (drop filled ys)) (sym front) ∙ sym (take-add filled n ys)) (Consumes-trans a b c _ _ before read)
+
+-- some of the bytes were written, and then none
+pub Appends-cut : (a b c : Option (List ℕ)) (all done rest : List ℕ) → all ≡ done ++ rest → Appends a b done → Keeps b c → (n : ℕ) × Appends a c (take n all)
+Appends-cut a b c all done rest split appended kept =
+    (length done, subst (Appends a c) (sym (ap (take (length done)) split ∙ take-append_seam done rest)) (Appends-kept a b c done appended kept))
+
+-- one more write took n of the bytes that were left
+pub Appends-more : (a b c : Option (List ℕ)) (all done rest : List ℕ) (n : ℕ) → all ≡ done ++ rest → Appends a b done → Appends b c (take n rest)
+    → (more : List ℕ) × (all ≡ more ++ take (length rest - n) (drop n rest)) × Appends a c more
+Appends-more a b c all done rest n split before appended = (
+  done ++ take n rest,
+  split ∙ ap (λ l. done ++ l) (sym (take-append-drop n rest) ∙ ap (λ l. take n rest ++ l) (sym (take_rest rest n))) ∙ sym (append_assoc done (take n rest) _),
+  Appends-trans a b c done (take n rest) before appended,
+)
+
+-- a fact holds at a fault too
+pub OnErr-from : {T E : Type 0} (r : Result T E) {P : Type 0} → P → OnErr r P
+OnErr-from (Ok x) p = tt
+OnErr-from (Err e) p = p

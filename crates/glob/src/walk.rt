@@ -1,0 +1,5 @@
+mod lines;
+mod watch;
+
+pub use lines::filter_lines;
+pub use watch::Watch;
