@@ -19,3 +19,4 @@ pub mod Laws
 pub mod Leading
 pub mod LineFaults
 pub mod Watch
+pub mod Words

@@ -1,5 +1,6 @@
 ghost use Rattle.std.specs.Prelude.{Some, ◌++◌, codes, decimal};
 ghost use Rattle.glob.specs.LineFaults.{words_of_line_fault};
+ghost use Rattle.glob.specs.Words.{pattern_error_words, refusal_words};
 
 use std::alloc::{AllocError, AllocFailed};
 use std::error::Error;
@@ -15,7 +16,7 @@ pub struct PatternError {
 }
 
 impl fmt::Display for PatternError {
-    ghost output = { λ e. Some (codes "Pattern syntax error near position " ++ decimal e.pos ++ codes ": " ++ e.msg.now) };
+    ghost output = { λ error. Some (pattern_error_words error) };
 
     fn fmt<W: fmt::Write>(&self, f: &mut fmt::Formatter<W>) -> fmt::Result {
         let pos = self.pos;
@@ -34,6 +35,19 @@ pub enum PatternRefusal {
     /// There was no memory for it.
     Memory,
 }
+
+impl fmt::Display for PatternRefusal {
+    ghost output = { λ refusal. Some (refusal_words refusal) };
+
+    fn fmt<W: fmt::Write>(&self, f: &mut fmt::Formatter<W>) -> fmt::Result {
+        match self {
+            PatternRefusal::Syntax(error) => error.fmt(f),
+            PatternRefusal::Memory => f.write_str("out of memory"),
+        }
+    }
+}
+
+impl Error for PatternRefusal {}
 
 /// Want of memory.
 impl From<AllocError> for PatternRefusal {

@@ -20,17 +20,21 @@ impl<'a> Command<'a> {
     }
 
     fn parse_match(words: &[&'a str]) -> Option<Self> {
-        let mut options = MatchOptions::new();
-        let mut rest = words;
-        while let Some((&word, others)) = rest.split_first() {
-            if !set_option(&mut options, word) {
-                break;
-            }
-            rest = others;
-        }
-        let pattern = only_operand(rest)?;
+        let (options, count) = leading_options(words);
+        let pattern = only_operand(words.get(count..)?)?;
         Some(Command::Match { options, pattern })
     }
+}
+
+/// The match options that the first words set, and how many words those are.
+fn leading_options(words: &[&str]) -> (MatchOptions, usize) {
+    let mut options = MatchOptions::new();
+    for (count, word) in words.iter().enumerate() {
+        if !set_option(&mut options, word) {
+            return (options, count);
+        }
+    }
+    (options, words.len())
 }
 
 /// Sets the match option that the word names. False where it names none.

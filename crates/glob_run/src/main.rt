@@ -6,13 +6,14 @@ mod command;
 use command::Command;
 use glob::{MatchOptions, Pattern, Watch, filter_lines};
 use std::alloc::Allocator;
+use std::env;
 use std::fmt::Display;
 use std::io::{self, Read, Write};
 use std::process::ExitCode;
-use std::env;
 
 /// The line that a usage fault prints.
-const USAGE: &str = "usage: glob_run match [-i] [-s] [-d] PATTERN | escape TEXT | find [-i] [-s] [-d] [-n LIMIT] PATTERN";
+const USAGE: &str =
+    "usage: glob_run match [-i] [-s] [-d] PATTERN | escape TEXT | find [-i] [-s] [-d] [-n LIMIT] PATTERN";
 
 /// Something matched.
 const MATCHED: u8 = 0;
@@ -84,7 +85,11 @@ fn run_arguments<A: Allocator + Copy, R: Read + Drop, W: Write + Drop, E: Write>
     output: W,
     errors: &mut E,
 ) -> u8 {
-    match arguments.iter().map(|word| word.as_str()).collect::<Vec<&str, A>>(alloc) {
+    match arguments
+        .iter()
+        .map(|word| word.as_str())
+        .collect::<Vec<&str, A>>(alloc)
+    {
         Ok(words) => run_words(alloc, words.as_slice(), input, output, errors),
         Err(_) => fault(errors, "out of memory"),
     }

@@ -1,7 +1,8 @@
 use super::*;
 use std::test::Fail;
 
-const USAGE_LINE: &str = "usage: glob_run match [-i] [-s] [-d] PATTERN | escape TEXT | find [-i] [-s] [-d] [-n LIMIT] PATTERN\n";
+const USAGE_LINE: &str =
+    "usage: glob_run match [-i] [-s] [-d] PATTERN | escape TEXT | find [-i] [-s] [-d] [-n LIMIT] PATTERN\n";
 
 const FAULT_LINE: &str = "Pattern syntax error near position 3: invalid range pattern\n";
 
@@ -25,7 +26,7 @@ const LINES: [Row; 13] = [
     (&["match", "-i", "A*"], b"ab\n", "ab\n", "", 0),
     (&["match", "-s", "a*"], b"a/b\nab\n", "ab\n", "", 0),
     (&["match", "-d", "-d", "*"], b".x\ny\n", "y\n", "", 0),
-    (&["match", "-i", "É"], "é\n".as_bytes(), "", "", 1),
+    (&["match", "-i", "É"], b"\xc3\xa9\n", "", "", 1),
     (&["match", "abc[def"], b"abc\n", "", FAULT_LINE, 2),
     (&["match", "-d", "--", "*"], b".x\ny\n", "y\n", "", 0),
 ];
@@ -63,7 +64,13 @@ fn usage_faults(rt: HostRuntime) -> Result<(), Fail> {
     for words in USAGE_FAULTS {
         let mut written = Vec::new(rt.alloc());
         let mut errors = Vec::new(rt.alloc());
-        let answer = run_words(rt.alloc(), words, b"a\n".as_slice(), &mut written, &mut errors);
+        let answer = run_words(
+            rt.alloc(),
+            words,
+            b"a\n".as_slice(),
+            &mut written,
+            &mut errors,
+        );
         assert_eq!(rt; answer, 2, "{words:?}");
         assert!(rt; written.is_empty(), "{words:?}");
         assert_eq!(rt; errors.as_slice(), USAGE_LINE.as_bytes(), "{words:?}");

@@ -4,6 +4,5 @@
 
 pub mod rationing;
 pub mod readers;
-
 #[cfg(test)]
 mod tests;

@@ -47,7 +47,18 @@ fn the_first_fault_is_told(rt: HostRuntime) {
 
 #[test]
 fn accepted_texts_stay_as_they_are(rt: HostRuntime) -> Result<(), Fail> {
-    for text in ["", "a*b", "one/**/*.rs", "**", "**/", "/**", "[!]]", "[]-a]", "a]b", "é*[ü]"] {
+    for text in [
+        "",
+        "a*b",
+        "one/**/*.rs",
+        "**",
+        "**/",
+        "/**",
+        "[!]]",
+        "[]-a]",
+        "a]b",
+        "é*[ü]",
+    ] {
         let pattern = Pattern::new(rt.alloc(), text)?;
         assert_eq!(rt; pattern.as_str(), text);
     }
@@ -64,5 +75,8 @@ fn a_fault_is_printed(rt: HostRuntime) {
         Ok(line) => line,
         Err(_) => panic!(rt; "out of memory"),
     };
-    assert_eq!(rt; line.as_str(), "Pattern syntax error near position 3: invalid range pattern");
+    assert_eq!(rt;
+        line.as_str(),
+        "Pattern syntax error near position 3: invalid range pattern"
+    );
 }

@@ -1,5 +1,5 @@
 //! The lines that a pattern matches, copied; and readers and writers that fail.
-use crate::readers::{ShortReader, ShortWriter, Refusal};
+use crate::readers::{Refusal, ShortReader, ShortWriter};
 use glob::{LineFault, MatchOptions, Pattern, Watch, filter_lines};
 use std::io::ErrorKind;
 use std::test::Fail;
@@ -64,9 +64,19 @@ fn a_reader_that_fails_writes_nothing(rt: HostRuntime) -> Result<(), Fail> {
 fn a_writer_that_fails_ends_the_copy(rt: HostRuntime) -> Result<(), Fail> {
     let rows = [
         (2, Refusal::Fails(ErrorKind::Other), ErrorKind::Other, "ab"),
-        (3, Refusal::Fails(ErrorKind::Other), ErrorKind::Other, "ab\n"),
+        (
+            3,
+            Refusal::Fails(ErrorKind::Other),
+            ErrorKind::Other,
+            "ab\n",
+        ),
         (0, Refusal::TakesNone, ErrorKind::WriteZero, ""),
-        (0, Refusal::Fails(ErrorKind::Interrupted), ErrorKind::Interrupted, ""),
+        (
+            0,
+            Refusal::Fails(ErrorKind::Interrupted),
+            ErrorKind::Interrupted,
+            "",
+        ),
     ];
     for (call, refusal, kind, written) in rows {
         let pattern = Pattern::new(rt.alloc(), "*")?;

@@ -1,5 +1,6 @@
 //! Which texts a pattern matches under other options.
 use glob::{MatchOptions, Pattern};
+use std::process::Abort;
 use std::test::Fail;
 
 /// The options by three letters, `t` or `f`: case, the separator rule, the dot rule.
@@ -65,7 +66,7 @@ const RULES: [Row; 27] = [
     ("*", ".x", &["tft"], false),
 ];
 
-fn check(rt: &HostRuntime, rows: &[Row]) -> Result<(), Fail> {
+fn check(rt: &(impl Abort + AllocGlobal), rows: &[Row]) -> Result<(), Fail> {
     for (text, str, all_letters, answer) in rows {
         let pattern = Pattern::new(rt.alloc(), text)?;
         for letters in *all_letters {
