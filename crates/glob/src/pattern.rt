@@ -1,4 +1,4 @@
-ghost use Rattle.std.specs.Prelude.{◌≡◌, ◌↔◌, IsTrue, IfOk, IfErr, chars};
+ghost use Rattle.std.specs.Prelude.{◌≡◌, ◌*◌, ◌≤◌, ◌↔◌, length, IsTrue, IfOk, IfErr, chars};
 ghost use Rattle.std.specs.Path.{path_bytes};
 ghost use Rattle.glob.specs.Units.{IsAccepted};
 ghost use Rattle.glob.specs.Faults.{Refuses};
@@ -11,7 +11,7 @@ mod taking;
 use crate::class::Class;
 use crate::error::PatternRefusal;
 use crate::grammar::{self, Token};
-use crate::matcher::{self, Shape};
+use crate::matcher::{self, Judge, Shape};
 use crate::options::MatchOptions;
 use judge::TextJudge;
 use std::alloc::{AllocError, Allocator, Global};
@@ -80,8 +80,24 @@ impl<A: Allocator + Copy> Pattern<A> {
     pub fn matches_with(&self, str: &str, options: MatchOptions) -> Result<bool, AllocError>
         ensures { IfOk result (λ yes. IsTrue yes ↔ Matches options (chars self.now) (chars str.now)) }
     {
+        Ok(self.matches_counted(str, options)?.0)
+    }
+
+    /// The answer of [`matches_with`](Self::matches_with), and how many questions it took: how often a token was asked
+    /// whether it takes a character. They are at most the pattern's characters times the text's, and for a yes at least
+    /// the text's characters; nothing more is promised of their number.
+    pub fn matches_counted(
+        &self,
+        str: &str,
+        options: MatchOptions,
+    ) -> Result<(bool, u128), AllocError>
+        ensures answer { IfOk result (λ told. IsTrue told.0 ↔ Matches options (chars self.now) (chars str.now)) }
+        ensures most { IfOk result (λ told. told.1 ≤ length (chars self.now) * length (chars str.now)) }
+        ensures least { IfOk result (λ told. IsTrue told.0 → length (chars str.now) ≤ told.1) }
+    {
         let mut judge = TextJudge::new(self.tokens.as_slice(), str, options);
-        matcher::run_positions(self.alloc, self.shapes.as_slice(), &mut judge)
+        let answer = matcher::run_positions(self.alloc, self.shapes.as_slice(), &mut judge)?;
+        Ok((answer, judge.asked()))
     }
 
     /// [`matches`](Self::matches) on the path's text.
