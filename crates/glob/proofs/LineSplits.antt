@@ -1,5 +1,5 @@
 -- The first line of some bytes.
-use Rattle.std.proofs.Common.{◌≡◌, ◌≢◌, ℕ, ◌+◌, ◌<◌, ◌==◌, List, [], ◌∷◌, ◌++◌, None, Some, Bool, inl, inr, All, length, take, drop, get_or, eqb, ltb, false, sym, ap, ◌∙◌, subst, append_assoc, append-nil, arith}
+use Rattle.std.proofs.Common.{◌≡◌, ◌≢◌, ℕ, ◌+◌, ◌<◌, ◌==◌, List, [], ◌∷◌, ◌++◌, None, Some, Bool, inl, inr, All, length, take, drop, get_or, eqb, ltb, false, refl, sym, ap, ◌∙◌, subst, append_assoc, append-nil, arith}
 use Rattle.std.specs.List.{position, position_or_len}
 use Rattle.std.proofs.lemmas.Option.{none-some}
 use Rattle.std.proofs.lemmas.List.Sums.{fails_before_first}
@@ -8,7 +8,7 @@ use Rattle.std.proofs.lemmas.List.{take-append-drop, drop_more, get_or-take, len
 use Rattle.std.proofs.lemmas.List.Quantifiers.{position-Some}
 use Rattle.std.proofs.lemmas.List.Elements.{All-head, All-tail, All-from_get_or}
 use Rattle.glob.specs.Characters.{line_feed}
-use Rattle.glob.specs.Lines.{lines_of, lines_after}
+use Rattle.glob.specs.Lines.{lines_of, onto_first}
 
 -- where no place passes, no item does
 position_or_len-none : (p : ℕ → Bool) (xs : List ℕ) → position p xs ≡ None → (k d : ℕ) → k < length xs → p (get_or xs k d) ≡ false
@@ -22,21 +22,24 @@ position_or_len-none p xs none k d within =
 abbrev pub HasNoLineFeed : List ℕ → Type 0
 HasNoLineFeed bytes = All (λ b. b ≢ line_feed) bytes
 
--- bytes that end no line go to the line that was begun
-pub lines_after-append : (line xs bytes : List ℕ) → HasNoLineFeed xs → lines_after line (xs ++ bytes) ≡ lines_after (line ++ xs) bytes
-lines_after-append line [] bytes none = ap (λ l. lines_after l bytes) (sym (append-nil line))
-lines_after-append line (x ∷ xs) bytes none =
-    let other = cond-false (eqb x line_feed) (line ∷ lines_after [] (xs ++ bytes)) (lines_after (line ++ x ∷ []) (xs ++ bytes)) (ne_eqb x line_feed (All-head (λ b. b ≢ line_feed) x xs none)) in
-    other ∙ lines_after-append (line ++ x ∷ []) xs bytes (All-tail (λ b. b ≢ line_feed) x xs none) ∙ ap (λ l. lines_after l bytes) (append_assoc line (x ∷ []) xs)
+-- a byte that ends no line goes to the first one
+lines_of-cons : (x : ℕ) (xs : List ℕ) → x ≢ line_feed → lines_of (x ∷ xs) ≡ onto_first x (lines_of xs)
+lines_of-cons x xs other = cond-false (eqb x line_feed) ([] ∷ lines_of xs) (onto_first x (lines_of xs)) (ne_eqb x line_feed other)
 
 -- a line and a line feed stand first
 pub lines_of-line_feed : (line rest : List ℕ) → HasNoLineFeed line → lines_of (line ++ line_feed ∷ rest) ≡ line ∷ lines_of rest
-lines_of-line_feed line rest none = lines_after-append [] line (line_feed ∷ rest) none
+lines_of-line_feed [] rest none = refl
+lines_of-line_feed (x ∷ xs) rest none =
+    lines_of-cons x (xs ++ line_feed ∷ rest) (All-head (λ b. b ≢ line_feed) x xs none)
+    ∙ ap (onto_first x) (lines_of-line_feed xs rest (All-tail (λ b. b ≢ line_feed) x xs none))
 
 -- bytes that end no line are one line, if there are any
 pub lines_of-last : (line : List ℕ) → HasNoLineFeed line → 0 < length line → lines_of line ≡ line ∷ []
 lines_of-last [] none some = absurd (omega arith)
-lines_of-last (x ∷ xs) none some = ap lines_of (sym (append-nil (x ∷ xs))) ∙ lines_after-append [] (x ∷ xs) [] none
+lines_of-last (x ∷ []) none some = lines_of-cons x [] (All-head (λ b. b ≢ line_feed) x [] none)
+lines_of-last (x ∷ y ∷ ys) none some =
+    lines_of-cons x (y ∷ ys) (All-head (λ b. b ≢ line_feed) x (y ∷ ys) none)
+    ∙ ap (onto_first x) (lines_of-last (y ∷ ys) (All-tail (λ b. b ≢ line_feed) x (y ∷ ys) none) (omega arith))
 
 -- the line feed is at a place before which there is none
 pub lines_of-place : (bytes : List ℕ) (i : ℕ) → position (λ b. b == line_feed) bytes ≡ Some i → lines_of bytes ≡ take i bytes ∷ lines_of (drop (i + 1) bytes)

@@ -7,15 +7,15 @@ use Rattle.glob.specs.Characters.{line_feed}
 use Rattle.glob.specs.Matching.{Matches}
 use Rattle.glob.specs.declared.options.MatchOptions.{MatchOptions}
 
--- the lines of the bytes, where `line` was read of the first of them
-abbrev pub lines_after : (line : List ℕ) → List ℕ → List (List ℕ)
-lines_after [] [] = []
-lines_after (x ∷ xs) [] = (x ∷ xs) ∷ []
-lines_after line (b ∷ bs) = if b == line_feed then line ∷ lines_after [] bs else lines_after (line ++ b ∷ []) bs
+-- a byte before the first line
+abbrev pub onto_first : ℕ → List (List ℕ) → List (List ℕ)
+onto_first b [] = (b ∷ []) ∷ []
+onto_first b (line ∷ lines) = (b ∷ line) ∷ lines
 
 -- A line ends before a line feed. What follows the last one is a line if it is not empty.
 abbrev pub lines_of : List ℕ → List (List ℕ)
-lines_of bytes = lines_after [] bytes
+lines_of [] = []
+lines_of (b ∷ bs) = if b == line_feed then [] ∷ lines_of bs else onto_first b (lines_of bs)
 
 -- the line is text, and the pattern matches it
 abbrev pub LineMatches : MatchOptions → (pattern : List ℕ) → List ℕ → Type 0
