@@ -8,7 +8,7 @@ use Rattle.std.proofs.lemmas.List.{drop_more, drop_all, length-drop}
 use Rattle.glob.specs.Characters.{close_bracket}
 use Rattle.glob.specs.Text.{Text, Has}
 use Rattle.glob.specs.Units.{NoCloseBetween, ClosesBefore}
-use Rattle.glob.specs.Faults.{has}
+use Rattle.glob.specs.Text.{has}
 use Rattle.glob.specs.Reading.{close_from}
 
 -- The test tells whether the character is there.

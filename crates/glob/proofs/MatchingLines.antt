@@ -1,9 +1,8 @@
 -- The lines that a pattern matches: there is one such list.
-use Rattle.std.proofs.Common.{◌≡◌, ℕ, ◌+◌, ◌⊎◌, inl, inr, Bool, true, false, List, [], ◌∷◌, ◌++◌, refl, sym, take, chars, append-nil}
+use Rattle.std.proofs.Common.{◌≡◌, ℕ, ◌⊎◌, inl, inr, Bool, true, false, List, [], refl, sym, chars, append-nil}
 use Rattle.std.specs.Prelude.{Option, None, Some, IfSome}
 use Rattle.std.specs.Str.{is_utf8}
 use Rattle.std.specs.Io.KnownBytes.{Appends}
-use Rattle.glob.specs.Matching.{Matches}
 use Rattle.glob.specs.Deciding.{is_match}
 use Rattle.glob.specs.Lines.{LineMatches, AreMatchingLines, lines_of, WritesSomeLines, WritesSomeBytes, WritesFrontLines, WritesFrontBytes}
 use Rattle.glob.specs.declared.options.MatchOptions.{MatchOptions}

@@ -7,7 +7,8 @@ use Rattle.glob.specs.Text.{Text, Has, opens, between}
 use Rattle.glob.specs.Brackets.{entries_of}
 use Rattle.glob.specs.Tokens.{Token}
 use Rattle.glob.specs.Units.{StarsAt, ClosesBefore, NoCloseBetween, UnitAt}
-use Rattle.glob.specs.Faults.{has, NoUnitAt}
+use Rattle.glob.specs.Text.{has}
+use Rattle.glob.specs.Faults.{NoUnitAt}
 use Rattle.glob.specs.Reading.{stars_at, close_from, bracket_from, bracket_at, unit_at}
 use Rattle.glob.specs.declared.class.Entry.{Entry}
 use Rattle.glob.specs.declared.grammar.Token.TheVariants.{Plain, Any, Run, Deep, Within, Except}

@@ -1,7 +1,7 @@
 -- The fault of a text that is no pattern: where it is told, and with which words.
-use Rattle.std.specs.Prelude.{◌≡◌, ℕ, ◌+◌, ◌-◌, ◌<◌, Bool, ◌&&◌, not, nat_lt, ◌==◌, if◌then◌else◌, List, length, slice_index, codes, ⊤}
+use Rattle.std.specs.Prelude.{◌≡◌, ℕ, ◌+◌, ◌-◌, ◌<◌, not, if◌then◌else◌, List, length, codes, ⊤}
 use Rattle.glob.specs.Characters.{star}
-use Rattle.glob.specs.Text.{Text, opens}
+use Rattle.glob.specs.Text.{Text, opens, has}
 use Rattle.glob.specs.Tokens.{Token}
 use Rattle.glob.specs.Units.{UnitAt, UnitsBetween}
 use Rattle.glob.specs.declared.error.PatternRefusal.{PatternRefusal}
@@ -15,10 +15,6 @@ recursive_message = codes "recursive wildcards must form a single path component
 
 abbrev pub range_message : List ℕ
 range_message = codes "invalid range pattern"
-
--- whether the character at place k is c
-abbrev pub has : Text → ℕ → ℕ → Bool
-has text k c = nat_lt k (length text) && slice_index text k == c
 
 -- a place, in characters, and the words
 pub record Fault : Type 0 where

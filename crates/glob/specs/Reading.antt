@@ -2,10 +2,10 @@
 use Rattle.std.specs.Prelude.{ℕ, zero, suc, ◌+◌, ◌||◌, not, nat_le, ◌==◌, if◌then◌else◌, List, [], ◌∷◌, length, drop, slice_index, Option, Some, None, Result, Ok, Err, option_map}
 use Rattle.std.specs.List.{position_from}
 use Rattle.glob.specs.Characters.{slash, star, question_mark, open_bracket, close_bracket, exclamation_mark}
-use Rattle.glob.specs.Text.{Text, opens, between}
+use Rattle.glob.specs.Text.{Text, has, opens, between}
 use Rattle.glob.specs.Brackets.{entries_of}
 use Rattle.glob.specs.Tokens.{Token, folded}
-use Rattle.glob.specs.Faults.{Fault, fault_at, has}
+use Rattle.glob.specs.Faults.{Fault, fault_at}
 use Rattle.glob.specs.declared.class.Entry.{Entry}
 use Rattle.glob.specs.declared.grammar.Token.TheVariants.{Plain, Any, Run, Deep, Within, Except}
 

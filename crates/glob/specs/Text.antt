@@ -1,5 +1,5 @@
 -- Places of a text. A text is a list of characters, and a place is a number of them from the start.
-use Rattle.std.specs.Prelude.{◌≡◌, ℕ, ◌-◌, ◌<◌, Bool, ◌||◌, ◌==◌, List, length, take, drop, slice_index}
+use Rattle.std.specs.Prelude.{◌≡◌, ℕ, ◌-◌, ◌<◌, Bool, ◌&&◌, ◌||◌, nat_lt, ◌==◌, List, length, take, drop, slice_index}
 use Rattle.glob.specs.Characters.{slash}
 
 abbrev pub Text : Type 0
@@ -8,6 +8,10 @@ Text = List ℕ
 -- the character at place k is c
 abbrev pub Has : Text → ℕ → ℕ → Type 0
 Has text k c = (k < length text) × (slice_index text k ≡ c)
+
+-- the test of the same
+abbrev pub has : Text → ℕ → ℕ → Bool
+has text k c = nat_lt k (length text) && slice_index text k == c
 
 -- place k opens: it is the start, or `/` stands right before it
 abbrev pub opens : Text → ℕ → Bool

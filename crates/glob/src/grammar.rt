@@ -1,10 +1,10 @@
 ghost use Rattle.std.specs.Prelude.{◌≡◌, ◌+◌, ◌<◌, ◌≤◌, List, [], ◌∷◌, ◌++◌, length, option_map, map, IfSome, IfOk, IfErr, OnOk};
 ghost use Rattle.std.specs.Str.{chars};
-ghost use Rattle.glob.specs.Text.{opens, between};
+ghost use Rattle.glob.specs.Text.{has, opens, between};
 ghost use Rattle.glob.specs.Brackets.{entries_of};
 ghost use Rattle.glob.specs.Tokens.{Token as Kept, is_deep, ends_deep, folded, shape_of};
 ghost use Rattle.glob.specs.Units.{HasTokens};
-ghost use Rattle.glob.specs.Faults.{Refuses, has, fault_at};
+ghost use Rattle.glob.specs.Faults.{Refuses, fault_at};
 ghost use Rattle.glob.specs.Reading.{stars_at, close_from, bracket_at, unit_at};
 
 use crate::class::Class;
