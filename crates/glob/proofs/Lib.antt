@@ -3,6 +3,7 @@ pub mod Alive
 pub mod Closing
 pub mod Counts
 pub mod DecidingLemmas
+pub mod EscapedBytes
 pub mod EscapingLemmas
 pub mod FilteredLines
 pub mod FoldedMatching

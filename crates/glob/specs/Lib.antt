@@ -17,6 +17,8 @@ pub mod Stepping
 pub mod Patterns
 pub mod Laws
 pub mod Leading
+pub mod GlobCauses
+pub mod GlobErrors
 pub mod LineFaults
 pub mod Watch
 pub mod Words

@@ -2,9 +2,12 @@ ghost use Rattle.std.specs.Prelude.{Some, ◌++◌, codes, decimal};
 ghost use Rattle.glob.specs.LineFaults.{words_of_line_fault};
 ghost use Rattle.glob.specs.Words.{pattern_error_words, refusal_words};
 
+mod walk;
+
 use std::alloc::{AllocError, AllocFailed};
 use std::error::Error;
 use std::{fmt, io};
+pub use walk::{GlobCause, GlobError, GlobResult};
 
 /// A fault of a pattern.
 #[derive(Debug, Drop)]

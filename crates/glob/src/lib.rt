@@ -8,9 +8,10 @@ mod laws;
 mod matcher;
 mod options;
 mod pattern;
+mod uses;
 mod walk;
 
-pub use error::{LineFault, PatternError, PatternRefusal};
+pub use error::{GlobCause, GlobError, GlobResult, LineFault, PatternError, PatternRefusal};
 pub use matcher::{Judge, Shape, run_positions};
 pub use options::MatchOptions;
 pub use pattern::Pattern;

@@ -1,10 +1,12 @@
-ghost use Rattle.std.specs.Prelude.{◌≡◌, ◌*◌, ◌≤◌, ◌↔◌, length, IsTrue, IfOk, IfErr, chars};
+ghost use Rattle.std.specs.Prelude.{◌≡◌, ◌*◌, ◌≤◌, ◌↔◌, [], length, IsTrue, IfOk, IfErr, chars};
 ghost use Rattle.std.specs.Path.{path_bytes};
 ghost use Rattle.glob.specs.Units.{IsAccepted};
 ghost use Rattle.glob.specs.Faults.{Refuses};
 ghost use Rattle.glob.specs.Matching.{Matches};
 ghost use Rattle.glob.specs.Options.{new_options};
 
+mod compare;
+mod escape;
 mod judge;
 mod taking;
 
@@ -41,9 +43,10 @@ impl<A: Allocator> Model for Pattern<A> {
 }
 
 impl<A: Allocator> Pattern<A> {
-    /// The text that the pattern was read from.
+    /// The text that the pattern was read from. It is accepted: read again it gives an equal pattern.
     pub fn as_str(&self) -> &str
-        ensures { result.now ≡ self.now }
+        ensures text { result.now ≡ self.now }
+        ensures accepted { IsAccepted (chars self.now) }
     {
         self.text.as_str()
     }
@@ -65,6 +68,39 @@ impl<A: Allocator + Copy> Pattern<A> {
             tokens,
             shapes,
             alloc,
+        })
+    }
+
+    /// [`new`](Self::new), under the name that the trait `FromStr` gives it.
+    pub fn from_str(alloc: A, s: &str) -> Result<Self, PatternRefusal>
+        ensures accepted { IfOk result (λ _. IsAccepted (chars s.now)) }
+        ensures text { IfOk result (λ p. p ≡ s.now) }
+        ensures refused { IfErr result (Refuses (chars s.now)) }
+    {
+        Self::new(alloc, s)
+    }
+
+    /// The pattern of the empty text, which matches the empty text alone. It takes no memory.
+    pub fn default(alloc: A) -> Self
+        ensures { result ≡ [] }
+    {
+        Pattern {
+            text: String::new(alloc),
+            tokens: Vec::new(alloc),
+            shapes: Vec::new(alloc),
+            alloc,
+        }
+    }
+
+    /// An equal pattern on the same allocator. It fails only for want of memory.
+    pub fn clone(&self) -> Result<Self, AllocError>
+        ensures { IfOk result (λ p. p ≡ self.now) }
+    {
+        Ok(Pattern {
+            text: self.text.clone()?,
+            tokens: self.tokens.clone()?,
+            shapes: self.shapes.clone()?,
+            alloc: self.alloc,
         })
     }
 

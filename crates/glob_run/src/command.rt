@@ -7,6 +7,10 @@ pub enum Command<'a> {
         options: MatchOptions,
         pattern: &'a str,
     },
+    /// Write the pattern that stands for the text alone.
+    Escape {
+        text: &'a str,
+    },
 }
 
 impl<'a> Command<'a> {
@@ -15,6 +19,9 @@ impl<'a> Command<'a> {
         let (&name, words) = words.split_first()?;
         match name {
             "match" => Self::parse_match(words),
+            "escape" => Some(Command::Escape {
+                text: only_operand(words)?,
+            }),
             _ => None,
         }
     }

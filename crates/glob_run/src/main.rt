@@ -1,11 +1,12 @@
-//! Shell patterns at the command line. `glob_run match PATTERN` copies the matching lines of standard input.
+//! Shell patterns at the command line. `glob_run match PATTERN` copies the matching lines of standard input, and
+//! `glob_run escape TEXT` writes the pattern that stands for the text alone.
 #![tactic(auto)]
 
 mod command;
 
 use command::Command;
 use glob::{MatchOptions, Pattern, Watch, filter_lines};
-use std::alloc::Allocator;
+use std::alloc::{AllocError, Allocator};
 use std::env;
 use std::fmt::Display;
 use std::io::{self, Read, Write};
@@ -39,6 +40,7 @@ pub fn run_words<A: Allocator + Copy, R: Read + Drop, W: Write + Drop, E: Write>
         Some(Command::Match { options, pattern }) => {
             run_match(alloc, options, pattern, input, output, errors)
         }
+        Some(Command::Escape { text }) => run_escape(alloc, text, output, errors),
     }
 }
 
@@ -61,6 +63,28 @@ fn run_match<A: Allocator + Copy, R: Read + Drop, W: Write + Drop, E: Write>(
         Ok(_) => MATCHED,
         Err(line_fault) => fault(errors, line_fault),
     }
+}
+
+fn run_escape<A: Allocator + Copy, W: Write + Drop, E: Write>(
+    alloc: A,
+    text: &str,
+    mut output: W,
+    errors: &mut E,
+) -> u8 {
+    let Ok(line) = escaped_line(alloc, text) else {
+        return fault(errors, "out of memory");
+    };
+    match output.write_all(line.as_bytes()) {
+        Ok(()) => MATCHED,
+        Err(_) => fault(errors, "writing failed"),
+    }
+}
+
+/// The escaped text and a line feed.
+fn escaped_line<A: Allocator + Copy>(alloc: A, text: &str) -> Result<String<A>, AllocError> {
+    let mut line = Pattern::escape(alloc, text)?;
+    line.push('\n')?;
+    Ok(line)
 }
 
 /// Writes the one line of a fault, and answers its status.

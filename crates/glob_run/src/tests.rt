@@ -1,5 +1,5 @@
 use super::*;
-use std::test::Fail;
+use std::process::Abort;
 
 const USAGE_LINE: &str =
     "usage: glob_run match [-i] [-s] [-d] PATTERN | escape TEXT | find [-i] [-s] [-d] [-n LIMIT] PATTERN\n";
@@ -14,6 +14,22 @@ type Row = (
     &'static str,
     u8,
 );
+
+const ESCAPES: [Row; 7] = [
+    (&["escape", "a*"], b"", "a[*]\n", "", 0),
+    (&["escape", ""], b"", "\n", "", 0),
+    (&["escape", "--", "-?"], b"", "-[?]\n", "", 0),
+    (&["escape", "-?"], b"", "", USAGE_LINE, 2),
+    (&["escape"], b"", "", USAGE_LINE, 2),
+    (&["escape", "a", "b"], b"", "", USAGE_LINE, 2),
+    (
+        &["escape", "_[_]_?_*_!_"],
+        b"",
+        "_[[]_[]]_[?]_[*]_!_\n",
+        "",
+        0,
+    ),
+];
 
 const LINES: [Row; 13] = [
     (&["match", "*.rs"], b"a.rs\nb.c\n", "a.rs\n", "", 0),
@@ -46,9 +62,8 @@ const USAGE_FAULTS: [&[&str]; 12] = [
     &["--", "match", "*"],
 ];
 
-#[test]
-fn lines(rt: HostRuntime) -> Result<(), Fail> {
-    for (words, input, output, faults, status) in &LINES {
+fn check(rt: &(impl Abort + AllocGlobal), rows: &[Row]) {
+    for (words, input, output, faults, status) in rows {
         let mut written = Vec::new(rt.alloc());
         let mut errors = Vec::new(rt.alloc());
         let answer = run_words(rt.alloc(), words, *input, &mut written, &mut errors);
@@ -56,11 +71,20 @@ fn lines(rt: HostRuntime) -> Result<(), Fail> {
         assert_eq!(rt; written.as_slice(), output.as_bytes(), "{words:?}");
         assert_eq!(rt; errors.as_slice(), faults.as_bytes(), "{words:?}");
     }
-    Ok(())
 }
 
 #[test]
-fn usage_faults(rt: HostRuntime) -> Result<(), Fail> {
+fn lines(rt: HostRuntime) {
+    check(&rt, &LINES)
+}
+
+#[test]
+fn escapes(rt: HostRuntime) {
+    check(&rt, &ESCAPES)
+}
+
+#[test]
+fn usage_faults(rt: HostRuntime) {
     for words in USAGE_FAULTS {
         let mut written = Vec::new(rt.alloc());
         let mut errors = Vec::new(rt.alloc());
@@ -75,5 +99,4 @@ fn usage_faults(rt: HostRuntime) -> Result<(), Fail> {
         assert!(rt; written.is_empty(), "{words:?}");
         assert_eq!(rt; errors.as_slice(), USAGE_LINE.as_bytes(), "{words:?}");
     }
-    Ok(())
 }

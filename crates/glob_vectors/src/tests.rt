@@ -1,3 +1,4 @@
+mod escaping;
 mod faults;
 mod lines;
 mod matching;
