@@ -5,13 +5,13 @@ use Rattle.std.proofs.lemmas.List.{map-id}
 use Rattle.std.proofs.lemmas.List.Concat.{flat_map_single}
 use Rattle.std.proofs.lemmas.List.Folds.{list_any_at}
 use Rattle.std.proofs.lemmas.Grind.{same_number_lists}
-use Rattle.glob.specs.Characters.{star, question_mark, open_bracket}
+use Rattle.glob.specs.Characters.{star, question_mark, open_bracket, is_wildcard}
 use Rattle.glob.specs.Text.{Text}
 use Rattle.glob.specs.Brackets.{same}
 use Rattle.glob.specs.Tokens.{Token}
 use Rattle.glob.specs.Units.{HasTokens}
 use Rattle.glob.specs.Matching.{Matches}
-use Rattle.glob.specs.Laws.{IsPlain, is_wildcard, SameTexts, PlainAccepted, PlainMatchesSame, PlainMatchesItself}
+use Rattle.glob.specs.Laws.{IsPlain, SameTexts, PlainAccepted, PlainMatchesSame, PlainMatchesItself}
 use Rattle.glob.specs.declared.options.MatchOptions.{MatchOptions}
 use Rattle.glob.specs.declared.grammar.Token.TheVariants.{Plain}
 use Rattle.glob.proofs.WrittenUnits.{WritesUnit, HasTokens-written, UnitAt-plain, Matches-from_tokens, tokens-from_Matches}

@@ -1,4 +1,17 @@
 -- What the definitions answer at rows from outside: computed from the definitions alone.
+mod Trees
+mod Small
+mod Limits
+mod Dotted
+mod Ordered
+mod Held
+mod Recursive
+mod Components
+mod Wildcards
+mod Shut
+mod Goals
+mod Answers
+mod Changes
 use Rattle.std.specs.Prelude.{◌≡◌, ℕ, Bool, true, false, List, [], ◌∷◌, ◌++◌, Result, Err, codes, refl, map}
 use Rattle.glob.specs.Text.{Text}
 use Rattle.glob.specs.Tokens.{Token}
@@ -11,12 +24,15 @@ use Rattle.glob.specs.Options.{new_options, default_options}
 use Rattle.glob.specs.declared.options.MatchOptions.{MatchOptions}
 
 -- the options as three flags: case, the separator rule, the dot rule
-abbrev options : Bool → Bool → Bool → MatchOptions
+abbrev pub options : Bool → Bool → Bool → MatchOptions
 options case separator leading_dot = record {
   case_sensitive = case;
   require_literal_separator = separator;
   require_literal_leading_dot = leading_dot;
 }
+
+abbrev pub new : MatchOptions
+new = options true false false
 
 -- what the pattern answers of each text
 abbrev answers : MatchOptions → Text → List Text → List Bool

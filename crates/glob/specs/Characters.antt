@@ -1,5 +1,5 @@
 -- The characters that patterns, paths and lines give a meaning.
-use Rattle.std.specs.Prelude.{ℕ}
+use Rattle.std.specs.Prelude.{ℕ, Bool, ◌||◌, ◌==◌}
 
 -- `/`, the only separator
 abbrev pub slash : ℕ
@@ -36,3 +36,11 @@ hyphen = 45
 -- LF, which ends a line
 abbrev pub line_feed : ℕ
 line_feed = 10
+
+-- the character that no name holds, besides `/`
+abbrev pub nul : ℕ
+nul = 0
+
+-- `?`, `*` and `[`, with which a unit begins that is no plain character
+abbrev pub is_wildcard : ℕ → Bool
+is_wildcard c = c == question_mark || c == star || c == open_bracket

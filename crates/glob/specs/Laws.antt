@@ -1,7 +1,7 @@
 -- Laws of patterns, as statements.
 use Rattle.std.specs.Prelude.{◌≡◌, ℕ, ◌<◌, ◌||◌, ◌==◌, Bool, List, length, slice_index, IsTrue, IsFalse, Decides, ◌↔◌}
 use Rattle.std.specs.List.{list_any}
-use Rattle.glob.specs.Characters.{star, question_mark, open_bracket}
+use Rattle.glob.specs.Characters.{is_wildcard}
 use Rattle.glob.specs.Text.{Text}
 use Rattle.glob.specs.Brackets.{same}
 use Rattle.glob.specs.Tokens.{Token, folded}
@@ -28,10 +28,6 @@ TokensLoosened =
 abbrev pub PatternsLoosened : Type 0
 PatternsLoosened =
     (strict loose : MatchOptions) → IsLooser strict loose → (pattern text : Text) → Matches strict pattern text → Matches loose pattern text
-
--- `?`, `*` and `[`, with which a unit begins that is no plain character
-abbrev pub is_wildcard : ℕ → Bool
-is_wildcard c = c == question_mark || c == star || c == open_bracket
 
 -- no character of the text is a wildcard
 abbrev pub IsPlain : Text → Type 0

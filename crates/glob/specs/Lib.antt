@@ -22,3 +22,14 @@ pub mod GlobErrors
 pub mod LineFaults
 pub mod Watch
 pub mod Words
+pub mod Paths
+pub mod Content
+pub mod Answers
+pub mod Components
+pub mod Marks
+pub mod Listing
+pub mod Goal
+pub mod Order
+pub mod Memory
+pub mod Nodes
+pub mod Numbers

@@ -8,6 +8,7 @@ mod laws;
 mod matcher;
 mod options;
 mod pattern;
+mod tree;
 mod uses;
 mod walk;
 
@@ -15,4 +16,5 @@ pub use error::{GlobCause, GlobError, GlobResult, LineFault, PatternError, Patte
 pub use matcher::{Judge, Shape, run_positions};
 pub use options::MatchOptions;
 pub use pattern::Pattern;
+pub use tree::{Entry, ListError, Look, MemTree, Name, Tree, TreeRefusal};
 pub use walk::{Watch, filter_lines};

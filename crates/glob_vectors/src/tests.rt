@@ -5,3 +5,4 @@ mod matching;
 mod memory;
 mod options;
 mod texts;
+mod trees;
