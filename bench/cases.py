@@ -1,0 +1,111 @@
+"""What is measured, a list for each kind of work."""
+
+from dataclasses import dataclass
+
+# What an option's letter means.
+RULES = {"i": "without case", "s": "separator rule", "d": "dot rule"}
+
+
+def said(letters):
+    """The options in words, after a comma."""
+    return "".join(f", {RULES[letter]}" for letter in letters)
+
+
+@dataclass(frozen=True)
+class Match:
+    """Counts the lines that a pattern matches, `times` times over; a row has the time of one pass."""
+
+    pattern: str
+    options: str = ""
+    times: int = 1
+
+    def name(self):
+        return f"match `{self.pattern}`{said(self.options)}"
+
+
+MATCHES = [
+    Match("*.rs"),
+    Match("**/*.rs"),
+    Match("src/**/mod.rs"),
+    Match("**/test*/**/*.rs"),
+    Match("src/walk/mod.rs", times=10),
+    Match("=never/*.rs", times=10),
+    Match("*[0-9][a-f]*"),
+    Match("*/[!.]*_?ath*.[ch]"),
+    Match("*"),
+    Match("*readme*", "i"),
+    Match("src/*/[A-Z]*.RS", "i"),
+    Match("*/*/*.rs", "s"),
+    Match("**/*.rs", "d"),
+    Match("**/.*", "sd"),
+]
+
+
+@dataclass(frozen=True)
+class Hostile:
+    """Matches `*a` `stars` times and `b` with a text of `letters` times `a` and a `/`, under the separator rule."""
+
+    stars: int
+    letters: int
+    times: int
+
+    def pattern(self):
+        return "*a" * self.stars + "b"
+
+    def text(self):
+        return "a" * self.letters + "/\n"
+
+    def name(self):
+        return f"match `*a` {self.stars} times and `b`, with `a` {self.letters} times and `/`, separator rule"
+
+
+# The crate's time grows about tenfold with each star, so it is asked once.
+HOSTILE = [Hostile(stars, 60, 1000) for stars in (4, 5, 6)]
+
+# The crate would not end on these.
+GROWTH = [
+    Hostile(stars, letters, max(1, 20_000_000 // (stars * letters)))
+    for letters in (1_000, 10_000, 100_000)
+    for stars in (10, 100, 1_000)
+]
+
+
+@dataclass(frozen=True)
+class Compile:
+    """Reads a pattern of `length` characters, `times` times over; a row has the time of all of them."""
+
+    length: int
+    times: int
+
+    def pattern(self):
+        return "a*b[c-e]?/" * (self.length // 10)
+
+    def name(self):
+        return f"compile {self.length:,} characters, {self.times:,} times"
+
+
+COMPILES = [Compile(10, 1_000_000), Compile(100, 100_000), Compile(10_000, 1_000)]
+
+
+@dataclass(frozen=True)
+class Filter:
+    """Runs the program with the lines as its standard input."""
+
+    pattern: str
+    options: str = ""
+
+    def words(self):
+        return ["match", *(f"-{letter}" for letter in self.options), self.pattern]
+
+    def name(self):
+        return f"program `{self.pattern}`{said(self.options)}"
+
+
+FILTERS = [
+    Filter("*.rs"),
+    Filter("src/**/mod.rs"),
+    Filter("=never/*.rs"),
+    Filter("*"),
+    Filter("*readme*", "i"),
+    Filter("*/*/*.rs", "s"),
+]

@@ -1,0 +1,72 @@
+//! `crates/glob_bench`, over the Rust crate: the same words, work and output.
+
+use glob::{MatchOptions, Pattern};
+use std::env;
+use std::error::Error;
+use std::fs;
+use std::time::Instant;
+
+type Result<T> = std::result::Result<T, Box<dyn Error>>;
+
+/// The options that the letters of a word stand for.
+fn options_of(letters: &str) -> MatchOptions {
+    let mut options = MatchOptions::new();
+    options.case_sensitive = !letters.contains('i');
+    options.require_literal_separator = letters.contains('s');
+    options.require_literal_leading_dot = letters.contains('d');
+    options
+}
+
+/// How many of the lines the pattern matches, `times` times over.
+fn count_matches(pattern: &Pattern, options: MatchOptions, lines: &[&str], times: u32) -> u64 {
+    let mut count = 0u64;
+    for _ in 0..times {
+        for line in lines {
+            if pattern.matches_with(line, options) {
+                count += 1;
+            }
+        }
+    }
+    count
+}
+
+/// How many bytes of patterns are read, `times` times over.
+fn compile(text: &str, times: u32) -> Result<u64> {
+    let mut count = 0u64;
+    for _ in 0..times {
+        let pattern = Pattern::new(text)?;
+        count += pattern.as_str().len() as u64;
+    }
+    Ok(count)
+}
+
+/// Does what the words after the program's name say. The answer is the count, and the time in nanoseconds.
+fn run(words: &[&str]) -> Result<(u64, u128)> {
+    match words {
+        ["match", letters, pattern, file, times] => {
+            let pattern = Pattern::new(pattern)?;
+            let text = fs::read_to_string(file)?;
+            let lines = text.lines().collect::<Vec<&str>>();
+            let times = times.parse::<u32>()?;
+            let start = Instant::now();
+            let count = count_matches(&pattern, options_of(letters), &lines, times);
+            Ok((count, start.elapsed().as_nanos()))
+        }
+        ["compile", pattern, times] => {
+            let times = times.parse::<u32>()?;
+            let start = Instant::now();
+            let count = compile(pattern, times)?;
+            Ok((count, start.elapsed().as_nanos()))
+        }
+        _ => Err("usage: library match OPTIONS PATTERN FILE TIMES | compile PATTERN TIMES".into()),
+    }
+}
+
+fn main() -> Result<()> {
+    let arguments = env::args().skip(1).collect::<Vec<String>>();
+    let words = arguments.iter().map(String::as_str).collect::<Vec<&str>>();
+    let (count, nanoseconds) = run(&words)?;
+    println!("{count}");
+    eprintln!("{nanoseconds}");
+    Ok(())
+}
