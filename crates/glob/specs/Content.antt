@@ -74,7 +74,7 @@ step c piece k =
 
 -- where pieces lead in turn
 abbrev pub steps : Content → Option Key → List Text → Option Key
-steps c k pieces = fold (λ at piece. option_and_then (step c piece) at) k pieces
+steps c k ps = fold (λ at piece. option_and_then (step c piece) at) k ps
 
 -- the root for a path that begins with a separator, and else the current directory
 abbrev pub origin : Content → Text → Key

@@ -23,7 +23,8 @@ abbrev pub are_plain : (after_recursive : Bool) → List Text → Bool
 are_plain after_recursive [] = true
 are_plain after_recursive (t ∷ ts) = is_plain_component after_recursive t && are_plain (is_recursive t) ts
 
--- the pattern has no fault, and each of its components takes the names of a directory and nothing else
+-- The pattern has no fault, and no component whose meaning is not that of the undivided text: an empty one, `.`, `..`, or
+-- one that may find the special names `.` and `..` of a directory.
 unfoldable pub is_plain : (pattern : Text) → Bool
 is_plain pattern = is_none (walk_fault pattern) && are_plain false (components pattern)
 

@@ -21,9 +21,9 @@ is_directory look.Dir = true
 is_directory look.Other = false
 is_directory look.Missing = false
 
--- what comes of a path, by whether it is a directory's
+-- what comes of a path or of an entry's name, by whether it is a directory's
 abbrev pub Next : Type 0
-Next = (path : Text) → (is_directory : Bool) → List Mark
+Next = Text → Bool → List Mark
 
 -- The path is looked up, and if it is there, `next` says what comes of it, by whether it is a directory's.
 abbrev pub look_up : Content → (is_found : Look → Bool) → (next : Next) → Text → List Mark
@@ -36,7 +36,8 @@ by_name c next component path d =
     look_up c (λ seen. if is_special_name component then d else is_there seen) next (child path component)
 
 -- What comes of a listing: a unit for each entry, what stands before the entries, and then what comes of each in
--- ascending byte order of names; or else an error.
+-- ascending byte order of names; or else an error. Over a content only directories are listed, so nothing comes of the
+-- last case.
 abbrev pub after_listing : Text → (before : List Mark) → (each : Next) → ListAnswer → List Mark
 after_listing path before each (Entries entries) =
     replicate (length entries) (Work path) ++ before ++ flat_map (λ e. each e.0 e.1) (ascending entries)
@@ -84,7 +85,7 @@ descent c o each (suc n) path =
 abbrev pub deepest : Content → ℕ
 deepest c = fold (λ n e. max n (length e.0)) 0 c.kinds
 
--- no directory is so deep
+-- more levels than the longest key has names, so that a descent of so many levels meets each key below it
 abbrev pub levels : Content → ℕ
 levels c = suc (deepest c)
 

@@ -77,8 +77,9 @@ pub enum ListError {
     Memory,
 }
 
-/// A tree of files and directories. It tells what it holds, or nothing, to contracts alone; where it tells a content,
-/// its answers are those of that content, and the content stays.
+/// A tree of files and directories. It tells what it holds, or nothing, to contracts alone. Where it tells a content, one
+/// whose keys are placed in directories, its answers are those of that content, and the content stays. Of another tree
+/// the counts alone are promised.
 pub trait Tree: Drop {
     /// The allocator of the entries that it lists.
     type Alloc: Allocator + Copy;

@@ -1,5 +1,5 @@
 //! A tree that is held in memory.
-ghost use Rattle.std.specs.Prelude.{◌≡◌, ◌+◌, true, Some, IfOk, IfErr, OnOk, OnErr, MatchResult};
+ghost use Rattle.std.specs.Prelude.{◌≡◌, ◌+◌, true, Some, Ok, IfOk, IfErr, OnOk, OnErr, MatchResult};
 ghost use Rattle.glob.specs.Answers.{IsListError, entries_of, entry_count};
 ghost use Rattle.glob.specs.Content.{is_content, looked, listed, Entries};
 ghost use Rattle.glob.specs.Memory.{empty_content, add_refusal, added, current_refusal, directory_key, with_current, IsChangeAnswer, IsDirectoryOf, IsFaultOf, IsPlace, change_answer, list_fault};
@@ -13,7 +13,7 @@ use std::alloc::{AllocError, Allocator, Global};
 use std::io;
 use std::marker::Model;
 
-/// A tree that is held in memory, and told by its contracts.
+/// A tree that is held in memory. Its contracts tell what it holds.
 ///
 /// After `add_dir("/a")` and `add_other("/a/b")` a look at `a/b` answers `Other`, and a listing of `a` the entry `b`.
 #[derive(Drop)]
@@ -134,7 +134,7 @@ impl<A: Allocator + Copy> Tree for MemTree<A> {
     fn look(&mut self, path: &str) -> Result<Look, AllocError>
         ensures asks { self.new.asks ≡ self.old.asks + 1 }
         ensures content { self.new.content ≡ self.old.content }
-        ensures seen { IfOk result (λ seen. seen ≡ looked self.old.content path.now) }
+        ensures seen { result ≡ Ok (looked self.old.content path.now) }
     {
         self.asks = self.asks.after(1);
         Ok(self.seen(path))
