@@ -12,6 +12,7 @@ mod Shut
 mod Goals
 mod Answers
 mod Changes
+mod Edges
 use Rattle.std.specs.Prelude.{◌≡◌, ℕ, Bool, true, false, List, [], ◌∷◌, ◌++◌, Result, Err, codes, refl, map}
 use Rattle.glob.specs.Text.{Text}
 use Rattle.glob.specs.Tokens.{Token}
