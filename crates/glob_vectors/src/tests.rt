@@ -1,5 +1,8 @@
+mod counted;
 mod escaping;
 mod faults;
+mod hostile;
+mod judges;
 mod lines;
 mod matching;
 mod memory;

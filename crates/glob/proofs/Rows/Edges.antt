@@ -9,7 +9,7 @@ use Rattle.glob.proofs.Rows.{new}
 use Rattle.glob.proofs.Rows.Trees.{computed, dir, file, shut, at_root, Gives, Spends}
 
 proper_names : map (λ name. is_proper (codes name)) ("a" ∷ "..." ∷ ".x" ∷ "a b" ∷ "" ∷ "." ∷ ".." ∷ "a/b" ∷ "/" ∷ [])
-  ≡ true ∷ true ∷ true ∷ true ∷ false ∷ false ∷ false ∷ false ∷ false ∷ []
+    ≡ true ∷ true ∷ true ∷ true ∷ false ∷ false ∷ false ∷ false ∷ false ∷ []
 proper_names = refl
 
 nul_is_in_no_name : is_proper (codes "a" ++ 0 ∷ []) ≡ false

@@ -1,0 +1,3 @@
+pub mod Aligned
+pub mod NameSplits
+pub mod Refusals

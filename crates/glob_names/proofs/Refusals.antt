@@ -1,0 +1,35 @@
+-- The first component that is no pattern.
+use Rattle.std.proofs.Common.{◌≡◌, ℕ, ◌+◌, ◌<◌, List, ◌∷◌, ◌++◌, length, get_or, take, drop, map, Option, Some, sym, ap, ◌∙◌, drop-cons, add-one, suc, Result, Ok, Err, IfErr, IsErrAnd}
+use Rattle.std.proofs.lemmas.Iterator.{YieldsList}
+use Rattle.std.proofs.lemmas.Iterator.Consumers.{YieldsList-turn, YieldsList-so_far}
+use Rattle.std.proofs.lemmas.List.{take-append-drop}
+use Rattle.std.specs.Iterator.{Yields}
+use Rattle.std.specs.List.{All}
+use Rattle.std.specs.Str.{chars}
+use Rattle.glob.specs.Faults.{Refuses}
+use Rattle.glob.specs.declared.error.PatternRefusal.{PatternRefusal}
+use Rattle.glob_names.specs.Names.{IsComponent, RefusesComponent}
+
+-- what stands in a list from place n on
+drop_from : {X : Type 0} (xs : List X) (n : ℕ) (x : X) → n < length xs → x ≡ get_or xs n x → drop n xs ≡ x ∷ drop (n + 1) xs
+drop_from xs n x below is = rw add-one (drop-cons xs n x below ∙ ap (λ y. y ∷ drop (suc n) xs) (sym is))
+
+-- A refusal of the component that a reading of the components has come to, before which all are patterns.
+pub RefusesComponent-turn : {S A : Type 0} {steps : S → Option A → S → Type 0} {shows : A → List ℕ} {s : S} {components : List (List ℕ)} → YieldsList steps shows s components
+    → (yielded : List A) (t : S) → Yields steps s yielded t → (next : Option A) (u : S) (component : A) → next ≡ Some component → steps t next u
+    → (front : List (List ℕ)) → front ≡ map shows yielded → All IsComponent front
+    → (refusal : PatternRefusal) → Refuses (chars (shows component)) refusal → RefusesComponent components refusal
+RefusesComponent-turn {shows = shows} {components = components} reading yielded t read next u component is step front before accepted refusal refuses =
+    let n : ℕ = length yielded in
+    let c : List ℕ = shows component in
+    let turn = YieldsList-turn reading yielded t read next u component is step in
+    let first : front ≡ take n components = before ∙ YieldsList-so_far reading yielded t read in
+    let split : components ≡ front ++ c ∷ drop (n + 1) components =
+    sym (take-append-drop n components) ∙ ap (λ zs. take n components ++ zs) (drop_from components n c turn.0 turn.1)
+    ∙ ap (λ zs. zs ++ c ∷ drop (n + 1) components) (sym first) in
+    (front, drop (n + 1) components, c, split, accepted, refuses)
+
+-- what follows from what is known of an error holds of it
+pub IfErr-from_known : {T E : Type 0} (r : Result T E) (P Q : E → Type 0) → ((e : E) → P e → Q e) → IsErrAnd r P → IfErr r Q
+IfErr-from_known (Ok x) P Q follows known = tt
+IfErr-from_known (Err e) P Q follows known = follows e known

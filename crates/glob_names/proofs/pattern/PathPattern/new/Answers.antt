@@ -1,0 +1,55 @@
+use Rattle.std.proofs.Common.{◌∙◌, [], ◌∷◌, ◌++◌, sym, ap, subst, lit<, chars}
+use Rattle.std.proofs.lemmas.Iterator.Consumers.{YieldsList-end}
+use Rattle.std.proofs.lemmas.Iterator.Splits.{YieldsList-from_str_split}
+use Rattle.std.proofs.lemmas.List.{map-append}
+use Rattle.std.proofs.lemmas.List.Elements.{All-push}
+use Rattle.glob.specs.Characters.{slash}
+use Rattle.glob.specs.Faults.{Refuses}
+use Rattle.glob_names.specs.Names.{IsComponent}
+use Rattle.glob_names.specs.NameTable.{shape_of}
+use Rattle.glob_names.proofs.Refusals.{RefusesComponent-turn, IfErr-from_known}
+use Rattle.glob_names.proofs.pattern.PathPattern.new.Goals as goal
+
+pub loop-component-preserved : goal.loop-component-preserved
+loop-component-preserved g c =
+    let i = c.loop-component.invariant in
+    let component = c.in-Some.component in
+    let items = rw c.in_ok-new.ensures.text at c.in_ok-push.ensures.items in
+    record {
+      read = rw (items, map-append (λ x. x.now) c.loop-component.yielded (component ∷ [])) (ap (λ xs. xs ++ component.now ∷ []) i.read);
+      shaped = rw (c.in_ok-push-2.ensures.items, items, map-append shape_of c.loop-component.components.items (component.now ∷ []), c.shape_of.ensures) (ap (λ xs. xs ++ shape_of component.now ∷ []) i.shaped);
+      accepted = rw items (All-push IsComponent _ _ i.accepted c.in_ok-new.ensures.accepted);
+    }
+
+pub returns-in_err-new-clause-refused : goal.returns-in_err-new-clause-refused
+returns-in_err-new-clause-refused g c =
+    let parts = YieldsList-from_str_split slash c.args.text.now (lit< tt) (cc) (cc) (cc) in
+    IfErr-from_known _ _ _
+    (λ refusal is. RefusesComponent-turn parts c.loop-component.yielded _ c.loop-component.yielded_by
+    _ _ c.in-Some.component c.in-Some.is c.next.ensures.steps _ c.loop-component.invariant.read c.loop-component.invariant.accepted
+    refusal (subst (Refuses (chars c.in-Some.component.now)) (sym is) c.in_err-new.ensures.refused))
+    c.from_residual.ensures.1
+
+pub returns-in_err-push-clause-refused : goal.returns-in_err-push-clause-refused
+returns-in_err-push-clause-refused g c =
+    let parts = YieldsList-from_str_split slash c.args.text.now (lit< tt) (cc) (cc) (cc) in
+    IfErr-from_known _ _ _
+    (λ refusal is. RefusesComponent-turn parts c.loop-component.yielded _ c.loop-component.yielded_by
+    _ _ c.in-Some.component c.in-Some.is c.next.ensures.steps _ c.loop-component.invariant.read c.loop-component.invariant.accepted
+    refusal (subst (Refuses (chars c.in-Some.component.now)) (sym is) tt))
+    c.from_residual-in_err-push.ensures.1
+
+pub returns-in_err-push-2-clause-refused : goal.returns-in_err-push-2-clause-refused
+returns-in_err-push-2-clause-refused g c =
+    let parts = YieldsList-from_str_split slash c.args.text.now (lit< tt) (cc) (cc) (cc) in
+    IfErr-from_known _ _ _
+    (λ refusal is. RefusesComponent-turn parts c.loop-component.yielded _ c.loop-component.yielded_by
+    _ _ c.in-Some.component c.in-Some.is c.next.ensures.steps _ c.loop-component.invariant.read c.loop-component.invariant.accepted
+    refusal (subst (Refuses (chars c.in-Some.component.now)) (sym is) tt))
+    c.from_residual-in_err-push-2.ensures.1
+
+pub returns-clause-components : goal.returns-clause-components
+returns-clause-components g c =
+    let parts = YieldsList-from_str_split slash c.args.text.now (lit< tt) (cc) (cc) (cc) in
+    let all = YieldsList-end parts c.loop-component.yielded _ c.loop-component.yielded_by _ _ c.in-None.is c.next.ensures.steps in
+    c.loop-component.invariant.read ∙ all.0

@@ -1,0 +1,40 @@
+-- The names of a path, and how a path pattern's components stand for them.
+use Rattle.std.specs.Prelude.{◌≡◌, ℕ, ◌==◌, ◌⊎◌, List, [], ◌∷◌, ◌++◌}
+use Rattle.std.specs.List.{All, slice_split}
+use Rattle.std.specs.Str.{chars}
+use Rattle.glob.specs.Characters.{slash, star}
+use Rattle.glob.specs.Options.{new_options}
+use Rattle.glob.specs.Units.{IsAccepted}
+use Rattle.glob.specs.Faults.{Refuses}
+use Rattle.glob.specs.Matching.{Matches}
+use Rattle.glob.specs.declared.error.PatternRefusal.{PatternRefusal}
+
+-- What stands between the separators of a text: a path's names, a path pattern's components.
+abbrev pub names_of : List ℕ → List (List ℕ)
+names_of text = slice_split (λ b. b == slash) text
+
+-- `**`, the component for any number of names
+abbrev pub any_names : List ℕ
+any_names = star ∷ star ∷ []
+
+-- the component stands for these names: `**` for any, another for one that it matches
+abbrev pub StandsFor : (component : List ℕ) → (group : List (List ℕ)) → Type 0
+StandsFor component group =
+    (component ≡ any_names)
+    ⊎ ((name : List ℕ) × (group ≡ name ∷ []) × Matches new_options (chars component) (chars name))
+
+-- the names are groups in a row, one a component, and each component stands for its group
+abbrev pub NamesSplit : (components names : List (List ℕ)) → Type 0
+NamesSplit [] names = names ≡ []
+NamesSplit (component ∷ components) names =
+    (group others : List (List ℕ)) × (names ≡ group ++ others) × StandsFor component group × NamesSplit components others
+
+-- the component is a pattern
+abbrev pub IsComponent : List ℕ → Type 0
+IsComponent component = IsAccepted (chars component)
+
+-- what a refusal says: the fault of the first component that is no pattern, or want of memory
+abbrev pub RefusesComponent : (components : List (List ℕ)) → PatternRefusal → Type 0
+RefusesComponent components refusal =
+    (front others : List (List ℕ)) × (component : List ℕ)
+    × (components ≡ front ++ component ∷ others) × All IsComponent front × Refuses (chars component) refusal

@@ -1,0 +1,109 @@
+ghost use Rattle.std.specs.Prelude.{◌≡◌, ◌↔◌, IsTrue, IfOk, IfErr, All};
+ghost use Rattle.glob_names.specs.Names as names;
+ghost use Rattle.glob_names.specs.NameTable as table;
+
+use crate::judge::NameJudge;
+use glob::{Pattern, PatternRefusal, Shape, run_positions};
+use std::alloc::{AllocError, Allocator, Global};
+use std::marker::Model;
+
+/// The component that stands for any number of names.
+const ANY_NAMES: &str = "**";
+
+/// A pattern of a path's names, read from a text of components with `/` between them. A component is a pattern of one
+/// name, but `**` stands for any number of names. A `/` in brackets ends the component too.
+#[derive(Debug, Drop)]
+pub struct PathPattern<A: Allocator = Global> {
+    components: Vec<Pattern<A>, A>,
+    shapes: Vec<Shape, A>,
+    alloc: A,
+}
+
+// Clauses see the components.
+impl<A: Allocator> Model for PathPattern<A> {
+    ghost use Rattle.std.specs.Prelude.{◌≡◌, List, ℕ, map};
+    ghost use Rattle.glob_names.specs.NameTable.{shape_of};
+
+    ghost Value = { List (List ℕ) };
+
+    ghost view = { λ pattern. pattern.components.items };
+
+    ghost invariant = { λ pattern. pattern.shapes.items ≡ map shape_of pattern.components.items };
+}
+
+impl<A: Allocator + Copy> PathPattern<A> {
+    /// Reads a path pattern. It is refused with the fault of the first component that is no pattern, whose place counts
+    /// from the start of that component; and any text may be refused for want of memory.
+    pub fn new(alloc: A, text: &str) -> Result<Self, PatternRefusal>
+        ensures components { IfOk result (λ pattern. pattern ≡ names.names_of text.now) }
+        ensures accepted { IfOk result (All names.IsComponent) }
+        ensures refused { IfErr result (names.RefusesComponent (names.names_of text.now)) }
+    {
+        let mut components = Vec::new(alloc);
+        let mut shapes = Vec::new(alloc);
+        for component in text.split('/') {
+            components.push(Pattern::new(alloc, component)?)?;
+            shapes.push(shape_of(component))?;
+        }
+        Ok(PathPattern {
+            components,
+            shapes,
+            alloc,
+        })
+    }
+
+    /// Whether the path's names, what stands between its `/`, are groups in a row, one a component: of `**` any number
+    /// of names, of another component one name that it matches, with case. It fails only for want of memory.
+    ///
+    /// So `a/**/b` matches `a/b` and `a/x/y/b`. And `a/**` matches `a`, with no names for `**`.
+    pub fn matches(&self, path: &str) -> Result<bool, AllocError>
+        ensures { IfOk result (λ yes. IsTrue yes ↔ names.NamesSplit self.now (names.names_of path.now)) }
+    {
+        let rows = self.rows(path)?;
+        let mut judge = NameJudge::new(&rows, self.components.len());
+        run_positions(self.alloc, self.shapes.as_slice(), &mut judge)
+    }
+
+    /// For each name of the path, whether each component takes it.
+    fn rows(&self, path: &str) -> Result<Vec<Vec<bool, A>, A>, AllocError>
+        ensures { IfOk result (λ rows. table.AreAligned (λ name row. table.IsRow self.now name row.items) (names.names_of path.now) rows.items) }
+    {
+        let mut rows = Vec::new(self.alloc);
+        for name in path.split('/') {
+            rows.push(self.row(name)?)?;
+        }
+        Ok(rows)
+    }
+
+    /// Whether each component takes the name.
+    fn row(&self, name: &str) -> Result<Vec<bool, A>, AllocError>
+        ensures { IfOk result (λ row. table.IsRow self.now name.now row.items) }
+    {
+        let mut row = Vec::with_capacity(self.alloc, self.components.len())?;
+        for component in &self.components {
+            row.push(takes_name(component, name)?)?;
+        }
+        Ok(row)
+    }
+}
+
+/// Which groups the component may stand for.
+fn shape_of(component: &str) -> Shape
+    ensures { result ≡ table.shape_of component.now }
+{
+    if component == ANY_NAMES {
+        Shape::Run
+    } else {
+        Shape::One
+    }
+}
+
+/// Whether the component takes the name.
+fn takes_name<A: Allocator + Copy>(component: &Pattern<A>, name: &str) -> Result<bool, AllocError>
+    ensures { IfOk result (λ yes. IsTrue yes ↔ table.TakesName component.now name.now) }
+{
+    if component.as_str() == ANY_NAMES {
+        return Ok(true);
+    }
+    component.matches(name)
+}
