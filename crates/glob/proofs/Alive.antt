@@ -1,17 +1,12 @@
 -- Which numbers of leading shapes are alive at a place, from what was alive at the place before.
-use Rattle.std.proofs.Common.{◌≡◌, ℕ, zero, suc, ◌+◌, ◌<◌, ◌≤◌, ◌≢◌, ◌⊎◌, ◌↔◌, List, [], length, get_or, drop, IsTrue, sym, refl, ap, subst, inl, inr, ⊎_elim, arith, add-one, length-drop}
+use Rattle.std.proofs.Common.{◌≡◌, ℕ, zero, suc, ◌+◌, ◌-◌, ◌<◌, ◌≤◌, ◌≢◌, ◌⊎◌, ◌↔◌, List, [], length, get_or, drop, IsTrue, sym, refl, ap, subst, inl, inr, ⊎_elim, arith, add-one, length-drop}
 use Rattle.std.proofs.lemmas.Bool.{cases_eq}
 use Rattle.std.proofs.lemmas.List.{drop_all, get_or_past}
 use Rattle.glob.specs.Splits.{Table, TakesAll, MayReach, Splits}
-use Rattle.glob.specs.Leading.{LeadingSplit, IsAlive}
+use Rattle.glob.specs.Leading.{LeadingSplit, IsAlive, HasTaken}
 use Rattle.glob.proofs.Leading.{Splits-iff_leading}
 use Rattle.glob.specs.declared.matcher.Shape.{Shape}
 use Rattle.glob.specs.declared.matcher.Shape.TheVariants.{One, Run, Deep}
-
--- the first n shapes were alive at the place before place k, and token n takes the character between
-unfoldable pub HasTaken : Table → List Shape → (n k : ℕ) → Type 0
-HasTaken table shapes n zero = ⊥
-HasTaken table shapes n (suc k) = IsAlive table shapes n k × IsTrue (table.takes n k)
 
 -- a deep piece of shape n that is not empty ends after the last shape, or where the place opens
 abbrev pub MayEnd : Table → List Shape → (n k : ℕ) → Type 0
@@ -171,15 +166,32 @@ module _ (table : Table) (shapes : List Shape) where
   IsAlive-before n k le alive =
       ⊎_elim (LeadingSplit-before n k le) (λ (taken, grows). (n, le, taken.0)) ((IsAlive-step table shapes n (suc k)).0 alive)
 
-  -- As long as something is alive, each character is asked about: `start` is the count at the start, and the character
-  -- before place k + 1 raised it from `old` to `new`.
-  pub asked_more : (k start old new : ℕ) → ((n : ℕ) → n ≤ length shapes → IsAlive table shapes n (k + 1) → old < new) → ((n : ℕ) → n ≤ length shapes → IsAlive table shapes n k → start + k ≤ old) → (n : ℕ) → n ≤ length shapes → IsAlive table shapes n (k + 1) → start + (k + 1) ≤ new
-  asked_more k start old new more before n le alive =
-      let (m, within, was) = IsAlive-before n k le (rw add-one at alive) in
+  -- As long as something is alive, each character is asked about: the count was `start` at place `from`, and the
+  -- character before place k + 1 raised it from `old` to `new`.
+  pub asked_more : (from start k next old new : ℕ) → next ≡ k + 1 → ((n : ℕ) → n ≤ length shapes → IsAlive table shapes n next → old < new)
+      → ((n : ℕ) → n ≤ length shapes → IsAlive table shapes n k → start + k ≤ old + from) → (n : ℕ) → n ≤ length shapes → IsAlive table shapes n next → start + next ≤ new + from
+  asked_more from start k next old new at more before n le alive =
+      let (m, within, was) = IsAlive-before n k le (rw (at, add-one) at alive) in
       omega (arith, more n le alive, before m within was)
 
   -- where all characters split, each was asked about
-  pub asked_all : (k start count : ℕ) → table.characters ≡ k → ((n : ℕ) → n ≤ length shapes → IsAlive table shapes n k → start + k ≤ count) → Splits table shapes → start + table.characters ≤ count
-  asked_all k start count at asked split =
+  pub asked_all : (from start k count : ℕ) → table.characters ≡ k → ((n : ℕ) → n ≤ length shapes → IsAlive table shapes n k → start + k ≤ count + from) → Splits table shapes → start + table.characters ≤ count + from
+  asked_all from start k count at asked split =
       let alive : IsAlive table shapes (length shapes) k = subst (IsAlive table shapes (length shapes)) at (Splits-iff_alive.0 split) in
       omega (arith, asked (length shapes) (omega arith) alive)
+
+  -- what is alive at a place comes from what was alive at an earlier one
+  IsAlive-earlier : (m k n : ℕ) → n ≤ length shapes → IsAlive table shapes n (m + k) → (o : ℕ) × (o ≤ length shapes) × IsAlive table shapes o k
+  IsAlive-earlier zero k n le alive = let same : zero + k ≡ k = omega arith in (n, le, subst (IsAlive table shapes n) same alive)
+  IsAlive-earlier (suc m) k n le alive =
+      let next : suc m + k ≡ suc (m + k) = omega arith in
+      let (o, within, was) = IsAlive-before n (m + k) le (subst (IsAlive table shapes n) next alive) in
+      IsAlive-earlier m k o within was
+
+  -- Where each character is asked about up to a place, and from there on, each is.
+  pub asked_through : (from start mid next old new : ℕ) → mid ≤ next → ((n : ℕ) → n ≤ length shapes → IsAlive table shapes n mid → start + mid ≤ old + from)
+      → ((n : ℕ) → n ≤ length shapes → IsAlive table shapes n next → old + next ≤ new + mid) → (n : ℕ) → n ≤ length shapes → IsAlive table shapes n next → start + next ≤ new + from
+  asked_through from start mid next old new moved before after n le alive =
+      let whole : next - mid + mid ≡ next = omega arith in
+      let (o, within, was) = IsAlive-earlier (next - mid) mid n le (subst (IsAlive table shapes n) (sym whole) alive) in
+      omega (arith, before o within was, after n le alive)

@@ -1,5 +1,6 @@
 -- How many characters there are.
-use Rattle.std.proofs.Common.{ℕ, zero, suc, ◌+◌, ◌-◌, ◌*◌, ◌^◌, ◌<◌, ◌≤◌, List, [], ◌∷◌, length, arith}
+use Rattle.std.proofs.Common.{◌≡◌, ℕ, zero, suc, ◌+◌, ◌-◌, ◌*◌, ◌^◌, ◌<◌, ◌≤◌, List, [], ◌∷◌, length, arith, mul-add}
+use Rattle.std.proofs.Math.Nat.{mul-suc, suc-mul}
 use Rattle.std.specs.Str.{chars_after, continuation_len, lead_bits}
 use Rattle.std.specs.Str as str
 use Rattle.std.proofs.lemmas.Nat.{mul-lt}
@@ -19,3 +20,19 @@ length-chars (b ∷ bs) = omega (arith, length-chars_after (continuation_len b) 
 -- the product of two counts of 64 bits has 128
 pub product_fits : (m n : ℕ) → m < 2 ^ 64 → n < 2 ^ 64 → m * n < 2 ^ 128
 product_fits m n below_m below_n = mul-lt m n (2 ^ 64) (2 ^ 64) below_m below_n
+
+-- what a character's asks take off the room for those of the characters left
+pub mul-left : (n characters place : ℕ) → place + 1 ≤ characters → n * (characters - place) ≡ n * (characters - (place + 1)) + n
+mul-left n characters place le =
+    let next : characters - place ≡ suc (characters - (place + 1)) = omega arith in
+    rw next (mul-suc n (characters - (place + 1)))
+
+-- the asks for leading characters, one each, and the room for the others
+pub led_fits : (n characters lead : ℕ) → lead ≤ characters → (0 < lead → 0 < n) → lead + n * (characters - lead) ≤ n * characters
+led_fits zero characters zero le some = omega arith
+led_fits zero characters (suc lead) le some = absurd (omega (arith, some (omega arith)))
+led_fits (suc n) characters lead le some =
+    let whole : characters - lead + lead ≡ characters = omega arith in
+    let parts : suc n * (characters - lead + lead) ≡ suc n * (characters - lead) + suc n * lead = mul-add (suc n) (characters - lead) lead in
+    let first : suc n * lead ≡ n * lead + lead = suc-mul n lead in
+    omega (arith, rw whole at parts, first)

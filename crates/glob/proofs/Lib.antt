@@ -1,4 +1,5 @@
 pub mod Accepted
+pub mod Advancing
 pub mod Alive
 pub mod Answering
 pub mod Closing
@@ -19,9 +20,12 @@ pub mod KeptLines
 pub mod Keys
 pub mod KnownMoves
 pub mod Leading
+pub mod LeadingOnes
 pub mod LineSplits
 pub mod Literals
 pub mod Loosening
+pub mod LowestBits
+pub mod ManyWords
 pub mod Marks
 pub mod MatchingLemmas
 pub mod MatchingLines
@@ -36,10 +40,12 @@ pub mod PlainPatterns
 pub mod Reading
 pub mod Resolving
 pub mod Rests
-pub mod RowSteps
 pub mod Rows
+pub mod SetBits
 pub mod Sorting
 pub mod SplitsLemmas
+pub mod Spreading
 pub mod SteppingLemmas
 pub mod Units
+pub mod WordRows
 pub mod WrittenUnits

@@ -1,5 +1,6 @@
 -- What a pattern matches, by its tokens.
-use Rattle.std.proofs.Common.{◌≡◌, ◌↔◌, List, subst}
+use Rattle.std.proofs.Common.{◌≡◌, ◌<◌, ◌↔◌, ◌∙◌, List, length, ap, subst, arith}
+use Rattle.std.proofs.lemmas.List.{length-map}
 use Rattle.glob.specs.Text.{Text}
 use Rattle.glob.specs.Tokens.{Token, shape_of}
 use Rattle.glob.specs.Units.{HasTokens}
@@ -10,7 +11,7 @@ use Rattle.glob.specs.declared.options.MatchOptions.{MatchOptions}
 use Rattle.glob.proofs.Accepted.{one_reading}
 use Rattle.glob.proofs.PiecesAndSplits.{Splits-from_TokensMatch, TokensMatch-from_Splits}
 use Rattle.std.proofs.Common.{Bool, IsTrue, map}
-use Rattle.glob.specs.Patterns.{KeepsTokens}
+use Rattle.glob.specs.Patterns.{KeepsTokens, IsShort}
 use Rattle.glob.specs.declared.matcher.Shape.{Shape}
 
 -- the pattern matches what its tokens split
@@ -34,3 +35,10 @@ Matches-by_table {yes} o pattern text tokens shapes keeps asked asked_tokens ask
     let moved : IsTrue yes ↔ Splits (table_of o tokens text) (map shape_of tokens) =
     rw (← keeps.shaped, ← same_shapes, ← same_options, ← same_tokens, ← same_text) decided in
     (λ h. by_tokens.0 (moved.0 h), λ h. moved.1 (by_tokens.1 h))
+
+-- a pattern of few tokens keeps few shapes
+pub shapes_are_few : (pattern : Text) (tokens : List Token) (shapes : List Shape) → KeepsTokens pattern tokens shapes → IsShort pattern → length shapes < 64
+shapes_are_few pattern tokens shapes keeps (others, read, few) =
+    let same : tokens ≡ others = one_reading pattern tokens others keeps.read read in
+    let count : length shapes ≡ length tokens = ap length keeps.shaped ∙ length-map tokens shape_of in
+    omega (arith, count, ap length same, few)

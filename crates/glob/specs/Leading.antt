@@ -1,5 +1,5 @@
 -- How far leading shapes reach: what the rows of a match say, in contracts that are not public.
-use Rattle.std.specs.Prelude.{◌≡◌, ℕ, zero, suc, ◌+◌, ◌≤◌, ◌≢◌, ◌⊎◌, ◌↔◌, Bool, false, List, length, drop, slice_index_or, IsTrue}
+use Rattle.std.specs.Prelude.{◌≡◌, ℕ, zero, suc, ◌+◌, ◌<◌, ◌≤◌, ◌≢◌, ◌⊎◌, ◌↔◌, List, length, drop, slice_index_or, IsTrue}
 use Rattle.glob.specs.Splits.{Table, TakesAll, MayReach}
 use Rattle.glob.specs.declared.matcher.Shape.{Shape}
 use Rattle.glob.specs.declared.matcher.Shape.TheVariants.{One}
@@ -18,7 +18,17 @@ IsAlive table shapes n k =
     (i : ℕ) × (i ≤ k) × LeadingSplit table shapes n i × TakesAll table n i k
     × ((i ≡ k) ⊎ (slice_index_or shapes n One ≢ One))
 
--- the row says of each number of leading shapes whether they are alive at place k
-pub record IsRow (table : Table) (shapes : List Shape) (k : ℕ) (row : List Bool) : Type 0 where
-  pub count : length row ≡ length shapes + 1
-  pub alive : (n : ℕ) → n ≤ length shapes → IsTrue (slice_index_or row n false) ↔ IsAlive table shapes n k
+-- the first n shapes were alive at the place before place k, and token n takes the character between
+unfoldable pub HasTaken : Table → List Shape → (n k : ℕ) → Type 0
+HasTaken table shapes n zero = ⊥
+HasTaken table shapes n (suc k) = IsAlive table shapes n k × IsTrue (table.takes n k)
+
+-- of all tokens, the one before place k alone has taken the character before it
+pub record TakenByLast (table : Table) (shapes : List Shape) (k : ℕ) : Type 0 where
+  pub last : (n : ℕ) → n < length shapes → HasTaken table shapes n k ↔ (n + 1 ≡ k)
+
+-- the first n shapes are of one character, and the token of each takes the character of its own number
+pub record LeadingOnes (table : Table) (shapes : List Shape) (n : ℕ) : Type 0 where
+  pub within : n ≤ length shapes
+  pub ones : (j : ℕ) → j < n → slice_index_or shapes j One ≡ One
+  pub taken : TakenByLast table shapes n

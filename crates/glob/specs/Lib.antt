@@ -17,6 +17,7 @@ pub mod Stepping
 pub mod Patterns
 pub mod Laws
 pub mod Leading
+pub mod Positions
 pub mod GlobCauses
 pub mod GlobErrors
 pub mod LineFaults

@@ -1,9 +1,15 @@
-ghost use Rattle.std.specs.Prelude.{◌≡◌, ℕ, ◌+◌, ◌-◌, ◌*◌, ◌^◌, ◌<◌, ◌≤◌, ◌↔◌, false, length, IsTrue, IfOk};
+ghost use Rattle.std.specs.Prelude.{◌≡◌, ℕ, ◌+◌, ◌-◌, ◌*◌, ◌^◌, ◌<◌, ◌≤◌, ◌↔◌, false, length, IsTrue, IsOk, IfOk};
 ghost use Rattle.glob.specs.Splits.{Table, Splits};
 
-mod row;
+mod asking;
+mod few;
+mod kinds;
+mod lead;
+mod many;
 
-use row::{first_row, next_row};
+use few::run_few;
+use lead::take_ones;
+use many::run_many;
 use std::alloc::{AllocError, Allocator};
 
 /// Which pieces a token may have.
@@ -73,12 +79,19 @@ pub fn run_positions<A: Allocator + Copy, J: Judge>(
         (λ yes. IsTrue yes → J.count judge.old + (J.table judge.old).characters ≤ J.count judge.new) }
     ensures monotone { J.count judge.old ≤ J.count judge.new }
     ensures same { J.table judge.new ≡ J.table judge.old }
+
+    // At most 63 shapes take no memory.
+    ensures small { length shapes.now < 64 → IsOk result }
 {
-    let mut rows = Vec::new(alloc);
-    rows.push(first_row(alloc, shapes)?)?;
-    while judge.step() {
-        let row = next_row(alloc, shapes, &rows[rows.len() - 1], judge)?;
-        rows.push(row)?;
+    let Some(lead) = take_ones(shapes, judge) else {
+        return Ok(false);
+    };
+    if lead == shapes.len() {
+        return Ok(!judge.step());
     }
-    Ok(rows[rows.len() - 1][shapes.len()])
+    if shapes.len() < 64 {
+        Ok(run_few(shapes, lead, judge))
+    } else {
+        run_many(alloc, shapes, lead, judge)
+    }
 }

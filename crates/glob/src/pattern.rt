@@ -1,4 +1,5 @@
-ghost use Rattle.std.specs.Prelude.{◌≡◌, ◌*◌, ◌≤◌, ◌↔◌, [], length, IsTrue, IfOk, IfErr, chars};
+ghost use Rattle.std.specs.Prelude.{◌≡◌, ◌*◌, ◌≤◌, ◌↔◌, [], length, IsTrue, IsOk, IfOk, IfErr, chars};
+ghost use Rattle.glob.specs.Patterns.{IsShort};
 ghost use Rattle.std.specs.Path.{path_bytes};
 ghost use Rattle.glob.specs.Units.{IsAccepted};
 ghost use Rattle.glob.specs.Faults.{Refuses};
@@ -107,14 +108,16 @@ impl<A: Allocator + Copy> Pattern<A> {
     /// Whether the pattern matches the whole text, with case and without the separator rule and the dot rule:
     /// [`matches_with`](Self::matches_with) under `MatchOptions::new()`.
     pub fn matches(&self, str: &str) -> Result<bool, AllocError>
-        ensures { IfOk result (λ yes. IsTrue yes ↔ Matches new_options (chars self.now) (chars str.now)) }
+        ensures answer { IfOk result (λ yes. IsTrue yes ↔ Matches new_options (chars self.now) (chars str.now)) }
+        ensures short { IsShort (chars self.now) → IsOk result }
     {
         self.matches_with(str, MatchOptions::new())
     }
 
     /// Whether the pattern matches the whole text: whether the text splits into one allowed piece for each token.
     pub fn matches_with(&self, str: &str, options: MatchOptions) -> Result<bool, AllocError>
-        ensures { IfOk result (λ yes. IsTrue yes ↔ Matches options (chars self.now) (chars str.now)) }
+        ensures answer { IfOk result (λ yes. IsTrue yes ↔ Matches options (chars self.now) (chars str.now)) }
+        ensures short { IsShort (chars self.now) → IsOk result }
     {
         Ok(self.matches_counted(str, options)?.0)
     }
@@ -130,6 +133,7 @@ impl<A: Allocator + Copy> Pattern<A> {
         ensures answer { IfOk result (λ told. IsTrue told.0 ↔ Matches options (chars self.now) (chars str.now)) }
         ensures most { IfOk result (λ told. told.1 ≤ length (chars self.now) * length (chars str.now)) }
         ensures least { IfOk result (λ told. IsTrue told.0 → length (chars str.now) ≤ told.1) }
+        ensures short { IsShort (chars self.now) → IsOk result }
     {
         let mut judge = TextJudge::new(self.tokens.as_slice(), str, options);
         let answer = matcher::run_positions(self.alloc, self.shapes.as_slice(), &mut judge)?;
@@ -138,7 +142,8 @@ impl<A: Allocator + Copy> Pattern<A> {
 
     /// [`matches`](Self::matches) on the path's text.
     pub fn matches_path(&self, path: Path<'_>) -> Result<bool, AllocError>
-        ensures { IfOk result (λ yes. IsTrue yes ↔ Matches new_options (chars self.now) (chars (path_bytes path.entry))) }
+        ensures answer { IfOk result (λ yes. IsTrue yes ↔ Matches new_options (chars self.now) (chars (path_bytes path.entry))) }
+        ensures short { IsShort (chars self.now) → IsOk result }
     {
         self.matches(path.as_str())
     }
@@ -149,7 +154,8 @@ impl<A: Allocator + Copy> Pattern<A> {
         path: Path<'_>,
         options: MatchOptions,
     ) -> Result<bool, AllocError>
-        ensures { IfOk result (λ yes. IsTrue yes ↔ Matches options (chars self.now) (chars (path_bytes path.entry))) }
+        ensures answer { IfOk result (λ yes. IsTrue yes ↔ Matches options (chars self.now) (chars (path_bytes path.entry))) }
+        ensures short { IsShort (chars self.now) → IsOk result }
     {
         self.matches_with(path.as_str(), options)
     }

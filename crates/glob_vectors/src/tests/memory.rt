@@ -47,6 +47,38 @@ fn patterns_and_matches(rt: HostRuntime) {
     }
 }
 
+/// A pattern, a text, and whether it matches. No pattern has more than 63 tokens.
+const SHORT: [(&str, &str, bool); 6] = [
+    ("*.rs", "main.rs", true),
+    ("**/*.rs", "a/b/c.txt", false),
+    ("[a-c]*[!x]", "beta", true),
+    ("*a*a*a*a*a*a*b", "aaaaaaaaaaaaaaaaaaaaaaaaaaaaaaaaaaaaaaaa", false),
+    (
+        "???????????????????????????????????????????????????????????????",
+        "aaaaaaaaaaaaaaaaaaaaaaaaaaaaaaaaaaaaaaaaaaaaaaaaaaaaaaaaaaaaaaa",
+        true,
+    ),
+    (
+        "**/??????????????????????????????????????????????????????????????",
+        "x/aaaaaaaaaaaaaaaaaaaaaaaaaaaaaaaaaaaaaaaaaaaaaaaaaaaaaaaaaaaaaa",
+        true,
+    ),
+];
+
+#[test]
+fn short_patterns_match_without_memory(rt: HostRuntime) -> Result<(), Fail> {
+    for (text, str, answer) in SHORT {
+        let ample = rationed(0, rt.alloc());
+        Pattern::new(&ample, text)?;
+        let requests = ample.ration.asked();
+        let scarce = rationed(requests.saturating_add(1), rt.alloc());
+        let pattern = Pattern::new(&scarce, text)?;
+        assert!(rt; pattern.matches(str) == Ok(answer), "{text}");
+        assert_eq!(rt; scarce.ration.asked(), requests, "{text} asks for no memory");
+    }
+    Ok(())
+}
+
 #[test]
 fn a_refused_pattern_is_refused_alike(rt: HostRuntime) {
     let ample = rationed(0, rt.alloc());

@@ -1,11 +1,12 @@
 use Rattle.std.proofs.Common.{◌≡◌, ◌<◌, ◌≤◌, ◌*◌, ◌^◌, ◌∙◌, ap, length, chars, arith}
+use Rattle.std.proofs.lemmas.Bool.{false≢true}
 use Rattle.std.proofs.lemmas.List.{length-map}
 use Rattle.std.proofs.Math.Nat.{mul-le-mul_right}
 use Rattle.glob.proofs.Accepted.{length-HasTokens}
 use Rattle.glob.specs.Tokens.{shape_of}
 use Rattle.glob.specs.TextTable.{table_of}
 use Rattle.glob.proofs.Counts.{length-chars, product_fits}
-use Rattle.glob.proofs.MatchingLemmas.{Matches-by_table}
+use Rattle.glob.proofs.MatchingLemmas.{Matches-by_table, shapes_are_few}
 use Rattle.glob.proofs.pattern.Pattern.matches_counted.Goals as goal
 
 pub run_positions-requires-clause-tokens : goal.run_positions-requires-clause-tokens
@@ -51,3 +52,8 @@ unfolding table_of
 returns-clause-least g c = λ yes.
     let text : length (chars c.new-judge.result.text.now) ≡ length (chars c.args.str.now) = ap (λ bytes. length (chars bytes)) c.new-judge.ensures.text in
     omega (arith, c.in_ok-answer.ensures.least yes, text, c.asked.ensures, c.new-judge.ensures.count)
+
+pub returns-in_err-answer-clause-short : goal.returns-in_err-answer-clause-short
+returns-in_err-answer-clause-short g c = λ short.
+    let few = shapes_are_few (chars c.args.self.now) c.self.inside.tokens.items c.self.inside.shapes.items (rw c.self.view_is at c.self.invariant) short in
+    absurd (false≢true (c.in_err-answer.ensures.small (omega (arith, few, ap length c.as_slice-2.ensures.value))))

@@ -1,0 +1,20 @@
+use Rattle.std.proofs.Common.{◌≡◌, ℕ, ◌+◌, ◌-◌, ◌*◌, ◌≤◌, length}
+use Rattle.glob.specs.Leading.{IsAlive}
+use Rattle.glob.specs.Positions.{AliveWord}
+use Rattle.glob.proofs.matcher.few.Few.pass.Given as goal
+
+abbrev pub invariant-loop-judge : goal.invariant-loop-judge
+invariant-loop-judge g l = record {
+  row : AliveWord (g.J.Judge.table l.fn.judge) l.self.shapes.now 0 (g.J.Judge.place l.judge) l.row;
+  within : g.J.Judge.place l.judge ≤ (g.J.Judge.table l.fn.judge).characters;
+  moved : g.J.Judge.place l.fn.judge ≤ g.J.Judge.place l.judge;
+  most : g.J.Judge.count l.judge + length l.self.shapes.now * ((g.J.Judge.table l.fn.judge).characters - g.J.Judge.place l.judge)
+      ≤ g.J.Judge.count l.fn.judge + length l.self.shapes.now * ((g.J.Judge.table l.fn.judge).characters - g.J.Judge.place l.fn.judge);
+  least : (n : ℕ) → n ≤ length l.self.shapes.now → IsAlive (g.J.Judge.table l.fn.judge) l.self.shapes.now n (g.J.Judge.place l.judge)
+      → g.J.Judge.count l.fn.judge + g.J.Judge.place l.judge ≤ g.J.Judge.count l.judge + g.J.Judge.place l.fn.judge;
+  monotone : g.J.Judge.count l.fn.judge ≤ g.J.Judge.count l.judge;
+  same : g.J.Judge.table l.judge ≡ g.J.Judge.table l.fn.judge;
+}
+
+abbrev pub decreases-loop-judge : goal.decreases-loop-judge
+decreases-loop-judge g l = (g.J.Judge.table l.fn.judge).characters - g.J.Judge.place l.judge

@@ -1,0 +1,40 @@
+-- Positions among shapes as bits: words of 64 bits that say of shapes which they are, and of leading shapes whether they are alive.
+use Rattle.std.specs.Prelude.{◌≡◌, ℕ, ◌+◌, ◌*◌, ◌/◌, ◌<◌, ◌≤◌, ◌↔◌, List, length, slice_index_or}
+use Rattle.std.specs.Int.{bit_at}
+use Rattle.glob.specs.Splits.{Table}
+use Rattle.glob.specs.Leading.{IsAlive, HasTaken}
+use Rattle.glob.specs.declared.matcher.Shape.{Shape}
+use Rattle.glob.specs.declared.matcher.Shape.TheVariants.{One, Run, Deep}
+use Rattle.glob.specs.declared.matcher.kinds.Kinds.{Kinds}
+use Rattle.glob.specs.declared.matcher.many.Word.{Word}
+
+-- bit j of the word is 1
+abbrev pub IsSet : (word j : ℕ) → Type 0
+IsSet word j = bit_at word j ≡ 1
+
+-- The words say of the shapes from number `start` up to number `end`, 64 at most, which they are, and which are deep
+-- and have others after them.
+pub record AreKinds (shapes : List Shape) (start end : ℕ) (kinds : Kinds) : Type 0 where
+  pub ones : (j : ℕ) → j < 64 → IsSet kinds.ones j ↔ ((start + j < end) × (slice_index_or shapes (start + j) One ≡ One))
+  pub runs : (j : ℕ) → j < 64 → IsSet kinds.runs j ↔ ((start + j < end) × (slice_index_or shapes (start + j) One ≡ Run))
+  pub deeps : (j : ℕ) → j < 64 → IsSet kinds.deeps j ↔ ((start + j < end) × (slice_index_or shapes (start + j) One ≡ Deep))
+  pub bound : (j : ℕ) → j < 64
+      → IsSet kinds.bound j ↔ ((start + j < end) × (slice_index_or shapes (start + j) One ≡ Deep) × (start + j + 1 < length shapes))
+
+-- the word says of the numbers of leading shapes from `start` on, 64 at most, whether they are alive at place k
+pub record AliveWord (table : Table) (shapes : List Shape) (start k word : ℕ) : Type 0 where
+  pub alive : (j : ℕ) → j < 64 → start + j ≤ length shapes → IsSet word j ↔ IsAlive table shapes (start + j) k
+
+-- the word says of the tokens from number `start` on, 64 at most, whether they have taken the character before place k
+pub record TakenWord (table : Table) (shapes : List Shape) (start k word : ℕ) : Type 0 where
+  pub taken : (j : ℕ) → j < 64 → start + j < length shapes → IsSet word j ↔ HasTaken table shapes (start + j) k
+
+-- what a word of a row says of the numbers of leading shapes from `start` on
+pub record IsRowWord (table : Table) (shapes : List Shape) (start k : ℕ) (word : Word) : Type 0 where
+  pub kinds : AreKinds shapes start (length shapes) word.kinds
+  pub alive : AliveWord table shapes start k word.alive
+
+-- the words say of all numbers of leading shapes, 64 in each, whether they are alive at place k
+pub record IsRow (table : Table) (shapes : List Shape) (k : ℕ) (words : List Word) : Type 0 where
+  pub count : length words ≡ length shapes / 64 + 1
+  pub word : (i : ℕ) (d : Word) → i < length words → IsRowWord table shapes (64 * i) k (slice_index_or words i d)
