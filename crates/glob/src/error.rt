@@ -1,4 +1,4 @@
-ghost use Rattle.std.specs.Prelude.{Some, ◌++◌, codes, decimal};
+ghost use Rattle.std.specs.Prelude.{Some};
 ghost use Rattle.glob.specs.LineFaults.{words_of_line_fault};
 ghost use Rattle.glob.specs.Words.{pattern_error_words, refusal_words};
 

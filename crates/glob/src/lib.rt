@@ -1,15 +1,32 @@
 //! Unix shell patterns for texts and paths.
+//!
+//! | Pattern | Matches |
+//! |---|---|
+//! | `main.rs` | that text alone |
+//! | `?at` | `cat` and `Hat`, not `at` |
+//! | `*.rs` | `main.rs`, `.rs` and, without the separator rule, `src/main.rs` |
+//! | `src/**/*.rs` | `src/main.rs` and `src/a/b/c.rs`: `**` takes any number of whole components |
+//! | `[a-c]x` | `ax`, `bx` and `cx` |
+//! | `[!a-c]x` | `dx`, not `ax` |
+//! | `[]]`, `[*]` | `]`, `*`: a character in brackets stands for itself |
+//!
+//! A [`Pattern`] is read by `Pattern::new`, which tells the first fault of a text that is none, as
+//! `Pattern::new(alloc, "a**")`: place 0, since `**` has to be a component. `Pattern::escape` writes the pattern that
+//! stands for a text alone. [`MatchOptions`] set case, the separator rule and the dot rule. [`filter_lines`] copies the
+//! lines of a reader that a pattern matches. [`run_positions`] decides splits over any [`Judge`], of any alphabet.
+//! A [`Tree`] answers what a walk asks; [`MemTree`] is one in memory.
+//!
+//! Each call that makes or grows something takes its allocator, and says want of memory as an error.
 #![tactic(auto)]
 
 mod class;
 mod error;
 mod grammar;
-mod laws;
+pub mod laws;
 mod matcher;
 mod options;
 mod pattern;
 mod tree;
-mod uses;
 mod walk;
 
 pub use error::{GlobCause, GlobError, GlobResult, LineFault, PatternError, PatternRefusal};

@@ -45,7 +45,8 @@ pub trait Judge {
     fn opens(&self) -> bool
         ensures { result ≡ (table self.now).opens (place self.now) };
 
-    /// Whether a token takes the character last stepped onto. Raises the count by one.
+    /// Whether a token takes the character last stepped onto. Raises the count by one. `step` has to have answered true
+    /// before, the token to be one of the list, and the count to be below `u128::MAX`.
     fn takes(&mut self, token: usize) -> bool
         requires stepped { 0 < place self.old }
         requires token { token < (table self.old).tokens }
@@ -61,8 +62,9 @@ pub trait Judge {
 }
 
 /// Whether all characters of a judge that has not stepped split into pieces, one a shape, where the token of the
-/// shape's number takes each character of the piece. Each token is asked at most once a character. An error where
-/// there is no memory for the work.
+/// shape's number takes each character of the piece. Each token is asked at most once a character. The judge needs a
+/// token for each shape, and room in its count for shapes times characters. An error says that there was no memory, which
+/// at most 63 shapes never need.
 pub fn run_positions<A: Allocator + Copy, J: Judge>(
     alloc: A,
     shapes: &[Shape],

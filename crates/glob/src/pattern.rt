@@ -106,7 +106,9 @@ impl<A: Allocator + Copy> Pattern<A> {
     }
 
     /// Whether the pattern matches the whole text, with case and without the separator rule and the dot rule:
-    /// [`matches_with`](Self::matches_with) under `MatchOptions::new()`.
+    /// [`matches_with`](Self::matches_with) under `MatchOptions::new()`. So `*.rs` matches `main.rs` and `src/main.rs`.
+    ///
+    /// An error says that there was no memory, which no pattern of at most 63 tokens needs.
     pub fn matches(&self, str: &str) -> Result<bool, AllocError>
         ensures answer { IfOk result (λ yes. IsTrue yes ↔ Matches new_options (chars self.now) (chars str.now)) }
         ensures short { IsShort (chars self.now) → IsOk result }
@@ -115,6 +117,8 @@ impl<A: Allocator + Copy> Pattern<A> {
     }
 
     /// Whether the pattern matches the whole text: whether the text splits into one allowed piece for each token.
+    ///
+    /// An error says that there was no memory, which no pattern of at most 63 tokens needs.
     pub fn matches_with(&self, str: &str, options: MatchOptions) -> Result<bool, AllocError>
         ensures answer { IfOk result (λ yes. IsTrue yes ↔ Matches options (chars self.now) (chars str.now)) }
         ensures short { IsShort (chars self.now) → IsOk result }
@@ -140,7 +144,7 @@ impl<A: Allocator + Copy> Pattern<A> {
         Ok((answer, judge.asked()))
     }
 
-    /// [`matches`](Self::matches) on the path's text.
+    /// [`matches`](Self::matches) on the path's text, with its errors.
     pub fn matches_path(&self, path: Path<'_>) -> Result<bool, AllocError>
         ensures answer { IfOk result (λ yes. IsTrue yes ↔ Matches new_options (chars self.now) (chars (path_bytes path.entry))) }
         ensures short { IsShort (chars self.now) → IsOk result }
@@ -148,7 +152,7 @@ impl<A: Allocator + Copy> Pattern<A> {
         self.matches(path.as_str())
     }
 
-    /// [`matches_with`](Self::matches_with) on the path's text.
+    /// [`matches_with`](Self::matches_with) on the path's text, with its errors.
     pub fn matches_path_with(
         &self,
         path: Path<'_>,

@@ -2,6 +2,8 @@
 //! `glob_run escape TEXT` writes the pattern that stands for the text alone.
 #![tactic(auto)]
 
+ghost use Rattle.std.specs.Prelude.{◌≤◌};
+
 mod command;
 
 use command::Command;
@@ -34,7 +36,9 @@ pub fn run_words<A: Allocator + Copy, R: Read + Drop, W: Write + Drop, E: Write>
     input: R,
     output: W,
     errors: &mut E,
-) -> u8 {
+) -> u8
+    ensures { result ≤ 2 }
+{
     match Command::parse(words) {
         None => fault(errors, USAGE),
         Some(Command::Match { options, pattern }) => {
@@ -51,7 +55,9 @@ fn run_match<A: Allocator + Copy, R: Read + Drop, W: Write + Drop, E: Write>(
     input: R,
     output: W,
     errors: &mut E,
-) -> u8 {
+) -> u8
+    ensures { result ≤ 2 }
+{
     let pattern = match Pattern::new(alloc, pattern) {
         Ok(pattern) => pattern,
         Err(refusal) => return fault(errors, refusal),
@@ -70,7 +76,9 @@ fn run_escape<A: Allocator + Copy, W: Write + Drop, E: Write>(
     text: &str,
     mut output: W,
     errors: &mut E,
-) -> u8 {
+) -> u8
+    ensures { result ≤ 2 }
+{
     let Ok(line) = escaped_line(alloc, text) else {
         return fault(errors, "out of memory");
     };
@@ -88,13 +96,17 @@ fn escaped_line<A: Allocator + Copy>(alloc: A, text: &str) -> Result<String<A>, 
 }
 
 /// Writes the one line of a fault, and answers its status.
-fn fault<E: Write, D: Display + Drop>(errors: &mut E, message: D) -> u8 {
+fn fault<E: Write, D: Display + Drop>(errors: &mut E, message: D) -> u8
+    ensures { result ≤ 2 }
+{
     let _ = writeln!(errors, "{message}");
     FAULT
 }
 
 /// The line of words that could not be had: too little memory for them, or a word that is not UTF-8.
-fn words_fault<E: Write>(errors: &mut E, error: &io::Error) -> u8 {
+fn words_fault<E: Write>(errors: &mut E, error: &io::Error) -> u8
+    ensures { result ≤ 2 }
+{
     match error.kind() {
         io::ErrorKind::OutOfMemory => fault(errors, "out of memory"),
         _ => fault(errors, USAGE),
@@ -108,7 +120,9 @@ fn run_arguments<A: Allocator + Copy, R: Read + Drop, W: Write + Drop, E: Write>
     input: R,
     output: W,
     errors: &mut E,
-) -> u8 {
+) -> u8
+    ensures { result ≤ 2 }
+{
     match arguments
         .iter()
         .map(|word| word.as_str())

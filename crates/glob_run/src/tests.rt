@@ -1,4 +1,5 @@
 use super::*;
+use std::io::ErrorKind;
 use std::process::Abort;
 
 const USAGE_LINE: &str =
@@ -81,6 +82,74 @@ fn lines(rt: HostRuntime) {
 #[test]
 fn escapes(rt: HostRuntime) {
     check(&rt, &ESCAPES)
+}
+
+/// A reader whose calls all fail.
+#[derive(Drop)]
+struct Unreadable;
+
+impl Read for Unreadable {
+    fn read(&mut self, _buf: &mut [u8]) -> io::Result<usize> {
+        Err(io::Error::from(ErrorKind::Other))
+    }
+}
+
+/// A writer whose calls all fail.
+#[derive(Drop)]
+struct Unwritable;
+
+impl Write for Unwritable {
+    fn write(&mut self, _buf: &[u8]) -> io::Result<usize> {
+        Err(io::Error::from(ErrorKind::Other))
+    }
+
+    fn flush(&mut self) -> io::Result<()> {
+        Ok(())
+    }
+}
+
+#[test]
+fn a_fault_of_the_pattern_comes_before_one_of_the_input(rt: HostRuntime) {
+    for (words, faults) in [
+        (["match", "abc[def"], FAULT_LINE),
+        (["match", "*"], "reading failed\n"),
+    ] {
+        let mut written = Vec::new(rt.alloc());
+        let mut errors = Vec::new(rt.alloc());
+        let answer = run_words(rt.alloc(), &words, Unreadable, &mut written, &mut errors);
+        assert_eq!(rt; answer, 2);
+        assert!(rt; written.is_empty());
+        assert_eq!(rt; errors.as_slice(), faults.as_bytes());
+    }
+}
+
+#[test]
+fn an_output_that_fails_is_told(rt: HostRuntime) {
+    for words in [["match", "*"], ["escape", "a"]] {
+        let mut errors = Vec::new(rt.alloc());
+        let answer = run_words(
+            rt.alloc(),
+            &words,
+            b"a\n".as_slice(),
+            Unwritable,
+            &mut errors,
+        );
+        assert_eq!(rt; answer, 2);
+        assert_eq!(rt; errors.as_slice(), b"writing failed\n".as_slice());
+    }
+}
+
+#[test]
+fn a_fault_that_cannot_be_told_is_dropped(rt: HostRuntime) {
+    let mut written = Vec::new(rt.alloc());
+    let answer = run_words(
+        rt.alloc(),
+        &["match"],
+        b"".as_slice(),
+        &mut written,
+        &mut Unwritable,
+    );
+    assert_eq!(rt; answer, 2);
 }
 
 #[test]

@@ -7,3 +7,4 @@ pub mod rationing;
 pub mod readers;
 #[cfg(test)]
 mod tests;
+pub mod uses;

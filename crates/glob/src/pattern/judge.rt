@@ -1,4 +1,4 @@
-ghost use Rattle.std.specs.Prelude.{◌≡◌, ℕ, ◌-◌, ◌<◌, ◌≤◌, length, drop, slice_index, chars};
+ghost use Rattle.std.specs.Prelude.{◌≡◌, ◌-◌, ◌<◌, chars};
 ghost use Rattle.std.specs.Str.Iter.{chars_rest};
 ghost use Rattle.glob.specs.Stepping.{StandsBefore, place_before};
 ghost use Rattle.glob.specs.TextTable.{table_of};
@@ -58,6 +58,7 @@ impl<A: Allocator> Judge for TextJudge<'_, A> {
     ghost count = { λ j. j.count };
 
     fn step(&mut self) -> bool {
+        // For the proof: what is left is text.
         let _left = self.rest.as_str();
         let Some(c) = self.rest.next() else {
             return false;

@@ -52,7 +52,11 @@ const SHORT: [(&str, &str, bool); 6] = [
     ("*.rs", "main.rs", true),
     ("**/*.rs", "a/b/c.txt", false),
     ("[a-c]*[!x]", "beta", true),
-    ("*a*a*a*a*a*a*b", "aaaaaaaaaaaaaaaaaaaaaaaaaaaaaaaaaaaaaaaa", false),
+    (
+        "*a*a*a*a*a*a*b",
+        "aaaaaaaaaaaaaaaaaaaaaaaaaaaaaaaaaaaaaaaa",
+        false,
+    ),
     (
         "???????????????????????????????????????????????????????????????",
         "aaaaaaaaaaaaaaaaaaaaaaaaaaaaaaaaaaaaaaaaaaaaaaaaaaaaaaaaaaaaaaa",
@@ -74,7 +78,11 @@ fn short_patterns_match_without_memory(rt: HostRuntime) -> Result<(), Fail> {
         let scarce = rationed(requests.saturating_add(1), rt.alloc());
         let pattern = Pattern::new(&scarce, text)?;
         assert!(rt; pattern.matches(str) == Ok(answer), "{text}");
-        assert_eq!(rt; scarce.ration.asked(), requests, "{text} asks for no memory");
+        assert_eq!(rt;
+            scarce.ration.asked(),
+            requests,
+            "{text} asks for no memory"
+        );
     }
     Ok(())
 }
@@ -101,8 +109,8 @@ fn copied<A: Allocator + Copy>(
     pattern: &Pattern,
     input: &[u8],
 ) -> Result<(Option<u64>, Vec<u8>), Fail> {
-    let mut reader = Watch::new(ShortReader::new(input, 5));
-    let mut writer = Watch::new(ShortWriter::new(rt.alloc(), 100));
+    let mut reader = Watch::new(ShortReader::new(input, 60_000));
+    let mut writer = Watch::new(ShortWriter::new(rt.alloc(), 60_000));
     let options = MatchOptions::new();
     let count = match filter_lines(alloc, pattern, options, &mut reader, &mut writer) {
         Ok(count) => Some(count),
@@ -115,16 +123,30 @@ fn copied<A: Allocator + Copy>(
 
 #[test]
 fn lines(rt: HostRuntime) -> Result<(), Fail> {
+    check_lines(&rt, b"ab\nc\nd", 3)
+}
+
+/// More than one buffer of output, so that whole lines are written before memory is wanting.
+#[test]
+fn many_lines(rt: HostRuntime) -> Result<(), Fail> {
+    let mut input = Vec::new(rt.alloc());
+    for _ in 0..40_000 {
+        input.extend_from_slice(b"a line of text\n")?;
+    }
+    check_lines(&rt, input.as_slice(), 40_000)
+}
+
+/// Refuses each request for memory in turn: the count, or want of memory after whole lines.
+fn check_lines(rt: &(impl Abort + AllocGlobal), input: &[u8], lines: u64) -> Result<(), Fail> {
     let pattern = Pattern::new(rt.alloc(), "*")?;
     let ample = rationed(0, rt.alloc());
-    let (count, written) = copied(&rt, &ample, &pattern, b"ab\nc\nd")?;
-    assert_eq!(rt; count, Some(3));
-    assert_eq!(rt; written.as_slice(), b"ab\nc\nd\n".as_slice());
+    let (count, written) = copied(rt, &ample, &pattern, input)?;
+    assert_eq!(rt; count, Some(lines));
     let requests = ample.ration.asked();
     assert!(rt; requests > 0);
     for number in 1..=requests {
         let scarce = rationed(number, rt.alloc());
-        let (count, part) = copied(&rt, &scarce, &pattern, b"ab\nc\nd")?;
+        let (count, part) = copied(rt, &scarce, &pattern, input)?;
         assert_eq!(rt; count, None);
         assert!(rt; written.starts_with(part.as_slice()));
         assert!(rt; part.is_empty() || part.ends_with(b"\n"));

@@ -1,8 +1,7 @@
-//! Callers of the public calls. What each ensures follows from the contracts of the calls alone.
+//! Callers of the library. What each ensures follows from the contracts of the calls alone.
 ghost use Rattle.std.specs.Prelude.{◌≡◌, IfOk};
 
-use crate::error::PatternRefusal;
-use crate::pattern::Pattern;
+use glob::{Pattern, PatternRefusal, laws};
 use std::alloc::{AllocError, Allocator};
 
 /// Reads a pattern's text again, which gives an equal pattern. It fails only for want of memory.
@@ -12,6 +11,7 @@ pub fn reread<A: Allocator + Copy, B: Allocator>(
 ) -> Result<Pattern<A>, AllocError>
     ensures { IfOk result (λ p. p ≡ pattern.now) }
 {
+    laws::accepted_has_no_fault();
     match Pattern::new(alloc, pattern.as_str()) {
         Ok(again) => Ok(again),
         Err(PatternRefusal::Memory) => Err(AllocError),
