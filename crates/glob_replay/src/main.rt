@@ -5,7 +5,7 @@
 //! text, and `y` or `n`.
 #![tactic(auto)]
 
-use anyhow::{Context, Result, bail, ensure};
+use anyhow::{Context, Result, bail};
 use glob::{MatchOptions, Pattern, PatternRefusal};
 use std::alloc::Global;
 use std::fs;
@@ -88,7 +88,9 @@ fn replay<R: Files + Print + AllocGlobal>(rt: &R, table: Table) -> Result<()> {
         }
     }
     println!(rt; "{name}: {rows} rows, {disagree} disagree")?;
-    ensure!(disagree == 0, "{name}: the library disagrees with the original crate");
+    if disagree != 0 {
+        bail!("{name}: the library disagrees with the original crate");
+    }
     Ok(())
 }
 

@@ -3,6 +3,7 @@ use crate::rationing::{Ration, Rationed};
 use crate::readers::{ShortReader, ShortWriter};
 use glob::{LineFault, MatchOptions, Pattern, PatternRefusal, Watch, filter_lines};
 use std::alloc::{Allocator, Global};
+use std::path::Path;
 use std::process::Abort;
 use std::test::Fail;
 
@@ -48,10 +49,11 @@ fn patterns_and_matches(rt: HostRuntime) {
 }
 
 /// A pattern, a text, and whether it matches. No pattern has more than 63 tokens.
-const SHORT: [(&str, &str, bool); 6] = [
+const SHORT: [(&str, &str, bool); 7] = [
     ("*.rs", "main.rs", true),
     ("**/*.rs", "a/b/c.txt", false),
     ("[a-c]*[!x]", "beta", true),
+    ("[a][a][a][a][a][a][a][a]*", "aaaaaaaaaa", true),
     (
         "*a*a*a*a*a*a*b",
         "aaaaaaaaaaaaaaaaaaaaaaaaaaaaaaaaaaaaaaaa",
@@ -77,7 +79,17 @@ fn short_patterns_match_without_memory(rt: HostRuntime) -> Result<(), Fail> {
         let requests = ample.ration.asked();
         let scarce = rationed(requests.saturating_add(1), rt.alloc());
         let pattern = Pattern::new(&scarce, text)?;
+        let path = Path::new(str);
+        let options = MatchOptions::new();
         assert!(rt; pattern.matches(str) == Ok(answer), "{text}");
+        assert!(rt; pattern.matches_with(str, options) == Ok(answer), "{text}");
+        assert!(rt; pattern.matches_path(path) == Ok(answer), "{text}");
+        assert!(rt;
+            pattern.matches_path_with(path, options) == Ok(answer),
+            "{text}"
+        );
+        let counted = pattern.matches_counted(str, options).map(|told| told.0);
+        assert!(rt; counted == Ok(answer), "{text}");
         assert_eq!(rt;
             scarce.ration.asked(),
             requests,

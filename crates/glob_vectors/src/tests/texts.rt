@@ -38,3 +38,12 @@ fn a_long_pattern_is_read(rt: HostRuntime) -> Result<(), Fail> {
     assert!(rt; !pattern.matches("b")?);
     Ok(())
 }
+
+#[test]
+fn a_long_pattern_is_matched_with_a_long_text(rt: HostRuntime) -> Result<(), Fail> {
+    let text = repeated(&rt, "a", MILLION)?;
+    let pattern = Pattern::new(rt.alloc(), text.as_str())?;
+    assert!(rt; pattern.matches(text.as_str())?);
+    assert!(rt; !pattern.matches(&text.as_str()[..MILLION - 1])?);
+    Ok(())
+}
