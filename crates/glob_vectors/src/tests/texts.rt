@@ -44,6 +44,7 @@ fn a_long_pattern_is_matched_with_a_long_text(rt: HostRuntime) -> Result<(), Fai
     let text = repeated(&rt, "a", MILLION)?;
     let pattern = Pattern::new(rt.alloc(), text.as_str())?;
     assert!(rt; pattern.matches(text.as_str())?);
-    assert!(rt; !pattern.matches(&text.as_str()[..MILLION - 1])?);
+    let shorter = repeated(&rt, "a", MILLION - 1)?;
+    assert!(rt; !pattern.matches(shorter.as_str())?);
     Ok(())
 }
