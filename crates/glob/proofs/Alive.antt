@@ -179,19 +179,3 @@ module _ (table : Table) (shapes : List Shape) where
   asked_all from start k count at asked split =
       let alive : IsAlive table shapes (length shapes) k = subst (IsAlive table shapes (length shapes)) at (Splits-iff_alive.0 split) in
       omega (arith, asked (length shapes) (omega arith) alive)
-
-  -- what is alive at a place comes from what was alive at an earlier one
-  IsAlive-earlier : (m k n : ℕ) → n ≤ length shapes → IsAlive table shapes n (m + k) → (o : ℕ) × (o ≤ length shapes) × IsAlive table shapes o k
-  IsAlive-earlier zero k n le alive = let same : zero + k ≡ k = omega arith in (n, le, subst (IsAlive table shapes n) same alive)
-  IsAlive-earlier (suc m) k n le alive =
-      let next : suc m + k ≡ suc (m + k) = omega arith in
-      let (o, within, was) = IsAlive-before n (m + k) le (subst (IsAlive table shapes n) next alive) in
-      IsAlive-earlier m k o within was
-
-  -- Where each character is asked about up to a place, and from there on, each is.
-  pub asked_through : (from start mid next old new : ℕ) → mid ≤ next → ((n : ℕ) → n ≤ length shapes → IsAlive table shapes n mid → start + mid ≤ old + from)
-      → ((n : ℕ) → n ≤ length shapes → IsAlive table shapes n next → old + next ≤ new + mid) → (n : ℕ) → n ≤ length shapes → IsAlive table shapes n next → start + next ≤ new + from
-  asked_through from start mid next old new moved before after n le alive =
-      let whole : next - mid + mid ≡ next = omega arith in
-      let (o, within, was) = IsAlive-earlier (next - mid) mid n le (subst (IsAlive table shapes n) (sym whole) alive) in
-      omega (arith, before o within was, after n le alive)

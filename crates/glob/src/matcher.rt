@@ -1,7 +1,7 @@
-ghost use Rattle.std.specs.Prelude.{◌≡◌, ℕ, ◌+◌, ◌-◌, ◌*◌, ◌^◌, ◌<◌, ◌≤◌, ◌↔◌, false, length, IsTrue, IsOk, IfOk};
+ghost use Rattle.std.specs.Prelude.{◌≡◌, ℕ, ◌+◌, ◌-◌, ◌*◌, ◌^◌, ◌<◌, ◌≤◌, ◌↔◌, false, length, IsTrue, IsOk, IfOk, count_ones};
 ghost use Rattle.glob.specs.Splits.{Table, Splits};
+ghost use Rattle.glob.specs.Positions.{IsSet};
 
-mod asking;
 mod few;
 mod kinds;
 mod lead;
@@ -55,6 +55,33 @@ pub trait Judge {
         ensures place { place self.new ≡ place self.old }
         ensures count { count self.new ≡ count self.old + 1 }
         ensures value { result ≡ (table self.old).takes token (place self.old - 1) };
+
+    /// Asks tokens of a word, whether they take the character last stepped onto: bit n of the word is of token
+    /// 64 · `word` + n. The answer has the bits of those that do. It asks each by [`takes`](Self::takes), and a judge
+    /// that knows more than one answer at once may do better, where its count rises as much.
+    #[inline]
+    fn takes_each(&mut self, word: usize, asked: u64) -> u64
+        requires stepped { 0 < place self.old }
+        requires within { 64 * word + 64 < 2 ^ 64 }
+        requires tokens { (j : ℕ) → IsSet asked j → 64 * word + j < (table self.old).tokens }
+        requires room { count self.old + count_ones asked < 2 ^ 128 }
+        ensures same { table self.new ≡ table self.old }
+        ensures place { place self.new ≡ place self.old }
+        ensures count { count self.new ≡ count self.old + count_ones asked }
+        ensures took { (j : ℕ) → j < 64
+            → IsSet result j ↔ (IsSet asked j × IsTrue ((table self.old).takes (64 * word + j) (place self.old - 1))) }
+    {
+        let mut left = asked;
+        let mut took = 0u64;
+        while left != 0 {
+            let bit = left.trailing_zeros();
+            if self.takes(64 * word + bit as usize) {
+                took |= 1 << bit;
+            }
+            left &= left - 1;
+        }
+        took
+    }
 
     /// The count: how often a token was asked about a character.
     fn asked(&self) -> u128

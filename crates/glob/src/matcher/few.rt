@@ -1,10 +1,9 @@
 //! Matching with at most 63 shapes, without memory.
-ghost use Rattle.std.specs.Prelude.{◌≡◌, ℕ, ◌+◌, ◌-◌, ◌*◌, ◌^◌, ◌<◌, ◌≤◌, ◌↔◌, length, MatchOption, IsTrue};
+ghost use Rattle.std.specs.Prelude.{◌≡◌, ℕ, ◌+◌, ◌-◌, ◌*◌, ◌^◌, ◌<◌, ◌≤◌, ◌↔◌, length, IsTrue};
 ghost use Rattle.glob.specs.Splits.{Table, Splits};
 ghost use Rattle.glob.specs.Leading.{IsAlive, LeadingOnes};
 ghost use Rattle.glob.specs.Positions.{IsSet, AreKinds, AliveWord};
 
-use super::asking::ask_each;
 use super::kinds::{Kinds, last_before};
 use super::{Judge, Shape};
 
@@ -33,11 +32,11 @@ pub fn run_few<J: Judge>(shapes: &[Shape], lead: usize, judge: &mut J) -> bool
 {
     let positions = Few::new(shapes);
     let mut row = positions.first(lead, judge.opens());
-    while let Some(next) = positions.pass(row, judge) {
-        if next == 0 {
+    while judge.step() {
+        row = positions.next(row, judge);
+        if row == 0 {
             return false;
         }
-        row = next;
     }
     positions.is_whole(row)
 }
@@ -62,34 +61,6 @@ impl<'a> Few<'a> {
         self.kinds.advance(took, opens, lead == 0).0
     }
 
-    /// Steps on until the row is another one, and answers it, or `None` where the characters end before.
-    #[inline]
-    fn pass<J: Judge>(&self, row: u64, judge: &mut J) -> Option<u64>
-        requires tokens { length self.now.shapes.now ≤ (J.table judge.old).tokens }
-        requires row { AliveWord (J.table judge.old) self.now.shapes.now 0 (J.place judge.old) row }
-        requires within { J.place judge.old ≤ (J.table judge.old).characters }
-        requires room { J.count judge.old
-            + length self.now.shapes.now * ((J.table judge.old).characters - J.place judge.old) < 2 ^ 128 }
-        ensures row { MatchOption result
-            ((J.place judge.new ≡ (J.table judge.old).characters) × AliveWord (J.table judge.old) self.now.shapes.now 0 (J.place judge.new) row)
-            (λ next. (J.place judge.old < J.place judge.new) × AliveWord (J.table judge.old) self.now.shapes.now 0 (J.place judge.new) next) }
-        ensures within { J.place judge.new ≤ (J.table judge.old).characters }
-        ensures most { J.count judge.new + length self.now.shapes.now * ((J.table judge.old).characters - J.place judge.new)
-            ≤ J.count judge.old + length self.now.shapes.now * ((J.table judge.old).characters - J.place judge.old) }
-        ensures least { (n : ℕ) → n ≤ length self.now.shapes.now → IsAlive (J.table judge.old) self.now.shapes.now n (J.place judge.new)
-            → J.count judge.old + J.place judge.new ≤ J.count judge.new + J.place judge.old }
-        ensures monotone { J.count judge.old ≤ J.count judge.new }
-        ensures same { J.table judge.new ≡ J.table judge.old }
-    {
-        while judge.step() {
-            let next = self.next(row, judge);
-            if next != row {
-                return Some(next);
-            }
-        }
-        None
-    }
-
     /// The row of the place of a judge that has stepped, from the row of the place before.
     #[inline]
     fn next<J: Judge>(&self, row: u64, judge: &mut J) -> u64
@@ -105,7 +76,7 @@ impl<'a> Few<'a> {
         ensures place { J.place judge.new ≡ J.place judge.old }
         ensures same { J.table judge.new ≡ J.table judge.old }
     {
-        let took = ask_each(judge, 0, row & self.kinds.tokens());
+        let took = judge.takes_each(0, row & self.kinds.tokens());
         self.kinds.advance(took, judge.opens(), false).0
     }
 

@@ -4,7 +4,6 @@ ghost use Rattle.glob.specs.Splits.{Table, Splits};
 ghost use Rattle.glob.specs.Leading.{IsAlive, LeadingOnes};
 ghost use Rattle.glob.specs.Positions.{IsRow};
 
-use super::asking::ask_each;
 use super::kinds::{Kinds, last_before};
 use super::{Judge, Shape};
 use std::alloc::{AllocError, Allocator};
@@ -94,7 +93,7 @@ impl<'a, A: Allocator> Many<'a, A> {
         let mut any = 0;
         for n in 0..self.words.len() {
             let word = self.words[n];
-            let took = ask_each(judge, 64 * n, word.alive & word.kinds.tokens());
+            let took = judge.takes_each(n, word.alive & word.kinds.tokens());
             let (alive, next) = word.kinds.advance(took, opens, whole);
             self.words[n] = Word { alive, ..word };
             whole = next;

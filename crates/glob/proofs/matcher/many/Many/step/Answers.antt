@@ -20,8 +20,8 @@ loop-n-init g c = record {
   same = cc;
 }
 
-pub ask_each-took-requires-clause-tokens : goal.ask_each-took-requires-clause-tokens
-ask_each-took-requires-clause-tokens g c = λ j set.
+pub takes_each-took-requires-clause-tokens : goal.takes_each-took-requires-clause-tokens
+takes_each-took-requires-clause-tokens g c = λ j set.
     let i = c.loop-n.invariant in
     let shapes = c.args.self.now.shapes.now in
     let table = g.J.Judge.table c.args.judge.now in
@@ -30,8 +30,8 @@ ask_each-took-requires-clause-tokens g c = λ j set.
     let within = asked-within table shapes (64 * c.loop-n.n) c.index-word.result.now.kinds word.kinds c.tokens.result c.tokens.ensures c.index-word.result.now.alive (omega arith) j set in
     rw i.same (omega (arith, within, c.requires.tokens))
 
-pub ask_each-took-requires-clause-room : goal.ask_each-took-requires-clause-room
-ask_each-took-requires-clause-room g c =
+pub takes_each-took-requires-clause-room : goal.takes_each-took-requires-clause-room
+takes_each-took-requires-clause-room g c =
     let i = c.loop-n.invariant in
     let shapes = c.args.self.now.shapes.now in
     let table = g.J.Judge.table c.args.judge.now in
@@ -44,7 +44,7 @@ ask_each-took-requires-clause-room g c =
 pub loop-n-preserved : goal.loop-n-preserved
 loop-n-preserved g c =
     let i = c.loop-n.invariant in
-    let h = c.ask_each-took.ensures in
+    let h = c.takes_each-took.ensures in
     let shapes = c.args.self.now.shapes.now in
     let table = g.J.Judge.table c.args.judge.now in
     let place = g.J.Judge.place c.args.judge.now in
@@ -59,7 +59,7 @@ loop-n-preserved g c =
     let few = ones-asked table shapes start kinds word.kinds c.tokens.result c.tokens.ensures old (omega arith) (length shapes - start) (omega arith) in
     let few_word = ones-asked_word table shapes start kinds word.kinds c.tokens.result c.tokens.ensures old (omega arith) in
     let answers = rw (i.same, i.place) at h.took in
-    let taken = TakenWord-asked table shapes start kinds word.kinds c.tokens.result c.tokens.ensures place old c.ask_each-took.result c.requires.stepped word.alive answers in
+    let taken = TakenWord-asked table shapes start kinds word.kinds c.tokens.result c.tokens.ensures place old c.takes_each-took.result c.requires.stepped word.alive answers in
     let row_count = c.requires.row.count in
     let start_le : start ≤ length shapes = omega (arith, i.count) in
     let alive = c.advance-alive.ensures.alive table shapes start place word.kinds taken c.opens-opens.ensures (i.part.whole_is start_le) in
@@ -77,7 +77,7 @@ loop-n-preserved g c =
           (λ later.
           let at : start + (m - start) ≡ m = omega arith in
           ⊎_elim
-          (λ none. absurd (none_taken-from_none_asked table shapes start kinds word.kinds c.tokens.result c.tokens.ensures place old c.ask_each-took.result taken answers none (m - start) (omega arith) (omega arith) (rw at took)))
+          (λ none. absurd (none_taken-from_none_asked table shapes start kinds word.kinds c.tokens.result c.tokens.ensures place old c.takes_each-took.result taken answers none (m - start) (omega arith) (omega arith) (rw at took)))
           (λ some. omega (arith, h.count, i.monotone))
           (cases_eq (count_ones (bit_and old c.tokens.result)) 0))
           (cases_lt m start);

@@ -1,10 +1,10 @@
-use Rattle.std.proofs.Common.{ℕ, ◌+◌, ◌-◌, ◌∙◌, IsTrue, sym, arith}
+use Rattle.std.proofs.Common.{ℕ, ◌+◌, ◌-◌, ◌*◌, ◌∙◌, IsTrue, sym, arith}
 use Rattle.std.proofs.lemmas.Bool.{false≢true}
 use Rattle.std.proofs.lemmas.Nat.Bits.{bit_at-trailing_zeros}
 use Rattle.std.specs.Int.{w64}
 use Rattle.glob.proofs.LowestBits.{IsSet-cleared, ones-cleared, took-more, next-taken, next-left}
-use Rattle.glob.proofs.matcher.asking.ask_each.Goals as goal
-use Rattle.glob.proofs.matcher.asking.ask_each.Goals.{then-takes, else-takes}
+use Rattle.glob.proofs.matcher.Judge.takes_each.Goals as goal
+use Rattle.glob.proofs.matcher.Judge.takes_each.Goals.{then-takes, else-takes}
 
 pub takes-requires-clause-token : goal.takes-requires-clause-token
 takes-requires-clause-token g c =
@@ -24,7 +24,7 @@ loop-left-preserved g c =
     let lowest = bit_at-trailing_zeros w64 c.loop-left.left (omega arith) (omega arith) in
     let fewer = ones-cleared _ c.loop-left.left lowest.1 lowest.2 in
     let value = rw (i.same, i.place) at h.value in
-    let P : ℕ → Type 0 = λ j. IsTrue ((g.J.Judge.table c.args.judge.now).takes (c.args.start + j) (g.J.Judge.place c.args.judge.now - 1)) in
+    let P : ℕ → Type 0 = λ j. IsTrue ((g.Self.Judge.table c.args.self.now).takes (64 * c.args.word + j) (g.Self.Judge.place c.args.self.now - 1)) in
     record {
       within = λ j s. i.within j ((IsSet-cleared _ c.loop-left.left lowest.1 lowest.2 j).0 s).0;
       took = took-more P c.args.asked c.loop-left.left c.loop-left.took c.if-takes.took _ lowest.1 lowest.2 i.within i.took
