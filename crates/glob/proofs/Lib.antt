@@ -2,6 +2,7 @@ pub mod Accepted
 pub mod Advancing
 pub mod Alive
 pub mod Answering
+pub mod Case
 pub mod Closing
 pub mod Contents
 pub mod Counts
@@ -19,6 +20,7 @@ pub mod Following
 pub mod KeptLines
 pub mod Keys
 pub mod KnownMoves
+pub mod KnownTakers
 pub mod Leading
 pub mod LeadingOnes
 pub mod LineSplits
@@ -27,12 +29,15 @@ pub mod Loosening
 pub mod LowestBits
 pub mod ManyWords
 pub mod Marks
+pub mod MaskRows
+pub mod Masks
 pub mod MatchingLemmas
 pub mod MatchingLines
 pub mod Membership
 pub mod Memory
 pub mod Nodes
 pub mod Numbers
+pub mod Painting
 pub mod Passing
 pub mod PiecesAndSplits
 pub mod Places

@@ -145,3 +145,10 @@ IsSet-test a j =
       λ t. let ne = eqb-false (bit_and (a / 2 ^ j) 1) 0 (not-true _ t) in ⊎_elim (λ e. e) (λ other. absurd (ne (omega arith))) (cases_eq (bit_at a j) 1),
       λ s. ap not (ne_eqb (bit_and (a / 2 ^ j) 1) 0 (λ e. omega arith)),
     )
+
+-- the bits of one word that another does not have
+pub IsSet-without : (a b j : ℕ) → b < 2 ^ 64 → j < 64 → IsSet (bit_and a (bit_not w64 b)) j ↔ (IsSet a j × (IsSet b j → ⊥))
+IsSet-without a b j fits lt =
+    let both = IsSet-and a (bit_not w64 b) j in
+    let none = IsSet-not b j fits lt in
+    (λ s. ((both.0 s).0, none.0 (both.0 s).1), λ (s, n). both.1 (s, none.1 n))

@@ -28,6 +28,7 @@ pub mod Content
 pub mod Answers
 pub mod Components
 pub mod Marks
+pub mod Masks
 pub mod Listing
 pub mod Goal
 pub mod Order

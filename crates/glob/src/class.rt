@@ -1,5 +1,5 @@
-ghost use Rattle.std.specs.Prelude.{◌≡◌, IfOk};
-ghost use Rattle.glob.specs.Brackets.{entries_of, same, in_folded_range, entry_holds, holds};
+ghost use Rattle.std.specs.Prelude.{◌≡◌, ℕ, true, IfOk};
+ghost use Rattle.glob.specs.Brackets.{entries_of, same, in_range, in_folded_range, entry_holds, holds};
 
 use std::alloc::{AllocError, Allocator, Global};
 use std::marker::Model;
@@ -14,6 +14,16 @@ pub enum Entry {
 }
 
 impl Entry {
+    /// The first and the last character that the entry holds with case.
+    pub fn ends(self) -> (char, char)
+        ensures { (c : ℕ) → entry_holds true c self ≡ in_range result.0 result.1 c }
+    {
+        match self {
+            Entry::Single(x) => (x, x),
+            Entry::Range(x, y) => (x, y),
+        }
+    }
+
     /// Whether the entry holds `c`.
     fn holds(self, c: char, case_sensitive: bool) -> bool
         ensures { result ≡ entry_holds case_sensitive c self }
@@ -61,6 +71,12 @@ impl<A: Allocator> Class<A> {
             }
         }
         Ok(Class { entries })
+    }
+
+    pub fn entries(&self) -> &[Entry]
+        ensures { result.now ≡ self.now }
+    {
+        self.entries.as_slice()
     }
 
     /// Whether an entry holds `c`. Without case, letters of ASCII in either case are the same.

@@ -58,6 +58,15 @@ pub fn shapes_of<A: Allocator + Copy>(
     tokens.iter().map(|token| token.shape()).collect(alloc)
 }
 
+/// The same tokens on the same allocator. It fails only for want of memory.
+pub fn clone_tokens<A: Allocator + Copy>(
+    tokens: &Vec<Token<Class<A>>, A>,
+) -> Result<Vec<Token<Class<A>>, A>, AllocError>
+    ensures { IfOk result (λ copies. copies.items ≡ tokens.now.items) }
+{
+    tokens.clone()
+}
+
 /// The tokens of an accepted pattern. An `Err` says the first fault of another, or that there was no memory.
 pub fn read_tokens<A: Allocator + Copy>(
     alloc: A,

@@ -92,6 +92,7 @@ pub trait Judge {
 /// shape's number takes each character of the piece. Each token is asked at most once a character. The judge needs a
 /// token for each shape, and room in its count for shapes times characters. An error says that there was no memory, which
 /// at most 63 shapes never need.
+#[inline(always)]
 pub fn run_positions<A: Allocator + Copy, J: Judge>(
     alloc: A,
     shapes: &[Shape],

@@ -1,5 +1,6 @@
 ghost use Rattle.std.specs.Prelude.{◌≡◌, ◌*◌, ◌≤◌, ◌↔◌, [], length, IsTrue, IsOk, IfOk, IfErr, chars};
 ghost use Rattle.glob.specs.Patterns.{IsShort};
+ghost use Rattle.glob.specs.Masks.{AreMasks};
 ghost use Rattle.std.specs.Path.{path_bytes};
 ghost use Rattle.glob.specs.Units.{IsAccepted};
 ghost use Rattle.glob.specs.Faults.{Refuses};
@@ -9,6 +10,7 @@ ghost use Rattle.glob.specs.Options.{new_options};
 mod compare;
 mod escape;
 mod judge;
+mod masks;
 mod taking;
 
 use crate::class::Class;
@@ -27,7 +29,9 @@ pub struct Pattern<A: Allocator = Global> {
     text: String<A>,
     tokens: Vec<Token<Class<A>>, A>,
     shapes: Vec<Shape, A>,
+    masks: Vec<u64, A>,
     alloc: A,
+    ghost masked: { AreMasks tokens.items (length tokens.items) masks.items },
 }
 
 impl<A: Allocator> Model for Pattern<A> {
@@ -63,11 +67,13 @@ impl<A: Allocator + Copy> Pattern<A> {
     {
         let tokens = grammar::read_tokens(alloc, pattern)?;
         let shapes = grammar::shapes_of(alloc, tokens.as_slice())?;
+        let masks = masks::masks_of(alloc, tokens.as_slice())?;
         let text = String::from_str(alloc, pattern)?;
         Ok(Pattern {
             text,
             tokens,
             shapes,
+            masks,
             alloc,
         })
     }
@@ -89,6 +95,7 @@ impl<A: Allocator + Copy> Pattern<A> {
             text: String::new(alloc),
             tokens: Vec::new(alloc),
             shapes: Vec::new(alloc),
+            masks: Vec::new(alloc),
             alloc,
         }
     }
@@ -99,8 +106,9 @@ impl<A: Allocator + Copy> Pattern<A> {
     {
         Ok(Pattern {
             text: self.text.clone()?,
-            tokens: self.tokens.clone()?,
+            tokens: grammar::clone_tokens(&self.tokens)?,
             shapes: self.shapes.clone()?,
+            masks: self.masks.clone()?,
             alloc: self.alloc,
         })
     }
@@ -129,6 +137,7 @@ impl<A: Allocator + Copy> Pattern<A> {
     /// The answer of [`matches_with`](Self::matches_with), and how many questions it took: how often a token was asked
     /// whether it takes a character. They are at most the pattern's characters times the text's, and for a yes at least
     /// the text's characters; nothing more is promised of their number.
+    #[inline(always)]
     pub fn matches_counted(
         &self,
         str: &str,
@@ -139,7 +148,12 @@ impl<A: Allocator + Copy> Pattern<A> {
         ensures least { IfOk result (λ told. IsTrue told.0 → length (chars str.now) ≤ told.1) }
         ensures short { IsShort (chars self.now) → IsOk result }
     {
-        let mut judge = TextJudge::new(self.tokens.as_slice(), str, options);
+        let mut judge = TextJudge::new(
+            self.tokens.as_slice(),
+            self.masks.as_slice(),
+            str,
+            options,
+        );
         let answer = matcher::run_positions(self.alloc, self.shapes.as_slice(), &mut judge)?;
         Ok((answer, judge.asked()))
     }

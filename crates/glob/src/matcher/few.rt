@@ -17,6 +17,7 @@ struct Few<'a> {
 }
 
 /// Whether the characters split, of a judge that has stepped over those of the first `lead` shapes.
+#[inline(always)]
 pub fn run_few<J: Judge>(shapes: &[Shape], lead: usize, judge: &mut J) -> bool
     requires few { length shapes.now < 64 }
     requires tokens { length shapes.now ≤ (J.table judge.old).tokens }
@@ -42,6 +43,7 @@ pub fn run_few<J: Judge>(shapes: &[Shape], lead: usize, judge: &mut J) -> bool
 }
 
 impl<'a> Few<'a> {
+    #[inline(always)]
     fn new(shapes: &'a [Shape]) -> Self
         requires { length shapes.now < 64 }
         ensures { result.shapes.now ≡ shapes.now }
@@ -53,6 +55,7 @@ impl<'a> Few<'a> {
     }
 
     /// The row of the place after the characters of the first `lead` shapes.
+    #[inline(always)]
     fn first(&self, lead: usize, opens: bool) -> u64
         ensures { (table : Table) → LeadingOnes table self.now.shapes.now lead → opens ≡ table.opens lead
             → AliveWord table self.now.shapes.now 0 lead result }
@@ -62,7 +65,7 @@ impl<'a> Few<'a> {
     }
 
     /// The row of the place of a judge that has stepped, from the row of the place before.
-    #[inline]
+    #[inline(always)]
     fn next<J: Judge>(&self, row: u64, judge: &mut J) -> u64
         requires stepped { 0 < J.place judge.old }
         requires tokens { length self.now.shapes.now ≤ (J.table judge.old).tokens }
@@ -81,6 +84,7 @@ impl<'a> Few<'a> {
     }
 
     /// Whether all shapes are alive, after the last.
+    #[inline(always)]
     fn is_whole(&self, row: u64) -> bool
         ensures { IsTrue result ↔ IsSet row (length self.now.shapes.now) }
     {

@@ -50,7 +50,7 @@ impl Kinds {
     }
 
     /// The tokens of these shapes.
-    #[inline]
+    #[inline(always)]
     pub fn tokens(self) -> u64
         ensures { (j : ℕ) → IsSet result j ↔ (IsSet self.ones j ⊎ IsSet self.runs j ⊎ IsSet self.deeps j) }
     {
@@ -60,7 +60,7 @@ impl Kinds {
     /// The positions alive after a character, from the tokens that took it. `opens` says whether the place after it
     /// opens, and `whole` whether the shapes before the first of these split the characters up to there. The second
     /// part of the answer says so of the shapes up to the last of 64.
-    #[inline]
+    #[inline(always)]
     pub fn advance(self, took: u64, opens: bool, whole: bool) -> (u64, bool)
         ensures alive { (table : Table) (shapes : List Shape) (start k : ℕ) → AreKinds shapes start (length shapes) self
             → TakenWord table shapes start k took → opens ≡ table.opens k → IsTrue whole ↔ LeadingSplit table shapes start k
@@ -78,7 +78,7 @@ impl Kinds {
     }
 
     /// Of the tokens that took a character, those whose pieces may end after it.
-    #[inline]
+    #[inline(always)]
     fn ending(self, took: u64, opens: bool) -> u64
         ensures { (j : ℕ) → j < 64 → IsSet result j ↔ (IsSet took j × (IsTrue opens ⊎ ¬ (IsSet self.bound j))) }
     {

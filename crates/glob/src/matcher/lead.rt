@@ -6,7 +6,7 @@ use super::{Judge, Shape};
 
 /// Steps over a character for each of the leading shapes of one character, as long as their tokens take them. Answers
 /// how many they are, or `None` where the characters do not split.
-#[inline]
+#[inline(always)]
 pub fn take_ones<J: Judge>(shapes: &[Shape], judge: &mut J) -> Option<usize>
     requires tokens { length shapes.now ≤ (J.table judge.old).tokens }
     requires start { J.place judge.old ≡ 0 }

@@ -24,7 +24,7 @@ struct Many<'a, A: Allocator> {
 
 /// Whether the characters split, of a judge that has stepped over those of the first `lead` shapes. An error where there
 /// is no memory for a row.
-#[inline(never)]
+#[inline(always)]
 pub fn run_many<A: Allocator, J: Judge>(
     alloc: A,
     shapes: &[Shape],
@@ -54,6 +54,7 @@ pub fn run_many<A: Allocator, J: Judge>(
 
 impl<'a, A: Allocator> Many<'a, A> {
     /// The row of the place after the characters of the first `lead` shapes.
+    #[inline(always)]
     fn new(alloc: A, shapes: &'a [Shape], lead: usize, opens: bool) -> Result<Self, AllocError>
         ensures { IfOk result (λ row. (row.shapes.now ≡ shapes.now)
             × ((table : Table) → LeadingOnes table shapes.now lead → opens ≡ table.opens lead → IsRow table shapes.now lead row.words.items)) }
@@ -72,6 +73,7 @@ impl<'a, A: Allocator> Many<'a, A> {
 
     /// Goes to the row of the place of a judge that has stepped, from that of the place before. Answers whether anything
     /// is alive.
+    #[inline(always)]
     fn step<J: Judge>(&mut self, judge: &mut J) -> bool
         requires stepped { 0 < J.place judge.old }
         requires tokens { length self.old.shapes.now ≤ (J.table judge.old).tokens }
@@ -103,6 +105,7 @@ impl<'a, A: Allocator> Many<'a, A> {
     }
 
     /// Whether the row, which is of the last place, says that the characters split.
+    #[inline(always)]
     fn is_whole(&self) -> bool
         requires { length self.now.words.items ≡ length self.now.shapes.now / 64 + 1 }
         ensures { (table : Table) → IsRow table self.now.shapes.now table.characters self.now.words.items

@@ -1,13 +1,15 @@
-ghost use Rattle.std.specs.Prelude.{◌≡◌, ◌-◌, ◌<◌, chars};
+ghost use Rattle.std.specs.Prelude.{◌≡◌, ◌-◌, ◌<◌, length, chars};
 ghost use Rattle.std.specs.Str.Iter.{chars_rest};
 ghost use Rattle.glob.specs.Stepping.{StandsBefore, place_before};
 ghost use Rattle.glob.specs.TextTable.{table_of};
+ghost use Rattle.glob.specs.Masks.{AreMasks};
 
 use crate::class::Class;
 use crate::grammar::Token;
 use crate::matcher::Judge;
 use crate::options::MatchOptions;
-use crate::pattern::taking::takes;
+use crate::pattern::masks::take_known;
+use crate::pattern::taking::{take_left, takes};
 use std::alloc::Allocator;
 use std::str::Chars;
 
@@ -15,6 +17,7 @@ use std::str::Chars;
 #[derive(Drop)]
 pub struct TextJudge<'a, A: Allocator> {
     tokens: &'a [Token<Class<A>>],
+    masks: &'a [u64],
     options: MatchOptions,
     text: &'a str,
     rest: Chars<'a>,
@@ -24,12 +27,20 @@ pub struct TextJudge<'a, A: Allocator> {
     // whether the place after it opens
     opens: bool,
     count: u128,
+    ghost masked: { AreMasks tokens.now (length tokens.now) masks.now },
     ghost stands: { StandsBefore (chars text.now) (chars (chars_rest rest)) current opened opens },
 }
 
 impl<'a, A: Allocator> TextJudge<'a, A> {
     /// Before the first character, with nothing asked.
-    pub fn new(tokens: &'a [Token<Class<A>>], text: &'a str, options: MatchOptions) -> Self
+    #[inline(always)]
+    pub fn new(
+        tokens: &'a [Token<Class<A>>],
+        masks: &'a [u64],
+        text: &'a str,
+        options: MatchOptions,
+    ) -> Self
+        requires { AreMasks tokens.now (length tokens.now) masks.now }
         ensures tokens { result.tokens.now ≡ tokens.now }
         ensures text { result.text.now ≡ text.now }
         ensures options { result.options ≡ options }
@@ -38,6 +49,7 @@ impl<'a, A: Allocator> TextJudge<'a, A> {
     {
         TextJudge {
             tokens,
+            masks,
             options,
             text,
             rest: text.chars(),
@@ -57,6 +69,7 @@ impl<A: Allocator> Judge for TextJudge<'_, A> {
 
     ghost count = { λ j. j.count };
 
+    #[inline(always)]
     fn step(&mut self) -> bool {
         // For the proof: what is left is text.
         let _left = self.rest.as_str();
@@ -69,15 +82,45 @@ impl<A: Allocator> Judge for TextJudge<'_, A> {
         true
     }
 
+    #[inline(always)]
     fn opens(&self) -> bool {
         self.opens
     }
 
+    #[inline(always)]
     fn takes(&mut self, token: usize) -> bool {
         self.count += 1;
         takes(&self.tokens[token], self.options, self.opened, self.current)
     }
 
+    #[inline(always)]
+    fn takes_each(&mut self, word: usize, asked: u64) -> u64 {
+        if asked == 0 {
+            return 0;
+        }
+        self.count += u128::from(asked.count_ones());
+        let (took, left) = take_known(
+            self.masks,
+            word,
+            asked,
+            self.options,
+            self.opened,
+            self.current,
+        );
+        if left == 0 {
+            return took;
+        }
+        took | take_left(
+            self.tokens,
+            word,
+            left,
+            self.options,
+            self.opened,
+            self.current,
+        )
+    }
+
+    #[inline(always)]
     fn asked(&self) -> u128 {
         self.count
     }

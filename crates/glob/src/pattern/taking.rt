@@ -1,5 +1,7 @@
-ghost use Rattle.std.specs.Prelude.{◌≡◌};
+ghost use Rattle.std.specs.Prelude.{◌≡◌, ℕ, ◌+◌, ◌*◌, ◌^◌, ◌<◌, ◌≤◌, ◌↔◌, length, slice_index_or, IsTrue};
 ghost use Rattle.glob.specs.Taking as taking;
+ghost use Rattle.glob.specs.Positions.{IsSet};
+ghost use Rattle.glob.specs.declared.grammar.Token.TheVariants.{Any};
 
 use crate::class::{self, Class};
 use crate::grammar::Token;
@@ -35,8 +37,37 @@ fn is_free(options: MatchOptions, opening: bool, c: char) -> bool
     !(options.require_literal_separator && c == '/') && !is_kept_dot(options, opening, c)
 }
 
-fn is_kept_dot(options: MatchOptions, opening: bool, c: char) -> bool
+/// Whether the dot rule keeps the character from wildcards.
+#[inline(always)]
+pub fn is_kept_dot(options: MatchOptions, opening: bool, c: char) -> bool
     ensures { result ≡ taking.is_kept_dot options opening c }
 {
     options.require_literal_leading_dot && opening && c == '.'
+}
+
+/// Of the tokens of a word that are asked, those that take the character: bit n is of token 64 · `word` + n.
+#[inline(never)]
+pub fn take_left<A: Allocator>(
+    tokens: &[Token<Class<A>>],
+    word: usize,
+    asked: u64,
+    options: MatchOptions,
+    opening: bool,
+    c: char,
+) -> u64
+    requires within { 64 * word + 64 < 2 ^ 64 }
+    requires tokens { (j : ℕ) → IsSet asked j → 64 * word + j < length tokens.now }
+    ensures { (j : ℕ) → j < 64
+        → IsSet result j ↔ (IsSet asked j × IsTrue (taking.takes options opening c (slice_index_or tokens.now (64 * word + j) Any))) }
+{
+    let mut left = asked;
+    let mut took = 0u64;
+    while left != 0 {
+        let bit = left.trailing_zeros();
+        if takes(&tokens[64 * word + bit as usize], options, opening, c) {
+            took |= 1 << bit;
+        }
+        left &= left - 1;
+    }
+    took
 }
