@@ -1,5 +1,5 @@
 -- Which numbers of leading shapes are alive at a place, from what was alive at the place before.
-use Rattle.std.proofs.Common.{◌≡◌, ℕ, zero, suc, ◌+◌, ◌-◌, ◌<◌, ◌≤◌, ◌≢◌, ◌⊎◌, ◌↔◌, List, [], length, get_or, drop, IsTrue, sym, refl, ap, subst, inl, inr, ⊎_elim, arith, add-one, length-drop}
+use Rattle.std.proofs.Common.{◌≡◌, ℕ, zero, suc, ◌+◌, ◌<◌, ◌≤◌, ◌≢◌, ◌⊎◌, ◌↔◌, List, [], length, get_or, drop, IsTrue, sym, refl, ap, subst, inl, inr, ⊎_elim, arith, add-one, length-drop}
 use Rattle.std.proofs.lemmas.Bool.{cases_eq}
 use Rattle.std.proofs.lemmas.List.{drop_all, get_or_past}
 use Rattle.glob.specs.Splits.{Table, TakesAll, MayReach, Splits}

@@ -1,6 +1,6 @@
 -- Characters that are the same without case.
-use Rattle.std.proofs.Common.{◌≡◌, ℕ, ◌+◌, ◌<◌, ◌≤◌, ◌⊎◌, ◌↔◌, true, false, ◌||◌, ◌&&◌, ◌==◌, IsTrue, inl, inr, ⊎_elim, arith}
-use Rattle.std.proofs.lemmas.Bool.{or_cases, or_left, or_right, and_parts, and_from, eqb-true, eq-eqb, ltb-true, lt-ltb, cases_eq, cases_lt}
+use Rattle.std.proofs.Common.{◌≡◌, ℕ, ◌+◌, ◌<◌, ◌≤◌, ◌⊎◌, ◌↔◌, false, ◌&&◌, ◌==◌, IsTrue, inl, inr, ⊎_elim, arith}
+use Rattle.std.proofs.lemmas.Bool.{or_cases, or_right, and_parts, and_from, eqb-true, eq-eqb, ltb-true, lt-ltb, cases_eq, cases_lt}
 use Rattle.std.proofs.lemmas.Str.Ascii.{lowercase_is, uppercase_is}
 use Rattle.std.specs.Char.{to_ascii_lowercase, to_ascii_uppercase}
 use Rattle.glob.specs.Brackets.{same, is_ascii}
@@ -23,19 +23,19 @@ same-forms c x low = (
   λ t.
       ⊎_elim inl
       (λ nl. ⊎_elim inr
-          (λ nu.
-              let lower = lower_cases c in
-              let upper = upper_cases c in
-              let small = lower_cases x in
-              ⊎_elim
-              (λ e. let is = eqb-true c x e in absurd (omega arith))
-              (λ both.
-                  let parts = and_parts (is_ascii c && is_ascii x) (to_ascii_lowercase c == to_ascii_lowercase x) both in
-                  let ascii = ltb-true x 128 (and_parts (is_ascii c) (is_ascii x) parts.0).1 in
-                  let is = eqb-true (to_ascii_lowercase c) (to_ascii_lowercase x) parts.1 in
-                  absurd (omega arith))
-              (or_cases (c == x) (is_ascii c && is_ascii x && (to_ascii_lowercase c == to_ascii_lowercase x)) t))
-          (cases_eq (to_ascii_uppercase c) x))
+      (λ nu.
+      let lower = lower_cases c in
+      let upper = upper_cases c in
+      let small = lower_cases x in
+      ⊎_elim
+      (λ e. let is = eqb-true c x e in absurd (omega arith))
+      (λ both.
+      let parts = and_parts (is_ascii c && is_ascii x) (to_ascii_lowercase c == to_ascii_lowercase x) both in
+      let ascii = ltb-true x 128 (and_parts (is_ascii c) (is_ascii x) parts.0).1 in
+      let is = eqb-true (to_ascii_lowercase c) (to_ascii_lowercase x) parts.1 in
+      absurd (omega arith))
+      (or_cases (c == x) (is_ascii c && is_ascii x && (to_ascii_lowercase c == to_ascii_lowercase x)) t))
+      (cases_eq (to_ascii_uppercase c) x))
       (cases_eq (to_ascii_lowercase c) x),
   λ h.
       let lower = lower_cases c in

@@ -1,12 +1,12 @@
 -- What the rows of masks tell of a token and a character.
-use Rattle.std.proofs.Common.{◌≡◌, ℕ, ◌+◌, ◌*◌, ◌<◌, ◌≤◌, ◌⊎◌, ◌↔◌, Bool, true, false, not, ◌||◌, ◌&&◌, ◌==◌, IsTrue, refl, sym, ap, ◌∙◌, inl, inr, ⊎_elim, arith}
-use Rattle.std.proofs.lemmas.Bool.{false≢true, or_cases, or_left, or_right, and_parts, and_from, eqb-true, eq-eqb, ne_eqb, not-true, not_from_false}
+use Rattle.std.proofs.Common.{◌≡◌, ℕ, ◌<◌, ◌≤◌, ◌⊎◌, ◌↔◌, Bool, true, false, not, ◌||◌, ◌&&◌, ◌==◌, IsTrue, refl, sym, ap, ◌∙◌, inl, inr, ⊎_elim, arith}
+use Rattle.std.proofs.lemmas.Bool.{false≢true, or_left, or_right, eqb-true, eq-eqb, ne_eqb, not-true, not_from_false}
 use Rattle.std.proofs.Math.Bool.{and-true, and-false, or-false}
 use Rattle.std.specs.Char.{to_ascii_lowercase, to_ascii_uppercase}
 use Rattle.glob.specs.Brackets.{same, holds}
 use Rattle.glob.specs.Characters.{slash, dot}
 use Rattle.glob.specs.Tokens.{Token, is_deep}
-use Rattle.glob.specs.Taking.{takes, is_free, is_kept_separator, is_kept_dot}
+use Rattle.glob.specs.Taking.{takes, is_kept_separator, is_kept_dot}
 use Rattle.glob.specs.Options.{new_options}
 use Rattle.glob.specs.Masks.{is_wild, is_bracket, is_kept}
 use Rattle.glob.specs.declared.options.MatchOptions.{MatchOptions}
@@ -51,6 +51,10 @@ module _ (o : MatchOptions) (opening : Bool) (c : ℕ) where
   kept-by_none off none Deep = off
   kept-by_none off none (Within e) = rw (off, none) refl
   kept-by_none off none (Except e) = rw (off, none) refl
+
+  -- and so where neither is in force
+  pub unruled-kept : o.require_literal_separator ≡ false → o.require_literal_leading_dot ≡ false → (t : Token) → is_kept o opening c t ≡ false
+  unruled-kept separator leading t = kept-by_none (rw leading refl) (rw separator refl) t
 
   -- with case, a token takes the characters of its row that no rule keeps from it
   pub takes-with_case : o.case_sensitive ≡ true → (t : Token) → takes o opening c t ≡ (takes new_options true c t && not (is_kept o opening c t))

@@ -1,5 +1,5 @@
 -- Which tokens are of which row of masks.
-use Rattle.std.proofs.Common.{◌≡◌, ℕ, suc, ◌+◌, ◌<◌, ◌≤◌, ◌≢◌, ◌⊎◌, ◌↔◌, ◌*◌, ◌/◌, ◌%◌, Bool, true, false, ◌||◌, ◌==◌, nat_lt, IsTrue, List, length, get_or, replicate, take, drop, [], ◌++◌, refl, sym, ap, inl, inr, ◌∙◌, ⊎_elim, arith}
+use Rattle.std.proofs.Common.{◌≡◌, ℕ, suc, ◌+◌, ◌<◌, ◌≤◌, ◌⊎◌, ◌↔◌, ◌*◌, ◌/◌, ◌%◌, true, false, ◌==◌, nat_lt, IsTrue, List, length, get_or, replicate, take, drop, [], ◌++◌, refl, sym, ap, inl, inr, ◌∙◌, ⊎_elim, arith}
 use Rattle.std.proofs.lemmas.List.{get_or-replicate, get_or_past, length-replicate, drop_all, take_all, append-nil}
 use Rattle.std.proofs.lemmas.Bool.{le-leb, eq-eqb, ne_eqb, cases_eq, cases_lt, false≢true}
 use Rattle.std.proofs.Math.Bool.{or-false}
@@ -9,7 +9,7 @@ use Rattle.glob.specs.Options.{new_options}
 use Rattle.glob.specs.Masks.{in_row, AreMasks}
 use Rattle.glob.specs.Positions.{IsSet}
 use Rattle.glob.proofs.SetBits.{IsSet-zero}
-use Rattle.glob.specs.declared.grammar.Token.TheVariants.{Plain, Any, Run, Deep, Within, Except}
+use Rattle.glob.specs.declared.grammar.Token.TheVariants.{Plain, Any}
 
 -- the row of a character
 pub in_row-character : (row : ℕ) (t : Token) → row < 128 → in_row row t ≡ takes new_options true row t
@@ -30,11 +30,11 @@ pub in_row-plain : (row c : ℕ) → row < 131 → IsTrue (in_row row (Plain c))
 in_row-plain row c lt =
     ⊎_elim
     (λ low.
-        let is : in_row row (Plain c) ≡ (row == c) = in_row-character row (Plain c) low ∙ or-false (row == c) in
-        ⊎_elim
-        (λ e. (λ _. (e, low), λ _. is ∙ eq-eqb row c e))
-        (λ ne. (λ t. absurd (false≢true (sym (is ∙ ne_eqb row c ne) ∙ t)), λ (e, _). absurd (ne e)))
-        (cases_eq row c))
+    let is : in_row row (Plain c) ≡ (row == c) = in_row-character row (Plain c) low ∙ or-false (row == c) in
+    ⊎_elim
+    (λ e. (λ _. (e, low), λ _. is ∙ eq-eqb row c e))
+    (λ ne. (λ t. absurd (false≢true (sym (is ∙ ne_eqb row c ne) ∙ t)), λ (e, _). absurd (ne e)))
+    (cases_eq row c))
     (⊎_elim (plain-above row c 128 (omega arith) refl) (⊎_elim (plain-above row c 129 (omega arith) refl) (plain-above row c 130 (omega arith) refl)))
     (row_cases row lt)
 
@@ -65,15 +65,15 @@ AreMasks-more tokens n masks new token are lt is same here others = record {
   row = λ row word j low within lt64.
       ⊎_elim
       (λ e.
-          let at_word : word ≡ n / 64 = omega arith in
-          let at_bit : j ≡ n % 64 = omega arith in
-          let put : IsSet (get_or new (131 * word + row) 0) j ↔ IsTrue (in_row row token) = rw (at_word, at_bit) (here row low) in
-          let token_is : token ≡ get_or tokens (64 * word + j) Any = is ∙ ap (λ i. get_or tokens i Any) (sym e) in
-          rw (← token_is) (λ s. (omega arith, put.0 s), λ (_, t). put.1 t))
+      let at_word : word ≡ n / 64 = omega arith in
+      let at_bit : j ≡ n % 64 = omega arith in
+      let put : IsSet (get_or new (131 * word + row) 0) j ↔ IsTrue (in_row row token) = rw (at_word, at_bit) (here row low) in
+      let token_is : token ≡ get_or tokens (64 * word + j) Any = is ∙ ap (λ i. get_or tokens i Any) (sym e) in
+      rw (← token_is) (λ s. (omega arith, put.0 s), λ (_, t). put.1 t))
       (λ ne.
-          let kept = others (131 * word + row) j lt64 (λ e r below at. ne (omega (arith, e, at))) in
-          let old = are.row row word j low (omega (arith, same)) lt64 in
-          (λ s. let (below, t) = old.0 (kept.0 s) in (omega arith, t), λ (below, t). kept.1 (old.1 (omega arith, t))))
+      let kept = others (131 * word + row) j lt64 (λ e r below at. ne (omega (arith, e, at))) in
+      let old = are.row row word j low (omega (arith, same)) lt64 in
+      (λ s. let (below, t) = old.0 (kept.0 s) in (omega arith, t), λ (below, t). kept.1 (old.1 (omega arith, t))))
       (cases_eq (64 * word + j) n);
 }
 

@@ -1,5 +1,5 @@
 -- Words of a list in which one bit of one word is put.
-use Rattle.std.proofs.Common.{◌≡◌, ℕ, ◌+◌, ◌<◌, ◌≤◌, ◌≢◌, ◌⊎◌, ◌↔◌, Bool, IsTrue, List, length, get_or, set, refl, sym, subst, inl, inr, ⊎_elim, arith, get_or-set_other, get_or-set_same}
+use Rattle.std.proofs.Common.{◌≡◌, ℕ, ◌<◌, ◌≢◌, ◌⊎◌, ◌↔◌, Bool, IsTrue, List, length, get_or, set, refl, inl, inr, ⊎_elim, get_or-set_other, get_or-set_same}
 use Rattle.std.proofs.lemmas.Bool.{cases_eq}
 use Rattle.glob.specs.Positions.{IsSet}
 
@@ -20,9 +20,9 @@ module _ (words : List ℕ) (at new bit : ℕ) (on : Bool) (within : at < length
   put-there i j lt other =
       ⊎_elim
       (λ e.
-          let is : get_or (set words at new) i 0 ≡ new = rw e (get_or-set_same words at new 0 within) in
-          let p = put j lt in
-          let ne : j ≢ bit = λ same. other same e in
-          rw (is, e) (λ s. ⊎_elim (λ (same, t). absurd (ne same)) (λ (n, s). s) (p.0 s), λ s. p.1 (inr (ne, s))))
+      let is : get_or (set words at new) i 0 ≡ new = rw e (get_or-set_same words at new 0 within) in
+      let p = put j lt in
+      let ne : j ≢ bit = λ same. other same e in
+      rw (is, e) (λ s. ⊎_elim (λ (same, t). absurd (ne same)) (λ (n, s). s) (p.0 s), λ s. p.1 (inr (ne, s))))
       (λ ne. let is : get_or (set words at new) i 0 ≡ get_or words i 0 = get_or-set_other words at i new 0 ne in rw is (λ s. s, λ s. s))
       (cases_eq i at)

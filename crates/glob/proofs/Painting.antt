@@ -1,5 +1,5 @@
 -- Bits put in the rows of the characters that entries of a bracket hold.
-use Rattle.std.proofs.Common.{◌≡◌, ℕ, ◌+◌, ◌<◌, ◌≤◌, ◌⊎◌, ◌↔◌, Bool, true, false, inl, inr, ◌||◌, ◌&&◌, IsTrue, List, length, take, get_or, refl, sym, ap, ◌∙◌, ⊎_elim, arith}
+use Rattle.std.proofs.Common.{◌≡◌, ℕ, ◌+◌, ◌<◌, ◌≤◌, ◌⊎◌, ◌↔◌, Bool, true, false, inl, inr, ◌||◌, IsTrue, List, length, take, get_or, refl, sym, ap, ◌∙◌, ⊎_elim, arith}
 use Rattle.std.proofs.lemmas.Bool.Decides.{leb_tells}
 use Rattle.std.proofs.lemmas.List.Folds.{list_any_more}
 use Rattle.std.proofs.Math.Bool.{or-true, or-false}
@@ -25,11 +25,11 @@ painted-more entries n c low high on d lt ends old new before inside outside =
     list_any_more (entry_holds true c) entries n d lt ∙ ap (λ b. holds true c (take n entries) || b) ends in
     ⊎_elim
     (λ (t, from, below).
-        let all : holds true c (take (n + 1) entries) ≡ true = more ∙ (ap (λ b. holds true c (take n entries) || b) t ∙ or-true _) in
-        let put = inside from below in
-        rw all (λ s. sym (put.0 s), λ e. put.1 (sym e)))
+    let all : holds true c (take (n + 1) entries) ≡ true = more ∙ (ap (λ b. holds true c (take n entries) || b) t ∙ or-true _) in
+    let put = inside from below in
+    rw all (λ s. sym (put.0 s), λ e. put.1 (sym e)))
     (λ (f, none).
-        let same : holds true c (take (n + 1) entries) ≡ holds true c (take n entries) = more ∙ (ap (λ b. holds true c (take n entries) || b) f ∙ or-false _) in
-        let stays = outside none in
-        rw same (λ s. before.0 (stays.0 s), λ e. stays.1 (before.1 e)))
+    let same : holds true c (take (n + 1) entries) ≡ holds true c (take n entries) = more ∙ (ap (λ b. holds true c (take n entries) || b) f ∙ or-false _) in
+    let stays = outside none in
+    rw same (λ s. before.0 (stays.0 s), λ e. stays.1 (before.1 e)))
     (range_tells low high c)

@@ -1,5 +1,5 @@
 -- The parts of a walk's pattern: where it starts, its components, and its fault.
-use Rattle.std.specs.Prelude.{ℕ, ◌-◌, Bool, false, ◌||◌, not, ◌==◌, if◌then◌else◌, List, [], ◌∷◌, length, take, drop, bytes_eq, Option, None}
+use Rattle.std.specs.Prelude.{◌-◌, Bool, false, ◌||◌, not, if◌then◌else◌, List, [], ◌∷◌, length, take, drop, bytes_eq, Option, None}
 use Rattle.std.specs.Option.{option_or}
 use Rattle.std.specs.Result.{result_err}
 use Rattle.std.specs.List.{list_any}

@@ -1,5 +1,5 @@
 -- Laws of patterns, as statements.
-use Rattle.std.specs.Prelude.{◌≡◌, ℕ, ◌<◌, ◌||◌, ◌==◌, Bool, List, length, slice_index, IsTrue, IsFalse, Decides, ◌↔◌}
+use Rattle.std.specs.Prelude.{◌≡◌, ℕ, ◌<◌, Bool, List, length, slice_index, IsTrue, IsFalse, Decides, ◌↔◌}
 use Rattle.std.specs.List.{list_any}
 use Rattle.glob.specs.Characters.{is_wildcard}
 use Rattle.glob.specs.Text.{Text}

@@ -73,6 +73,7 @@ impl<A: Allocator> Class<A> {
         Ok(Class { entries })
     }
 
+    /// The entries, in the order of the pattern.
     pub fn entries(&self) -> &[Entry]
         ensures { result.now ≡ self.now }
     {

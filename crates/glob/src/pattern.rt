@@ -148,12 +148,7 @@ impl<A: Allocator + Copy> Pattern<A> {
         ensures least { IfOk result (λ told. IsTrue told.0 → length (chars str.now) ≤ told.1) }
         ensures short { IsShort (chars self.now) → IsOk result }
     {
-        let mut judge = TextJudge::new(
-            self.tokens.as_slice(),
-            self.masks.as_slice(),
-            str,
-            options,
-        );
+        let mut judge = TextJudge::new(self.tokens.as_slice(), self.masks.as_slice(), str, options);
         let answer = matcher::run_positions(self.alloc, self.shapes.as_slice(), &mut judge)?;
         Ok((answer, judge.asked()))
     }

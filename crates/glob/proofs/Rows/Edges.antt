@@ -1,6 +1,5 @@
 -- Rows at the edges: what is a content, which names are proper, which patterns are plain, and long patterns.
-use Rattle.std.specs.Prelude.{◌≡◌, Bool, true, false, List, [], ◌∷◌, ◌++◌, map, codes, refl}
-use Prim.Native.String.{String}
+use Rattle.std.specs.Prelude.{◌≡◌, true, false, [], ◌∷◌, ◌++◌, map, codes, refl}
 use Rattle.std.specs.declared.io.ErrorKind.TheVariants.{PermissionDenied}
 use Rattle.glob.specs.Paths.{is_proper}
 use Rattle.glob.specs.Content.{Content, is_content}

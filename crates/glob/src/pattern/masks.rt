@@ -13,11 +13,17 @@ use crate::options::MatchOptions;
 use crate::pattern::taking::is_kept_dot;
 use std::alloc::{AllocError, Allocator};
 
-/// The rows of `?` and `*`, of `**` and of brackets, after one for each character of ASCII; and how many rows there are.
-pub const WILD: usize = 128;
-pub const DEEP: usize = 129;
-pub const BRACKETS: usize = 130;
-pub const ROWS: usize = 131;
+/// The row of `?` and `*`, after a row for each character of ASCII.
+const WILD: usize = 128;
+
+/// The row of `**`.
+const DEEP: usize = 129;
+
+/// The row of brackets.
+const BRACKETS: usize = 130;
+
+/// The rows, each with a word for 64 tokens.
+const ROWS: usize = 131;
 
 /// The masks of the tokens: for each 64 of them a word for each row. It fails only for want of memory.
 pub fn masks_of<A: Allocator + Copy>(
@@ -56,6 +62,12 @@ pub fn take_known(
     if !c.is_ascii() {
         let wild = masks[row + WILD] | masks[row + DEEP];
         return (asked & wild, asked & !wild);
+    }
+    if options.case_sensitive
+        && !options.require_literal_separator
+        && !options.require_literal_leading_dot
+    {
+        return (asked & masks[row + c as usize], 0);
     }
     let free = !kept(masks, word, options, opening, c);
     if options.case_sensitive {

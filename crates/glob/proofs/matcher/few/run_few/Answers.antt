@@ -1,6 +1,5 @@
-use Rattle.std.proofs.Common.{◌≡◌, ℕ, ◌+◌, ◌∙◌, length, sym, subst, arith}
+use Rattle.std.proofs.Common.{◌≡◌, ◌+◌, ◌∙◌, length, sym, arith}
 use Rattle.std.proofs.lemmas.Bool.{false≢true}
-use Rattle.glob.specs.Positions.{AliveWord}
 use Rattle.glob.proofs.Alive.{asked_more, asked_all}
 use Rattle.glob.proofs.Counts.{mul-left}
 use Rattle.glob.proofs.LeadingOnes.{dead-never_splits}

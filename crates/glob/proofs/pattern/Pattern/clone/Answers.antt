@@ -1,6 +1,5 @@
-use Rattle.std.proofs.Common.{◌≡◌, rules, chars, string_bytes}
+use Rattle.std.proofs.Common.{◌≡◌, rules, string_bytes}
 use Rattle.std.specs.List.{each_same}
-use Rattle.glob.specs.Patterns.{KeepsTokens}
 use Rattle.glob.proofs.pattern.Pattern.clone.Goals as goal
 
 pub invariant_of-result-2 : goal.invariant_of-result-2

@@ -1,4 +1,4 @@
-use Rattle.std.proofs.Common.{◌≡◌, ◌+◌, ◌*◌, ◌/◌, ℕ, List, [], length, refl, ap, arith}
+use Rattle.std.proofs.Common.{◌≡◌, ◌+◌, ◌*◌, ◌/◌, ℕ, [], length, refl, arith}
 use Rattle.std.proofs.lemmas.Str.{chars-nil}
 use Rattle.glob.specs.Units.{HasTokens}
 use Rattle.glob.specs.Masks.{AreMasks}

@@ -1,4 +1,4 @@
-use Rattle.std.proofs.Common.{◌≡◌, ℕ, ◌+◌, ◌*◌, ◌/◌, ◌%◌, ◌<◌, ◌∙◌, ◌↔◌, true, length, slice_index_or, IsTrue, refl, ⊎_elim, arith}
+use Rattle.std.proofs.Common.{◌≡◌, ◌+◌, ◌*◌, ◌/◌, ◌%◌, ◌∙◌, true, length, refl, ⊎_elim, arith}
 use Rattle.std.proofs.lemmas.Bool.{cases_eq, cases_lt}
 use Rattle.glob.proofs.MaskRows.{in_row-plain}
 use Rattle.glob.proofs.Masks.{put-there}
@@ -10,15 +10,15 @@ returns-in-Plain-clause-row g c = λ row lt.
     rw c.in-Plain.is
     (⊎_elim
     (λ low.
-        ⊎_elim
-        (λ e. let on = c.paint.ensures.painted row (omega arith) (omega arith) low in (λ s. is.1 (e, low), λ t. on.1 refl))
-        (λ ne.
-            let old = c.paint.ensures.others (131 * (c.args.n / 64) + row) (c.args.n % 64) (omega arith) (λ _ d from below _ at. ne (omega (arith, from, below, at))) in
-            (λ s. absurd (c.requires.clear row lt (old.0 s)), λ t. absurd (ne (is.0 t).0)))
-        (cases_eq row c.in-Plain.c))
+    ⊎_elim
+    (λ e. let on = c.paint.ensures.painted row (omega arith) (omega arith) low in (λ s. is.1 (e, low), λ t. on.1 refl))
+    (λ ne.
+    let old = c.paint.ensures.others (131 * (c.args.n / 64) + row) (c.args.n % 64) (omega arith) (λ _ d from below _ at. ne (omega (arith, from, below, at))) in
+    (λ s. absurd (c.requires.clear row lt (old.0 s)), λ t. absurd (ne (is.0 t).0)))
+    (cases_eq row c.in-Plain.c))
     (λ high.
-        let old = c.paint.ensures.others (131 * (c.args.n / 64) + row) (c.args.n % 64) (omega arith) (λ _ d from below low at. omega (arith, at, low, high)) in
-        (λ s. absurd (c.requires.clear row lt (old.0 s)), λ t. absurd (omega (arith, high, (is.0 t).1))))
+    let old = c.paint.ensures.others (131 * (c.args.n / 64) + row) (c.args.n % 64) (omega arith) (λ _ d from below low at. omega (arith, at, low, high)) in
+    (λ s. absurd (c.requires.clear row lt (old.0 s)), λ t. absurd (omega (arith, high, (is.0 t).1))))
     (cases_lt row 128))
 
 pub returns-in-Plain-clause-others : goal.returns-in-Plain-clause-others

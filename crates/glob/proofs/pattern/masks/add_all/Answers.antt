@@ -1,4 +1,4 @@
-use Rattle.std.proofs.Common.{◌+◌, ◌*◌, ◌/◌, ◌≤◌, ◌∙◌, length, arith}
+use Rattle.std.proofs.Common.{◌∙◌, arith}
 use Rattle.std.proofs.lemmas.List.{get_or_default}
 use Rattle.glob.proofs.MaskRows.{AreMasks-clear, AreMasks-more}
 use Rattle.glob.proofs.pattern.masks.add_all.Goals as goal

@@ -1,4 +1,4 @@
-use Rattle.std.proofs.Common.{◌+◌, ◌<◌, length, ◌∙◌, sym, ⊎_elim, arith, length-set}
+use Rattle.std.proofs.Common.{◌+◌, ◌<◌, length, ◌∙◌, ⊎_elim, arith, length-set}
 use Rattle.std.proofs.lemmas.Bool.{cases_eq}
 use Rattle.glob.proofs.Masks.{put-here, put-there}
 use Rattle.glob.proofs.pattern.masks.paint.Goals as goal
@@ -14,9 +14,9 @@ loop-c-preserved c =
       painted = λ d from below.
           ⊎_elim (λ e. here _ (omega arith))
           (λ ne.
-              let same = there (c.args.first + d) c.args.bit c.requires.bit (λ _ e. ne (omega arith)) in
-              let old = i.painted d from (omega arith) in
-              (λ s. old.0 (same.0 s), λ t. same.1 (old.1 t)))
+          let same = there (c.args.first + d) c.args.bit c.requires.bit (λ _ e. ne (omega arith)) in
+          let old = i.painted d from (omega arith) in
+          (λ s. old.0 (same.0 s), λ t. same.1 (old.1 t)))
           (cases_eq d c.loop-c.c);
       others = λ k j lt none.
           let same = there k j lt (λ e at. none e c.loop-c.c (omega arith) (omega arith) (omega arith) (omega arith) at) in

@@ -1,5 +1,4 @@
 use Rattle.std.proofs.Common.{◌+◌, ◌∙◌, sym, refl, arith}
-use Rattle.glob.specs.Positions.{IsSet}
 use Rattle.glob.proofs.Painting.{painted-more}
 use Rattle.glob.proofs.pattern.masks.paint_entries.Goals as goal
 

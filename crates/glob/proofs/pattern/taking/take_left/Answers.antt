@@ -1,4 +1,4 @@
-use Rattle.std.proofs.Common.{◌≡◌, ℕ, ◌+◌, ◌*◌, ◌<◌, ◌∙◌, IsTrue, length, slice_index_or, sym, ap, arith}
+use Rattle.std.proofs.Common.{ℕ, ◌+◌, ◌*◌, ◌∙◌, IsTrue, slice_index_or, sym, ap, arith}
 use Rattle.std.proofs.lemmas.Bool.{false≢true}
 use Rattle.std.proofs.lemmas.List.{get_or_default}
 use Rattle.std.proofs.lemmas.Nat.Bits.{bit_at-trailing_zeros}

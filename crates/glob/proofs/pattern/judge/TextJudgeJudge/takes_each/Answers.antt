@@ -1,12 +1,9 @@
-use Rattle.std.proofs.Common.{◌≡◌, ℕ, ◌+◌, ◌-◌, ◌*◌, ◌/◌, ◌<◌, ◌≤◌, ◌⊎◌, ◌↔◌, length, slice_index_or, chars, IsTrue, sym, subst, ap, ◌∙◌, inl, inr, ⊎_elim, arith}
+use Rattle.std.proofs.Common.{chars, inl, inr, ⊎_elim, arith}
 use Rattle.std.proofs.lemmas.Nat.Bits.{bit_at-trailing_zeros}
 use Rattle.std.specs.Int.{w64}
 use Rattle.std.specs.Str.Iter.{chars_rest}
-use Rattle.glob.specs.Positions.{IsSet}
-use Rattle.glob.specs.Taking.{takes}
 use Rattle.glob.specs.TextTable.{table_of}
 use Rattle.glob.specs.Stepping.{place_before}
-use Rattle.glob.specs.declared.grammar.Token.TheVariants.{Any}
 use Rattle.glob.proofs.SetBits.{IsSet-zero, IsSet-or}
 use Rattle.glob.proofs.pattern.judge.TextJudgeJudge.takes_each.Goals as goal
 
