@@ -7,7 +7,8 @@ use Rattle.std.proofs.lemmas.Bool.{cases_eq, false≢true, eqb-false, ne_eqb, no
 use Rattle.std.proofs.lemmas.List.{get_or_past}
 use Rattle.glob.specs.Splits.{Table}
 use Rattle.glob.specs.Leading.{LeadingSplit, IsAlive, HasTaken}
-use Rattle.glob.specs.Positions.{IsSet, AreKinds, AliveWord, TakenWord}
+use Rattle.glob.specs.Bits.{IsSet}
+use Rattle.glob.specs.Positions.{AreKinds, AliveWord, TakenWord}
 use Rattle.glob.proofs.Alive.{MayEnd, ComesAlive, ComesWhole, IsAlive-step, LeadingSplit-step}
 use Rattle.glob.proofs.Spreading.{spread}
 use Rattle.glob.proofs.SetBits.{IsSet-or, IsSet-and, IsSet-spread_low, IsSet-spread_next, IsSet-moved_low, IsSet-moved_next, IsSet-closed, spread_past, highest_set}

@@ -29,7 +29,6 @@ pub mod Loosening
 pub mod LowestBits
 pub mod ManyWords
 pub mod Marks
-pub mod MaskRows
 pub mod Masks
 pub mod MatchingLemmas
 pub mod MatchingLines
@@ -42,6 +41,7 @@ pub mod Passing
 pub mod PiecesAndSplits
 pub mod Places
 pub mod PlainPatterns
+pub mod PutBits
 pub mod Reading
 pub mod Resolving
 pub mod Rests

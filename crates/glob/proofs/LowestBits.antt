@@ -4,7 +4,7 @@ use Rattle.std.specs.Int.{bit_at}
 use Rattle.std.specs.Int.Count.{ones, ones_step}
 use Rattle.std.proofs.lemmas.Nat.Bits.{bit_at-zero, bit_at_lowest, bit_at-suc, bit_at_and, bit_at-lt, same_from_bits}
 use Rattle.std.proofs.lemmas.Bool.{cases_eq}
-use Rattle.glob.specs.Positions.{IsSet}
+use Rattle.glob.specs.Bits.{IsSet}
 use Rattle.glob.proofs.Spreading.{half_and, low_and}
 use Rattle.glob.proofs.SetBits.{IsSet-zero, IsSet-or, IsSet-one}
 

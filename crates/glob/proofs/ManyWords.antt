@@ -5,7 +5,8 @@ use Rattle.std.proofs.lemmas.List.{get_or_append_left, get_or_push}
 use Rattle.std.proofs.lemmas.Nat.{le_or_l, le_or_r}
 use Rattle.glob.specs.Splits.{Table, Splits}
 use Rattle.glob.specs.Leading.{LeadingSplit, IsAlive}
-use Rattle.glob.specs.Positions.{IsSet, IsRowWord, IsRow}
+use Rattle.glob.specs.Bits.{IsSet}
+use Rattle.glob.specs.Positions.{IsRowWord, IsRow}
 use Rattle.glob.proofs.SetBits.{IsSet-zero}
 use Rattle.glob.proofs.WordRows.{Splits-by_word}
 use Rattle.glob.specs.declared.matcher.Shape.{Shape}

@@ -5,7 +5,7 @@ use mir.Val.{bool_byte}
 use Rattle.std.proofs.lemmas.Bool.{cases_eq, false≢true, eqb-false, ne_eqb, not-true}
 use Rattle.std.proofs.lemmas.Nat.{one_shl, shr_split, and_le_r}
 use Rattle.std.proofs.lemmas.Nat.Bits.{bit_at-zero, bit_at_and, bit_at_or, bit_at_xor, bit_at_not, bit_at-lt, bit_at-pow_same, bit_at-pow_other, bit_at_cat_low, bit_at_above, bit_at_lowest, bit_at-suc, shr_and_one}
-use Rattle.glob.specs.Positions.{IsSet}
+use Rattle.glob.specs.Bits.{IsSet}
 use Rattle.glob.proofs.Spreading.{spread, spread-low, spread-next}
 
 -- one of two bits is the greater

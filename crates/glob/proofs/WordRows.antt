@@ -6,7 +6,8 @@ use Rattle.std.proofs.lemmas.Nat.{zero_from_ones}
 use Rattle.std.proofs.lemmas.Nat.Bits.{bit_at_above}
 use Rattle.glob.specs.Splits.{Table, Splits}
 use Rattle.glob.specs.Leading.{LeadingSplit, IsAlive, HasTaken, LeadingOnes}
-use Rattle.glob.specs.Positions.{IsSet, AreKinds, AliveWord, TakenWord}
+use Rattle.glob.specs.Bits.{IsSet}
+use Rattle.glob.specs.Positions.{AreKinds, AliveWord, TakenWord}
 use Rattle.glob.proofs.Alive.{Splits-iff_alive}
 use Rattle.glob.proofs.SetBits.{IsSet-zero, IsSet-and}
 use Rattle.glob.proofs.LowestBits.{ones_within}

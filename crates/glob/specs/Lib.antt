@@ -16,6 +16,7 @@ pub mod Lines
 pub mod Stepping
 pub mod Patterns
 pub mod Laws
+pub mod Bits
 pub mod Leading
 pub mod Positions
 pub mod GlobCauses

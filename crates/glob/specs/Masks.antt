@@ -6,7 +6,7 @@ use Rattle.glob.specs.Tokens.{Token, is_deep}
 use Rattle.glob.specs.Taking.{takes, is_kept_separator, is_kept_dot}
 use Rattle.glob.specs.declared.options.MatchOptions.{MatchOptions}
 use Rattle.glob.specs.Options.{new_options}
-use Rattle.glob.specs.Positions.{IsSet}
+use Rattle.glob.specs.Bits.{IsSet}
 use Rattle.glob.specs.declared.grammar.Token.TheVariants.{Plain, Any, Run, Deep, Within, Except}
 
 -- `?` or `*`
@@ -18,6 +18,7 @@ is_wild Deep = false
 is_wild (Within entries) = false
 is_wild (Except entries) = false
 
+-- within or except
 abbrev pub is_bracket : Token → Bool
 is_bracket (Plain c) = false
 is_bracket Any = false
@@ -26,7 +27,7 @@ is_bracket Deep = false
 is_bracket (Within entries) = true
 is_bracket (Except entries) = true
 
--- the token is of the row
+-- the bit of the token is set in the row
 abbrev pub in_row : (row : ℕ) → Token → Bool
 in_row row token =
     if nat_lt row 128 then takes new_options true row token

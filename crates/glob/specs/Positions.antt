@@ -1,16 +1,12 @@
 -- Positions among shapes as bits: words of 64 bits that say of shapes which they are, and of leading shapes whether they are alive.
 use Rattle.std.specs.Prelude.{◌≡◌, ℕ, ◌+◌, ◌*◌, ◌/◌, ◌<◌, ◌≤◌, ◌↔◌, List, length, slice_index_or}
-use Rattle.std.specs.Int.{bit_at}
+use Rattle.glob.specs.Bits.{IsSet}
 use Rattle.glob.specs.Splits.{Table}
 use Rattle.glob.specs.Leading.{IsAlive, HasTaken}
 use Rattle.glob.specs.declared.matcher.Shape.{Shape}
 use Rattle.glob.specs.declared.matcher.Shape.TheVariants.{One, Run, Deep}
 use Rattle.glob.specs.declared.matcher.kinds.Kinds.{Kinds}
 use Rattle.glob.specs.declared.matcher.many.Word.{Word}
-
--- bit j of the word is 1
-abbrev pub IsSet : (word j : ℕ) → Type 0
-IsSet word j = bit_at word j ≡ 1
 
 -- The words say of the shapes from number `start` up to number `end`, 64 at most, which they are, and which are deep
 -- and have others after them.

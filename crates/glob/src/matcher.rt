@@ -1,6 +1,6 @@
 ghost use Rattle.std.specs.Prelude.{◌≡◌, ℕ, ◌+◌, ◌-◌, ◌*◌, ◌^◌, ◌<◌, ◌≤◌, ◌↔◌, false, length, IsTrue, IsOk, IfOk, count_ones};
 ghost use Rattle.glob.specs.Splits.{Table, Splits};
-ghost use Rattle.glob.specs.Positions.{IsSet};
+ghost use Rattle.glob.specs.Bits.{IsSet};
 
 mod few;
 mod kinds;
@@ -56,13 +56,17 @@ pub trait Judge {
         ensures count { count self.new ≡ count self.old + 1 }
         ensures value { result ≡ (table self.old).takes token (place self.old - 1) };
 
-    /// Asks tokens of a word, whether they take the character last stepped onto: bit n of the word is of token
-    /// 64 · `word` + n. The answer has the bits of those that do. It asks each by [`takes`](Self::takes), and a judge
-    /// that knows more than one answer at once may do better, where its count rises as much.
+    /// Which of up to 64 tokens take the character last stepped onto: bit n of `asked` asks token 64 · `word` + n, and the
+    /// answer has the bits of those that take it. So `takes_each(1, 0b101)` asks tokens 64 and 66. Raises the count by
+    /// one for each bit of `asked`. `step` has to have answered true before, each bit to be of a token of the list, and
+    /// the count to have room.
+    ///
+    /// This body asks one after another by [`takes`](Self::takes). A judge that knows many answers at once may have its
+    /// own.
     #[inline]
     fn takes_each(&mut self, word: usize, asked: u64) -> u64
         requires stepped { 0 < place self.old }
-        requires within { 64 * word + 64 < 2 ^ 64 }
+        requires within { 64 * word + 64 ≤ 2 ^ 64 }
         requires tokens { (j : ℕ) → IsSet asked j → 64 * word + j < (table self.old).tokens }
         requires room { count self.old + count_ones asked < 2 ^ 128 }
         ensures same { table self.new ≡ table self.old }

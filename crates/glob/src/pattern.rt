@@ -24,7 +24,7 @@ use std::marker::Model;
 use std::path::Path;
 
 /// A pattern that was read.
-#[derive(Debug, Drop)]
+#[derive(Drop)]
 pub struct Pattern<A: Allocator = Global> {
     text: String<A>,
     tokens: Vec<Token<Class<A>>, A>,

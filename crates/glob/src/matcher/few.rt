@@ -2,7 +2,8 @@
 ghost use Rattle.std.specs.Prelude.{◌≡◌, ℕ, ◌+◌, ◌-◌, ◌*◌, ◌^◌, ◌<◌, ◌≤◌, ◌↔◌, length, IsTrue};
 ghost use Rattle.glob.specs.Splits.{Table, Splits};
 ghost use Rattle.glob.specs.Leading.{IsAlive, LeadingOnes};
-ghost use Rattle.glob.specs.Positions.{IsSet, AreKinds, AliveWord};
+ghost use Rattle.glob.specs.Bits.{IsSet};
+ghost use Rattle.glob.specs.Positions.{AreKinds, AliveWord};
 
 use super::kinds::{Kinds, last_before};
 use super::{Judge, Shape};
@@ -43,7 +44,6 @@ pub fn run_few<J: Judge>(shapes: &[Shape], lead: usize, judge: &mut J) -> bool
 }
 
 impl<'a> Few<'a> {
-    #[inline(always)]
     fn new(shapes: &'a [Shape]) -> Self
         requires { length shapes.now < 64 }
         ensures { result.shapes.now ≡ shapes.now }
@@ -55,7 +55,6 @@ impl<'a> Few<'a> {
     }
 
     /// The row of the place after the characters of the first `lead` shapes.
-    #[inline(always)]
     fn first(&self, lead: usize, opens: bool) -> u64
         ensures { (table : Table) → LeadingOnes table self.now.shapes.now lead → opens ≡ table.opens lead
             → AliveWord table self.now.shapes.now 0 lead result }
@@ -84,7 +83,6 @@ impl<'a> Few<'a> {
     }
 
     /// Whether all shapes are alive, after the last.
-    #[inline(always)]
     fn is_whole(&self, row: u64) -> bool
         ensures { IsTrue result ↔ IsSet row (length self.now.shapes.now) }
     {

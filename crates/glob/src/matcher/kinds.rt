@@ -1,7 +1,8 @@
 ghost use Rattle.std.specs.Prelude.{◌≡◌, ℕ, ◌+◌, ◌*◌, ◌^◌, ◌<◌, ◌≤◌, ◌⊎◌, ◌↔◌, List, length, min, slice_index_or, IsTrue, bit_and, bit_or};
 ghost use Rattle.glob.specs.Splits.{Table};
 ghost use Rattle.glob.specs.Leading.{LeadingSplit};
-ghost use Rattle.glob.specs.Positions.{IsSet, AreKinds, AliveWord, TakenWord};
+ghost use Rattle.glob.specs.Bits.{IsSet};
+ghost use Rattle.glob.specs.Positions.{AreKinds, AliveWord, TakenWord};
 
 use super::Shape;
 

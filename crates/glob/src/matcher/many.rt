@@ -54,7 +54,6 @@ pub fn run_many<A: Allocator, J: Judge>(
 
 impl<'a, A: Allocator> Many<'a, A> {
     /// The row of the place after the characters of the first `lead` shapes.
-    #[inline(always)]
     fn new(alloc: A, shapes: &'a [Shape], lead: usize, opens: bool) -> Result<Self, AllocError>
         ensures { IfOk result (λ row. (row.shapes.now ≡ shapes.now)
             × ((table : Table) → LeadingOnes table shapes.now lead → opens ≡ table.opens lead → IsRow table shapes.now lead row.words.items)) }
@@ -105,7 +104,6 @@ impl<'a, A: Allocator> Many<'a, A> {
     }
 
     /// Whether the row, which is of the last place, says that the characters split.
-    #[inline(always)]
     fn is_whole(&self) -> bool
         requires { length self.now.words.items ≡ length self.now.shapes.now / 64 + 1 }
         ensures { (table : Table) → IsRow table self.now.shapes.now table.characters self.now.words.items

@@ -69,3 +69,12 @@ impl<A: Allocator> fmt::Display for Pattern<A> {
         f.write_str(self.as_str())
     }
 }
+
+/// The pattern's text, with its name.
+impl<A: Allocator> fmt::Debug for Pattern<A> {
+    fn fmt<W: fmt::Write>(&self, f: &mut fmt::Formatter<W>) -> fmt::Result {
+        f.debug_struct("Pattern")
+            .field("text", &self.as_str())
+            .finish()
+    }
+}

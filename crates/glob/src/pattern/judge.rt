@@ -95,6 +95,7 @@ impl<A: Allocator> Judge for TextJudge<'_, A> {
 
     #[inline(always)]
     fn takes_each(&mut self, word: usize, asked: u64) -> u64 {
+        // The word after the last token has no masks.
         if asked == 0 {
             return 0;
         }

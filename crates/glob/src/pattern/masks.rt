@@ -1,7 +1,7 @@
-//! Which tokens take which characters of ASCII, as bits.
+//! Masks: for each 64 tokens, which of them take each character of ASCII, and which are wildcards or brackets.
 ghost use Rattle.std.specs.Prelude.{◌≡◌, ℕ, ◌+◌, ◌*◌, ◌/◌, ◌%◌, ◌<◌, ◌≤◌, ◌≢◌, ◌⊎◌, ◌↔◌, true, false, List, length, slice_index_or, IsTrue, IfOk};
 ghost use Rattle.glob.specs.Brackets.{holds, entry_holds};
-ghost use Rattle.glob.specs.Positions.{IsSet};
+ghost use Rattle.glob.specs.Bits.{IsSet};
 ghost use Rattle.glob.specs.Taking.{takes};
 ghost use Rattle.glob.specs.Tokens.{Token as Kept};
 ghost use Rattle.glob.specs.declared.grammar.Token.TheVariants.{Any};

@@ -1,6 +1,6 @@
 ghost use Rattle.std.specs.Prelude.{◌≡◌, ℕ, ◌+◌, ◌*◌, ◌^◌, ◌<◌, ◌≤◌, ◌↔◌, length, slice_index_or, IsTrue};
 ghost use Rattle.glob.specs.Taking as taking;
-ghost use Rattle.glob.specs.Positions.{IsSet};
+ghost use Rattle.glob.specs.Bits.{IsSet};
 ghost use Rattle.glob.specs.declared.grammar.Token.TheVariants.{Any};
 
 use crate::class::{self, Class};
@@ -45,7 +45,8 @@ pub fn is_kept_dot(options: MatchOptions, opening: bool, c: char) -> bool
     options.require_literal_leading_dot && opening && c == '.'
 }
 
-/// Of the tokens of a word that are asked, those that take the character: bit n is of token 64 · `word` + n.
+/// Of the tokens of a word that are asked, those that take the character: bit n is of token 64 · `word` + n. It stands
+/// apart from the judge's loop, which seldom comes here, so that the judge stays in registers.
 #[inline(never)]
 pub fn take_left<A: Allocator>(
     tokens: &[Token<Class<A>>],
@@ -55,7 +56,7 @@ pub fn take_left<A: Allocator>(
     opening: bool,
     c: char,
 ) -> u64
-    requires within { 64 * word + 64 < 2 ^ 64 }
+    requires within { 64 * word + 64 ≤ 2 ^ 64 }
     requires tokens { (j : ℕ) → IsSet asked j → 64 * word + j < length tokens.now }
     ensures { (j : ℕ) → j < 64
         → IsSet result j ↔ (IsSet asked j × IsTrue (taking.takes options opening c (slice_index_or tokens.now (64 * word + j) Any))) }

@@ -2,7 +2,7 @@ use Rattle.std.proofs.Common.{◌≡◌, ◌+◌, ◌*◌, ◌/◌, ℕ, [], len
 use Rattle.std.proofs.lemmas.Str.{chars-nil}
 use Rattle.glob.specs.Units.{HasTokens}
 use Rattle.glob.specs.Masks.{AreMasks}
-use Rattle.glob.proofs.MaskRows.{AreMasks-none}
+use Rattle.glob.proofs.Masks.{AreMasks-none}
 use Rattle.glob.proofs.pattern.Pattern.default.Goals as goal
 
 -- The empty text has no token.

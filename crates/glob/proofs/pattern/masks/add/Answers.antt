@@ -1,7 +1,7 @@
 use Rattle.std.proofs.Common.{◌≡◌, ◌+◌, ◌*◌, ◌/◌, ◌%◌, ◌∙◌, true, length, refl, ⊎_elim, arith}
 use Rattle.std.proofs.lemmas.Bool.{cases_eq, cases_lt}
-use Rattle.glob.proofs.MaskRows.{in_row-plain}
-use Rattle.glob.proofs.Masks.{put-there}
+use Rattle.glob.proofs.Masks.{in_row-plain}
+use Rattle.glob.proofs.PutBits.{put-there}
 use Rattle.glob.proofs.pattern.masks.add.Goals as goal
 
 pub returns-in-Plain-clause-row : goal.returns-in-Plain-clause-row

@@ -1,6 +1,6 @@
 use Rattle.std.proofs.Common.{◌∙◌, arith}
 use Rattle.std.proofs.lemmas.List.{get_or_default}
-use Rattle.glob.proofs.MaskRows.{AreMasks-clear, AreMasks-more}
+use Rattle.glob.proofs.Masks.{AreMasks-clear, AreMasks-more}
 use Rattle.glob.proofs.pattern.masks.add_all.Goals as goal
 
 pub add-requires-clause-room : goal.add-requires-clause-room

@@ -1,7 +1,7 @@
 use Rattle.std.proofs.Common.{◌≡◌, ◌+◌, ◌*◌, get_or, true, refl, sym, ◌∙◌, ⊎_elim, inl, inr, arith}
 use Rattle.glob.specs.Taking.{is_kept_separator}
 use Rattle.glob.proofs.SetBits.{IsSet-or, IsSet-any_of_three}
-use Rattle.glob.proofs.MaskRows.{masked}
+use Rattle.glob.proofs.Masks.{masked}
 use Rattle.glob.proofs.KnownTakers.{kept-by_dot, kept-by_separator}
 use Rattle.glob.proofs.pattern.masks.kept.Goals as goal
 

@@ -1,6 +1,6 @@
 use Rattle.std.proofs.Common.{◌≡◌, ◌+◌, ◌*◌, ◌/◌, ◌∙◌, length, replicate, ap, arith}
 use Rattle.std.proofs.lemmas.List.{length-replicate}
-use Rattle.glob.proofs.MaskRows.{AreMasks-none, written_back}
+use Rattle.glob.proofs.Masks.{AreMasks-none, written_back}
 use Rattle.glob.proofs.pattern.masks.masks_of.Goals as goal
 
 pub add_all-requires : goal.add_all-requires

@@ -1,6 +1,6 @@
 use Rattle.std.proofs.Common.{◌+◌, ◌<◌, length, ◌∙◌, ⊎_elim, arith, length-set}
 use Rattle.std.proofs.lemmas.Bool.{cases_eq}
-use Rattle.glob.proofs.Masks.{put-here, put-there}
+use Rattle.glob.proofs.PutBits.{put-here, put-there}
 use Rattle.glob.proofs.pattern.masks.paint.Goals as goal
 
 pub loop-c-preserved : goal.loop-c-preserved

@@ -1,5 +1,5 @@
 use Rattle.std.proofs.Common.{◌≡◌, ℕ, ◌+◌, ◌<◌, ◌≤◌, ◌↔◌, length, slice_index_or, IsTrue}
-use Rattle.glob.specs.Positions.{IsSet}
+use Rattle.glob.specs.Bits.{IsSet}
 use Rattle.glob.proofs.pattern.masks.paint.Given as goal
 
 abbrev pub invariant-loop-c : goal.invariant-loop-c

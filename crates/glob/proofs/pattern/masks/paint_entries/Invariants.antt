@@ -1,6 +1,6 @@
 use Rattle.std.proofs.Common.{◌≡◌, ℕ, ◌+◌, ◌<◌, ◌↔◌, true, length, take, slice_index_or}
 use Rattle.glob.specs.Brackets.{holds}
-use Rattle.glob.specs.Positions.{IsSet}
+use Rattle.glob.specs.Bits.{IsSet}
 use Rattle.glob.proofs.pattern.masks.paint_entries.Given as goal
 
 abbrev pub invariant-loop-n : goal.invariant-loop-n

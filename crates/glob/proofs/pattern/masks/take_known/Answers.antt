@@ -9,7 +9,7 @@ use Rattle.glob.specs.Options.{new_options}
 use Rattle.glob.specs.Masks.{is_bracket, is_kept}
 use Rattle.glob.specs.declared.grammar.Token.TheVariants.{Any}
 use Rattle.glob.proofs.SetBits.{IsSet-or, IsSet-and, IsSet-without}
-use Rattle.glob.proofs.MaskRows.{in_row-character}
+use Rattle.glob.proofs.Masks.{in_row-character}
 use Rattle.glob.proofs.KnownTakers.{unruled-kept, takes-with_case, takes-without_case, takes-beyond}
 use Rattle.glob.proofs.pattern.masks.take_known.Goals as goal
 

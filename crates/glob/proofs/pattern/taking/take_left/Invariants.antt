@@ -1,5 +1,5 @@
 use Rattle.std.proofs.Common.{ℕ, ◌+◌, ◌*◌, ◌<◌, ◌↔◌, IsTrue, slice_index_or}
-use Rattle.glob.specs.Positions.{IsSet}
+use Rattle.glob.specs.Bits.{IsSet}
 use Rattle.glob.specs.Taking.{takes}
 use Rattle.glob.specs.declared.grammar.Token.TheVariants.{Any}
 use Rattle.glob.proofs.pattern.taking.take_left.Given as goal
