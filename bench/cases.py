@@ -89,23 +89,21 @@ COMPILES = [Compile(10, 1_000_000), Compile(100, 100_000), Compile(10_000, 1_000
 
 @dataclass(frozen=True)
 class Filter:
-    """Runs the program with the lines as its standard input."""
+    """Runs the program with the lines of a file as its standard input: those that `of` says, or the paths."""
 
     pattern: str
     options: str = ""
+    of: str = ""
 
     def words(self):
         return ["match", *(f"-{letter}" for letter in self.options), self.pattern]
 
     def name(self):
-        return f"program `{self.pattern}`{said(self.options)}"
+        return f"program `{self.pattern}`{said(self.options)}{self.of}"
 
 
-FILTERS = [
-    Filter("*.rs"),
-    Filter("src/**/mod.rs"),
-    Filter("=never/*.rs"),
-    Filter("*"),
-    Filter("*readme*", "i"),
-    Filter("*/*/*.rs", "s"),
-]
+FILTERS = [Filter(case.pattern, case.options) for case in MATCHES]
+
+
+def hostile_filter(case):
+    return Filter(case.pattern(), "s", f", with `a` {case.letters} times and `/`")

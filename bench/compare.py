@@ -85,9 +85,14 @@ def match_row(case, lines):
     return Row(case, measure)
 
 
-def hostile_row(case, folder):
+def hostile_lines(case, folder):
     lines = folder / f"hostile-{case.letters}.txt"
     lines.write_text(case.text())
+    return lines
+
+
+def hostile_row(case, folder):
+    lines = hostile_lines(case, folder)
 
     def measure(side, programs):
         times = case.times if side == "ours" else 1
@@ -175,16 +180,19 @@ def main():
     rounds, share = int(sys.argv[2]), int(sys.argv[3])
     lines = folder / "paths.txt"
     sides = {name: Programs(folder / name) for name in ("ours", "original") if (folder / name).is_dir()}
-    filters = [filter_row(case, lines) for case in cases.FILTERS]
+    filters = [(filter_row(case, lines), lines) for case in cases.FILTERS]
+    for case in cases.HOSTILE:
+        of = hostile_lines(case, folder)
+        filters.append((filter_row(cases.hostile_filter(case), of), of))
     rows = [
         *(match_row(case, lines) for case in fewer(cases.MATCHES, share)),
         *(hostile_row(case, folder) for case in fewer(cases.HOSTILE, share)),
         *(compile_row(case) for case in fewer(cases.COMPILES, share)),
-        *filters,
+        *(row for row, _ in filters),
     ]
     growth = [hostile_row(case, folder) for case in fewer(cases.GROWTH, share)]
-    for row in filters:
-        compare_outputs(row, lines, folder, sides)
+    for row, of in filters:
+        compare_outputs(row, of, folder, sides)
     run_rounds(rows, sides, rounds, "side by side")
     run_rounds(growth, {"ours": sides["ours"]}, rounds, "ours alone")
     print_ratios(rows)

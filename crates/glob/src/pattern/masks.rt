@@ -63,6 +63,7 @@ pub fn take_known(
         let wild = masks[row + WILD] | masks[row + DEEP];
         return (asked & wild, asked & !wild);
     }
+    // The common case stands apart, so that a match tests its options once and not at each character.
     if options.case_sensitive
         && !options.require_literal_separator
         && !options.require_literal_leading_dot
