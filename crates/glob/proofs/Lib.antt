@@ -14,6 +14,7 @@ pub mod EscapedBytes
 pub mod EscapingLemmas
 pub mod Extending
 pub mod FilteredLines
+pub mod FirstPlaces
 pub mod FoldedMatching
 pub mod Folding
 pub mod Following

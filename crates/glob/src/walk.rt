@@ -1,3 +1,4 @@
+mod line_feeds;
 mod lines;
 mod watch;
 

@@ -8,6 +8,7 @@ ghost use Rattle.glob.specs.LineFaults.{IsRead, IsMemory, IsWrite};
 use crate::error::LineFault;
 use crate::options::MatchOptions;
 use crate::pattern::Pattern;
+use crate::walk::line_feeds::line_end;
 use crate::walk::watch::Watch;
 use std::alloc::{AllocError, Allocator};
 use std::io::{self, Read, Write};
@@ -161,13 +162,6 @@ fn split_line(bytes: &[u8]) -> (&[u8], &[u8])
         Some(end) => (&bytes[..end], &bytes[end + 1..]),
         None => (bytes, &[]),
     }
-}
-
-/// The place of the first line feed.
-fn line_end(bytes: &[u8]) -> Option<usize>
-    ensures { result ≡ position (λ b. b == line_feed) bytes.now }
-{
-    bytes.iter().position(|b| *b == b'\n')
 }
 
 /// Whether the line is text that the pattern matches.
