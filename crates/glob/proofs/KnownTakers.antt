@@ -1,14 +1,14 @@
 -- What the rows of masks tell of a token and a character.
 use Rattle.std.proofs.Common.{◌≡◌, ℕ, ◌<◌, ◌≤◌, ◌⊎◌, ◌↔◌, Bool, true, false, not, ◌||◌, ◌&&◌, ◌==◌, IsTrue, refl, sym, ap, ◌∙◌, inl, inr, ⊎_elim, arith}
-use Rattle.std.proofs.lemmas.Bool.{false≢true, or_left, or_right, or_cases, and_parts, and_from, eqb-true, eq-eqb, ne_eqb, not-true, not_from_false}
+use Rattle.std.proofs.lemmas.Bool.{false≢true, or_left, or_right, eqb-true, eq-eqb, ne_eqb, not-true, not_from_false}
 use Rattle.std.proofs.Math.Bool.{and-true, and-false, or-false}
 use Rattle.std.specs.Char.{to_ascii_lowercase, to_ascii_uppercase}
 use Rattle.glob.specs.Brackets.{same, holds}
 use Rattle.glob.specs.Characters.{slash, dot}
-use Rattle.glob.specs.Tokens.{Token}
+use Rattle.glob.specs.Tokens.{Token, is_deep}
 use Rattle.glob.specs.Taking.{takes, is_kept_separator, is_kept_dot}
 use Rattle.glob.specs.Options.{new_options}
-use Rattle.glob.specs.Masks.{is_wildcard, is_bound, is_bracket}
+use Rattle.glob.specs.Masks.{is_wild, is_bracket, is_kept}
 use Rattle.glob.specs.declared.options.MatchOptions.{MatchOptions}
 use Rattle.glob.specs.declared.grammar.Token.TheVariants.{Plain, Any, Run, Deep, Within, Except}
 use Rattle.glob.proofs.Case.{same-forms}
@@ -25,29 +25,26 @@ and_comm false true = refl
 and_comm false false = refl
 
 module _ (o : MatchOptions) (opening : Bool) (c : ℕ) where
-  -- a rule keeps the character from the token
-  abbrev pub is_kept : Token → Bool
-  is_kept t = (is_bound t && is_kept_separator o c) || ((is_wildcard t || is_bound t) && is_kept_dot o opening c)
+  -- what the dot rule keeps from wildcards, it keeps from all of them
+  pub kept-by_dot : is_kept_dot o opening c ≡ true → (t : Token) → IsTrue (is_kept o opening c t) ↔ (IsTrue (is_wild t) ⊎ IsTrue (is_bracket t) ⊎ IsTrue (is_deep t))
+  kept-by_dot is (Plain x) = (λ t. absurd (false≢true t), λ h. ⊎_elim (λ e. absurd (false≢true e)) (λ h. ⊎_elim (λ e. absurd (false≢true e)) (λ e. absurd (false≢true e)) h) h)
+  kept-by_dot is Any = (λ _. inl refl, λ _. or_right (is_kept_separator o c) _ is)
+  kept-by_dot is Run = (λ _. inl refl, λ _. or_right (is_kept_separator o c) _ is)
+  kept-by_dot is Deep = (λ _. inr (inr refl), λ _. is)
+  kept-by_dot is (Within e) = (λ _. inr (inl refl), λ _. or_right (is_kept_separator o c) _ is)
+  kept-by_dot is (Except e) = (λ _. inr (inl refl), λ _. or_right (is_kept_separator o c) _ is)
 
-  -- Where W says that the token is a wildcard, and B that the separator rule binds it: from which tokens a rule keeps the
-  -- character.
-  pub kept-from : (t : Token) (W B K : Type 0) → W ↔ IsTrue (is_wildcard t) → B ↔ IsTrue (is_bound t)
-      → K ↔ (((W ⊎ B) × IsTrue (is_kept_dot o opening c)) ⊎ (B × IsTrue (is_kept_separator o c)))
-      → K ↔ IsTrue (is_kept t)
-  kept-from t W B K wild bound kept = (
-    λ k. ⊎_elim
-        (λ (h, is). or_right (is_bound t && is_kept_separator o c) _ (and_from (is_wildcard t || is_bound t) _ (⊎_elim (λ w. or_left (is_wildcard t) _ (wild.0 w)) (λ b. or_right (is_wildcard t) _ (bound.0 b)) h) is))
-        (λ (b, is). or_left _ _ (and_from (is_bound t) _ (bound.0 b) is))
-        (kept.0 k),
-    λ is. ⊎_elim
-        (λ both. let (b, s) = and_parts (is_bound t) (is_kept_separator o c) both in kept.1 (inr (bound.1 b, s)))
-        (λ both. let (h, d) = and_parts (is_wildcard t || is_bound t) (is_kept_dot o opening c) both in
-        kept.1 (inl (⊎_elim (λ w. inl (wild.1 w)) (λ b. inr (bound.1 b)) (or_cases (is_wildcard t) (is_bound t) h), d)))
-        (or_cases (is_bound t && is_kept_separator o c) ((is_wildcard t || is_bound t) && is_kept_dot o opening c) is),
-  )
+  -- what the separator rule alone keeps, it keeps from all but `**`
+  pub kept-by_separator : is_kept_dot o opening c ≡ false → is_kept_separator o c ≡ true → (t : Token) → IsTrue (is_kept o opening c t) ↔ (IsTrue (is_wild t) ⊎ IsTrue (is_bracket t))
+  kept-by_separator off is (Plain x) = (λ t. absurd (false≢true t), λ h. ⊎_elim (λ e. absurd (false≢true e)) (λ e. absurd (false≢true e)) h)
+  kept-by_separator off is Any = (λ _. inl refl, λ _. or_left _ (is_kept_dot o opening c) is)
+  kept-by_separator off is Run = (λ _. inl refl, λ _. or_left _ (is_kept_dot o opening c) is)
+  kept-by_separator off is Deep = (λ t. absurd (false≢true (sym off ∙ t)), λ h. ⊎_elim (λ e. absurd (false≢true e)) (λ e. absurd (false≢true e)) h)
+  kept-by_separator off is (Within e) = (λ _. inr refl, λ _. or_left _ (is_kept_dot o opening c) is)
+  kept-by_separator off is (Except e) = (λ _. inr refl, λ _. or_left _ (is_kept_dot o opening c) is)
 
   -- what neither rule keeps
-  pub kept-by_none : is_kept_dot o opening c ≡ false → is_kept_separator o c ≡ false → (t : Token) → is_kept t ≡ false
+  pub kept-by_none : is_kept_dot o opening c ≡ false → is_kept_separator o c ≡ false → (t : Token) → is_kept o opening c t ≡ false
   kept-by_none off none (Plain x) = refl
   kept-by_none off none Any = rw (off, none) refl
   kept-by_none off none Run = rw (off, none) refl
@@ -55,8 +52,12 @@ module _ (o : MatchOptions) (opening : Bool) (c : ℕ) where
   kept-by_none off none (Within e) = rw (off, none) refl
   kept-by_none off none (Except e) = rw (off, none) refl
 
-  -- with case, a token takes what it takes without rules, but for what a rule keeps from it
-  pub takes-with_case : o.case_sensitive ≡ true → (t : Token) → takes o opening c t ≡ (takes new_options true c t && not (is_kept t))
+  -- and so where neither is in force
+  pub unruled-kept : o.require_literal_separator ≡ false → o.require_literal_leading_dot ≡ false → (t : Token) → is_kept o opening c t ≡ false
+  unruled-kept separator leading t = kept-by_none (rw leading refl) (rw separator refl) t
+
+  -- with case, a token takes the characters of its row that no rule keeps from it
+  pub takes-with_case : o.case_sensitive ≡ true → (t : Token) → takes o opening c t ≡ (takes new_options true c t && not (is_kept o opening c t))
   takes-with_case case (Plain x) = rw case (sym (and-true (same true c x)))
   takes-with_case case Any = neither (is_kept_separator o c) (is_kept_dot o opening c)
   takes-with_case case Run = neither (is_kept_separator o c) (is_kept_dot o opening c)
@@ -64,9 +65,9 @@ module _ (o : MatchOptions) (opening : Bool) (c : ℕ) where
   takes-with_case case (Within e) = rw case (ap (λ b. b && holds true c e) (neither (is_kept_separator o c) (is_kept_dot o opening c)) ∙ and_comm _ (holds true c e))
   takes-with_case case (Except e) = rw case (ap (λ b. b && not (holds true c e)) (neither (is_kept_separator o c) (is_kept_dot o opening c)) ∙ and_comm _ (not (holds true c e)))
 
-  -- without case, one that is no bracket takes those whose small or capital form it takes with case
+  -- without case, one that is no bracket takes those whose small or capital form is of its row
   pub takes-without_case : c < 128 → o.case_sensitive ≡ false → (t : Token) → is_bracket t ≡ false
-      → IsTrue (takes o opening c t) ↔ ((IsTrue (takes new_options true (to_ascii_lowercase c) t) ⊎ IsTrue (takes new_options true (to_ascii_uppercase c) t)) × (is_kept t ≡ false))
+      → IsTrue (takes o opening c t) ↔ ((IsTrue (takes new_options true (to_ascii_lowercase c) t) ⊎ IsTrue (takes new_options true (to_ascii_uppercase c) t)) × (is_kept o opening c t ≡ false))
   takes-without_case low case (Plain x) plain =
       let forms = same-forms c x low in
       let of : (d : ℕ) → IsTrue (takes new_options true d (Plain x)) ↔ (d ≡ x) = λ d. (λ t. eqb-true d x (sym (or-false (d == x)) ∙ t), λ e. or-false (d == x) ∙ eq-eqb d x e) in
@@ -92,10 +93,10 @@ module _ (o : MatchOptions) (opening : Bool) (c : ℕ) where
       (rw no_slash (and-false o.require_literal_separator), rw no_dot (and-false (o.require_literal_leading_dot && opening)))
 
   -- so that wildcards take it
-  pub takes-beyond : 128 ≤ c → (t : Token) → IsTrue (is_wildcard t) → IsTrue (takes o opening c t)
-  takes-beyond high (Plain x) h = absurd (false≢true h)
+  pub takes-beyond : 128 ≤ c → (t : Token) → IsTrue (is_wild t) ⊎ IsTrue (is_deep t) → IsTrue (takes o opening c t)
+  takes-beyond high (Plain x) h = ⊎_elim (λ e. absurd (false≢true e)) (λ e. absurd (false≢true e)) h
   takes-beyond high Any h = let none = kept-beyond high in rw (none.0, none.1) refl
   takes-beyond high Run h = let none = kept-beyond high in rw (none.0, none.1) refl
   takes-beyond high Deep h = let none = kept-beyond high in rw none.1 refl
-  takes-beyond high (Within e) h = absurd (false≢true h)
-  takes-beyond high (Except e) h = absurd (false≢true h)
+  takes-beyond high (Within e) h = ⊎_elim (λ e. absurd (false≢true e)) (λ e. absurd (false≢true e)) h
+  takes-beyond high (Except e) h = ⊎_elim (λ e. absurd (false≢true e)) (λ e. absurd (false≢true e)) h

@@ -1,45 +1,22 @@
 -- Which tokens are of which row of masks.
-use Rattle.std.proofs.Common.{◌≡◌, ℕ, suc, ◌+◌, ◌<◌, ◌≤◌, ◌⊎◌, ◌↔◌, ◌*◌, ◌/◌, ◌%◌, true, false, not, ◌&&◌, ◌==◌, nat_lt, IsTrue, List, length, get_or, replicate, take, drop, [], ◌++◌, refl, sym, ap, inl, inr, ◌∙◌, ⊎_elim, arith, bit_or}
+use Rattle.std.proofs.Common.{◌≡◌, ℕ, suc, ◌+◌, ◌<◌, ◌≤◌, ◌⊎◌, ◌↔◌, ◌*◌, ◌/◌, ◌%◌, true, false, ◌==◌, nat_lt, IsTrue, List, length, get_or, replicate, take, drop, [], ◌++◌, refl, sym, ap, inl, inr, ◌∙◌, ⊎_elim, arith}
 use Rattle.std.proofs.lemmas.List.{get_or-replicate, get_or_past, length-replicate, drop_all, take_all, append-nil}
-use Rattle.std.proofs.lemmas.Bool.{le-leb, eq-eqb, ne_eqb, cases_eq, cases_lt, cases_Bool, false≢true, not-true, not_from_false, and_parts, and_from}
-use Rattle.std.proofs.Math.Bool.{or-false, and-true}
+use Rattle.std.proofs.lemmas.Bool.{le-leb, eq-eqb, ne_eqb, cases_eq, cases_lt, false≢true}
+use Rattle.std.proofs.Math.Bool.{or-false}
 use Rattle.glob.specs.Tokens.{Token}
 use Rattle.glob.specs.Taking.{takes}
 use Rattle.glob.specs.Options.{new_options}
-use Rattle.glob.specs.Masks.{is_wildcard, in_row, AreMasks}
+use Rattle.glob.specs.Masks.{in_row, AreMasks}
 use Rattle.glob.specs.Bits.{IsSet}
-use Rattle.glob.proofs.SetBits.{IsSet-zero, IsSet-or}
-use Rattle.glob.specs.declared.grammar.Token.TheVariants.{Plain, Any, Run, Deep, Within, Except}
+use Rattle.glob.proofs.SetBits.{IsSet-zero}
+use Rattle.glob.specs.declared.grammar.Token.TheVariants.{Plain, Any}
 
 -- the row of a character
-in_row-character : (row : ℕ) (t : Token) → row < 128 → in_row row t ≡ (takes new_options true row t && not (is_wildcard t))
+pub in_row-character : (row : ℕ) (t : Token) → row < 128 → in_row row t ≡ takes new_options true row t
 in_row-character row t lt = let is : nat_lt row 128 ≡ true = le-leb (suc row) 128 lt in rw is refl
 
--- a token is of the row of a character that it takes, if it is no wildcard
-pub in_row-own : (c : ℕ) (t : Token) → c < 128 → IsTrue (in_row c t) ↔ (IsTrue (takes new_options true c t) × (is_wildcard t ≡ false))
-in_row-own c t low = (
-  λ own. let (taken, other) = and_parts (takes new_options true c t) (not (is_wildcard t)) (sym (in_row-character c t low) ∙ own) in (taken, not-true (is_wildcard t) other),
-  λ (taken, other). in_row-character c t low ∙ and_from (takes new_options true c t) _ taken (not_from_false (is_wildcard t) other),
-)
-
--- wildcards take every character, where no rule is in force
-wildcard-takes : (c : ℕ) (t : Token) → IsTrue (is_wildcard t) → IsTrue (takes new_options true c t)
-wildcard-takes c (Plain x) is = absurd (false≢true is)
-wildcard-takes c Any is = refl
-wildcard-takes c Run is = refl
-wildcard-takes c Deep is = refl
-wildcard-takes c (Within e) is = absurd (false≢true is)
-wildcard-takes c (Except e) is = absurd (false≢true is)
-
--- a token takes a character where it is of the row of wildcards or of the character's
-pub takes-in_row : (c : ℕ) (t : Token) → c < 128 → (IsTrue (in_row 128 t) ⊎ IsTrue (in_row c t)) ↔ IsTrue (takes new_options true c t)
-takes-in_row c t low = (
-  ⊎_elim (wildcard-takes c t) (λ own. ((in_row-own c t low).0 own).0),
-  λ taken. ⊎_elim inl (λ other. inr ((in_row-own c t low).1 (taken, other))) (cases_Bool (is_wildcard t)),
-)
-
 -- after the rows of characters come three
-pub row_cases : (row : ℕ) → row < 131 → (row < 128) ⊎ ((row ≡ 128) ⊎ ((row ≡ 129) ⊎ (row ≡ 130)))
+row_cases : (row : ℕ) → row < 131 → (row < 128) ⊎ ((row ≡ 128) ⊎ ((row ≡ 129) ⊎ (row ≡ 130)))
 row_cases row lt = ⊎_elim inl (λ le. inr (⊎_elim inl (λ ne. inr (⊎_elim inl (λ other. inr (omega arith)) (cases_eq row 129))) (cases_eq row 128))) (cases_lt row 128)
 
 -- no plain token is of a row after those of the characters
@@ -53,7 +30,7 @@ pub in_row-plain : (row c : ℕ) → row < 131 → IsTrue (in_row row (Plain c))
 in_row-plain row c lt =
     ⊎_elim
     (λ low.
-    let is : in_row row (Plain c) ≡ (row == c) = in_row-character row (Plain c) low ∙ (and-true (takes new_options true row (Plain c)) ∙ or-false (row == c)) in
+    let is : in_row row (Plain c) ≡ (row == c) = in_row-character row (Plain c) low ∙ or-false (row == c) in
     ⊎_elim
     (λ e. (λ _. (e, low), λ _. is ∙ eq-eqb row c e))
     (λ ne. (λ t. absurd (false≢true (sym (is ∙ ne_eqb row c ne) ∙ t)), λ (e, _). absurd (ne e)))
@@ -112,31 +89,3 @@ pub masked : (tokens : List Token) (masks : List ℕ) → AreMasks tokens (lengt
 masked tokens masks are word j room lt below row low =
     let h = are.row row word j low (omega arith) lt in
     (λ s. let (_, t) = h.0 s in t, λ t. h.1 (below, t))
-
--- the rows of wildcards and of a character tell which tokens take it, where no rule is in force
-pub takes-in_rows : (tokens : List Token) (masks : List ℕ) → AreMasks tokens (length tokens) masks → (word j c : ℕ) → 131 * word + 131 ≤ length masks → j < 64 → c < 128
-    → IsSet (bit_or (get_or masks (131 * word + 128) 0) (get_or masks (131 * word + c) 0)) j ↔ ((64 * word + j < length tokens) × IsTrue (takes new_options true c (get_or tokens (64 * word + j) Any)))
-takes-in_rows tokens masks are word j c room lt low =
-    let bits = IsSet-or (get_or masks (131 * word + 128) 0) (get_or masks (131 * word + c) 0) j in
-    let wild = are.row 128 word j (omega arith) (omega arith) lt in
-    let own = are.row c word j (omega arith) (omega arith) lt in
-    let tells = takes-in_row c (get_or tokens (64 * word + j) Any) low in (
-      λ s. ⊎_elim
-          (λ s. let (below, t) = wild.0 s in (below, tells.0 (inl t)))
-          (λ s. let (below, t) = own.0 s in (below, tells.0 (inr t)))
-          (bits.0 s),
-      λ (below, t). bits.1 (⊎_elim (λ t. inl (wild.1 (below, t))) (λ t. inr (own.1 (below, t))) (tells.1 t)),
-    )
-
--- of two characters, the rows of wildcards and of both tell which tokens take either
-pub takes-in_three_rows : (wild one other j : ℕ) → IsSet (bit_or wild (bit_or one other)) j ↔ (IsSet (bit_or wild one) j ⊎ IsSet (bit_or wild other) j)
-takes-in_three_rows wild one other j =
-    let all = IsSet-or wild (bit_or one other) j in
-    let two = IsSet-or one other j in
-    let first = IsSet-or wild one j in
-    let second = IsSet-or wild other j in (
-      λ s. ⊎_elim (λ w. inl (first.1 (inl w))) (λ s. ⊎_elim (λ o. inl (first.1 (inr o))) (λ o. inr (second.1 (inr o))) (two.0 s)) (all.0 s),
-      ⊎_elim
-          (λ s. all.1 (⊎_elim inl (λ o. inr (two.1 (inl o))) (first.0 s)))
-          (λ s. all.1 (⊎_elim inl (λ o. inr (two.1 (inr o))) (second.0 s))),
-    )

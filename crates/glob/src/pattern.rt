@@ -121,27 +121,13 @@ impl<A: Allocator + Copy> Pattern<A> {
         ensures answer { IfOk result (λ yes. IsTrue yes ↔ Matches new_options (chars self.now) (chars str.now)) }
         ensures short { IsShort (chars self.now) → IsOk result }
     {
-        Ok(self.matches_counted(str, MatchOptions::new())?.0)
+        self.matches_with(str, MatchOptions::new())
     }
 
     /// Whether the pattern matches the whole text: whether the text splits into one allowed piece for each token.
     ///
     /// An error says that there was no memory, which no pattern of at most 63 tokens needs.
     pub fn matches_with(&self, str: &str, options: MatchOptions) -> Result<bool, AllocError>
-        ensures answer { IfOk result (λ yes. IsTrue yes ↔ Matches options (chars self.now) (chars str.now)) }
-        ensures short { IsShort (chars self.now) → IsOk result }
-    {
-        if options == MatchOptions::new() {
-            self.matches(str)
-        } else {
-            self.matches_under(str, options)
-        }
-    }
-
-    /// [`matches_with`](Self::matches_with) under any options. It stands apart, and is not inlined, so that the compiler
-    /// leaves out all questions about the options where `matches_with` goes to [`matches`](Self::matches).
-    #[inline(never)]
-    fn matches_under(&self, str: &str, options: MatchOptions) -> Result<bool, AllocError>
         ensures answer { IfOk result (λ yes. IsTrue yes ↔ Matches options (chars self.now) (chars str.now)) }
         ensures short { IsShort (chars self.now) → IsOk result }
     {
@@ -162,12 +148,7 @@ impl<A: Allocator + Copy> Pattern<A> {
         ensures least { IfOk result (λ told. IsTrue told.0 → length (chars str.now) ≤ told.1) }
         ensures short { IsShort (chars self.now) → IsOk result }
     {
-        let mut judge = TextJudge::new(
-            self.tokens.as_slice(),
-            self.masks.as_slice(),
-            str,
-            &options,
-        );
+        let mut judge = TextJudge::new(self.tokens.as_slice(), self.masks.as_slice(), str, options);
         let answer = matcher::run_positions(self.alloc, self.shapes.as_slice(), &mut judge)?;
         Ok((answer, judge.asked()))
     }

@@ -1,4 +1,4 @@
-ghost use Rattle.std.specs.Prelude.{◌≡◌, ℕ, ◌+◌, ◌*◌, ◌^◌, ◌<◌, ◌≤◌, ◌⊎◌, ◌↔◌, List, length, min, slice_index_or, IsTrue, bit_and, bit_or};
+ghost use Rattle.std.specs.Prelude.{◌≡◌, ℕ, ◌+◌, ◌^◌, ◌<◌, ◌≤◌, ◌⊎◌, ◌↔◌, List, length, min, IsTrue};
 ghost use Rattle.glob.specs.Splits.{Table};
 ghost use Rattle.glob.specs.Leading.{LeadingSplit};
 ghost use Rattle.glob.specs.Bits.{IsSet};

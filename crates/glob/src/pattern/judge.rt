@@ -1,4 +1,4 @@
-ghost use Rattle.std.specs.Prelude.{◌≡◌, ◌-◌, ◌<◌, length, chars};
+ghost use Rattle.std.specs.Prelude.{◌≡◌, length, chars};
 ghost use Rattle.std.specs.Str.Iter.{chars_rest};
 ghost use Rattle.glob.specs.Stepping.{StandsBefore, place_before};
 ghost use Rattle.glob.specs.TextTable.{table_of};
@@ -19,8 +19,6 @@ pub struct TextJudge<'a, A: Allocator> {
     tokens: &'a [Token<Class<A>>],
     masks: &'a [u64],
     options: MatchOptions,
-    // the same, for what is seldom called: so that those above stay in registers
-    given: &'a MatchOptions,
     text: &'a str,
     rest: Chars<'a>,
     // the character last stepped onto, and whether its place opens
@@ -29,7 +27,6 @@ pub struct TextJudge<'a, A: Allocator> {
     // whether the place after it opens
     opens: bool,
     count: u128,
-    ghost given_is: { given.now ≡ options },
     ghost masked: { AreMasks tokens.now (length tokens.now) masks.now },
     ghost stands: { StandsBefore (chars text.now) (chars (chars_rest rest)) current opened opens },
 }
@@ -41,20 +38,19 @@ impl<'a, A: Allocator> TextJudge<'a, A> {
         tokens: &'a [Token<Class<A>>],
         masks: &'a [u64],
         text: &'a str,
-        options: &'a MatchOptions,
+        options: MatchOptions,
     ) -> Self
         requires { AreMasks tokens.now (length tokens.now) masks.now }
         ensures tokens { result.tokens.now ≡ tokens.now }
         ensures text { result.text.now ≡ text.now }
-        ensures options { result.options ≡ options.now }
+        ensures options { result.options ≡ options }
         ensures count { result.count ≡ 0 }
         ensures start { place_before (chars text.now) (chars (chars_rest result.rest)) ≡ 0 }
     {
         TextJudge {
             tokens,
             masks,
-            options: MatchOptions { ..*options },
-            given: options,
+            options,
             text,
             rest: text.chars(),
             current: '/',
@@ -119,7 +115,7 @@ impl<A: Allocator> Judge for TextJudge<'_, A> {
             self.tokens,
             word,
             left,
-            self.given,
+            self.options,
             self.opened,
             self.current,
         )

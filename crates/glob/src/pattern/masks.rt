@@ -1,25 +1,23 @@
-//! Masks: for each 64 tokens, which plain ones and brackets take each character of ASCII, and which are wildcards or
-//! brackets.
+//! Masks: for each 64 tokens, which of them take each character of ASCII, and which are wildcards or brackets.
 ghost use Rattle.std.specs.Prelude.{◌≡◌, ℕ, ◌+◌, ◌*◌, ◌/◌, ◌%◌, ◌<◌, ◌≤◌, ◌≢◌, ◌⊎◌, ◌↔◌, true, false, List, length, slice_index_or, IsTrue, IfOk};
-ghost use Rattle.glob.specs.Brackets.{holds, entry_holds};
+ghost use Rattle.glob.specs.Brackets.{holds};
 ghost use Rattle.glob.specs.Bits.{IsSet};
-ghost use Rattle.glob.specs.Taking.{takes, is_kept_dot, is_kept_separator};
+ghost use Rattle.glob.specs.Taking.{takes};
 ghost use Rattle.glob.specs.Tokens.{Token as Kept};
 ghost use Rattle.glob.specs.declared.grammar.Token.TheVariants.{Any};
-ghost use Rattle.glob.specs.Masks as rows;
-ghost use Rattle.glob.specs.Masks.{in_row, AreMasks};
+ghost use Rattle.glob.specs.Masks.{in_row, is_kept, AreMasks};
 
 use crate::class::{Class, Entry};
 use crate::grammar::Token;
 use crate::options::MatchOptions;
-use crate::pattern::taking::{is_kept_dot, is_kept_separator};
+use crate::pattern::taking::is_kept_dot;
 use std::alloc::{AllocError, Allocator};
 
-/// The row of `?`, `*` and `**`, after a row for each character of ASCII.
+/// The row of `?` and `*`, after a row for each character of ASCII.
 const WILD: usize = 128;
 
-/// The row of `?`, `*` and brackets, which the separator rule binds.
-const BOUND: usize = 129;
+/// The row of `**`.
+const DEEP: usize = 129;
 
 /// The row of brackets.
 const BRACKETS: usize = 130;
@@ -61,31 +59,43 @@ pub fn take_known(
         → IsSet asked j → IsTrue (takes options opening c (slice_index_or tokens (64 * word + j) Any)) → IsSet result.0 j ⊎ IsSet result.1 j }
 {
     let row = ROWS * word;
-    let wild = masks[row + WILD];
     if !c.is_ascii() {
+        let wild = masks[row + WILD] | masks[row + DEEP];
         return (asked & wild, asked & !wild);
     }
-    let free = asked & !kept(wild, masks[row + BOUND], options, opening, c);
+    // The common case stands apart, so that a match tests its options once and not at each character.
+    if options.case_sensitive
+        && !options.require_literal_separator
+        && !options.require_literal_leading_dot
+    {
+        return (asked & masks[row + c as usize], 0);
+    }
+    let free = !kept(masks, word, options, opening, c);
     if options.case_sensitive {
-        return (free & (wild | masks[row + c as usize]), 0);
+        return (asked & free & masks[row + c as usize], 0);
     }
     let brackets = masks[row + BRACKETS];
     let same = masks[row + c.to_ascii_lowercase() as usize]
         | masks[row + c.to_ascii_uppercase() as usize];
-    (free & (wild | same) & !brackets, asked & brackets)
+    (asked & free & same & !brackets, asked & brackets)
 }
 
-/// The tokens of a word that a rule keeps from the character, of those that are wildcards and those that the separator
-/// rule binds.
+/// The tokens of a word that a rule keeps from the character.
 #[inline(always)]
-fn kept(wild: u64, bound: u64, options: MatchOptions, opening: bool, c: char) -> u64
-    ensures { (j : ℕ) → IsSet result j
-        ↔ (((IsSet wild j ⊎ IsSet bound j) × IsTrue (is_kept_dot options opening c)) ⊎ (IsSet bound j × IsTrue (is_kept_separator options c))) }
+fn kept(masks: &[u64], word: usize, options: MatchOptions, opening: bool, c: char) -> u64
+    requires { 131 * word + 131 ≤ length masks.now }
+    ensures { (tokens : List Kept) → AreMasks tokens (length tokens) masks.now → (j : ℕ) → j < 64 → 64 * word + j < length tokens
+        → IsSet result j ↔ IsTrue (is_kept options opening c (slice_index_or tokens (64 * word + j) Any)) }
 {
+    if !options.require_literal_separator && !options.require_literal_leading_dot {
+        return 0;
+    }
+    let row = ROWS * word;
+    let wild = masks[row + WILD] | masks[row + BRACKETS];
     if is_kept_dot(options, opening, c) {
-        wild | bound
-    } else if is_kept_separator(options, c) {
-        bound
+        wild | masks[row + DEEP]
+    } else if options.require_literal_separator && c == '/' {
+        wild
     } else {
         0
     }
@@ -113,51 +123,24 @@ fn add<A: Allocator>(masks: &mut [u64], n: usize, token: &Token<Class<A>>)
 {
     let first = ROWS * (n / 64);
     let bit = n % 64;
-    paint_token(masks, first, bit, token);
-    put(masks, first + WILD, bit, is_wildcard(token));
-    put(masks, first + BOUND, bit, is_bound(token));
-    put(masks, first + BRACKETS, bit, is_bracket(token));
-}
-
-/// Whether the token is `?`, `*` or `**`.
-fn is_wildcard<A: Allocator>(token: &Token<Class<A>>) -> bool
-    ensures { result ≡ rows.is_wildcard token.now }
-{
-    matches!(token, Token::Any | Token::Run | Token::Deep)
-}
-
-/// Whether the token is a bracket.
-fn is_bracket<A: Allocator>(token: &Token<Class<A>>) -> bool
-    ensures { result ≡ rows.is_bracket token.now }
-{
-    matches!(token, Token::Within(_) | Token::Except(_))
-}
-
-/// Whether the separator rule binds the token.
-fn is_bound<A: Allocator>(token: &Token<Class<A>>) -> bool
-    ensures { result ≡ rows.is_bound token.now }
-{
-    matches!(token, Token::Any | Token::Run) || is_bracket(token)
-}
-
-/// Sets the bit in the rows of the characters of ASCII that a plain token or a bracket takes with case, where it is in
-/// none of them yet.
-fn paint_token<A: Allocator>(masks: &mut [u64], first: usize, bit: usize, token: &Token<Class<A>>)
-    requires room { first + 128 ≤ length masks.old }
-    requires bit { bit < 64 }
-    requires clear { (c : ℕ) → c < 128 → IsSet (slice_index_or masks.old (first + c) 0) bit → ⊥ }
-    ensures length { length masks.new ≡ length masks.old }
-    ensures painted { (c : ℕ) → c < 128 → IsSet (slice_index_or masks.new (first + c) 0) bit ↔ IsTrue (in_row c token.now) }
-    ensures others { (i j : ℕ) → j < 64 → (j ≡ bit → (c : ℕ) → c < 128 → i ≡ first + c → ⊥)
-        → IsSet (slice_index_or masks.new i 0) j ↔ IsSet (slice_index_or masks.old i 0) j }
-{
     match token {
         Token::Plain(c) => paint(masks, first, bit, *c, *c, true),
-        Token::Any | Token::Run | Token::Deep => {}
-        Token::Within(class) => paint_entries(masks, first, bit, class.entries(), true),
+        Token::Any | Token::Run => {
+            paint(masks, first, bit, '\0', '\u{7f}', true);
+            masks[first + WILD] = put_bit(masks[first + WILD], bit, true);
+        }
+        Token::Deep => {
+            paint(masks, first, bit, '\0', '\u{7f}', true);
+            masks[first + DEEP] = put_bit(masks[first + DEEP], bit, true);
+        }
+        Token::Within(class) => {
+            paint_entries(masks, first, bit, class.entries(), true);
+            masks[first + BRACKETS] = put_bit(masks[first + BRACKETS], bit, true);
+        }
         Token::Except(class) => {
             paint(masks, first, bit, '\0', '\u{7f}', true);
             paint_entries(masks, first, bit, class.entries(), false);
+            masks[first + BRACKETS] = put_bit(masks[first + BRACKETS], bit, true);
         }
     }
 }
@@ -189,20 +172,8 @@ fn paint(masks: &mut [u64], first: usize, bit: usize, low: char, high: char, on:
 {
     let end = (high as usize + 1).min(128);
     for c in low as usize..end {
-        put(masks, first + c, bit, on);
+        masks[first + c] = put_bit(masks[first + c], bit, on);
     }
-}
-
-/// Sets the bit of a word to `on`.
-fn put(masks: &mut [u64], at: usize, bit: usize, on: bool)
-    requires at { at < length masks.old }
-    requires bit { bit < 64 }
-    ensures length { length masks.new ≡ length masks.old }
-    ensures here { IsSet (slice_index_or masks.new at 0) bit ↔ IsTrue on }
-    ensures others { (i j : ℕ) → j < 64 → (j ≡ bit → i ≡ at → ⊥)
-        → IsSet (slice_index_or masks.new i 0) j ↔ IsSet (slice_index_or masks.old i 0) j }
-{
-    masks[at] = put_bit(masks[at], bit, on);
 }
 
 /// The word with the bit set to `on`.

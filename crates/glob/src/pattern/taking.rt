@@ -34,15 +34,7 @@ pub fn takes<A: Allocator>(
 fn is_free(options: MatchOptions, opening: bool, c: char) -> bool
     ensures { result ≡ taking.is_free options opening c }
 {
-    !is_kept_separator(options, c) && !is_kept_dot(options, opening, c)
-}
-
-/// Whether the separator rule keeps the character from wildcards other than `**`.
-#[inline(always)]
-pub fn is_kept_separator(options: MatchOptions, c: char) -> bool
-    ensures { result ≡ taking.is_kept_separator options c }
-{
-    options.require_literal_separator && c == '/'
+    !(options.require_literal_separator && c == '/') && !is_kept_dot(options, opening, c)
 }
 
 /// Whether the dot rule keeps the character from wildcards.
@@ -60,20 +52,20 @@ pub fn take_left<A: Allocator>(
     tokens: &[Token<Class<A>>],
     word: usize,
     asked: u64,
-    options: &MatchOptions,
+    options: MatchOptions,
     opening: bool,
     c: char,
 ) -> u64
     requires within { 64 * word + 64 ≤ 2 ^ 64 }
     requires tokens { (j : ℕ) → IsSet asked j → 64 * word + j < length tokens.now }
     ensures { (j : ℕ) → j < 64
-        → IsSet result j ↔ (IsSet asked j × IsTrue (taking.takes options.now opening c (slice_index_or tokens.now (64 * word + j) Any))) }
+        → IsSet result j ↔ (IsSet asked j × IsTrue (taking.takes options opening c (slice_index_or tokens.now (64 * word + j) Any))) }
 {
     let mut left = asked;
     let mut took = 0u64;
     while left != 0 {
         let bit = left.trailing_zeros();
-        if takes(&tokens[64 * word + bit as usize], *options, opening, c) {
+        if takes(&tokens[64 * word + bit as usize], options, opening, c) {
             took |= 1 << bit;
         }
         left &= left - 1;

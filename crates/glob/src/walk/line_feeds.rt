@@ -14,9 +14,9 @@ pub fn line_end(bytes: &[u8]) -> Option<usize>
 {
     let mut start = 0;
     while bytes.len() - start >= LANES {
-        let others = others_at(bytes, start);
-        if others < LANES {
-            return Some(start + others);
+        let before = before_feed(bytes, start);
+        if before < LANES {
+            return Some(start + before);
         }
         start += LANES;
     }
@@ -24,9 +24,9 @@ pub fn line_end(bytes: &[u8]) -> Option<usize>
     Some(start + rest)
 }
 
-/// How many of the sixteen bytes from `start` on stand before the first line feed among them.
+/// How many of the sixteen bytes from `start` on stand before the first line feed among them: sixteen where there is none.
 #[inline(always)]
-fn others_at(bytes: &[u8], start: usize) -> usize
+fn before_feed(bytes: &[u8], start: usize) -> usize
     requires { start + 16 ≤ length bytes.now }
     ensures { result ≡ position_or_len (λ b. b == line_feed) (take 16 (drop start bytes.now)) }
 {

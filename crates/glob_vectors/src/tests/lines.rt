@@ -13,6 +13,13 @@ fn matching_lines_are_copied(rt: HostRuntime) -> Result<(), Fail> {
         ("*", "", "", 0),
         ("a?", "ab", "ab\n", 1),
         ("*", "ab\nc\n", "ab\nc\n", 2),
+        // Lines of 15, 16, 17, 0 and 33 bytes, and one without a line feed.
+        (
+            "*a",
+            "abcdefghijklmna\nabcdefghijklmnoa\nabcdefghijklmnopa\n\nabcdefghijklmnopqrstuvwxyz012345a\nxa",
+            "abcdefghijklmna\nabcdefghijklmnoa\nabcdefghijklmnopa\nabcdefghijklmnopqrstuvwxyz012345a\nxa\n",
+            5,
+        ),
     ];
     for (text, input, output, count) in rows {
         for most in [1, 3, 100] {

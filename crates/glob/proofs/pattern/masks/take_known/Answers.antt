@@ -1,13 +1,16 @@
-use Rattle.std.proofs.Common.{◌≡◌, ◌+◌, ◌*◌, ◌<◌, ◌≤◌, ◌^◌, false, get_or, bit_and, bit_or, sym, ◌∙◌, inl, inr, ⊎_elim, arith}
+use Rattle.std.proofs.Common.{◌≡◌, ◌+◌, ◌*◌, ◌<◌, ◌≤◌, ◌^◌, true, false, length, get_or, bit_and, bit_or, IsTrue, sym, ◌∙◌, inl, inr, ⊎_elim, arith}
 use Rattle.std.proofs.lemmas.Bool.{false≢true, false_from_ne_true, ltb-true, ltb-false, cases_eq, and_parts, and_from, not-true, not_from_false}
+use Rattle.std.proofs.lemmas.Nat.{or_lt}
 use Rattle.std.proofs.lemmas.Str.Ascii.{lowercase_ascii, uppercase_ascii}
 use Rattle.std.specs.Char.{to_ascii_lowercase, to_ascii_uppercase}
 use Rattle.std.specs.Int.{bit_at, bit_not, w64}
-use Rattle.glob.specs.Masks.{is_bracket}
+use Rattle.glob.specs.Taking.{takes}
+use Rattle.glob.specs.Options.{new_options}
+use Rattle.glob.specs.Masks.{is_bracket, is_kept}
 use Rattle.glob.specs.declared.grammar.Token.TheVariants.{Any}
-use Rattle.glob.proofs.SetBits.{IsSet-and, IsSet-without}
-use Rattle.glob.proofs.Masks.{masked, takes-in_rows, takes-in_three_rows}
-use Rattle.glob.proofs.KnownTakers.{is_kept, kept-from, takes-with_case, takes-without_case, takes-beyond}
+use Rattle.glob.proofs.SetBits.{IsSet-or, IsSet-and, IsSet-without}
+use Rattle.glob.proofs.Masks.{in_row-character}
+use Rattle.glob.proofs.KnownTakers.{unruled-kept, takes-with_case, takes-without_case, takes-beyond}
 use Rattle.glob.proofs.pattern.masks.take_known.Goals as goal
 
 pub returns-then-not-is_ascii-clause-left : goal.returns-then-not-is_ascii-clause-left
@@ -15,46 +18,69 @@ returns-then-not-is_ascii-clause-left c = λ j s. ((IsSet-and c.args.asked _ j).
 
 pub returns-then-not-is_ascii-clause-taken : goal.returns-then-not-is_ascii-clause-taken
 returns-then-not-is_ascii-clause-taken c = λ tokens are j lt s.
+    let masks = c.args.masks.now in
+    let word = c.args.word in
     let high : 128 ≤ c.args.c = ltb-false c.args.c 128 (sym c.is_ascii.ensures ∙ c.if-not-is_ascii.true) in
-    let both = (IsSet-and c.args.asked (get_or c.args.masks.now (131 * c.args.word + 128) 0) j).0 s in
-    let wild = are.row 128 c.args.word j (omega arith) (omega (arith, c.requires)) lt in
-    (both.0, takes-beyond c.args.options c.args.opening c.args.c high _ (wild.0 both.1).1)
+    let both = (IsSet-and c.args.asked (bit_or (get_or masks (131 * word + 128) 0) (get_or masks (131 * word + 129) 0)) j).0 s in
+    let wild = are.row 128 word j (omega arith) (omega (arith, c.requires)) lt in
+    let deep = are.row 129 word j (omega arith) (omega (arith, c.requires)) lt in
+    (both.0, takes-beyond c.args.options c.args.opening c.args.c high _ (⊎_elim (λ w. inl (wild.0 w).1) (λ d. inr (deep.0 d).1) ((IsSet-or (get_or masks (131 * word + 128) 0) (get_or masks (131 * word + 129) 0) j).0 both.1)))
 
 pub returns-then-not-is_ascii-clause-all : goal.returns-then-not-is_ascii-clause-all
 returns-then-not-is_ascii-clause-all c = λ tokens are j lt below asked takes.
-    let wild = get_or c.args.masks.now (131 * c.args.word + 128) 0 in
-    let fits : wild < 2 ^ 64 = omega (arith, c.type_inv.masks (131 * c.args.word + 128)) in
+    let masks = c.args.masks.now in
+    let wild = bit_or (get_or masks (131 * c.args.word + 128) 0) (get_or masks (131 * c.args.word + 129) 0) in
+    let wild_fits : get_or masks (131 * c.args.word + 128) 0 < 2 ^ 64 = omega (arith, c.type_inv.masks (131 * c.args.word + 128)) in
+    let deep_fits : get_or masks (131 * c.args.word + 129) 0 < 2 ^ 64 = omega (arith, c.type_inv.masks (131 * c.args.word + 129)) in
+    let fits : wild < 2 ^ 64 = or_lt 64 _ _ wild_fits deep_fits in
     ⊎_elim (λ s. inl ((IsSet-and c.args.asked wild j).1 (asked, s))) (λ none. inr ((IsSet-without c.args.asked wild j fits lt).1 (asked, none))) (cases_eq (bit_at wild j) 1)
 
-pub returns-then-options-clause-taken : goal.returns-then-options-clause-taken
-returns-then-options-clause-taken c = λ tokens are j lt s.
-    let masks = c.args.masks.now in
+pub returns-then-not-options-2-clause-taken : goal.returns-then-not-options-2-clause-taken
+returns-then-not-options-2-clause-taken c = λ tokens are j lt s.
     let word = c.args.word in
     let low : c.args.c < 128 = ltb-true c.args.c 128 (sym c.is_ascii.ensures ∙ c.if-not-is_ascii.false) in
-    let kept_fits : c.kept.result < 2 ^ 64 = omega arith in
-    let takers = bit_or (get_or masks (131 * word + 128) 0) (get_or masks (131 * word + c.args.c) 0) in
-    let both = (IsSet-and (bit_and c.args.asked (bit_not w64 c.kept.result)) takers j).0 s in
-    let free = (IsSet-without c.args.asked c.kept.result j kept_fits lt).0 both.0 in
-    let (below, taker) = (takes-in_rows tokens masks are word j c.args.c c.requires lt low).0 both.1 in
+    let both = (IsSet-and c.args.asked (get_or c.args.masks.now (131 * word + c.args.c) 0) j).0 s in
+    let row = (are.row c.args.c word j (omega arith) (omega (arith, c.requires)) lt).0 both.1 in
     let token = get_or tokens (64 * word + j) Any in
-    let row = masked tokens masks are word j c.requires lt below in
-    let kept = kept-from c.args.options c.args.opening c.args.c token _ _ _ (row 128 (omega arith)) (row 129 (omega arith)) (c.kept.ensures j) in
-    let none : is_kept c.args.options c.args.opening c.args.c token ≡ false = false_from_ne_true _ (λ t. free.1 (kept.1 t)) in
-    (free.0, takes-with_case c.args.options c.args.opening c.args.c c.if-options.true token ∙ and_from _ _ taker (not_from_false _ none))
+    let none = unruled-kept c.args.options c.args.opening c.args.c (not-true _ c.if-not-options.true) (not-true _ c.if-not-options-2.true) token in
+    (both.0, takes-with_case c.args.options c.args.opening c.args.c c.if-options.true token ∙ and_from _ _ (sym (in_row-character c.args.c token low) ∙ row.1) (not_from_false _ none))
 
-pub returns-then-options-clause-all : goal.returns-then-options-clause-all
-returns-then-options-clause-all c = λ tokens are j lt below asked takes.
-    let masks = c.args.masks.now in
+pub returns-then-not-options-2-clause-all : goal.returns-then-not-options-2-clause-all
+returns-then-not-options-2-clause-all c = λ tokens are j lt below asked takes.
     let word = c.args.word in
     let low : c.args.c < 128 = ltb-true c.args.c 128 (sym c.is_ascii.ensures ∙ c.if-not-is_ascii.false) in
-    let kept_fits : c.kept.result < 2 ^ 64 = omega arith in
     let token = get_or tokens (64 * word + j) Any in
     let parts = and_parts _ _ (sym (takes-with_case c.args.options c.args.opening c.args.c c.if-options.true token) ∙ takes) in
-    let row = masked tokens masks are word j c.requires lt below in
-    let kept = kept-from c.args.options c.args.opening c.args.c token _ _ _ (row 128 (omega arith)) (row 129 (omega arith)) (c.kept.ensures j) in
-    let taker = (takes-in_rows tokens masks are word j c.args.c c.requires lt low).1 (below, parts.0) in
-    let free = (IsSet-without c.args.asked c.kept.result j kept_fits lt).1 (asked, λ s. false≢true (sym (not-true _ parts.1) ∙ kept.0 s)) in
-    inl ((IsSet-and (bit_and c.args.asked (bit_not w64 c.kept.result)) _ j).1 (free, taker))
+    let row = (are.row c.args.c word j (omega arith) (omega (arith, c.requires)) lt).1 (below, in_row-character c.args.c token low ∙ parts.0) in
+    inl ((IsSet-and c.args.asked (get_or c.args.masks.now (131 * word + c.args.c) 0) j).1 (asked, row))
+
+pub returns-then-options-2-clause-taken : goal.returns-then-options-2-clause-taken
+returns-then-options-2-clause-taken c = λ tokens are j lt s.
+    let masks = c.args.masks.now in
+    let word = c.args.word in
+    let low : c.args.c < 128 = ltb-true c.args.c 128 (sym c.is_ascii.ensures ∙ c.if-not-is_ascii.false) in
+    let kept_fits : c.kept-free.result < 2 ^ 64 = omega arith in
+    let both = (IsSet-and (bit_and c.args.asked (bit_not w64 c.kept-free.result)) (get_or masks (131 * word + c.args.c) 0) j).0 s in
+    let free = (IsSet-without c.args.asked c.kept-free.result j kept_fits lt).0 both.0 in
+    let row = (are.row c.args.c word j (omega arith) (omega (arith, c.requires)) lt).0 both.1 in
+    let token = get_or tokens (64 * word + j) Any in
+    let kept = c.kept-free.ensures tokens are j lt row.0 in
+    let taker : IsTrue (takes new_options true c.args.c token) = sym (in_row-character c.args.c token low) ∙ row.1 in
+    let none : is_kept c.args.options c.args.opening c.args.c token ≡ false = false_from_ne_true _ (λ t. free.1 (kept.1 t)) in
+    (free.0, takes-with_case c.args.options c.args.opening c.args.c c.if-options-2.true token ∙ and_from _ _ taker (not_from_false _ none))
+
+pub returns-then-options-2-clause-all : goal.returns-then-options-2-clause-all
+returns-then-options-2-clause-all c = λ tokens are j lt below asked takes.
+    let masks = c.args.masks.now in
+    let word = c.args.word in
+    let low : c.args.c < 128 = ltb-true c.args.c 128 (sym c.is_ascii.ensures ∙ c.if-not-is_ascii.false) in
+    let kept_fits : c.kept-free.result < 2 ^ 64 = omega arith in
+    let token = get_or tokens (64 * word + j) Any in
+    let parts = and_parts _ _ (sym (takes-with_case c.args.options c.args.opening c.args.c c.if-options-2.true token) ∙ takes) in
+    let kept = c.kept-free.ensures tokens are j lt below in
+    let row = (are.row c.args.c word j (omega arith) (omega (arith, c.requires)) lt).1 (below, in_row-character c.args.c token low ∙ parts.0) in
+    let free = (IsSet-without c.args.asked c.kept-free.result j kept_fits lt).1 (asked, λ s. false≢true (sym (not-true _ parts.1) ∙ kept.0 s)) in
+    inl ((IsSet-and (bit_and c.args.asked (bit_not w64 c.kept-free.result)) (get_or masks (131 * word + c.args.c) 0) j).1 (free, row))
 
 pub returns-clause-left : goal.returns-clause-left
 returns-clause-left c = λ j s. ((IsSet-and c.args.asked _ j).0 s).0
@@ -64,30 +90,28 @@ returns-clause-taken c = λ tokens are j lt s.
     let masks = c.args.masks.now in
     let word = c.args.word in
     let low : c.args.c < 128 = ltb-true c.args.c 128 (sym c.is_ascii.ensures ∙ c.if-not-is_ascii.false) in
-    let lower = to_ascii_lowercase c.args.c in
-    let upper = to_ascii_uppercase c.args.c in
+    let small : to_ascii_lowercase c.args.c < 128 = lowercase_ascii c.args.c low in
+    let great : to_ascii_uppercase c.args.c < 128 = uppercase_ascii c.args.c low in
     let brackets = get_or masks (131 * word + 130) 0 in
     let brackets_fit : brackets < 2 ^ 64 = omega (arith, c.type_inv.masks (131 * word + 130)) in
-    let kept_fits : c.kept.result < 2 ^ 64 = omega arith in
+    let kept_fits : c.kept-free.result < 2 ^ 64 = omega arith in
     let s = rw (c.to_ascii_lowercase.ensures.value, c.to_ascii_uppercase.ensures.value) at s in
-    let wild = get_or masks (131 * word + 128) 0 in
-    let forms = bit_or wild (bit_or (get_or masks (131 * word + lower) 0) (get_or masks (131 * word + upper) 0)) in
-    let plain = (IsSet-without (bit_and (bit_and c.args.asked (bit_not w64 c.kept.result)) forms) brackets j brackets_fit lt).0 s in
-    let both = (IsSet-and (bit_and c.args.asked (bit_not w64 c.kept.result)) forms j).0 plain.0 in
-    let free = (IsSet-without c.args.asked c.kept.result j kept_fits lt).0 both.0 in
-    let one = (takes-in_three_rows wild (get_or masks (131 * word + lower) 0) (get_or masks (131 * word + upper) 0) j).0 both.1 in
-    let row_lower = takes-in_rows tokens masks are word j lower c.requires lt (lowercase_ascii c.args.c low) in
-    let row_upper = takes-in_rows tokens masks are word j upper c.requires lt (uppercase_ascii c.args.c low) in
+    let forms = bit_or (get_or masks (131 * word + to_ascii_lowercase c.args.c) 0) (get_or masks (131 * word + to_ascii_uppercase c.args.c) 0) in
+    let plain = (IsSet-without (bit_and (bit_and c.args.asked (bit_not w64 c.kept-free.result)) forms) brackets j brackets_fit lt).0 s in
+    let both = (IsSet-and (bit_and c.args.asked (bit_not w64 c.kept-free.result)) forms j).0 plain.0 in
+    let free = (IsSet-without c.args.asked c.kept-free.result j kept_fits lt).0 both.0 in
+    let one = (IsSet-or (get_or masks (131 * word + to_ascii_lowercase c.args.c) 0) (get_or masks (131 * word + to_ascii_uppercase c.args.c) 0) j).0 both.1 in
+    let row_small = are.row (to_ascii_lowercase c.args.c) word j (omega (arith, small)) (omega (arith, small, c.requires)) lt in
+    let row_great = are.row (to_ascii_uppercase c.args.c) word j (omega (arith, great)) (omega (arith, great, c.requires)) lt in
     let row_bracket = are.row 130 word j (omega arith) (omega (arith, c.requires)) lt in
-    let below = ⊎_elim (λ s. (row_lower.0 s).0) (λ s. (row_upper.0 s).0) one in
+    let below : 64 * word + j < length tokens = ⊎_elim (λ s. (row_small.0 s).0) (λ s. (row_great.0 s).0) one in
     let token = get_or tokens (64 * word + j) Any in
-    let row = masked tokens masks are word j c.requires lt below in
-    let kept = kept-from c.args.options c.args.opening c.args.c token _ _ _ (row 128 (omega arith)) (row 129 (omega arith)) (c.kept.ensures j) in
+    let kept = c.kept-free.ensures tokens are j lt below in
     let no_bracket : is_bracket token ≡ false = false_from_ne_true _ (λ t. plain.1 (row_bracket.1 (below, t))) in
     let none : is_kept c.args.options c.args.opening c.args.c token ≡ false = false_from_ne_true _ (λ t. free.1 (kept.1 t)) in (
       free.0,
-      (takes-without_case c.args.options c.args.opening c.args.c low c.if-options.false token no_bracket).1
-          (⊎_elim (λ s. inl (row_lower.0 s).1) (λ s. inr (row_upper.0 s).1) one, none),
+      (takes-without_case c.args.options c.args.opening c.args.c low c.if-options-2.false token no_bracket).1
+          (⊎_elim (λ s. inl (sym (in_row-character (to_ascii_lowercase c.args.c) token small) ∙ (row_small.0 s).1)) (λ s. inr (sym (in_row-character (to_ascii_uppercase c.args.c) token great) ∙ (row_great.0 s).1)) one, none),
     )
 
 pub returns-clause-all : goal.returns-clause-all
@@ -95,27 +119,25 @@ returns-clause-all c = λ tokens are j lt below asked takes.
     let masks = c.args.masks.now in
     let word = c.args.word in
     let low : c.args.c < 128 = ltb-true c.args.c 128 (sym c.is_ascii.ensures ∙ c.if-not-is_ascii.false) in
-    let lower = to_ascii_lowercase c.args.c in
-    let upper = to_ascii_uppercase c.args.c in
+    let small : to_ascii_lowercase c.args.c < 128 = lowercase_ascii c.args.c low in
+    let great : to_ascii_uppercase c.args.c < 128 = uppercase_ascii c.args.c low in
     let brackets = get_or masks (131 * word + 130) 0 in
     let brackets_fit : brackets < 2 ^ 64 = omega (arith, c.type_inv.masks (131 * word + 130)) in
-    let kept_fits : c.kept.result < 2 ^ 64 = omega arith in
-    let wild = get_or masks (131 * word + 128) 0 in
-    let forms = bit_or wild (bit_or (get_or masks (131 * word + lower) 0) (get_or masks (131 * word + upper) 0)) in
-    let row_lower = takes-in_rows tokens masks are word j lower c.requires lt (lowercase_ascii c.args.c low) in
-    let row_upper = takes-in_rows tokens masks are word j upper c.requires lt (uppercase_ascii c.args.c low) in
+    let kept_fits : c.kept-free.result < 2 ^ 64 = omega arith in
+    let forms = bit_or (get_or masks (131 * word + to_ascii_lowercase c.args.c) 0) (get_or masks (131 * word + to_ascii_uppercase c.args.c) 0) in
+    let row_small = are.row (to_ascii_lowercase c.args.c) word j (omega (arith, small)) (omega (arith, small, c.requires)) lt in
+    let row_great = are.row (to_ascii_uppercase c.args.c) word j (omega (arith, great)) (omega (arith, great, c.requires)) lt in
     let row_bracket = are.row 130 word j (omega arith) (omega (arith, c.requires)) lt in
     let token = get_or tokens (64 * word + j) Any in
-    let row = masked tokens masks are word j c.requires lt below in
-    let kept = kept-from c.args.options c.args.opening c.args.c token _ _ _ (row 128 (omega arith)) (row 129 (omega arith)) (c.kept.ensures j) in
+    let kept = c.kept-free.ensures tokens are j lt below in
     ⊎_elim
     (λ s. inr ((IsSet-and c.args.asked brackets j).1 (asked, s)))
     (λ out.
     let no_bracket : is_bracket token ≡ false = false_from_ne_true _ (λ t. out (row_bracket.1 (below, t))) in
-    let parts = (takes-without_case c.args.options c.args.opening c.args.c low c.if-options.false token no_bracket).0 takes in
-    let one = ⊎_elim (λ t. inl (row_lower.1 (below, t))) (λ t. inr (row_upper.1 (below, t))) parts.0 in
-    let free = (IsSet-without c.args.asked c.kept.result j kept_fits lt).1 (asked, λ s. false≢true (sym parts.1 ∙ kept.0 s)) in
-    let both = (IsSet-and (bit_and c.args.asked (bit_not w64 c.kept.result)) forms j).1 (free, (takes-in_three_rows wild _ _ j).1 one) in
+    let parts = (takes-without_case c.args.options c.args.opening c.args.c low c.if-options-2.false token no_bracket).0 takes in
+    let one = ⊎_elim (λ t. inl (row_small.1 (below, in_row-character (to_ascii_lowercase c.args.c) token small ∙ t))) (λ t. inr (row_great.1 (below, in_row-character (to_ascii_uppercase c.args.c) token great ∙ t))) parts.0 in
+    let free = (IsSet-without c.args.asked c.kept-free.result j kept_fits lt).1 (asked, λ s. false≢true (sym parts.1 ∙ kept.0 s)) in
+    let both = (IsSet-and (bit_and c.args.asked (bit_not w64 c.kept-free.result)) forms j).1 (free, (IsSet-or _ _ j).1 one) in
     rw (c.to_ascii_lowercase.ensures.value, c.to_ascii_uppercase.ensures.value)
-    (inl ((IsSet-without (bit_and (bit_and c.args.asked (bit_not w64 c.kept.result)) forms) brackets j brackets_fit lt).1 (both, out))))
+    (inl ((IsSet-without (bit_and (bit_and c.args.asked (bit_not w64 c.kept-free.result)) forms) brackets j brackets_fit lt).1 (both, out))))
     (cases_eq (bit_at brackets j) 1)

@@ -18,9 +18,9 @@ pub loop-left-preserved : goal.loop-left-preserved
 loop-left-preserved g c =
     let i = c.loop-left.invariant in
     let lowest = bit_at-trailing_zeros w64 c.loop-left.left (omega arith) (omega arith) in
-    let P : ℕ → Type 0 = λ j. IsTrue (takes c.args.options.now c.args.opening c.args.c (slice_index_or c.args.tokens.now (64 * c.args.word + j) Any)) in
+    let P : ℕ → Type 0 = λ j. IsTrue (takes c.args.options c.args.opening c.args.c (slice_index_or c.args.tokens.now (64 * c.args.word + j) Any)) in
     let token = c.index-tokens-word.is ∙ get_or_default c.args.tokens.now _ _ Any (c.requires.tokens _ (i.within _ lowest.1)) in
-    let value = c.takes.ensures ∙ ap (takes c.args.options.now c.args.opening c.args.c) token in
+    let value = c.takes.ensures ∙ ap (takes c.args.options c.args.opening c.args.c) token in
     record {
       within = λ j s. i.within j ((IsSet-cleared _ c.loop-left.left lowest.1 lowest.2 j).0 s).0;
       took = took-more P c.args.asked c.loop-left.left c.loop-left.took c.if-takes.took _ lowest.1 lowest.2 i.within i.took

@@ -10,7 +10,7 @@ loop-start-preserved c =
     let start = c.loop-start.start in
     let rest = drop start bytes in
     let long = length-drop start bytes in
-    let past = first-past (λ b. b == line_feed) 16 rest (omega (arith, long, c.loop-start-test.true)) (omega (arith, c.if-others-lt-LANES.false, c.others_at-others.ensures)) in
+    let past = first-past (λ b. b == line_feed) 16 rest (omega (arith, long, c.loop-start-test.true)) (omega (arith, c.if-before-lt-LANES.false, c.before_feed-before.ensures)) in
     record {
       within = omega (arith, c.loop-start-test.true);
       past = rw (← (drop-drop 16 start bytes)) (omega (arith, c.loop-start.invariant.past, past));

@@ -9,7 +9,7 @@ use Rattle.glob.proofs.pattern.judge.TextJudgeJudge.step.Goals as goal
 pub invariant_of-self-2 : goal.invariant_of-self-2
 invariant_of-self-2 g c =
     let e = chars_past_char (chars_rest c.args.self.now.rest) (chars_rest c.next.new.self) c.in-Some.c (subst IsUtf8 c.as_str-left.ensures c.as_str-left.utf8) c.in-Some.ensures.steps.0 in
-    record { given_is = c.args.self.now.given_is; masked = c.args.self.now.masked; stands = StandsBefore-step _ _ _ _ _ _ (rw e at c.args.self.now.stands) }
+    record { masked = c.args.self.now.masked; stands = StandsBefore-step _ _ _ _ _ _ (rw e at c.args.self.now.stands) }
 
 pub returns-clause-stepped : goal.returns-clause-stepped
 unfolding table_of

@@ -38,7 +38,7 @@ returns-clause-took g c = λ j lt.
     let stands = judge.stands in
     let known = c.take_known-took.ensures in
     let both = IsSet-or c.take_known-took.result.0 c.take_left.result j in
-    let left = rw judge.given_is at (c.take_left.ensures j lt) in
+    let left = c.take_left.ensures j lt in
     rw (← (stands.last c.requires.stepped), ← (stands.before c.requires.stepped)) (
       λ s. ⊎_elim (λ s. known.taken judge.tokens.now judge.masked j lt s) (λ s. let (l, t) = left.0 s in (known.left j l, t)) (both.0 s),
       λ (a, t). both.1 (⊎_elim inl (λ l. inr (left.1 (l, t))) (known.all judge.tokens.now judge.masked j lt (c.requires.tokens j a) a t)),
