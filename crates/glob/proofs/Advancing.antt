@@ -13,14 +13,8 @@ use Rattle.glob.proofs.Alive.{MayEnd, ComesAlive, ComesWhole, IsAlive-step, Lead
 use Rattle.glob.proofs.Spreading.{spread}
 use Rattle.glob.proofs.SetBits.{IsSet-or, IsSet-and, IsSet-spread_low, IsSet-spread_next, IsSet-moved_low, IsSet-moved_next, IsSet-closed, spread_past, highest_set}
 use Rattle.glob.specs.declared.matcher.Shape.{Shape}
-use Rattle.glob.specs.declared.matcher.Shape.TheVariants.{One, Run, Deep}
+use Rattle.glob.specs.declared.matcher.Shape.TheVariants.{One, Deep}
 use Rattle.glob.specs.declared.matcher.kinds.Kinds.{Kinds}
-
--- a shape that is not of one character is a run or a deep run
-cases_growing : (shape : Shape) → shape ≢ One → (shape ≡ Run) ⊎ (shape ≡ Deep)
-cases_growing One grows = absurd (grows refl)
-cases_growing Run grows = inl refl
-cases_growing Deep grows = inr refl
 
 -- The tokens of the word whose pieces may end, where those in `ending` may.
 record EndingWord (table : Table) (shapes : List Shape) (start k ending : ℕ) : Type 0 where
@@ -29,18 +23,12 @@ record EndingWord (table : Table) (shapes : List Shape) (start k ending : ℕ) :
 
 module _ (table : Table) (shapes : List Shape) (start k : ℕ) (kinds : Kinds) (are : AreKinds shapes start (length shapes) kinds) where
   -- the shapes whose pieces may be of any length
-  growing-is : (j : ℕ) → j < 64 → start + j < length shapes → IsSet (bit_or kinds.runs kinds.deeps) j ↔ (get_or shapes (start + j) One ≢ One)
-  growing-is j lt within =
-      let or = IsSet-or kinds.runs kinds.deeps j in
-      let run = are.runs j lt in
-      let deep = are.deeps j lt in (
-        λ h one. ⊎_elim (λ s. let e = (run.0 s).1 in cc) (λ s. let e = (deep.0 s).1 in cc) (or.0 h),
-        λ grows. or.1 (⊎_elim (λ e. inl (run.1 (within, e))) (λ e. inr (deep.1 (within, e))) (cases_growing (get_or shapes (start + j) One) grows)),
-      )
+  growing-is : (j : ℕ) → j < 64 → start + j < length shapes → IsSet kinds.growing j ↔ (get_or shapes (start + j) One ≢ One)
+  growing-is j lt within = let grows = are.growing j lt in (λ h. (grows.0 h).1, λ ne. grows.1 (within, ne))
 
   -- past the last shape there is none
-  growing-within : (j : ℕ) → j < 64 → IsSet (bit_or kinds.runs kinds.deeps) j → start + j < length shapes
-  growing-within j lt h = ⊎_elim (λ s. ((are.runs j lt).0 s).0) (λ s. ((are.deeps j lt).0 s).0) ((IsSet-or kinds.runs kinds.deeps j).0 h)
+  growing-within : (j : ℕ) → j < 64 → IsSet kinds.growing j → start + j < length shapes
+  growing-within j lt h = ((are.growing j lt).0 h).0
 
   -- the tokens whose pieces may end, from those that have taken the character
   EndingWord-from_taken : (took ending : ℕ) (opens : Bool) → opens ≡ table.opens k → TakenWord table shapes start k took
@@ -64,14 +52,14 @@ module _ (table : Table) (shapes : List Shape) (start k : ℕ) (kinds : Kinds) (
   -- the positions of the word that are whole
   spread-is_whole : (begun : ℕ) (whole : Bool) (ending : ℕ) → (IsSet begun 0 ↔ IsTrue whole) → ((j : ℕ) → suc j < 64 → IsSet begun (suc j) ↔ IsSet ending j)
       → (IsTrue whole ↔ LeadingSplit table shapes start k) → EndingWord table shapes start k ending
-      → (j : ℕ) → j < 64 → start + j ≤ length shapes → IsSet (spread begun (bit_or kinds.runs kinds.deeps) 0) j ↔ LeadingSplit table shapes (start + j) k
+      → (j : ℕ) → j < 64 → start + j ≤ length shapes → IsSet (spread begun kinds.growing 0) j ↔ LeadingSplit table shapes (start + j) k
   spread-is_whole begun whole ending low next first ends zero lt within =
-      let s = IsSet-spread_low begun (bit_or kinds.runs kinds.deeps) in
+      let s = IsSet-spread_low begun kinds.growing in
       rw (add-zero start) (λ h. first.0 (low.0 (s.0 h)), λ h. s.1 (low.1 (first.1 h)))
   spread-is_whole begun whole ending low next first ends (suc j) lt within =
       let n_lt : start + j < length shapes = omega arith in
       let j_lt : j < 64 = omega arith in
-      let s = IsSet-spread_next begun (bit_or kinds.runs kinds.deeps) j in
+      let s = IsSet-spread_next begun kinds.growing j in
       let ih = spread-is_whole begun whole ending low next first ends j j_lt (omega arith) in
       let grows = growing-is j j_lt n_lt in
       let end = ends.ends j j_lt n_lt in
@@ -84,7 +72,7 @@ module _ (table : Table) (shapes : List Shape) (start k : ℕ) (kinds : Kinds) (
   -- the positions of the word that are alive
   AliveWord-from_whole : (took closed word : ℕ) → TakenWord table shapes start k took
       → ((j : ℕ) → j < 64 → start + j ≤ length shapes → IsSet closed j ↔ LeadingSplit table shapes (start + j) k)
-      → ((j : ℕ) → j < 64 → IsSet word j ↔ ((IsSet took j × IsSet (bit_or kinds.runs kinds.deeps) j) ⊎ IsSet closed j)) → AliveWord table shapes start k word
+      → ((j : ℕ) → j < 64 → IsSet word j ↔ ((IsSet took j × IsSet kinds.growing j) ⊎ IsSet closed j)) → AliveWord table shapes start k word
   AliveWord-from_whole took closed word taken whole bits = record {
     alive = λ j lt within.
         let step : IsAlive table shapes (start + j) k ↔ ComesAlive table shapes (get_or shapes (start + j) One) (start + j) k = IsAlive-step table shapes (start + j) k in
@@ -101,7 +89,7 @@ module _ (table : Table) (shapes : List Shape) (start k : ℕ) (kinds : Kinds) (
   -- whether the shapes of a whole word are
   whole-past_word : (ending closed : ℕ) → EndingWord table shapes start k ending
       → ((j : ℕ) → j < 64 → start + j ≤ length shapes → IsSet closed j ↔ LeadingSplit table shapes (start + j) k)
-      → start + 64 ≤ length shapes → ((IsSet (bit_or kinds.runs kinds.deeps) 63 × IsSet closed 63) ⊎ IsSet ending 63) ↔ LeadingSplit table shapes (start + 64) k
+      → start + 64 ≤ length shapes → ((IsSet kinds.growing 63 × IsSet closed 63) ⊎ IsSet ending 63) ↔ LeadingSplit table shapes (start + 64) k
   whole-past_word ending closed ends whole within =
       let n_lt : start + 63 < length shapes = omega arith in
       let lt : 63 < 64 = omega arith in
@@ -126,7 +114,7 @@ module _ (table : Table) (shapes : List Shape) (start k : ℕ) (kinds : Kinds) (
     (at : opens ≡ table.opens k) (first : IsTrue whole ↔ LeadingSplit table shapes start k)
     (ends : (j : ℕ) → j < 64 → IsSet ending j ↔ (IsSet took j × (IsTrue opens ⊎ (IsSet kinds.bound j → ⊥)))) where
   abbrev growing : ℕ
-  growing = bit_or kinds.runs kinds.deeps
+  growing = kinds.growing
 
   ending_word : EndingWord table shapes start k ending
   ending_word = EndingWord-from_taken table shapes start k kinds are took ending opens at taken ends
@@ -146,11 +134,11 @@ module _ (table : Table) (shapes : List Shape) (start k : ℕ) (kinds : Kinds) (
       (λ h. ⊎_elim (λ s. inl (and.0 s)) inr (or.0 h), λ h. or.1 (⊎_elim (λ s. inl (and.1 s)) inr h)))
 
   -- whether the shapes of the whole word are whole
-  pub whole-advanced : (past : Bool) → FalseIff past (bit_and (begun_of ending whole) growing + growing < 2 ^ 64) → ending < 2 ^ 64 → kinds.runs < 2 ^ 64 → kinds.deeps < 2 ^ 64
+  pub whole-advanced : (past : Bool) → FalseIff past (bit_and (begun_of ending whole) growing + growing < 2 ^ 64) → ending < 2 ^ 64 → kinds.growing < 2 ^ 64
       → start + 64 ≤ length shapes → IsTrue (past || not (nat_eq (ending / 2 ^ 63) 0)) ↔ LeadingSplit table shapes (start + 64) k
-  whole-advanced past over fits runs_fit deeps_fit within =
+  whole-advanced past over fits growing_fits within =
       let whole_one = whole-past_word table shapes start k kinds are ending (closed_of (begun_of ending whole) growing) ending_word closed-is_whole within in
-      let spreads = spread_past (begun_of ending whole) growing (or_lt 64 _ _ (omega arith) (byte_small whole)) (or_lt 64 kinds.runs kinds.deeps runs_fit deeps_fit) in
+      let spreads = spread_past (begun_of ending whole) growing (or_lt 64 _ _ (omega arith) (byte_small whole)) growing_fits in
       let word = IsSet-closed (begun_of ending whole) growing 63 (omega arith) in
       let high = highest_set ending fits in (
         λ h. whole_one.0 (⊎_elim (λ e. let both = spreads.0 (past_true past over e) in inl (both.0, word.1 both.1)) (λ e. inr (high.0 (eqb-false (ending / 2 ^ 63) 0 (not-true (nat_eq (ending / 2 ^ 63) 0) e)))) (or_cases past (not (nat_eq (ending / 2 ^ 63) 0)) h)),

@@ -47,19 +47,12 @@ IsSet-one k j lt =
       λ e. rw e (bit_at-pow_same k),
     )
 
--- no bit
-IsSet-none : (k j : ℕ) → IsSet (0 * 2 ^ k % 2 ^ 64) j → ⊥
-IsSet-none k j h = let none : 0 * 2 ^ k % 2 ^ 64 ≡ 0 = omega arith in IsSet-zero j (rw none at h)
-
--- one bit more, where `on`
-pub IsSet-with : (word k : ℕ) (on : Bool) → k < 64 → (j : ℕ) → IsSet (bit_or word (bool_byte on * 2 ^ k % 2 ^ 64)) j ↔ (IsSet word j ⊎ ((j ≡ k) × IsTrue on))
-IsSet-with word k true lt j =
+-- one bit more
+pub IsSet-with : (word k : ℕ) → k < 64 → (j : ℕ) → IsSet (bit_or word (1 * 2 ^ k % 2 ^ 64)) j ↔ (IsSet word j ⊎ (j ≡ k))
+IsSet-with word k lt j =
     let or = IsSet-or word (1 * 2 ^ k % 2 ^ 64) j in
     let one = IsSet-one k j lt in
-    (λ h. ⊎_elim inl (λ s. inr (one.0 s, refl)) (or.0 h), λ h. or.1 (⊎_elim inl (λ (e, t). inr (one.1 e)) h))
-IsSet-with word k false lt j =
-    let or = IsSet-or word (0 * 2 ^ k % 2 ^ 64) j in
-    (λ h. ⊎_elim inl (λ s. absurd (IsSet-none k j s)) (or.0 h), λ h. or.1 (⊎_elim inl (λ (e, t). absurd (false≢true t)) h))
+    (λ h. ⊎_elim inl (λ s. inr (one.0 s)) (or.0 h), λ h. or.1 (⊎_elim inl (λ e. inr (one.1 e)) h))
 
 -- bits that spread over the ones of a mask, from those of a word
 pub IsSet-spread_low : (word mask : ℕ) → IsSet (spread word mask 0) 0 ↔ IsSet word 0

@@ -1,5 +1,5 @@
 -- Rows of positions as words: the first, the next, and what is asked for it.
-use Rattle.std.proofs.Common.{◌≡◌, ℕ, zero, suc, ◌+◌, ◌-◌, ◌^◌, ◌<◌, ◌≤◌, ◌⊎◌, ◌↔◌, Bool, false, nat_eq, IsTrue, List, length, get_or, bit_and, refl, inl, inr, ⊎_elim, arith}
+use Rattle.std.proofs.Common.{◌≡◌, ℕ, zero, suc, ◌+◌, ◌-◌, ◌^◌, ◌<◌, ◌≤◌, ◌↔◌, Bool, false, nat_eq, IsTrue, List, length, bit_and, ⊎_elim, sym, subst, arith}
 use Rattle.std.specs.Int.Count.{ones}
 use Rattle.std.proofs.lemmas.Bool.{cases_eq, cases_lt, eqb-true, eq-eqb, false≢true}
 use Rattle.std.proofs.lemmas.Nat.{zero_from_ones}
@@ -11,9 +11,8 @@ use Rattle.glob.specs.Positions.{AreKinds, AliveWord, TakenWord}
 use Rattle.glob.proofs.Alive.{Splits-iff_alive}
 use Rattle.glob.proofs.SetBits.{IsSet-zero, IsSet-and}
 use Rattle.glob.proofs.LowestBits.{ones_within}
-use Rattle.glob.proofs.LeadingOnes.{IsDead, IsDead-from_none}
+use Rattle.glob.proofs.LeadingOnes.{IsDead-from_none, dead-never_splits}
 use Rattle.glob.specs.declared.matcher.Shape.{Shape}
-use Rattle.glob.specs.declared.matcher.Shape.TheVariants.{One, Run, Deep}
 use Rattle.glob.specs.declared.matcher.kinds.Kinds.{Kinds}
 
 -- a bit of a word is one of 64
@@ -34,43 +33,25 @@ TakenWord-leading table shapes start n word led bits = record {
       (λ s. last.1 (bit.0 s), λ t. bit.1 (last.0 t));
 }
 
-module _ (table : Table) (shapes : List Shape) (start : ℕ) (kinds : Kinds) (are : AreKinds shapes start (length shapes) kinds) (tokens : ℕ)
-    (bits : (j : ℕ) → IsSet tokens j ↔ (IsSet kinds.ones j ⊎ IsSet kinds.runs j ⊎ IsSet kinds.deeps j)) where
-  -- a shape is one of three
-  any_shape : (shape : Shape) → (shape ≡ One) ⊎ (shape ≡ Run) ⊎ (shape ≡ Deep)
-  any_shape One = inl refl
-  any_shape Run = inr (inl refl)
-  any_shape Deep = inr (inr refl)
-
-  -- each shape of the word has a token
-  tokens-is : (j : ℕ) → j < 64 → IsSet tokens j ↔ (start + j < length shapes)
-  tokens-is j lt =
-      let one = are.ones j lt in
-      let run = are.runs j lt in
-      let deep = are.deeps j lt in
-      let any = bits j in (
-        λ s. ⊎_elim (λ t. (one.0 t).0) (λ others. ⊎_elim (λ t. (run.0 t).0) (λ t. (deep.0 t).0) others) (any.0 s),
-        λ within. any.1 (⊎_elim (λ e. inl (one.1 (within, e))) (λ others. ⊎_elim (λ e. inr (inl (run.1 (within, e)))) (λ e. inr (inr (deep.1 (within, e)))) others) (any_shape (get_or shapes (start + j) One))),
-      )
-
+module _ (table : Table) (shapes : List Shape) (start : ℕ) (kinds : Kinds) (are : AreKinds shapes start (length shapes) kinds) where
   module _ (row : ℕ) (fits : row < 2 ^ 64) where
     -- only tokens of shapes are asked
-    pub asked-within : (j : ℕ) → IsSet (bit_and row tokens) j → start + j < length shapes
+    pub asked-within : (j : ℕ) → IsSet (bit_and row kinds.tokens) j → start + j < length shapes
     asked-within j set =
-        let both = (IsSet-and row tokens j).0 set in
-        (tokens-is j (bit_below row j fits both.0)).0 both.1
+        let both = (IsSet-and row kinds.tokens j).0 set in
+        (are.tokens j (bit_below row j fits both.0)).0 both.1
 
     -- no more than there are
-    pub ones-asked : (m : ℕ) → length shapes ≤ start + m → ones (bit_and row tokens) ≤ m
-    ones-asked m le = ones_within m (bit_and row tokens) (λ j set. omega (arith, asked-within j set))
+    pub ones-asked : (m : ℕ) → length shapes ≤ start + m → ones (bit_and row kinds.tokens) ≤ m
+    ones-asked m le = ones_within m (bit_and row kinds.tokens) (λ j set. omega (arith, asked-within j set))
 
     -- and no more than a word has
-    pub ones-asked_word : ones (bit_and row tokens) ≤ 64
-    ones-asked_word = ones_within 64 (bit_and row tokens) (λ j set. bit_below row j fits ((IsSet-and row tokens j).0 set).0)
+    pub ones-asked_word : ones (bit_and row kinds.tokens) ≤ 64
+    ones-asked_word = ones_within 64 (bit_and row kinds.tokens) (λ j set. bit_below row j fits ((IsSet-and row kinds.tokens j).0 set).0)
 
   -- what the tokens answer that are alive
   pub TakenWord-asked : (p row took : ℕ) → 0 < p → AliveWord table shapes start (p - 1) row
-      → ((j : ℕ) → j < 64 → IsSet took j ↔ (IsSet (bit_and row tokens) j × IsTrue (table.takes (start + j) (p - 1)))) → TakenWord table shapes start p took
+      → ((j : ℕ) → j < 64 → IsSet took j ↔ (IsSet (bit_and row kinds.tokens) j × IsTrue (table.takes (start + j) (p - 1)))) → TakenWord table shapes start p took
   unfolding HasTaken
   TakenWord-asked zero row took later alive answers = absurd (omega arith)
   TakenWord-asked (suc k) row took later alive answers =
@@ -78,9 +59,9 @@ module _ (table : Table) (shapes : List Shape) (start : ℕ) (kinds : Kinds) (ar
       record {
         taken = λ j lt within.
             let here : IsSet row j ↔ IsAlive table shapes (start + j) k = rw (← back) (alive.alive j lt (omega arith)) in
-            let answer : IsSet took j ↔ (IsSet (bit_and row tokens) j × IsTrue (table.takes (start + j) k)) = rw (← back) (answers j lt) in
-            let and = IsSet-and row tokens j in
-            let token = tokens-is j lt in (
+            let answer : IsSet took j ↔ (IsSet (bit_and row kinds.tokens) j × IsTrue (table.takes (start + j) k)) = rw (← back) (answers j lt) in
+            let and = IsSet-and row kinds.tokens j in
+            let token = are.tokens j lt in (
               λ s. let (a, t) = answer.0 s in (here.0 (and.0 a).0, t),
               λ (a, t). answer.1 (and.1 (here.1 a, token.1 within), t),
             );
@@ -88,20 +69,11 @@ module _ (table : Table) (shapes : List Shape) (start : ℕ) (kinds : Kinds) (ar
 
   -- where none was asked none has taken the character
   pub none_taken-from_none_asked : (p row took : ℕ) → TakenWord table shapes start p took
-      → ((j : ℕ) → j < 64 → IsSet took j ↔ (IsSet (bit_and row tokens) j × IsTrue (table.takes (start + j) (p - 1)))) → ones (bit_and row tokens) ≡ 0
+      → ((j : ℕ) → j < 64 → IsSet took j ↔ (IsSet (bit_and row kinds.tokens) j × IsTrue (table.takes (start + j) (p - 1)))) → ones (bit_and row kinds.tokens) ≡ 0
       → (j : ℕ) → j < 64 → start + j < length shapes → HasTaken table shapes (start + j) p → ⊥
   none_taken-from_none_asked p row took taken answers none j lt within t =
       let asked = ((answers j lt).0 ((taken.taken j lt within).1 t)).0 in
-      IsSet-zero j (rw (zero_from_ones (bit_and row tokens) none) at asked)
-
--- in a row of 0 nothing is alive
-pub IsDead-from_zero : (table : Table) (shapes : List Shape) (k row : ℕ) → length shapes < 64 → AliveWord table shapes 0 k row → row ≡ 0 → IsDead table shapes k
-IsDead-from_zero table shapes k row few alive none = record {
-  none = λ n le a.
-      let at : 0 + n ≡ n = omega arith in
-      let bit : IsSet row n ↔ IsAlive table shapes n k = rw at at (alive.alive n (omega arith) (omega arith)) in
-      IsSet-zero n (rw none at (bit.1 a));
-}
+      IsSet-zero j (rw (zero_from_ones (bit_and row kinds.tokens) none) at asked)
 
 -- where something is alive after a character, a token was asked about it
 pub asked-for_alive : (table : Table) (shapes : List Shape) (p asked : ℕ) → 0 < p → (asked ≡ 0 → (n : ℕ) → n < length shapes → HasTaken table shapes n p → ⊥)
@@ -128,3 +100,16 @@ Splits-by_word table shapes start j k row answer at lt end alive bit =
     let here : IsSet row j ↔ IsAlive table shapes (length shapes) table.characters = rw (at, end) at (alive.alive j lt (omega arith)) in
     let split = Splits-iff_alive table shapes in
     (λ t. split.1 (here.0 (bit.0 t)), λ s. bit.1 (here.1 (split.0 s)))
+
+-- where no token is alive, the characters split only if there are no more and all shapes are alive
+pub Splits-by_last_word : (table : Table) (shapes : List Shape) (k row : ℕ) → length shapes < 64 → AliveWord table shapes 0 k row
+    → ((j : ℕ) → j < length shapes → IsSet row j → ⊥) → k ≤ table.characters → Splits table shapes → (k ≡ table.characters) × IsSet row (length shapes)
+unfolding HasTaken
+Splits-by_last_word table shapes k row few alive none within split =
+    ⊎_elim
+    (λ end. (end, (word (length shapes) (omega arith)).1 (subst (IsAlive table shapes (length shapes)) (sym end) ((Splits-iff_alive table shapes).0 split))))
+    (λ more. absurd (dead-never_splits table shapes (suc k) (IsDead-from_none table shapes k (λ n lt (a, t). none n lt ((word n (omega arith)).1 a))) (omega arith) split))
+    (cases_eq k table.characters)
+  where
+    word : (n : ℕ) → n ≤ length shapes → IsSet row n ↔ IsAlive table shapes n k
+    word n le = let at : 0 + n ≡ n = omega arith in rw at at (alive.alive n (omega arith) (omega arith))

@@ -1,19 +1,18 @@
 -- Positions among shapes as bits: words of 64 bits that say of shapes which they are, and of leading shapes whether they are alive.
-use Rattle.std.specs.Prelude.{◌≡◌, ℕ, ◌+◌, ◌*◌, ◌/◌, ◌<◌, ◌≤◌, ◌↔◌, List, length, slice_index_or}
+use Rattle.std.specs.Prelude.{◌≡◌, ℕ, ◌+◌, ◌*◌, ◌/◌, ◌<◌, ◌≤◌, ◌≢◌, ◌↔◌, List, length, slice_index_or}
 use Rattle.glob.specs.Bits.{IsSet}
 use Rattle.glob.specs.Splits.{Table}
 use Rattle.glob.specs.Leading.{IsAlive, HasTaken}
 use Rattle.glob.specs.declared.matcher.Shape.{Shape}
-use Rattle.glob.specs.declared.matcher.Shape.TheVariants.{One, Run, Deep}
+use Rattle.glob.specs.declared.matcher.Shape.TheVariants.{One, Deep}
 use Rattle.glob.specs.declared.matcher.kinds.Kinds.{Kinds}
 use Rattle.glob.specs.declared.matcher.many.Word.{Word}
 
--- The words say of the shapes from number `start` up to number `end`, 64 at most, which they are, and which are deep
--- and have others after them.
+-- The words say of the shapes from number `start` up to number `end`, 64 at most, which there are, which may have pieces of
+-- any length, and which are deep and have others after them.
 pub record AreKinds (shapes : List Shape) (start end : ℕ) (kinds : Kinds) : Type 0 where
-  pub ones : (j : ℕ) → j < 64 → IsSet kinds.ones j ↔ ((start + j < end) × (slice_index_or shapes (start + j) One ≡ One))
-  pub runs : (j : ℕ) → j < 64 → IsSet kinds.runs j ↔ ((start + j < end) × (slice_index_or shapes (start + j) One ≡ Run))
-  pub deeps : (j : ℕ) → j < 64 → IsSet kinds.deeps j ↔ ((start + j < end) × (slice_index_or shapes (start + j) One ≡ Deep))
+  pub tokens : (j : ℕ) → j < 64 → IsSet kinds.tokens j ↔ (start + j < end)
+  pub growing : (j : ℕ) → j < 64 → IsSet kinds.growing j ↔ ((start + j < end) × (slice_index_or shapes (start + j) One ≢ One))
   pub bound : (j : ℕ) → j < 64
       → IsSet kinds.bound j ↔ ((start + j < end) × (slice_index_or shapes (start + j) One ≡ Deep) × (start + j + 1 < length shapes))
 

@@ -1,5 +1,5 @@
 //! Matching with at most 63 shapes, without memory.
-ghost use Rattle.std.specs.Prelude.{◌≡◌, ℕ, ◌+◌, ◌-◌, ◌*◌, ◌^◌, ◌<◌, ◌≤◌, ◌↔◌, length, IsTrue};
+ghost use Rattle.std.specs.Prelude.{◌≡◌, ℕ, ◌+◌, ◌-◌, ◌*◌, ◌^◌, ◌<◌, ◌≤◌, ◌↔◌, false, length, IsTrue};
 ghost use Rattle.glob.specs.Splits.{Table, Splits};
 ghost use Rattle.glob.specs.Leading.{IsAlive, LeadingOnes};
 ghost use Rattle.glob.specs.Bits.{IsSet};
@@ -34,13 +34,13 @@ pub fn run_few<J: Judge>(shapes: &[Shape], lead: usize, judge: &mut J) -> bool
 {
     let positions = Few::new(shapes);
     let mut row = positions.first(lead, judge.opens());
-    while judge.step() {
-        row = positions.next(row, judge);
-        if row == 0 {
-            return false;
+    while positions.goes_on(row) {
+        if !judge.step() {
+            return positions.is_whole(row);
         }
+        row = positions.next(row, judge);
     }
-    positions.is_whole(row)
+    positions.is_whole(row) && !judge.step()
 }
 
 impl<'a> Few<'a> {
@@ -63,6 +63,14 @@ impl<'a> Few<'a> {
         self.kinds.advance(took, opens, lead == 0).0
     }
 
+    /// Whether a token is alive, so that a character more may be taken.
+    #[inline(always)]
+    fn goes_on(&self, row: u64) -> bool
+        ensures { (j : ℕ) → result ≡ false → j < length self.now.shapes.now → ¬ (IsSet row j) }
+    {
+        row & self.kinds.tokens != 0
+    }
+
     /// The row of the place of a judge that has stepped, from the row of the place before.
     #[inline(always)]
     fn next<J: Judge>(&self, row: u64, judge: &mut J) -> u64
@@ -78,7 +86,7 @@ impl<'a> Few<'a> {
         ensures place { J.place judge.new ≡ J.place judge.old }
         ensures same { J.table judge.new ≡ J.table judge.old }
     {
-        let took = judge.takes_each(0, row & self.kinds.tokens());
+        let took = judge.takes_each(0, row & self.kinds.tokens);
         self.kinds.advance(took, judge.opens(), false).0
     }
 

@@ -1,4 +1,4 @@
-ghost use Rattle.std.specs.Prelude.{◌≡◌, ℕ, ◌+◌, ◌^◌, ◌<◌, ◌≤◌, ◌⊎◌, ◌↔◌, List, length, min, IsTrue};
+ghost use Rattle.std.specs.Prelude.{◌≡◌, ℕ, ◌+◌, ◌^◌, ◌<◌, ◌≤◌, ◌≢◌, ◌⊎◌, ◌↔◌, List, length, min, IsTrue};
 ghost use Rattle.glob.specs.Splits.{Table};
 ghost use Rattle.glob.specs.Leading.{LeadingSplit};
 ghost use Rattle.glob.specs.Bits.{IsSet};
@@ -9,9 +9,10 @@ use super::Shape;
 /// The shapes from one of them on, 64 at most, as bits: bit 0 is of that one.
 #[derive(Clone, Copy)]
 pub struct Kinds {
-    pub ones: u64,
-    pub runs: u64,
-    pub deeps: u64,
+    /// All of them: bit n is set where there is a token of that number.
+    pub tokens: u64,
+    /// Those whose pieces may be of any length.
+    pub growing: u64,
     /// The deep ones that have others after them: a piece of theirs that is not empty ends where the place opens.
     pub bound: u64,
 }
@@ -23,9 +24,8 @@ impl Kinds {
         ensures { AreKinds shapes.now start (length shapes.now) result }
     {
         let mut kinds = Kinds {
-            ones: 0,
-            runs: 0,
-            deeps: 0,
+            tokens: 0,
+            growing: 0,
             bound: 0,
         };
         for n in start..shapes.len().min(start + 64) {
@@ -37,25 +37,23 @@ impl Kinds {
     /// These shapes and one more, which has others after it or not.
     fn with(self, bit: usize, shape: Shape, followed: bool) -> Self
         requires { bit < 64 }
-        ensures ones { (j : ℕ) → IsSet result.ones j ↔ (IsSet self.ones j ⊎ ((j ≡ bit) × (shape ≡ Shape.One))) }
-        ensures runs { (j : ℕ) → IsSet result.runs j ↔ (IsSet self.runs j ⊎ ((j ≡ bit) × (shape ≡ Shape.Run))) }
-        ensures deeps { (j : ℕ) → IsSet result.deeps j ↔ (IsSet self.deeps j ⊎ ((j ≡ bit) × (shape ≡ Shape.Deep))) }
+        ensures tokens { (j : ℕ) → IsSet result.tokens j ↔ (IsSet self.tokens j ⊎ (j ≡ bit)) }
+        ensures growing { (j : ℕ) → IsSet result.growing j ↔ (IsSet self.growing j ⊎ ((j ≡ bit) × (shape ≢ Shape.One))) }
         ensures bound { (j : ℕ) → IsSet result.bound j ↔ (IsSet self.bound j ⊎ ((j ≡ bit) × (shape ≡ Shape.Deep) × IsTrue followed)) }
     {
-        Kinds {
-            ones: with_bit(self.ones, bit, shape == Shape::One),
-            runs: with_bit(self.runs, bit, shape == Shape::Run),
-            deeps: with_bit(self.deeps, bit, shape == Shape::Deep),
-            bound: with_bit(self.bound, bit, shape == Shape::Deep && followed),
+        let mut kinds = self;
+        kinds.tokens = with_bit(self.tokens, bit);
+        match shape {
+            Shape::One => {}
+            Shape::Run => kinds.growing = with_bit(self.growing, bit),
+            Shape::Deep => {
+                kinds.growing = with_bit(self.growing, bit);
+                if followed {
+                    kinds.bound = with_bit(self.bound, bit);
+                }
+            }
         }
-    }
-
-    /// The tokens of these shapes.
-    #[inline(always)]
-    pub fn tokens(self) -> u64
-        ensures { (j : ℕ) → IsSet result j ↔ (IsSet self.ones j ⊎ IsSet self.runs j ⊎ IsSet self.deeps j) }
-    {
-        self.ones | self.runs | self.deeps
+        kinds
     }
 
     /// The positions alive after a character, from the tokens that took it. `opens` says whether the place after it
@@ -71,7 +69,7 @@ impl Kinds {
             → start + 64 ≤ length shapes → IsTrue result.1 ↔ LeadingSplit table shapes (start + 64) k }
     {
         let ending = self.ending(took, opens);
-        let growing = self.runs | self.deeps;
+        let growing = self.growing;
         let begun = (ending << 1) | u64::from(whole);
         let (sum, past) = (begun & growing).overflowing_add(growing);
         let closed = begun | (sum ^ growing);
@@ -87,12 +85,12 @@ impl Kinds {
     }
 }
 
-/// The word with one bit more, where `on`.
-fn with_bit(word: u64, bit: usize, on: bool) -> u64
+/// The word with one bit more.
+fn with_bit(word: u64, bit: usize) -> u64
     requires { bit < 64 }
-    ensures { (j : ℕ) → IsSet result j ↔ (IsSet word j ⊎ ((j ≡ bit) × IsTrue on)) }
+    ensures { (j : ℕ) → IsSet result j ↔ (IsSet word j ⊎ (j ≡ bit)) }
 {
-    word | (u64::from(on) << bit)
+    word | (1 << bit)
 }
 
 /// The bit of the last token before number `end`, in a word whose bit 0 is of token `start`.

@@ -94,7 +94,7 @@ impl<'a, A: Allocator> Many<'a, A> {
         let mut any = 0;
         for n in 0..self.words.len() {
             let word = self.words[n];
-            let took = judge.takes_each(n, word.alive & word.kinds.tokens());
+            let took = judge.takes_each(n, word.alive & word.kinds.tokens);
             let (alive, next) = word.kinds.advance(took, opens, whole);
             self.words[n] = Word { alive, ..word };
             whole = next;

@@ -1,52 +1,51 @@
-use Rattle.std.proofs.Common.{◌≡◌, ◌+◌, ◌∙◌, length, sym, arith}
-use Rattle.std.proofs.lemmas.Bool.{false≢true}
-use Rattle.glob.proofs.Alive.{asked_more, asked_all}
+use Rattle.std.proofs.Common.{◌≡◌, ◌+◌, ◌∙◌, not, length, sym, ap, arith}
+use Rattle.std.proofs.lemmas.Bool.{false≢true, false_from_ne_true, not-true}
+use Rattle.glob.proofs.Alive.{asked_more}
 use Rattle.glob.proofs.Counts.{mul-left}
-use Rattle.glob.proofs.LeadingOnes.{dead-never_splits}
-use Rattle.glob.proofs.WordRows.{IsDead-from_zero, Splits-by_word}
+use Rattle.glob.proofs.WordRows.{Splits-by_last_word, Splits-by_word}
 use Rattle.glob.proofs.matcher.few.run_few.Goals as goal
 
-pub returns-then-row-eq0-clause-answer : goal.returns-then-row-eq0-clause-answer
-returns-then-row-eq0-clause-answer g c =
-    let i = c.loop-positions.invariant in
+pub loop-judge-preserved : goal.loop-judge-preserved
+loop-judge-preserved g c =
+    let i = c.loop-judge.invariant in
     let table : g.J.Judge.table c.step.new.self ≡ g.J.Judge.table c.args.judge.now = c.step.ensures.same ∙ i.same in
-    let stepped = rw table at (c.step.ensures.stepped c.loop-positions-test.true) in
-    let h = rw (table, i.shapes) at c.next-row.ensures in
-    let dead = IsDead-from_zero (g.J.Judge.table c.args.judge.now) c.args.shapes.now (g.J.Judge.place c.step.new.self) c.next-row.result c.requires.few h.row c.if-row-eq0.true in
-    (λ t. absurd (false≢true t), λ split. absurd (dead-never_splits (g.J.Judge.table c.args.judge.now) c.args.shapes.now (g.J.Judge.place c.step.new.self) dead stepped.1 split))
-
-pub loop-positions-preserved : goal.loop-positions-preserved
-loop-positions-preserved g c =
-    let i = c.loop-positions.invariant in
-    let table : g.J.Judge.table c.step.new.self ≡ g.J.Judge.table c.args.judge.now = c.step.ensures.same ∙ i.same in
-    let stepped = rw table at (c.step.ensures.stepped c.loop-positions-test.true) in
-    let h = rw (table, i.shapes) at c.next-row.ensures in
-    let room = mul-left (length c.args.shapes.now) (g.J.Judge.table c.args.judge.now).characters (g.J.Judge.place c.loop-positions.judge) (omega (arith, stepped.0, stepped.1)) in
+    let stepped = rw table at (c.step.ensures.stepped c.if-not-step.false) in
+    let h = rw (table, c.new-positions.ensures) at c.next-row.ensures in
+    let room = mul-left (length c.args.shapes.now) (g.J.Judge.table c.args.judge.now).characters (g.J.Judge.place c.loop-judge.judge) (omega (arith, stepped.0, stepped.1)) in
     record {
-      shapes = i.shapes;
       row = rw h.place h.row;
       within = rw h.place stepped.1;
       most = rw (h.place, stepped.0) (omega (arith, room, h.most, c.step.ensures.count, i.most));
       least = rw h.place
-          (asked_more (g.J.Judge.table c.args.judge.now) c.args.shapes.now (g.J.Judge.place c.args.judge.now) (g.J.Judge.count c.args.judge.now) (g.J.Judge.place c.loop-positions.judge) (g.J.Judge.place c.step.new.self) (g.J.Judge.count c.loop-positions.judge) (g.J.Judge.count c.next-row.new.judge) stepped.0 (rw c.step.ensures.count at h.least) i.least);
+          (asked_more (g.J.Judge.table c.args.judge.now) c.args.shapes.now (g.J.Judge.place c.args.judge.now) (g.J.Judge.count c.args.judge.now) (g.J.Judge.place c.loop-judge.judge) (g.J.Judge.place c.step.new.self) (g.J.Judge.count c.loop-judge.judge) (g.J.Judge.count c.next-row.new.judge) stepped.0 (rw c.step.ensures.count at h.least) i.least);
       monotone = omega (arith, h.monotone, i.monotone, c.step.ensures.count);
       same = h.same;
     }
 
-pub returns-clause-answer : goal.returns-clause-answer
-returns-clause-answer g c =
-    let i = c.loop-positions.invariant in
+pub returns-then-not-step-clause-answer : goal.returns-then-not-step-clause-answer
+returns-then-not-step-clause-answer g c =
+    let i = c.loop-judge.invariant in
     let table : g.J.Judge.table c.step.new.self ≡ g.J.Judge.table c.args.judge.now = c.step.ensures.same ∙ i.same in
-    let ended = rw table at (c.step.ensures.ended c.loop-positions-test.false) in
+    let ended = rw table at (c.step.ensures.ended c.if-not-step.true) in
     let at : 0 + length c.args.shapes.now ≡ length c.args.shapes.now = omega arith in
-    Splits-by_word (g.J.Judge.table c.args.judge.now) c.args.shapes.now 0 (length c.args.shapes.now) (g.J.Judge.place c.loop-positions.judge) c.loop-positions.row c.is_whole.result at c.requires.few (sym ended.1) i.row (rw i.shapes at c.is_whole.ensures)
+    Splits-by_word (g.J.Judge.table c.args.judge.now) c.args.shapes.now 0 (length c.args.shapes.now) (g.J.Judge.place c.loop-judge.judge) c.loop-judge.row c.is_whole.result at c.requires.few (sym ended.1) i.row (rw c.new-positions.ensures at c.is_whole.ensures)
 
-pub returns-clause-least : goal.returns-clause-least
-returns-clause-least g c = λ yes.
-    let i = c.loop-positions.invariant in
-    let table : g.J.Judge.table c.step.new.self ≡ g.J.Judge.table c.args.judge.now = c.step.ensures.same ∙ i.same in
-    let ended = rw table at (c.step.ensures.ended c.loop-positions-test.false) in
+pub returns-then-is_whole-clause-answer : goal.returns-then-is_whole-clause-answer
+returns-then-is_whole-clause-answer g c =
+    let i = c.loop-judge.invariant in
+    let more = c.step-then-is_whole.result in
+    let table : g.J.Judge.table c.step-then-is_whole.new.self ≡ g.J.Judge.table c.args.judge.now = c.step-then-is_whole.ensures.same ∙ i.same in
+    let whole = rw c.new-positions.ensures at c.is_whole-2.ensures in
+    let stepped = rw table at c.step-then-is_whole.ensures.stepped in
+    let ended = rw table at c.step-then-is_whole.ensures.ended in
     let at : 0 + length c.args.shapes.now ≡ length c.args.shapes.now = omega arith in
-    let whole = Splits-by_word (g.J.Judge.table c.args.judge.now) c.args.shapes.now 0 (length c.args.shapes.now) (g.J.Judge.place c.loop-positions.judge) c.loop-positions.row c.is_whole.result at c.requires.few (sym ended.1) i.row (rw i.shapes at c.is_whole.ensures) in
-    let asked = asked_all (g.J.Judge.table c.args.judge.now) c.args.shapes.now (g.J.Judge.place c.args.judge.now) (g.J.Judge.count c.args.judge.now) (g.J.Judge.place c.loop-positions.judge) (g.J.Judge.count c.loop-positions.judge) ended.1 i.least (whole.0 yes) in
-    omega (arith, asked, c.step.ensures.count, c.requires.place)
+    let last = Splits-by_last_word (g.J.Judge.table c.args.judge.now) c.args.shapes.now (g.J.Judge.place c.loop-judge.judge) c.loop-judge.row c.requires.few i.row (λ j lt. (rw c.new-positions.ensures at c.goes_on.ensures) j c.loop-judge-test.false lt) i.within in (
+      λ t. (Splits-by_word (g.J.Judge.table c.args.judge.now) c.args.shapes.now 0 (length c.args.shapes.now) (g.J.Judge.place c.loop-judge.judge) c.loop-judge.row c.is_whole-2.result at c.requires.few (sym (ended (not-true more t)).1) i.row whole).0 c.if-is_whole.true,
+      λ split. ap not (false_from_ne_true more (λ here. let (next, within) = stepped here in omega (arith, next, within, (last split).0))),
+    )
+
+pub returns-else-is_whole-clause-answer : goal.returns-else-is_whole-clause-answer
+returns-else-is_whole-clause-answer g c =
+    let i = c.loop-judge.invariant in
+    let last = Splits-by_last_word (g.J.Judge.table c.args.judge.now) c.args.shapes.now (g.J.Judge.place c.loop-judge.judge) c.loop-judge.row c.requires.few i.row (λ j lt. (rw c.new-positions.ensures at c.goes_on.ensures) j c.loop-judge-test.false lt) i.within in
+    (λ t. absurd (false≢true (sym c.if-is_whole.false ∙ t)), λ split. (rw c.new-positions.ensures at c.is_whole-2.ensures).1 (last split).1)

@@ -3,9 +3,8 @@ use Rattle.glob.specs.Leading.{IsAlive}
 use Rattle.glob.specs.Positions.{AliveWord}
 use Rattle.glob.proofs.matcher.few.run_few.Given as goal
 
-abbrev pub invariant-loop-positions : goal.invariant-loop-positions
-invariant-loop-positions g l = record {
-  shapes : l.positions.shapes.now ≡ l.fn.shapes;
+abbrev pub invariant-loop-judge : goal.invariant-loop-judge
+invariant-loop-judge g l = record {
   row : AliveWord (g.J.Judge.table l.fn.judge) l.fn.shapes 0 (g.J.Judge.place l.judge) l.row;
   within : g.J.Judge.place l.judge ≤ (g.J.Judge.table l.fn.judge).characters;
   most : g.J.Judge.count l.judge + length l.fn.shapes * ((g.J.Judge.table l.fn.judge).characters - g.J.Judge.place l.judge)
@@ -16,5 +15,5 @@ invariant-loop-positions g l = record {
   same : g.J.Judge.table l.judge ≡ g.J.Judge.table l.fn.judge;
 }
 
-abbrev pub decreases-loop-positions : goal.decreases-loop-positions
-decreases-loop-positions g l = (g.J.Judge.table l.fn.judge).characters - g.J.Judge.place l.judge
+abbrev pub decreases-loop-judge : goal.decreases-loop-judge
+decreases-loop-judge g l = (g.J.Judge.table l.fn.judge).characters - g.J.Judge.place l.judge

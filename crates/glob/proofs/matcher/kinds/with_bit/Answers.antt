@@ -2,4 +2,4 @@ use Rattle.glob.proofs.SetBits.{IsSet-with}
 use Rattle.glob.proofs.matcher.kinds.with_bit.Goals as goal
 
 pub returns : goal.returns
-returns c = rw c.from.ensures (IsSet-with c.args.word c.args.bit c.args.on c.requires)
+returns c = IsSet-with c.args.word c.args.bit c.requires

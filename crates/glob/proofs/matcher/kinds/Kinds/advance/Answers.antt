@@ -10,7 +10,6 @@ returns-clause-alive c = λ table shapes start k are taken at first.
 pub returns-clause-whole : goal.returns-clause-whole
 returns-clause-whole c = λ table shapes start k are taken at first within.
     let ending_fits : c.ending-ending.result < 2 ^ 64 = omega arith in
-    let runs_fit : c.args.self.runs < 2 ^ 64 = omega arith in
-    let deeps_fit : c.args.self.deeps < 2 ^ 64 = omega arith in
+    let growing_fits : c.args.self.growing < 2 ^ 64 = omega arith in
     whole-advanced table shapes start k c.args.self are c.args.took c.ending-ending.result c.args.opens c.args.whole taken at first c.ending-ending.ensures
-    c.overflowing_add-sum.result.1 (rw c.from.ensures at c.overflowing_add-sum.ensures.overflow) ending_fits runs_fit deeps_fit within
+    c.overflowing_add-sum.result.1 (rw c.from.ensures at c.overflowing_add-sum.ensures.overflow) ending_fits growing_fits within

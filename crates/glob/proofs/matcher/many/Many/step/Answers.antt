@@ -27,7 +27,7 @@ takes_each-took-requires-clause-tokens g c = λ j set.
     let table = g.J.Judge.table c.args.judge.now in
     let word : IsRowWord table shapes (64 * c.loop-n.n) (g.J.Judge.place c.args.judge.now - 1) c.index-word.result.now =
     rw (← c.index-word.ensures) at (i.rest.word c.loop-n.n c.index-word.result.now (omega arith) (omega (arith, i.count))) in
-    let within = asked-within table shapes (64 * c.loop-n.n) c.index-word.result.now.kinds word.kinds c.tokens.result c.tokens.ensures c.index-word.result.now.alive (omega arith) j set in
+    let within = asked-within table shapes (64 * c.loop-n.n) c.index-word.result.now.kinds word.kinds c.index-word.result.now.alive (omega arith) j set in
     rw i.same (omega (arith, within, c.requires.tokens))
 
 pub takes_each-took-requires-clause-room : goal.takes_each-took-requires-clause-room
@@ -38,7 +38,7 @@ takes_each-took-requires-clause-room g c =
     let word : IsRowWord table shapes (64 * c.loop-n.n) (g.J.Judge.place c.args.judge.now - 1) c.index-word.result.now =
     rw (← c.index-word.ensures) at (i.rest.word c.loop-n.n c.index-word.result.now (omega arith) (omega (arith, i.count))) in
     let row = c.requires.row.count in
-    let few = ones-asked table shapes (64 * c.loop-n.n) c.index-word.result.now.kinds word.kinds c.tokens.result c.tokens.ensures c.index-word.result.now.alive (omega arith) (length shapes - 64 * c.loop-n.n) (omega arith) in
+    let few = ones-asked table shapes (64 * c.loop-n.n) c.index-word.result.now.kinds word.kinds c.index-word.result.now.alive (omega arith) (length shapes - 64 * c.loop-n.n) (omega arith) in
     omega (arith, few, i.most_words, i.count, c.requires.room)
 
 pub loop-n-preserved : goal.loop-n-preserved
@@ -56,10 +56,10 @@ loop-n-preserved g c =
     let lt : n < length words = omega (arith, i.count) in
     let word : IsRowWord table shapes start (place - 1) c.index-word.result.now =
     rw (← c.index-word.ensures) at (i.rest.word n c.index-word.result.now (omega arith) lt) in
-    let few = ones-asked table shapes start kinds word.kinds c.tokens.result c.tokens.ensures old (omega arith) (length shapes - start) (omega arith) in
-    let few_word = ones-asked_word table shapes start kinds word.kinds c.tokens.result c.tokens.ensures old (omega arith) in
+    let few = ones-asked table shapes start kinds word.kinds old (omega arith) (length shapes - start) (omega arith) in
+    let few_word = ones-asked_word table shapes start kinds word.kinds old (omega arith) in
     let answers = rw (i.same, i.place) at h.took in
-    let taken = TakenWord-asked table shapes start kinds word.kinds c.tokens.result c.tokens.ensures place old c.takes_each-took.result c.requires.stepped word.alive answers in
+    let taken = TakenWord-asked table shapes start kinds word.kinds place old c.takes_each-took.result c.requires.stepped word.alive answers in
     let row_count = c.requires.row.count in
     let start_le : start ≤ length shapes = omega (arith, i.count) in
     let alive = c.advance-alive.ensures.alive table shapes start place word.kinds taken c.opens-opens.ensures (i.part.whole_is start_le) in
@@ -77,9 +77,9 @@ loop-n-preserved g c =
           (λ later.
           let at : start + (m - start) ≡ m = omega arith in
           ⊎_elim
-          (λ none. absurd (none_taken-from_none_asked table shapes start kinds word.kinds c.tokens.result c.tokens.ensures place old c.takes_each-took.result taken answers none (m - start) (omega arith) (omega arith) (rw at took)))
+          (λ none. absurd (none_taken-from_none_asked table shapes start kinds word.kinds place old c.takes_each-took.result taken answers none (m - start) (omega arith) (omega arith) (rw at took)))
           (λ some. omega (arith, h.count, i.monotone))
-          (cases_eq (count_ones (bit_and old c.tokens.result)) 0))
+          (cases_eq (count_ones (bit_and old kinds.tokens)) 0))
           (cases_lt m start);
       monotone = omega (arith, h.count, i.monotone);
       place = h.place ∙ i.place;
@@ -95,7 +95,7 @@ returns-clause-dead g c = λ none.
     let all : c.loop-n.n ≡ length words = omega (arith, i.count) in
     let zero_any : c.loop-n.any ≡ 0 = eqb-true c.loop-n.any 0 (not-false (nat_eq c.loop-n.any 0) none) in
     let row = IsRow-from_part table shapes (g.J.Judge.place c.args.judge.now) c.loop-n.n words c.loop-n.whole (i.count ∙ c.requires.row.count) all i.part in
-    dead-from_zeros table shapes (g.J.Judge.place c.args.judge.now) words (record { kinds = record { ones = 0; runs = 0; deeps = 0; bound = 0 }; alive = 0 }) row (rw all at (i.none zero_any))
+    dead-from_zeros table shapes (g.J.Judge.place c.args.judge.now) words (record { kinds = record { tokens = 0; growing = 0; bound = 0 }; alive = 0 }) row (rw all at (i.none zero_any))
 
 pub returns-clause-least : goal.returns-clause-least
 returns-clause-least g c = λ m le alive.
