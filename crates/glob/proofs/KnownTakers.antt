@@ -8,7 +8,7 @@ use Rattle.glob.specs.Characters.{slash, dot}
 use Rattle.glob.specs.Tokens.{Token, is_deep}
 use Rattle.glob.specs.Taking.{takes, is_kept_separator, is_kept_dot}
 use Rattle.glob.specs.Options.{new_options}
-use Rattle.glob.specs.Masks.{is_wild, is_bracket, is_kept}
+use Rattle.glob.specs.Masks.{is_any_or_run, is_bracket, is_kept}
 use Rattle.glob.specs.declared.options.MatchOptions.{MatchOptions}
 use Rattle.glob.specs.declared.grammar.Token.TheVariants.{Plain, Any, Run, Deep, Within, Except}
 use Rattle.glob.proofs.Case.{same-forms}
@@ -26,7 +26,7 @@ and_comm false false = refl
 
 module _ (o : MatchOptions) (opening : Bool) (c : ℕ) where
   -- what the dot rule keeps from wildcards, it keeps from all of them
-  pub kept-by_dot : is_kept_dot o opening c ≡ true → (t : Token) → IsTrue (is_kept o opening c t) ↔ (IsTrue (is_wild t) ⊎ IsTrue (is_bracket t) ⊎ IsTrue (is_deep t))
+  pub kept-by_dot : is_kept_dot o opening c ≡ true → (t : Token) → IsTrue (is_kept o opening c t) ↔ (IsTrue (is_any_or_run t) ⊎ IsTrue (is_bracket t) ⊎ IsTrue (is_deep t))
   kept-by_dot is (Plain x) = (λ t. absurd (false≢true t), λ h. ⊎_elim (λ e. absurd (false≢true e)) (λ h. ⊎_elim (λ e. absurd (false≢true e)) (λ e. absurd (false≢true e)) h) h)
   kept-by_dot is Any = (λ _. inl refl, λ _. or_right (is_kept_separator o c) _ is)
   kept-by_dot is Run = (λ _. inl refl, λ _. or_right (is_kept_separator o c) _ is)
@@ -35,26 +35,13 @@ module _ (o : MatchOptions) (opening : Bool) (c : ℕ) where
   kept-by_dot is (Except e) = (λ _. inr (inl refl), λ _. or_right (is_kept_separator o c) _ is)
 
   -- what the separator rule alone keeps, it keeps from all but `**`
-  pub kept-by_separator : is_kept_dot o opening c ≡ false → is_kept_separator o c ≡ true → (t : Token) → IsTrue (is_kept o opening c t) ↔ (IsTrue (is_wild t) ⊎ IsTrue (is_bracket t))
+  pub kept-by_separator : is_kept_dot o opening c ≡ false → is_kept_separator o c ≡ true → (t : Token) → IsTrue (is_kept o opening c t) ↔ (IsTrue (is_any_or_run t) ⊎ IsTrue (is_bracket t))
   kept-by_separator off is (Plain x) = (λ t. absurd (false≢true t), λ h. ⊎_elim (λ e. absurd (false≢true e)) (λ e. absurd (false≢true e)) h)
   kept-by_separator off is Any = (λ _. inl refl, λ _. or_left _ (is_kept_dot o opening c) is)
   kept-by_separator off is Run = (λ _. inl refl, λ _. or_left _ (is_kept_dot o opening c) is)
   kept-by_separator off is Deep = (λ t. absurd (false≢true (sym off ∙ t)), λ h. ⊎_elim (λ e. absurd (false≢true e)) (λ e. absurd (false≢true e)) h)
   kept-by_separator off is (Within e) = (λ _. inr refl, λ _. or_left _ (is_kept_dot o opening c) is)
   kept-by_separator off is (Except e) = (λ _. inr refl, λ _. or_left _ (is_kept_dot o opening c) is)
-
-  -- what neither rule keeps
-  pub kept-by_none : is_kept_dot o opening c ≡ false → is_kept_separator o c ≡ false → (t : Token) → is_kept o opening c t ≡ false
-  kept-by_none off none (Plain x) = refl
-  kept-by_none off none Any = rw (off, none) refl
-  kept-by_none off none Run = rw (off, none) refl
-  kept-by_none off none Deep = off
-  kept-by_none off none (Within e) = rw (off, none) refl
-  kept-by_none off none (Except e) = rw (off, none) refl
-
-  -- and so where neither is in force
-  pub unruled-kept : o.require_literal_separator ≡ false → o.require_literal_leading_dot ≡ false → (t : Token) → is_kept o opening c t ≡ false
-  unruled-kept separator leading t = kept-by_none (rw leading refl) (rw separator refl) t
 
   -- with case, a token takes the characters of its row that no rule keeps from it
   pub takes-with_case : o.case_sensitive ≡ true → (t : Token) → takes o opening c t ≡ (takes new_options true c t && not (is_kept o opening c t))
@@ -93,7 +80,7 @@ module _ (o : MatchOptions) (opening : Bool) (c : ℕ) where
       (rw no_slash (and-false o.require_literal_separator), rw no_dot (and-false (o.require_literal_leading_dot && opening)))
 
   -- so that wildcards take it
-  pub takes-beyond : 128 ≤ c → (t : Token) → IsTrue (is_wild t) ⊎ IsTrue (is_deep t) → IsTrue (takes o opening c t)
+  pub takes-beyond : 128 ≤ c → (t : Token) → IsTrue (is_any_or_run t) ⊎ IsTrue (is_deep t) → IsTrue (takes o opening c t)
   takes-beyond high (Plain x) h = ⊎_elim (λ e. absurd (false≢true e)) (λ e. absurd (false≢true e)) h
   takes-beyond high Any h = let none = kept-beyond high in rw (none.0, none.1) refl
   takes-beyond high Run h = let none = kept-beyond high in rw (none.0, none.1) refl

@@ -10,13 +10,13 @@ use Rattle.glob.specs.Bits.{IsSet}
 use Rattle.glob.specs.declared.grammar.Token.TheVariants.{Plain, Any, Run, Deep, Within, Except}
 
 -- `?` or `*`
-abbrev pub is_wild : Token → Bool
-is_wild (Plain c) = false
-is_wild Any = true
-is_wild Run = true
-is_wild Deep = false
-is_wild (Within entries) = false
-is_wild (Except entries) = false
+abbrev pub is_any_or_run : Token → Bool
+is_any_or_run (Plain c) = false
+is_any_or_run Any = true
+is_any_or_run Run = true
+is_any_or_run Deep = false
+is_any_or_run (Within entries) = false
+is_any_or_run (Except entries) = false
 
 -- within or except
 abbrev pub is_bracket : Token → Bool
@@ -31,7 +31,7 @@ is_bracket (Except entries) = true
 abbrev pub in_row : (row : ℕ) → Token → Bool
 in_row row token =
     if nat_lt row 128 then takes new_options true row token
-    else if row == 128 then is_wild token
+    else if row == 128 then is_any_or_run token
     else if row == 129 then is_deep token
     else is_bracket token
 

@@ -121,13 +121,27 @@ impl<A: Allocator + Copy> Pattern<A> {
         ensures answer { IfOk result (λ yes. IsTrue yes ↔ Matches new_options (chars self.now) (chars str.now)) }
         ensures short { IsShort (chars self.now) → IsOk result }
     {
-        self.matches_with(str, MatchOptions::new())
+        Ok(self.matches_counted(str, MatchOptions::new())?.0)
     }
 
     /// Whether the pattern matches the whole text: whether the text splits into one allowed piece for each token.
     ///
     /// An error says that there was no memory, which no pattern of at most 63 tokens needs.
     pub fn matches_with(&self, str: &str, options: MatchOptions) -> Result<bool, AllocError>
+        ensures answer { IfOk result (λ yes. IsTrue yes ↔ Matches options (chars self.now) (chars str.now)) }
+        ensures short { IsShort (chars self.now) → IsOk result }
+    {
+        if options == MatchOptions::new() {
+            self.matches(str)
+        } else {
+            self.matches_under(str, options)
+        }
+    }
+
+    /// [`matches_with`](Self::matches_with) under any options. It stands apart, so that the compiler leaves out all
+    /// questions about the options where `matches_with` goes to [`matches`](Self::matches).
+    #[inline(never)]
+    fn matches_under(&self, str: &str, options: MatchOptions) -> Result<bool, AllocError>
         ensures answer { IfOk result (λ yes. IsTrue yes ↔ Matches options (chars self.now) (chars str.now)) }
         ensures short { IsShort (chars self.now) → IsOk result }
     {

@@ -71,14 +71,14 @@ impl<A: Allocator> Judge for TextJudge<'_, A> {
 
     #[inline(always)]
     fn step(&mut self) -> bool {
-        // For the proof: what is left is text.
-        let _left = self.rest.as_str();
+        let left = self.rest.as_str();
         let Some(c) = self.rest.next() else {
             return false;
         };
         self.current = c;
         self.opened = self.opens;
-        self.opens = c == '/';
+        // The first byte tells this whatever its character is, so it needs no branch of its own.
+        self.opens = left.as_bytes()[0] == b'/';
         true
     }
 
@@ -111,14 +111,13 @@ impl<A: Allocator> Judge for TextJudge<'_, A> {
         if left == 0 {
             return took;
         }
-        took | take_left(
-            self.tokens,
-            word,
-            left,
-            self.options,
-            self.opened,
-            self.current,
-        )
+        // Copied field by field, the options themselves are never in memory that a call might change.
+        let options = MatchOptions {
+            case_sensitive: self.options.case_sensitive,
+            require_literal_separator: self.options.require_literal_separator,
+            require_literal_leading_dot: self.options.require_literal_leading_dot,
+        };
+        took | take_left(self.tokens, word, left, options, self.opened, self.current)
     }
 
     #[inline(always)]

@@ -63,13 +63,6 @@ pub fn take_known(
         let wild = masks[row + WILD] | masks[row + DEEP];
         return (asked & wild, asked & !wild);
     }
-    // The common case stands apart, so that a match tests its options once and not at each character.
-    if options.case_sensitive
-        && !options.require_literal_separator
-        && !options.require_literal_leading_dot
-    {
-        return (asked & masks[row + c as usize], 0);
-    }
     let free = !kept(masks, word, options, opening, c);
     if options.case_sensitive {
         return (asked & free & masks[row + c as usize], 0);

@@ -10,7 +10,7 @@ use Rattle.glob.specs.Masks.{is_bracket, is_kept}
 use Rattle.glob.specs.declared.grammar.Token.TheVariants.{Any}
 use Rattle.glob.proofs.SetBits.{IsSet-or, IsSet-and, IsSet-without}
 use Rattle.glob.proofs.Masks.{in_row-character}
-use Rattle.glob.proofs.KnownTakers.{unruled-kept, takes-with_case, takes-without_case, takes-beyond}
+use Rattle.glob.proofs.KnownTakers.{takes-with_case, takes-without_case, takes-beyond}
 use Rattle.glob.proofs.pattern.masks.take_known.Goals as goal
 
 pub returns-then-not-is_ascii-clause-left : goal.returns-then-not-is_ascii-clause-left
@@ -35,27 +35,8 @@ returns-then-not-is_ascii-clause-all c = λ tokens are j lt below asked takes.
     let fits : wild < 2 ^ 64 = or_lt 64 _ _ wild_fits deep_fits in
     ⊎_elim (λ s. inl ((IsSet-and c.args.asked wild j).1 (asked, s))) (λ none. inr ((IsSet-without c.args.asked wild j fits lt).1 (asked, none))) (cases_eq (bit_at wild j) 1)
 
-pub returns-then-not-options-2-clause-taken : goal.returns-then-not-options-2-clause-taken
-returns-then-not-options-2-clause-taken c = λ tokens are j lt s.
-    let word = c.args.word in
-    let low : c.args.c < 128 = ltb-true c.args.c 128 (sym c.is_ascii.ensures ∙ c.if-not-is_ascii.false) in
-    let both = (IsSet-and c.args.asked (get_or c.args.masks.now (131 * word + c.args.c) 0) j).0 s in
-    let row = (are.row c.args.c word j (omega arith) (omega (arith, c.requires)) lt).0 both.1 in
-    let token = get_or tokens (64 * word + j) Any in
-    let none = unruled-kept c.args.options c.args.opening c.args.c (not-true _ c.if-not-options.true) (not-true _ c.if-not-options-2.true) token in
-    (both.0, takes-with_case c.args.options c.args.opening c.args.c c.if-options.true token ∙ and_from _ _ (sym (in_row-character c.args.c token low) ∙ row.1) (not_from_false _ none))
-
-pub returns-then-not-options-2-clause-all : goal.returns-then-not-options-2-clause-all
-returns-then-not-options-2-clause-all c = λ tokens are j lt below asked takes.
-    let word = c.args.word in
-    let low : c.args.c < 128 = ltb-true c.args.c 128 (sym c.is_ascii.ensures ∙ c.if-not-is_ascii.false) in
-    let token = get_or tokens (64 * word + j) Any in
-    let parts = and_parts _ _ (sym (takes-with_case c.args.options c.args.opening c.args.c c.if-options.true token) ∙ takes) in
-    let row = (are.row c.args.c word j (omega arith) (omega (arith, c.requires)) lt).1 (below, in_row-character c.args.c token low ∙ parts.0) in
-    inl ((IsSet-and c.args.asked (get_or c.args.masks.now (131 * word + c.args.c) 0) j).1 (asked, row))
-
-pub returns-then-options-2-clause-taken : goal.returns-then-options-2-clause-taken
-returns-then-options-2-clause-taken c = λ tokens are j lt s.
+pub returns-then-options-clause-taken : goal.returns-then-options-clause-taken
+returns-then-options-clause-taken c = λ tokens are j lt s.
     let masks = c.args.masks.now in
     let word = c.args.word in
     let low : c.args.c < 128 = ltb-true c.args.c 128 (sym c.is_ascii.ensures ∙ c.if-not-is_ascii.false) in
@@ -67,16 +48,16 @@ returns-then-options-2-clause-taken c = λ tokens are j lt s.
     let kept = c.kept-free.ensures tokens are j lt row.0 in
     let taker : IsTrue (takes new_options true c.args.c token) = sym (in_row-character c.args.c token low) ∙ row.1 in
     let none : is_kept c.args.options c.args.opening c.args.c token ≡ false = false_from_ne_true _ (λ t. free.1 (kept.1 t)) in
-    (free.0, takes-with_case c.args.options c.args.opening c.args.c c.if-options-2.true token ∙ and_from _ _ taker (not_from_false _ none))
+    (free.0, takes-with_case c.args.options c.args.opening c.args.c c.if-options.true token ∙ and_from _ _ taker (not_from_false _ none))
 
-pub returns-then-options-2-clause-all : goal.returns-then-options-2-clause-all
-returns-then-options-2-clause-all c = λ tokens are j lt below asked takes.
+pub returns-then-options-clause-all : goal.returns-then-options-clause-all
+returns-then-options-clause-all c = λ tokens are j lt below asked takes.
     let masks = c.args.masks.now in
     let word = c.args.word in
     let low : c.args.c < 128 = ltb-true c.args.c 128 (sym c.is_ascii.ensures ∙ c.if-not-is_ascii.false) in
     let kept_fits : c.kept-free.result < 2 ^ 64 = omega arith in
     let token = get_or tokens (64 * word + j) Any in
-    let parts = and_parts _ _ (sym (takes-with_case c.args.options c.args.opening c.args.c c.if-options-2.true token) ∙ takes) in
+    let parts = and_parts _ _ (sym (takes-with_case c.args.options c.args.opening c.args.c c.if-options.true token) ∙ takes) in
     let kept = c.kept-free.ensures tokens are j lt below in
     let row = (are.row c.args.c word j (omega arith) (omega (arith, c.requires)) lt).1 (below, in_row-character c.args.c token low ∙ parts.0) in
     let free = (IsSet-without c.args.asked c.kept-free.result j kept_fits lt).1 (asked, λ s. false≢true (sym (not-true _ parts.1) ∙ kept.0 s)) in
@@ -110,7 +91,7 @@ returns-clause-taken c = λ tokens are j lt s.
     let no_bracket : is_bracket token ≡ false = false_from_ne_true _ (λ t. plain.1 (row_bracket.1 (below, t))) in
     let none : is_kept c.args.options c.args.opening c.args.c token ≡ false = false_from_ne_true _ (λ t. free.1 (kept.1 t)) in (
       free.0,
-      (takes-without_case c.args.options c.args.opening c.args.c low c.if-options-2.false token no_bracket).1
+      (takes-without_case c.args.options c.args.opening c.args.c low c.if-options.false token no_bracket).1
           (⊎_elim (λ s. inl (sym (in_row-character (to_ascii_lowercase c.args.c) token small) ∙ (row_small.0 s).1)) (λ s. inr (sym (in_row-character (to_ascii_uppercase c.args.c) token great) ∙ (row_great.0 s).1)) one, none),
     )
 
@@ -134,7 +115,7 @@ returns-clause-all c = λ tokens are j lt below asked takes.
     (λ s. inr ((IsSet-and c.args.asked brackets j).1 (asked, s)))
     (λ out.
     let no_bracket : is_bracket token ≡ false = false_from_ne_true _ (λ t. out (row_bracket.1 (below, t))) in
-    let parts = (takes-without_case c.args.options c.args.opening c.args.c low c.if-options-2.false token no_bracket).0 takes in
+    let parts = (takes-without_case c.args.options c.args.opening c.args.c low c.if-options.false token no_bracket).0 takes in
     let one = ⊎_elim (λ t. inl (row_small.1 (below, in_row-character (to_ascii_lowercase c.args.c) token small ∙ t))) (λ t. inr (row_great.1 (below, in_row-character (to_ascii_uppercase c.args.c) token great ∙ t))) parts.0 in
     let free = (IsSet-without c.args.asked c.kept-free.result j kept_fits lt).1 (asked, λ s. false≢true (sym parts.1 ∙ kept.0 s)) in
     let both = (IsSet-and (bit_and c.args.asked (bit_not w64 c.kept-free.result)) forms j).1 (free, (IsSet-or _ _ j).1 one) in
