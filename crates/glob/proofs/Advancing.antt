@@ -113,33 +113,30 @@ closed_of begun growing = bit_or begun (bit_xor ((bit_and begun growing + growin
 module _ (table : Table) (shapes : List Shape) (start k : ℕ) (kinds : Kinds) (are : AreKinds shapes start (length shapes) kinds) (took ending : ℕ) (opens whole : Bool) (taken : TakenWord table shapes start k took)
     (at : opens ≡ table.opens k) (first : IsTrue whole ↔ LeadingSplit table shapes start k)
     (ends : (j : ℕ) → j < 64 → IsSet ending j ↔ (IsSet took j × (IsTrue opens ⊎ (IsSet kinds.bound j → ⊥)))) where
-  abbrev growing : ℕ
-  growing = kinds.growing
-
   ending_word : EndingWord table shapes start k ending
   ending_word = EndingWord-from_taken table shapes start k kinds are took ending opens at taken ends
 
-  closed-is_whole : (j : ℕ) → j < 64 → start + j ≤ length shapes → IsSet (closed_of (begun_of ending whole) growing) j ↔ LeadingSplit table shapes (start + j) k
+  closed-is_whole : (j : ℕ) → j < 64 → start + j ≤ length shapes → IsSet (closed_of (begun_of ending whole) kinds.growing) j ↔ LeadingSplit table shapes (start + j) k
   closed-is_whole j lt within =
-      let word = IsSet-closed (begun_of ending whole) growing j lt in
+      let word = IsSet-closed (begun_of ending whole) kinds.growing j lt in
       let lead = spread-is_whole table shapes start k kinds are (begun_of ending whole) whole ending (IsSet-moved_low ending whole) (IsSet-moved_next ending whole) first ending_word j lt within in
       (λ h. lead.0 (word.0 h), λ h. word.1 (lead.1 h))
 
   -- the positions alive after the character
-  pub AliveWord-advanced : AliveWord table shapes start k (bit_or (bit_and took growing) (closed_of (begun_of ending whole) growing))
+  pub AliveWord-advanced : AliveWord table shapes start k (bit_or (bit_and took kinds.growing) (closed_of (begun_of ending whole) kinds.growing))
   AliveWord-advanced =
-      AliveWord-from_whole table shapes start k kinds are took (closed_of (begun_of ending whole) growing) _ taken closed-is_whole (λ j lt.
-      let or = IsSet-or (bit_and took growing) (closed_of (begun_of ending whole) growing) j in
-      let and = IsSet-and took growing j in
+      AliveWord-from_whole table shapes start k kinds are took (closed_of (begun_of ending whole) kinds.growing) _ taken closed-is_whole (λ j lt.
+      let or = IsSet-or (bit_and took kinds.growing) (closed_of (begun_of ending whole) kinds.growing) j in
+      let and = IsSet-and took kinds.growing j in
       (λ h. ⊎_elim (λ s. inl (and.0 s)) inr (or.0 h), λ h. or.1 (⊎_elim (λ s. inl (and.1 s)) inr h)))
 
   -- whether the shapes of the whole word are whole
-  pub whole-advanced : (past : Bool) → FalseIff past (bit_and (begun_of ending whole) growing + growing < 2 ^ 64) → ending < 2 ^ 64 → kinds.growing < 2 ^ 64
+  pub whole-advanced : (past : Bool) → FalseIff past (bit_and (begun_of ending whole) kinds.growing + kinds.growing < 2 ^ 64) → ending < 2 ^ 64 → kinds.growing < 2 ^ 64
       → start + 64 ≤ length shapes → IsTrue (past || not (nat_eq (ending / 2 ^ 63) 0)) ↔ LeadingSplit table shapes (start + 64) k
   whole-advanced past over fits growing_fits within =
-      let whole_one = whole-past_word table shapes start k kinds are ending (closed_of (begun_of ending whole) growing) ending_word closed-is_whole within in
-      let spreads = spread_past (begun_of ending whole) growing (or_lt 64 _ _ (omega arith) (byte_small whole)) growing_fits in
-      let word = IsSet-closed (begun_of ending whole) growing 63 (omega arith) in
+      let whole_one = whole-past_word table shapes start k kinds are ending (closed_of (begun_of ending whole) kinds.growing) ending_word closed-is_whole within in
+      let spreads = spread_past (begun_of ending whole) kinds.growing (or_lt 64 _ _ (omega arith) (byte_small whole)) growing_fits in
+      let word = IsSet-closed (begun_of ending whole) kinds.growing 63 (omega arith) in
       let high = highest_set ending fits in (
         λ h. whole_one.0 (⊎_elim (λ e. let both = spreads.0 (past_true past over e) in inl (both.0, word.1 both.1)) (λ e. inr (high.0 (eqb-false (ending / 2 ^ 63) 0 (not-true (nat_eq (ending / 2 ^ 63) 0) e)))) (or_cases past (not (nat_eq (ending / 2 ^ 63) 0)) h)),
         λ h. ⊎_elim (λ (g, c). or_left past _ (true_past past over (spreads.1 (g, word.0 c)))) (λ e. or_right past _ (ap not (ne_eqb (ending / 2 ^ 63) 0 (high.1 e)))) (whole_one.1 h),

@@ -73,7 +73,7 @@ module _ (o : MatchOptions) (opening : Bool) (c : ℕ) where
   takes-without_case low case (Except e) plain = absurd (false≢true (sym plain))
 
   -- no rule keeps a character beyond ASCII
-  pub kept-beyond : 128 ≤ c → (is_kept_separator o c ≡ false) × (is_kept_dot o opening c ≡ false)
+  kept-beyond : 128 ≤ c → (is_kept_separator o c ≡ false) × (is_kept_dot o opening c ≡ false)
   kept-beyond high =
       let no_slash : (c == slash) ≡ false = ne_eqb c slash (λ e. omega arith) in
       let no_dot : (c == dot) ≡ false = ne_eqb c dot (λ e. omega arith) in

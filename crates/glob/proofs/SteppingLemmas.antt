@@ -1,5 +1,5 @@
 -- Stepping through a text.
-use Rattle.std.proofs.Common.{◌≡◌, ℕ, suc, ◌+◌, ◌-◌, ◌<◌, ◌≤◌, Bool, true, false, ◌∷◌, length, drop, refl, arith, sym, ap, ◌∙◌, slice_index, get_or, ◌==◌, length-drop, List, ◌++◌, ⊎_elim}
+use Rattle.std.proofs.Common.{◌≡◌, ℕ, suc, ◌+◌, ◌-◌, ◌<◌, ◌≤◌, Bool, false, ◌∷◌, length, drop, refl, arith, sym, ap, ◌∙◌, slice_index, get_or, ◌==◌, length-drop, List, ◌++◌, ⊎_elim}
 use Rattle.std.proofs.Math.Seq.{drop-cons}
 use Rattle.std.proofs.lemmas.Bool.{cases_eq, cases_lt, ne_eqb}
 use Rattle.std.proofs.lemmas.Bool.Decides.{nat_tests}
@@ -9,17 +9,6 @@ use lib.Utf8.{encode}
 use Rattle.glob.specs.Text.{Text, opens}
 use Rattle.glob.specs.Characters.{slash}
 use Rattle.glob.specs.Stepping.{place_before, StandsBefore}
-
--- before the whole text stands nothing
-pub StandsBefore-start : (text : Text) (current : ℕ) (opened : Bool) → StandsBefore text text current opened true
-StandsBefore-start text current opened =
-    let none : place_before text text ≡ 0 = omega arith in
-    record {
-      left = rw none refl;
-      here = rw none refl;
-      last = λ h. absurd (omega arith);
-      before = λ h. absurd (omega arith);
-    }
 
 -- the rest is no longer than the text
 pub place_before-cons : (text rest : Text) (c : ℕ) → c ∷ rest ≡ drop (place_before text (c ∷ rest)) text
@@ -42,6 +31,17 @@ opens-suc text p =
     let later : (suc p == 0) ≡ false = grind (arith, nat_tests) in
     rw (back, later) refl
 
+-- the first byte tells whether the first character is a slash
+pub slash-by_byte : (bytes rest : List ℕ) (c : ℕ) → bytes ≡ encode c ++ rest → (get_or bytes 0 0 == slash) ≡ (c == slash)
+slash-by_byte bytes rest c is =
+    ⊎_elim
+    (λ e. ap (λ d. d == slash) (byte_from_char bytes rest c is (omega arith)))
+    (λ ne. ne_eqb (get_or bytes 0 0) slash (λ e. ne (char_from_byte bytes rest c is (omega arith) (some e) ∙ e)) ∙ sym (ne_eqb c slash ne))
+    (cases_eq c slash)
+  where
+    some : get_or bytes 0 0 ≡ slash → 0 < length bytes
+    some e = ⊎_elim (λ lt. lt) (λ none. absurd (omega (arith, e, get_or_past bytes 0 0 none))) (cases_lt 0 (length bytes))
+
 -- one step on
 pub StandsBefore-step : (text rest : Text) (c current : ℕ) (opened opening : Bool)
     → StandsBefore text (c ∷ rest) current opened opening → StandsBefore text rest c opening (c == slash)
@@ -55,17 +55,6 @@ StandsBefore-step text rest c current opened opening s =
       last = λ _. split.0 ∙ ap (λ p. slice_index text p) (sym back);
       before = λ _. s.here ∙ ap (opens text) (sym back);
     }
-
--- the first byte tells whether the first character is a slash
-pub slash-by_byte : (bytes rest : List ℕ) (c : ℕ) → bytes ≡ encode c ++ rest → (get_or bytes 0 0 == slash) ≡ (c == slash)
-slash-by_byte bytes rest c is =
-    ⊎_elim
-    (λ e. ap (λ d. d == slash) (byte_from_char bytes rest c is (omega arith)))
-    (λ ne. ne_eqb (get_or bytes 0 0) slash (λ e. ne (char_from_byte bytes rest c is (omega arith) (some e) ∙ e)) ∙ sym (ne_eqb c slash ne))
-    (cases_eq c slash)
-  where
-    some : get_or bytes 0 0 ≡ slash → 0 < length bytes
-    some e = ⊎_elim (λ lt. lt) (λ none. absurd (omega (arith, e, get_or_past bytes 0 0 none))) (cases_lt 0 (length bytes))
 
 -- one step on, in places
 pub place_before-step : (text rest : Text) (c current : ℕ) (opened opening : Bool)

@@ -1,4 +1,4 @@
--- Rows of positions as words: the first, the next, and what is asked for it.
+-- Rows of positions as words: the first, the next, what is asked for it, and what the last says.
 use Rattle.std.proofs.Common.{◌≡◌, ℕ, zero, suc, ◌+◌, ◌-◌, ◌^◌, ◌<◌, ◌≤◌, ◌↔◌, Bool, false, nat_eq, IsTrue, List, length, bit_and, ⊎_elim, sym, subst, arith}
 use Rattle.std.specs.Int.Count.{ones}
 use Rattle.std.proofs.lemmas.Bool.{cases_eq, cases_lt, eqb-true, eq-eqb, false≢true}
@@ -102,10 +102,10 @@ Splits-by_word table shapes start j k row answer at lt end alive bit =
     (λ t. split.1 (here.0 (bit.0 t)), λ s. bit.1 (here.1 (split.0 s)))
 
 -- where no token is alive, the characters split only if there are no more and all shapes are alive
-pub Splits-by_last_word : (table : Table) (shapes : List Shape) (k row : ℕ) → length shapes < 64 → AliveWord table shapes 0 k row
+pub Splits-without_tokens : (table : Table) (shapes : List Shape) (k row : ℕ) → length shapes < 64 → AliveWord table shapes 0 k row
     → ((j : ℕ) → j < length shapes → IsSet row j → ⊥) → k ≤ table.characters → Splits table shapes → (k ≡ table.characters) × IsSet row (length shapes)
 unfolding HasTaken
-Splits-by_last_word table shapes k row few alive none within split =
+Splits-without_tokens table shapes k row few alive none within split =
     ⊎_elim
     (λ end. (end, (word (length shapes) (omega arith)).1 (subst (IsAlive table shapes (length shapes)) (sym end) ((Splits-iff_alive table shapes).0 split))))
     (λ more. absurd (dead-never_splits table shapes (suc k) (IsDead-from_none table shapes k (λ n lt (a, t). none n lt ((word n (omega arith)).1 a))) (omega arith) split))

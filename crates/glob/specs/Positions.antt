@@ -1,4 +1,5 @@
--- Positions among shapes as bits: words of 64 bits that say of shapes which they are, and of leading shapes whether they are alive.
+-- Positions among shapes as bits: words of 64 bits that say which shapes there are and what pieces they may have, and of
+-- leading shapes whether they are alive.
 use Rattle.std.specs.Prelude.{◌≡◌, ℕ, ◌+◌, ◌*◌, ◌/◌, ◌<◌, ◌≤◌, ◌≢◌, ◌↔◌, List, length, slice_index_or}
 use Rattle.glob.specs.Bits.{IsSet}
 use Rattle.glob.specs.Splits.{Table}
@@ -8,8 +9,8 @@ use Rattle.glob.specs.declared.matcher.Shape.TheVariants.{One, Deep}
 use Rattle.glob.specs.declared.matcher.kinds.Kinds.{Kinds}
 use Rattle.glob.specs.declared.matcher.many.Word.{Word}
 
--- The words say of the shapes from number `start` up to number `end`, 64 at most, which there are, which may have pieces of
--- any length, and which are deep and have others after them.
+-- Of the 64 shapes from number `start` on, the words say which stand before number `end`, which of these may have pieces
+-- of any length, and which are deep and have others after them.
 pub record AreKinds (shapes : List Shape) (start end : ℕ) (kinds : Kinds) : Type 0 where
   pub tokens : (j : ℕ) → j < 64 → IsSet kinds.tokens j ↔ (start + j < end)
   pub growing : (j : ℕ) → j < 64 → IsSet kinds.growing j ↔ ((start + j < end) × (slice_index_or shapes (start + j) One ≢ One))

@@ -138,8 +138,8 @@ impl<A: Allocator + Copy> Pattern<A> {
         }
     }
 
-    /// [`matches_with`](Self::matches_with) under any options. It stands apart, so that the compiler leaves out all
-    /// questions about the options where `matches_with` goes to [`matches`](Self::matches).
+    /// The answer of [`matches_with`](Self::matches_with) by a loop that asks about the options. It is never inlined, so
+    /// that the loop in `matches_with` is compiled for `MatchOptions::new()` alone.
     #[inline(never)]
     fn matches_under(&self, str: &str, options: MatchOptions) -> Result<bool, AllocError>
         ensures answer { IfOk result (λ yes. IsTrue yes ↔ Matches options (chars self.now) (chars str.now)) }

@@ -63,10 +63,10 @@ impl<'a> Few<'a> {
         self.kinds.advance(took, opens, lead == 0).0
     }
 
-    /// Whether a token is alive, so that a character more may be taken.
+    /// Whether a token is alive, so that another character may be taken.
     #[inline(always)]
     fn goes_on(&self, row: u64) -> bool
-        ensures { (j : ℕ) → result ≡ false → j < length self.now.shapes.now → ¬ (IsSet row j) }
+        ensures { result ≡ false → (j : ℕ) → j < length self.now.shapes.now → ¬ (IsSet row j) }
     {
         row & self.kinds.tokens != 0
     }

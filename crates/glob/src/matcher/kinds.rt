@@ -1,4 +1,4 @@
-ghost use Rattle.std.specs.Prelude.{◌≡◌, ℕ, ◌+◌, ◌^◌, ◌<◌, ◌≤◌, ◌≢◌, ◌⊎◌, ◌↔◌, List, length, min, IsTrue};
+ghost use Rattle.std.specs.Prelude.{◌≡◌, ℕ, ◌+◌, ◌<◌, ◌≤◌, ◌≢◌, ◌⊎◌, ◌↔◌, List, length, IsTrue};
 ghost use Rattle.glob.specs.Splits.{Table};
 ghost use Rattle.glob.specs.Leading.{LeadingSplit};
 ghost use Rattle.glob.specs.Bits.{IsSet};
@@ -9,7 +9,7 @@ use super::Shape;
 /// The shapes from one of them on, 64 at most, as bits: bit 0 is of that one.
 #[derive(Clone, Copy)]
 pub struct Kinds {
-    /// All of them: bit n is set where there is a token of that number.
+    /// All of them: the bits of the shapes that there are.
     pub tokens: u64,
     /// Those whose pieces may be of any length.
     pub growing: u64,
@@ -69,11 +69,10 @@ impl Kinds {
             → start + 64 ≤ length shapes → IsTrue result.1 ↔ LeadingSplit table shapes (start + 64) k }
     {
         let ending = self.ending(took, opens);
-        let growing = self.growing;
         let begun = (ending << 1) | u64::from(whole);
-        let (sum, past) = (begun & growing).overflowing_add(growing);
-        let closed = begun | (sum ^ growing);
-        ((took & growing) | closed, past | (ending >> 63 != 0))
+        let (sum, past) = (begun & self.growing).overflowing_add(self.growing);
+        let closed = begun | (sum ^ self.growing);
+        ((took & self.growing) | closed, past | (ending >> 63 != 0))
     }
 
     /// Of the tokens that took a character, those whose pieces may end after it.

@@ -77,7 +77,7 @@ impl<A: Allocator> Judge for TextJudge<'_, A> {
         };
         self.current = c;
         self.opened = self.opens;
-        // The first byte tells this whatever its character is, so it needs no branch of its own.
+        // Asked of the first byte and not of c: the answer is the same, and takes no branch.
         self.opens = left.as_bytes()[0] == b'/';
         true
     }
@@ -111,7 +111,8 @@ impl<A: Allocator> Judge for TextJudge<'_, A> {
         if left == 0 {
             return took;
         }
-        // Copied field by field, the options themselves are never in memory that a call might change.
+        // A copy of the fields: for all that the compiler knows, a call that got self.options itself might change them, and
+        // the loop would read them again at each character.
         let options = MatchOptions {
             case_sensitive: self.options.case_sensitive,
             require_literal_separator: self.options.require_literal_separator,

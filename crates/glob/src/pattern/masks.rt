@@ -14,7 +14,7 @@ use crate::pattern::taking::is_kept_dot;
 use std::alloc::{AllocError, Allocator};
 
 /// The row of `?` and `*`, after a row for each character of ASCII.
-const WILD: usize = 128;
+const ANY_OR_RUN: usize = 128;
 
 /// The row of `**`.
 const DEEP: usize = 129;
@@ -60,7 +60,7 @@ pub fn take_known(
 {
     let row = ROWS * word;
     if !c.is_ascii() {
-        let wild = masks[row + WILD] | masks[row + DEEP];
+        let wild = masks[row + ANY_OR_RUN] | masks[row + DEEP];
         return (asked & wild, asked & !wild);
     }
     let free = !kept(masks, word, options, opening, c);
@@ -84,7 +84,7 @@ fn kept(masks: &[u64], word: usize, options: MatchOptions, opening: bool, c: cha
         return 0;
     }
     let row = ROWS * word;
-    let wild = masks[row + WILD] | masks[row + BRACKETS];
+    let wild = masks[row + ANY_OR_RUN] | masks[row + BRACKETS];
     if is_kept_dot(options, opening, c) {
         wild | masks[row + DEEP]
     } else if options.require_literal_separator && c == '/' {
@@ -120,7 +120,7 @@ fn add<A: Allocator>(masks: &mut [u64], n: usize, token: &Token<Class<A>>)
         Token::Plain(c) => paint(masks, first, bit, *c, *c, true),
         Token::Any | Token::Run => {
             paint(masks, first, bit, '\0', '\u{7f}', true);
-            masks[first + WILD] = put_bit(masks[first + WILD], bit, true);
+            masks[first + ANY_OR_RUN] = put_bit(masks[first + ANY_OR_RUN], bit, true);
         }
         Token::Deep => {
             paint(masks, first, bit, '\0', '\u{7f}', true);

@@ -2,7 +2,7 @@ use Rattle.std.proofs.Common.{◌≡◌, ◌+◌, ◌∙◌, not, length, sym, a
 use Rattle.std.proofs.lemmas.Bool.{false≢true, false_from_ne_true, not-true}
 use Rattle.glob.proofs.Alive.{asked_more}
 use Rattle.glob.proofs.Counts.{mul-left}
-use Rattle.glob.proofs.WordRows.{Splits-by_last_word, Splits-by_word}
+use Rattle.glob.proofs.WordRows.{Splits-without_tokens, Splits-by_word}
 use Rattle.glob.proofs.matcher.few.run_few.Goals as goal
 
 pub loop-judge-preserved : goal.loop-judge-preserved
@@ -39,7 +39,7 @@ returns-then-is_whole-clause-answer g c =
     let stepped = rw table at c.step-then-is_whole.ensures.stepped in
     let ended = rw table at c.step-then-is_whole.ensures.ended in
     let at : 0 + length c.args.shapes.now ≡ length c.args.shapes.now = omega arith in
-    let last = Splits-by_last_word (g.J.Judge.table c.args.judge.now) c.args.shapes.now (g.J.Judge.place c.loop-judge.judge) c.loop-judge.row c.requires.few i.row (λ j lt. (rw c.new-positions.ensures at c.goes_on.ensures) j c.loop-judge-test.false lt) i.within in (
+    let last = Splits-without_tokens (g.J.Judge.table c.args.judge.now) c.args.shapes.now (g.J.Judge.place c.loop-judge.judge) c.loop-judge.row c.requires.few i.row ((rw c.new-positions.ensures at c.goes_on.ensures) c.loop-judge-test.false) i.within in (
       λ t. (Splits-by_word (g.J.Judge.table c.args.judge.now) c.args.shapes.now 0 (length c.args.shapes.now) (g.J.Judge.place c.loop-judge.judge) c.loop-judge.row c.is_whole-2.result at c.requires.few (sym (ended (not-true more t)).1) i.row whole).0 c.if-is_whole.true,
       λ split. ap not (false_from_ne_true more (λ here. let (next, within) = stepped here in omega (arith, next, within, (last split).0))),
     )
@@ -47,5 +47,5 @@ returns-then-is_whole-clause-answer g c =
 pub returns-else-is_whole-clause-answer : goal.returns-else-is_whole-clause-answer
 returns-else-is_whole-clause-answer g c =
     let i = c.loop-judge.invariant in
-    let last = Splits-by_last_word (g.J.Judge.table c.args.judge.now) c.args.shapes.now (g.J.Judge.place c.loop-judge.judge) c.loop-judge.row c.requires.few i.row (λ j lt. (rw c.new-positions.ensures at c.goes_on.ensures) j c.loop-judge-test.false lt) i.within in
+    let last = Splits-without_tokens (g.J.Judge.table c.args.judge.now) c.args.shapes.now (g.J.Judge.place c.loop-judge.judge) c.loop-judge.row c.requires.few i.row ((rw c.new-positions.ensures at c.goes_on.ensures) c.loop-judge-test.false) i.within in
     (λ t. absurd (false≢true (sym c.if-is_whole.false ∙ t)), λ split. (rw c.new-positions.ensures at c.is_whole-2.ensures).1 (last split).1)

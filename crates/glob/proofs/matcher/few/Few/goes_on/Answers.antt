@@ -4,7 +4,7 @@ use Rattle.glob.proofs.SetBits.{IsSet-zero, IsSet-and}
 use Rattle.glob.proofs.matcher.few.Few.goes_on.Goals as goal
 
 pub returns : goal.returns
-returns c = λ j over lt set.
+returns c = λ over j lt set.
     let few = c.args.self.now in
     let few_shapes = few.few in
     let token = few.are.tokens j (omega arith) in
