@@ -111,8 +111,8 @@ impl<A: Allocator> Judge for TextJudge<'_, A> {
         if left == 0 {
             return took;
         }
-        // A copy of the fields: for all that the compiler knows, a call that got self.options itself might change them, and
-        // the loop would read them again at each character.
+        // A copy of the fields: for all that the compiler knows, a call that got self.options itself might change them,
+        // and the loop would read them again at each character.
         let options = MatchOptions {
             case_sensitive: self.options.case_sensitive,
             require_literal_separator: self.options.require_literal_separator,
