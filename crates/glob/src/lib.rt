@@ -19,19 +19,9 @@
 //! Each call that makes or grows something takes its allocator, and says want of memory as an error.
 #![tactic(auto)]
 
-mod class;
-mod error;
-mod grammar;
-pub mod laws;
-mod matcher;
-mod options;
-mod pattern;
-mod tree;
-mod walk;
-
-pub use error::{GlobCause, GlobError, GlobResult, LineFault, PatternError, PatternRefusal};
-pub use matcher::{Judge, Shape, run_positions};
-pub use options::MatchOptions;
-pub use pattern::Pattern;
-pub use tree::{Entry, ListError, Look, MemTree, Name, Tree, TreeRefusal};
-pub use walk::{Watch, filter_lines};
+pub use glob_lines::{LineFault, Watch, filter_lines};
+pub use glob_pattern::{
+    Judge, MatchOptions, Pattern, PatternError, PatternRefusal, Shape, laws, run_positions,
+};
+pub use glob_tree::{Asks, Entry, ListError, Look, MemTree, Name, Tree, TreeRefusal};
+pub use glob_walk::{GlobCause, GlobError, GlobResult};

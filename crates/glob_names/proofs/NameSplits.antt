@@ -4,13 +4,13 @@ use Rattle.std.proofs.lemmas.Bool.{false≢true}
 use Rattle.std.proofs.lemmas.List.{drop_all, drop-drop, take-append-drop, length-map, get_or-map}
 use Rattle.std.proofs.lemmas.Slice.Eq.{bytes_eq-Decides}
 use Rattle.std.specs.Str.{bytes_eq, chars}
-use Rattle.glob.specs.Options.{new_options}
-use Rattle.glob.specs.Matching.{Matches}
-use Rattle.glob.specs.Splits.{Table, MayReach, TakesAll, SplitsFrom, Splits}
-use Rattle.glob.specs.declared.matcher.Shape.{Shape}
-use Rattle.glob.specs.declared.matcher.Shape.TheVariants.{One, Run}
-use Rattle.glob.proofs.Places.{get_or-at_drop, drop-at_drop, length-at_drop, length-at_end, drop-after_piece, get_or-in_piece, length-after_piece}
-use Rattle.glob.proofs.SplitsLemmas.{MayReach-le, SplitsFrom-within}
+use Rattle.glob.specs.Matching.Options.{new_options}
+use Rattle.glob.specs.Matching.Texts.{Matches}
+use Rattle.glob.specs.Matching.Splits.{Table, MayReach, TakesAll, SplitsFrom, Splits}
+use Rattle.glob_pattern.specs.declared.matcher.Shape.{Shape}
+use Rattle.glob_pattern.specs.declared.matcher.Shape.TheVariants.{One, Run}
+use Rattle.glob_pattern.proofs.Places.{get_or-at_drop, drop-at_drop, length-at_drop, length-at_end, drop-after_piece, get_or-in_piece, length-after_piece}
+use Rattle.glob_pattern.proofs.MatchingLemmas.Splits.{MayReach-le, SplitsFrom-within}
 use Rattle.glob_names.specs.Names.{any_names, StandsFor, NamesSplit}
 use Rattle.glob_names.specs.NameTable.{TakesName, shape_of, AreAligned, IsRow, table_of}
 

@@ -6,8 +6,8 @@ use Rattle.std.proofs.lemmas.List.{take-append-drop}
 use Rattle.std.specs.Iterator.{Yields}
 use Rattle.std.specs.List.{All}
 use Rattle.std.specs.Str.{chars}
-use Rattle.glob.specs.Faults.{Refuses}
-use Rattle.glob.specs.declared.error.PatternRefusal.{PatternRefusal}
+use Rattle.glob.specs.Grammar.Faults.{Refuses}
+use Rattle.glob_pattern.specs.declared.error.PatternRefusal.{PatternRefusal}
 use Rattle.glob_names.specs.Names.{IsComponent, RefusesComponent}
 
 -- what stands in a list from place n on

@@ -1,11 +1,11 @@
 -- The answers that a judge of names looks up: a row for each name, and in it an answer for each component.
 use Rattle.std.specs.Prelude.{◌≡◌, ℕ, ◌<◌, ◌⊎◌, ◌↔◌, Bool, true, false, if◌then◌else◌, List, [], length, slice_index_or, IsTrue}
 use Rattle.std.specs.Str.{chars, bytes_eq}
-use Rattle.glob.specs.Matching.{Matches}
-use Rattle.glob.specs.Options.{new_options}
-use Rattle.glob.specs.Splits.{Table}
-use Rattle.glob.specs.declared.matcher.Shape.{Shape}
-use Rattle.glob.specs.declared.matcher.Shape.TheVariants.{One, Run}
+use Rattle.glob.specs.Matching.Texts.{Matches}
+use Rattle.glob.specs.Matching.Options.{new_options}
+use Rattle.glob.specs.Matching.Splits.{Table}
+use Rattle.glob_pattern.specs.declared.matcher.Shape.{Shape}
+use Rattle.glob_pattern.specs.declared.matcher.Shape.TheVariants.{One, Run}
 use Rattle.glob_names.specs.Names.{any_names}
 
 -- a component as a token: `**` takes any number of names, and another component one

@@ -2,12 +2,13 @@
 use Rattle.std.specs.Prelude.{◌≡◌, ℕ, ◌==◌, ◌⊎◌, List, [], ◌∷◌, ◌++◌}
 use Rattle.std.specs.List.{All, slice_split}
 use Rattle.std.specs.Str.{chars}
-use Rattle.glob.specs.Characters.{slash, star}
-use Rattle.glob.specs.Options.{new_options}
-use Rattle.glob.specs.Units.{IsAccepted}
-use Rattle.glob.specs.Faults.{Refuses}
-use Rattle.glob.specs.Matching.{Matches}
-use Rattle.glob.specs.declared.error.PatternRefusal.{PatternRefusal}
+use Rattle.glob.specs.Characters.{slash}
+use Rattle.glob.specs.Grammar.Characters.{star}
+use Rattle.glob.specs.Matching.Options.{new_options}
+use Rattle.glob.specs.Grammar.Units.{IsAccepted}
+use Rattle.glob.specs.Grammar.Faults.{Refuses}
+use Rattle.glob.specs.Matching.Texts.{Matches}
+use Rattle.glob_pattern.specs.declared.error.PatternRefusal.{PatternRefusal}
 
 -- What stands between the separators of a text: a path's names, a path pattern's components.
 abbrev pub names_of : List ℕ → List (List ℕ)

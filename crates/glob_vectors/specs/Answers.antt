@@ -1,7 +1,7 @@
 -- What written answers say, as the table of a judge.
 use Rattle.std.specs.Prelude.{ℕ, Bool, ◌&&◌, not, ◌==◌}
 use Rattle.std.specs.List.{list_any}
-use Rattle.glob.specs.Splits.{Table}
+use Rattle.glob.specs.Matching.Splits.{Table}
 use Rattle.glob_vectors.specs.declared.judges.Answers.{Answers}
 
 -- the place is written down as one that opens

@@ -1,7 +1,7 @@
 use Rattle.std.proofs.Common.{◌≡◌, ◌<◌, ◌^◌, ◌∙◌, [], get_or, length, map, ap, arith}
 use Rattle.std.proofs.lemmas.List.{length-map}
 use Rattle.std.proofs.lemmas.Result.{IfOk-weaker}
-use Rattle.glob.proofs.Counts.{product_fits}
+use Rattle.glob_pattern.proofs.Counts.{product_fits}
 use Rattle.glob_names.specs.Names.{names_of}
 use Rattle.glob_names.specs.NameTable.{shape_of, table_of}
 use Rattle.glob_names.proofs.NameSplits.{NamesSplit-by_table}

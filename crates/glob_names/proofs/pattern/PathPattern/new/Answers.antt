@@ -4,7 +4,7 @@ use Rattle.std.proofs.lemmas.Iterator.Splits.{YieldsList-from_str_split}
 use Rattle.std.proofs.lemmas.List.{map-append}
 use Rattle.std.proofs.lemmas.List.Elements.{All-push}
 use Rattle.glob.specs.Characters.{slash}
-use Rattle.glob.specs.Faults.{Refuses}
+use Rattle.glob.specs.Grammar.Faults.{Refuses}
 use Rattle.glob_names.specs.Names.{IsComponent}
 use Rattle.glob_names.specs.NameTable.{shape_of}
 use Rattle.glob_names.proofs.Refusals.{RefusesComponent-turn, IfErr-from_known}

@@ -1,6 +1,0 @@
-mod line_feeds;
-mod lines;
-mod watch;
-
-pub use lines::filter_lines;
-pub use watch::Watch;

@@ -1,0 +1,7 @@
+pub mod FilteredLines
+pub mod FirstPlaces
+pub mod KeptLines
+pub mod KnownMoves
+pub mod LineSplits
+pub mod MatchingLines
+pub mod Passing

@@ -1,0 +1,13 @@
+use Rattle.std.proofs.Common.{rules}
+use Rattle.glob_lines.proofs.LineLemmas.KnownMoves.{Consumes-filled}
+use Rattle.glob_lines.proofs.lines.read_all.Goals as goal
+
+pub loop-input-preserved : goal.loop-input-preserved
+loop-input-preserved g c =
+    let before = c.loop-input.invariant in
+    let read = c.in_ok-len.ensures in
+    record {
+      none_failed = search rules;
+      within = read.fits;
+      read = Consumes-filled _ _ _ c.loop-input.input.items _ _ _ read.front before.read read.bytes;
+    }

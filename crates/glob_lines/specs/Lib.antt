@@ -1,0 +1,4 @@
+pub mod LineFaults
+pub mod Lines
+pub mod Private
+pub mod Watch

@@ -1,0 +1,30 @@
+ghost use Rattle.std.specs.Prelude.{Some};
+ghost use Rattle.glob_lines.specs.LineFaults.{words_of_line_fault};
+
+use std::error::Error;
+use std::{fmt, io};
+
+/// Why the lines of some input were not all filtered.
+#[derive(Debug, Drop)]
+pub enum LineFault {
+    /// A read failed, with this fault of the reader.
+    Read(io::Error),
+    /// There was no memory.
+    Memory,
+    /// A write failed, with this fault of the writer.
+    Write(io::Error),
+}
+
+impl fmt::Display for LineFault {
+    ghost output = { λ fault. Some (words_of_line_fault fault) };
+
+    fn fmt<W: fmt::Write>(&self, f: &mut fmt::Formatter<W>) -> fmt::Result {
+        f.write_str(match self {
+            LineFault::Read(_) => "reading failed",
+            LineFault::Memory => "out of memory",
+            LineFault::Write(_) => "writing failed",
+        })
+    }
+}
+
+impl Error for LineFault {}

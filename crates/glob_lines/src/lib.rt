@@ -1,0 +1,11 @@
+//! The lines of a reader that a pattern matches, copied to a writer.
+#![tactic(auto)]
+
+mod fault;
+mod line_feeds;
+mod lines;
+mod watch;
+
+pub use fault::LineFault;
+pub use lines::filter_lines;
+pub use watch::Watch;

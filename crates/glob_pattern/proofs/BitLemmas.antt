@@ -1,0 +1,3 @@
+pub mod LowestBits
+pub mod PutBits
+pub mod SetBits

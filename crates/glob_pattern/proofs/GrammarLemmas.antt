@@ -1,0 +1,6 @@
+pub mod Accepted
+pub mod Closing
+pub mod Folding
+pub mod Reading
+pub mod Units
+pub mod WrittenUnits

@@ -1,0 +1,156 @@
+-- Reading by the computation answers what the grammar says.
+use Rattle.std.proofs.Common.{◌≡◌, ℕ, zero, suc, ◌+◌, ◌<◌, ◌≤◌, leb, List, [], ◌∷◌, ◌++◌, length, Option, Some, None, Result, Ok, Err, refl, ap, sym, ◌∙◌, subst, arith}
+use Rattle.std.proofs.lemmas.Bool.{cond_both, leb-true, leb-false, le-leb, lt-leb}
+use Rattle.glob_text.specs.Text.{Text}
+use Rattle.glob_pattern.specs.Grammar.Tokens.{Token, tokens_of_units}
+use Rattle.glob_pattern.specs.Grammar.Units.{UnitAt, UnitsBetween, HasTokens}
+use Rattle.glob_pattern.specs.Grammar.Faults.{Fault, fault_at, NoUnitAt, IsFault}
+use Rattle.glob_pattern.specs.Computing.Reading.{unit_at, with_first, after_unit, units_from, folded_tokens, reading_of}
+use Rattle.glob_pattern.proofs.GrammarLemmas.Units.{IsClear, UnitAt-within, IsClear-after, Stands, Stands-unit_at, unit_at-UnitAt, NoUnitAt-None}
+
+-- Units reach on, and not past the end.
+pub UnitsBetween-within : (text : Text) (f : ℕ) (units : List Token) (e : ℕ) → UnitsBetween text f units e → f ≤ length text → (f + length units ≤ e) × (e ≤ length text)
+UnitsBetween-within text f [] e between within = (omega arith, omega arith)
+UnitsBetween-within text f (t ∷ ts) e between within =
+    let unit = UnitAt-within text f t between.0 between.1 in
+    let rest = UnitsBetween-within text between.0 ts e between.2 unit.1 in
+    (omega arith, rest.1)
+
+-- one more unit at the end
+pub UnitsBetween-push : (text : Text) (f : ℕ) (units : List Token) (m : ℕ) (t : Token) (e : ℕ) → UnitsBetween text f units m → UnitAt text m t e → UnitsBetween text f (units ++ t ∷ []) e
+UnitsBetween-push text f [] m t e between unit = (e, subst (λ k. UnitAt text k t e) (sym between) unit, refl)
+UnitsBetween-push text f (u ∷ us) m t e between unit =
+    (between.0, between.1, UnitsBetween-push text between.0 us m t e between.2 unit)
+
+-- the fault of what is left from place f on
+abbrev pub IsFaultFrom : Text → ℕ → Fault → Type 0
+IsFaultFrom text f fault =
+    (p : ℕ) × (units : List Token) × UnitsBetween text f units p × (p < length text) × NoUnitAt text p × (fault ≡ fault_at text p)
+
+-- what reading from place f on answers
+abbrev pub Answers : Text → ℕ → Result (List Token) Fault → Type 0
+Answers text f (Ok units) = UnitsBetween text f units (length text)
+Answers text f (Err fault) = IsFaultFrom text f fault
+
+-- a unit before what is read after it
+Answers-with_first : (text : Text) (f : ℕ) (t : Token) (e : ℕ) (read : Result (List Token) Fault) → UnitAt text f t e → Answers text e read → Answers text f (with_first t read)
+Answers-with_first text f t e (Ok ts) unit answers = (e, unit, answers)
+Answers-with_first text f t e (Err fault) unit answers =
+    (answers.0, t ∷ answers.1, (e, unit, answers.2), answers.3, answers.4, answers.5)
+
+Answers-after_unit : (text : Text) (f : ℕ) (read : ℕ → Result (List Token) Fault) (found : Option (Token × ℕ)) → f < length text → unit_at text f ≡ found → Stands text f found → ((t : Token) (e : ℕ) → UnitAt text f t e → Answers text e (read e)) → Answers text f (after_unit text f read found)
+Answers-after_unit text f read None within found stands later =
+    (f, [], refl, within, NoUnitAt-None text f found, refl)
+Answers-after_unit text f read (Some (t, e)) within found stands later =
+    Answers-with_first text f t e (read e) stands (later t e stands)
+
+-- What the computation answers is so.
+pub Answers-units_from : (n : ℕ) (text : Text) (f : ℕ) → length text < f + n → f ≤ length text → IsClear text f → Answers text f (units_from n text f)
+unfolding units_from
+Answers-units_from zero text f enough within clear = absurd (omega arith)
+Answers-units_from (suc n) text f enough within clear =
+    cond_both (leb (length text) f) _ _ (Answers text f)
+    (λ e. let at_end = leb-true (length text) f e in let done : f ≡ length text = omega arith in done)
+    (λ e.
+    let before = leb-false (length text) f e in
+    Answers-after_unit text f (units_from n text) (unit_at text f) before refl (Stands-unit_at text f before clear)
+    (λ t m unit.
+    let reach = UnitAt-within text f t m unit in
+    Answers-units_from n text m (omega arith) reach.1 (IsClear-after text f t m unit)))
+
+-- one more place to read, where a unit stands
+units_from-unit : (n : ℕ) (text : Text) (f : ℕ) (t : Token) (e : ℕ) → UnitAt text f t e → units_from (suc n) text f ≡ with_first t (units_from n text e)
+unfolding units_from
+units_from-unit n text f t e unit =
+    let reach = UnitAt-within text f t e unit in
+    rw (lt-leb (length text) f (omega arith), unit_at-UnitAt text f t e unit) refl
+
+-- Units up to the end are read.
+pub units_from-Ok : (n : ℕ) (text : Text) (f : ℕ) (units : List Token) → length text < f + n → f ≤ length text → UnitsBetween text f units (length text) → units_from n text f ≡ Ok units
+unfolding units_from
+units_from-Ok zero text f units enough within between = absurd (omega arith)
+units_from-Ok (suc n) text f [] enough within between = rw (le-leb (length text) f (omega arith)) refl
+units_from-Ok (suc n) text f (t ∷ ts) enough within between =
+    let reach = UnitAt-within text f t between.0 between.1 in
+    units_from-unit n text f t between.0 between.1
+    ∙ ap (with_first t) (units_from-Ok n text between.0 ts (omega arith) reach.1 between.2)
+
+-- Where no unit stands none is found.
+unit_at-None : (text : Text) (f : ℕ) (found : Option (Token × ℕ)) → Stands text f found → NoUnitAt text f → found ≡ None
+unit_at-None text f None stands none = refl
+unit_at-None text f (Some (t, e)) stands none = absurd (none t e stands)
+
+-- a fault where no unit stands
+units_from-none : (n : ℕ) (text : Text) (f : ℕ) → f < length text → IsClear text f → NoUnitAt text f → units_from (suc n) text f ≡ Err (fault_at text f)
+unfolding units_from
+units_from-none n text f before clear none =
+    rw (lt-leb (length text) f before, unit_at-None text f (unit_at text f) (Stands-unit_at text f before clear) none) refl
+
+-- A fault behind units is read.
+pub units_from-Err : (n : ℕ) (text : Text) (f : ℕ) (units : List Token) (p : ℕ) → length text < f + n → f ≤ length text → UnitsBetween text f units p → IsClear text f → p < length text → NoUnitAt text p → units_from n text f ≡ Err (fault_at text p)
+unfolding units_from
+units_from-Err zero text f units p enough within between clear before none = absurd (omega arith)
+units_from-Err (suc n) text f [] p enough within between clear before none =
+    subst (λ k. units_from (suc n) text f ≡ Err (fault_at text k)) between
+    (units_from-none n text f (omega arith) clear (subst (NoUnitAt text) (sym between) none))
+units_from-Err (suc n) text f (t ∷ ts) p enough within between clear before none =
+    let reach = UnitAt-within text f t between.0 between.1 in
+    units_from-unit n text f t between.0 between.1
+    ∙ ap (with_first t) (units_from-Err n text between.0 ts p (omega arith) reach.1 between.2 (IsClear-after text f t between.0 between.1) before none)
+
+-- no character stands before the start
+pub IsClear-start : (text : Text) → IsClear text 0
+IsClear-start text at positive = absurd (omega arith)
+
+Answers-start : (text : Text) → Answers text 0 (units_from (suc (length text)) text 0)
+Answers-start text = Answers-units_from (suc (length text)) text 0 (omega arith) (omega arith) (IsClear-start text)
+
+HasTokens-Answers : (text : Text) (read : Result (List Token) Fault) (tokens : List Token) → Answers text 0 read → folded_tokens read ≡ Ok tokens → HasTokens text tokens
+HasTokens-Answers text (Ok units) tokens answers e = (units, answers, cc)
+HasTokens-Answers text (Err fault) tokens answers e = cc
+
+IsFault-Answers : (text : Text) (read : Result (List Token) Fault) (fault : Fault) → Answers text 0 read → folded_tokens read ≡ Err fault → IsFault text fault
+IsFault-Answers text (Ok units) fault answers e = cc
+IsFault-Answers text (Err other) fault answers e = let same : other ≡ fault = cc in subst (IsFault text) same answers
+
+-- What is read are the tokens of the text.
+pub HasTokens-reading_of : (text : Text) (tokens : List Token) → reading_of text ≡ Ok tokens → HasTokens text tokens
+HasTokens-reading_of text tokens e = HasTokens-Answers text _ tokens (Answers-start text) e
+
+-- The tokens of a text are read.
+pub reading_of-HasTokens : (text : Text) (tokens : List Token) → HasTokens text tokens → reading_of text ≡ Ok tokens
+reading_of-HasTokens text tokens has =
+    ap folded_tokens (units_from-Ok (suc (length text)) text 0 has.0 (omega arith) (omega arith) has.1) ∙ ap Ok (sym has.2)
+
+-- What is told is the fault of the text.
+pub IsFault-reading_of : (text : Text) (fault : Fault) → reading_of text ≡ Err fault → IsFault text fault
+IsFault-reading_of text fault e = IsFault-Answers text _ fault (Answers-start text) e
+
+-- The fault of a text is told.
+pub reading_of-IsFault : (text : Text) (fault : Fault) → IsFault text fault → reading_of text ≡ Err fault
+reading_of-IsFault text fault is =
+    ap folded_tokens (units_from-Err (suc (length text)) text 0 is.1 is.0 (omega arith) (omega arith) is.2 (IsClear-start text) is.3 is.4)
+    ∙ ap Err (sym is.5)
+
+-- The tokens are those of the units up to place f.
+abbrev pub HasRead : Text → List Token → ℕ → Type 0
+HasRead text tokens f = (units : List Token) × UnitsBetween text 0 units f × (tokens ≡ tokens_of_units units)
+
+pub HasRead-start : (text : Text) → HasRead text [] 0
+HasRead-start text = ([], refl, refl)
+
+-- one more unit
+pub HasRead-more : (text : Text) (tokens more : List Token) (f : ℕ) (t : Token) (e : ℕ) → HasRead text tokens f → UnitAt text f t e → ((units : List Token) → tokens ≡ tokens_of_units units → more ≡ tokens_of_units (units ++ t ∷ [])) → HasRead text more e
+HasRead-more text tokens more f t e has unit pushed =
+    (has.0 ++ t ∷ [], UnitsBetween-push text 0 has.0 f t e has.1 unit, pushed has.0 has.2)
+
+-- all is read
+pub HasTokens-HasRead : (text : Text) (tokens : List Token) (f : ℕ) → HasRead text tokens f → f ≡ length text → HasTokens text tokens
+HasTokens-HasRead text tokens f has e = subst (HasRead text tokens) e has
+
+-- no unit is found
+pub IsFault-HasRead : (text : Text) (tokens : List Token) (f place : ℕ) (message : List ℕ) → HasRead text tokens f → f < length text → unit_at text f ≡ None → place ≡ (fault_at text f).place → message ≡ (fault_at text f).message → IsFault text (record { place = place; message = message })
+IsFault-HasRead text tokens f place message has within none same_place same_message =
+    let told = fault_at text f in
+    let made : ℕ → List ℕ → Fault = λ p m. record { place = p; message = m } in
+    (f, has.0, has.1, within, NoUnitAt-None text f none, ap (λ p. made p message) same_place ∙ ap (made told.place) same_message)

@@ -1,0 +1,9 @@
+pub mod BitLemmas
+pub mod Counts
+pub mod EscapingLemmas
+pub mod Examples
+pub mod GrammarLemmas
+pub mod MaskLemmas
+pub mod MatchingLemmas
+pub mod Places
+pub mod PositionLemmas

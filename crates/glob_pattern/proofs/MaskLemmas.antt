@@ -1,0 +1,3 @@
+pub mod KnownTakers
+pub mod Masks
+pub mod Painting

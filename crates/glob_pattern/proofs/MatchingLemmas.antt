@@ -1,0 +1,11 @@
+pub mod Case
+pub mod Deciding
+pub mod Folded
+pub mod Literals
+pub mod Loosening
+pub mod PiecesAndSplits
+pub mod PlainPatterns
+pub mod Rests
+pub mod Splits
+pub mod Stepping
+pub mod Tokens

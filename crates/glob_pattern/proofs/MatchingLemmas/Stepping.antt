@@ -1,0 +1,64 @@
+-- Stepping through a text.
+use Rattle.std.proofs.Common.{◌≡◌, ℕ, suc, ◌+◌, ◌-◌, ◌<◌, ◌≤◌, Bool, false, ◌∷◌, length, drop, refl, arith, sym, ap, ◌∙◌, slice_index, get_or, ◌==◌, length-drop, List, ◌++◌, ⊎_elim}
+use Rattle.std.proofs.Math.Seq.{drop-cons}
+use Rattle.std.proofs.lemmas.Bool.{cases_eq, cases_lt, ne_eqb}
+use Rattle.std.proofs.lemmas.Bool.Decides.{nat_tests}
+use Rattle.std.proofs.lemmas.List.{get_or_past}
+use Rattle.std.proofs.lemmas.Str.{byte_from_char, char_from_byte}
+use lib.Utf8.{encode}
+use Rattle.glob_text.specs.Text.{Text, opens}
+use Rattle.glob_text.specs.Characters.{slash}
+use Rattle.glob_pattern.specs.Private.Stepping.{place_before, StandsBefore}
+
+-- the rest is no longer than the text
+pub place_before-cons : (text rest : Text) (c : ℕ) → c ∷ rest ≡ drop (place_before text (c ∷ rest)) text
+    → (place_before text rest ≡ suc (place_before text (c ∷ rest))) × (place_before text (c ∷ rest) < length text)
+place_before-cons text rest c left =
+    let long : suc (length rest) ≡ length (drop (place_before text (c ∷ rest)) text) = ap length left in
+    (omega (arith, length-drop (place_before text (c ∷ rest)) text), omega (arith, length-drop (place_before text (c ∷ rest)) text))
+
+-- a character and what follows it stand at place p
+pub drop-split : (text rest : Text) (c p : ℕ) → c ∷ rest ≡ drop p text → p < length text
+    → (c ≡ slice_index text p) × (rest ≡ drop (suc p) text)
+drop-split text rest c p left below =
+    let e : drop p text ≡ get_or text p 0 ∷ drop (suc p) text = drop-cons text p 0 below in
+    (cc, cc)
+
+-- a place after the start opens where `/` stands before it
+pub opens-suc : (text : Text) (p : ℕ) → opens text (suc p) ≡ (slice_index text p == slash)
+opens-suc text p =
+    let back : suc p - 1 ≡ p = omega arith in
+    let later : (suc p == 0) ≡ false = grind (arith, nat_tests) in
+    rw (back, later) refl
+
+-- the first byte tells whether the first character is a slash
+pub slash-by_byte : (bytes rest : List ℕ) (c : ℕ) → bytes ≡ encode c ++ rest → (get_or bytes 0 0 == slash) ≡ (c == slash)
+slash-by_byte bytes rest c is =
+    ⊎_elim
+    (λ e. ap (λ d. d == slash) (byte_from_char bytes rest c is (omega arith)))
+    (λ ne. ne_eqb (get_or bytes 0 0) slash (λ e. ne (char_from_byte bytes rest c is (omega arith) (some e) ∙ e)) ∙ sym (ne_eqb c slash ne))
+    (cases_eq c slash)
+  where
+    some : get_or bytes 0 0 ≡ slash → 0 < length bytes
+    some e = ⊎_elim (λ lt. lt) (λ none. absurd (omega (arith, e, get_or_past bytes 0 0 none))) (cases_lt 0 (length bytes))
+
+-- one step on
+pub StandsBefore-step : (text rest : Text) (c current : ℕ) (opened opening : Bool)
+    → StandsBefore text (c ∷ rest) current opened opening → StandsBefore text rest c opening (c == slash)
+StandsBefore-step text rest c current opened opening s =
+    let next = place_before-cons text rest c s.left in
+    let split = drop-split text rest c (place_before text (c ∷ rest)) s.left next.1 in
+    let back : place_before text rest - 1 ≡ place_before text (c ∷ rest) = omega (arith, next.0) in
+    record {
+      left = split.1 ∙ ap (λ p. drop p text) (sym next.0);
+      here = ap (λ d. d == slash) split.0 ∙ (sym (opens-suc text (place_before text (c ∷ rest))) ∙ ap (opens text) (sym next.0));
+      last = λ _. split.0 ∙ ap (λ p. slice_index text p) (sym back);
+      before = λ _. s.here ∙ ap (opens text) (sym back);
+    }
+
+-- one step on, in places
+pub place_before-step : (text rest : Text) (c current : ℕ) (opened opening : Bool)
+    → StandsBefore text (c ∷ rest) current opened opening
+    → (place_before text rest ≡ place_before text (c ∷ rest) + 1) × (place_before text rest ≤ length text)
+place_before-step text rest c current opened opening s =
+    let next = place_before-cons text rest c s.left in (omega (arith, next.0), omega (arith, next.0, next.1))

@@ -1,0 +1,64 @@
+-- Reading a pattern: a computation that answers what the grammar says of a text.
+use Rattle.std.specs.Prelude.{ℕ, zero, suc, ◌+◌, ◌||◌, not, nat_le, ◌==◌, if◌then◌else◌, List, [], ◌∷◌, length, drop, slice_index, Option, Some, None, Result, Ok, Err, option_map}
+use Rattle.std.specs.List.{position_from}
+use Rattle.glob_text.specs.Characters.{slash}
+use Rattle.glob_pattern.specs.Grammar.Characters.{star, question_mark, open_bracket, close_bracket, exclamation_mark}
+use Rattle.glob_text.specs.Text.{Text, has, opens, between}
+use Rattle.glob_pattern.specs.Grammar.Brackets.{entries_of}
+use Rattle.glob_pattern.specs.Grammar.Tokens.{Token, tokens_of_units}
+use Rattle.glob_pattern.specs.Grammar.Faults.{Fault, fault_at}
+use Rattle.glob_pattern.specs.declared.token.bracket.Entry.{Entry}
+use Rattle.glob_pattern.specs.declared.token.Token.TheVariants.{Plain, Any, Run, Deep, Within, Except}
+
+-- the stars at place f as a unit: its token and where it ends
+abbrev pub stars_at : Text → ℕ → Option (Token × ℕ)
+stars_at text f =
+    if not (has text (f + 1) star) then Some (Run, f + 1)
+    else if has text (f + 2) star || not (opens text f) then None
+    else if has text (f + 2) slash then Some (Deep, f + 3)
+    else if f + 2 == length text then Some (Deep, f + 2)
+    else None
+
+-- the place of the first `]` from place i on
+abbrev pub close_from : Text → ℕ → Option ℕ
+close_from text i = position_from (λ c. c == close_bracket) i (drop i text)
+
+-- a bracket whose content begins at place i
+abbrev pub bracket_from : (List Entry → Token) → Text → ℕ → Option (Token × ℕ)
+bracket_from kind text i = option_map (λ k. (kind (entries_of (between text i k)), k + 1)) (close_from text (i + 1))
+
+abbrev pub bracket_at : Text → ℕ → Option (Token × ℕ)
+bracket_at text f =
+    if has text (f + 1) exclamation_mark then bracket_from Except text (f + 2) else bracket_from Within text (f + 1)
+
+-- the unit at place f, which is before the end and has no star right before it
+abbrev pub unit_at : Text → ℕ → Option (Token × ℕ)
+unit_at text f =
+    if slice_index text f == question_mark then Some (Any, f + 1)
+    else if slice_index text f == star then stars_at text f
+    else if slice_index text f == open_bracket then bracket_at text f
+    else Some (Plain (slice_index text f), f + 1)
+
+-- a token before those that were read
+abbrev pub with_first : Token → Result (List Token) Fault → Result (List Token) Fault
+with_first t (Ok ts) = Ok (t ∷ ts)
+with_first t (Err fault) = Err fault
+
+-- a unit was found, or none, at place f: its token before what is read of the places after it, or the fault
+abbrev pub after_unit : Text → ℕ → (ℕ → Result (List Token) Fault) → Option (Token × ℕ) → Result (List Token) Fault
+after_unit text f read None = Err (fault_at text f)
+after_unit text f read (Some (t, e)) = with_first t (read e)
+
+-- the tokens of the units from place f on, or the fault, where n is more than the number of characters left
+unfoldable pub units_from : ℕ → Text → ℕ → Result (List Token) Fault
+units_from zero text f = Ok []
+units_from (suc n) text f =
+    if nat_le (length text) f then Ok [] else after_unit text f (units_from n text) (unit_at text f)
+
+abbrev pub folded_tokens : Result (List Token) Fault → Result (List Token) Fault
+folded_tokens (Ok units) = Ok (tokens_of_units units)
+folded_tokens (Err fault) = Err fault
+
+-- the tokens of an accepted text, or the fault of another
+abbrev pub reading_of : Text → Result (List Token) Fault
+reading_of text = folded_tokens (units_from (suc (length text)) text 0)

@@ -1,0 +1,16 @@
+-- The pattern that is written for a text to stand for itself.
+use Rattle.std.specs.Prelude.{ℕ, Bool, ◌||◌, ◌==◌, if◌then◌else◌, [], ◌∷◌}
+use Rattle.std.specs.List.{flat_map}
+use Rattle.glob_pattern.specs.Grammar.Characters.{star, question_mark, open_bracket, close_bracket}
+use Rattle.glob_text.specs.Text.{Text}
+
+-- `?`, `*`, `[` and `]`
+abbrev pub is_special : ℕ → Bool
+is_special c = c == question_mark || c == star || c == open_bracket || c == close_bracket
+
+abbrev pub escaped_character : ℕ → Text
+escaped_character c = if is_special c then open_bracket ∷ c ∷ close_bracket ∷ [] else c ∷ []
+
+-- each special character in a bracket of its own, and every other as it is
+abbrev pub escaped_text : Text → Text
+escaped_text text = flat_map escaped_character text

@@ -1,0 +1,49 @@
+-- What stands in a bracket, and which characters it holds.
+use Rattle.std.specs.Prelude.{ℕ, Bool, ◌&&◌, ◌||◌, not, nat_lt, nat_le, ◌==◌, if◌then◌else◌, List, [], ◌∷◌}
+use Rattle.std.specs.List.{list_any}
+use Rattle.std.specs.Char.{to_ascii_lowercase}
+use Rattle.glob_pattern.specs.Grammar.Characters.{hyphen}
+use Rattle.glob_text.specs.Text.{Text}
+use Rattle.glob_pattern.specs.declared.token.bracket.Entry.{Entry}
+use Rattle.glob_pattern.specs.declared.token.bracket.Entry.TheVariants.{Single, Range}
+
+-- The entries of a bracket's content, from the left: where three characters x-y stand, the range from x to y;
+-- otherwise one character is a single.
+abbrev pub entries_of : Text → List Entry
+entries_of [] = []
+entries_of (x ∷ []) = Single x ∷ []
+entries_of (x ∷ y ∷ []) = Single x ∷ Single y ∷ []
+entries_of (x ∷ d ∷ y ∷ rest) =
+    if d == hyphen then Range x y ∷ entries_of rest else Single x ∷ entries_of (d ∷ y ∷ rest)
+
+abbrev pub is_ascii : ℕ → Bool
+is_ascii c = nat_lt c 128
+
+-- `a` to `z`
+abbrev pub is_small_letter : ℕ → Bool
+is_small_letter c = nat_le 97 c && nat_le c 122
+
+-- c and x are the same character. Without case, two of ASCII are the same too if they are equal once capital letters
+-- are made small.
+abbrev pub same : (case : Bool) → ℕ → ℕ → Bool
+same case c x =
+    c == x || (not case && is_ascii c && is_ascii x && to_ascii_lowercase c == to_ascii_lowercase x)
+
+-- c is one of the characters from x to y, by their numbers
+abbrev pub in_range : ℕ → ℕ → ℕ → Bool
+in_range x y c = nat_le x c && nat_le c y
+
+-- The three are of ASCII and both ends are letters, and c lies between the ends once capital letters are made small.
+abbrev pub in_folded_range : ℕ → ℕ → ℕ → Bool
+in_folded_range x y c =
+    is_ascii x && is_ascii y && is_ascii c
+    && is_small_letter (to_ascii_lowercase x) && is_small_letter (to_ascii_lowercase y)
+    && in_range (to_ascii_lowercase x) (to_ascii_lowercase y) (to_ascii_lowercase c)
+
+abbrev pub entry_holds : (case : Bool) → ℕ → Entry → Bool
+entry_holds case c (Single x) = same case c x
+entry_holds case c (Range x y) = in_range x y c || (not case && in_folded_range x y c)
+
+-- some entry of the bracket holds c
+abbrev pub holds : (case : Bool) → ℕ → List Entry → Bool
+holds case c entries = list_any (entry_holds case c) entries

@@ -1,0 +1,30 @@
+-- The characters that patterns give a meaning, besides `/` and `.`.
+use Rattle.std.specs.Prelude.{ℕ, Bool, ◌||◌, ◌==◌}
+
+-- `*`
+abbrev pub star : ℕ
+star = 42
+
+-- `?`
+abbrev pub question_mark : ℕ
+question_mark = 63
+
+-- `[`
+abbrev pub open_bracket : ℕ
+open_bracket = 91
+
+-- `]`
+abbrev pub close_bracket : ℕ
+close_bracket = 93
+
+-- `!`
+abbrev pub exclamation_mark : ℕ
+exclamation_mark = 33
+
+-- `-`
+abbrev pub hyphen : ℕ
+hyphen = 45
+
+-- `?`, `*` and `[`, with which a unit begins that is no plain character
+abbrev pub is_wildcard : ℕ → Bool
+is_wildcard c = c == question_mark || c == star || c == open_bracket

@@ -1,0 +1,79 @@
+-- Laws of patterns, as statements.
+use Rattle.std.specs.Prelude.{◌≡◌, ℕ, ◌<◌, Bool, List, length, slice_index, IsTrue, IsFalse, Decides, ◌↔◌}
+use Rattle.std.specs.List.{list_any}
+use Rattle.glob_pattern.specs.Grammar.Characters.{is_wildcard}
+use Rattle.glob_text.specs.Text.{Text}
+use Rattle.glob_pattern.specs.Grammar.Brackets.{same}
+use Rattle.glob_pattern.specs.Grammar.Tokens.{Token, tokens_of_units}
+use Rattle.glob_pattern.specs.Grammar.Units.{IsAccepted}
+use Rattle.glob_pattern.specs.Matching.Texts.{TokensMatch, Matches}
+use Rattle.glob_pattern.specs.Escaping.{escaped_text}
+use Rattle.glob_pattern.specs.Computing.Deciding.{tokens_match, is_match}
+use Rattle.glob_pattern.specs.declared.options.MatchOptions.{MatchOptions}
+
+-- the second options have the case of the first, and no rule that the first lack
+abbrev pub IsLooser : MatchOptions → MatchOptions → Type 0
+IsLooser strict loose =
+    (loose.case_sensitive ≡ strict.case_sensitive)
+    × (IsTrue loose.require_literal_separator → IsTrue strict.require_literal_separator)
+    × (IsTrue loose.require_literal_leading_dot → IsTrue strict.require_literal_leading_dot)
+
+-- a yes under strict rules stays a yes under looser ones, for tokens
+abbrev pub TokensLoosened : Type 0
+TokensLoosened =
+    (strict loose : MatchOptions) → IsLooser strict loose → (tokens : List Token) (text : Text)
+    → TokensMatch strict tokens text → TokensMatch loose tokens text
+
+-- a yes under strict rules stays a yes under looser ones, for patterns
+abbrev pub PatternsLoosened : Type 0
+PatternsLoosened =
+    (strict loose : MatchOptions) → IsLooser strict loose → (pattern text : Text) → Matches strict pattern text → Matches loose pattern text
+
+-- no character of the text is a wildcard
+abbrev pub IsPlain : Text → Type 0
+IsPlain text = IsFalse (list_any is_wildcard text)
+
+-- the texts have equally many characters, and at each place the same, with or without case
+abbrev pub SameTexts : (case : Bool) → Text → Text → Type 0
+SameTexts case xs ys = (length xs ≡ length ys) × ((k : ℕ) → k < length ys → IsTrue (same case (slice_index xs k) (slice_index ys k)))
+
+-- a text without wildcards is accepted
+abbrev pub PlainAccepted : Type 0
+PlainAccepted = (pattern : Text) → IsPlain pattern → IsAccepted pattern
+
+-- a text without wildcards matches the texts that are the same as it, whatever the rules
+abbrev pub PlainMatchesSame : Type 0
+PlainMatchesSame =
+    (o : MatchOptions) (pattern text : Text) → IsPlain pattern → (Matches o pattern text ↔ SameTexts o.case_sensitive text pattern)
+
+-- a text without wildcards matches with case itself alone
+abbrev pub PlainMatchesItself : Type 0
+PlainMatchesItself =
+    (o : MatchOptions) (pattern text : Text) → IsPlain pattern → IsTrue o.case_sensitive → (Matches o pattern text ↔ (pattern ≡ text))
+
+-- neighbouring deep tokens match what one of them matches
+abbrev pub FoldedMatchSame : Type 0
+FoldedMatchSame =
+    (o : MatchOptions) (units : List Token) (text : Text) → (TokensMatch o units text ↔ TokensMatch o (tokens_of_units units) text)
+
+-- what is written for a text to stand for itself is accepted
+abbrev pub EscapedAccepted : Type 0
+EscapedAccepted = (text : Text) → IsAccepted (escaped_text text)
+
+-- what is written for a text matches the texts that are the same as it, whatever the rules
+abbrev pub EscapedMatchesSame : Type 0
+EscapedMatchesSame =
+    (o : MatchOptions) (text other : Text) → (Matches o (escaped_text text) other ↔ SameTexts o.case_sensitive other text)
+
+-- what is written for a text matches with case that text alone
+abbrev pub EscapedMatchesItself : Type 0
+EscapedMatchesItself =
+    (o : MatchOptions) (text other : Text) → IsTrue o.case_sensitive → (Matches o (escaped_text text) other ↔ (text ≡ other))
+
+-- the decider says yes where the tokens match, and nowhere else
+abbrev pub TokensDecided : Type 0
+TokensDecided = (o : MatchOptions) (tokens : List Token) (text : Text) → Decides (tokens_match o tokens text) (TokensMatch o tokens text)
+
+-- the decider says yes where the pattern matches, and nowhere else
+abbrev pub PatternsDecided : Type 0
+PatternsDecided = (o : MatchOptions) (pattern text : Text) → Decides (is_match o pattern text) (Matches o pattern text)

@@ -1,0 +1,6 @@
+pub mod Bits
+pub mod Options
+pub mod Short
+pub mod Splits
+pub mod Taking
+pub mod Texts

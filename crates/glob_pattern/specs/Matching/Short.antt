@@ -1,0 +1,9 @@
+-- Patterns that match without memory.
+use Rattle.std.specs.Prelude.{◌<◌, List, length}
+use Rattle.glob_text.specs.Text.{Text}
+use Rattle.glob_pattern.specs.Grammar.Tokens.{Token}
+use Rattle.glob_pattern.specs.Grammar.Units.{HasTokens}
+
+-- The pattern has at most 63 tokens.
+abbrev pub IsShort : (pattern : Text) → Type 0
+IsShort pattern = (tokens : List Token) × HasTokens pattern tokens × (length tokens < 64)

@@ -1,0 +1,44 @@
+-- Which texts a pattern matches: those that split into one allowed piece a token.
+use Rattle.std.specs.Prelude.{◌≡◌, ℕ, ◌+◌, ◌<◌, ◌⊎◌, List, [], ◌∷◌, ◌++◌, length, slice_index, IsTrue}
+use Rattle.std.specs.List.{concat}
+use Rattle.glob_text.specs.Characters.{slash}
+use Rattle.glob_text.specs.Text.{Text, opens}
+use Rattle.glob_pattern.specs.Grammar.Tokens.{Token}
+use Rattle.glob_pattern.specs.Matching.Taking.{takes}
+use Rattle.glob_pattern.specs.Grammar.Units.{HasTokens}
+use Rattle.glob_pattern.specs.declared.options.MatchOptions.{MatchOptions}
+use Rattle.glob_pattern.specs.declared.token.Token.TheVariants.{Plain, Any, Run, Deep, Within, Except}
+
+-- the token takes each character of the piece, which stands from place k of the text on
+abbrev pub TakesPiece : MatchOptions → Text → Token → ℕ → Text → Type 0
+TakesPiece o text t k piece =
+    (i : ℕ) → i < length piece → IsTrue (takes o (opens text (k + i)) (slice_index piece i) t)
+
+abbrev pub EndsInSlash : Text → Type 0
+EndsInSlash piece = (front : Text) × (piece ≡ front ++ slash ∷ [])
+
+-- The form of a token's piece, where `others` are the tokens after it: one character; of a run any number of them; of a
+-- deep run too, but if tokens follow, the piece is empty or ends in `/`.
+abbrev pub HasForm : Token → (others : List Token) → Text → Type 0
+HasForm (Plain c) others piece = length piece ≡ 1
+HasForm Any others piece = length piece ≡ 1
+HasForm Run others piece = Unit {0}
+HasForm Deep others piece = (others ≡ []) ⊎ (piece ≡ []) ⊎ EndsInSlash piece
+HasForm (Within entries) others piece = length piece ≡ 1
+HasForm (Except entries) others piece = length piece ≡ 1
+
+-- the pieces, from place k of the text on, are one a token, and each is allowed
+abbrev pub AreAllowed : MatchOptions → Text → ℕ → List Token → List Text → Type 0
+AreAllowed o text k [] [] = Unit {0}
+AreAllowed o text k [] (piece ∷ pieces) = ⊥
+AreAllowed o text k (t ∷ ts) [] = ⊥
+AreAllowed o text k (t ∷ ts) (piece ∷ pieces) =
+    TakesPiece o text t k piece × HasForm t ts piece × AreAllowed o text (k + length piece) ts pieces
+
+-- the text is a concatenation of allowed pieces, one a token
+abbrev pub TokensMatch : MatchOptions → List Token → Text → Type 0
+TokensMatch o tokens text = (pieces : List Text) × (concat pieces ≡ text) × AreAllowed o text 0 tokens pieces
+
+-- the pattern is accepted, and its tokens match the text
+abbrev pub Matches : MatchOptions → (pattern : Text) → Text → Type 0
+Matches o pattern text = (tokens : List Token) × HasTokens pattern tokens × TokensMatch o tokens text

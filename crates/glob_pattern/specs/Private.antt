@@ -1,0 +1,6 @@
+pub mod Leading
+pub mod Masks
+pub mod Patterns
+pub mod Positions
+pub mod Stepping
+pub mod TextTable

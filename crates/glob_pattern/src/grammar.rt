@@ -1,0 +1,227 @@
+ghost use Rattle.std.specs.Prelude.{◌≡◌, ◌+◌, ◌<◌, ◌≤◌, List, [], ◌∷◌, ◌++◌, length, option_map, map, IfSome, IfOk, IfErr, OnOk};
+ghost use Rattle.std.specs.Str.{chars};
+ghost use Rattle.glob_text.specs.Text.{has, opens, between};
+ghost use Rattle.glob_pattern.specs.Grammar.Brackets.{entries_of};
+ghost use Rattle.glob_pattern.specs.Grammar.Tokens.{Token as Kept, is_deep, ends_deep, tokens_of_units, shape_of};
+ghost use Rattle.glob_pattern.specs.Grammar.Units.{HasTokens};
+ghost use Rattle.glob_pattern.specs.Grammar.Faults.{Refuses, fault_at};
+ghost use Rattle.glob_pattern.specs.Computing.Reading.{stars_at, close_from, bracket_at, unit_at};
+
+use crate::error::{PatternError, PatternRefusal};
+use crate::matcher::Shape;
+use crate::token::Token;
+use crate::token::bracket::Class;
+use std::alloc::{AllocError, Allocator};
+
+/// The shapes of the tokens, in order. It fails only for want of memory.
+pub fn shapes_of<A: Allocator + Copy>(
+    alloc: A,
+    tokens: &[Token<Class<A>>],
+) -> Result<Vec<Shape, A>, AllocError>
+    ensures { IfOk result (λ shapes. shapes.items ≡ map shape_of tokens.now) }
+{
+    tokens.iter().map(|token| token.shape()).collect(alloc)
+}
+
+/// The same tokens on the same allocator. It fails only for want of memory.
+pub fn clone_tokens<A: Allocator + Copy>(
+    tokens: &Vec<Token<Class<A>>, A>,
+) -> Result<Vec<Token<Class<A>>, A>, AllocError>
+    ensures { IfOk result (λ copies. copies.items ≡ tokens.now.items) }
+{
+    tokens.clone()
+}
+
+/// The tokens of an accepted pattern. An `Err` says the first fault of another, or that there was no memory.
+pub fn read_tokens<A: Allocator + Copy>(
+    alloc: A,
+    pattern: &str,
+) -> Result<Vec<Token<Class<A>>, A>, PatternRefusal>
+    ensures accepted { IfOk result (λ tokens. HasTokens (chars pattern.now) tokens.items) }
+    ensures refused { IfErr result (Refuses (chars pattern.now)) }
+{
+    let text: Vec<char, A> = pattern.chars().collect(alloc)?;
+    read_text(alloc, text.as_slice())
+}
+
+/// The tokens of the characters, as `read_tokens`.
+fn read_text<A: Allocator + Copy>(
+    alloc: A,
+    text: &[char],
+) -> Result<Vec<Token<Class<A>>, A>, PatternRefusal>
+    ensures accepted { IfOk result (λ tokens. HasTokens text.now tokens.items) }
+    ensures refused { IfErr result (Refuses text.now) }
+{
+    let mut tokens = Vec::new(alloc);
+    let mut place = 0;
+    while place < text.len() {
+        match unit_at(alloc, text, place)? {
+            Some((token, end)) => {
+                push_unit(&mut tokens, token)?;
+                place = end;
+            }
+            None => return Err(PatternRefusal::Syntax(fault_at(text, place))),
+        }
+    }
+    Ok(tokens)
+}
+
+/// Puts the token of the next unit at the end. Neighbouring deep ones are one.
+fn push_unit<A: Allocator>(
+    tokens: &mut Vec<Token<Class<A>>, A>,
+    token: Token<Class<A>>,
+) -> Result<(), AllocError>
+    ensures { OnOk result ((units : List Kept) → tokens.old.items ≡ tokens_of_units units → tokens.new.items ≡ tokens_of_units (units ++ token ∷ [])) }
+{
+    if token.is_deep() && ends_deep(tokens.as_slice()) {
+        return Ok(());
+    }
+    tokens.push(token)?;
+    Ok(())
+}
+
+/// Whether the last token is deep.
+fn ends_deep<A: Allocator>(tokens: &[Token<Class<A>>]) -> bool
+    ensures { result ≡ ends_deep tokens.now }
+{
+    match tokens {
+        [.., last] => last.is_deep(),
+        [] => false,
+    }
+}
+
+/// The unit at a place, as its token and the place after it, or `None`.
+fn unit_at<A: Allocator + Copy>(
+    alloc: A,
+    text: &[char],
+    place: usize,
+) -> Result<Option<(Token<Class<A>>, usize)>, AllocError>
+    requires { place < length text.now }
+    ensures { IfOk result (λ unit. unit ≡ unit_at text.now place) }
+{
+    let c = text[place];
+    if c == '?' {
+        Ok(Some((Token::Any, place + 1)))
+    } else if c == '*' {
+        Ok(stars_at(text, place))
+    } else if c == '[' {
+        bracket_at(alloc, text, place)
+    } else {
+        Ok(Some((Token::Plain(c), place + 1)))
+    }
+}
+
+/// The stars at a place as a unit.
+fn stars_at<A: Allocator>(text: &[char], place: usize) -> Option<(Token<Class<A>>, usize)>
+    requires { place < length text.now }
+    ensures { result ≡ stars_at text.now place }
+{
+    if !has(text, place + 1, '*') {
+        Some((Token::Run, place + 1))
+    } else if has(text, place + 2, '*') || !opens(text, place) {
+        None
+    } else if has(text, place + 2, '/') {
+        Some((Token::Deep, place + 3))
+    } else if place + 2 == text.len() {
+        Some((Token::Deep, place + 2))
+    } else {
+        None
+    }
+}
+
+/// The bracket at a place as a unit.
+fn bracket_at<A: Allocator + Copy>(
+    alloc: A,
+    text: &[char],
+    place: usize,
+) -> Result<Option<(Token<Class<A>>, usize)>, AllocError>
+    requires { place < length text.now }
+    ensures { IfOk result (λ unit. unit ≡ bracket_at text.now place) }
+{
+    if has(text, place + 1, '!') {
+        let found = content_from(alloc, text, place + 2)?;
+        Ok(found.map(|(class, end)| (Token::Except(class), end)))
+    } else {
+        let found = content_from(alloc, text, place + 1)?;
+        Ok(found.map(|(class, end)| (Token::Within(class), end)))
+    }
+}
+
+/// A bracket's content from a place on, and the place after its `]`. The first character is never that `]`.
+fn content_from<A: Allocator>(
+    alloc: A,
+    text: &[char],
+    start: usize,
+) -> Result<Option<(Class<A>, usize)>, AllocError>
+    requires { start ≤ length text.now + 1 }
+    ensures { IfOk result (λ found. found ≡ option_map (λ close. (entries_of (between text.now start close), close + 1)) (close_from text.now (start + 1))) }
+{
+    match close_from(text, start + 1) {
+        Some(close) => Ok(Some((Class::read(alloc, &text[start..close])?, close + 1))),
+        None => Ok(None),
+    }
+}
+
+/// The place of the first `]` from a place on.
+fn close_from(text: &[char], start: usize) -> Option<usize>
+    requires { start ≤ length text.now + 2 }
+    ensures place { result ≡ close_from text.now start }
+    ensures within { IfSome result (λ close. (start ≤ close) × (close < length text.now)) }
+{
+    for place in start..text.len() {
+        if text[place] == ']' {
+            return Some(place);
+        }
+    }
+    None
+}
+
+/// What is told of a place where no unit stands.
+fn fault_at(text: &[char], place: usize) -> PatternError
+    requires { place < length text.now }
+    ensures place { result.pos ≡ (fault_at text.now place).place }
+    ensures message { result.msg.now ≡ (fault_at text.now place).message }
+{
+    if !has(text, place, '*') {
+        PatternError {
+            pos: place,
+            msg: RANGE,
+        }
+    } else if has(text, place + 2, '*') {
+        PatternError {
+            pos: place + 2,
+            msg: WILDCARDS,
+        }
+    } else if !opens(text, place) {
+        PatternError {
+            pos: place - 1,
+            msg: RECURSIVE,
+        }
+    } else {
+        PatternError {
+            pos: place + 2,
+            msg: RECURSIVE,
+        }
+    }
+}
+
+const WILDCARDS: &'static str = "wildcards are either regular `*` or recursive `**`";
+
+const RECURSIVE: &'static str = "recursive wildcards must form a single path component";
+
+const RANGE: &'static str = "invalid range pattern";
+
+/// Whether the character at a place is `c`.
+fn has(text: &[char], place: usize, c: char) -> bool
+    ensures { result ≡ has text.now place c }
+{
+    place < text.len() && text[place] == c
+}
+
+/// Whether a place opens: it is the start, or `/` stands before it.
+fn opens(text: &[char], place: usize) -> bool
+    requires { place ≤ length text.now }
+    ensures { result ≡ opens text.now place }
+{
+    place == 0 || text[place - 1] == '/'
+}

@@ -1,0 +1,79 @@
+//! Laws of the definitions that the contracts name: each is the contract of a function that does nothing.
+ghost use Rattle.std.specs.Prelude.{◌≡◌, ℕ, ◌≤◌, ◌↔◌, List, length};
+ghost use Rattle.glob_text.specs.Text.{Text};
+ghost use Rattle.glob_pattern.specs.Grammar.Tokens.{Token};
+ghost use Rattle.glob_pattern.specs.Grammar.Units.{UnitAt, HasUnits, IsAccepted, HasTokens};
+ghost use Rattle.glob_pattern.specs.Grammar.Faults.{Fault, IsFault};
+ghost use Rattle.glob_pattern.specs.Computing.Reading.{reading_of};
+ghost use Rattle.glob_pattern.specs.Laws.{TokensLoosened, PatternsLoosened, PlainAccepted, PlainMatchesSame, PlainMatchesItself, FoldedMatchSame, EscapedAccepted, EscapedMatchesSame, EscapedMatchesItself, TokensDecided, PatternsDecided};
+
+/// Reading by computation answers tokens exactly where they are those of the text.
+pub fn reading_answers_tokens()
+    ensures { (text : Text) (tokens : List Token) → (reading_of text ≡ Ok tokens) ↔ HasTokens text tokens }
+{}
+
+/// Reading by computation answers a fault exactly where it is the fault of the text.
+pub fn reading_answers_fault()
+    ensures { (text : Text) (fault : Fault) → (reading_of text ≡ Err fault) ↔ IsFault text fault }
+{}
+
+/// At a place stands one unit at most.
+pub fn one_unit_at_a_place()
+    ensures { (text : Text) (f : ℕ) (t u : Token) (e m : ℕ) → UnitAt text f t e → UnitAt text f u m → (t ≡ u) × (e ≡ m) }
+{}
+
+/// A text is a concatenation of units in one way at most.
+pub fn one_way_of_units()
+    ensures { (text : Text) (units others : List Token) → HasUnits text units → HasUnits text others → units ≡ others }
+{}
+
+/// An accepted text has one list of tokens.
+pub fn one_list_of_tokens()
+    ensures { (text : Text) (tokens others : List Token) → HasTokens text tokens → HasTokens text others → tokens ≡ others }
+{}
+
+/// An accepted text has no fault.
+pub fn accepted_has_no_fault()
+    ensures { (text : Text) (fault : Fault) → IsAccepted text → ¬ (IsFault text fault) }
+{}
+
+/// A text that is not accepted has exactly one fault.
+pub fn refused_has_one_fault()
+    ensures { (text : Text) → ¬ (IsAccepted text) → (fault : Fault) × IsFault text fault × ((other : Fault) → IsFault text other → other ≡ fault) }
+{}
+
+/// Each token has a character of the pattern of its own.
+pub fn no_more_tokens_than_characters()
+    ensures { (text : Text) (tokens : List Token) → HasTokens text tokens → length tokens ≤ length text }
+{}
+
+/// A match stays a match where a rule is no longer asked for.
+pub fn looser_rules_keep_a_match()
+    ensures tokens { TokensLoosened }
+    ensures patterns { PatternsLoosened }
+{}
+
+/// A pattern without `?`, `*` and `[` stands for itself.
+pub fn plain_pattern_matches_itself()
+    ensures accepted { PlainAccepted }
+    ensures same { PlainMatchesSame }
+    ensures itself { PlainMatchesItself }
+{}
+
+/// Neighbouring deep tokens match what one of them matches.
+pub fn deep_tokens_match_as_one()
+    ensures { FoldedMatchSame }
+{}
+
+/// What is written for a text to stand for itself does so, whatever the rules.
+pub fn escaped_text_matches_itself()
+    ensures accepted { EscapedAccepted }
+    ensures same { EscapedMatchesSame }
+    ensures itself { EscapedMatchesItself }
+{}
+
+/// Whether tokens and patterns match a text is decided by a computation.
+pub fn matching_is_decided()
+    ensures tokens { TokensDecided }
+    ensures patterns { PatternsDecided }
+{}

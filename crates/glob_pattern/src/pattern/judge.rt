@@ -1,0 +1,128 @@
+ghost use Rattle.std.specs.Prelude.{◌≡◌, length, chars};
+ghost use Rattle.std.specs.Str.Iter.{chars_rest};
+ghost use Rattle.glob_pattern.specs.Private.Stepping.{StandsBefore, place_before};
+ghost use Rattle.glob_pattern.specs.Private.TextTable.{table_of};
+ghost use Rattle.glob_pattern.specs.Private.Masks.{AreMasks};
+
+use crate::matcher::Judge;
+use crate::options::MatchOptions;
+use crate::pattern::masks::take_known;
+use crate::token::Token;
+use crate::token::bracket::Class;
+use crate::token::taking::{take_left, takes};
+use std::alloc::Allocator;
+use std::str::Chars;
+
+/// Asks of a text what a pattern's tokens take.
+#[derive(Drop)]
+pub struct TextJudge<'a, A: Allocator> {
+    tokens: &'a [Token<Class<A>>],
+    masks: &'a [u64],
+    options: MatchOptions,
+    text: &'a str,
+    rest: Chars<'a>,
+    // the character last stepped onto, and whether its place opens
+    current: char,
+    opened: bool,
+    // whether the place after it opens
+    opens: bool,
+    count: u128,
+    ghost masked: { AreMasks tokens.now (length tokens.now) masks.now },
+    ghost stands: { StandsBefore (chars text.now) (chars (chars_rest rest)) current opened opens },
+}
+
+impl<'a, A: Allocator> TextJudge<'a, A> {
+    /// Before the first character, with nothing asked.
+    #[inline(always)]
+    pub fn new(
+        tokens: &'a [Token<Class<A>>],
+        masks: &'a [u64],
+        text: &'a str,
+        options: MatchOptions,
+    ) -> Self
+        requires { AreMasks tokens.now (length tokens.now) masks.now }
+        ensures tokens { result.tokens.now ≡ tokens.now }
+        ensures text { result.text.now ≡ text.now }
+        ensures options { result.options ≡ options }
+        ensures count { result.count ≡ 0 }
+        ensures start { place_before (chars text.now) (chars (chars_rest result.rest)) ≡ 0 }
+    {
+        TextJudge {
+            tokens,
+            masks,
+            options,
+            text,
+            rest: text.chars(),
+            current: '/',
+            opened: true,
+            opens: true,
+            count: 0,
+        }
+    }
+}
+
+#[tactic(auto, unfolding(crate::specs::Private::TextTable::table_of))]
+impl<A: Allocator> Judge for TextJudge<'_, A> {
+    ghost table = { λ j. table_of j.options j.tokens.now (chars j.text.now) };
+
+    ghost place = { λ j. place_before (chars j.text.now) (chars (chars_rest j.rest)) };
+
+    ghost count = { λ j. j.count };
+
+    #[inline(always)]
+    fn step(&mut self) -> bool {
+        let left = self.rest.as_str();
+        let Some(c) = self.rest.next() else {
+            return false;
+        };
+        self.current = c;
+        self.opened = self.opens;
+        // Asked of the first byte and not of c: the answer is the same, and takes no branch.
+        self.opens = left.as_bytes()[0] == b'/';
+        true
+    }
+
+    #[inline(always)]
+    fn opens(&self) -> bool {
+        self.opens
+    }
+
+    #[inline(always)]
+    fn takes(&mut self, token: usize) -> bool {
+        self.count += 1;
+        takes(&self.tokens[token], self.options, self.opened, self.current)
+    }
+
+    #[inline(always)]
+    fn takes_each(&mut self, word: usize, asked: u64) -> u64 {
+        // The word after the last token has no masks.
+        if asked == 0 {
+            return 0;
+        }
+        self.count += u128::from(asked.count_ones());
+        let (took, left) = take_known(
+            self.masks,
+            word,
+            asked,
+            self.options,
+            self.opened,
+            self.current,
+        );
+        if left == 0 {
+            return took;
+        }
+        // A copy of the fields: for all that the compiler knows, a call that got self.options itself might change them,
+        // and the loop would read them again at each character.
+        let options = MatchOptions {
+            case_sensitive: self.options.case_sensitive,
+            require_literal_separator: self.options.require_literal_separator,
+            require_literal_leading_dot: self.options.require_literal_leading_dot,
+        };
+        took | take_left(self.tokens, word, left, options, self.opened, self.current)
+    }
+
+    #[inline(always)]
+    fn asked(&self) -> u128 {
+        self.count
+    }
+}

@@ -1,0 +1,46 @@
+ghost use Rattle.std.specs.Prelude.{◌≡◌};
+ghost use Rattle.glob_pattern.specs.Grammar.Tokens.{is_deep, shape_of};
+
+pub mod bracket;
+pub mod taking;
+
+use crate::matcher::Shape;
+use bracket::Class;
+use std::alloc::Allocator;
+
+/// What a unit of a pattern stands for, where a bracket is kept as `C`.
+#[derive(Clone, Debug, Drop)]
+pub enum Token<C> {
+    /// A character.
+    Plain(char),
+    /// `?`, any one character.
+    Any,
+    /// `*`, any number of characters.
+    Run,
+    /// `**`, any number of whole path components.
+    Deep,
+    /// `[..]`, a character that the bracket holds.
+    Within(C),
+    /// `[!..]`, a character that the bracket does not hold.
+    Except(C),
+}
+
+impl<A: Allocator> Token<Class<A>> {
+    /// Which pieces the token may have.
+    pub fn shape(&self) -> Shape
+        ensures { result ≡ shape_of self.now }
+    {
+        match self {
+            Token::Plain(_) | Token::Any | Token::Within(_) | Token::Except(_) => Shape::One,
+            Token::Run => Shape::Run,
+            Token::Deep => Shape::Deep,
+        }
+    }
+
+    /// Whether it is `**`.
+    pub fn is_deep(&self) -> bool
+        ensures { result ≡ is_deep self.now }
+    {
+        matches!(self, Token::Deep)
+    }
+}

@@ -1,0 +1,125 @@
+ghost use Rattle.std.specs.Prelude.{◌≡◌, ℕ, true, IfOk};
+ghost use Rattle.glob_pattern.specs.Grammar.Brackets.{entries_of, same, in_range, in_folded_range, entry_holds, holds};
+
+use std::alloc::{AllocError, Allocator, Global};
+use std::marker::Model;
+
+/// An entry of a bracket.
+#[derive(Clone, Copy, Debug)]
+pub enum Entry {
+    /// One character.
+    Single(char),
+    /// The characters from the first to the second, by their numbers.
+    Range(char, char),
+}
+
+impl Entry {
+    /// The first and the last character that the entry holds with case.
+    pub fn ends(self) -> (char, char)
+        ensures { (c : ℕ) → entry_holds true c self ≡ in_range result.0 result.1 c }
+    {
+        match self {
+            Entry::Single(x) => (x, x),
+            Entry::Range(x, y) => (x, y),
+        }
+    }
+
+    /// Whether the entry holds `c`.
+    fn holds(self, c: char, case_sensitive: bool) -> bool
+        ensures { result ≡ entry_holds case_sensitive c self }
+    {
+        match self {
+            Entry::Single(x) => is_same(case_sensitive, c, x),
+            Entry::Range(x, y) => {
+                (x <= c && c <= y) || (!case_sensitive && is_in_folded_range(x, y, c))
+            }
+        }
+    }
+}
+
+/// What stands in a bracket: its entries, in the order of the pattern.
+#[derive(Debug, Drop)]
+pub struct Class<A: Allocator = Global> {
+    entries: Vec<Entry, A>,
+}
+
+impl<A: Allocator> Model for Class<A> {
+    ghost use Rattle.std.specs.Prelude.{List};
+    ghost use Rattle.glob_pattern.specs.declared.token.bracket.Entry.{Entry};
+
+    ghost Value = { List Entry };
+
+    ghost view = { λ c. c.entries.items };
+}
+
+impl<A: Allocator> Class<A> {
+    /// The entries of a bracket's content. It fails only for want of memory.
+    pub fn read(alloc: A, content: &[char]) -> Result<Self, AllocError>
+        ensures { IfOk result (λ class. class ≡ entries_of content.now) }
+    {
+        let mut entries = Vec::new(alloc);
+        let mut rest = content;
+        while let [first, others @ ..] = rest {
+            if let [hyphen, last, after @ ..] = others
+                && *hyphen == '-'
+            {
+                entries.push(Entry::Range(*first, *last))?;
+                rest = after;
+            } else {
+                entries.push(Entry::Single(*first))?;
+                rest = others;
+            }
+        }
+        Ok(Class { entries })
+    }
+
+    /// The entries, in the order of the pattern.
+    pub fn entries(&self) -> &[Entry]
+        ensures { result.now ≡ self.now }
+    {
+        self.entries.as_slice()
+    }
+
+    /// Whether an entry holds `c`. Without case, letters of ASCII in either case are the same.
+    pub fn holds(&self, c: char, case_sensitive: bool) -> bool
+        ensures { result ≡ holds case_sensitive c self.now }
+    {
+        self.entries
+            .iter()
+            .any(|entry| entry.holds(c, case_sensitive))
+    }
+}
+
+/// A copy of the entries on the same allocator. It fails only for want of memory.
+impl<A: Allocator + Copy> Clone for Class<A> {
+    ghost is_clone = { λ class copy. copy ≡ class };
+
+    fn clone(&self) -> Result<Self, AllocError> {
+        let entries = Vec::from_slice(*self.entries.allocator(), self.entries.as_slice())?;
+        Ok(Class { entries })
+    }
+}
+
+/// Whether `c` and `x` are the same character. Without case, two of ASCII are the same where their small letters are.
+pub fn is_same(case_sensitive: bool, c: char, x: char) -> bool
+    ensures { result ≡ same case_sensitive c x }
+{
+    c == x
+        || (!case_sensitive
+            && c.is_ascii()
+            && x.is_ascii()
+            && c.to_ascii_lowercase() == x.to_ascii_lowercase())
+}
+
+/// Whether the range from `x` to `y` holds the small letter of `c`, where the three are of ASCII and both ends letters.
+fn is_in_folded_range(x: char, y: char, c: char) -> bool
+    ensures { result ≡ in_folded_range x y c }
+{
+    if !x.is_ascii() || !y.is_ascii() || !c.is_ascii() {
+        return false;
+    }
+    let first = x.to_ascii_lowercase();
+    let last = y.to_ascii_lowercase();
+    let small = c.to_ascii_lowercase();
+    first.is_ascii_lowercase() && last.is_ascii_lowercase() && first <= small && small <= last
+}

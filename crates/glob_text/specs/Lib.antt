@@ -1,0 +1,3 @@
+pub mod Characters
+pub mod Pieces
+pub mod Text

@@ -1,0 +1,22 @@
+-- Places of a text. A text is a list of characters, and a place is a number of them from the start.
+use Rattle.std.specs.Prelude.{◌≡◌, ℕ, ◌-◌, ◌<◌, Bool, ◌&&◌, ◌||◌, nat_lt, ◌==◌, List, length, take, drop, slice_index}
+use Rattle.glob_text.specs.Characters.{slash}
+
+abbrev pub Text : Type 0
+Text = List ℕ
+
+-- the character at place k is c
+abbrev pub Has : Text → ℕ → ℕ → Type 0
+Has text k c = (k < length text) × (slice_index text k ≡ c)
+
+-- the test of the same
+abbrev pub has : Text → ℕ → ℕ → Bool
+has text k c = nat_lt k (length text) && slice_index text k == c
+
+-- place k opens: it is the start, or `/` stands right before it
+abbrev pub opens : Text → ℕ → Bool
+opens text k = k == 0 || slice_index text (k - 1) == slash
+
+-- the characters from place i up to place j
+abbrev pub between : Text → ℕ → ℕ → Text
+between text i j = take (j - i) (drop i text)

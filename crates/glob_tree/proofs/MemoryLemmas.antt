@@ -1,0 +1,7 @@
+pub mod Answering
+pub mod EntriesIn
+pub mod Following
+pub mod Keys
+pub mod Memory
+pub mod Nodes
+pub mod Numbers

@@ -1,0 +1,6 @@
+pub mod Answers
+pub mod Content
+pub mod Looks
+pub mod Memory
+pub mod Paths
+pub mod Private

@@ -1,0 +1,111 @@
+-- A tree in memory: which changes it takes, and what they make of its content.
+use Rattle.std.specs.Prelude.{◌≡◌, ℕ, ◌<◌, true, length, ◌&&◌, not, if◌then◌else◌, [], ◌∷◌, ◌++◌, drop, bytes_eq, Option, Some, None, is_some, Result, Ok, Err, MatchResult, ⊤}
+use Rattle.std.specs.List.{list_all}
+use Rattle.std.specs.Path.{root_dir}
+use Rattle.std.specs.declared.io.ErrorKind.{ErrorKind}
+use Rattle.std.specs.declared.io.ErrorKind.TheVariants as error
+use Rattle.std.specs.IoError.{error_kind}
+use Rattle.glob_text.specs.Characters.{slash}
+use Rattle.glob_text.specs.Text.{Text}
+use Rattle.glob_text.specs.Pieces.{begins_with, pieces}
+use Rattle.glob_tree.specs.Paths.{is_proper}
+use Rattle.glob_tree.specs.Content.{Content, Key, parent_key, kind_at, is_dir, is_dir_at, kind_found}
+use Rattle.glob_tree.specs.Private.Nodes.{entry_numbered}
+use Rattle.std.specs.Str.{is_utf8}
+use Rattle.glob_tree.specs.declared.tree.Kind.{Kind}
+use Rattle.glob_tree.specs.declared.tree.Kind.TheVariants.{Dir, Shut, Other}
+use Rattle.glob_tree.specs.declared.tree.ListError.{ListError}
+use Rattle.glob_tree.specs.declared.tree.ListError.TheVariants.{Read, Memory}
+use Rattle.glob_tree.specs.declared.tree.TreeRefusal.{TreeRefusal}
+use Rattle.glob_tree.specs.declared.tree.TreeRefusal.TheVariants as refusal
+
+-- what contracts see of a tree in memory
+pub record MemoryTree : Type 0 where
+  pub content : Content
+  pub asks : ℕ
+
+-- an empty root, which is the current directory
+abbrev pub empty_content : Content
+empty_content = record { kinds = ([], Dir) ∷ []; current = [] }
+
+-- the key that a path names: a separator, and proper names with separators between them
+abbrev pub key_of : Text → Option Key
+key_of path =
+    if begins_with slash path && list_all is_proper (pieces (drop 1 path)) then Some (pieces (drop 1 path)) else None
+
+-- the same, or the root
+abbrev pub directory_key : Text → Option Key
+directory_key path = if bytes_eq path root_dir then Some [] else key_of path
+
+-- why a key is not added: its parent is no directory, or it is there already
+abbrev pub key_refusal : Content → Option Key → Option TreeRefusal
+key_refusal c None = Some refusal.Improper
+key_refusal c (Some k) =
+    if not (is_dir_at c (parent_key k)) then Some refusal.NoParent
+    else if is_some (kind_at c k) then Some refusal.Taken
+    else None
+
+abbrev pub add_refusal : Content → Text → Option TreeRefusal
+add_refusal c path = key_refusal c (key_of path)
+
+-- the content with a further key
+abbrev pub with_key : Content → Kind → Option Key → Content
+with_key c kind None = c
+with_key c kind (Some k) = record { kinds = c.kinds ++ (k, kind) ∷ []; current = c.current }
+
+abbrev pub content_with : Content → Text → Kind → Content
+content_with c path kind = with_key c kind (key_of path)
+
+-- why a directory does not become the current one
+abbrev pub directory_refusal : Content → Option Key → Option TreeRefusal
+directory_refusal c None = Some refusal.Improper
+directory_refusal c (Some k) = if is_dir_at c k then None else Some refusal.NoDirectory
+
+abbrev pub current_refusal : Content → Text → Option TreeRefusal
+current_refusal c path = directory_refusal c (directory_key path)
+
+-- the content with another current directory
+abbrev pub with_current : Content → Option Key → Content
+with_current c None = c
+with_current c (Some k) = record { kinds = c.kinds; current = k }
+
+-- a change is refused as it has to be, and otherwise for want of memory alone
+abbrev pub IsChangeAnswer : Option TreeRefusal → Result (Unit {0}) TreeRefusal → Type 0
+IsChangeAnswer (Some e) result = result ≡ Err e
+IsChangeAnswer None result = MatchResult result (λ _. ⊤) (λ e. e ≡ refusal.Memory)
+
+-- why a listing of what stands there fails
+abbrev pub kind_fault : Option Kind → Option ErrorKind
+kind_fault None = Some error.NotFound
+kind_fault (Some Dir) = None
+kind_fault (Some (Shut kind)) = Some kind
+kind_fault (Some Other) = Some error.NotADirectory
+
+abbrev pub list_fault : Content → Text → Option ErrorKind
+list_fault c path = kind_fault (kind_found c path)
+
+-- the error is the one with which the listing fails, or want of memory where it does not fail
+abbrev pub IsFaultOf : Option ErrorKind → ListError → Type 0
+IsFaultOf fault (Read e) = fault ≡ Some (error_kind e)
+IsFaultOf fault Memory = fault ≡ None
+
+-- A further key may stand in the directory of this number, under this name: the path names it, and it is free.
+pub record IsPlace (c : Content) (path : Text) (number : ℕ) (name : Text) : Type 0 where
+  pub key : key_of path ≡ Some ((entry_numbered c.kinds number).0 ++ name ∷ [])
+  pub inside : number < length c.kinds
+  pub directory : is_dir (entry_numbered c.kinds number).1 ≡ true
+  pub utf8 : is_utf8 name ≡ true
+  pub proper : is_proper name ≡ true
+  pub allowed : add_refusal c path ≡ None
+  pub free : kind_at c ((entry_numbered c.kinds number).0 ++ name ∷ []) ≡ None
+
+-- the answer of a change that takes no memory
+abbrev pub change_answer : Option TreeRefusal → Result (Unit {0}) TreeRefusal
+change_answer None = Ok tt
+change_answer (Some e) = Err e
+
+-- the directory that a path names has this number
+pub record IsDirectoryOf (c : Content) (path : Text) (number : ℕ) : Type 0 where
+  pub key : directory_key path ≡ Some (entry_numbered c.kinds number).0
+  pub inside : number < length c.kinds
+  pub directory : is_dir_at c (entry_numbered c.kinds number).0 ≡ true

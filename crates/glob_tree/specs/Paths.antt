@@ -1,0 +1,35 @@
+-- Path texts. A path is a list of bytes, and its pieces stand between separators.
+use Rattle.std.specs.Prelude.{ℕ, Bool, ◌&&◌, ◌||◌, not, ◌==◌, if◌then◌else◌, ◌∷◌, ◌++◌, bytes_eq}
+use Rattle.std.specs.List.{list_any, list_all}
+use Rattle.std.specs.Path.{cur_dir, parent_dir, with_separator}
+use Rattle.glob_text.specs.Characters.{slash, dot}
+use Rattle.glob_text.specs.Pieces.{is_empty, begins_with, pieces}
+use Rattle.glob_text.specs.Text.{Text}
+
+-- the character that no name holds, besides `/`
+abbrev pub nul : ℕ
+nul = 0
+
+-- the path, a separator unless the path is empty or ends in one, and the text
+unfoldable pub join : (path text : Text) → Text
+join path text = with_separator path ++ text
+
+-- the piece is empty or `.`: it stays where it stands
+abbrev pub stays : Text → Bool
+stays piece = is_empty piece || bytes_eq piece cur_dir
+
+-- the path is `.`, and further pieces that stay
+abbrev pub is_here : Text → Bool
+is_here path = begins_with dot path && list_all stays (pieces path)
+
+-- the path of a name in the directory of another path
+unfoldable pub child : (path name : Text) → Text
+child path name = if is_here path then name else join path name
+
+-- `/` and NUL
+abbrev pub is_barred : ℕ → Bool
+is_barred c = c == slash || c == nul
+
+-- a name is not empty, not `.`, not `..`, and holds neither `/` nor NUL
+abbrev pub is_proper : Text → Bool
+is_proper name = not (stays name) && not (bytes_eq name parent_dir) && not (list_any is_barred name)

@@ -1,0 +1,12 @@
+//! Trees of files and directories: what a walk asks of one, and one in memory.
+#![tactic(auto)]
+
+mod asks;
+mod memory;
+mod name;
+mod tree;
+
+pub use asks::Asks;
+pub use memory::MemTree;
+pub use name::Name;
+pub use tree::{Entry, ListError, Look, Tree, TreeRefusal};

@@ -1,0 +1,39 @@
+//! Paths from the root down that name a key.
+ghost use Rattle.std.specs.Prelude.{◌≡◌, ◌++◌, ◌∷◌, [], true, None, Some, MatchOption};
+ghost use Rattle.std.specs.List.{list_all};
+ghost use Rattle.std.specs.Str.{is_utf8};
+ghost use Rattle.glob_tree.specs.Paths.{is_proper as is_proper_text};
+ghost use Rattle.glob_text.specs.Pieces.{pieces};
+ghost use Rattle.glob_tree.specs.Memory.{key_of};
+ghost use Rattle.glob_tree.specs.Private.Numbers.{directory_names};
+
+use crate::name::is_proper;
+
+/// The names of a path that is `/` and one or more proper names joined by `/`.
+pub(super) fn proper_names(path: &str) -> Option<&str>
+    ensures { MatchOption result (key_of path.now ≡ None) (λ names. (key_of path.now ≡ Some (pieces names.now)) × (list_all is_proper_text (pieces names.now) ≡ true)) }
+{
+    let names = path.strip_prefix('/')?;
+    if !are_proper(names) {
+        return None;
+    }
+    Some(names)
+}
+
+/// Whether each piece is a name.
+fn are_proper(names: &str) -> bool
+    ensures { result ≡ list_all is_proper_text (pieces names.now) }
+{
+    names.split('/').all(is_proper)
+}
+
+/// The last name, and what stands before its separator.
+pub(super) fn last_name(names: &str) -> (Option<&str>, &str)
+    ensures names { pieces names.now ≡ directory_names result.0 ++ result.1.now ∷ [] }
+    ensures utf8 { is_utf8 result.1.now ≡ true }
+{
+    match names.rsplit_once('/') {
+        Some((directory, name)) => (Some(directory), name),
+        None => (None, names),
+    }
+}

@@ -1,0 +1,81 @@
+ghost use Rattle.std.specs.Prelude.{◌≡◌, true, is_ok, IfOk, IfErr, string_bytes};
+ghost use Rattle.std.specs.List.{list_any};
+ghost use Rattle.glob_tree.specs.Paths.{is_barred, is_proper as is_proper_text};
+
+use std::alloc::{AllocError, Allocator, Global};
+use std::marker::Model;
+
+/// A name in a directory: a text that is not empty, not `.`, not `..`, and holds neither `/` nor NUL.
+#[derive(Drop)]
+pub struct Name<A: Allocator = Global> {
+    text: String<A>,
+}
+
+impl<A: Allocator> Model for Name<A> {
+    ghost use Rattle.std.specs.Prelude.{List, ℕ, string_bytes, IsTrue};
+    ghost use Rattle.glob_tree.specs.Paths.{is_proper};
+
+    ghost Value = { List ℕ };
+
+    ghost view = { λ a. string_bytes a.text };
+
+    ghost invariant = { λ a. IsTrue (is_proper (string_bytes a.text)) };
+}
+
+impl<A: Allocator> Name<A> {
+    /// The name that `text` spells, or `text` itself where it is no name. It takes no memory.
+    pub fn new(text: String<A>) -> Result<Self, String<A>>
+        ensures proper { is_ok result ≡ is_proper_text (string_bytes text) }
+        ensures name { IfOk result (λ name. name ≡ string_bytes text) }
+        ensures back { IfErr result (λ back. back ≡ text) }
+    {
+        if is_proper(text.as_str()) {
+            Ok(Name { text })
+        } else {
+            Err(text)
+        }
+    }
+
+    /// The same name once more.
+    pub(crate) fn copy(&self, alloc: A) -> Result<Self, AllocError>
+        ensures { IfOk result (λ name. name ≡ self.now) }
+    {
+        let text = String::from_str(alloc, self.text.as_str())?;
+        Ok(Name { text })
+    }
+
+    /// The name that `text` spells.
+    pub(crate) fn from_proper(alloc: A, text: &str) -> Result<Self, AllocError>
+        requires { is_proper_text text.now ≡ true }
+        ensures { IfOk result (λ name. name ≡ text.now) }
+    {
+        let text = String::from_str(alloc, text)?;
+        Ok(Name { text })
+    }
+
+    /// Its text.
+    pub fn as_str(&self) -> &str
+        ensures { result.now ≡ self.now }
+    {
+        self.text.as_str()
+    }
+}
+
+/// Whether the text is a name.
+pub(crate) fn is_proper(text: &str) -> bool
+    ensures { result ≡ is_proper_text text.now }
+{
+    if text.is_empty() || text == "." || text == ".." {
+        return false;
+    }
+    !has_barred(text)
+}
+
+/// Whether some byte is one that no name holds.
+fn has_barred(text: &str) -> bool
+    ensures { result ≡ list_any is_barred text.now }
+{
+    text.as_bytes()
+        .iter()
+        .any(|&byte| byte == b'/' || byte == 0)
+}

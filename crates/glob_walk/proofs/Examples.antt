@@ -1,0 +1,14 @@
+pub mod Answers
+pub mod Changes
+pub mod Components
+pub mod Dotted
+pub mod Edges
+pub mod Goals
+pub mod Held
+pub mod Limits
+pub mod Ordered
+pub mod Recursive
+pub mod Shut
+pub mod Small
+pub mod Trees
+pub mod Wildcards

@@ -1,0 +1,83 @@
+-- What a limit leaves of what a walk does.
+use Rattle.std.proofs.Common.{◌≡◌, ℕ, zero, suc, ◌+◌, ◌-◌, ◌<◌, ◌≤◌, List, [], ◌∷◌, ◌++◌, replicate, Some, None, refl, ap, arith}
+use Rattle.glob_text.specs.Text.{Text}
+use Rattle.glob_walk.specs.Marks.{Item, Found, Unread, Mark, Work, Give, items, cost, front, path_past, paths, IsBeginning}
+
+pub items-append : (ms ns : List Mark) → items (ms ++ ns) ≡ items ms ++ items ns
+items-append [] ns = refl
+items-append (Work path ∷ ms) ns = items-append ms ns
+items-append (Give item ∷ ms) ns = ap (λ is. item ∷ is) (items-append ms ns)
+
+pub cost-append : (ms ns : List Mark) → cost (ms ++ ns) ≡ cost ms + cost ns
+cost-append [] ns = omega arith
+cost-append (Work path ∷ ms) ns = omega (arith, cost-append ms ns)
+cost-append (Give item ∷ ms) ns = cost-append ms ns
+
+pub items-replicate : (n : ℕ) (path : Text) → items (replicate n (Work path)) ≡ []
+items-replicate zero path = refl
+items-replicate (suc n) path = items-replicate n path
+
+pub cost-replicate : (n : ℕ) (path : Text) → cost (replicate n (Work path)) ≡ n
+cost-replicate zero path = refl
+cost-replicate (suc n) path = ap suc (cost-replicate n path)
+
+-- a limit that is not reached cuts nothing
+pub front_whole : (n : ℕ) (ms : List Mark) → cost ms ≤ n → front n ms ≡ ms
+front_whole n [] h = refl
+front_whole n (Give item ∷ ms) h = ap (λ ns. Give item ∷ ns) (front_whole n ms h)
+front_whole zero (Work path ∷ ms) h = absurd (omega (arith, h))
+front_whole (suc n) (Work path ∷ ms) h = ap (λ ns. Work path ∷ ns) (front_whole n ms (omega (arith, h)))
+
+-- all units up to the limit are done
+pub cost-front : (n : ℕ) (ms : List Mark) → n ≤ cost ms → cost (front n ms) ≡ n
+cost-front n [] h = omega (arith, h)
+cost-front n (Give item ∷ ms) h = cost-front n ms h
+cost-front zero (Work path ∷ ms) h = refl
+cost-front (suc n) (Work path ∷ ms) h = ap suc (cost-front n ms (omega (arith, h)))
+
+-- what is given within a limit is a beginning of what is given
+pub IsBeginning-front : (n : ℕ) (ms : List Mark) → IsBeginning (items (front n ms)) (items ms)
+IsBeginning-front n [] = ([], refl)
+IsBeginning-front n (Give item ∷ ms) = let (rest, same) = IsBeginning-front n ms in (rest, ap (λ is. item ∷ is) same)
+IsBeginning-front zero (Work path ∷ ms) = (items ms, refl)
+IsBeginning-front (suc n) (Work path ∷ ms) = IsBeginning-front n ms
+
+-- what is given already is a beginning of what is given
+pub IsBeginning-append : (ms ns : List Mark) → IsBeginning (items ms) (items (ms ++ ns))
+IsBeginning-append ms ns = (items ns, items-append ms ns)
+
+-- the limit is met in what follows
+pub front-append : (n : ℕ) (ms ns : List Mark) → cost ms ≤ n → front n (ms ++ ns) ≡ ms ++ front (n - cost ms) ns
+front-append n [] ns h = let e : n - 0 ≡ n = omega arith in rw e refl
+front-append n (Give item ∷ ms) ns h = ap (λ os. Give item ∷ os) (front-append n ms ns h)
+front-append zero (Work path ∷ ms) ns h = absurd (omega (arith, h))
+front-append (suc n) (Work path ∷ ms) ns h =
+    let e : suc n - suc (cost ms) ≡ n - cost ms = omega arith in
+    rw e (ap (λ os. Work path ∷ os) (front-append n ms ns (omega (arith, h))))
+
+pub path_past-append : (n : ℕ) (ms ns : List Mark) → cost ms ≤ n → path_past n (ms ++ ns) ≡ path_past (n - cost ms) ns
+path_past-append n [] ns h = let e : n - 0 ≡ n = omega arith in rw e refl
+path_past-append n (Give item ∷ ms) ns h = path_past-append n ms ns h
+path_past-append zero (Work path ∷ ms) ns h = absurd (omega (arith, h))
+path_past-append (suc n) (Work path ∷ ms) ns h =
+    let e : suc n - suc (cost ms) ≡ n - cost ms = omega arith in
+    rw e (path_past-append n ms ns (omega (arith, h)))
+
+-- no unit is past a limit that is not reached
+pub path_past_none : (n : ℕ) (ms : List Mark) → cost ms ≤ n → path_past n ms ≡ None
+path_past_none n [] h = refl
+path_past_none n (Give item ∷ ms) h = path_past_none n ms h
+path_past_none zero (Work path ∷ ms) h = absurd (omega (arith, h))
+path_past_none (suc n) (Work path ∷ ms) h = path_past_none n ms (omega (arith, h))
+
+-- a unit is past a limit that is reached
+pub path_past_some : (n : ℕ) (ms : List Mark) → n < cost ms → (path : Text) × (path_past n ms ≡ Some path)
+path_past_some n [] h = absurd (omega (arith, h))
+path_past_some n (Give item ∷ ms) h = path_past_some n ms h
+path_past_some zero (Work path ∷ ms) h = (path, refl)
+path_past_some (suc n) (Work path ∷ ms) h = path_past_some n ms (omega (arith, h))
+
+pub paths-append : (is js : List Item) → paths (is ++ js) ≡ paths is ++ paths js
+paths-append [] js = refl
+paths-append (Found path ∷ is) js = ap (λ ps. path ∷ ps) (paths-append is js)
+paths-append (Unread path kind ∷ is) js = paths-append is js

@@ -1,0 +1,98 @@
+-- What a walk is for: the texts of the keys below its start that the undivided pattern matches.
+use Rattle.std.specs.Prelude.{◌≡◌, ◌≢◌, Bool, true, false, ◌&&◌, ◌||◌, not, if◌then◌else◌, List, [], ◌∷◌, ◌++◌, filter_map, Contains, Option, Some, None, is_none, option_and_then, ◌⊎◌}
+use Rattle.std.specs.List.{list_all, join_with_byte}
+use Rattle.std.specs.Str.{chars}
+use Rattle.std.specs.declared.io.ErrorKind.{ErrorKind}
+use Rattle.glob_text.specs.Characters.{slash, dot}
+use Rattle.glob_text.specs.Text.{Text}
+use Rattle.glob_text.specs.Pieces.{is_empty, begins_with}
+use Rattle.glob_tree.specs.Content.{Content, Key, is_dir, names_past, kind_at, resolve}
+use Rattle.glob_walk.specs.Components.{components, has_root, wants_directories, without_end_separator, is_literal, is_recursive, is_special_name, walk_fault}
+use Rattle.glob_pattern.specs.Computing.Deciding.{is_match}
+use Rattle.glob_walk.specs.Marks.{Item, Unread, paths}
+use Rattle.glob_pattern.specs.declared.options.MatchOptions.{MatchOptions}
+use Rattle.glob_tree.specs.declared.tree.Kind.{Kind}
+use Rattle.glob_tree.specs.declared.tree.Kind.TheVariants.{Dir, Shut, Other}
+
+-- The component is neither empty, nor `.`, nor `..`; and if it has a wildcard and begins with a dot, `**` is before it.
+abbrev pub is_plain_component : (after_recursive : Bool) → Text → Bool
+is_plain_component after_recursive t =
+    not (is_empty t) && not (is_special_name t) && (is_literal t || not (begins_with dot t) || after_recursive)
+
+abbrev pub are_plain : (after_recursive : Bool) → List Text → Bool
+are_plain after_recursive [] = true
+are_plain after_recursive (t ∷ ts) = is_plain_component after_recursive t && are_plain (is_recursive t) ts
+
+-- The pattern has no fault, and no component whose meaning is not that of the undivided text: an empty one, `.`, `..`, or
+-- one that may find the special names `.` and `..` of a directory.
+unfoldable pub is_plain : (pattern : Text) → Bool
+is_plain pattern = is_none (walk_fault pattern) && are_plain false (components pattern)
+
+-- the key at which the walk starts
+abbrev pub start_key : Content → (pattern : Text) → Key
+start_key c pattern = if has_root pattern then [] else c.current
+
+-- the text of a key that has these names past the start
+abbrev pub text_below : (pattern : Text) → Key → Text
+text_below pattern names = if has_root pattern then slash ∷ join_with_byte slash names else join_with_byte slash names
+
+-- with case, the separator rule, and the dot rule as the walk has it
+abbrev pub goal_options : MatchOptions → MatchOptions
+goal_options o = record {
+  case_sensitive = true;
+  require_literal_separator = true;
+  require_literal_leading_dot = o.require_literal_leading_dot;
+}
+
+-- the whole pattern, without a separator at its end, matches the text
+abbrev pub matches_undivided : MatchOptions → (pattern text : Text) → Bool
+matches_undivided o pattern text = is_match (goal_options o) (chars (without_end_separator pattern)) (chars text)
+
+abbrev pub ends_recursive : List Text → Bool
+ends_recursive [] = false
+ends_recursive (t ∷ []) = is_recursive t
+ends_recursive (t ∷ u ∷ us) = ends_recursive (u ∷ us)
+
+-- a pattern that ends in a separator or in `**` matches directories alone
+abbrev pub matches_kind : (pattern : Text) → Kind → Bool
+matches_kind pattern kind = is_dir kind || not (wants_directories pattern || ends_recursive (components pattern))
+
+-- the text of the names past the start of a key of this kind, if the pattern matches it
+abbrev pub goal_text : MatchOptions → (pattern : Text) → Kind → Key → Option Text
+goal_text o pattern kind [] = None
+goal_text o pattern kind (n ∷ ns) =
+    if matches_kind pattern kind && matches_undivided o pattern (text_below pattern (n ∷ ns))
+    then Some (text_below pattern (n ∷ ns)) else None
+
+-- the texts that a walk is to find, in no order
+unfoldable pub goal : Content → MatchOptions → (pattern : Text) → List Text
+goal c o pattern =
+    filter_map (λ e. option_and_then (goal_text o pattern e.1) (names_past (start_key c pattern) e.0)) c.kinds
+
+abbrev pub is_shut : Kind → Bool
+is_shut Dir = false
+is_shut (Shut kind) = true
+is_shut Other = false
+
+-- neither the start nor a key below it is shut
+unfoldable pub is_readable : Content → (pattern : Text) → Bool
+is_readable c pattern = list_all (λ e. not (is_shut e.1) || is_none (names_past (start_key c pattern) e.0)) c.kinds
+
+-- the text is that of a key below a shut one, to which the path of an error item leads
+pub record IsHidden (c : Content) (pattern : Text) (given : List Item) (text : Text) : Type 0 where
+  pub path : Text
+  pub kind : ErrorKind
+  pub above : Key
+  pub below : Key
+  pub names : Key
+  pub unread : Contains given (Unread path kind)
+  pub leads : resolve c path ≡ Some above
+  pub shut : kind_at c above ≡ Some (Shut kind)
+  pub longer : below ≢ []
+  pub extends : start_key c pattern ++ names ≡ above ++ below
+  pub same : text ≡ text_below pattern names
+
+-- each path is a goal, and if the walk is whole, each goal is a path or hidden
+pub record ReachesGoal (c : Content) (o : MatchOptions) (pattern : Text) (IsWhole : Type 0) (given : List Item) : Type 0 where
+  pub sound : (text : Text) → Contains (paths given) text → Contains (goal c o pattern) text
+  pub complete : IsWhole → (text : Text) → Contains (goal c o pattern) text → Contains (paths given) text ⊎ IsHidden c pattern given text

@@ -1,0 +1,50 @@
+-- What a walk does: units of work and items, which are counted and cut at a limit.
+use Rattle.std.specs.Prelude.{◌≡◌, ℕ, zero, suc, List, [], ◌∷◌, ◌++◌, Option, Some, None}
+use Rattle.std.specs.declared.io.ErrorKind.{ErrorKind}
+use Rattle.glob_text.specs.Text.{Text}
+
+-- what a walk gives: a path, or one that could not be listed and why
+pub data Item : Type 0 where
+  Found : Text → Item
+  Unread : Text → ErrorKind → Item
+
+-- what a walk does: a unit of work, at the path that is looked up or listed, or an item that is given
+pub data Mark : Type 0 where
+  Work : Text → Mark
+  Give : Item → Mark
+
+-- what is given, in order
+abbrev pub items : List Mark → List Item
+items [] = []
+items (Work path ∷ ms) = items ms
+items (Give item ∷ ms) = item ∷ items ms
+
+-- the number of units of work
+abbrev pub cost : List Mark → ℕ
+cost [] = 0
+cost (Work path ∷ ms) = suc (cost ms)
+cost (Give item ∷ ms) = cost ms
+
+-- what stands before unit n + 1
+abbrev pub front : ℕ → List Mark → List Mark
+front n [] = []
+front n (Give item ∷ ms) = Give item ∷ front n ms
+front zero (Work path ∷ ms) = []
+front (suc n) (Work path ∷ ms) = Work path ∷ front n ms
+
+-- the path of unit n + 1
+abbrev pub path_past : ℕ → List Mark → Option Text
+path_past n [] = None
+path_past n (Give item ∷ ms) = path_past n ms
+path_past zero (Work path ∷ ms) = Some path
+path_past (suc n) (Work path ∷ ms) = path_past n ms
+
+-- the items are a beginning of all of them
+abbrev pub IsBeginning : (some all : List Item) → Type 0
+IsBeginning some all = (rest : List Item) × (all ≡ some ++ rest)
+
+-- the paths that are given
+abbrev pub paths : List Item → List Text
+paths [] = []
+paths (Found path ∷ is) = path ∷ paths is
+paths (Unread path kind ∷ is) = paths is

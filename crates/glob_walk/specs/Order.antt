@@ -1,0 +1,46 @@
+-- Which walks give each path once, and which in order.
+use Rattle.std.specs.Prelude.{◌≡◌, ◌≢◌, Bool, true, ◌&&◌, not, nat_le, List, length, drop, filter, AllPairs}
+use Rattle.std.specs.List.{list_any, prefix_len}
+use Rattle.std.specs.Cmp.Lexicographic.{slice_cmp}
+use Rattle.std.specs.Ordering.{nat_cmp}
+use Rattle.std.specs.declared.cmp.Ordering.{Ordering}
+use Rattle.std.specs.declared.cmp.Ordering.TheVariants.{Less}
+use Rattle.glob_text.specs.Text.{Text}
+use Rattle.glob_text.specs.Pieces.{is_empty, pieces}
+use Rattle.glob_walk.specs.Components.{components, is_recursive}
+
+-- the components from the first `**` on
+abbrev pub from_run : List Text → List Text
+from_run ts = drop (prefix_len (λ t. not (is_recursive t)) ts) ts
+
+-- the components after the first run of `**`
+abbrev pub after_run : List Text → List Text
+after_run ts = drop (prefix_len is_recursive (from_run ts)) (from_run ts)
+
+-- the pattern has at most one run of `**`
+abbrev pub has_one_run : (pattern : Text) → Bool
+has_one_run pattern = not (list_any is_recursive (after_run (components pattern)))
+
+-- the pattern has no `**`, or one run with at most one component after it
+abbrev pub keeps_order : (pattern : Text) → Bool
+keeps_order pattern = has_one_run pattern && nat_le (length (after_run (components pattern))) 1
+
+abbrev pub names_of : (path : Text) → List Text
+names_of path = filter (λ piece. not (is_empty piece)) (pieces path)
+
+-- name by name in the order of bytes, a list of names before a longer one
+abbrev pub path_cmp : Text → Text → Ordering
+path_cmp path other = slice_cmp (slice_cmp nat_cmp) (names_of path) (names_of other)
+
+-- no path comes twice
+abbrev pub IsOnce : List Text → Type 0
+IsOnce paths = AllPairs (λ path later. path ≢ later) paths
+
+-- each path stands before those after it
+abbrev pub IsAscending : List Text → Type 0
+IsAscending paths = AllPairs (λ path later. path_cmp path later ≡ Less) paths
+
+-- each path once if there is at most one run of `**`, and in order if at most one component follows it
+pub record IsOrderly (pattern : Text) (paths : List Text) : Type 0 where
+  pub once : has_one_run pattern ≡ true → IsOnce paths
+  pub sorted_entries : keeps_order pattern ≡ true → IsAscending paths

@@ -1,0 +1,165 @@
+//! What stops a walk from reading a path.
+ghost use Rattle.std.specs.Prelude.{◌≡◌};
+ghost use Rattle.std.specs.IoError.{error_kind};
+ghost use Rattle.std.specs.Path.{path_bytes, path_buf_bytes};
+ghost use Rattle.glob_walk.specs.GlobCauses.{HasKind};
+
+use std::alloc::{Allocator, Global};
+use std::error::Error;
+use std::path::{Path, PathBuf};
+use std::{fmt, io};
+
+/// Why a walk could not read a path.
+#[derive(Clone, Copy, Debug, PartialEq, Eq)]
+pub enum GlobCause {
+    /// The file system refused to list or to look.
+    Read,
+    /// There was no memory for it.
+    Memory,
+    /// The walk's limit was reached before it.
+    Limit,
+}
+
+/// A path that a walk could not read, and why. No call on it takes memory.
+#[derive(Drop)]
+#[derive_where(Debug)]
+pub struct GlobError<A: Allocator = Global> {
+    path: PathBuf<A>,
+    error: io::Error,
+    cause: GlobCause,
+    ghost kind: { ∥ HasKind cause (error_kind error) ∥₁ },
+}
+
+/// What a walk gives for each path that it reaches: the path, or why it could not be read.
+pub type GlobResult<A = Global> = Result<PathBuf<A>, GlobError<A>>;
+
+impl<A: Allocator> GlobError<A> {
+    ghost use Rattle.glob_walk.specs.GlobErrors.{path_of, error_of, cause_of};
+
+    /// The path could not be read because of `error`.
+    pub(crate) fn read(path: PathBuf<A>, error: io::Error) -> Self
+        ensures path { path_of result ≡ path_buf_bytes path }
+        ensures error { error_of result ≡ error }
+        ensures cause { cause_of result ≡ GlobCause.Read }
+    {
+        GlobError {
+            path,
+            error,
+            cause: GlobCause::Read,
+        }
+    }
+
+    /// There was no memory to go on at the path.
+    pub(crate) fn memory(path: PathBuf<A>) -> Self
+        ensures path { path_of result ≡ path_buf_bytes path }
+        ensures cause { cause_of result ≡ GlobCause.Memory }
+    {
+        GlobError {
+            path,
+            error: io::Error::from(io::ErrorKind::OutOfMemory),
+            cause: GlobCause::Memory,
+        }
+    }
+
+    /// The walk's limit was reached at the path.
+    pub(crate) fn limit(path: PathBuf<A>) -> Self
+        ensures path { path_of result ≡ path_buf_bytes path }
+        ensures cause { cause_of result ≡ GlobCause.Limit }
+    {
+        GlobError {
+            path,
+            error: io::Error::other("walk limit reached"),
+            cause: GlobCause::Limit,
+        }
+    }
+
+    /// The path that could not be read.
+    pub fn path(&self) -> Path<'_>
+        ensures { path_bytes result ≡ path_of self.now }
+    {
+        self.path.as_path()
+    }
+
+    /// The I/O error. Its kind is `OutOfMemory` where the cause is `Memory`, and `Other` where it is `Limit`.
+    pub fn error(&self) -> &io::Error
+        ensures error { result.now ≡ error_of self.now }
+        ensures kind { HasKind (cause_of self.now) (error_kind result.now) }
+    {
+        &self.error
+    }
+
+    /// The I/O error, as of [`error`](Self::error).
+    pub fn into_error(self) -> io::Error
+        ensures error { result ≡ error_of self }
+        ensures kind { HasKind (cause_of self) (error_kind result) }
+    {
+        *self.error()
+    }
+
+    /// Why the path could not be read.
+    pub fn cause(&self) -> GlobCause
+        ensures { result ≡ cause_of self.now }
+    {
+        self.cause
+    }
+}
+
+/// The I/O error of [`GlobError::error`].
+impl<A: Allocator> From<GlobError<A>> for io::Error {
+    ghost use Rattle.glob_walk.specs.GlobErrors.{error_of};
+
+    ghost from_gives = { λ e error. error ≡ error_of e };
+
+    fn from(e: GlobError<A>) -> io::Error {
+        e.into_error()
+    }
+}
+
+/// The path, and why it could not be read. Where the cause is `Read`, the words of the I/O error stand at the end, of
+/// which nothing is promised.
+impl<A: Allocator> fmt::Display for GlobError<A> {
+    ghost use Rattle.glob_walk.specs.Words.{glob_error_words};
+
+    ghost output = { glob_error_words };
+
+    fn fmt<W: fmt::Write>(&self, f: &mut fmt::Formatter<W>) -> fmt::Result {
+        let path = self.path.display();
+        write!(f, "attempting to read `{path}` resulted in an error: ")?;
+        match self.cause {
+            GlobCause::Read => fmt::Display::fmt(&self.error, f),
+            GlobCause::Memory => f.write_str("out of memory"),
+            GlobCause::Limit => f.write_str("walk limit reached"),
+        }
+    }
+}
+
+impl<A: Allocator> Error for GlobError<A> {}
+
+#[cfg(test)]
+mod tests {
+    use super::*;
+    use std::test::Fail;
+
+    #[test]
+    fn a_limit_is_written(rt: HostRuntime) -> Result<(), Fail> {
+        let error = GlobError::limit(PathBuf::from_str(rt.alloc(), "a/b")?);
+        let line = format!(in rt.alloc(); "{error}")?;
+        assert_eq!(rt;
+            line.as_str(),
+            "attempting to read `a/b` resulted in an error: walk limit reached"
+        );
+        Ok(())
+    }
+
+    #[test]
+    fn a_failed_read_is_written(rt: HostRuntime) -> Result<(), Fail> {
+        let path = PathBuf::from_str(rt.alloc(), "a")?;
+        let error = GlobError::read(path, io::Error::from(io::ErrorKind::NotFound));
+        let line = format!(in rt.alloc(); "{error}")?;
+        assert!(rt;
+            line.as_str()
+                .starts_with("attempting to read `a` resulted in an error:")
+        );
+        Ok(())
+    }
+}
