@@ -7,5 +7,6 @@ mod lines;
 mod matching;
 mod memory;
 mod options;
+mod readme;
 mod texts;
 mod trees;
