@@ -1,0 +1,99 @@
+#!/usr/bin/env python3
+"""Quotes the contracts of the library's public calls in crates/glob/CALLING.md, below the line '## Contracts'.
+
+    tests/contracts.py            writes the quotes anew
+    tests/contracts.py --check    writes nothing, and fails where a quote is not what src/ says
+"""
+
+import re
+import sys
+from pathlib import Path
+
+ROOT = Path(__file__).resolve().parent.parent
+PAGE = ROOT / "crates/glob/CALLING.md"
+CRATES = ["glob_pattern", "glob_lines", "glob_tree", "glob_walk"]
+HEAD = "## Contracts\n"
+
+
+def public_names(crate):
+    """What the crate glob re-exports of a crate."""
+    text = (ROOT / "crates/glob/src/lib.rt").read_text()
+    return set(re.findall(r"\w+", " ".join(re.findall(rf"pub use {crate}::([^;]*);", text))))
+
+
+def owners(lines):
+    """Of each line, the type or trait whose block it is in, and whether the block is that of a trait."""
+    owner, in_trait, found = None, False, []
+    for line in lines:
+        block = re.match(r"(pub )?(impl|trait)\b", line)
+        if block:
+            words = re.sub(r"<[^<>]*>", "", re.sub(r"<[^<>]*>", "", line)).split("{")[0]
+            words = words.replace("pub ", "").split(":")[0] if block[2] == "trait" else words
+            owner, in_trait = words.split()[-1], block[2] == "trait" or " for " in words
+        elif line.startswith("}"):
+            owner = None
+        found.append((owner, in_trait))
+    return found
+
+
+def contract(lines, start):
+    """The lines of a signature and its clauses, from the line `start` on."""
+    indent = len(lines[start]) - len(lines[start].lstrip())
+    taken = []
+    for line in lines[start:]:
+        text = line[indent:]
+        if text.startswith("{"):
+            break
+        taken.append(text.removesuffix(" {").removesuffix(";"))
+        if text.endswith(" {") and not text.lstrip().startswith(("requires", "ensures")) or text.endswith(";"):
+            break
+    return [line for line in taken if line.strip() and not line.lstrip().startswith("//")]
+
+
+def quotes(path, names):
+    """The contracts of the public calls of a file."""
+    lines = path.read_text().split("\n")
+    found = []
+    for number, (line, (owner, in_trait)) in enumerate(zip(lines, owners(lines))):
+        if line.startswith("#[cfg(test)]"):
+            break
+        call = re.match(r"(    )?(pub )?(const )?fn (\w+)", line)
+        if not call or not (call[2] or in_trait):
+            continue
+        if (owner or call[4]) not in names or bool(call[1]) != bool(owner):
+            continue
+        clauses = contract(lines, number)
+        if in_trait and not any(re.match(r" *(requires|ensures)", clause) for clause in clauses):
+            continue
+        clauses[0] = clauses[0].removeprefix("pub ")
+        if owner:
+            clauses[0] = clauses[0].replace(f"fn {call[4]}", f"fn {owner}::{call[4]}", 1)
+        found.append("\n".join(clauses))
+    return found
+
+
+def page():
+    parts = []
+    for crate in CRATES:
+        names = public_names(crate)
+        source = ROOT / "crates" / crate / "src"
+        for path in sorted(source.rglob("*.rt"), key=lambda path: path.with_suffix("").parts):
+            found = quotes(path, names)
+            if found:
+                where = path.relative_to(ROOT / "crates")
+                parts.append(f"### `{where}`\n\n```rust\n" + "\n\n".join(found) + "\n```\n")
+    return "\n".join(parts)
+
+
+def main():
+    text = PAGE.read_text()
+    before = text.split(HEAD)[0] + HEAD
+    intro = text.split(HEAD)[1].split("###")[0]
+    wanted = before + intro + page()
+    if "--check" not in sys.argv:
+        PAGE.write_text(wanted)
+    elif wanted != text:
+        sys.exit("crates/glob/CALLING.md: the contracts are not those of src/. Run tests/contracts.py.")
+
+
+main()
