@@ -10,13 +10,15 @@
 //! | `[!a-c]x` | `dx`, not `ax` |
 //! | `[]]`, `[*]` | `]`, `*`: a character in brackets stands for itself |
 //!
-//! A [`Pattern`] is read by `Pattern::new`, which tells the first fault of a text that is none, as
-//! `Pattern::new(alloc, "a**")`: place 0, since `**` has to be a component. `Pattern::escape` writes the pattern that
-//! stands for a text alone. [`MatchOptions`] set case, the separator rule and the dot rule. [`filter_lines`] copies the
-//! lines of a reader that a pattern matches. [`run_positions`] decides splits over any [`Judge`], of any alphabet.
-//! A [`Tree`] answers what a walk asks; [`MemTree`] is one in memory.
+//! `Pattern::new` parses a [`Pattern`]. If the text is not a pattern, it reports the first fault and its place in
+//! characters: for `a**` place 0, since `**` has to be a whole component. `Pattern::escape` writes the pattern that
+//! stands for a text alone.
 //!
-//! Each call that makes or grows something takes its allocator, and says want of memory as an error.
+//! [`MatchOptions`] set case, the separator rule and the dot rule. [`filter_lines`] copies the lines of a reader that a
+//! pattern matches. [`run_positions`] decides for any [`Judge`], of any alphabet, whether its characters split into
+//! pieces. A [`Tree`] answers what a walk asks, and [`MemTree`] is one in memory.
+//!
+//! A call that makes or grows something takes its allocator, and reports an allocation failure as an error.
 #![tactic(auto)]
 
 pub use glob_lines::{LineFault, Watch, filter_lines};
