@@ -57,6 +57,11 @@ def quotes(path, names):
     for number, (line, (owner, in_trait)) in enumerate(zip(lines, owners(lines))):
         if line.startswith("#[cfg(test)]"):
             break
+        member = re.match(r"    ghost (next_gives|remaining) = ", line)
+        if member and owner in names:
+            head = f"impl Iterator for {owner}\n"
+            again = bool(found) and found[-1].startswith(head)
+            found.append((found.pop() + "\n" if again else head) + line)
         call = re.match(r"(    )?(pub )?(const )?fn (\w+)", line)
         if not call or not (call[2] or in_trait):
             continue
