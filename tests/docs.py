@@ -1,0 +1,63 @@
+#!/usr/bin/env python3
+"""Checks what the pages say of the sources: links, names of files, and code that a page quotes. Prints what is wrong, and
+last how many checks passed and failed."""
+
+import re
+import subprocess
+import sys
+from pathlib import Path
+
+ROOT = Path(__file__).resolve().parent.parent
+FILES = subprocess.run(["git", "-C", ROOT, "ls-files"], capture_output=True, text=True, check=True).stdout.split("\n")
+PAGES = [name for name in FILES if name.endswith(".md")]
+
+# A page, and the file that holds its first block of Rust word for word.
+EXAMPLES = [
+    ("README.md", "crates/glob_vectors/src/tests/readme.rt"),
+    ("crates/glob/CALLING.md", "crates/glob_vectors/src/uses.rt"),
+]
+
+
+def lines_of(text):
+    """The lines without blanks around them, and without those that are empty or documentation."""
+    lines = (line.strip() for line in text.split("\n"))
+    return [line for line in lines if line and not line.startswith("//!") and not line.startswith("///")]
+
+
+def quotes(page, source):
+    """Whether the first block of Rust on the page stands in the source, line after line."""
+    block = re.search(r"```rust\n(.*?)```", (ROOT / page).read_text(), re.S)
+    wanted, lines = lines_of(block[1]), lines_of((ROOT / source).read_text())
+    starts = range(len(lines) - len(wanted) + 1)
+    return any(lines[start : start + len(wanted)] == wanted for start in starts)
+
+
+def broken_links(page):
+    """The links of a page to files that are not there."""
+    links = re.findall(r"\]\(([^):#]+)\)", (ROOT / page).read_text())
+    return [link for link in links if not (ROOT / page).parent.joinpath(link).exists()]
+
+
+def unknown_files(page):
+    """The names of sources on a page that end no path of the repository. One with NAME in it stands for many."""
+    text = re.sub(r"```.*?```", "", (ROOT / page).read_text(), flags=re.S)
+    names = re.findall(r"`([\w/.]+\.(?:rt|antt|md|py|sh|tsv))`", text)
+    return [name for name in names if "NAME" not in name and not any(f"/{file}".endswith(f"/{name}") for file in FILES)]
+
+
+def main():
+    faults = [f"{page}: the example is not that of {source}" for page, source in EXAMPLES if not quotes(page, source)]
+    for page in PAGES:
+        faults += [f"{page}: no file {name}" for name in broken_links(page) + unknown_files(page)]
+    contracts = subprocess.run([ROOT / "tests/contracts.py", "--check"], capture_output=True, text=True)
+    if contracts.returncode != 0:
+        faults.append(contracts.stderr.strip())
+    for fault in faults:
+        print(f"failed: {fault}")
+    checks = len(EXAMPLES) + len(PAGES) + 1
+    failed = min(checks, len(faults))
+    print(f"{checks - failed} passed, {failed} failed")
+    sys.exit(bool(faults))
+
+
+main()
