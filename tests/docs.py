@@ -8,7 +8,8 @@ import sys
 from pathlib import Path
 
 ROOT = Path(__file__).resolve().parent.parent
-FILES = subprocess.run(["git", "-C", ROOT, "ls-files"], capture_output=True, text=True, check=True).stdout.split("\n")
+PATHS = (path.relative_to(ROOT) for path in ROOT.rglob("*.*") if path.is_file())
+FILES = [str(path) for path in PATHS if not {"out", ".git"} & set(path.parts)]
 PAGES = [name for name in FILES if name.endswith(".md")]
 
 # A page, and the file that holds its first block of Rust word for word.
