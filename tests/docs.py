@@ -1,6 +1,6 @@
 #!/usr/bin/env python3
-"""Checks what the pages say of the sources: links, names of files, and code that a page quotes. Prints what is wrong, and
-last how many checks passed and failed."""
+"""Checks what the pages say of the sources: links, names of files and of edits, and code that a page quotes. Prints what is
+wrong, and last how many checks passed and failed."""
 
 import re
 import subprocess
@@ -46,16 +46,24 @@ def unknown_files(page):
     return [name for name in names if "NAME" not in name and not any(f"/{file}".endswith(f"/{name}") for file in FILES)]
 
 
+def unknown_edits():
+    """The edits that the tables of docs/PROOFS.md name and that are not there."""
+    rows = re.findall(r"^\|[^|]*\|((?: `\w+`,?)+) \|", (ROOT / "docs/PROOFS.md").read_text(), re.M)
+    edits = {Path(name).stem for name in FILES if name.endswith(".edit")}
+    return [name for row in rows for name in re.findall(r"\w+", row) if name not in edits]
+
+
 def main():
     faults = [f"{page}: the example is not that of {source}" for page, source in EXAMPLES if not quotes(page, source)]
     for page in PAGES:
         faults += [f"{page}: no file {name}" for name in broken_links(page) + unknown_files(page)]
+    faults += [f"docs/PROOFS.md: no edit {name}" for name in unknown_edits()]
     contracts = subprocess.run([ROOT / "tests/contracts.py", "--check"], capture_output=True, text=True)
     if contracts.returncode != 0:
         faults.append(contracts.stderr.strip())
     for fault in faults:
         print(f"failed: {fault}")
-    checks = len(EXAMPLES) + len(PAGES) + 1
+    checks = len(EXAMPLES) + len(PAGES) + 2
     failed = min(checks, len(faults))
     print(f"{checks - failed} passed, {failed} failed")
     sys.exit(bool(faults))
