@@ -1,6 +1,6 @@
 #!/usr/bin/env python3
-"""Checks what the pages say of the sources: links, names of files and of edits, and code that a page quotes. Prints what is
-wrong, and last how many checks passed and failed."""
+"""Checks what the pages say of the sources: links, names of files, definitions and edits, and code that a page quotes.
+Prints what is wrong, and last how many checks passed and failed."""
 
 import re
 import subprocess
@@ -46,6 +46,17 @@ def unknown_files(page):
     return [name for name in names if "NAME" not in name and not any(f"/{file}".endswith(f"/{name}") for file in FILES)]
 
 
+def unknown_definitions(page):
+    """What a page says that a file of definitions has, as `File.antt`: `Name`, and that the file has not."""
+    found = []
+    for file, names in re.findall(r"`([\w/]+\.antt)`: ((?:`\w+`(?:, )?)+)", (ROOT / page).read_text()):
+        texts = [(ROOT / name).read_text() for name in FILES if f"/{name}".endswith(f"/{file}")]
+        for name in re.findall(r"\w+", names):
+            if not any(re.search(rf"\bpub (record |data )?{name}\b", text) for text in texts):
+                found.append(f"{file}: {name}")
+    return found
+
+
 def unknown_edits():
     """The edits that the tables of docs/PROOFS.md name and that are not there."""
     rows = re.findall(r"^\|[^|]*\|((?: `\w+`,?)+) \|", (ROOT / "docs/PROOFS.md").read_text(), re.M)
@@ -57,6 +68,7 @@ def main():
     faults = [f"{page}: the example is not that of {source}" for page, source in EXAMPLES if not quotes(page, source)]
     for page in PAGES:
         faults += [f"{page}: no file {name}" for name in broken_links(page) + unknown_files(page)]
+        faults += [f"{page}: no definition {name}" for name in unknown_definitions(page)]
     faults += [f"docs/PROOFS.md: no edit {name}" for name in unknown_edits()]
     contracts = subprocess.run([ROOT / "tests/contracts.py", "--check"], capture_output=True, text=True)
     if contracts.returncode != 0:
