@@ -36,7 +36,7 @@ impl<A: Allocator> Model for MemTree<A> {
 
     ghost Value = { MemoryTree };
 
-    ghost view = { λ a. record { content = content_at a.nodes a.current; asks = a.asks.count } };
+    ghost view = { λ a. record { content = content_at a.nodes a.current; asks = a.asks } };
 
     ghost invariant = { λ a. (a.current < length a.nodes) × (is_content (content_at a.nodes a.current) ≡ true) };
 }
