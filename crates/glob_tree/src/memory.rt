@@ -2,17 +2,21 @@
 ghost use Rattle.std.specs.Prelude.{◌≡◌, ◌+◌, true, Some, Ok, IfOk, IfErr, OnOk, OnErr, MatchResult};
 ghost use Rattle.glob_tree.specs.Answers.{IsListError, entries_of, entry_count};
 ghost use Rattle.glob_tree.specs.Content.{is_content, look_result, list_result, Entries};
-ghost use Rattle.glob_tree.specs.Memory.{empty_content, add_refusal, content_with, current_refusal, directory_key, with_current, IsChangeAnswer, IsDirectoryOf, IsFaultOf, IsPlace, change_answer, list_fault};
-ghost use Rattle.glob_tree.specs.declared.tree.Kind.TheVariants.{Dir, Shut, Other};
+ghost use Rattle.glob_tree.specs.Memory.{empty_content, add_refusal, content_with, current_refusal, directory_key, with_current, IsChangeAnswer, IsFaultOf, change_answer, list_fault};
+ghost use Rattle.glob_tree.specs.Private.Places.{IsDirectoryOf, IsPlace};
+ghost use Rattle.glob_tree.specs.declared.kind.Kind.TheVariants.{Dir, Shut, Other};
 
 mod keys;
 mod nodes;
+mod refusal;
 
 use crate::asks::Asks;
+use crate::kind::Kind;
 use crate::name::Name;
-use crate::tree::{Entry, Kind, ListError, Look, Tree, TreeRefusal};
+use crate::tree::{Entry, ListError, Look, Tree};
 use keys::{last_name, proper_names};
 use nodes::Nodes;
+pub use refusal::TreeRefusal;
 use std::alloc::{AllocError, Allocator, Global};
 use std::io;
 use std::marker::Model;
@@ -38,7 +42,8 @@ impl<A: Allocator> Model for MemTree<A> {
 
     ghost view = { λ a. record { content = content_at a.nodes a.current; asks = a.asks } };
 
-    ghost invariant = { λ a. (a.current < length a.nodes) × (is_content (content_at a.nodes a.current) ≡ true) };
+    ghost invariant = { λ a. (a.current < length a.nodes)
+        × (is_content (content_at a.nodes a.current) ≡ true) };
 }
 
 impl<A: Allocator + Copy> MemTree<A> {
@@ -62,7 +67,8 @@ impl<A: Allocator + Copy> MemTree<A> {
     /// memory. The first of these is told, and the tree then holds what it held.
     pub fn add_dir(&mut self, path: &str) -> Result<(), TreeRefusal>
         ensures answer { IsChangeAnswer (add_refusal self.old.content path.now) result }
-        ensures added { OnOk result (self.new.content ≡ content_with self.old.content path.now Dir) }
+        ensures added { OnOk result
+            (self.new.content ≡ content_with self.old.content path.now Dir) }
         ensures refused { OnErr result (self.new.content ≡ self.old.content) }
         ensures content { is_content self.new.content ≡ true }
         ensures asks { self.new.asks ≡ self.old.asks }
@@ -74,7 +80,8 @@ impl<A: Allocator + Copy> MemTree<A> {
     /// `add_dir` is.
     pub fn add_shut(&mut self, path: &str, kind: io::ErrorKind) -> Result<(), TreeRefusal>
         ensures answer { IsChangeAnswer (add_refusal self.old.content path.now) result }
-        ensures added { OnOk result (self.new.content ≡ content_with self.old.content path.now (Shut kind)) }
+        ensures added { OnOk result
+            (self.new.content ≡ content_with self.old.content path.now (Shut kind)) }
         ensures refused { OnErr result (self.new.content ≡ self.old.content) }
         ensures content { is_content self.new.content ≡ true }
         ensures asks { self.new.asks ≡ self.old.asks }
@@ -85,7 +92,8 @@ impl<A: Allocator + Copy> MemTree<A> {
     /// Adds something that is no directory. It is refused as `add_dir` is.
     pub fn add_other(&mut self, path: &str) -> Result<(), TreeRefusal>
         ensures answer { IsChangeAnswer (add_refusal self.old.content path.now) result }
-        ensures added { OnOk result (self.new.content ≡ content_with self.old.content path.now Other) }
+        ensures added { OnOk result
+            (self.new.content ≡ content_with self.old.content path.now Other) }
         ensures refused { OnErr result (self.new.content ≡ self.old.content) }
         ensures content { is_content self.new.content ≡ true }
         ensures asks { self.new.asks ≡ self.old.asks }
@@ -99,7 +107,8 @@ impl<A: Allocator + Copy> MemTree<A> {
     /// The current directory is then what it was.
     pub fn set_current(&mut self, path: &str) -> Result<(), TreeRefusal>
         ensures answer { result ≡ change_answer (current_refusal self.old.content path.now) }
-        ensures current { OnOk result (self.new.content ≡ with_current self.old.content (directory_key path.now)) }
+        ensures current { OnOk result
+            (self.new.content ≡ with_current self.old.content (directory_key path.now)) }
         ensures refused { OnErr result (self.new.content ≡ self.old.content) }
         ensures content { is_content self.new.content ≡ true }
         ensures asks { self.new.asks ≡ self.old.asks }
@@ -112,7 +121,8 @@ impl<A: Allocator + Copy> MemTree<A> {
     /// Adds a key.
     fn add(&mut self, path: &str, kind: Kind) -> Result<(), TreeRefusal>
         ensures answer { IsChangeAnswer (add_refusal self.old.content path.now) result }
-        ensures added { OnOk result (self.new.content ≡ content_with self.old.content path.now kind) }
+        ensures added { OnOk result
+            (self.new.content ≡ content_with self.old.content path.now kind) }
         ensures refused { OnErr result (self.new.content ≡ self.old.content) }
         ensures content { is_content self.new.content ≡ true }
         ensures asks { self.new.asks ≡ self.old.asks }
@@ -149,7 +159,8 @@ impl<A: Allocator + Copy> Tree for MemTree<A> {
     fn list(&mut self, path: &str) -> Result<Vec<Entry<A>, A>, ListError>
         ensures asks { self.new.asks ≡ self.old.asks + 1 + entry_count result }
         ensures content { self.new.content ≡ self.old.content }
-        ensures entries { IfOk result (λ v. list_result self.old.content path.now ≡ Entries (entries_of v.items)) }
+        ensures entries { IfOk result (λ v.
+            list_result self.old.content path.now ≡ Entries (entries_of v.items)) }
         ensures fails { IfErr result (λ e. IsListError (list_result self.old.content path.now) e) }
         ensures fault { IfErr result (λ e. IsFaultOf (list_fault self.old.content path.now) e) }
     {
@@ -163,7 +174,8 @@ impl<A: Allocator + Copy> Tree for MemTree<A> {
 impl<A: Allocator + Copy> MemTree<A> {
     /// The entries of the directory to which a path leads.
     fn entries(&self, path: &str) -> Result<Vec<Entry<A>, A>, ListError>
-        ensures entries { IfOk result (λ v. list_result self.now.content path.now ≡ Entries (entries_of v.items)) }
+        ensures entries { IfOk result (λ v.
+            list_result self.now.content path.now ≡ Entries (entries_of v.items)) }
         ensures fails { IfErr result (λ e. IsListError (list_result self.now.content path.now) e) }
         ensures fault { IfErr result (λ e. IsFaultOf (list_fault self.now.content path.now) e) }
     {
@@ -197,7 +209,9 @@ impl<A: Allocator> MemTree<A> {
 
     /// Where the key of a path is to stand: the number of its directory, and its name.
     fn place<'p>(&self, path: &'p str) -> Result<(usize, &'p str), TreeRefusal>
-        ensures { MatchResult result (λ place. IsPlace self.now.content path.now place.0 place.1.now) (λ e. add_refusal self.now.content path.now ≡ Some e) }
+        ensures { MatchResult result
+            (λ place. IsPlace self.now.content path.now place.0 place.1.now)
+            (λ e. add_refusal self.now.content path.now ≡ Some e) }
     {
         let Some(names) = proper_names(path) else {
             return Err(TreeRefusal::Improper);
@@ -214,7 +228,9 @@ impl<A: Allocator> MemTree<A> {
 
     /// The number of the directory that a path names.
     fn directory(&self, path: &str) -> Result<usize, TreeRefusal>
-        ensures { MatchResult result (λ number. IsDirectoryOf self.now.content path.now number) (λ e. current_refusal self.now.content path.now ≡ Some e) }
+        ensures { MatchResult result
+            (λ number. IsDirectoryOf self.now.content path.now number)
+            (λ e. current_refusal self.now.content path.now ≡ Some e) }
     {
         if path == "/" {
             return Ok(self.nodes.root());

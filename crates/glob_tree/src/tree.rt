@@ -1,30 +1,10 @@
 ghost use Rattle.std.specs.Prelude.{◌≡◌, ℕ, ◌+◌, Option, IfOk, IfErr};
-ghost use Rattle.glob_tree.specs.Content.{Content, is_dir, look_result, list_result};
+ghost use Rattle.glob_tree.specs.Content.{Content, look_result, list_result};
 ghost use Rattle.glob_tree.specs.Answers.{IsTold, IsListAnswer, IsListError, entries_of, entry_count};
 
 use crate::name::Name;
 use std::alloc::{AllocError, Allocator, Global};
 use std::io;
-
-/// What stands at a key of a tree.
-#[derive(Clone, Copy, PartialEq, Eq, Debug)]
-pub(crate) enum Kind {
-    /// A directory.
-    Dir,
-    /// A directory that cannot be listed, and the kind of the error that a listing fails with.
-    Shut(io::ErrorKind),
-    /// Anything else.
-    Other,
-}
-
-impl Kind {
-    /// Whether it is a directory, shut or not.
-    pub(crate) fn is_dir(self) -> bool
-        ensures { result ≡ is_dir self }
-    {
-        matches!(self, Kind::Dir | Kind::Shut(_))
-    }
-}
 
 /// What a look at a path finds.
 #[derive(Clone, Copy, PartialEq, Eq, Debug)]
@@ -35,21 +15,6 @@ pub enum Look {
     Other,
     /// Nothing.
     Missing,
-}
-
-/// Why a tree in memory refused a change. Where several reasons hold, the first of them is told.
-#[derive(Clone, Copy, PartialEq, Eq, Debug)]
-pub enum TreeRefusal {
-    /// The path is not `/` and one or more proper names joined by `/`.
-    Improper,
-    /// The path without its last name leads to no directory.
-    NoParent,
-    /// Something stands at the path already.
-    Taken,
-    /// The path leads to no directory, where one was to become the current one.
-    NoDirectory,
-    /// There was no memory for the change.
-    Memory,
 }
 
 /// An entry of a directory.
@@ -87,7 +52,8 @@ pub trait Tree: Drop {
     fn look(&mut self, path: &str) -> Result<Look, AllocError>
         ensures asks { asks self.new ≡ asks self.old + 1 }
         ensures content { tells self.new ≡ tells self.old }
-        ensures seen { (c : Content) → IsTold (tells self.old) c → IfOk result (λ seen. seen ≡ look_result c path.now) };
+        ensures seen { (c : Content) → IsTold (tells self.old) c
+            → IfOk result (λ seen. seen ≡ look_result c path.now) };
 
     /// The entries of the directory to which `path` leads, each once, in any order.
     ///
@@ -95,6 +61,8 @@ pub trait Tree: Drop {
     fn list(&mut self, path: &str) -> Result<Vec<Entry<Self::Alloc>, Self::Alloc>, ListError>
         ensures asks { asks self.new ≡ asks self.old + 1 + entry_count result }
         ensures content { tells self.new ≡ tells self.old }
-        ensures entries { (c : Content) → IsTold (tells self.old) c → IfOk result (λ v. IsListAnswer (list_result c path.now) (entries_of v.items)) }
-        ensures fails { (c : Content) → IsTold (tells self.old) c → IfErr result (λ e. IsListError (list_result c path.now) e) };
+        ensures entries { (c : Content) → IsTold (tells self.old) c
+            → IfOk result (λ v. IsListAnswer (list_result c path.now) (entries_of v.items)) }
+        ensures fails { (c : Content) → IsTold (tells self.old) c
+            → IfErr result (λ e. IsListError (list_result c path.now) e) };
 }

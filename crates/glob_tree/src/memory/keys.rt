@@ -1,17 +1,18 @@
 //! Paths from the root down that name a key.
-ghost use Rattle.std.specs.Prelude.{◌≡◌, ◌++◌, ◌∷◌, [], true, None, Some, MatchOption};
+ghost use Rattle.std.specs.Prelude.{◌≡◌, ◌++◌, ◌∷◌, [], true, None, MatchOption};
 ghost use Rattle.std.specs.List.{list_all};
 ghost use Rattle.std.specs.Str.{is_utf8};
 ghost use Rattle.glob_tree.specs.Paths.{is_proper as is_proper_text};
 ghost use Rattle.glob_text.specs.Pieces.{pieces};
 ghost use Rattle.glob_tree.specs.Memory.{key_of};
 ghost use Rattle.glob_tree.specs.Private.Numbers.{directory_names};
+ghost use Rattle.glob_tree.specs.Private.Places.{AreNames};
 
 use crate::name::is_proper;
 
 /// The names of a path that is `/` and one or more proper names joined by `/`.
 pub(super) fn proper_names(path: &str) -> Option<&str>
-    ensures { MatchOption result (key_of path.now ≡ None) (λ names. (key_of path.now ≡ Some (pieces names.now)) × (list_all is_proper_text (pieces names.now) ≡ true)) }
+    ensures { MatchOption result (key_of path.now ≡ None) (λ names. AreNames path.now names.now) }
 {
     let names = path.strip_prefix('/')?;
     if !are_proper(names) {

@@ -5,11 +5,12 @@ ghost use Rattle.glob_tree.specs.Answers.{entries_of};
 ghost use Rattle.glob_tree.specs.Content.{is_content, is_dir, kind_at, parent_key, child_key, origin, step, steps, resolve, children};
 ghost use Rattle.glob_tree.specs.Paths.{is_proper};
 ghost use Rattle.glob_text.specs.Pieces.{pieces};
-ghost use Rattle.glob_tree.specs.Private.Nodes.{root_entry, entry_numbered, content_at};
-ghost use Rattle.glob_tree.specs.Private.Numbers.{IsDirectoryAt, IsFoundAt, IsNode, Leads, directory_names, is_named, listed_in};
+ghost use Rattle.glob_tree.specs.Private.Nodes.{root_entry, entry_numbered, key_numbered, kind_numbered, rooted_content, content_at};
+ghost use Rattle.glob_tree.specs.Private.Numbers.{IsDirectoryAt, IsFoundAt, IsFree, IsKindAt, IsNode, Leads, directory_names, entries_with, is_named, listing_entry};
 
+use crate::kind::Kind;
 use crate::name::Name;
-use crate::tree::{Entry, Kind};
+use crate::tree::Entry;
 use std::alloc::{AllocError, Allocator, Global};
 use std::marker::Model;
 
@@ -33,14 +34,15 @@ pub(super) struct Nodes<A: Allocator = Global> {
 impl<A: Allocator> Model for Nodes<A> {
     ghost use Rattle.std.specs.Prelude.{List, IsTrue};
     ghost use Rattle.glob_tree.specs.Content.{Key, is_content};
-    ghost use Rattle.glob_tree.specs.Private.Nodes.{entries_of_nodes, stand_after, content_at};
-    ghost use Rattle.glob_tree.specs.declared.tree.Kind.{Kind};
+    ghost use Rattle.glob_tree.specs.Private.Nodes.{entries_of_nodes, are_after_parents, rooted_content};
+    ghost use Rattle.glob_tree.specs.declared.kind.Kind.{Kind};
 
     ghost Value = { List (Key × Kind) };
 
     ghost view = { λ a. entries_of_nodes a.nodes.items };
 
-    ghost invariant = { λ a. IsTrue (stand_after 1 a.nodes.items) × IsTrue (is_content (content_at (entries_of_nodes a.nodes.items) 0)) };
+    ghost invariant = { λ a. IsTrue (are_after_parents 1 a.nodes.items)
+        × IsTrue (is_content (rooted_content (entries_of_nodes a.nodes.items))) };
 }
 
 impl<A: Allocator> Nodes<A> {
@@ -57,7 +59,7 @@ impl<A: Allocator> Nodes<A> {
     pub(super) fn root(&self) -> usize
         ensures root { entry_numbered self.now result ≡ root_entry }
         ensures inside { result < length self.now }
-        ensures content { is_content (content_at self.now 0) ≡ true }
+        ensures content { is_content (rooted_content self.now) ≡ true }
     {
         // A proof has the invariant where a field is read.
         let _nodes = &self.nodes;
@@ -68,7 +70,7 @@ impl<A: Allocator> Nodes<A> {
     fn node(&self, number: usize) -> Option<&Node<A>>
         requires { number < length self.now }
         ensures node { IsNode self.now number result }
-        ensures held { kind_at (content_at self.now 0) (entry_numbered self.now number).0 ≡ Some (entry_numbered self.now number).1 }
+        ensures stands { IsKindAt self.now number (kind_numbered self.now number) }
     {
         let nodes = self.nodes.as_slice();
         if number == 0 {
@@ -85,11 +87,11 @@ impl<A: Allocator> Nodes<A> {
         kind: Kind,
     ) -> Result<(), AllocError>
         requires inside { directory < length self.old }
-        requires directory { is_dir (entry_numbered self.old directory).1 ≡ true }
+        requires directory { is_dir (kind_numbered self.old directory) ≡ true }
         requires utf8 { is_utf8 name ≡ true }
         requires proper { is_proper name ≡ true }
-        requires free { kind_at (content_at self.old 0) ((entry_numbered self.old directory).0 ++ name ∷ []) ≡ None }
-        ensures added { OnOk result (self.new ≡ self.old ++ ((entry_numbered self.old directory).0 ++ name ∷ [], kind) ∷ []) }
+        requires free { IsFree self.old directory name }
+        ensures added { OnOk result (self.new ≡ entries_with self.old directory name kind) }
         ensures refused { OnErr result (self.new ≡ self.old) }
     {
         self.nodes.push(Node {
@@ -103,8 +105,8 @@ impl<A: Allocator> Nodes<A> {
     /// What stands there.
     pub(super) fn kind(&self, number: usize) -> Kind
         requires { number < length self.now }
-        ensures kind { result ≡ (entry_numbered self.now number).1 }
-        ensures held { kind_at (content_at self.now 0) (entry_numbered self.now number).0 ≡ Some result }
+        ensures kind { result ≡ kind_numbered self.now number }
+        ensures stands { IsKindAt self.now number result }
     {
         match self.node(number) {
             None => Kind::Dir,
@@ -115,7 +117,7 @@ impl<A: Allocator> Nodes<A> {
     /// Its directory, and the root's own.
     fn parent(&self, number: usize) -> usize
         requires { number < length self.now }
-        ensures key { (entry_numbered self.now result).0 ≡ parent_key (entry_numbered self.now number).0 }
+        ensures key { key_numbered self.now result ≡ parent_key (key_numbered self.now number) }
         ensures number { result < length self.now }
     {
         match self.node(number) {
@@ -127,7 +129,8 @@ impl<A: Allocator> Nodes<A> {
     /// The node with this name in a directory.
     pub(super) fn child(&self, directory: usize, name: &str) -> Option<usize>
         requires { directory < length self.now }
-        ensures { Leads self.now result (child_key (content_at self.now 0) (entry_numbered self.now directory).0 name.now) }
+        ensures { Leads self.now result
+            (child_key (rooted_content self.now) (key_numbered self.now directory) name.now) }
     {
         let place = place_of(self.nodes.as_slice(), directory, name)?;
         Some(place + 1)
@@ -136,7 +139,8 @@ impl<A: Allocator> Nodes<A> {
     /// Where a piece of a path leads from a node.
     fn step(&self, number: usize, piece: &str) -> Option<usize>
         requires { number < length self.now }
-        ensures { Leads self.now result (step (content_at self.now 0) piece.now (entry_numbered self.now number).0) }
+        ensures { Leads self.now result
+            (step (rooted_content self.now) piece.now (key_numbered self.now number)) }
     {
         if !self.kind(number).is_dir() {
             return None;
@@ -153,7 +157,8 @@ impl<A: Allocator> Nodes<A> {
     /// Where the pieces of a path lead from a node.
     fn follow(&self, start: usize, path: &str) -> Option<usize>
         requires { start < length self.now }
-        ensures { Leads self.now result (steps (content_at self.now 0) (Some (entry_numbered self.now start).0) (pieces path.now)) }
+        ensures { Leads self.now result
+            (steps (rooted_content self.now) (Some (key_numbered self.now start)) (pieces path.now)) }
     {
         let mut number = start;
         for piece in path.split('/') {
@@ -165,7 +170,7 @@ impl<A: Allocator> Nodes<A> {
     /// The node at which a path begins.
     fn origin(&self, current: usize, path: &str) -> usize
         requires { current < length self.now }
-        ensures key { (entry_numbered self.now result).0 ≡ origin (content_at self.now current) path.now }
+        ensures key { key_numbered self.now result ≡ origin (content_at self.now current) path.now }
         ensures inside { result < length self.now }
     {
         if path.starts_with('/') {
@@ -213,7 +218,8 @@ impl<A: Allocator + Copy> Nodes<A> {
     /// The entries of a directory.
     pub(super) fn entries(&self, alloc: A, directory: usize) -> Result<Vec<Entry<A>, A>, AllocError>
         requires { directory < length self.now }
-        ensures { IfOk result (λ v. entries_of v.items ≡ children (content_at self.now 0) (entry_numbered self.now directory).0) }
+        ensures { IfOk result (λ v.
+            entries_of v.items ≡ children (rooted_content self.now) (key_numbered self.now directory)) }
     {
         entries_in(alloc, self.nodes.as_slice(), directory)
     }
@@ -225,7 +231,8 @@ fn entries_in<A: Allocator + Copy>(
     nodes: &[Node<A>],
     directory: usize,
 ) -> Result<Vec<Entry<A>, A>, AllocError>
-    ensures { IfOk result (λ v. entries_of v.items ≡ filter_map (listed_in directory) nodes.now) }
+    ensures { IfOk result (λ v.
+        entries_of v.items ≡ filter_map (listing_entry directory) nodes.now) }
 {
     let mut entries = Vec::new(alloc);
     for node in nodes {
