@@ -18,7 +18,7 @@ use Rattle.glob_tree.specs.declared.tree.ListError.TheVariants.{Read, Memory}
 use Rattle.glob_tree.specs.declared.memory.refusal.TreeRefusal.{TreeRefusal}
 use Rattle.glob_tree.specs.declared.memory.refusal.TreeRefusal.TheVariants as refusal
 
--- what contracts see of a tree in memory
+-- what contracts see of a tree in memory: its content, and how much was asked
 pub record MemoryTree : Type 0 where
   pub content : Content
   pub asks : ℕ
@@ -32,11 +32,11 @@ abbrev pub key_of : Text → Option Key
 key_of path =
     if begins_with slash path && list_all is_proper (pieces (drop 1 path)) then Some (pieces (drop 1 path)) else None
 
--- the same, or the root
+-- the same, where `/` is the root
 abbrev pub directory_key : Text → Option Key
 directory_key path = if bytes_eq path root_dir then Some [] else key_of path
 
--- why a key is not added: its parent is no directory, or it is there already
+-- why a key is not added: there is none, its parent is no directory, or something stands there
 abbrev pub key_refusal : Content → Option Key → Option TreeRefusal
 key_refusal c None = Some refusal.Improper
 key_refusal c (Some k) =

@@ -4,11 +4,11 @@ ghost use Rattle.std.specs.Borrow.{ftrue};
 
 use std::marker::Model;
 
-/// How much was asked of a tree: a number that contracts alone see.
+/// How much was asked of a tree: a number that contracts alone see. It costs nothing: it has no bytes, and its methods do
+/// nothing at run time.
 ///
-/// A [`Tree`](crate::Tree) of your own keeps one as a field and names it in its `ghost asks`. It has no bytes, and its
-/// methods do nothing at run time. Each `look` counts one more ask, and each `list` one more, and one for each entry that
-/// it returns:
+/// A [`Tree`](crate::Tree) of your own keeps one in a field and names it in its `ghost asks`. Each `look` is one ask, and
+/// each `list` one, and one for each entry that it returns:
 ///
 /// ```text
 /// struct NoTree {

@@ -1,4 +1,4 @@
-//! Paths from the root down that name a key.
+//! Paths that are `/` and proper names joined by `/`.
 ghost use Rattle.std.specs.Prelude.{◌≡◌, ◌++◌, ◌∷◌, [], true, None, MatchOption};
 ghost use Rattle.std.specs.List.{list_all};
 ghost use Rattle.std.specs.Str.{is_utf8};
@@ -10,7 +10,7 @@ ghost use Rattle.glob_tree.specs.Private.Places.{AreNames};
 
 use crate::name::is_proper;
 
-/// The names of a path that is `/` and one or more proper names joined by `/`.
+/// The path without its first `/`, where names joined by `/` follow.
 pub(super) fn proper_names(path: &str) -> Option<&str>
     ensures { MatchOption result (key_of path.now ≡ None) (λ names. AreNames path.now names.now) }
 {
@@ -21,14 +21,14 @@ pub(super) fn proper_names(path: &str) -> Option<&str>
     Some(names)
 }
 
-/// Whether each piece is a name.
+/// Whether each piece between `/` is a proper name.
 fn are_proper(names: &str) -> bool
     ensures { result ≡ list_all is_proper_text (pieces names.now) }
 {
     names.split('/').all(is_proper)
 }
 
-/// The last name, and what stands before its separator.
+/// What stands before the last `/`, and the last name.
 pub(super) fn last_name(names: &str) -> (Option<&str>, &str)
     ensures names { pieces names.now ≡ directory_names result.0 ++ result.1.now ∷ [] }
     ensures utf8 { is_utf8 result.1.now ≡ true }

@@ -14,18 +14,19 @@ use crate::tree::Entry;
 use std::alloc::{AllocError, Allocator, Global};
 use std::marker::Model;
 
-/// What stands below the root.
+/// An entry of the tree, below the root.
 #[derive(Drop)]
 pub(super) struct Node<A: Allocator = Global> {
-    /// The number of its directory.
+    /// The number of the directory it is in.
     parent: usize,
-    /// Its name there.
+    /// Its name in that directory.
     name: Name<A>,
     /// What it is.
     kind: Kind,
 }
 
-/// The nodes of a tree, each after its parent. The root has number 0, and is a directory.
+/// The nodes of a tree, each after its parent. Numbers count from the root, which is a directory, has number 0 and no
+/// node: node 0 of the list has number 1.
 #[derive(Drop)]
 pub(super) struct Nodes<A: Allocator = Global> {
     nodes: Vec<Node<A>, A>,
@@ -46,7 +47,7 @@ impl<A: Allocator> Model for Nodes<A> {
 }
 
 impl<A: Allocator> Nodes<A> {
-    /// No nodes.
+    /// The root alone.
     pub(super) fn new(alloc: A) -> Self
         ensures { result ≡ root_entry ∷ [] }
     {
@@ -66,7 +67,7 @@ impl<A: Allocator> Nodes<A> {
         0
     }
 
-    /// The node of this number, where it is not the root's.
+    /// The node of this number, and none for the root.
     fn node(&self, number: usize) -> Option<&Node<A>>
         requires { number < length self.now }
         ensures node { IsNode self.now number result }
@@ -79,7 +80,7 @@ impl<A: Allocator> Nodes<A> {
         nodes.get(number - 1)
     }
 
-    /// Adds a node in a directory, where no node has its name yet.
+    /// Adds a node to a directory in which its name is free.
     pub(super) fn add(
         &mut self,
         directory: usize,
@@ -102,7 +103,7 @@ impl<A: Allocator> Nodes<A> {
         Ok(())
     }
 
-    /// What stands there.
+    /// Of what kind the entry of this number is.
     pub(super) fn kind(&self, number: usize) -> Kind
         requires { number < length self.now }
         ensures kind { result ≡ kind_numbered self.now number }
@@ -114,7 +115,7 @@ impl<A: Allocator> Nodes<A> {
         }
     }
 
-    /// Its directory, and the root's own.
+    /// The number of the directory it is in; the root is in itself.
     fn parent(&self, number: usize) -> usize
         requires { number < length self.now }
         ensures key { key_numbered self.now result ≡ parent_key (key_numbered self.now number) }
@@ -126,7 +127,7 @@ impl<A: Allocator> Nodes<A> {
         }
     }
 
-    /// The node with this name in a directory.
+    /// The number of the entry with this name in a directory.
     pub(super) fn child(&self, directory: usize, name: &str) -> Option<usize>
         requires { directory < length self.now }
         ensures { Leads self.now result
@@ -136,7 +137,7 @@ impl<A: Allocator> Nodes<A> {
         Some(place + 1)
     }
 
-    /// Where a piece of a path leads from a node.
+    /// Where one piece of a path leads from here.
     fn step(&self, number: usize, piece: &str) -> Option<usize>
         requires { number < length self.now }
         ensures { Leads self.now result
@@ -154,7 +155,7 @@ impl<A: Allocator> Nodes<A> {
         self.child(number, piece)
     }
 
-    /// Where the pieces of a path lead from a node.
+    /// Where the pieces of a path lead from `start`, one after another.
     fn follow(&self, start: usize, path: &str) -> Option<usize>
         requires { start < length self.now }
         ensures { Leads self.now result
@@ -167,7 +168,7 @@ impl<A: Allocator> Nodes<A> {
         Some(number)
     }
 
-    /// The node at which a path begins.
+    /// Where a path begins: at the root or in the current directory.
     fn origin(&self, current: usize, path: &str) -> usize
         requires { current < length self.now }
         ensures key { key_numbered self.now result ≡ origin (content_at self.now current) path.now }
@@ -179,7 +180,7 @@ impl<A: Allocator> Nodes<A> {
         current
     }
 
-    /// Where a path leads, from the node of this number if it does not begin with `/`.
+    /// Where a path leads, where `current` is the current directory.
     pub(super) fn find(&self, current: usize, path: &str) -> Option<usize>
         requires { current < length self.now }
         ensures { Leads self.now result (resolve (content_at self.now current) path.now) }
@@ -190,7 +191,7 @@ impl<A: Allocator> Nodes<A> {
         self.follow(self.origin(current, path), path)
     }
 
-    /// The directory with these names, or the root.
+    /// The directory that these names lead to from the root; no names are the root.
     pub(super) fn directory(&self, names: Option<&str>) -> Option<usize>
         requires { list_all is_proper (directory_names names) ≡ true }
         ensures { IsDirectoryAt self.now (directory_names names.entry) result }
@@ -202,7 +203,7 @@ impl<A: Allocator> Nodes<A> {
         Some(number)
     }
 
-    /// The node with these names, or the root.
+    /// The entry that these names lead to from the root; no names are the root.
     fn find_names(&self, names: Option<&str>) -> Option<usize>
         requires { list_all is_proper (directory_names names) ≡ true }
         ensures { IsFoundAt self.now (directory_names names.entry) result }
@@ -225,7 +226,7 @@ impl<A: Allocator + Copy> Nodes<A> {
     }
 }
 
-/// The entries of the nodes in a directory.
+/// What a listing returns of the nodes in a directory.
 fn entries_in<A: Allocator + Copy>(
     alloc: A,
     nodes: &[Node<A>],
@@ -243,7 +244,7 @@ fn entries_in<A: Allocator + Copy>(
     Ok(entries)
 }
 
-/// What a listing says of a node.
+/// What a listing returns of a node.
 fn entry_at<A: Allocator>(alloc: A, node: &Node<A>) -> Result<Entry<A>, AllocError>
     ensures name { IfOk result (λ entry. entry.name ≡ node.now.name) }
     ensures kind { IfOk result (λ entry. entry.is_dir ≡ is_dir node.now.kind) }
@@ -254,7 +255,7 @@ fn entry_at<A: Allocator>(alloc: A, node: &Node<A>) -> Result<Entry<A>, AllocErr
     })
 }
 
-/// The place of the node with this name in a directory.
+/// The place in the list of the node with this name in a directory, counted from 0.
 fn place_of<A: Allocator>(nodes: &[Node<A>], directory: usize, name: &str) -> Option<usize>
     ensures { result ≡ position (is_named directory name.now) nodes.now }
 {
