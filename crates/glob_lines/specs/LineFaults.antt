@@ -1,9 +1,9 @@
--- The faults of reading lines through a pattern: their words, and which fault is which.
+-- The errors of filtering lines: their words, and which is which.
 use Rattle.std.specs.Prelude.{ℕ, List, codes, ⊤}
 use Rattle.glob_lines.specs.declared.fault.LineFault.{LineFault}
 use Rattle.glob_lines.specs.declared.fault.LineFault.TheVariants.{Read, Memory, Write}
 
--- the words that the fault writes
+-- what the error prints
 abbrev pub words_of_line_fault : LineFault → List ℕ
 words_of_line_fault (Read e) = codes "reading failed"
 words_of_line_fault Memory = codes "out of memory"
@@ -15,7 +15,7 @@ IsRead (Read e) = ⊤
 IsRead Memory = ⊥
 IsRead (Write e) = ⊥
 
--- there was no memory
+-- an allocation failed
 abbrev pub IsMemory : LineFault → Type 0
 IsMemory (Read e) = ⊥
 IsMemory Memory = ⊤

@@ -1,5 +1,5 @@
 -- The lines of some bytes, and those of them that a pattern matches.
-use Rattle.std.specs.Prelude.{◌≡◌, ℕ, ◌-◌, ◌^◌, ◌==◌, ◌⊎◌, if◌then◌else◌, List, [], ◌∷◌, ◌++◌, Option, length, min, take, true}
+use Rattle.std.specs.Prelude.{◌≡◌, ℕ, ◌-◌, ◌^◌, ◌==◌, ◌⊎◌, if◌then◌else◌, List, [], ◌∷◌, ◌++◌, Option, IfSome, length, min, take, true}
 use Rattle.std.specs.Str.{chars, is_utf8}
 use Rattle.std.specs.List.{flat_map}
 use Rattle.std.specs.Io.KnownBytes.{Appends}
@@ -10,7 +10,7 @@ use Rattle.glob_pattern.specs.declared.options.MatchOptions.{MatchOptions}
 abbrev pub line_feed : ℕ
 line_feed = 10
 
--- a byte before the first line
+-- a byte put before the first line
 abbrev pub onto_first : ℕ → List (List ℕ) → List (List ℕ)
 onto_first b [] = (b ∷ []) ∷ []
 onto_first b (line ∷ lines) = (b ∷ line) ∷ lines
@@ -31,9 +31,13 @@ AreKept P (line ∷ lines) kept =
     (P line × ((others : List (List ℕ)) × (kept ≡ line ∷ others) × AreKept P lines others))
     ⊎ ((¬ (P line)) × AreKept P lines kept)
 
+-- a line as it is written
+abbrev pub ended_line : List ℕ → List ℕ
+ended_line line = line ++ line_feed ∷ []
+
 -- each line and a line feed
 abbrev pub with_line_feeds : List (List ℕ) → List ℕ
-with_line_feeds lines = flat_map (λ line. line ++ line_feed ∷ []) lines
+with_line_feeds lines = flat_map ended_line lines
 
 -- the lines of the input that the pattern matches, in order
 abbrev pub AreMatchingLines : MatchOptions → (pattern input : List ℕ) → List (List ℕ) → Type 0
@@ -61,3 +65,13 @@ WritesSomeBytes o pattern input old new =
     (kept : List (List ℕ))
     × AreMatchingLines o pattern input kept
     × ((n : ℕ) × Appends old new (take n (with_line_feeds kept)))
+
+-- the same three of an input that is known, and nothing of another
+abbrev pub FiltersLines : MatchOptions → (pattern : List ℕ) → (input old new : Option (List ℕ)) → (count : ℕ) → Type 0
+FiltersLines o pattern input old new count = IfSome input (λ bytes. WritesLines o pattern bytes old new count)
+
+abbrev pub FiltersSomeLines : MatchOptions → (pattern : List ℕ) → (input old new : Option (List ℕ)) → Type 0
+FiltersSomeLines o pattern input old new = IfSome input (λ bytes. WritesSomeLines o pattern bytes old new)
+
+abbrev pub FiltersSomeBytes : MatchOptions → (pattern : List ℕ) → (input old new : Option (List ℕ)) → Type 0
+FiltersSomeBytes o pattern input old new = IfSome input (λ bytes. WritesSomeBytes o pattern bytes old new)

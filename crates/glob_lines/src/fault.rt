@@ -4,14 +4,16 @@ ghost use Rattle.glob_lines.specs.LineFaults.{words_of_line_fault};
 use std::error::Error;
 use std::{fmt, io};
 
-/// Why the lines of some input were not all filtered.
+/// Why [`filter_lines`](crate::filter_lines) failed.
+///
+/// It prints as `reading failed`, `out of memory` or `writing failed`.
 #[derive(Debug, Drop)]
 pub enum LineFault {
-    /// A read failed, with this fault of the reader.
+    /// A read failed with this error of the reader.
     Read(io::Error),
-    /// There was no memory.
+    /// Out of memory.
     Memory,
-    /// A write failed, with this fault of the writer.
+    /// A write failed with this error of the writer.
     Write(io::Error),
 }
 

@@ -1,4 +1,4 @@
-//! The lines of a reader that a pattern matches, copied to a writer.
+//! Copies the lines of a reader that a pattern matches to a writer.
 #![tactic(auto)]
 
 mod fault;

@@ -8,7 +8,7 @@ use std::simd::prelude::*;
 /// How many bytes are searched at once.
 const LANES: usize = 16;
 
-/// The place of the first line feed.
+/// The place of the first line feed, in bytes from 0.
 pub fn line_end(bytes: &[u8]) -> Option<usize>
     ensures { result ≡ position (λ b. b == line_feed) bytes.now }
 {
@@ -24,7 +24,7 @@ pub fn line_end(bytes: &[u8]) -> Option<usize>
     Some(start + rest)
 }
 
-/// How many of the sixteen bytes from `start` on stand before the first line feed among them: sixteen where there is none.
+/// How many of the sixteen bytes from `start` on come before the first line feed among them; all sixteen without one.
 #[inline(always)]
 fn before_feed(bytes: &[u8], start: usize) -> usize
     requires { start + 16 ≤ length bytes.now }
@@ -40,7 +40,7 @@ fn before_feed(bytes: &[u8], start: usize) -> usize
     }
 }
 
-/// [`line_end`], a byte at a time.
+/// The same as [`line_end`], a byte at a time.
 fn line_end_by_one(bytes: &[u8]) -> Option<usize>
     ensures { result ≡ position (λ b. b == line_feed) bytes.now }
 {

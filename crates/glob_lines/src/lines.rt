@@ -1,10 +1,9 @@
-ghost use Rattle.std.specs.Prelude.{◌≡◌, ◌↔◌, ◌⊎◌, ◌<◌, ◌≤◌, ◌+◌, ℕ, [], ◌∷◌, ◌++◌, false, length, take, drop, vec_len, IsTrue, IsErr, IsErrAnd, IfOk, OnOk, OnErr, IfSome};
+ghost use Rattle.std.specs.Prelude.{◌≡◌, ◌↔◌, ◌<◌, ◌≤◌, ◌+◌, ◌∷◌, ◌++◌, false, length, take, drop, vec_len, IsTrue, IsErr, IsErrAnd, IfOk, OnOk, OnErr};
 ghost use Rattle.std.specs.Io.KnownBytes.{Keeps, Appends, Consumes, IsAtEnd};
-ghost use Rattle.glob_lines.specs.Lines.{line_feed};
-ghost use Rattle.glob_lines.specs.Watch.{inner_of, has_failed};
-ghost use Rattle.glob_lines.specs.Lines.{lines_of, LineMatches, WritesLines, WritesSomeLines, WritesSomeBytes};
-ghost use Rattle.glob_lines.specs.Private.Fronts.{WritesFrontLines, WritesFrontBytes};
 ghost use Rattle.glob_lines.specs.LineFaults.{IsRead, IsMemory, IsWrite};
+ghost use Rattle.glob_lines.specs.Lines.{lines_of, ended_line, LineMatches, WritesLines, FiltersLines, FiltersSomeLines, FiltersSomeBytes};
+ghost use Rattle.glob_lines.specs.Private.Fronts.{AppendsFront, WritesFrontLines, WritesFrontBytes};
+ghost use Rattle.glob_lines.specs.Private.Gathering.{IsGathered};
 
 use crate::fault::LineFault;
 use crate::line_feeds::line_end;
@@ -14,26 +13,27 @@ use std::alloc::{AllocError, Allocator};
 use std::io::{self, Read, Write};
 use std::str;
 
-/// The room that each read has, in bytes.
+/// How many bytes one read may return.
 const READ_LEN: usize = 64 * 1024;
 
-/// How many bytes of output are gathered before they are written.
+/// How many bytes of output are gathered before a write.
 const WRITE_LEN: usize = 64 * 1024;
 
-/// Writes the lines of the reader that the pattern matches, in order, each with a line feed. The answer is their number,
-/// which stays at `u64::MAX` once there.
+/// Copies the lines of `reader` that `pattern` matches to `writer`, in order, each with a line feed, and returns their
+/// number, which stays at `u64::MAX` once it is there.
 ///
-/// A line ends before a line feed, and what follows the last one is a line if it is not empty. A carriage return is part
-/// of its line. A line that is not UTF-8 never matches. So with the pattern `a*` the input `"ab\nb\nac"` gives
-/// `"ab\nac\n"`, and the answer is 2.
+/// A line ends before a line feed, and what follows the last line feed is a line if it is not empty. A carriage return is
+/// part of its line. A line that is not UTF-8 never matches. So with the pattern `a*` the input `"ab\nb\nac"` gives the
+/// output `"ab\nac\n"`, and 2 is returned.
 ///
-/// The input is read to its end before anything is written. The faults are:
+/// The input is read to its end before anything is written, into memory of `alloc`. Neither the reader nor the writer
+/// may have failed before. The errors are:
 ///
-/// - [`LineFault::Read`], where a call of the reader fails, `Interrupted` too. Nothing was written.
-/// - [`LineFault::Memory`], where `alloc` has no room for the input or the output, or the match has none. What was
-///   written are the first matching lines, if any, each whole.
-/// - [`LineFault::Write`], where a call of the writer fails, `Interrupted` too. What was written are the first bytes
-///   of the output.
+/// - [`LineFault::Read`]: a call of the reader failed, also with `Interrupted`. Nothing was written.
+/// - [`LineFault::Memory`]: allocation failure, for the input, the output or a match. The first matching lines were
+///   written, some or none of them, each whole.
+/// - [`LineFault::Write`]: a call of the writer failed, also with `Interrupted`. The first bytes of the output were
+///   written, some or none of them.
 pub fn filter_lines<A: Allocator + Copy, B: Allocator + Copy, R: Read, W: Write>(
     alloc: A,
     pattern: &Pattern<B>,
@@ -41,32 +41,34 @@ pub fn filter_lines<A: Allocator + Copy, B: Allocator + Copy, R: Read, W: Write>
     reader: &mut Watch<R>,
     writer: &mut Watch<W>,
 ) -> Result<u64, LineFault>
-    requires reader { has_failed reader.old ≡ false }
-    requires writer { has_failed writer.old ≡ false }
-    ensures lines { IfOk result (λ count. IfSome (R.remaining (inner_of reader.old)) (λ input.
-        WritesLines options pattern.now input (W.contents (inner_of writer.old)) (W.contents (inner_of writer.new)) count)) }
-    ensures end { OnOk result (IsAtEnd (R.remaining (inner_of reader.new))) }
-    ensures read_failed { IsTrue (has_failed reader.new) ↔ IsErrAnd result IsRead }
-    ensures write_failed { IsTrue (has_failed writer.new) ↔ IsErrAnd result IsWrite }
-    ensures read_fault { IsErrAnd result IsRead → Keeps (W.contents (inner_of writer.old)) (W.contents (inner_of writer.new)) }
-    ensures memory { IsErrAnd result IsMemory → IfSome (R.remaining (inner_of reader.old)) (λ input.
-        WritesSomeLines options pattern.now input (W.contents (inner_of writer.old)) (W.contents (inner_of writer.new))) }
-    ensures write_fault { IsErrAnd result IsWrite → IfSome (R.remaining (inner_of reader.old)) (λ input.
-        WritesSomeBytes options pattern.now input (W.contents (inner_of writer.old)) (W.contents (inner_of writer.new))) }
+    requires reader { reader.old.failed ≡ false }
+    requires writer { writer.old.failed ≡ false }
+    ensures lines { IfOk result (FiltersLines options pattern.now
+        (R.remaining reader.old.inner) (W.contents writer.old.inner) (W.contents writer.new.inner)) }
+    ensures end { OnOk result (IsAtEnd (R.remaining reader.new.inner)) }
+    ensures read_failed { IsTrue reader.new.failed ↔ IsErrAnd result IsRead }
+    ensures write_failed { IsTrue writer.new.failed ↔ IsErrAnd result IsWrite }
+    ensures read_fault { IsErrAnd result IsRead
+        → Keeps (W.contents writer.old.inner) (W.contents writer.new.inner) }
+    ensures memory { IsErrAnd result IsMemory → FiltersSomeLines options pattern.now
+        (R.remaining reader.old.inner) (W.contents writer.old.inner) (W.contents writer.new.inner) }
+    ensures write_fault { IsErrAnd result IsWrite → FiltersSomeBytes options pattern.now
+        (R.remaining reader.old.inner) (W.contents writer.old.inner) (W.contents writer.new.inner) }
 {
     let input = read_all(alloc, reader)?;
-    write_matching(alloc, pattern, options, &input, writer)
+    write_lines(alloc, pattern, options, &input, writer)
 }
 
-/// All that the reader still gives.
+/// All bytes that are left in the reader.
 fn read_all<A: Allocator + Copy, R: Read>(
     alloc: A,
     reader: &mut Watch<R>,
 ) -> Result<Vec<u8, A>, LineFault>
-    requires { has_failed reader.old ≡ false }
-    ensures bytes { IfOk result (λ input. Consumes (R.remaining (inner_of reader.old)) (R.remaining (inner_of reader.new)) input.items) }
-    ensures end { OnOk result (IsAtEnd (R.remaining (inner_of reader.new))) }
-    ensures failed { IsTrue (has_failed reader.new) ↔ IsErrAnd result IsRead }
+    requires { reader.old.failed ≡ false }
+    ensures bytes { IfOk result (λ input.
+        Consumes (R.remaining reader.old.inner) (R.remaining reader.new.inner) input.items) }
+    ensures end { OnOk result (IsAtEnd (R.remaining reader.new.inner)) }
+    ensures failed { IsTrue reader.new.failed ↔ IsErrAnd result IsRead }
     ensures no_write { ¬ (IsErrAnd result IsWrite) }
 {
     let mut input = Vec::new(alloc);
@@ -81,20 +83,21 @@ fn read_all<A: Allocator + Copy, R: Read>(
     }
 }
 
-/// One read, to place `filled` of `input`, which grows by zeros where there is no room for `READ_LEN` bytes.
+/// One read into `input` from byte `filled` on, and how many bytes it read. `input` grows by zeros to have room for
+/// `READ_LEN` bytes there.
 fn read_piece<A: Allocator, R: Read>(
     input: &mut Vec<u8, A>,
     filled: usize,
     reader: &mut Watch<R>,
 ) -> Result<usize, LineFault>
-    requires watch { has_failed reader.old ≡ false }
+    requires watch { reader.old.failed ≡ false }
     requires filled { filled ≤ vec_len input.old }
     ensures front { take filled input.new.items ≡ take filled input.old.items }
     ensures fits { IfOk result (λ n. filled + n ≤ vec_len input.new) }
-    ensures bytes { IfOk result (λ n. Consumes (R.remaining (inner_of reader.old)) (R.remaining (inner_of reader.new))
-        (take n (drop filled input.new.items))) }
-    ensures end { IfOk result (λ n. n ≡ 0 → IsAtEnd (R.remaining (inner_of reader.new))) }
-    ensures failed { IsTrue (has_failed reader.new) ↔ IsErrAnd result IsRead }
+    ensures bytes { IfOk result (λ n.
+        Consumes (R.remaining reader.old.inner) (R.remaining reader.new.inner) (take n (drop filled input.new.items))) }
+    ensures end { IfOk result (λ n. n ≡ 0 → IsAtEnd (R.remaining reader.new.inner)) }
+    ensures failed { IsTrue reader.new.failed ↔ IsErrAnd result IsRead }
     ensures no_write { ¬ (IsErrAnd result IsWrite) }
 {
     let end = filled + READ_LEN;
@@ -104,25 +107,7 @@ fn read_piece<A: Allocator, R: Read>(
     reader.read(&mut input[filled..]).map_err(LineFault::Read)
 }
 
-/// Writes the lines of the input that the pattern matches, each with a line feed, and answers their number.
-fn write_matching<A: Allocator + Copy, B: Allocator + Copy, W: Write>(
-    alloc: A,
-    pattern: &Pattern<B>,
-    options: MatchOptions,
-    input: &[u8],
-    writer: &mut Watch<W>,
-) -> Result<u64, LineFault>
-    requires { has_failed writer.old ≡ false }
-    ensures lines { IfOk result (WritesLines options pattern.now input.now (W.contents (inner_of writer.old)) (W.contents (inner_of writer.new))) }
-    ensures failed { IsTrue (has_failed writer.new) ↔ IsErrAnd result IsWrite }
-    ensures no_read { ¬ (IsErrAnd result IsRead) }
-    ensures memory { IsErrAnd result IsMemory → WritesSomeLines options pattern.now input.now (W.contents (inner_of writer.old)) (W.contents (inner_of writer.new)) }
-    ensures write_fault { IsErrAnd result IsWrite → WritesSomeBytes options pattern.now input.now (W.contents (inner_of writer.old)) (W.contents (inner_of writer.new)) }
-{
-    write_lines(alloc, pattern, options, input, writer)
-}
-
-/// What `write_matching` does, where its faults are told of whichever lines match.
+/// Writes the lines of the input that the pattern matches, each with a line feed, and returns their number.
 fn write_lines<A: Allocator + Copy, B: Allocator + Copy, W: Write>(
     alloc: A,
     pattern: &Pattern<B>,
@@ -130,12 +115,15 @@ fn write_lines<A: Allocator + Copy, B: Allocator + Copy, W: Write>(
     input: &[u8],
     writer: &mut Watch<W>,
 ) -> Result<u64, LineFault>
-    requires { has_failed writer.old ≡ false }
-    ensures lines { IfOk result (WritesLines options pattern.now input.now (W.contents (inner_of writer.old)) (W.contents (inner_of writer.new))) }
-    ensures failed { IsTrue (has_failed writer.new) ↔ IsErrAnd result IsWrite }
+    requires { writer.old.failed ≡ false }
+    ensures lines { IfOk result (WritesLines options pattern.now input.now
+        (W.contents writer.old.inner) (W.contents writer.new.inner)) }
+    ensures failed { IsTrue writer.new.failed ↔ IsErrAnd result IsWrite }
     ensures no_read { ¬ (IsErrAnd result IsRead) }
-    ensures memory { IsErrAnd result IsMemory → WritesFrontLines options pattern.now input.now (W.contents (inner_of writer.old)) (W.contents (inner_of writer.new)) }
-    ensures write_fault { IsErrAnd result IsWrite → WritesFrontBytes options pattern.now input.now (W.contents (inner_of writer.old)) (W.contents (inner_of writer.new)) }
+    ensures memory { IsErrAnd result IsMemory → WritesFrontLines options pattern.now input.now
+        (W.contents writer.old.inner) (W.contents writer.new.inner) }
+    ensures write_fault { IsErrAnd result IsWrite → WritesFrontBytes options pattern.now input.now
+        (W.contents writer.old.inner) (W.contents writer.new.inner) }
 {
     let mut output = Vec::new(alloc);
     let mut count = 0u64;
@@ -152,7 +140,7 @@ fn write_lines<A: Allocator + Copy, B: Allocator + Copy, W: Write>(
     Ok(count)
 }
 
-/// The first line of `bytes`, and what follows its line feed.
+/// The first line of `bytes`, and the bytes after its line feed.
 fn split_line(bytes: &[u8]) -> (&[u8], &[u8])
     requires { 0 < length bytes.now }
     ensures lines { lines_of bytes.now ≡ result.0.now ∷ lines_of result.1.now }
@@ -178,20 +166,21 @@ fn line_matches<B: Allocator + Copy>(
     }
 }
 
-/// Puts the line and a line feed after `output`, and writes that out once it is long.
+/// Appends the line and a line feed to `output`, and writes the output once it is long.
 fn keep_line<A: Allocator, W: Write>(
     line: &[u8],
     output: &mut Vec<u8, A>,
     writer: &mut Watch<W>,
 ) -> Result<(), LineFault>
-    requires { has_failed writer.old ≡ false }
-    ensures ok { OnOk result (
-        (Keeps (W.contents (inner_of writer.old)) (W.contents (inner_of writer.new)) × (output.new.items ≡ output.old.items ++ (line.now ++ line_feed ∷ [])))
-        ⊎ (Appends (W.contents (inner_of writer.old)) (W.contents (inner_of writer.new)) (output.old.items ++ (line.now ++ line_feed ∷ [])) × (output.new.items ≡ []))) }
-    ensures memory { IsErrAnd result IsMemory → Keeps (W.contents (inner_of writer.old)) (W.contents (inner_of writer.new)) }
-    ensures write_fault { IsErrAnd result IsWrite → (n : ℕ) × Appends (W.contents (inner_of writer.old)) (W.contents (inner_of writer.new))
-        (take n (output.old.items ++ (line.now ++ line_feed ∷ []))) }
-    ensures failed { IsTrue (has_failed writer.new) ↔ IsErrAnd result IsWrite }
+    requires { writer.old.failed ≡ false }
+    ensures ok { OnOk result (IsGathered line.now output.old.items output.new.items
+        (W.contents writer.old.inner) (W.contents writer.new.inner)) }
+    ensures memory { IsErrAnd result IsMemory
+        → Keeps (W.contents writer.old.inner) (W.contents writer.new.inner) }
+    ensures write_fault { IsErrAnd result IsWrite
+        → AppendsFront (W.contents writer.old.inner) (W.contents writer.new.inner)
+        (output.old.items ++ ended_line line.now) }
+    ensures failed { IsTrue writer.new.failed ↔ IsErrAnd result IsWrite }
     ensures no_read { ¬ (IsErrAnd result IsRead) }
 {
     output
@@ -205,12 +194,14 @@ fn keep_line<A: Allocator, W: Write>(
     Ok(())
 }
 
-/// Writes all of the bytes, or fails at the first fault.
+/// Writes all of the bytes, in as many writes as it takes. The first error is returned.
 fn write_all<W: Write>(writer: &mut Watch<W>, bytes: &[u8]) -> io::Result<()>
-    requires { has_failed writer.old ≡ false }
-    ensures ok { OnOk result (Appends (W.contents (inner_of writer.old)) (W.contents (inner_of writer.new)) bytes.now) }
-    ensures err { OnErr result ((n : ℕ) × Appends (W.contents (inner_of writer.old)) (W.contents (inner_of writer.new)) (take n bytes.now)) }
-    ensures failed { IsTrue (has_failed writer.new) ↔ IsErr result }
+    requires { writer.old.failed ≡ false }
+    ensures ok { OnOk result
+        (Appends (W.contents writer.old.inner) (W.contents writer.new.inner) bytes.now) }
+    ensures err { OnErr result
+        (AppendsFront (W.contents writer.old.inner) (W.contents writer.new.inner) bytes.now) }
+    ensures failed { IsTrue writer.new.failed ↔ IsErr result }
 {
     let mut rest = bytes;
     while !rest.is_empty() {

@@ -1,25 +1,40 @@
 ghost use Rattle.std.specs.Prelude.{◌≡◌, ◌↔◌, ◌⊎◌, ◌<◌, false, length, IsTrue, IsErr, IfOk};
 ghost use Rattle.std.specs.Io.{ReadsAtMost, WritesAtMost};
 ghost use Rattle.std.specs.Io.KnownBytes.{ReadConsumes, WriteAppends};
-ghost use Rattle.glob_lines.specs.Watch.{inner_of, has_failed};
 
 use std::io::{self, ErrorKind, Read, Write};
+use std::marker::Model;
 
-/// A reader or writer, and whether a call of it has answered a fault.
+/// A reader or writer, and whether a call of it has failed.
 ///
-/// [`failed`](Watch::failed) is false at first. From the first call on whose answer is a fault it is true, whatever later
-/// calls answer.
+/// [`failed`](Watch::failed) is false at first, and true from the first call on that returns an error, whatever later
+/// calls return.
+///
+/// ```text
+/// let mut reader = Watch::new(stdin);
+/// reader.failed()        // false
+/// reader.read(buf)       // Err(..)
+/// reader.failed()        // true
+/// ```
 #[derive(Drop)]
 pub struct Watch<S> {
     inner: S,
     failed: bool,
 }
 
+impl<S> Model for Watch<S> {
+    ghost use Rattle.glob_lines.specs.Watch.{Watched};
+
+    ghost Value = { Watched S };
+
+    ghost view = { λ a. record { inner = a.inner; failed = a.failed } };
+}
+
 impl<S> Watch<S> {
-    /// Watches `inner`, of which no call has failed yet.
+    /// Watches `inner`. No call of it has failed yet.
     pub fn new(inner: S) -> Self
-        ensures inner { inner_of result ≡ inner }
-        ensures failed { has_failed result ≡ false }
+        ensures inner { result.inner ≡ inner }
+        ensures failed { result.failed ≡ false }
     {
         Watch {
             inner,
@@ -29,28 +44,29 @@ impl<S> Watch<S> {
 
     /// The reader or writer itself.
     pub fn into_inner(self) -> S
-        ensures { result ≡ inner_of self }
+        ensures { result ≡ self.inner }
     {
         self.inner
     }
 
-    /// Whether a call has answered a fault, now or earlier.
+    /// Whether some call has returned an error.
     pub fn failed(&self) -> bool
-        ensures { result ≡ has_failed self.now }
+        ensures { result ≡ self.now.failed }
     {
         self.failed
     }
 }
 
 impl<S: Read> Watch<S> {
-    /// One read of the inner reader: its bytes go to the start of `buf`, and the answer is their number. It is 0 only
-    /// where there is nothing left, or `buf` is empty.
+    /// One read of the inner reader, to the start of `buf`. It returns how many bytes were read: 0 only at the end of the
+    /// input, or where `buf` is empty.
     ///
-    /// The inner reader's fault is the answer as it is, `Interrupted` too, and then no byte was read.
+    /// The error is the inner reader's, also `Interrupted`. No byte was read then.
     pub fn read(&mut self, buf: &mut [u8]) -> io::Result<usize>
         ensures bound { ReadsAtMost result buf.new }
-        ensures bytes { ReadConsumes (S.remaining (inner_of self.old)) (S.remaining (inner_of self.new)) result buf.new }
-        ensures failed { IsTrue (has_failed self.new) ↔ (IsTrue (has_failed self.old) ⊎ IsErr result) }
+        ensures bytes { ReadConsumes (S.remaining self.old.inner) (S.remaining self.new.inner)
+            result buf.new }
+        ensures failed { IsTrue self.new.failed ↔ (IsTrue self.old.failed ⊎ IsErr result) }
     {
         let answer = self.inner.read(buf);
         self.failed |= answer.is_err();
@@ -59,15 +75,17 @@ impl<S: Read> Watch<S> {
 }
 
 impl<S: Write> Watch<S> {
-    /// One write to the inner writer, of bytes from the start of `buf`. The answer is their number.
+    /// One write to the inner writer, from the start of `buf`. It returns how many bytes were written: 0 only where `buf`
+    /// is empty.
     ///
-    /// The inner writer's fault is the answer as it is, `Interrupted` too, and then no byte was written. An inner writer
-    /// that takes none of some bytes is a fault of kind `WriteZero`.
+    /// The error is the inner writer's, also `Interrupted`, or of the kind `WriteZero` where the inner writer took none of
+    /// some bytes. No byte was written then.
     pub fn write(&mut self, buf: &[u8]) -> io::Result<usize>
         ensures bound { WritesAtMost result buf.now }
-        ensures bytes { WriteAppends (S.contents (inner_of self.old)) (S.contents (inner_of self.new)) result buf.now }
+        ensures bytes { WriteAppends (S.contents self.old.inner) (S.contents self.new.inner)
+            result buf.now }
         ensures some { IfOk result (λ n. 0 < length buf.now → 0 < n) }
-        ensures failed { IsTrue (has_failed self.new) ↔ (IsTrue (has_failed self.old) ⊎ IsErr result) }
+        ensures failed { IsTrue self.new.failed ↔ (IsTrue self.old.failed ⊎ IsErr result) }
     {
         let answer = match self.inner.write(buf) {
             Ok(0) if !buf.is_empty() => Err(io::Error::from(ErrorKind::WriteZero)),

@@ -1,6 +1,6 @@
 use glob::MatchOptions;
 
-/// What a list of words asks of the program.
+/// What the arguments of the program ask for.
 pub enum Command<'a> {
     /// Copy the lines that the pattern matches.
     Match {
@@ -14,7 +14,7 @@ pub enum Command<'a> {
 }
 
 impl<'a> Command<'a> {
-    /// Reads the words after the program's name. `None` is a usage fault.
+    /// Parses the words after the program's name. `None` is a usage error.
     pub fn parse(words: &[&'a str]) -> Option<Self> {
         let (&name, words) = words.split_first()?;
         match name {
@@ -44,7 +44,7 @@ fn leading_options(words: &[&str]) -> (MatchOptions, usize) {
     (options, words.len())
 }
 
-/// Sets the match option that the word names. False where it names none.
+/// Sets the match option that the word names, and returns false where it names none.
 fn set_option(options: &mut MatchOptions, word: &str) -> bool {
     match word {
         "-i" => options.case_sensitive = false,
@@ -55,7 +55,7 @@ fn set_option(options: &mut MatchOptions, word: &str) -> bool {
     true
 }
 
-/// The one word that is left after the options. A word that begins with `-` can stand there only after `--`.
+/// The one word after the options. If it begins with `-`, a `--` has to stand before it.
 fn only_operand<'a>(words: &[&'a str]) -> Option<&'a str> {
     match words {
         [word] if !word.starts_with('-') => Some(word),

@@ -14,7 +14,7 @@ use std::fmt::Display;
 use std::io::{self, Read, Write};
 use std::process::ExitCode;
 
-/// The line that a usage fault prints.
+/// The line that is printed at a usage error.
 const USAGE: &str =
     "usage: glob_run match [-i] [-s] [-d] PATTERN | escape TEXT | find [-i] [-s] [-d] [-n LIMIT] PATTERN";
 
@@ -24,12 +24,12 @@ const MATCHED: u8 = 0;
 /// Nothing matched.
 const UNMATCHED: u8 = 1;
 
-/// There was a fault.
+/// There was an error.
 const FAULT: u8 = 2;
 
-/// Runs the program on the words after its name, and answers its exit status: 0 where something matched, 1 where
-/// nothing did, 2 at a fault. A fault is one line on `errors`; a fault of `errors` itself is dropped. A usage fault is
-/// found first, then a fault of the pattern, both before anything is read or written.
+/// Runs the program on the words after its name, and returns its exit status: 0 where something matched, 1 where
+/// nothing did, 2 at an error. An error is one line on `errors`; one of `errors` itself is ignored. A usage error is
+/// found first, then an error in the pattern, both before anything is read or written.
 pub fn run_words<A: Allocator + Copy, R: Read + Drop, W: Write + Drop, E: Write>(
     alloc: A,
     words: &[&str],
@@ -88,14 +88,14 @@ fn run_escape<A: Allocator + Copy, W: Write + Drop, E: Write>(
     }
 }
 
-/// The escaped text and a line feed.
+/// The escaped text, and a line feed. The error is an allocation failure.
 fn escaped_line<A: Allocator + Copy>(alloc: A, text: &str) -> Result<String<A>, AllocError> {
     let mut line = Pattern::escape(alloc, text)?;
     line.push('\n')?;
     Ok(line)
 }
 
-/// Writes the one line of a fault, and answers its status.
+/// Prints the line of an error, and returns its exit status.
 fn fault<E: Write, D: Display + Drop>(errors: &mut E, message: D) -> u8
     ensures { result ≤ 2 }
 {
@@ -103,7 +103,7 @@ fn fault<E: Write, D: Display + Drop>(errors: &mut E, message: D) -> u8
     FAULT
 }
 
-/// The line of words that could not be had: too little memory for them, or a word that is not UTF-8.
+/// Prints why the arguments could not be read: out of memory, or the usage where a word is not UTF-8.
 fn words_fault<E: Write>(errors: &mut E, error: &io::Error) -> u8
     ensures { result ≤ 2 }
 {
@@ -113,7 +113,7 @@ fn words_fault<E: Write>(errors: &mut E, error: &io::Error) -> u8
     }
 }
 
-/// Runs the program on its arguments, without its name.
+/// Runs the program on its arguments, which do not include its name.
 fn run_arguments<A: Allocator + Copy, R: Read + Drop, W: Write + Drop, E: Write>(
     alloc: A,
     arguments: &[String<A>],

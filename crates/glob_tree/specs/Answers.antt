@@ -1,4 +1,4 @@
--- What the answers of a tree have to be, where it tells a content.
+-- What a tree with a known content has to answer.
 use Rattle.std.specs.Prelude.{◌≡◌, ℕ, true, List, map, vec_len, IsPermutation, Option, Some, Result, Ok, Err, Vec, ⊤}
 use Rattle.std.specs.declared.io.ErrorKind.{ErrorKind}
 use Rattle.std.specs.IoError.{error_kind}
@@ -7,26 +7,26 @@ use Rattle.glob_tree.specs.declared.tree.Entry.{Entry}
 use Rattle.glob_tree.specs.declared.tree.ListError.{ListError}
 use Rattle.glob_tree.specs.declared.tree.ListError.TheVariants.{Read, Memory}
 
--- the tree tells c, and c is a content
+-- the tree's content is known to be c, and c is well formed
 abbrev pub IsTold : Option Content → Content → Type 0
 IsTold told c = (told ≡ Some c) × (is_content c ≡ true)
 
--- what entries say
+-- the entries of a listing, as a content has them
 abbrev pub entries_of : {A : Type 0} → List (Entry A) → List DirEntry
 entries_of entries = map (λ e. (e.name, e.is_dir)) entries
 
--- how many entries a listing answered
+-- how many entries a listing returned
 abbrev pub entry_count : {A E : Type 0} → Result (Vec (Entry A) A) E → ℕ
 entry_count (Ok entries) = vec_len entries
 entry_count (Err e) = 0
 
--- the entries of a directory may be answered, each once and in any order
+-- these entries may be returned: those of the directory, each once and in any order
 abbrev pub IsListAnswer : ListAnswer → List DirEntry → Type 0
 IsListAnswer (Entries entries) answer = IsPermutation entries answer
 IsListAnswer (Fails kind) answer = ⊥
 IsListAnswer NoDirectory answer = ⊤
 
--- an error of this kind may be answered
+-- an error of this kind may be returned
 abbrev pub IsListFault : ListAnswer → ErrorKind → Type 0
 IsListFault (Entries entries) kind = ⊥
 IsListFault (Fails wanted) kind = kind ≡ wanted

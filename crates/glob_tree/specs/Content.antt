@@ -10,19 +10,19 @@ use Rattle.glob_text.specs.Characters.{slash}
 use Rattle.glob_text.specs.Text.{Text}
 use Rattle.glob_text.specs.Pieces.{is_empty, begins_with, pieces}
 use Rattle.glob_tree.specs.Paths.{stays, is_proper}
-use Rattle.glob_tree.specs.declared.tree.Kind.{Kind}
-use Rattle.glob_tree.specs.declared.tree.Kind.TheVariants.{Dir, Shut, Other}
+use Rattle.glob_tree.specs.declared.kind.Kind.{Kind}
+use Rattle.glob_tree.specs.declared.kind.Kind.TheVariants.{Dir, Shut, Other}
 use Rattle.glob_tree.specs.declared.tree.Look.{Look}
 use Rattle.glob_tree.specs.declared.tree.Look.TheVariants as look
 
--- the names from the root down
+-- the place of an entry: the names from the root down
 abbrev pub Key : Type 0
 Key = List Text
 
 abbrev pub same_key : Key → Key → Bool
 same_key k l = pointwise bytes_eq k l
 
--- the key without its last name, and the root's own
+-- the key without its last name; the root is its own parent
 abbrev pub parent_key : Key → Key
 parent_key k = take (length k - 1) k
 
@@ -48,16 +48,16 @@ is_dir Other = false
 abbrev pub is_dir_at : Content → Key → Bool
 is_dir_at c k = unwrap_or (option_map is_dir (kind_at c k)) false
 
--- the names are proper texts, and the key without the last one is a directory's
+-- the names are proper, and the parent is a directory
 abbrev pub is_placed : Content → Key × Kind → Bool
 is_placed c e = list_all (λ name. is_utf8 name && is_proper name) e.0 && is_dir_at c (parent_key e.0)
 
--- no key stands twice
+-- no key occurs twice
 abbrev pub are_distinct : List (Key × Kind) → Bool
 are_distinct [] = true
 are_distinct (e ∷ es) = not (list_any (λ f. same_key e.0 f.0) es) && are_distinct es
 
--- The content is one: a map whose root and current directory are directories, and whose keys are placed in them.
+-- The content is well formed: its root and current directory are directories, each key is in one, and none occurs twice.
 unfoldable pub is_content : Content → Bool
 is_content c = is_dir_at c [] && is_dir_at c c.current && list_all (is_placed c) c.kinds && are_distinct c.kinds
 
@@ -65,7 +65,7 @@ is_content c = is_dir_at c [] && is_dir_at c c.current && list_all (is_placed c)
 abbrev pub child_key : Content → Key → Text → Option Key
 child_key c k name = if is_some (kind_at c (k ++ name ∷ [])) then Some (k ++ name ∷ []) else None
 
--- where a piece leads from k, which is to be a directory
+-- where a piece leads from k: nowhere unless a directory stands there
 abbrev pub step : Content → Text → Key → Option Key
 step c piece k =
     if not (is_dir_at c k) then None
@@ -95,7 +95,7 @@ look_of (Some Dir) = look.Dir
 look_of (Some (Shut kind)) = look.Dir
 look_of (Some Other) = look.Other
 
--- what a look at a path answers
+-- what a look at a path returns
 unfoldable pub look_result : Content → Text → Look
 look_result c path = look_of (kind_found c path)
 
@@ -108,14 +108,14 @@ only_name [] = None
 only_name (n ∷ []) = Some n
 only_name (m ∷ n ∷ ns) = None
 
--- the entry that a key gives in a listing of k: it is one name longer
+-- the entry of a key in a listing of k: a key that is one name longer has one
 abbrev pub child_entry : Key → Key × Kind → Option DirEntry
 child_entry k e = option_map (λ name. (name, is_dir e.1)) (option_and_then only_name (names_past k e.0))
 
 unfoldable pub children : Content → Key → List DirEntry
 children c k = filter_map (child_entry k) c.kinds
 
--- what a listing answers
+-- what a listing returns
 pub data ListAnswer : Type 0 where
   Entries : List DirEntry → ListAnswer
   Fails : ErrorKind → ListAnswer
@@ -131,11 +131,11 @@ abbrev pub list_found : Content → Option Key → ListAnswer
 list_found c None = NoDirectory
 list_found c (Some k) = list_of c k (kind_at c k)
 
--- what a listing of a path answers
+-- what a listing of a path returns
 unfoldable pub list_result : Content → Text → ListAnswer
 list_result c path = list_found c (resolve c path)
 
--- by the bytes of names, the entry stands before another or with it
+-- the entry's name is at most the other's, by bytes
 abbrev pub is_before : DirEntry → DirEntry → Bool
 is_before e f = is_le (slice_cmp nat_cmp e.0 f.0)
 

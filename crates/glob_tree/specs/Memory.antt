@@ -1,5 +1,5 @@
 -- A tree in memory: which changes it takes, and what they make of its content.
-use Rattle.std.specs.Prelude.{◌≡◌, ℕ, ◌<◌, true, length, ◌&&◌, not, if◌then◌else◌, [], ◌∷◌, ◌++◌, drop, bytes_eq, Option, Some, None, is_some, Result, Ok, Err, MatchResult, ⊤}
+use Rattle.std.specs.Prelude.{◌≡◌, ℕ, ◌&&◌, not, if◌then◌else◌, [], ◌∷◌, ◌++◌, drop, bytes_eq, Option, Some, None, is_some, Result, Ok, Err, MatchResult, ⊤}
 use Rattle.std.specs.List.{list_all}
 use Rattle.std.specs.Path.{root_dir}
 use Rattle.std.specs.declared.io.ErrorKind.{ErrorKind}
@@ -10,16 +10,15 @@ use Rattle.glob_text.specs.Text.{Text}
 use Rattle.glob_text.specs.Pieces.{begins_with, pieces}
 use Rattle.glob_tree.specs.Paths.{is_proper}
 use Rattle.glob_tree.specs.Content.{Content, Key, parent_key, kind_at, is_dir, is_dir_at, kind_found}
-use Rattle.glob_tree.specs.Private.Nodes.{entry_numbered}
-use Rattle.std.specs.Str.{is_utf8}
-use Rattle.glob_tree.specs.declared.tree.Kind.{Kind}
-use Rattle.glob_tree.specs.declared.tree.Kind.TheVariants.{Dir, Shut, Other}
+use Rattle.glob_tree.specs.Private.Nodes.{key_numbered, kind_numbered}
+use Rattle.glob_tree.specs.declared.kind.Kind.{Kind}
+use Rattle.glob_tree.specs.declared.kind.Kind.TheVariants.{Dir, Shut, Other}
 use Rattle.glob_tree.specs.declared.tree.ListError.{ListError}
 use Rattle.glob_tree.specs.declared.tree.ListError.TheVariants.{Read, Memory}
-use Rattle.glob_tree.specs.declared.tree.TreeRefusal.{TreeRefusal}
-use Rattle.glob_tree.specs.declared.tree.TreeRefusal.TheVariants as refusal
+use Rattle.glob_tree.specs.declared.memory.refusal.TreeRefusal.{TreeRefusal}
+use Rattle.glob_tree.specs.declared.memory.refusal.TreeRefusal.TheVariants as refusal
 
--- what contracts see of a tree in memory
+-- what contracts see of a tree in memory: its content, and how much was asked
 pub record MemoryTree : Type 0 where
   pub content : Content
   pub asks : ℕ
@@ -33,11 +32,11 @@ abbrev pub key_of : Text → Option Key
 key_of path =
     if begins_with slash path && list_all is_proper (pieces (drop 1 path)) then Some (pieces (drop 1 path)) else None
 
--- the same, or the root
+-- the same, where `/` is the root
 abbrev pub directory_key : Text → Option Key
 directory_key path = if bytes_eq path root_dir then Some [] else key_of path
 
--- why a key is not added: its parent is no directory, or it is there already
+-- why a key is not added: there is none, its parent is no directory, or something stands there
 abbrev pub key_refusal : Content → Option Key → Option TreeRefusal
 key_refusal c None = Some refusal.Improper
 key_refusal c (Some k) =
@@ -69,7 +68,7 @@ abbrev pub with_current : Content → Option Key → Content
 with_current c None = c
 with_current c (Some k) = record { kinds = c.kinds; current = k }
 
--- a change is refused as it has to be, and otherwise for want of memory alone
+-- a change is refused as it has to be, and otherwise by an allocation failure alone
 abbrev pub IsChangeAnswer : Option TreeRefusal → Result (Unit {0}) TreeRefusal → Type 0
 IsChangeAnswer (Some e) result = result ≡ Err e
 IsChangeAnswer None result = MatchResult result (λ _. ⊤) (λ e. e ≡ refusal.Memory)
@@ -84,28 +83,12 @@ kind_fault (Some Other) = Some error.NotADirectory
 abbrev pub list_fault : Content → Text → Option ErrorKind
 list_fault c path = kind_fault (kind_found c path)
 
--- the error is the one with which the listing fails, or want of memory where it does not fail
+-- the error is the one with which the listing fails, or an allocation failure where it does not fail
 abbrev pub IsFaultOf : Option ErrorKind → ListError → Type 0
 IsFaultOf fault (Read e) = fault ≡ Some (error_kind e)
 IsFaultOf fault Memory = fault ≡ None
 
--- A further key may stand in the directory of this number, under this name: the path names it, and it is free.
-pub record IsPlace (c : Content) (path : Text) (number : ℕ) (name : Text) : Type 0 where
-  pub key : key_of path ≡ Some ((entry_numbered c.kinds number).0 ++ name ∷ [])
-  pub inside : number < length c.kinds
-  pub directory : is_dir (entry_numbered c.kinds number).1 ≡ true
-  pub utf8 : is_utf8 name ≡ true
-  pub proper : is_proper name ≡ true
-  pub allowed : add_refusal c path ≡ None
-  pub free : kind_at c ((entry_numbered c.kinds number).0 ++ name ∷ []) ≡ None
-
--- the answer of a change that takes no memory
+-- the answer of a change that allocates nothing
 abbrev pub change_answer : Option TreeRefusal → Result (Unit {0}) TreeRefusal
 change_answer None = Ok tt
 change_answer (Some e) = Err e
-
--- the directory that a path names has this number
-pub record IsDirectoryOf (c : Content) (path : Text) (number : ℕ) : Type 0 where
-  pub key : directory_key path ≡ Some (entry_numbered c.kinds number).0
-  pub inside : number < length c.kinds
-  pub directory : is_dir_at c (entry_numbered c.kinds number).0 ≡ true

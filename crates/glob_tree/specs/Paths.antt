@@ -6,7 +6,7 @@ use Rattle.glob_text.specs.Characters.{slash, dot}
 use Rattle.glob_text.specs.Pieces.{is_empty, begins_with, pieces}
 use Rattle.glob_text.specs.Text.{Text}
 
--- the character that no name holds, besides `/`
+-- the NUL character
 abbrev pub nul : ℕ
 nul = 0
 
@@ -14,7 +14,7 @@ nul = 0
 unfoldable pub join : (path text : Text) → Text
 join path text = with_separator path ++ text
 
--- the piece is empty or `.`: it stays where it stands
+-- the piece is empty or `.`: it leads nowhere else
 abbrev pub stays : Text → Bool
 stays piece = is_empty piece || bytes_eq piece cur_dir
 

@@ -1,31 +1,88 @@
-//! A count that contracts alone see. It takes no memory, and its methods do nothing at run time.
+//! How much was asked of a tree, for contracts alone.
 ghost use Rattle.std.specs.Prelude.{◌≡◌, ℕ, ◌+◌};
 ghost use Rattle.std.specs.Borrow.{ftrue};
 
 use std::marker::Model;
 
-/// How much was asked of a tree.
+/// How much was asked of a tree: a number that contracts alone see. It costs nothing: it has no bytes, and its methods do
+/// nothing at run time.
+///
+/// A [`Tree`](crate::Tree) of your own keeps one in a field and names it in its `ghost asks`. Each `look` is one ask, and
+/// each `list` one, and one for each entry that it returns:
+///
+/// ```text
+/// struct NoTree {
+///     asks: Asks,
+/// }
+///
+/// impl Tree for NoTree {
+///     type Alloc = Global;
+///
+///     ghost tells = { λ _. None };
+///
+///     ghost asks = { λ tree. tree.asks };
+///
+///     fn look(&mut self, _path: &str) -> Result<Look, AllocError> {
+///         self.asks = self.asks.after(1);
+///         Ok(Look::Missing)
+///     }
+///
+///     ..
+/// }
+/// ```
 #[derive(Drop)]
 pub struct Asks {
-    ghost count: { ℕ },
+    count: Count,
 }
 
 impl Model for Asks {
-    ghost also_owns = { λ _. ftrue };
+    ghost use Rattle.std.specs.Prelude.{ℕ};
+
+    ghost Value = { ℕ };
+
+    ghost view = { λ a. a.count.number };
 }
 
 impl Asks {
-    /// Nothing yet.
-    pub fn new() -> Asks
-        ensures { result.count ≡ 0 }
+    /// Nothing was asked yet.
+    pub fn new() -> Self
+        ensures { result ≡ 0 }
     {
-        Asks {}
+        Asks {
+            count: Count::zero(),
+        }
     }
 
-    /// The count after so many more asks.
-    pub fn after(&self, _more: usize) -> Asks
-        ensures { result.count ≡ self.now.count + _more }
+    /// The count after `more` further asks. It has no upper bound.
+    pub fn after(&self, more: usize) -> Self
+        ensures { result ≡ self.now + more }
     {
-        Asks {}
+        Asks {
+            count: self.count.plus(more),
+        }
+    }
+}
+
+/// A number without bytes. What its functions return is proved by hand, since no code makes the number.
+#[derive(Drop)]
+struct Count {
+    ghost number: { ℕ },
+}
+
+impl Model for Count {
+    ghost also_owns = { λ _. ftrue };
+}
+
+impl Count {
+    fn zero() -> Self
+        ensures { result.number ≡ 0 }
+    {
+        Count {}
+    }
+
+    fn plus(&self, _more: usize) -> Self
+        ensures { result.number ≡ self.now.number + _more }
+    {
+        Count {}
     }
 }

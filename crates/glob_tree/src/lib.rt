@@ -2,11 +2,12 @@
 #![tactic(auto)]
 
 mod asks;
+mod kind;
 mod memory;
 mod name;
 mod tree;
 
 pub use asks::Asks;
-pub use memory::MemTree;
+pub use memory::{MemTree, TreeRefusal};
 pub use name::Name;
-pub use tree::{Entry, ListError, Look, Tree, TreeRefusal};
+pub use tree::{Entry, ListError, Look, Tree};

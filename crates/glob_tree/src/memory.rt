@@ -1,25 +1,36 @@
-//! A tree that is held in memory.
+//! A tree held in memory.
 ghost use Rattle.std.specs.Prelude.{◌≡◌, ◌+◌, true, Some, Ok, IfOk, IfErr, OnOk, OnErr, MatchResult};
 ghost use Rattle.glob_tree.specs.Answers.{IsListError, entries_of, entry_count};
 ghost use Rattle.glob_tree.specs.Content.{is_content, look_result, list_result, Entries};
-ghost use Rattle.glob_tree.specs.Memory.{empty_content, add_refusal, content_with, current_refusal, directory_key, with_current, IsChangeAnswer, IsDirectoryOf, IsFaultOf, IsPlace, change_answer, list_fault};
-ghost use Rattle.glob_tree.specs.declared.tree.Kind.TheVariants.{Dir, Shut, Other};
+ghost use Rattle.glob_tree.specs.Memory.{empty_content, add_refusal, content_with, current_refusal, directory_key, with_current, IsChangeAnswer, IsFaultOf, change_answer, list_fault};
+ghost use Rattle.glob_tree.specs.Private.Places.{IsDirectoryOf, IsPlace};
+ghost use Rattle.glob_tree.specs.declared.kind.Kind.TheVariants.{Dir, Shut, Other};
 
 mod keys;
 mod nodes;
+mod refusal;
 
 use crate::asks::Asks;
+use crate::kind::Kind;
 use crate::name::Name;
-use crate::tree::{Entry, Kind, ListError, Look, Tree, TreeRefusal};
+use crate::tree::{Entry, ListError, Look, Tree};
 use keys::{last_name, proper_names};
 use nodes::Nodes;
+pub use refusal::TreeRefusal;
 use std::alloc::{AllocError, Allocator, Global};
 use std::io;
 use std::marker::Model;
 
-/// A tree that is held in memory. Its contracts tell what it holds.
+/// A tree held in memory, whose content contracts know.
 ///
-/// After `add_dir("/a")` and `add_other("/a/b")` a look at `a/b` answers `Other`, and a listing of `a` the entry `b`.
+/// ```text
+/// let mut tree = MemTree::new(alloc)?;
+/// tree.add_dir("/a")?;
+/// tree.add_other("/a/b")?;
+/// tree.look("a/b")?          // Look::Other
+/// tree.list("a")?            // one entry: b, no directory
+/// tree.add_dir("/x/y")       // Err(TreeRefusal::NoParent)
+/// ```
 #[derive(Drop)]
 pub struct MemTree<A: Allocator = Global> {
     nodes: Nodes<A>,
@@ -36,13 +47,14 @@ impl<A: Allocator> Model for MemTree<A> {
 
     ghost Value = { MemoryTree };
 
-    ghost view = { λ a. record { content = content_at a.nodes a.current; asks = a.asks.count } };
+    ghost view = { λ a. record { content = content_at a.nodes a.current; asks = a.asks } };
 
-    ghost invariant = { λ a. (a.current < length a.nodes) × (is_content (content_at a.nodes a.current) ≡ true) };
+    ghost invariant = { λ a. (a.current < length a.nodes)
+        × (is_content (content_at a.nodes a.current) ≡ true) };
 }
 
 impl<A: Allocator + Copy> MemTree<A> {
-    /// An empty root, which is the current directory.
+    /// A tree of the root alone, which is the current directory. `alloc` serves all that the tree holds and lists.
     pub fn new(alloc: A) -> Result<Self, AllocError>
         ensures empty { IfOk result (λ tree. tree.content ≡ empty_content) }
         ensures content { IfOk result (λ tree. is_content tree.content ≡ true) }
@@ -55,14 +67,18 @@ impl<A: Allocator + Copy> MemTree<A> {
         })
     }
 
-    /// Adds an empty directory. The path is `/` and one or more proper names joined by `/`.
+    /// Adds an empty directory at `path`, which is `/` and one or more proper names joined by `/`.
     ///
-    /// It is refused as `Improper` where the path is another text, as `NoParent` where the path without its last name
-    /// leads to no directory, as `Taken` where something stands there already, and as `Memory` where there was no
-    /// memory. The first of these is told, and the tree then holds what it held.
+    /// The errors, of which the first that applies is returned, and after which the content is what it was:
+    ///
+    /// - [`TreeRefusal::Improper`]: `path` is any other text.
+    /// - [`TreeRefusal::NoParent`]: `path` without its last name leads to no directory.
+    /// - [`TreeRefusal::Taken`]: something stands at `path` already.
+    /// - [`TreeRefusal::Memory`]: allocation failure.
     pub fn add_dir(&mut self, path: &str) -> Result<(), TreeRefusal>
         ensures answer { IsChangeAnswer (add_refusal self.old.content path.now) result }
-        ensures added { OnOk result (self.new.content ≡ content_with self.old.content path.now Dir) }
+        ensures added { OnOk result
+            (self.new.content ≡ content_with self.old.content path.now Dir) }
         ensures refused { OnErr result (self.new.content ≡ self.old.content) }
         ensures content { is_content self.new.content ≡ true }
         ensures asks { self.new.asks ≡ self.old.asks }
@@ -70,11 +86,13 @@ impl<A: Allocator + Copy> MemTree<A> {
         self.add(path, Kind::Dir)
     }
 
-    /// Adds a directory that cannot be listed: a listing of it fails with an error of this kind. It is refused as
-    /// `add_dir` is.
+    /// Adds a directory that cannot be listed: a listing of it fails with an error of this kind.
+    ///
+    /// The errors are those of [`add_dir`](MemTree::add_dir).
     pub fn add_shut(&mut self, path: &str, kind: io::ErrorKind) -> Result<(), TreeRefusal>
         ensures answer { IsChangeAnswer (add_refusal self.old.content path.now) result }
-        ensures added { OnOk result (self.new.content ≡ content_with self.old.content path.now (Shut kind)) }
+        ensures added { OnOk result
+            (self.new.content ≡ content_with self.old.content path.now (Shut kind)) }
         ensures refused { OnErr result (self.new.content ≡ self.old.content) }
         ensures content { is_content self.new.content ≡ true }
         ensures asks { self.new.asks ≡ self.old.asks }
@@ -82,10 +100,13 @@ impl<A: Allocator + Copy> MemTree<A> {
         self.add(path, Kind::Shut(kind))
     }
 
-    /// Adds something that is no directory. It is refused as `add_dir` is.
+    /// Adds something that is no directory, as a file.
+    ///
+    /// The errors are those of [`add_dir`](MemTree::add_dir).
     pub fn add_other(&mut self, path: &str) -> Result<(), TreeRefusal>
         ensures answer { IsChangeAnswer (add_refusal self.old.content path.now) result }
-        ensures added { OnOk result (self.new.content ≡ content_with self.old.content path.now Other) }
+        ensures added { OnOk result
+            (self.new.content ≡ content_with self.old.content path.now Other) }
         ensures refused { OnErr result (self.new.content ≡ self.old.content) }
         ensures content { is_content self.new.content ≡ true }
         ensures asks { self.new.asks ≡ self.old.asks }
@@ -93,13 +114,16 @@ impl<A: Allocator + Copy> MemTree<A> {
         self.add(path, Kind::Other)
     }
 
-    /// Makes a directory the current one. The path is `/`, or one or more proper names joined by `/` after a `/`.
+    /// Makes the directory at `path` the current one. `path` is `/`, or one that [`add_dir`](MemTree::add_dir) takes.
     ///
-    /// It is refused as `Improper` where the path is another text, and as `NoDirectory` where it leads to no directory.
-    /// The current directory is then what it was.
+    /// The errors, after which the current directory is what it was:
+    ///
+    /// - [`TreeRefusal::Improper`]: `path` is any other text.
+    /// - [`TreeRefusal::NoDirectory`]: `path` leads to no directory.
     pub fn set_current(&mut self, path: &str) -> Result<(), TreeRefusal>
         ensures answer { result ≡ change_answer (current_refusal self.old.content path.now) }
-        ensures current { OnOk result (self.new.content ≡ with_current self.old.content (directory_key path.now)) }
+        ensures current { OnOk result
+            (self.new.content ≡ with_current self.old.content (directory_key path.now)) }
         ensures refused { OnErr result (self.new.content ≡ self.old.content) }
         ensures content { is_content self.new.content ≡ true }
         ensures asks { self.new.asks ≡ self.old.asks }
@@ -109,10 +133,11 @@ impl<A: Allocator + Copy> MemTree<A> {
         Ok(())
     }
 
-    /// Adds a key.
+    /// Adds an entry of any kind.
     fn add(&mut self, path: &str, kind: Kind) -> Result<(), TreeRefusal>
         ensures answer { IsChangeAnswer (add_refusal self.old.content path.now) result }
-        ensures added { OnOk result (self.new.content ≡ content_with self.old.content path.now kind) }
+        ensures added { OnOk result
+            (self.new.content ≡ content_with self.old.content path.now kind) }
         ensures refused { OnErr result (self.new.content ≡ self.old.content) }
         ensures content { is_content self.new.content ≡ true }
         ensures asks { self.new.asks ≡ self.old.asks }
@@ -144,12 +169,13 @@ impl<A: Allocator + Copy> Tree for MemTree<A> {
         Ok(self.seen(path))
     }
 
-    /// A listing of what is no directory fails with the kind `NotADirectory`, and one of what is missing with
-    /// `NotFound`.
+    /// Where `path` leads to no directory, the error's kind is `NotADirectory`; where it leads nowhere, `NotFound`; where
+    /// it leads to a directory of [`add_shut`](MemTree::add_shut), the kind given there.
     fn list(&mut self, path: &str) -> Result<Vec<Entry<A>, A>, ListError>
         ensures asks { self.new.asks ≡ self.old.asks + 1 + entry_count result }
         ensures content { self.new.content ≡ self.old.content }
-        ensures entries { IfOk result (λ v. list_result self.old.content path.now ≡ Entries (entries_of v.items)) }
+        ensures entries { IfOk result (λ v.
+            list_result self.old.content path.now ≡ Entries (entries_of v.items)) }
         ensures fails { IfErr result (λ e. IsListError (list_result self.old.content path.now) e) }
         ensures fault { IfErr result (λ e. IsFaultOf (list_fault self.old.content path.now) e) }
     {
@@ -163,7 +189,8 @@ impl<A: Allocator + Copy> Tree for MemTree<A> {
 impl<A: Allocator + Copy> MemTree<A> {
     /// The entries of the directory to which a path leads.
     fn entries(&self, path: &str) -> Result<Vec<Entry<A>, A>, ListError>
-        ensures entries { IfOk result (λ v. list_result self.now.content path.now ≡ Entries (entries_of v.items)) }
+        ensures entries { IfOk result (λ v.
+            list_result self.now.content path.now ≡ Entries (entries_of v.items)) }
         ensures fails { IfErr result (λ e. IsListError (list_result self.now.content path.now) e) }
         ensures fault { IfErr result (λ e. IsFaultOf (list_fault self.now.content path.now) e) }
     {
@@ -195,9 +222,11 @@ impl<A: Allocator> MemTree<A> {
         Look::Other
     }
 
-    /// Where the key of a path is to stand: the number of its directory, and its name.
+    /// Where an entry may be added at a path: the number of its directory, and its name.
     fn place<'p>(&self, path: &'p str) -> Result<(usize, &'p str), TreeRefusal>
-        ensures { MatchResult result (λ place. IsPlace self.now.content path.now place.0 place.1.now) (λ e. add_refusal self.now.content path.now ≡ Some e) }
+        ensures { MatchResult result
+            (λ place. IsPlace self.now.content path.now place.0 place.1.now)
+            (λ e. add_refusal self.now.content path.now ≡ Some e) }
     {
         let Some(names) = proper_names(path) else {
             return Err(TreeRefusal::Improper);
@@ -214,7 +243,9 @@ impl<A: Allocator> MemTree<A> {
 
     /// The number of the directory that a path names.
     fn directory(&self, path: &str) -> Result<usize, TreeRefusal>
-        ensures { MatchResult result (λ number. IsDirectoryOf self.now.content path.now number) (λ e. current_refusal self.now.content path.now ≡ Some e) }
+        ensures { MatchResult result
+            (λ number. IsDirectoryOf self.now.content path.now number)
+            (λ e. current_refusal self.now.content path.now ≡ Some e) }
     {
         if path == "/" {
             return Ok(self.nodes.root());

@@ -5,7 +5,9 @@ ghost use Rattle.glob_tree.specs.Paths.{is_barred, is_proper as is_proper_text};
 use std::alloc::{AllocError, Allocator, Global};
 use std::marker::Model;
 
-/// A name in a directory: a text that is not empty, not `.`, not `..`, and holds neither `/` nor NUL.
+/// A proper name, as an entry of a directory has: not empty, not `.`, not `..`, and without `/` and NUL.
+///
+/// `a.rs` and `...` are names; `a/b` is none.
 #[derive(Drop)]
 pub struct Name<A: Allocator = Global> {
     text: String<A>,
@@ -23,7 +25,9 @@ impl<A: Allocator> Model for Name<A> {
 }
 
 impl<A: Allocator> Name<A> {
-    /// The name that `text` spells, or `text` itself where it is no name. It takes no memory.
+    /// The name `text`. It allocates nothing.
+    ///
+    /// The error is `text` itself, where it is no proper name.
     pub fn new(text: String<A>) -> Result<Self, String<A>>
         ensures proper { is_ok result ≡ is_proper_text (string_bytes text) }
         ensures name { IfOk result (λ name. name ≡ string_bytes text) }
@@ -36,7 +40,7 @@ impl<A: Allocator> Name<A> {
         }
     }
 
-    /// The same name once more.
+    /// A copy of the name. The error is an allocation failure.
     pub(crate) fn copy(&self, alloc: A) -> Result<Self, AllocError>
         ensures { IfOk result (λ name. name ≡ self.now) }
     {
@@ -44,7 +48,7 @@ impl<A: Allocator> Name<A> {
         Ok(Name { text })
     }
 
-    /// The name that `text` spells.
+    /// The name `text`, which is proper. The error is an allocation failure.
     pub(crate) fn from_proper(alloc: A, text: &str) -> Result<Self, AllocError>
         requires { is_proper_text text.now ≡ true }
         ensures { IfOk result (λ name. name ≡ text.now) }
@@ -53,7 +57,7 @@ impl<A: Allocator> Name<A> {
         Ok(Name { text })
     }
 
-    /// Its text.
+    /// The text of the name.
     pub fn as_str(&self) -> &str
         ensures { result.now ≡ self.now }
     {
@@ -61,7 +65,7 @@ impl<A: Allocator> Name<A> {
     }
 }
 
-/// Whether the text is a name.
+/// Whether the text is a proper name.
 pub(crate) fn is_proper(text: &str) -> bool
     ensures { result ≡ is_proper_text text.now }
 {
@@ -71,7 +75,7 @@ pub(crate) fn is_proper(text: &str) -> bool
     !has_barred(text)
 }
 
-/// Whether some byte is one that no name holds.
+/// Whether some byte is `/` or NUL, which no name holds.
 fn has_barred(text: &str) -> bool
     ensures { result ≡ list_any is_barred text.now }
 {

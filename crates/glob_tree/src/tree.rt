@@ -1,32 +1,12 @@
 ghost use Rattle.std.specs.Prelude.{◌≡◌, ℕ, ◌+◌, Option, IfOk, IfErr};
-ghost use Rattle.glob_tree.specs.Content.{Content, is_dir, look_result, list_result};
+ghost use Rattle.glob_tree.specs.Content.{Content, look_result, list_result};
 ghost use Rattle.glob_tree.specs.Answers.{IsTold, IsListAnswer, IsListError, entries_of, entry_count};
 
 use crate::name::Name;
 use std::alloc::{AllocError, Allocator, Global};
 use std::io;
 
-/// What stands at a key of a tree.
-#[derive(Clone, Copy, PartialEq, Eq, Debug)]
-pub(crate) enum Kind {
-    /// A directory.
-    Dir,
-    /// A directory that cannot be listed, and the kind of the error that a listing fails with.
-    Shut(io::ErrorKind),
-    /// Anything else.
-    Other,
-}
-
-impl Kind {
-    /// Whether it is a directory, shut or not.
-    pub(crate) fn is_dir(self) -> bool
-        ensures { result ≡ is_dir self }
-    {
-        matches!(self, Kind::Dir | Kind::Shut(_))
-    }
-}
-
-/// What a look at a path finds.
+/// What a path leads to.
 #[derive(Clone, Copy, PartialEq, Eq, Debug)]
 pub enum Look {
     /// A directory.
@@ -37,42 +17,34 @@ pub enum Look {
     Missing,
 }
 
-/// Why a tree in memory refused a change. Where several reasons hold, the first of them is told.
-#[derive(Clone, Copy, PartialEq, Eq, Debug)]
-pub enum TreeRefusal {
-    /// The path is not `/` and one or more proper names joined by `/`.
-    Improper,
-    /// The path without its last name leads to no directory.
-    NoParent,
-    /// Something stands at the path already.
-    Taken,
-    /// The path leads to no directory, where one was to become the current one.
-    NoDirectory,
-    /// There was no memory for the change.
-    Memory,
-}
-
-/// An entry of a directory.
+/// An entry of a directory, as a listing returns it.
 #[derive(Drop)]
 pub struct Entry<A: Allocator = Global> {
     /// Its name in the directory.
     pub name: Name<A>,
-    /// Whether it is a directory.
+    /// Whether it is a directory, also one that cannot be listed.
     pub is_dir: bool,
 }
 
-/// Why a directory was not listed.
+/// Why a listing failed.
 #[derive(Debug, Drop)]
 pub enum ListError {
-    /// It cannot be read.
+    /// The directory cannot be read, or there is none, for this reason.
     Read(io::Error),
-    /// There was no memory for the entries.
+    /// Out of memory: the entries could not be allocated.
     Memory,
 }
 
-/// A tree of files and directories. It tells what it holds, or nothing, to contracts alone. Where it tells a content, one
-/// whose keys are placed in directories, its answers are those of that content, and the content stays. Of another tree
-/// the counts alone are promised.
+/// A tree of files and directories: what a walk asks of it.
+///
+/// Contracts see two things of a tree:
+///
+/// - `tells` is its content, where that is known: what stands at each key, and the current directory. Each answer is then
+///   the content's, allocation failures aside, and no call changes the content. Where it is `None`, any answer may come.
+/// - `asks` counts what was asked: one for each `look`, and for each `list` one and one for each entry that it returns. A
+///   tree keeps the count in a field of type [`Asks`](crate::Asks).
+///
+/// [`MemTree`](crate::MemTree) is a tree with a known content.
 pub trait Tree: Drop {
     /// The allocator of the entries that it lists.
     type Alloc: Allocator + Copy;
@@ -81,20 +53,23 @@ pub trait Tree: Drop {
 
     ghost asks: { Self → ℕ };
 
-    /// What `path` leads to, from the root if it begins with `/`, and else from the current directory.
+    /// What `path` leads to, from the root if it begins with `/`, and otherwise from the current directory.
     ///
-    /// An error says that there was no memory.
+    /// [`AllocError`] is an allocation failure, and says nothing of the path.
     fn look(&mut self, path: &str) -> Result<Look, AllocError>
         ensures asks { asks self.new ≡ asks self.old + 1 }
         ensures content { tells self.new ≡ tells self.old }
-        ensures seen { (c : Content) → IsTold (tells self.old) c → IfOk result (λ seen. seen ≡ look_result c path.now) };
+        ensures seen { (c : Content) → IsTold (tells self.old) c
+            → IfOk result (λ seen. seen ≡ look_result c path.now) };
 
     /// The entries of the directory to which `path` leads, each once, in any order.
     ///
-    /// `Read` says why it cannot be listed, and `Memory` that there was no memory.
+    /// [`ListError::Read`] is the reason why it cannot be listed, and [`ListError::Memory`] an allocation failure.
     fn list(&mut self, path: &str) -> Result<Vec<Entry<Self::Alloc>, Self::Alloc>, ListError>
         ensures asks { asks self.new ≡ asks self.old + 1 + entry_count result }
         ensures content { tells self.new ≡ tells self.old }
-        ensures entries { (c : Content) → IsTold (tells self.old) c → IfOk result (λ v. IsListAnswer (list_result c path.now) (entries_of v.items)) }
-        ensures fails { (c : Content) → IsTold (tells self.old) c → IfErr result (λ e. IsListError (list_result c path.now) e) };
+        ensures entries { (c : Content) → IsTold (tells self.old) c
+            → IfOk result (λ v. IsListAnswer (list_result c path.now) (entries_of v.items)) }
+        ensures fails { (c : Content) → IsTold (tells self.old) c
+            → IfErr result (λ e. IsListError (list_result c path.now) e) };
 }

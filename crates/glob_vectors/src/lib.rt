@@ -1,5 +1,6 @@
 //! What the crate `glob` answers at values from outside, and what its tests stand on: an allocator that refuses a
-//! chosen request, readers and writers that move few bytes and fail, and a judge whose answers are written down.
+//! chosen request, readers and writers that move few bytes and fail, a judge whose answers are written down, and a tree that
+//! lies.
 #![tactic(auto)]
 
 pub mod judges;
@@ -7,4 +8,5 @@ pub mod rationing;
 pub mod readers;
 #[cfg(test)]
 mod tests;
+pub mod trees;
 pub mod uses;

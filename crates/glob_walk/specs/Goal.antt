@@ -11,8 +11,8 @@ use Rattle.glob_walk.specs.Components.{components, has_root, wants_directories, 
 use Rattle.glob_pattern.specs.Computing.Deciding.{is_match}
 use Rattle.glob_walk.specs.Marks.{Item, Unread, paths}
 use Rattle.glob_pattern.specs.declared.options.MatchOptions.{MatchOptions}
-use Rattle.glob_tree.specs.declared.tree.Kind.{Kind}
-use Rattle.glob_tree.specs.declared.tree.Kind.TheVariants.{Dir, Shut, Other}
+use Rattle.glob_tree.specs.declared.kind.Kind.{Kind}
+use Rattle.glob_tree.specs.declared.kind.Kind.TheVariants.{Dir, Shut, Other}
 
 -- The component is neither empty, nor `.`, nor `..`; and if it has a wildcard and begins with a dot, `**` is before it.
 abbrev pub is_plain_component : (after_recursive : Bool) → Text → Bool

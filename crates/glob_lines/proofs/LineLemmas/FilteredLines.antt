@@ -4,14 +4,10 @@ use lib.Seq.{take-append_seam}
 use Rattle.std.specs.Io.KnownBytes.{Appends, Keeps}
 use Rattle.std.proofs.KnownBytes.{Appends-nil, Appends-trans, Appends-kept, Keeps-refl}
 use Rattle.std.proofs.lemmas.List.Concat.{flat_map-append}
-use Rattle.glob_lines.specs.Lines.{line_feed}
-use Rattle.glob_lines.specs.Lines.{lines_of, with_line_feeds, AreKept}
+use Rattle.glob_lines.specs.Lines.{lines_of, ended_line, with_line_feeds, AreKept}
+use Rattle.glob_lines.specs.Private.Gathering.{IsGathered}
 use Rattle.glob_lines.proofs.LineLemmas.KnownMoves.{Appends-cut}
 use Rattle.glob_lines.proofs.LineLemmas.KeptLines.{AreKept-push, AreKept-pass, AreKept-front}
-
--- a line as it is written
-abbrev pub ended : List ℕ → List ℕ
-ended line = line ++ line_feed ∷ []
 
 -- The lines of the input that `rest` has no more were seen. Of those that P keeps, the first were written, and the others
 -- wait in the output.
@@ -57,20 +53,15 @@ AreFiltered-pass P input rest after line output old new count before first fails
   counted = before.counted;
 }
 
--- the line was put after the output, which was then written or not
-abbrev pub IsGathered : (line output output' : List ℕ) → (new new' : Option (List ℕ)) → Type 0
-IsGathered line output output' new new' =
-    (Keeps new new' × (output' ≡ output ++ ended line)) ⊎ (Appends new new' (output ++ ended line) × (output' ≡ []))
-
-with_line_feeds-push : (lines : List (List ℕ)) (line : List ℕ) → with_line_feeds (lines ++ line ∷ []) ≡ with_line_feeds lines ++ ended line
-with_line_feeds-push lines line = flat_map-append ended lines (line ∷ []) ∙ ap (λ l. with_line_feeds lines ++ l) (append-nil (ended line))
+with_line_feeds-push : (lines : List (List ℕ)) (line : List ℕ) → with_line_feeds (lines ++ line ∷ []) ≡ with_line_feeds lines ++ ended_line line
+with_line_feeds-push lines line = flat_map-append ended_line lines (line ∷ []) ∙ ap (λ l. with_line_feeds lines ++ l) (append-nil (ended_line line))
 
 with_line_feeds-gathered : (written waiting : List (List ℕ)) (line output : List ℕ) → output ≡ with_line_feeds waiting
-    → with_line_feeds ((written ++ waiting) ++ line ∷ []) ≡ with_line_feeds written ++ (output ++ ended line)
+    → with_line_feeds ((written ++ waiting) ++ line ∷ []) ≡ with_line_feeds written ++ (output ++ ended_line line)
 with_line_feeds-gathered written waiting line output held =
     with_line_feeds-push (written ++ waiting) line
-    ∙ ap (λ l. l ++ ended line) (flat_map-append ended written waiting ∙ ap (λ l. with_line_feeds written ++ l) (sym held))
-    ∙ append_assoc (with_line_feeds written) output (ended line)
+    ∙ ap (λ l. l ++ ended_line line) (flat_map-append ended_line written waiting ∙ ap (λ l. with_line_feeds written ++ l) (sym held))
+    ∙ append_assoc (with_line_feeds written) output (ended_line line)
 
 counted_more : (lines : List (List ℕ)) (line : List ℕ) (count : ℕ) → count ≡ min (length lines) (2 ^ 64 - 1)
     → min (count + 1) (2 ^ 64 - 1) ≡ min (length (lines ++ line ∷ [])) (2 ^ 64 - 1)
@@ -88,7 +79,7 @@ AreFiltered-keep P input rest after line output output' old new new' count befor
   kept = subst (AreKept P (before.seen ++ line ∷ [])) (append_assoc before.written before.waiting (line ∷ []))
       (AreKept-push P before.seen (before.written ++ before.waiting) line before.kept holds);
   moved = Appends-kept old new new' (with_line_feeds before.written) before.moved same;
-  held = is ∙ ap (λ l. l ++ ended line) before.held ∙ sym (with_line_feeds-push before.waiting line);
+  held = is ∙ ap (λ l. l ++ ended_line line) before.held ∙ sym (with_line_feeds-push before.waiting line);
   counted = counted_more (before.written ++ before.waiting) line count before.counted
       ∙ ap (λ l. min (length l) (2 ^ 64 - 1)) (append_assoc before.written before.waiting (line ∷ []));
 }
@@ -100,7 +91,7 @@ AreFiltered-keep P input rest after line output output' old new new' count befor
   kept = subst (AreKept P (before.seen ++ line ∷ [])) (sym (append-nil ((before.written ++ before.waiting) ++ line ∷ [])))
       (AreKept-push P before.seen (before.written ++ before.waiting) line before.kept holds);
   moved = subst (Appends old new') (sym (with_line_feeds-gathered before.written before.waiting line output before.held))
-      (Appends-trans old new new' (with_line_feeds before.written) (output ++ ended line) before.moved appended);
+      (Appends-trans old new new' (with_line_feeds before.written) (output ++ ended_line line) before.moved appended);
   held = is;
   counted = counted_more (before.written ++ before.waiting) line count before.counted
       ∙ ap (λ l. min (length l) (2 ^ 64 - 1)) (sym (append-nil ((before.written ++ before.waiting) ++ line ∷ [])));
@@ -134,8 +125,8 @@ written_first : (written waiting others kept : List (List ℕ)) (output : List �
     → with_line_feeds kept ≡ with_line_feeds written ++ (output ++ with_line_feeds others)
 written_first written waiting others kept output split held =
     ap with_line_feeds (split ∙ append_assoc written waiting others)
-    ∙ flat_map-append ended written (waiting ++ others)
-    ∙ ap (λ l. with_line_feeds written ++ l) (flat_map-append ended waiting others ∙ ap (λ l. l ++ with_line_feeds others) (sym held))
+    ∙ flat_map-append ended_line written (waiting ++ others)
+    ∙ ap (λ l. with_line_feeds written ++ l) (flat_map-append ended_line waiting others ∙ ap (λ l. l ++ with_line_feeds others) (sym held))
 
 -- some of the output was written
 pub AreFiltered-cut : (P : List ℕ → Type 0) (input rest output sent : List ℕ) (old new new' : Option (List ℕ)) (count n : ℕ)
@@ -148,9 +139,9 @@ AreFiltered-cut P input rest output sent old new new' count n done same appended
 
 -- some of the output and of the next line was written
 pub AreFiltered-cut_more : (P : List ℕ → Type 0) (input rest after line output : List ℕ) (old new new' : Option (List ℕ)) (count n : ℕ)
-    → AreFiltered P input rest output old new count → lines_of rest ≡ line ∷ lines_of after → P line → Appends new new' (take n (output ++ ended line))
+    → AreFiltered P input rest output old new count → lines_of rest ≡ line ∷ lines_of after → P line → Appends new new' (take n (output ++ ended_line line))
     → (kept : List (List ℕ)) → AreKept P (lines_of input) kept → (m : ℕ) × Appends old new' (take m (with_line_feeds kept))
 AreFiltered-cut_more P input rest after line output old new new' count n done first holds appended =
     let same : Keeps new new = Keeps-refl new in
-    let more = AreFiltered-keep P input rest after line output (output ++ ended line) old new new count done first holds (inl (same, refl)) in
-    AreFiltered-cut P input after (output ++ ended line) (output ++ ended line) old new new' _ n more refl appended
+    let more = AreFiltered-keep P input rest after line output (output ++ ended_line line) old new new count done first holds (inl (same, refl)) in
+    AreFiltered-cut P input after (output ++ ended_line line) (output ++ ended_line line) old new new' _ n more refl appended

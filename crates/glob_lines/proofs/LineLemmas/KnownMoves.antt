@@ -1,8 +1,9 @@
 -- What reads and writes in a row do to known bytes.
-use Rattle.std.proofs.Common.{◌≡◌, ℕ, ◌+◌, List, ◌++◌, Option, length, take, drop, sym, ap, ◌∙◌, subst, append_assoc, ◌-◌, Result, Ok, Err, OnErr}
+use Rattle.std.proofs.Common.{◌≡◌, ℕ, ◌+◌, List, ◌++◌, Option, Some, None, length, take, drop, sym, ap, append-nil, ◌∙◌, subst, append_assoc, ◌-◌, Result, Ok, Err, OnErr}
 use Rattle.std.proofs.lemmas.List.{take-append-drop, take_rest}
 use lib.Seq.{take-add, take-append_seam}
-use Rattle.std.specs.Io.KnownBytes.{Appends, Keeps, Consumes}
+use Rattle.std.specs.Io.KnownBytes.{Appends, Keeps, Consumes, IsAtEnd}
+use Rattle.std.specs.Prelude.{IfSome}
 use Rattle.std.proofs.KnownBytes.{Appends-trans, Appends-kept, Consumes-trans}
 
 -- a read put n bytes after the filled ones
@@ -24,6 +25,12 @@ Appends-more a b c all done rest n split before appended = (
   split ∙ ap (λ l. done ++ l) (sym (take-append-drop n rest) ∙ ap (λ l. take n rest ++ l) (sym (take_rest rest n))) ∙ sym (append_assoc done (take n rest) _),
   Appends-trans a b c done (take n rest) before appended,
 )
+
+-- what holds of the bytes that were read to the end holds of those that were left, where they are known
+pub IfSome-all_read : (left rest : Option (List ℕ)) (bytes : List ℕ) → Consumes left rest bytes → IsAtEnd rest → (P : List ℕ → Type 0) → P bytes → IfSome left P
+IfSome-all_read None rest bytes read end P holds = tt
+IfSome-all_read (Some all) None bytes read end P holds = absurd read
+IfSome-all_read (Some all) (Some more) bytes read end P holds = subst P (sym (read ∙ ap (λ l. bytes ++ l) end ∙ append-nil bytes)) holds
 
 -- a fact holds at a fault too
 pub OnErr-from : {T E : Type 0} (r : Result T E) {P : Type 0} → P → OnErr r P

@@ -13,7 +13,7 @@ use Rattle.std.proofs.lemmas.Slice.Eq.{bytes_eq-Decides}
 use Rattle.glob_text.specs.Text.{Text}
 use Rattle.glob_tree.specs.Paths.{is_proper}
 use Rattle.glob_tree.specs.Content.{Content, Key, same_key, parent_key, names_past, kind_at, is_dir, is_dir_at, is_placed, are_distinct, is_content, DirEntry, only_name, child_entry, children}
-use Rattle.glob_tree.specs.declared.tree.Kind.{Kind}
+use Rattle.glob_tree.specs.declared.kind.Kind.{Kind}
 use Rattle.glob_tree.proofs.ContentLemmas.Membership.{Contains-tail, Contains-cases, Contains-nil, Contains-filter_map, filter_map-contains, list_all-contains, list_any-contains}
 
 pub same_key-Decides : (k l : Key) → Decides (same_key k l) (k ≡ l)

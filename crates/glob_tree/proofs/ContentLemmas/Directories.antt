@@ -9,8 +9,8 @@ use Rattle.glob_text.specs.Text.{Text}
 use Rattle.glob_tree.specs.Paths.{stays, child, is_barred, is_proper}
 use Rattle.glob_tree.specs.Content.{Content, Key, kind_at, is_dir, is_dir_at, step, resolve, look_result, look_of, DirEntry, children, list_result, list_found, list_of, Entries, Fails}
 use Rattle.glob_tree.specs.Looks.{is_directory}
-use Rattle.glob_tree.specs.declared.tree.Kind.{Kind}
-use Rattle.glob_tree.specs.declared.tree.Kind.TheVariants.{Dir, Shut, Other}
+use Rattle.glob_tree.specs.declared.kind.Kind.{Kind}
+use Rattle.glob_tree.specs.declared.kind.Kind.TheVariants.{Dir, Shut, Other}
 use Rattle.glob_tree.proofs.ContentLemmas.Resolving.{resolve_child}
 use Rattle.glob_tree.proofs.ContentLemmas.Contents.{IsContent, IsChild-list_result}
 

@@ -10,20 +10,20 @@ use Rattle.std.proofs.lemmas.Option.{none-some}
 use Rattle.glob_text.specs.Text.{Text}
 use Rattle.glob_tree.specs.Paths.{is_proper}
 use Rattle.glob_tree.specs.Content.{Content, Key, same_key, parent_key, kind_at, is_dir, is_dir_at, is_placed, are_distinct, is_content}
-use Rattle.glob_tree.specs.declared.tree.Kind.{Kind}
+use Rattle.glob_tree.specs.declared.kind.Kind.{Kind}
 use Rattle.glob_tree.proofs.ContentLemmas.Membership.{Contains-head, Contains-tail, list_all-contains}
 use Rattle.glob_tree.proofs.ContentLemmas.Contents.{IsContent, same_key-Decides, kind_at-entry, contains_kind_at, parent_key-append}
 
 -- the content with a further entry
-abbrev pub extended : Content → Key × Kind → Content
-extended c e = record { kinds = c.kinds ++ e ∷ []; current = c.current }
+abbrev pub extended_content : Content → Key × Kind → Content
+extended_content c e = record { kinds = c.kinds ++ e ∷ []; current = c.current }
 
-kind_at-extended : (c : Content) (e : Key × Kind) (k : Key) → kind_at (extended c e) k ≡ option_map (λ f. f.1) (option_or (find (λ f. same_key k f.0) c.kinds) (find (λ f. same_key k f.0) (e ∷ [])))
+kind_at-extended : (c : Content) (e : Key × Kind) (k : Key) → kind_at (extended_content c e) k ≡ option_map (λ f. f.1) (option_or (find (λ f. same_key k f.0) c.kinds) (find (λ f. same_key k f.0) (e ∷ [])))
 unfolding kind_at
 kind_at-extended c e k = ap (option_map (λ f. f.1)) (find-append (λ f. same_key k f.0) c.kinds (e ∷ []))
 
 -- what stood at a key stays
-pub kind_at_kept : (c : Content) (e : Key × Kind) (k : Key) (kind : Kind) → kind_at c k ≡ Some kind → kind_at (extended c e) k ≡ Some kind
+pub kind_at_kept : (c : Content) (e : Key × Kind) (k : Key) (kind : Kind) → kind_at c k ≡ Some kind → kind_at (extended_content c e) k ≡ Some kind
 unfolding kind_at
 kind_at_kept c e k kind h = kind_at-extended c e k ∙ kept (find (λ f. same_key k f.0) c.kinds) h
   where
@@ -31,23 +31,23 @@ kind_at_kept c e k kind h = kind_at-extended c e k ∙ kept (find (λ f. same_ke
     kept None h = absurd (none-some kind h)
     kept (Some f) h = h
 
-pub is_dir_at_kept : (c : Content) (e : Key × Kind) (k : Key) → is_dir_at c k ≡ true → is_dir_at (extended c e) k ≡ true
+pub is_dir_at_kept : (c : Content) (e : Key × Kind) (k : Key) → is_dir_at c k ≡ true → is_dir_at (extended_content c e) k ≡ true
 is_dir_at_kept c e k h = of_kind (kind_at c k) refl h
   where
-    of_kind : (o : Option Kind) → kind_at c k ≡ o → unwrap_or (option_map is_dir o) false ≡ true → is_dir_at (extended c e) k ≡ true
+    of_kind : (o : Option Kind) → kind_at c k ≡ o → unwrap_or (option_map is_dir o) false ≡ true → is_dir_at (extended_content c e) k ≡ true
     of_kind None is h = absurd (both_ways false refl h)
     of_kind (Some kind) is h = rw (kind_at_kept c e k kind is) h
 
-is_placed_kept : (c : Content) (e f : Key × Kind) → is_placed c f ≡ true → is_placed (extended c e) f ≡ true
+is_placed_kept : (c : Content) (e f : Key × Kind) → is_placed c f ≡ true → is_placed (extended_content c e) f ≡ true
 is_placed_kept c e f h =
     let both = and_parts (list_all (λ name. is_utf8 name && is_proper name) f.0) (is_dir_at c (parent_key f.0)) h in
-    and_from (list_all (λ name. is_utf8 name && is_proper name) f.0) (is_dir_at (extended c e) (parent_key f.0)) both.0 (is_dir_at_kept c e (parent_key f.0) both.1)
+    and_from (list_all (λ name. is_utf8 name && is_proper name) f.0) (is_dir_at (extended_content c e) (parent_key f.0)) both.0 (is_dir_at_kept c e (parent_key f.0) both.1)
 
-all_placed : (c : Content) (e : Key × Kind) (es : List (Key × Kind)) → list_all (is_placed c) es ≡ true → list_all (is_placed (extended c e)) es ≡ true
+all_placed : (c : Content) (e : Key × Kind) (es : List (Key × Kind)) → list_all (is_placed c) es ≡ true → list_all (is_placed (extended_content c e)) es ≡ true
 all_placed c e [] h = refl
 all_placed c e (f ∷ es) h =
     let both = and_parts (is_placed c f) (list_all (is_placed c) es) h in
-    and_from (is_placed (extended c e) f) (list_all (is_placed (extended c e)) es) (is_placed_kept c e f both.0) (all_placed c e es both.1)
+    and_from (is_placed (extended_content c e) f) (list_all (is_placed (extended_content c e)) es) (is_placed_kept c e f both.0) (all_placed c e es both.1)
 
 are_distinct-push : (es : List (Key × Kind)) (e : Key × Kind) → are_distinct es ≡ true → ((f : Key × Kind) → Contains es f → f.0 ≢ e.0) → are_distinct (es ++ e ∷ []) ≡ true
 are_distinct-push [] e h apart = refl
@@ -71,11 +71,11 @@ names_at c w k h = of_kind (kind_at c k) refl h
 
 -- A proper name in a directory, where nothing stands yet, may be added.
 pub is_content-extended : (c : Content) → IsContent c → (k : Key) (name : Text) (kind : Kind) → is_dir_at c k ≡ true → is_utf8 name ≡ true → is_proper name ≡ true
-    → kind_at c (k ++ name ∷ []) ≡ None → is_content (extended c (k ++ name ∷ [], kind)) ≡ true
+    → kind_at c (k ++ name ∷ []) ≡ None → is_content (extended_content c (k ++ name ∷ [], kind)) ≡ true
 unfolding is_content
 is_content-extended c w k name kind d utf8 proper free =
     let e : Key × Kind = (k ++ name ∷ [], kind) in
-    let d' = extended c e in
+    let d' = extended_content c e in
     let named_ok : list_all (λ n. is_utf8 n && is_proper n) (k ++ name ∷ []) ≡ true =
     list_all-append (λ n. is_utf8 n && is_proper n) k (name ∷ []) ∙ and_from (list_all (λ n. is_utf8 n && is_proper n) k) (is_utf8 name && is_proper name && true) (names_at c w k d)
     (and_from (is_utf8 name && is_proper name) true (and_from (is_utf8 name) (is_proper name) utf8 proper) refl) in

@@ -14,7 +14,7 @@ use Rattle.std.proofs.lemmas.Slice.Eq.{bytes_eq-Decides}
 use Rattle.std.proofs.lemmas.Bool.{and_parts, not-true, cond-true, cond-false, both_ways, false_from_ne_true}
 use Rattle.std.proofs.lemmas.List.Elements.{All-contains, All-from_recursion, recursion_from_All}
 use Rattle.std.proofs.lemmas.Map.Keys.{IsDistinct-IsPermutation}
-use Rattle.glob_tree.specs.declared.tree.Kind.{Kind}
+use Rattle.glob_tree.specs.declared.kind.Kind.{Kind}
 use Rattle.glob_tree.proofs.ContentLemmas.Contents.{IsContent, child_entry_is, same_key-Decides}
 use Rattle.glob_tree.specs.Content.{Content, Key, same_key, are_distinct, child_entry, children, DirEntry, is_before, insert_entry, sorted_entries}
 use Rattle.glob_tree.proofs.ContentLemmas.Membership.{Contains-filter_map, list_any-contains, All-from_contains, Contains-head, Contains-tail, Contains-cases, Contains-nil}

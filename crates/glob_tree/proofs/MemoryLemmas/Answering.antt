@@ -1,15 +1,15 @@
 -- What a tree answers of a path, by what stands where the path leads.
-use Rattle.std.proofs.Common.{◌≡◌, ℕ, true, false, List, Option, Some, None, refl, ap, sym, ◌∙◌}
+use Rattle.std.proofs.Common.{◌≡◌, ℕ, true, false, List, [], Option, Some, None, refl, ap, sym, ◌∙◌}
 use Rattle.std.specs.Prelude.{option_and_then, option_map}
 use Rattle.std.specs.declared.io.ErrorKind.TheVariants.{NotFound}
 use Rattle.std.proofs.lemmas.Bool.{both_ways}
 use Rattle.glob_text.specs.Text.{Text}
 use Rattle.glob_tree.specs.Content.{Content, Key, kind_at, is_dir, children, resolve, look_result, look_of, list_result, list_found, list_of, NoDirectory}
 use Rattle.glob_tree.specs.Memory.{kind_fault, list_fault}
-use Rattle.glob_tree.specs.Private.Nodes.{entry_numbered, content_at}
+use Rattle.glob_tree.specs.Private.Nodes.{key_numbered, rooted_content, content_at}
 use Rattle.glob_tree.specs.Private.Numbers.{Leads}
-use Rattle.glob_tree.specs.declared.tree.Kind.{Kind}
-use Rattle.glob_tree.specs.declared.tree.Kind.TheVariants.{Dir, Shut, Other}
+use Rattle.glob_tree.specs.declared.kind.Kind.{Kind}
+use Rattle.glob_tree.specs.declared.kind.Kind.TheVariants.{Dir, Shut, Other}
 use Rattle.glob_tree.specs.declared.tree.Look.TheVariants as look
 use Rattle.glob_tree.proofs.MemoryLemmas.Memory.{kind_any}
 
@@ -52,16 +52,17 @@ look_of-other (Shut kind) d = absurd (both_ways true d refl)
 look_of-other Other d = refl
 
 -- what a directory lists does not depend on the current one
-pub children_any : (entries : List (Key × Kind)) (m n : ℕ) (k : Key) → children (content_at entries m) k ≡ children (content_at entries n) k
+pub children_any : (entries : List (Key × Kind)) (m n k : Key)
+    → children (record { kinds = entries; current = m }) k ≡ children (record { kinds = entries; current = n }) k
 unfolding children
 children_any entries m n k = refl
 
 -- the same by numbers, as nodes tell it
 module _ (entries : List (Key × Kind)) (current : ℕ) (path : Text) where
   pub nothing_there : (r : Option ℕ) → Leads entries r (resolve (content_at entries current) path) → r ≡ None → AnswersNothing (content_at entries current) path
-  nothing_there r leads none = AnswersNothing-from_resolve (content_at entries current) path (sym leads.0 ∙ ap (option_map (λ n. (entry_numbered entries n).0)) none)
+  nothing_there r leads none = AnswersNothing-from_resolve (content_at entries current) path (sym leads.0 ∙ ap (option_map (key_numbered entries)) none)
 
   pub kind_there : (r : Option ℕ) (number : ℕ) (kind : Kind) → Leads entries r (resolve (content_at entries current) path) → r ≡ Some number
-      → kind_at (content_at entries 0) (entry_numbered entries number).0 ≡ Some kind → AnswersKind (content_at entries current) path (entry_numbered entries number).0 kind
-  kind_there r number kind leads some held = AnswersKind-from_resolve (content_at entries current) path (entry_numbered entries number).0 kind
-      (sym leads.0 ∙ ap (option_map (λ n. (entry_numbered entries n).0)) some) (kind_any entries current 0 (entry_numbered entries number).0 ∙ held)
+      → kind_at (rooted_content entries) (key_numbered entries number) ≡ Some kind → AnswersKind (content_at entries current) path (key_numbered entries number) kind
+  kind_there r number kind leads some held = AnswersKind-from_resolve (content_at entries current) path (key_numbered entries number) kind
+      (sym leads.0 ∙ ap (option_map (key_numbered entries)) some) (kind_any entries (key_numbered entries current) [] (key_numbered entries number) ∙ held)

@@ -16,9 +16,9 @@ use Rattle.glob_tree.specs.Paths.{is_proper}
 use Rattle.glob_text.specs.Pieces.{pieces, begins_with}
 use Rattle.glob_tree.specs.Content.{Content, Key, parent_key, kind_at, is_dir, is_dir_at, is_placed, is_content, step, steps, resolve}
 use Rattle.glob_tree.specs.Memory.{key_of}
-use Rattle.glob_tree.specs.Private.Nodes.{root_entry, entry_numbered, content_at}
+use Rattle.glob_tree.specs.Private.Nodes.{root_entry, entry_numbered, key_numbered, entries_of_nodes, rooted_content, content_at}
 use Rattle.glob_tree.specs.Private.Numbers.{Leads, IsFoundAt}
-use Rattle.glob_tree.specs.declared.tree.Kind.{Kind}
+use Rattle.glob_tree.specs.declared.kind.Kind.{Kind}
 use Rattle.glob_tree.proofs.ContentLemmas.Membership.{list_all-contains}
 use Rattle.glob_tree.proofs.ContentLemmas.Contents.{IsContent, IsContent-from_test, contains_kind_at, parent_key-append}
 use Rattle.glob_tree.proofs.ContentLemmas.Directories.{IsName-from_proper, step_name}
@@ -108,25 +108,25 @@ proper_some : (names : Text) → list_all is_proper (pieces names) ≡ true → 
 proper_some [] h = absurd (both_ways false refl h)
 proper_some (x ∷ xs) h = omega arith
 
-module _ (entries : List (Key × Kind)) (root : ℕ) (content : is_content (content_at entries 0) ≡ true) (is_root : entry_numbered entries root ≡ root_entry) where
+module _ (entries : List (Key × Kind)) (root : ℕ) (content : is_content (rooted_content entries) ≡ true) (is_root : entry_numbered entries root ≡ root_entry) where
   -- where proper names lead from the root
-  resolve_names : (names : Text) → list_all is_proper (pieces names) ≡ true → resolve (content_at entries root) names ≡ steps (content_at entries 0) (Some []) (pieces names)
+  resolve_names : (names : Text) → list_all is_proper (pieces names) ≡ true → resolve (content_at entries root) names ≡ steps (rooted_content entries) (Some []) (pieces names)
   resolve_names names proper =
       resolve_steps (content_at entries root) names (proper_some names proper)
       ∙ ap (λ k. steps (content_at entries root) (Some k) (pieces names)) (from_root (begins_with slash names))
-      ∙ steps_any entries root 0 (Some []) (pieces names)
+      ∙ steps_any entries (key_numbered entries root) [] (Some []) (pieces names)
     where
-      from_root : (b : Bool) → cond b [] (entry_numbered entries root).0 ≡ []
+      from_root : (b : Bool) → cond b [] (key_numbered entries root) ≡ []
       from_root true = refl
       from_root false = ap (λ e. e.0) is_root
 
   pub find_directory : (names : Text) → list_all is_proper (pieces names) ≡ true → (number : Option ℕ) → Leads entries number (resolve (content_at entries root) names)
       → IsFoundAt entries (pieces names) number
-  find_directory names proper None leads = false_from_ne_true (is_dir_at (content_at entries 0) (pieces names)) (λ d.
-      let there = steps_to_directory (content_at entries 0) (IsContent-from_test (content_at entries 0) content) [] (pieces names) proper d in
+  find_directory names proper None leads = false_from_ne_true (is_dir_at (rooted_content entries) (pieces names)) (λ d.
+      let there = steps_to_directory (rooted_content entries) (IsContent-from_test (rooted_content entries) content) [] (pieces names) proper d in
       none-some (pieces names) (leads.0 ∙ resolve_names names proper ∙ there))
   find_directory names proper (Some n) leads =
-      (leads.1, steps_along (content_at entries 0) [] (pieces names) (entry_numbered entries n).0 proper (sym (leads.0 ∙ resolve_names names proper)))
+      (leads.1, steps_along (rooted_content entries) [] (pieces names) (key_numbered entries n) proper (sym (leads.0 ∙ resolve_names names proper)))
 
 -- a text whose last name stands after a separator
 pub pieces_last : (names directory name rest : Text) → names ≡ directory ++ slash ∷ name → name ≡ rest → NoCharPasses (λ c. c == slash) rest

@@ -6,8 +6,8 @@ use Rattle.std.proofs.lemmas.Bool.{and_parts, and_from, leb-true, le-leb, not-tr
 use Rattle.std.proofs.lemmas.List.{get_or_append_left, get_or_at, length_push}
 use Rattle.std.proofs.lemmas.List.Elements.{Contains-get_or}
 use Rattle.glob_tree.specs.Content.{Key, same_key, are_distinct, is_content, kind_at}
-use Rattle.glob_tree.specs.Private.Nodes.{root_entry, entry_numbered, entry_of, entries_after, entries_of_nodes, stand_after, content_at}
-use Rattle.glob_tree.specs.declared.tree.Kind.{Kind}
+use Rattle.glob_tree.specs.Private.Nodes.{root_entry, entry_numbered, entry_of, entries_after, entries_of_nodes, are_after_parents, rooted_content}
+use Rattle.glob_tree.specs.declared.kind.Kind.{Kind}
 use Rattle.glob_tree.specs.declared.memory.nodes.Node.{Node}
 use Rattle.glob_tree.proofs.ContentLemmas.Membership.{list_any-contains}
 use Rattle.glob_tree.proofs.ContentLemmas.Contents.{same_key-Decides}
@@ -40,27 +40,27 @@ module _ {A : Type 0} where
   entries_after-push es (n ∷ nodes) node = entries_after-push (es ++ entry_of es n ∷ []) nodes node
 
   -- each node is one of them, with a parent before it
-  pub parent_before : (n : ℕ) (nodes : List (Node A)) (i : ℕ) (d : Node A) → stand_after n nodes ≡ true → i < length nodes → (slice_index_or nodes i d).parent < n + i
+  pub parent_before : (n : ℕ) (nodes : List (Node A)) (i : ℕ) (d : Node A) → are_after_parents n nodes ≡ true → i < length nodes → (slice_index_or nodes i d).parent < n + i
   parent_before n [] i d h l = absurd (omega (arith, l))
   parent_before n (node ∷ nodes) zero d h l =
-      let first = leb-true (suc node.parent) n (and_parts (nat_le (suc node.parent) n) (stand_after (suc n) nodes) h).0 in omega (arith, first)
+      let first = leb-true (suc node.parent) n (and_parts (nat_le (suc node.parent) n) (are_after_parents (suc n) nodes) h).0 in omega (arith, first)
   parent_before n (node ∷ nodes) (suc i) d h l =
-      let later = parent_before (suc n) nodes i d (and_parts (nat_le (suc node.parent) n) (stand_after (suc n) nodes) h).1 (omega (arith, l)) in omega (arith, later)
+      let later = parent_before (suc n) nodes i d (and_parts (nat_le (suc node.parent) n) (are_after_parents (suc n) nodes) h).1 (omega (arith, l)) in omega (arith, later)
 
   -- a further node after its parent
-  pub stand_after-push : (n : ℕ) (nodes : List (Node A)) (node : Node A) → stand_after n nodes ≡ true → node.parent < n + length nodes → stand_after n (nodes ++ node ∷ []) ≡ true
-  stand_after-push n [] node h l = and_from (nat_le (suc node.parent) n) true (le-leb (suc node.parent) n (omega (arith, l))) refl
-  stand_after-push n (m ∷ nodes) node h l =
-      let parts = and_parts (nat_le (suc m.parent) n) (stand_after (suc n) nodes) h in
-      and_from (nat_le (suc m.parent) n) (stand_after (suc n) (nodes ++ node ∷ [])) parts.0 (stand_after-push (suc n) nodes node parts.1 (omega (arith, l)))
+  pub are_after_parents-push : (n : ℕ) (nodes : List (Node A)) (node : Node A) → are_after_parents n nodes ≡ true → node.parent < n + length nodes → are_after_parents n (nodes ++ node ∷ []) ≡ true
+  are_after_parents-push n [] node h l = and_from (nat_le (suc node.parent) n) true (le-leb (suc node.parent) n (omega (arith, l))) refl
+  are_after_parents-push n (m ∷ nodes) node h l =
+      let parts = and_parts (nat_le (suc m.parent) n) (are_after_parents (suc n) nodes) h in
+      and_from (nat_le (suc m.parent) n) (are_after_parents (suc n) (nodes ++ node ∷ [])) parts.0 (are_after_parents-push (suc n) nodes node parts.1 (omega (arith, l)))
 
   -- the entry of a node
-  pub entries_after-node : (es : List (Key × Kind)) (nodes : List (Node A)) (i : ℕ) (d : Node A) → stand_after (length es) nodes ≡ true → i < length nodes
+  pub entries_after-node : (es : List (Key × Kind)) (nodes : List (Node A)) (i : ℕ) (d : Node A) → are_after_parents (length es) nodes ≡ true → i < length nodes
       → entry_numbered (entries_after es nodes) (length es + i) ≡ entry_of (entries_after es nodes) (slice_index_or nodes i d)
   entries_after-node es [] i d h l = absurd (omega (arith, l))
   entries_after-node es (node ∷ nodes) zero d h l =
       let more = es ++ entry_of es node ∷ [] in
-      let first = leb-true (suc node.parent) (length es) (and_parts (nat_le (suc node.parent) (length es)) (stand_after (suc (length es)) nodes) h).0 in
+      let first = leb-true (suc node.parent) (length es) (and_parts (nat_le (suc node.parent) (length es)) (are_after_parents (suc (length es)) nodes) h).0 in
       ap (λ all. entry_numbered all (length es + 0)) (entries_after-cons es node nodes)
       ∙ entries_after-before more nodes (length es + 0) root_entry (omega (arith, length_push es (entry_of es node)))
       ∙ get_or_at es (entry_of es node) [] root_entry (length es + 0) (omega arith)
@@ -68,11 +68,11 @@ module _ {A : Type 0} where
   entries_after-node es (node ∷ nodes) (suc i) d h l =
       let more = es ++ entry_of es node ∷ [] in
       let longer : length more ≡ suc (length es) = omega (arith, length_push es (entry_of es node)) in
-      let rest = (and_parts (nat_le (suc node.parent) (length es)) (stand_after (suc (length es)) nodes) h).1 in
+      let rest = (and_parts (nat_le (suc node.parent) (length es)) (are_after_parents (suc (length es)) nodes) h).1 in
       let here : length es + suc i ≡ length more + i = omega (arith, longer) in
       ap (λ all. entry_numbered all (length es + suc i)) (entries_after-cons es node nodes)
       ∙ ap (entry_numbered (entries_after more nodes)) here
-      ∙ entries_after-node more nodes i d (ap (λ n. stand_after n nodes) longer ∙ rest) (omega (arith, l))
+      ∙ entries_after-node more nodes i d (ap (λ n. are_after_parents n nodes) longer ∙ rest) (omega (arith, l))
       ∙ ap (λ all. entry_of all (slice_index_or nodes i d)) (sym (entries_after-cons es node nodes))
 
 not_first : (e : Key × Kind) (es : List (Key × Kind)) (d : Key × Kind) → are_distinct (e ∷ es) ≡ true → (j : ℕ) → j < length es → e.0 ≡ (slice_index_or es j d).0 → ⊥
@@ -98,8 +98,8 @@ not_zero (suc n) h = omega arith
 -- nodes, and the entries that they stand for
 pub record AreNodes {A : Type 0} (nodes : List (Node A)) (entries : List (Key × Kind)) : Type 0 where
   pub is : entries_of_nodes nodes ≡ entries
-  pub after : stand_after 1 nodes ≡ true
-  pub content : is_content (content_at (entries_of_nodes nodes) 0) ≡ true
+  pub after : are_after_parents 1 nodes ≡ true
+  pub content : is_content (rooted_content (entries_of_nodes nodes)) ≡ true
 
 module _ {A : Type 0} (nodes : List (Node A)) (entries : List (Key × Kind)) (are : AreNodes nodes entries) where
   pub length-entries : length entries ≡ suc (length nodes)
@@ -130,6 +130,6 @@ pub entries_of_nodes-nil : (A : Type 0) → entries_of_nodes {A = A} [] ≡ root
 unfolding entries_after
 entries_of_nodes-nil A = refl
 
-pub no_nodes : (A : Type 0) → (stand_after {A = A} 1 [] ≡ true) × (is_content (content_at (entries_of_nodes {A = A} []) 0) ≡ true)
+pub no_nodes : (A : Type 0) → (are_after_parents {A = A} 1 [] ≡ true) × (is_content (rooted_content (entries_of_nodes {A = A} [])) ≡ true)
 unfolding entries_after is_content kind_at
 no_nodes A = (refl, refl)

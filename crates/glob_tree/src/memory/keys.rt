@@ -1,17 +1,18 @@
-//! Paths from the root down that name a key.
-ghost use Rattle.std.specs.Prelude.{◌≡◌, ◌++◌, ◌∷◌, [], true, None, Some, MatchOption};
+//! Paths that are `/` and proper names joined by `/`.
+ghost use Rattle.std.specs.Prelude.{◌≡◌, ◌++◌, ◌∷◌, [], true, None, MatchOption};
 ghost use Rattle.std.specs.List.{list_all};
 ghost use Rattle.std.specs.Str.{is_utf8};
 ghost use Rattle.glob_tree.specs.Paths.{is_proper as is_proper_text};
 ghost use Rattle.glob_text.specs.Pieces.{pieces};
 ghost use Rattle.glob_tree.specs.Memory.{key_of};
 ghost use Rattle.glob_tree.specs.Private.Numbers.{directory_names};
+ghost use Rattle.glob_tree.specs.Private.Places.{AreNames};
 
 use crate::name::is_proper;
 
-/// The names of a path that is `/` and one or more proper names joined by `/`.
+/// The path without its first `/`, where names joined by `/` follow.
 pub(super) fn proper_names(path: &str) -> Option<&str>
-    ensures { MatchOption result (key_of path.now ≡ None) (λ names. (key_of path.now ≡ Some (pieces names.now)) × (list_all is_proper_text (pieces names.now) ≡ true)) }
+    ensures { MatchOption result (key_of path.now ≡ None) (λ names. AreNames path.now names.now) }
 {
     let names = path.strip_prefix('/')?;
     if !are_proper(names) {
@@ -20,14 +21,14 @@ pub(super) fn proper_names(path: &str) -> Option<&str>
     Some(names)
 }
 
-/// Whether each piece is a name.
+/// Whether each piece between `/` is a proper name.
 fn are_proper(names: &str) -> bool
     ensures { result ≡ list_all is_proper_text (pieces names.now) }
 {
     names.split('/').all(is_proper)
 }
 
-/// The last name, and what stands before its separator.
+/// What stands before the last `/`, and the last name.
 pub(super) fn last_name(names: &str) -> (Option<&str>, &str)
     ensures names { pieces names.now ≡ directory_names result.0 ++ result.1.now ∷ [] }
     ensures utf8 { is_utf8 result.1.now ≡ true }

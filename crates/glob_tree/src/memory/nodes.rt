@@ -5,26 +5,28 @@ ghost use Rattle.glob_tree.specs.Answers.{entries_of};
 ghost use Rattle.glob_tree.specs.Content.{is_content, is_dir, kind_at, parent_key, child_key, origin, step, steps, resolve, children};
 ghost use Rattle.glob_tree.specs.Paths.{is_proper};
 ghost use Rattle.glob_text.specs.Pieces.{pieces};
-ghost use Rattle.glob_tree.specs.Private.Nodes.{root_entry, entry_numbered, content_at};
-ghost use Rattle.glob_tree.specs.Private.Numbers.{IsDirectoryAt, IsFoundAt, IsNode, Leads, directory_names, is_named, listed_in};
+ghost use Rattle.glob_tree.specs.Private.Nodes.{root_entry, entry_numbered, key_numbered, kind_numbered, rooted_content, content_at};
+ghost use Rattle.glob_tree.specs.Private.Numbers.{IsDirectoryAt, IsFoundAt, IsFree, IsKindAt, IsNode, Leads, directory_names, entries_with, is_named, listing_entry};
 
+use crate::kind::Kind;
 use crate::name::Name;
-use crate::tree::{Entry, Kind};
+use crate::tree::Entry;
 use std::alloc::{AllocError, Allocator, Global};
 use std::marker::Model;
 
-/// What stands below the root.
+/// An entry of the tree, below the root.
 #[derive(Drop)]
 pub(super) struct Node<A: Allocator = Global> {
-    /// The number of its directory.
+    /// The number of the directory it is in.
     parent: usize,
-    /// Its name there.
+    /// Its name in that directory.
     name: Name<A>,
     /// What it is.
     kind: Kind,
 }
 
-/// The nodes of a tree, each after its parent. The root has number 0, and is a directory.
+/// The nodes of a tree, each after its parent. Numbers count from the root, which is a directory, has number 0 and no
+/// node: node 0 of the list has number 1.
 #[derive(Drop)]
 pub(super) struct Nodes<A: Allocator = Global> {
     nodes: Vec<Node<A>, A>,
@@ -33,18 +35,19 @@ pub(super) struct Nodes<A: Allocator = Global> {
 impl<A: Allocator> Model for Nodes<A> {
     ghost use Rattle.std.specs.Prelude.{List, IsTrue};
     ghost use Rattle.glob_tree.specs.Content.{Key, is_content};
-    ghost use Rattle.glob_tree.specs.Private.Nodes.{entries_of_nodes, stand_after, content_at};
-    ghost use Rattle.glob_tree.specs.declared.tree.Kind.{Kind};
+    ghost use Rattle.glob_tree.specs.Private.Nodes.{entries_of_nodes, are_after_parents, rooted_content};
+    ghost use Rattle.glob_tree.specs.declared.kind.Kind.{Kind};
 
     ghost Value = { List (Key × Kind) };
 
     ghost view = { λ a. entries_of_nodes a.nodes.items };
 
-    ghost invariant = { λ a. IsTrue (stand_after 1 a.nodes.items) × IsTrue (is_content (content_at (entries_of_nodes a.nodes.items) 0)) };
+    ghost invariant = { λ a. IsTrue (are_after_parents 1 a.nodes.items)
+        × IsTrue (is_content (rooted_content (entries_of_nodes a.nodes.items))) };
 }
 
 impl<A: Allocator> Nodes<A> {
-    /// No nodes.
+    /// The root alone.
     pub(super) fn new(alloc: A) -> Self
         ensures { result ≡ root_entry ∷ [] }
     {
@@ -57,18 +60,18 @@ impl<A: Allocator> Nodes<A> {
     pub(super) fn root(&self) -> usize
         ensures root { entry_numbered self.now result ≡ root_entry }
         ensures inside { result < length self.now }
-        ensures content { is_content (content_at self.now 0) ≡ true }
+        ensures content { is_content (rooted_content self.now) ≡ true }
     {
         // A proof has the invariant where a field is read.
         let _nodes = &self.nodes;
         0
     }
 
-    /// The node of this number, where it is not the root's.
+    /// The node of this number, and none for the root.
     fn node(&self, number: usize) -> Option<&Node<A>>
         requires { number < length self.now }
         ensures node { IsNode self.now number result }
-        ensures held { kind_at (content_at self.now 0) (entry_numbered self.now number).0 ≡ Some (entry_numbered self.now number).1 }
+        ensures stands { IsKindAt self.now number (kind_numbered self.now number) }
     {
         let nodes = self.nodes.as_slice();
         if number == 0 {
@@ -77,7 +80,7 @@ impl<A: Allocator> Nodes<A> {
         nodes.get(number - 1)
     }
 
-    /// Adds a node in a directory, where no node has its name yet.
+    /// Adds a node to a directory in which its name is free.
     pub(super) fn add(
         &mut self,
         directory: usize,
@@ -85,11 +88,11 @@ impl<A: Allocator> Nodes<A> {
         kind: Kind,
     ) -> Result<(), AllocError>
         requires inside { directory < length self.old }
-        requires directory { is_dir (entry_numbered self.old directory).1 ≡ true }
+        requires directory { is_dir (kind_numbered self.old directory) ≡ true }
         requires utf8 { is_utf8 name ≡ true }
         requires proper { is_proper name ≡ true }
-        requires free { kind_at (content_at self.old 0) ((entry_numbered self.old directory).0 ++ name ∷ []) ≡ None }
-        ensures added { OnOk result (self.new ≡ self.old ++ ((entry_numbered self.old directory).0 ++ name ∷ [], kind) ∷ []) }
+        requires free { IsFree self.old directory name }
+        ensures added { OnOk result (self.new ≡ entries_with self.old directory name kind) }
         ensures refused { OnErr result (self.new ≡ self.old) }
     {
         self.nodes.push(Node {
@@ -100,11 +103,11 @@ impl<A: Allocator> Nodes<A> {
         Ok(())
     }
 
-    /// What stands there.
+    /// Of what kind the entry of this number is.
     pub(super) fn kind(&self, number: usize) -> Kind
         requires { number < length self.now }
-        ensures kind { result ≡ (entry_numbered self.now number).1 }
-        ensures held { kind_at (content_at self.now 0) (entry_numbered self.now number).0 ≡ Some result }
+        ensures kind { result ≡ kind_numbered self.now number }
+        ensures stands { IsKindAt self.now number result }
     {
         match self.node(number) {
             None => Kind::Dir,
@@ -112,10 +115,10 @@ impl<A: Allocator> Nodes<A> {
         }
     }
 
-    /// Its directory, and the root's own.
+    /// The number of the directory it is in; the root is in itself.
     fn parent(&self, number: usize) -> usize
         requires { number < length self.now }
-        ensures key { (entry_numbered self.now result).0 ≡ parent_key (entry_numbered self.now number).0 }
+        ensures key { key_numbered self.now result ≡ parent_key (key_numbered self.now number) }
         ensures number { result < length self.now }
     {
         match self.node(number) {
@@ -124,19 +127,21 @@ impl<A: Allocator> Nodes<A> {
         }
     }
 
-    /// The node with this name in a directory.
+    /// The number of the entry with this name in a directory.
     pub(super) fn child(&self, directory: usize, name: &str) -> Option<usize>
         requires { directory < length self.now }
-        ensures { Leads self.now result (child_key (content_at self.now 0) (entry_numbered self.now directory).0 name.now) }
+        ensures { Leads self.now result
+            (child_key (rooted_content self.now) (key_numbered self.now directory) name.now) }
     {
         let place = place_of(self.nodes.as_slice(), directory, name)?;
         Some(place + 1)
     }
 
-    /// Where a piece of a path leads from a node.
+    /// Where one piece of a path leads from here.
     fn step(&self, number: usize, piece: &str) -> Option<usize>
         requires { number < length self.now }
-        ensures { Leads self.now result (step (content_at self.now 0) piece.now (entry_numbered self.now number).0) }
+        ensures { Leads self.now result
+            (step (rooted_content self.now) piece.now (key_numbered self.now number)) }
     {
         if !self.kind(number).is_dir() {
             return None;
@@ -150,10 +155,11 @@ impl<A: Allocator> Nodes<A> {
         self.child(number, piece)
     }
 
-    /// Where the pieces of a path lead from a node.
+    /// Where the pieces of a path lead from `start`, one after another.
     fn follow(&self, start: usize, path: &str) -> Option<usize>
         requires { start < length self.now }
-        ensures { Leads self.now result (steps (content_at self.now 0) (Some (entry_numbered self.now start).0) (pieces path.now)) }
+        ensures { Leads self.now result
+            (steps (rooted_content self.now) (Some (key_numbered self.now start)) (pieces path.now)) }
     {
         let mut number = start;
         for piece in path.split('/') {
@@ -162,10 +168,10 @@ impl<A: Allocator> Nodes<A> {
         Some(number)
     }
 
-    /// The node at which a path begins.
+    /// Where a path begins: at the root or in the current directory.
     fn origin(&self, current: usize, path: &str) -> usize
         requires { current < length self.now }
-        ensures key { (entry_numbered self.now result).0 ≡ origin (content_at self.now current) path.now }
+        ensures key { key_numbered self.now result ≡ origin (content_at self.now current) path.now }
         ensures inside { result < length self.now }
     {
         if path.starts_with('/') {
@@ -174,7 +180,7 @@ impl<A: Allocator> Nodes<A> {
         current
     }
 
-    /// Where a path leads, from the node of this number if it does not begin with `/`.
+    /// Where a path leads, where `current` is the current directory.
     pub(super) fn find(&self, current: usize, path: &str) -> Option<usize>
         requires { current < length self.now }
         ensures { Leads self.now result (resolve (content_at self.now current) path.now) }
@@ -185,7 +191,7 @@ impl<A: Allocator> Nodes<A> {
         self.follow(self.origin(current, path), path)
     }
 
-    /// The directory with these names, or the root.
+    /// The directory that these names lead to from the root; no names are the root.
     pub(super) fn directory(&self, names: Option<&str>) -> Option<usize>
         requires { list_all is_proper (directory_names names) ≡ true }
         ensures { IsDirectoryAt self.now (directory_names names.entry) result }
@@ -197,7 +203,7 @@ impl<A: Allocator> Nodes<A> {
         Some(number)
     }
 
-    /// The node with these names, or the root.
+    /// The entry that these names lead to from the root; no names are the root.
     fn find_names(&self, names: Option<&str>) -> Option<usize>
         requires { list_all is_proper (directory_names names) ≡ true }
         ensures { IsFoundAt self.now (directory_names names.entry) result }
@@ -213,19 +219,21 @@ impl<A: Allocator + Copy> Nodes<A> {
     /// The entries of a directory.
     pub(super) fn entries(&self, alloc: A, directory: usize) -> Result<Vec<Entry<A>, A>, AllocError>
         requires { directory < length self.now }
-        ensures { IfOk result (λ v. entries_of v.items ≡ children (content_at self.now 0) (entry_numbered self.now directory).0) }
+        ensures { IfOk result (λ v.
+            entries_of v.items ≡ children (rooted_content self.now) (key_numbered self.now directory)) }
     {
         entries_in(alloc, self.nodes.as_slice(), directory)
     }
 }
 
-/// The entries of the nodes in a directory.
+/// What a listing returns of the nodes in a directory.
 fn entries_in<A: Allocator + Copy>(
     alloc: A,
     nodes: &[Node<A>],
     directory: usize,
 ) -> Result<Vec<Entry<A>, A>, AllocError>
-    ensures { IfOk result (λ v. entries_of v.items ≡ filter_map (listed_in directory) nodes.now) }
+    ensures { IfOk result (λ v.
+        entries_of v.items ≡ filter_map (listing_entry directory) nodes.now) }
 {
     let mut entries = Vec::new(alloc);
     for node in nodes {
@@ -236,7 +244,7 @@ fn entries_in<A: Allocator + Copy>(
     Ok(entries)
 }
 
-/// What a listing says of a node.
+/// What a listing returns of a node.
 fn entry_at<A: Allocator>(alloc: A, node: &Node<A>) -> Result<Entry<A>, AllocError>
     ensures name { IfOk result (λ entry. entry.name ≡ node.now.name) }
     ensures kind { IfOk result (λ entry. entry.is_dir ≡ is_dir node.now.kind) }
@@ -247,7 +255,7 @@ fn entry_at<A: Allocator>(alloc: A, node: &Node<A>) -> Result<Entry<A>, AllocErr
     })
 }
 
-/// The place of the node with this name in a directory.
+/// The place in the list of the node with this name in a directory, counted from 0.
 fn place_of<A: Allocator>(nodes: &[Node<A>], directory: usize, name: &str) -> Option<usize>
     ensures { result ≡ position (is_named directory name.now) nodes.now }
 {

@@ -1,4 +1,5 @@
 //! A tree in memory: what it refuses, and what it answers.
+use crate::trees::LyingTree;
 use glob::{ListError, Look, MemTree, Tree, TreeRefusal};
 use std::io::ErrorKind;
 use std::process::Abort;
@@ -108,6 +109,20 @@ fn the_root_is_listed(rt: HostRuntime) -> Result<(), Fail> {
             "f" => assert!(rt; !entry.is_dir),
             name => panic!(rt; "{name} is listed"),
         }
+    }
+    Ok(())
+}
+
+#[test]
+fn a_tree_outside_the_library(rt: HostRuntime) -> Result<(), Fail> {
+    let mut tree = LyingTree::new(rt.alloc());
+    assert!(rt; tree.look("/missing")? == Look::Dir);
+    let Ok(entries) = tree.list("/missing") else {
+        panic!(rt; "a lie is not listed");
+    };
+    assert_eq!(rt; entries.len(), 2);
+    for entry in entries.iter() {
+        assert_eq!(rt; entry.name.as_str(), "same");
     }
     Ok(())
 }

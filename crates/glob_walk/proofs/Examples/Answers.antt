@@ -3,7 +3,7 @@ use Rattle.std.specs.Prelude.{◌≡◌, true, false, [], ◌∷◌, codes, refl
 use Rattle.std.specs.declared.io.ErrorKind.TheVariants.{PermissionDenied}
 use Rattle.glob_tree.specs.Content.{Content, is_content, look_result, list_result, Entries, Fails, NoDirectory}
 use Rattle.glob_tree.specs.Paths.{is_here, child, join}
-use Rattle.glob_tree.specs.declared.tree.Kind.TheVariants as kind
+use Rattle.glob_tree.specs.declared.kind.Kind.TheVariants as kind
 use Rattle.glob_tree.specs.declared.tree.Look.TheVariants.{Dir, Other, Missing}
 use Rattle.glob_walk.proofs.Examples.Trees.{computed, dir, file, shut, key}
 

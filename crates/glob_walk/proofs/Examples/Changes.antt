@@ -3,8 +3,8 @@ use Rattle.std.specs.Prelude.{◌≡◌, true, codes, refl, Some, None}
 use Rattle.std.specs.declared.io.ErrorKind.TheVariants.{PermissionDenied, NotFound, NotADirectory}
 use Rattle.glob_tree.specs.Content.{Content, is_content}
 use Rattle.glob_tree.specs.Memory.{empty_content, add_refusal, content_with, current_refusal, directory_key, with_current, list_fault}
-use Rattle.glob_tree.specs.declared.tree.Kind.TheVariants.{Dir, Shut, Other}
-use Rattle.glob_tree.specs.declared.tree.TreeRefusal.TheVariants.{Improper, NoParent, Taken, NoDirectory}
+use Rattle.glob_tree.specs.declared.kind.Kind.TheVariants.{Dir, Shut, Other}
+use Rattle.glob_tree.specs.declared.memory.refusal.TreeRefusal.TheVariants.{Improper, NoParent, Taken, NoDirectory}
 use Rattle.glob_walk.proofs.Examples.Answers.{in_shut}
 use Rattle.glob_walk.proofs.Examples.Trees.{computed}
 

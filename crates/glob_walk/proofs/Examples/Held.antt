@@ -1,7 +1,7 @@
 -- A content with many names, and walks over it from its current directory.
 use Rattle.std.specs.Prelude.{◌≡◌, true, List, [], ◌∷◌, ◌++◌, refl}
 use Rattle.glob_tree.specs.Content.{Content, Key, is_content}
-use Rattle.glob_tree.specs.declared.tree.Kind.{Kind}
+use Rattle.glob_tree.specs.declared.kind.Kind.{Kind}
 use Rattle.glob_walk.proofs.Examples.Trees.{computed, dir, file, in_directory}
 
 abbrev pub letters : List (Key × Kind)

@@ -17,8 +17,8 @@ use Rattle.glob_pattern.specs.Computing.Reading.{units_from}
 use Rattle.glob_pattern.specs.Computing.Deciding.{is_match, tokens_match}
 use Rattle.glob_walk.specs.Goal.{goal, is_plain}
 use Rattle.glob_walk.specs.Order.{path_cmp, keeps_order}
-use Rattle.glob_tree.specs.declared.tree.Kind.{Kind}
-use Rattle.glob_tree.specs.declared.tree.Kind.TheVariants.{Dir, Shut, Other}
+use Rattle.glob_tree.specs.declared.kind.Kind.{Kind}
+use Rattle.glob_tree.specs.declared.kind.Kind.TheVariants.{Dir, Shut, Other}
 use Rattle.glob_pattern.specs.declared.options.MatchOptions.{MatchOptions}
 
 -- opens the definitions by which the rows compute

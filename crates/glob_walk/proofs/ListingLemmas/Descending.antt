@@ -12,7 +12,7 @@ use Rattle.glob_walk.specs.Marks.{Mark, Work}
 use Rattle.glob_walk.specs.Components.{Recursive, Literal, Wild, component_kind, begins_recursive}
 use Rattle.glob_walk.specs.Listing.{Next, after_listing, by_name, by_match, list_directory, is_entered, descent, deepest, levels, enter, meet}
 use Rattle.glob_pattern.specs.declared.options.MatchOptions.{MatchOptions}
-use Rattle.glob_tree.specs.declared.tree.Kind.{Kind}
+use Rattle.glob_tree.specs.declared.kind.Kind.{Kind}
 use Rattle.glob_tree.proofs.ContentLemmas.Membership.{Contains-nil, Contains-cases, Contains-head, Contains-tail}
 use Rattle.glob_tree.proofs.ContentLemmas.Contents.{IsContent, contains_kind_at}
 use Rattle.glob_tree.proofs.ContentLemmas.Directories.{LeadsTo, LeadsTo-list_result, ListsAs, Read, Unreadable, ListsAs-from_leads}

@@ -1,7 +1,29 @@
-use Rattle.glob_lines.specs.Watch.{inner_of}
-use Rattle.glob_lines.proofs.LineLemmas.MatchingLines.{some_lines-none, IfSome-each}
+use Rattle.std.proofs.Common.{subst}
+use Rattle.glob_lines.specs.Lines.{WritesSomeLines, WritesSomeBytes}
+use Rattle.glob_lines.proofs.LineLemmas.KnownMoves.{IfSome-all_read}
+use Rattle.glob_lines.proofs.LineLemmas.MatchingLines.{some_lines-from_front, some_bytes-from_front, some_lines-none, IfSome-each}
 use Rattle.glob_lines.proofs.lines.filter_lines.Goals as goal
 
 pub returns-in_err-input-clause-memory : goal.returns-in_err-input-clause-memory
 returns-in_err-input-clause-memory g c =
-    λ _. IfSome-each _ _ (λ input. some_lines-none c.args.options c.args.pattern.now input (g.W.Write.contents (inner_of c.args.writer.now)))
+    λ _. IfSome-each _ _ (λ input. some_lines-none c.args.options c.args.pattern.now input (g.W.Write.contents c.args.writer.now.inner))
+
+pub returns-clause-memory : goal.returns-clause-memory
+returns-clause-memory g c = λ fault.
+    let o = c.args.options in
+    let pattern = c.args.pattern.now in
+    let old = g.W.Write.contents c.args.writer.now.inner in
+    let new = g.W.Write.contents c.write_lines.new.writer.inner in
+    let some = some_lines-from_front o pattern c.deref.result.now old new (c.write_lines.ensures.memory fault) in
+    IfSome-all_read _ _ _ c.in_ok-input.ensures.bytes c.in_ok-input.ensures.end (λ input. WritesSomeLines o pattern input old new)
+    (subst (λ input. WritesSomeLines o pattern input old new) c.deref.ensures.value some)
+
+pub returns-clause-write_fault : goal.returns-clause-write_fault
+returns-clause-write_fault g c = λ fault.
+    let o = c.args.options in
+    let pattern = c.args.pattern.now in
+    let old = g.W.Write.contents c.args.writer.now.inner in
+    let new = g.W.Write.contents c.write_lines.new.writer.inner in
+    let some = some_bytes-from_front o pattern c.deref.result.now old new (c.write_lines.ensures.write_fault fault) in
+    IfSome-all_read _ _ _ c.in_ok-input.ensures.bytes c.in_ok-input.ensures.end (λ input. WritesSomeBytes o pattern input old new)
+    (subst (λ input. WritesSomeBytes o pattern input old new) c.deref.ensures.value some)

@@ -1,7 +1,8 @@
 use Rattle.std.proofs.Common.{◌≡◌, ◌++◌, ◌∷◌, [], refl, sym, ap, subst, ◌∙◌}
 use Rattle.glob_tree.specs.Content.{kind_at}
-use Rattle.glob_tree.specs.Memory.{MemoryTree, IsPlace}
-use Rattle.glob_tree.specs.Private.Nodes.{entry_numbered, content_at}
+use Rattle.glob_tree.specs.Memory.{MemoryTree}
+use Rattle.glob_tree.specs.Private.Places.{IsPlace}
+use Rattle.glob_tree.specs.Private.Nodes.{key_numbered, content_at}
 use Rattle.glob_tree.proofs.MemoryLemmas.Memory.{kind_any, inside_more, is_content-more, on_ok_holds}
 use Rattle.glob_tree.proofs.memory.MemTree.add.Goals as goal
 
@@ -11,8 +12,8 @@ returns-in_default-clause-answer g c = rw c.in_ok-directory.ensures.allowed refl
 pub add-requires-clause-free : goal.add-requires-clause-free
 add-requires-clause-free g c =
     let place = subst (λ (t : MemoryTree). IsPlace t.content c.args.path.now c.in_ok-directory.directory c.in_ok-directory.name.now) (sym c.self.view_is) c.in_ok-directory.ensures in
-    let k = (entry_numbered c.self.inside.nodes c.in_ok-directory.directory).0 in
-    kind_any c.self.inside.nodes 0 c.self.inside.current (k ++ c.in-Ok.name ∷ [])
+    let k = (key_numbered c.self.inside.nodes c.in_ok-directory.directory) in
+    kind_any c.self.inside.nodes [] (key_numbered c.self.inside.nodes c.self.inside.current) (k ++ c.in-Ok.name ∷ [])
     ∙ ap (λ name. kind_at (content_at c.self.inside.nodes c.self.inside.current) (k ++ name ∷ [])) c.in-Ok.ensures
     ∙ place.free
 
@@ -22,9 +23,9 @@ returns-then-is_err-clause-answer g c = rw c.in_ok-directory.ensures.allowed ref
 pub invariant_of-self-2 : goal.invariant_of-self-2
 invariant_of-self-2 g c =
     let place = subst (λ (t : MemoryTree). IsPlace t.content c.args.path.now c.in_ok-directory.directory c.in_ok-directory.name.now) (sym c.self.view_is) c.in_ok-directory.ensures in
-    let more : c.add.new.self ≡ c.self.inside.nodes ++ ((entry_numbered c.self.inside.nodes c.in_ok-directory.directory).0 ++ c.in_ok-directory.name.now ∷ [], c.args.kind) ∷ [] =
+    let more : c.add.new.self ≡ c.self.inside.nodes ++ ((key_numbered c.self.inside.nodes c.in_ok-directory.directory) ++ c.in_ok-directory.name.now ∷ [], c.args.kind) ∷ [] =
     on_ok_holds c.add.result c.if-is_err.ensures.negation c.add.ensures.added
-    ∙ ap (λ name. c.self.inside.nodes ++ ((entry_numbered c.self.inside.nodes c.in_ok-directory.directory).0 ++ name ∷ [], c.args.kind) ∷ []) c.in-Ok.ensures in
+    ∙ ap (λ name. c.self.inside.nodes ++ ((key_numbered c.self.inside.nodes c.in_ok-directory.directory) ++ name ∷ [], c.args.kind) ∷ []) c.in-Ok.ensures in
     rw more (
       inside_more c.self.inside.nodes c.self.inside.current c.args.path.now c.in_ok-directory.directory c.in_ok-directory.name.now place c.self.invariant.1 c.self.invariant.0 c.args.kind,
       is_content-more c.self.inside.nodes c.self.inside.current c.args.path.now c.in_ok-directory.directory c.in_ok-directory.name.now place c.self.invariant.1 c.self.invariant.0 c.args.kind,
@@ -36,7 +37,7 @@ returns-clause-answer g c = rw c.in_ok-directory.ensures.allowed tt
 pub returns-clause-content : goal.returns-clause-content
 returns-clause-content g c =
     let place = subst (λ (t : MemoryTree). IsPlace t.content c.args.path.now c.in_ok-directory.directory c.in_ok-directory.name.now) (sym c.self.view_is) c.in_ok-directory.ensures in
-    let more : c.add.new.self ≡ c.self.inside.nodes ++ ((entry_numbered c.self.inside.nodes c.in_ok-directory.directory).0 ++ c.in_ok-directory.name.now ∷ [], c.args.kind) ∷ [] =
+    let more : c.add.new.self ≡ c.self.inside.nodes ++ ((key_numbered c.self.inside.nodes c.in_ok-directory.directory) ++ c.in_ok-directory.name.now ∷ [], c.args.kind) ∷ [] =
     on_ok_holds c.add.result c.if-is_err.ensures.negation c.add.ensures.added
-    ∙ ap (λ name. c.self.inside.nodes ++ ((entry_numbered c.self.inside.nodes c.in_ok-directory.directory).0 ++ name ∷ [], c.args.kind) ∷ []) c.in-Ok.ensures in
+    ∙ ap (λ name. c.self.inside.nodes ++ ((key_numbered c.self.inside.nodes c.in_ok-directory.directory) ++ name ∷ [], c.args.kind) ∷ []) c.in-Ok.ensures in
     rw more (is_content-more c.self.inside.nodes c.self.inside.current c.args.path.now c.in_ok-directory.directory c.in_ok-directory.name.now place c.self.invariant.1 c.self.invariant.0 c.args.kind)

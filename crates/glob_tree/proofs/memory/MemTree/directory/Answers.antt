@@ -1,8 +1,9 @@
-use Rattle.std.proofs.Common.{◌≡◌, sym, subst, ◌∙◌, Some}
-use Rattle.glob_tree.specs.Memory.{MemoryTree, IsDirectoryOf, current_refusal}
-use Rattle.glob_tree.specs.Private.Nodes.{content_at}
+use Rattle.std.proofs.Common.{◌≡◌, [], sym, subst, ◌∙◌, Some}
+use Rattle.glob_tree.specs.Memory.{MemoryTree, current_refusal}
+use Rattle.glob_tree.specs.Private.Places.{IsDirectoryOf}
+use Rattle.glob_tree.specs.Private.Nodes.{key_numbered, content_at}
 use Rattle.glob_text.specs.Pieces.{pieces}
-use Rattle.glob_tree.specs.declared.tree.TreeRefusal.TheVariants.{NoDirectory}
+use Rattle.glob_tree.specs.declared.memory.refusal.TreeRefusal.TheVariants.{NoDirectory}
 use Rattle.glob_tree.proofs.MemoryLemmas.Memory.{root_named, directory_named, current_no_directory, is_dir_any}
 use Rattle.glob_tree.proofs.memory.MemTree.directory.Goals as goal
 
@@ -15,7 +16,7 @@ pub returns-in_default-directory : goal.returns-in_default-directory
 returns-in_default-directory g c =
     let k = pieces c.in-Some.names.now in
     let refused = current_no_directory (content_at c.self.inside.nodes c.self.inside.current) c.args.path.now k (sym c.if-eq.ensures) c.in-Some.ensures.0
-    (is_dir_any c.self.inside.nodes c.self.inside.current 0 k ∙ c.in_default-directory.ensures) in
+    (is_dir_any c.self.inside.nodes (key_numbered c.self.inside.nodes c.self.inside.current) [] k ∙ c.in_default-directory.ensures) in
     subst (λ (t : MemoryTree). current_refusal t.content c.args.path.now ≡ Some NoDirectory) c.self.view_is refused
 
 pub returns : goal.returns

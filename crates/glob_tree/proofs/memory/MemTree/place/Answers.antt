@@ -1,9 +1,10 @@
 use Rattle.std.proofs.Common.{◌≡◌, sym, subst, Some}
 use Rattle.glob_tree.specs.Content.{child_key}
-use Rattle.glob_tree.specs.Private.Nodes.{content_at}
-use Rattle.glob_tree.specs.Memory.{MemoryTree, add_refusal, IsPlace}
+use Rattle.glob_tree.specs.Private.Nodes.{rooted_content}
+use Rattle.glob_tree.specs.Memory.{MemoryTree, add_refusal}
+use Rattle.glob_tree.specs.Private.Places.{IsPlace}
 use Rattle.glob_tree.specs.Private.Numbers.{Leads, directory_names}
-use Rattle.glob_tree.specs.declared.tree.TreeRefusal.TheVariants.{NoParent, Taken}
+use Rattle.glob_tree.specs.declared.memory.refusal.TreeRefusal.TheVariants.{NoParent, Taken}
 use Rattle.glob_tree.proofs.MemoryLemmas.Memory.{refused_no_parent, refused_taken, a_place}
 use Rattle.glob_tree.proofs.memory.MemTree.place.Goals as goal
 
@@ -17,7 +18,7 @@ pub returns-then-is_some : goal.returns-then-is_some
 returns-then-is_some g c =
     let refused = refused_taken c.self.inside.nodes c.self.inside.current c.args.path.now c.in-Some.names.now (directory_names c.last_name.result.0) c.last_name.result.1.now
     c.in-Some.ensures.0 c.last_name.ensures.names c.child.result c.in-Some-directory.ensures.3
-    (subst (λ k. Leads c.self.inside.nodes c.child.result (child_key (content_at c.self.inside.nodes 0) k c.last_name.result.1.now)) c.in-Some-directory.ensures.1 c.child.ensures) (sym c.if-is_some.ensures) in
+    (subst (λ k. Leads c.self.inside.nodes c.child.result (child_key (rooted_content c.self.inside.nodes) k c.last_name.result.1.now)) c.in-Some-directory.ensures.1 c.child.ensures) (sym c.if-is_some.ensures) in
     subst (λ (t : MemoryTree). add_refusal t.content c.args.path.now ≡ Some Taken) c.self.view_is refused
 
 pub returns : goal.returns
@@ -25,5 +26,5 @@ returns g c =
     let found = a_place c.self.inside.nodes c.self.inside.current c.args.path.now c.in-Some.names.now (directory_names c.last_name.result.0) c.last_name.result.1.now
     c.in-Some.ensures.0 c.last_name.ensures.names c.in-Some-directory.number c.child.result c.in-Some-directory.ensures.0 c.in-Some-directory.ensures.1 c.in-Some-directory.ensures.2
     c.in-Some-directory.ensures.3 c.in-Some.ensures.1 c.last_name.ensures.utf8
-    (subst (λ k. Leads c.self.inside.nodes c.child.result (child_key (content_at c.self.inside.nodes 0) k c.last_name.result.1.now)) c.in-Some-directory.ensures.1 c.child.ensures) (sym c.if-is_some.ensures) in
+    (subst (λ k. Leads c.self.inside.nodes c.child.result (child_key (rooted_content c.self.inside.nodes) k c.last_name.result.1.now)) c.in-Some-directory.ensures.1 c.child.ensures) (sym c.if-is_some.ensures) in
     subst (λ (t : MemoryTree). IsPlace t.content c.args.path.now c.in-Some-directory.number c.last_name.result.1.now) c.self.view_is found

@@ -5,7 +5,7 @@ use Rattle.std.specs.Str.Pattern.{FindsChar}
 use Rattle.std.proofs.lemmas.Iterator.Splits.{YieldsList-from_str_split}
 use Rattle.glob_text.specs.Pieces.{pieces}
 use Rattle.glob_tree.specs.Content.{steps}
-use Rattle.glob_tree.specs.Private.Nodes.{entry_numbered, content_at}
+use Rattle.glob_tree.specs.Private.Nodes.{key_numbered, rooted_content}
 use Rattle.glob_tree.proofs.MemoryLemmas.Following.{left_after, none_left, follows_some, follows_none}
 use Rattle.glob_tree.proofs.memory.nodes.Nodes.follow.Goals as goal
 
@@ -35,4 +35,4 @@ pub returns : goal.returns
 returns g c =
     let (rest, left, on) = c.loop-piece.invariant.left in
     let none = none_left (split_steps FindsChar (λ a b. b ≡ a)) (λ x. x.now) c.loop-piece.piece-iterator c.next.new.self c.next.result c.next.ensures.steps c.in-None.is rest left in
-    (sym (on ∙ ap (steps (content_at c.args.self.now 0) (Some (entry_numbered c.args.self.now c.loop-piece.number).0)) none), c.loop-piece.invariant.inside)
+    (sym (on ∙ ap (steps (rooted_content c.args.self.now) (Some (key_numbered c.args.self.now c.loop-piece.number))) none), c.loop-piece.invariant.inside)

@@ -5,7 +5,7 @@ use Rattle.std.specs.Str.Pattern.{FindsChar}
 use Rattle.glob_text.specs.Text.{Text}
 use Rattle.glob_text.specs.Pieces.{pieces}
 use Rattle.glob_tree.specs.Content.{steps}
-use Rattle.glob_tree.specs.Private.Nodes.{entry_numbered, content_at}
+use Rattle.glob_tree.specs.Private.Nodes.{key_numbered, rooted_content}
 use Rattle.glob_tree.proofs.memory.nodes.Nodes.follow.Given as goal
 
 -- the pieces that are left lead on from the number
@@ -13,5 +13,5 @@ abbrev pub invariant-loop-piece : goal.invariant-loop-piece
 invariant-loop-piece g l = record {
   inside : l.number < length l.self;
   left : (rest : List Text) × AlwaysYields (split_steps FindsChar (λ a b. b ≡ a)) (λ x. x.now) l.piece-iterator rest
-      × (steps (content_at l.self 0) (Some (entry_numbered l.self l.start).0) (pieces l.path) ≡ steps (content_at l.self 0) (Some (entry_numbered l.self l.number).0) rest);
+      × (steps (rooted_content l.self) (Some (key_numbered l.self l.start)) (pieces l.path) ≡ steps (rooted_content l.self) (Some (key_numbered l.self l.number)) rest);
 }

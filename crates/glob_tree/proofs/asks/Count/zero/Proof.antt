@@ -1,4 +1,4 @@
--- `new` makes the empty struct, with the count that its clause names.
+-- `zero` makes the empty struct, with the number that its clause names.
 use mathlib.Core.Path.{refl}
 use mathlib.Core.List.{[], ◌∷◌}
 use seplogic.Ra.Ura.{Ura}
@@ -21,11 +21,11 @@ use denote.Triple.Entry.{on_entry, alive}
 use denote.Triple.Spec.{Meets, triple_of}
 use denote.Triple.Table.{entered}
 use denote.Triple.Walked.{says, Stays, walk_of, Walks, ends_at, walked, walk_Meets}
-use Rattle.glob_tree.specs.contracts.asks.Asks as asks
-use Rattle.glob_tree.specs.contracts.asks.Asks.new as f
-use Rattle.glob_tree.specs.contracts.asks.Asks.new.Key.{name}
-use Rattle.glob_tree.proofs.asks.Asks.new.Statement as stated
-use Rattle.glob_tree.proofs.asks.Asks.new.Code as code
+use Rattle.glob_tree.specs.contracts.asks.Count as count
+use Rattle.glob_tree.specs.contracts.asks.Count.zero as f
+use Rattle.glob_tree.specs.contracts.asks.Count.zero.Key.{name}
+use Rattle.glob_tree.proofs.asks.Count.zero.Statement as stated
+use Rattle.glob_tree.proofs.asks.Count.zero.Code as code
 
 -- it has no parameter that stays
 abbrev stayed : Stays (f.ended).signature.params (f.ended).kept
@@ -44,8 +44,8 @@ module _ {M : Type 1} {𝓤 : Ura M} (𝓛 : Logic 𝓤) (mem : Memory → SProp
       qed 𝓛 (raw (alive 𝓛 f.signature tt tt) ∷ ‵ (owns [] tt tt) ∷ []) ∵ enter ! C Λ code.function [] _ $
       alloc_all ! (λ l. pass_all ! refl tt $ sets ! (agg ! (no_more !)) refl (tt, tt) $
       returns ! (look_at ! 0 refl) $ free_all ! refl $
-      suffices ! _ (ends_at 𝓛 f.ended stayed (f.clauses 𝓛 mem run) bound (vstruct vnil) (record { count = 0 }) tt tt) $
-      says ! refl $ pure_i ! (asks.the_row.own_val (record { count = 0 }) (vstruct vnil ∷ [])) ((λ vss. (tt, tt)), tt) ((tt, (refl, tt)), tt) $
+      suffices ! _ (ends_at 𝓛 f.ended stayed (f.clauses 𝓛 mem run) bound (vstruct vnil) (record { number = 0 }) tt tt) $
+      says ! refl $ pure_i ! (count.the_row.own_val (record { number = 0 }) (vstruct vnil ∷ [])) ((λ vss. (tt, tt)), tt) ((tt, (refl, tt)), tt) $
       move ! (1 ∷ 2 ∷ 0 ∷ []) $ done !)
 
   walks : Walks 𝓛 f.ended stayed (WpFn 𝓤 H C Λ code.function) (f.clauses 𝓛 mem run)
@@ -59,9 +59,9 @@ meets {𝓤 = 𝓤} 𝓛 mem run 𝓣 =
     walk_Meets 𝓛 f.ended stayed tt (f.clauses 𝓛 mem run) (WpFn 𝓤 𝓛.H 𝓣.C 𝓣.Λ code.function)
     (WpFn-mono 𝓤 𝓛.H 𝓛.laws 𝓣 code.function) (walks 𝓛 mem run 𝓣.C 𝓣.Λ)
 
-pub new_spec : {M : Type 1} → stated.statement M
+pub zero_spec : {M : Type 1} → stated.statement M
 unfolding tables_of
-new_spec 𝓤 𝓛 𝓜 𝓡 wired =
+zero_spec 𝓤 𝓛 𝓜 𝓡 wired =
     entered 𝓤 𝓛.H (triple_of 𝓛 f.signature (f.spec 𝓛 𝓜.mem 𝓡.returns))
     (tables 𝓤 𝓛.H 𝓜 𝓡 𝓡.env).C (tables 𝓤 𝓛.H 𝓜 𝓡 𝓡.env).Λ name code.function (code.unfolded 𝓤 𝓛.H 𝓜 𝓡 wired)
     (meets 𝓛 𝓜.mem 𝓡.returns (tables_of 𝓤 𝓛.H 𝓜 (tables 𝓤 𝓛.H 𝓜 𝓡 𝓡.env)))

@@ -1,4 +1,4 @@
--- `after` makes the empty struct, with the count that its clause names.
+-- `plus` makes the empty struct, with the number that its clause names.
 use mathlib.Core.Path.{refl}
 use mathlib.Core.List.{[], ◌∷◌}
 use Prim.Native.Nat.{◌+◌}
@@ -32,15 +32,15 @@ use denote.Triple.Spec.{Meets, triple_of}
 use denote.Triple.Table.{entered}
 use denote.Triple.Walked.{says, stay_dropped, Stays, walk_of, Walks, ends_at, walked, Goes-dropped, walk_Meets}
 use Rattle.std.proofs.Common.{w64}
-use Rattle.glob_tree.specs.contracts.asks.Asks as asks
-use Rattle.glob_tree.specs.contracts.asks.Asks.after as f
-use Rattle.glob_tree.specs.contracts.asks.Asks.after.Key.{name}
-use Rattle.glob_tree.proofs.asks.Asks.after.Statement as stated
-use Rattle.glob_tree.proofs.asks.Asks.after.Code as code
+use Rattle.glob_tree.specs.contracts.asks.Count as count
+use Rattle.glob_tree.specs.contracts.asks.Count.plus as f
+use Rattle.glob_tree.specs.contracts.asks.Count.plus.Key.{name}
+use Rattle.glob_tree.proofs.asks.Count.plus.Statement as stated
+use Rattle.glob_tree.proofs.asks.Count.plus.Code as code
 
 -- nothing is left of the parameters
 abbrev stayed : Stays (f.ended).signature.params (f.ended).kept
-stayed = (stay_dropped (RefOf (0 ∷ []) tt (plain (λ _. asks.the_row)) (λ _. tt)) yes, (stay_dropped (plain (λ _. usize)) yes, tt))
+stayed = (stay_dropped (RefOf (0 ∷ []) tt (plain (λ _. count.the_row)) (λ _. tt)) yes, (stay_dropped (plain (λ _. usize)) yes, tt))
 
 module _ {M : Type 1} {𝓤 : Ura M} (𝓛 : Logic 𝓤) (mem : Memory → SProp 𝓤) (run : Routine → Fun 𝓤) (C : Calls 𝓤 𝓛.H) (Λ : Loops 𝓤 𝓛.H) where
   open 𝓛 use {H}
@@ -67,26 +67,26 @@ module _ {M : Type 1} {𝓤 : Ura M} (𝓛 : Logic 𝓤) (mem : Memory → SProp
         qed 𝓛 (raw (alive 𝓛 f.signature κs qs) ∷ ‵ passed ∷ []) ∵ enter ! C Λ code.function (before ∷ more ∷ []) _ $
         alloc_all ! (λ l. pass_all ! refl ((tt, tt), ((tt, record { fits = fits.fits }), tt)) $ sets ! (agg ! (no_more !)) refl (tt, tt) $
         returns ! (look_at ! 0 refl) $ free_all ! refl $
-        suffices ! _ (ends_at 𝓛 f.ended stayed (f.clauses 𝓛 mem run) bound (vstruct vnil) (record { count = a.0.now.count + a.1.0 }) (tt, (tt, tt)) (tt, (tt, tt))) $
-        says ! refl $ pure_i ! (asks.the_row.own_val (record { count = a.0.now.count + a.1.0 }) (vstruct vnil ∷ [])) ((λ vss. (tt, tt)), tt) ((tt, (refl, tt)), tt) $
+        suffices ! _ (ends_at 𝓛 f.ended stayed (f.clauses 𝓛 mem run) bound (vstruct vnil) (record { number = a.0.now.number + a.1.0 }) (tt, (tt, tt)) (tt, (tt, tt))) $
+        says ! refl $ pure_i ! (count.the_row.own_val (record { number = a.0.now.number + a.1.0 }) (vstruct vnil ∷ [])) ((λ vss. (tt, tt)), tt) ((tt, (refl, tt)), tt) $
         move ! (2 ∷ 0 ∷ 1 ∷ []) $ drop ! $ nothing ! $ nothing ! $ join ! $ nothing ! $ join ! $ move ! (2 ∷ 0 ∷ 1 ∷ []) $ done !)
 
   walks : Walks 𝓛 f.ended stayed (WpFn 𝓤 H C Λ code.function) (f.clauses 𝓛 mem run)
   walks =
       walked 𝓛 f.ended stayed (f.clauses 𝓛 mem run) (WpFn 𝓤 H C Λ code.function) (λ κs. (shr_vals, (uint_vals w64, tt)))
-      (λ κs. (shr_Tells (named 0) κs.0 asks.the_row, (uint_Tells w64, tt)))
+      (λ κs. (shr_Tells (named 0) κs.0 count.the_row, (uint_Tells w64, tt)))
       (λ κs qs bounds a g are. via 𝓤 _ (fst∗ 𝓤 _ (emp 𝓤)) (walk κs qs a (record { fits = are.1.0.1 })))
 
 meets : {M : Type 1} {𝓤 : Ura M} (𝓛 : Logic 𝓤) (mem : Memory → SProp 𝓤) (run : Routine → Fun 𝓤) (𝓣 : Tables 𝓤 𝓛.H)
     → Meets 𝓛 f.signature (WpFn 𝓤 𝓛.H 𝓣.C 𝓣.Λ code.function) (f.spec 𝓛 mem run)
 meets {𝓤 = 𝓤} 𝓛 mem run 𝓣 =
-    walk_Meets 𝓛 f.ended stayed (Goes-dropped 𝓛 1 (RefOf (0 ∷ []) tt (plain (λ _. asks.the_row)) (λ _. tt)) yes (λ κs x w. refl), (Goes-dropped 𝓛 1 (plain (λ _. usize)) yes (λ κs x w. refl), tt))
+    walk_Meets 𝓛 f.ended stayed (Goes-dropped 𝓛 1 (RefOf (0 ∷ []) tt (plain (λ _. count.the_row)) (λ _. tt)) yes (λ κs x w. refl), (Goes-dropped 𝓛 1 (plain (λ _. usize)) yes (λ κs x w. refl), tt))
     (f.clauses 𝓛 mem run) (WpFn 𝓤 𝓛.H 𝓣.C 𝓣.Λ code.function)
     (WpFn-mono 𝓤 𝓛.H 𝓛.laws 𝓣 code.function) (walks 𝓛 mem run 𝓣.C 𝓣.Λ)
 
-pub after_spec : {M : Type 1} → stated.statement M
+pub plus_spec : {M : Type 1} → stated.statement M
 unfolding tables_of
-after_spec 𝓤 𝓛 𝓜 𝓡 wired =
+plus_spec 𝓤 𝓛 𝓜 𝓡 wired =
     entered 𝓤 𝓛.H (triple_of 𝓛 f.signature (f.spec 𝓛 𝓜.mem 𝓡.returns))
     (tables 𝓤 𝓛.H 𝓜 𝓡 𝓡.env).C (tables 𝓤 𝓛.H 𝓜 𝓡 𝓡.env).Λ name code.function (code.unfolded 𝓤 𝓛.H 𝓜 𝓡 wired)
     (meets 𝓛 𝓜.mem 𝓡.returns (tables_of 𝓤 𝓛.H 𝓜 (tables 𝓤 𝓛.H 𝓜 𝓡 𝓡.env)))

@@ -1,0 +1,25 @@
+//! What stands at a key of a tree.
+ghost use Rattle.std.specs.Prelude.{◌≡◌};
+ghost use Rattle.glob_tree.specs.Content.{is_dir};
+
+use std::io;
+
+/// What stands at a key of a tree.
+#[derive(Clone, Copy, PartialEq, Eq, Debug)]
+pub(crate) enum Kind {
+    /// A directory.
+    Dir,
+    /// A directory that cannot be listed: a listing fails with an error of this kind.
+    Shut(io::ErrorKind),
+    /// Anything else.
+    Other,
+}
+
+impl Kind {
+    /// Whether it is a directory, shut or not.
+    pub(crate) fn is_dir(self) -> bool
+        ensures { result ≡ is_dir self }
+    {
+        matches!(self, Kind::Dir | Kind::Shut(_))
+    }
+}

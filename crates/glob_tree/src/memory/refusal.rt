@@ -1,0 +1,14 @@
+/// Why a tree in memory refused a change. Where several reasons hold, the first of them is reported.
+#[derive(Clone, Copy, PartialEq, Eq, Debug)]
+pub enum TreeRefusal {
+    /// The path is not `/` and one or more proper names joined by `/`.
+    Improper,
+    /// The path without its last name leads to no directory.
+    NoParent,
+    /// Something stands at the path already.
+    Taken,
+    /// The path leads to no directory, so it cannot become the current one.
+    NoDirectory,
+    /// The memory for the change could not be allocated.
+    Memory,
+}
