@@ -17,7 +17,7 @@ use crate::grammar;
 use crate::matcher::{self, Judge, Shape};
 use crate::options::MatchOptions;
 use crate::token::Token;
-use crate::token::bracket::Class;
+use crate::token::bracket::Bracket;
 use judge::TextJudge;
 use std::alloc::{AllocError, Allocator, Global};
 use std::marker::Model;
@@ -27,7 +27,7 @@ use std::path::Path;
 #[derive(Drop)]
 pub struct Pattern<A: Allocator = Global> {
     text: String<A>,
-    tokens: Vec<Token<Class<A>>, A>,
+    tokens: Vec<Token<Bracket<A>>, A>,
     shapes: Vec<Shape, A>,
     masks: Vec<u64, A>,
     alloc: A,

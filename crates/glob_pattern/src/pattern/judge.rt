@@ -8,7 +8,7 @@ use crate::matcher::Judge;
 use crate::options::MatchOptions;
 use crate::pattern::masks::take_known;
 use crate::token::Token;
-use crate::token::bracket::Class;
+use crate::token::bracket::Bracket;
 use crate::token::taking::{take_left, takes};
 use std::alloc::Allocator;
 use std::str::Chars;
@@ -16,7 +16,7 @@ use std::str::Chars;
 /// Asks of a text what a pattern's tokens take.
 #[derive(Drop)]
 pub struct TextJudge<'a, A: Allocator> {
-    tokens: &'a [Token<Class<A>>],
+    tokens: &'a [Token<Bracket<A>>],
     masks: &'a [u64],
     options: MatchOptions,
     text: &'a str,
@@ -35,7 +35,7 @@ impl<'a, A: Allocator> TextJudge<'a, A> {
     /// Before the first character, with nothing asked.
     #[inline(always)]
     pub fn new(
-        tokens: &'a [Token<Class<A>>],
+        tokens: &'a [Token<Bracket<A>>],
         masks: &'a [u64],
         text: &'a str,
         options: MatchOptions,

@@ -9,7 +9,7 @@ ghost use Rattle.glob_pattern.specs.Private.Masks.{in_row, is_kept, AreMasks};
 
 use crate::options::MatchOptions;
 use crate::token::Token;
-use crate::token::bracket::{Class, Entry};
+use crate::token::bracket::{Bracket, Entry};
 use crate::token::taking::is_kept_dot;
 use std::alloc::{AllocError, Allocator};
 
@@ -28,7 +28,7 @@ const ROWS: usize = 131;
 /// The masks of the tokens: for each 64 of them a word for each row. It fails only for want of memory.
 pub fn masks_of<A: Allocator + Copy>(
     alloc: A,
-    tokens: &[Token<Class<A>>],
+    tokens: &[Token<Bracket<A>>],
 ) -> Result<Vec<u64, A>, AllocError>
     ensures { IfOk result (λ masks. AreMasks tokens.now (length tokens.now) masks.items) }
 {
@@ -95,7 +95,7 @@ fn kept(masks: &[u64], word: usize, options: MatchOptions, opening: bool, c: cha
 }
 
 /// Sets the bits of all tokens, where none is set yet.
-fn add_all<A: Allocator>(masks: &mut [u64], tokens: &[Token<Class<A>>])
+fn add_all<A: Allocator>(masks: &mut [u64], tokens: &[Token<Bracket<A>>])
     requires { AreMasks tokens.now 0 masks.old }
     ensures { AreMasks tokens.now (length tokens.now) masks.new }
 {
@@ -105,7 +105,7 @@ fn add_all<A: Allocator>(masks: &mut [u64], tokens: &[Token<Class<A>>])
 }
 
 /// Sets the bit of token `n` in the rows that it is of.
-fn add<A: Allocator>(masks: &mut [u64], n: usize, token: &Token<Class<A>>)
+fn add<A: Allocator>(masks: &mut [u64], n: usize, token: &Token<Bracket<A>>)
     requires room { 131 * (n / 64) + 131 ≤ length masks.old }
     requires clear { (row : ℕ) → row < 131 → IsSet (slice_index_or masks.old (131 * (n / 64) + row) 0) (n % 64) → ⊥ }
     ensures length { length masks.new ≡ length masks.old }
@@ -126,13 +126,13 @@ fn add<A: Allocator>(masks: &mut [u64], n: usize, token: &Token<Class<A>>)
             paint(masks, first, bit, '\0', '\u{7f}', true);
             masks[first + DEEP] = put_bit(masks[first + DEEP], bit, true);
         }
-        Token::Within(class) => {
-            paint_entries(masks, first, bit, class.entries(), true);
+        Token::Within(bracket) => {
+            paint_entries(masks, first, bit, bracket.entries(), true);
             masks[first + BRACKETS] = put_bit(masks[first + BRACKETS], bit, true);
         }
-        Token::Except(class) => {
+        Token::Except(bracket) => {
             paint(masks, first, bit, '\0', '\u{7f}', true);
-            paint_entries(masks, first, bit, class.entries(), false);
+            paint_entries(masks, first, bit, bracket.entries(), false);
             masks[first + BRACKETS] = put_bit(masks[first + BRACKETS], bit, true);
         }
     }
