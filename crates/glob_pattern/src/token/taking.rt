@@ -20,7 +20,7 @@ pub fn takes<A: Allocator>(
     match token {
         Token::Plain(x) => bracket::is_same(options.case_sensitive, c, *x),
         Token::Any | Token::Run => is_free(options, opening, c),
-        Token::Deep => !is_kept_dot(options, opening, c),
+        Token::Deep => !is_excluded_dot(options, opening, c),
         Token::Within(bracket) => {
             is_free(options, opening, c) && bracket.holds(c, options.case_sensitive)
         }
@@ -34,13 +34,13 @@ pub fn takes<A: Allocator>(
 fn is_free(options: MatchOptions, opening: bool, c: char) -> bool
     ensures { result ≡ taking.is_free options opening c }
 {
-    !(options.require_literal_separator && c == '/') && !is_kept_dot(options, opening, c)
+    !(options.require_literal_separator && c == '/') && !is_excluded_dot(options, opening, c)
 }
 
 /// Whether the dot rule keeps the character from wildcards.
 #[inline(always)]
-pub fn is_kept_dot(options: MatchOptions, opening: bool, c: char) -> bool
-    ensures { result ≡ taking.is_kept_dot options opening c }
+pub fn is_excluded_dot(options: MatchOptions, opening: bool, c: char) -> bool
+    ensures { result ≡ taking.is_excluded_dot options opening c }
 {
     options.require_literal_leading_dot && opening && c == '.'
 }
