@@ -1,7 +1,7 @@
 pub mod Advancing
 pub mod Alive
-pub mod Leading
-pub mod LeadingOnes
+pub mod Prefixes
+pub mod TakenPrefixes
 pub mod ManyWords
 pub mod Spreading
-pub mod WordRows
+pub mod PositionWords

@@ -1,4 +1,4 @@
-pub mod Leading
+pub mod Prefixes
 pub mod Masks
 pub mod Patterns
 pub mod Positions

@@ -10,13 +10,13 @@ ghost use Rattle.glob_pattern.specs.Computing.Reading.{stars_at, close_from, bra
 use crate::error::{PatternError, PatternRefusal};
 use crate::matcher::Shape;
 use crate::token::Token;
-use crate::token::bracket::Class;
+use crate::token::bracket::Bracket;
 use std::alloc::{AllocError, Allocator};
 
 /// The shapes of the tokens, in order. It fails only for want of memory.
 pub fn shapes_of<A: Allocator + Copy>(
     alloc: A,
-    tokens: &[Token<Class<A>>],
+    tokens: &[Token<Bracket<A>>],
 ) -> Result<Vec<Shape, A>, AllocError>
     ensures { IfOk result (λ shapes. shapes.items ≡ map shape_of tokens.now) }
 {
@@ -25,8 +25,8 @@ pub fn shapes_of<A: Allocator + Copy>(
 
 /// The same tokens on the same allocator. It fails only for want of memory.
 pub fn clone_tokens<A: Allocator + Copy>(
-    tokens: &Vec<Token<Class<A>>, A>,
-) -> Result<Vec<Token<Class<A>>, A>, AllocError>
+    tokens: &Vec<Token<Bracket<A>>, A>,
+) -> Result<Vec<Token<Bracket<A>>, A>, AllocError>
     ensures { IfOk result (λ copies. copies.items ≡ tokens.now.items) }
 {
     tokens.clone()
@@ -36,7 +36,7 @@ pub fn clone_tokens<A: Allocator + Copy>(
 pub fn read_tokens<A: Allocator + Copy>(
     alloc: A,
     pattern: &str,
-) -> Result<Vec<Token<Class<A>>, A>, PatternRefusal>
+) -> Result<Vec<Token<Bracket<A>>, A>, PatternRefusal>
     ensures accepted { IfOk result (λ tokens. HasTokens (chars pattern.now) tokens.items) }
     ensures refused { IfErr result (Refuses (chars pattern.now)) }
 {
@@ -48,7 +48,7 @@ pub fn read_tokens<A: Allocator + Copy>(
 fn read_text<A: Allocator + Copy>(
     alloc: A,
     text: &[char],
-) -> Result<Vec<Token<Class<A>>, A>, PatternRefusal>
+) -> Result<Vec<Token<Bracket<A>>, A>, PatternRefusal>
     ensures accepted { IfOk result (λ tokens. HasTokens text.now tokens.items) }
     ensures refused { IfErr result (Refuses text.now) }
 {
@@ -68,8 +68,8 @@ fn read_text<A: Allocator + Copy>(
 
 /// Puts the token of the next unit at the end. Neighbouring deep ones are one.
 fn push_unit<A: Allocator>(
-    tokens: &mut Vec<Token<Class<A>>, A>,
-    token: Token<Class<A>>,
+    tokens: &mut Vec<Token<Bracket<A>>, A>,
+    token: Token<Bracket<A>>,
 ) -> Result<(), AllocError>
     ensures { OnOk result ((units : List Kept) → tokens.old.items ≡ tokens_of_units units → tokens.new.items ≡ tokens_of_units (units ++ token ∷ [])) }
 {
@@ -81,7 +81,7 @@ fn push_unit<A: Allocator>(
 }
 
 /// Whether the last token is deep.
-fn ends_deep<A: Allocator>(tokens: &[Token<Class<A>>]) -> bool
+fn ends_deep<A: Allocator>(tokens: &[Token<Bracket<A>>]) -> bool
     ensures { result ≡ ends_deep tokens.now }
 {
     match tokens {
@@ -95,7 +95,7 @@ fn unit_at<A: Allocator + Copy>(
     alloc: A,
     text: &[char],
     place: usize,
-) -> Result<Option<(Token<Class<A>>, usize)>, AllocError>
+) -> Result<Option<(Token<Bracket<A>>, usize)>, AllocError>
     requires { place < length text.now }
     ensures { IfOk result (λ unit. unit ≡ unit_at text.now place) }
 {
@@ -112,7 +112,7 @@ fn unit_at<A: Allocator + Copy>(
 }
 
 /// The stars at a place as a unit.
-fn stars_at<A: Allocator>(text: &[char], place: usize) -> Option<(Token<Class<A>>, usize)>
+fn stars_at<A: Allocator>(text: &[char], place: usize) -> Option<(Token<Bracket<A>>, usize)>
     requires { place < length text.now }
     ensures { result ≡ stars_at text.now place }
 {
@@ -134,16 +134,16 @@ fn bracket_at<A: Allocator + Copy>(
     alloc: A,
     text: &[char],
     place: usize,
-) -> Result<Option<(Token<Class<A>>, usize)>, AllocError>
+) -> Result<Option<(Token<Bracket<A>>, usize)>, AllocError>
     requires { place < length text.now }
     ensures { IfOk result (λ unit. unit ≡ bracket_at text.now place) }
 {
     if has(text, place + 1, '!') {
         let found = content_from(alloc, text, place + 2)?;
-        Ok(found.map(|(class, end)| (Token::Except(class), end)))
+        Ok(found.map(|(bracket, end)| (Token::Except(bracket), end)))
     } else {
         let found = content_from(alloc, text, place + 1)?;
-        Ok(found.map(|(class, end)| (Token::Within(class), end)))
+        Ok(found.map(|(bracket, end)| (Token::Within(bracket), end)))
     }
 }
 
@@ -152,12 +152,12 @@ fn content_from<A: Allocator>(
     alloc: A,
     text: &[char],
     start: usize,
-) -> Result<Option<(Class<A>, usize)>, AllocError>
+) -> Result<Option<(Bracket<A>, usize)>, AllocError>
     requires { start ≤ length text.now + 1 }
     ensures { IfOk result (λ found. found ≡ option_map (λ close. (entries_of (between text.now start close), close + 1)) (close_from text.now (start + 1))) }
 {
     match close_from(text, start + 1) {
-        Some(close) => Ok(Some((Class::read(alloc, &text[start..close])?, close + 1))),
+        Some(close) => Ok(Some((Bracket::read(alloc, &text[start..close])?, close + 1))),
         None => Ok(None),
     }
 }

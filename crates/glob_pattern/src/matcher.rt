@@ -7,9 +7,9 @@ mod one_word;
 mod prefix;
 mod shape_masks;
 
-use many_words::run_many;
-use one_word::run_few;
-use prefix::take_ones;
+use many_words::run_many_words;
+use one_word::run_one_word;
+use prefix::take_prefix;
 use std::alloc::{AllocError, Allocator};
 
 /// Which pieces a token may have.
@@ -117,15 +117,15 @@ pub fn run_positions<A: Allocator + Copy, J: Judge>(
     // At most 63 shapes take no memory.
     ensures small { length shapes.now < 64 → IsOk result }
 {
-    let Some(lead) = take_ones(shapes, judge) else {
+    let Some(prefix) = take_prefix(shapes, judge) else {
         return Ok(false);
     };
-    if lead == shapes.len() {
+    if prefix == shapes.len() {
         return Ok(!judge.step());
     }
     if shapes.len() < 64 {
-        Ok(run_few(shapes, lead, judge))
+        Ok(run_one_word(shapes, prefix, judge))
     } else {
-        run_many(alloc, shapes, lead, judge)
+        run_many_words(alloc, shapes, prefix, judge)
     }
 }

@@ -1,6 +1,6 @@
 ghost use Rattle.std.specs.Prelude.{◌≡◌, ◌*◌, ◌≤◌, ◌↔◌, [], length, IsTrue, IsOk, IfOk, IfErr, chars};
 ghost use Rattle.glob_pattern.specs.Matching.Short.{IsShort};
-ghost use Rattle.glob_pattern.specs.Private.Masks.{AreMasks};
+ghost use Rattle.glob_pattern.specs.Private.Masks.{AreAllMasks};
 ghost use Rattle.std.specs.Path.{path_bytes};
 ghost use Rattle.glob_pattern.specs.Grammar.Units.{IsAccepted};
 ghost use Rattle.glob_pattern.specs.Grammar.Faults.{Refuses};
@@ -17,8 +17,9 @@ use crate::grammar;
 use crate::matcher::{self, Judge, Shape};
 use crate::options::MatchOptions;
 use crate::token::Token;
-use crate::token::bracket::Class;
+use crate::token::bracket::Bracket;
 use judge::TextJudge;
+use masks::TokenMasks;
 use std::alloc::{AllocError, Allocator, Global};
 use std::marker::Model;
 use std::path::Path;
@@ -27,11 +28,11 @@ use std::path::Path;
 #[derive(Drop)]
 pub struct Pattern<A: Allocator = Global> {
     text: String<A>,
-    tokens: Vec<Token<Class<A>>, A>,
+    tokens: Vec<Token<Bracket<A>>, A>,
     shapes: Vec<Shape, A>,
-    masks: Vec<u64, A>,
+    masks: Vec<TokenMasks, A>,
     alloc: A,
-    ghost masked: { AreMasks tokens.items (length tokens.items) masks.items },
+    ghost masked: { AreAllMasks tokens.items masks.items },
 }
 
 impl<A: Allocator> Model for Pattern<A> {

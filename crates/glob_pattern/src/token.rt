@@ -5,7 +5,7 @@ pub mod bracket;
 pub mod taking;
 
 use crate::matcher::Shape;
-use bracket::Class;
+use bracket::Bracket;
 use std::alloc::Allocator;
 
 /// What a unit of a pattern stands for, where a bracket is kept as `C`.
@@ -25,7 +25,7 @@ pub enum Token<C> {
     Except(C),
 }
 
-impl<A: Allocator> Token<Class<A>> {
+impl<A: Allocator> Token<Bracket<A>> {
     /// Which pieces the token may have.
     pub fn shape(&self) -> Shape
         ensures { result ≡ shape_of self.now }

@@ -1,28 +1,28 @@
--- Words of a list in which one bit of one word is put.
-use Rattle.std.proofs.Common.{◌≡◌, ℕ, ◌<◌, ◌≢◌, ◌⊎◌, ◌↔◌, Bool, IsTrue, List, length, get_or, set, refl, inl, inr, ⊎_elim, get_or-set_other, get_or-set_same}
-use Rattle.std.proofs.lemmas.Bool.{cases_eq}
+-- Masks in which one bit is put.
+use Rattle.std.proofs.Common.{ℕ, ◌↔◌}
 use Rattle.glob_pattern.specs.Matching.Bits.{IsSet}
+use Rattle.glob_pattern.specs.Private.Masks.{IsPut}
 
--- the word is the old one, with the bit put to `on`
-abbrev pub IsPut : (old new bit : ℕ) (on : Bool) → Type 0
-IsPut old new bit on = (j : ℕ) → j < 64 → IsSet new j ↔ (((j ≡ bit) × IsTrue on) ⊎ ((j ≢ bit) × IsSet old j))
+-- a mask without the bit stays as it is
+pub IsPut-same : (mask bit : ℕ) (P : Type 0) → ¬ (IsSet mask bit) → ¬ P → IsPut mask mask bit P
+IsPut-same mask bit P clear fails = record {
+  here = (λ s. absurd (clear s), λ p. absurd (fails p));
+  others = λ j lt ne. (λ s. s, λ s. s);
+}
 
-module _ (words : List ℕ) (at new bit : ℕ) (on : Bool) (within : at < length words) (low : bit < 64) (put : IsPut (get_or words at 0) new bit on) where
-  -- the bit is what it was put to
-  pub put-here : (i : ℕ) → i ≡ at → IsSet (get_or (set words at new) i 0) bit ↔ IsTrue on
-  put-here i e =
-      let is : get_or (set words at new) i 0 ≡ new = rw e (get_or-set_same words at new 0 within) in
-      let p = put bit low in
-      rw is (λ s. ⊎_elim (λ (same, t). t) (λ (ne, s). absurd (ne refl)) (p.0 s), λ t. p.1 (inl (refl, t)))
+-- of two bits put in one place the second stays
+pub IsPut-after : (old between new bit : ℕ) (P Q : Type 0) → IsPut old between bit P → IsPut between new bit Q → IsPut old new bit Q
+IsPut-after old between new bit P Q first second = record {
+  here = second.here;
+  others = λ j lt ne.
+      let earlier = first.others j lt ne in
+      let later = second.others j lt ne in
+      (λ s. earlier.0 (later.0 s), λ s. later.1 (earlier.1 s));
+}
 
-  -- and all others are as they were
-  pub put-there : (i j : ℕ) → j < 64 → (j ≡ bit → i ≡ at → ⊥) → IsSet (get_or (set words at new) i 0) j ↔ IsSet (get_or words i 0) j
-  put-there i j lt other =
-      ⊎_elim
-      (λ e.
-      let is : get_or (set words at new) i 0 ≡ new = rw e (get_or-set_same words at new 0 within) in
-      let p = put j lt in
-      let ne : j ≢ bit = λ same. other same e in
-      rw (is, e) (λ s. ⊎_elim (λ (same, t). absurd (ne same)) (λ (n, s). s) (p.0 s), λ s. p.1 (inr (ne, s))))
-      (λ ne. let is : get_or (set words at new) i 0 ≡ get_or words i 0 = get_or-set_other words at i new 0 ne in rw is (λ s. s, λ s. s))
-      (cases_eq i at)
+-- the fact may be said otherwise
+pub IsPut-iff : (old new bit : ℕ) (P Q : Type 0) → P ↔ Q → IsPut old new bit P → IsPut old new bit Q
+IsPut-iff old new bit P Q iff put = record {
+  here = (λ s. iff.0 (put.here.0 s), λ q. put.here.1 (iff.1 q));
+  others = put.others;
+}

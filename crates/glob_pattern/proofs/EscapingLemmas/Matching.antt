@@ -8,7 +8,7 @@ use Rattle.glob_text.specs.Text.{Text, between}
 use Rattle.glob_pattern.specs.Grammar.Brackets.{same, entries_of}
 use Rattle.glob_pattern.specs.Grammar.Tokens.{Token, is_deep}
 use Rattle.glob_pattern.specs.Grammar.Units.{UnitAt, HasTokens}
-use Rattle.glob_pattern.specs.Matching.Taking.{is_kept_separator, is_kept_dot, is_free}
+use Rattle.glob_pattern.specs.Matching.Taking.{is_excluded_separator, is_excluded_dot, is_free}
 use Rattle.glob_pattern.specs.Matching.Texts.{Matches}
 use Rattle.glob_pattern.specs.Escaping.{is_special, escaped_character, escaped_text}
 use Rattle.glob_pattern.specs.Laws.{SameTexts, EscapedAccepted, EscapedMatchesSame, EscapedMatchesItself}
@@ -108,8 +108,8 @@ same-special case c x special h =
 -- no rule keeps a special character from wildcards
 special-is_free : (o : MatchOptions) (opening : Bool) (c : ℕ) → IsTrue (is_special c) → IsTrue (is_free o opening c)
 special-is_free o opening c special =
-    and_from _ _ (not_from_false (is_kept_separator o c) (and_right o.require_literal_separator (c == slash) (ne_eqb c slash (special-apart c slash special refl))))
-    (not_from_false (is_kept_dot o opening c) (and_right (o.require_literal_leading_dot && opening) (c == dot) (ne_eqb c dot (special-apart c dot special refl))))
+    and_from _ _ (not_from_false (is_excluded_separator o c) (and_right o.require_literal_separator (c == slash) (ne_eqb c slash (special-apart c slash special refl))))
+    (not_from_false (is_excluded_dot o opening c) (and_right (o.require_literal_leading_dot && opening) (c == dot) (ne_eqb c dot (special-apart c dot special refl))))
 
 -- a test that says yes where another does changes nothing before that one
 and-implied : (a b : Bool) → (IsTrue b → IsTrue a) → (a && (b || false)) ≡ b

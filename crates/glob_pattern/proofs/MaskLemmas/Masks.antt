@@ -1,91 +1,104 @@
--- Which tokens are of which row of masks.
-use Rattle.std.proofs.Common.{◌≡◌, ℕ, suc, ◌+◌, ◌<◌, ◌≤◌, ◌⊎◌, ◌↔◌, ◌*◌, ◌/◌, ◌%◌, true, false, ◌==◌, nat_lt, IsTrue, List, length, get_or, replicate, take, drop, [], ◌++◌, refl, sym, ap, inl, inr, ◌∙◌, ⊎_elim, arith}
-use Rattle.std.proofs.lemmas.List.{get_or-replicate, get_or_past, length-replicate, drop_all, take_all, append-nil}
-use Rattle.std.proofs.lemmas.Bool.{le-leb, eq-eqb, ne_eqb, cases_eq, cases_lt, false≢true}
-use Rattle.std.proofs.Math.Bool.{or-false}
-use Rattle.glob_pattern.specs.Grammar.Tokens.{Token}
-use Rattle.glob_pattern.specs.Matching.Taking.{takes}
-use Rattle.glob_pattern.specs.Matching.Options.{new_options}
-use Rattle.glob_pattern.specs.Private.Masks.{in_row, AreMasks}
+-- Masks of the first tokens, and of one token more.
+use Rattle.std.proofs.Common.{◌≡◌, ℕ, ◌+◌, ◌-◌, ◌*◌, ◌/◌, ◌<◌, ◌≤◌, ◌↔◌, Bool, false, ◌==◌, true, IsTrue, List, [], ◌∷◌, ◌++◌, length, get_or, replicate, refl, sym, ap, subst, ◌∙◌, ⊎_elim, arith}
+use Rattle.std.proofs.lemmas.List.{get_or-replicate, get_or_append_left, get_or_push}
+use Rattle.std.proofs.lemmas.Bool.{cases_eq}
+use Rattle.glob_pattern.specs.Grammar.Tokens.{Token, is_deep}
 use Rattle.glob_pattern.specs.Matching.Bits.{IsSet}
+use Rattle.glob_pattern.specs.Matching.Options.{new_options}
+use Rattle.glob_pattern.specs.Matching.Taking.{takes}
+use Rattle.glob_pattern.specs.Private.Masks.{mask_of, is_any_or_run, is_bracket, IsMask, AreMasks, IsPut, IsClear}
+use Rattle.glob_pattern.specs.declared.pattern.masks.TokenMasks.{TokenMasks}
+use Rattle.glob_pattern.specs.declared.token.Token.TheVariants.{Any}
 use Rattle.glob_pattern.proofs.BitLemmas.SetBits.{IsSet-zero}
-use Rattle.glob_pattern.specs.declared.token.Token.TheVariants.{Plain, Any}
 
--- the row of a character
-pub in_row-character : (row : ℕ) (t : Token) → row < 128 → in_row row t ≡ takes new_options true row t
-in_row-character row t lt = let is : nat_lt row 128 ≡ true = le-leb (suc row) 128 lt in rw is refl
-
--- after the rows of characters come three
-row_cases : (row : ℕ) → row < 131 → (row < 128) ⊎ ((row ≡ 128) ⊎ ((row ≡ 129) ⊎ (row ≡ 130)))
-row_cases row lt = ⊎_elim inl (λ le. inr (⊎_elim inl (λ ne. inr (⊎_elim inl (λ other. inr (omega arith)) (cases_eq row 129))) (cases_eq row 128))) (cases_lt row 128)
-
--- no plain token is of a row after those of the characters
-plain-above : (row c r : ℕ) → 128 ≤ r → in_row r (Plain c) ≡ false → row ≡ r → IsTrue (in_row row (Plain c)) ↔ ((row ≡ c) × (row < 128))
-plain-above row c r high is e =
-    let here : in_row row (Plain c) ≡ false = ap (λ x. in_row x (Plain c)) e ∙ is in
-    (λ t. absurd (false≢true (sym here ∙ t)), λ (_, low). absurd (omega arith))
-
--- a plain token is of the row of its character alone
-pub in_row-plain : (row c : ℕ) → row < 131 → IsTrue (in_row row (Plain c)) ↔ ((row ≡ c) × (row < 128))
-in_row-plain row c lt =
-    ⊎_elim
-    (λ low.
-    let is : in_row row (Plain c) ≡ (row == c) = in_row-character row (Plain c) low ∙ or-false (row == c) in
-    ⊎_elim
-    (λ e. (λ _. (e, low), λ _. is ∙ eq-eqb row c e))
-    (λ ne. (λ t. absurd (false≢true (sym (is ∙ ne_eqb row c ne) ∙ t)), λ (e, _). absurd (ne e)))
-    (cases_eq row c))
-    (⊎_elim (plain-above row c 128 (omega arith) refl) (⊎_elim (plain-above row c 129 (omega arith) refl) (plain-above row c 130 (omega arith) refl)))
-    (row_cases row lt)
-
--- words of zeros
-zeros_at : (n i : ℕ) → ◌≡◌ {A = ℕ} (get_or (replicate n 0) i 0) 0
-zeros_at n i = ⊎_elim (λ lt. get_or-replicate n i 0 0 lt) (λ le. get_or_past (replicate n 0) i 0 (omega (arith, length-replicate {A = ℕ} n 0))) (cases_lt i n)
-
--- before the first token no bit is set
-pub AreMasks-none : (tokens : List Token) (masks : List ℕ) → length masks ≡ 131 * ((length tokens + 63) / 64) → (n : ℕ) → masks ≡ replicate n 0 → AreMasks tokens 0 masks
-AreMasks-none tokens masks count n zeros = record {
-  count = count;
-  row = λ row word j lt within low. (λ s. absurd (IsSet-zero j (rw (zeros, zeros_at) at s)), λ (below, _). absurd (omega arith));
+-- of no tokens no bit is set
+IsMask-none : (tokens : List Token) (start : ℕ) (test : Token → Bool) (mask : ℕ) → mask ≡ 0 → IsMask tokens start start test mask
+IsMask-none tokens start test mask zero = record {
+  bit = λ j lt. (λ s. absurd (IsSet-zero j (rw zero at s)), λ (below, _). absurd (omega arith));
 }
 
--- the bit of the next token is not set
-pub AreMasks-clear : (tokens : List Token) (n : ℕ) (masks : List ℕ) → AreMasks tokens n masks → n < length tokens
-    → (row : ℕ) → row < 131 → IsSet (get_or masks (131 * (n / 64) + row) 0) (n % 64) → ⊥
-AreMasks-clear tokens n masks are lt row low set =
-    let (below, _) = (are.row row (n / 64) (n % 64) low (omega (arith, are.count)) (omega arith)).0 set in omega arith
+pub AreMasks-none : (tokens : List Token) (start : ℕ) (masks : TokenMasks) → masks.characters ≡ replicate 128 0
+    → masks.any_or_run ≡ 0 → masks.deep ≡ 0 → masks.brackets ≡ 0 → AreMasks tokens start start masks
+AreMasks-none tokens start masks characters any_or_run deep brackets = record {
+  characters = λ c lt. IsMask-none tokens start _ _ (ap (λ l. get_or l c 0) characters ∙ get_or-replicate 128 c 0 0 lt);
+  any_or_run = IsMask-none tokens start _ _ any_or_run;
+  deep = IsMask-none tokens start _ _ deep;
+  brackets = IsMask-none tokens start _ _ brackets;
+}
+
+-- the bit of the next token is set nowhere
+pub AreMasks-clear : (tokens : List Token) (start n : ℕ) (masks : TokenMasks) → AreMasks tokens start n masks → start ≤ n → n < start + 64
+    → IsClear masks (n - start)
+AreMasks-clear tokens start n masks are from near =
+    let clear : (test : Token → Bool) (mask : ℕ) → IsMask tokens start n test mask → ¬ (IsSet mask (n - start)) =
+    λ test mask is s. let (below, _) = (is.bit (n - start) (omega arith)).0 s in omega arith in
+    record {
+      characters = λ c lt. clear (takes new_options true c) (mask_of c masks) (are.characters c lt);
+      any_or_run = clear is_any_or_run masks.any_or_run are.any_or_run;
+      deep = clear is_deep masks.deep are.deep;
+      brackets = clear is_bracket masks.brackets are.brackets;
+    }
 
 -- one token more
-pub AreMasks-more : (tokens : List Token) (n : ℕ) (masks new : List ℕ) (token : Token) → AreMasks tokens n masks → n < length tokens → token ≡ get_or tokens n Any → length new ≡ length masks
-    → ((row : ℕ) → row < 131 → IsSet (get_or new (131 * (n / 64) + row) 0) (n % 64) ↔ IsTrue (in_row row token))
-    → ((i j : ℕ) → j < 64 → (j ≡ n % 64 → (row : ℕ) → row < 131 → i ≡ 131 * (n / 64) + row → ⊥) → IsSet (get_or new i 0) j ↔ IsSet (get_or masks i 0) j)
-    → AreMasks tokens (n + 1) new
-AreMasks-more tokens n masks new token are lt is same here others = record {
-  count = same ∙ are.count;
-  row = λ row word j low within lt64.
+pub IsMask-more : (tokens : List Token) (start n : ℕ) (test : Token → Bool) (token : Token) (old new : ℕ) → start ≤ n → token ≡ get_or tokens n Any
+    → IsMask tokens start n test old → IsPut old new (n - start) (IsTrue (test token)) → IsMask tokens start (n + 1) test new
+IsMask-more tokens start n test token old new from is before put = record {
+  bit = λ j lt.
       ⊎_elim
       (λ e.
-      let at_word : word ≡ n / 64 = omega arith in
-      let at_bit : j ≡ n % 64 = omega arith in
-      let put : IsSet (get_or new (131 * word + row) 0) j ↔ IsTrue (in_row row token) = rw (at_word, at_bit) (here row low) in
-      let token_is : token ≡ get_or tokens (64 * word + j) Any = is ∙ ap (λ i. get_or tokens i Any) (sym e) in
-      rw (← token_is) (λ s. (omega arith, put.0 s), λ (_, t). put.1 t))
+      let at : start + j ≡ n = omega arith in
+      let here : IsSet new j ↔ IsTrue (test token) = rw e put.here in
+      rw (at, ← is) (λ s. (omega arith, here.0 s), λ (_, t). here.1 t))
       (λ ne.
-      let kept = others (131 * word + row) j lt64 (λ e r below at. ne (omega (arith, e, at))) in
-      let old = are.row row word j low (omega (arith, same)) lt64 in
-      (λ s. let (below, t) = old.0 (kept.0 s) in (omega arith, t), λ (below, t). kept.1 (old.1 (omega arith, t))))
-      (cases_eq (64 * word + j) n);
+      let same = put.others j lt ne in
+      let was = before.bit j lt in
+      (λ s. let (below, t) = was.0 (same.0 s) in (omega arith, t), λ (below, t). same.1 (was.1 (omega arith, t))))
+      (cases_eq j (n - start));
 }
 
--- what is written back to a vector of the same length
-pub written_back : (old new : List ℕ) (n : ℕ) → length old ≡ n → length new ≡ n → take n (new ++ drop (length new) old) ≡ new
-written_back old new n was is =
-    let rest : drop (length new) old ≡ [] = drop_all (length new) old (omega (arith, was, is)) in
-    rw (rest, append-nil) (take_all n new (omega (arith, is)))
+-- masks up to a number that has all of 64 tokens, or all tokens, are those of all tokens
+pub IsMask-all : (tokens : List Token) (start n : ℕ) (test : Token → Bool) (mask : ℕ) → n ≤ length tokens → (n < length tokens → start + 64 ≤ n)
+    → IsMask tokens start n test mask → IsMask tokens start (length tokens) test mask
+IsMask-all tokens start n test mask within full is = record {
+  bit = λ j lt.
+      let bit = is.bit j lt in
+      (λ s. let (below, t) = bit.0 s in (omega arith, t), λ (below, t). bit.1 (⊎_elim (λ e. omega arith) (λ ne. omega (arith, full (omega arith))) (cases_eq n (length tokens)), t));
+}
 
--- what a row tells of a token
-pub masked : (tokens : List Token) (masks : List ℕ) → AreMasks tokens (length tokens) masks → (word j : ℕ) → 131 * word + 131 ≤ length masks → j < 64 → 64 * word + j < length tokens
-    → (row : ℕ) → row < 131 → IsSet (get_or masks (131 * word + row) 0) j ↔ IsTrue (in_row row (get_or tokens (64 * word + j) Any))
-masked tokens masks are word j room lt below row low =
-    let h = are.row row word j low (omega arith) lt in
-    (λ s. let (_, t) = h.0 s in t, λ t. h.1 (below, t))
+pub AreMasks-more : (tokens : List Token) (start n : ℕ) (token : Token) (old new : TokenMasks) → start ≤ n → token ≡ get_or tokens n Any → AreMasks tokens start n old
+    → ((c : ℕ) → c < 128 → IsPut (mask_of c old) (mask_of c new) (n - start) (IsTrue (takes new_options true c token)))
+    → IsPut old.any_or_run new.any_or_run (n - start) (IsTrue (is_any_or_run token))
+    → IsPut old.deep new.deep (n - start) (IsTrue (is_deep token))
+    → IsPut old.brackets new.brackets (n - start) (IsTrue (is_bracket token))
+    → AreMasks tokens start (n + 1) new
+AreMasks-more tokens start n token old new from is are characters any_or_run deep brackets = record {
+  characters = λ c lt. IsMask-more tokens start n (takes new_options true c) token _ _ from is (are.characters c lt) (characters c lt);
+  any_or_run = IsMask-more tokens start n is_any_or_run token _ _ from is are.any_or_run any_or_run;
+  deep = IsMask-more tokens start n is_deep token _ _ from is are.deep deep;
+  brackets = IsMask-more tokens start n is_bracket token _ _ from is are.brackets brackets;
+}
+
+pub AreMasks-all : (tokens : List Token) (start n : ℕ) (masks : TokenMasks) → n ≤ length tokens → (n < length tokens → start + 64 ≤ n)
+    → AreMasks tokens start n masks → AreMasks tokens start (length tokens) masks
+AreMasks-all tokens start n masks within full are = record {
+  characters = λ c lt. IsMask-all tokens start n (takes new_options true c) _ within full (are.characters c lt);
+  any_or_run = IsMask-all tokens start n is_any_or_run _ within full are.any_or_run;
+  deep = IsMask-all tokens start n is_deep _ within full are.deep;
+  brackets = IsMask-all tokens start n is_bracket _ within full are.brackets;
+}
+
+-- the masks of 64 tokens more at the end of a list
+pub masks-push : (tokens : List Token) (n : ℕ) (list : List TokenMasks) (masks : TokenMasks) → length list ≡ n
+    → ((i : ℕ) (d : TokenMasks) → i < n → AreMasks tokens (64 * i) (length tokens) (get_or list i d))
+    → AreMasks tokens (64 * n) (length tokens) masks
+    → (i : ℕ) (d : TokenMasks) → i < n + 1 → AreMasks tokens (64 * i) (length tokens) (get_or (list ++ masks ∷ []) i d)
+masks-push tokens n list masks count before here i d lt =
+    ⊎_elim
+    (λ e. let at : get_or (list ++ masks ∷ []) i d ≡ masks = get_or_push list masks d i (omega arith) in rw at (subst (λ j. AreMasks tokens (64 * j) (length tokens) masks) (sym e) here))
+    (λ ne. let at : get_or (list ++ masks ∷ []) i d ≡ get_or list i d = get_or_append_left list (masks ∷ []) d i (omega arith) in rw at (before i d (omega arith)))
+    (cases_eq i n)
+
+-- what a mask says of a token that there is
+pub IsMask-within : (tokens : List Token) (start : ℕ) (test : Token → Bool) (mask : ℕ) → IsMask tokens start (length tokens) test mask
+    → (j : ℕ) → j < 64 → start + j < length tokens → IsSet mask j ↔ IsTrue (test (get_or tokens (start + j) Any))
+IsMask-within tokens start test mask is j lt below = let bit = is.bit j lt in (λ s. let (_, t) = bit.0 s in t, λ t. bit.1 (below, t))

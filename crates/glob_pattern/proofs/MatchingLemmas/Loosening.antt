@@ -5,7 +5,7 @@ use Rattle.glob_text.specs.Characters.{slash, dot}
 use Rattle.glob_text.specs.Text.{Text, opens}
 use Rattle.glob_pattern.specs.Grammar.Brackets.{holds}
 use Rattle.glob_pattern.specs.Grammar.Tokens.{Token}
-use Rattle.glob_pattern.specs.Matching.Taking.{is_kept_separator, is_kept_dot, is_free, takes}
+use Rattle.glob_pattern.specs.Matching.Taking.{is_excluded_separator, is_excluded_dot, is_free, takes}
 use Rattle.glob_pattern.specs.Matching.Texts.{AreAllowed}
 use Rattle.glob_pattern.specs.Laws.{IsLooser, TokensLoosened, PatternsLoosened}
 use Rattle.glob_pattern.specs.declared.options.MatchOptions.{MatchOptions}
@@ -22,11 +22,11 @@ and-less : (a b c : Bool) → (IsTrue b → IsTrue a) → IsTrue (b && c) → Is
 and-less a b c less h = and_from a c (less (and_parts b c h).0) (and_parts b c h).1
 
 -- a looser separator rule keeps `/` where a strict one does, or not at all
-kept_separator-less : (strict loose : MatchOptions) (c : ℕ) → IsLooser strict loose → IsTrue (is_kept_separator loose c) → IsTrue (is_kept_separator strict c)
+kept_separator-less : (strict loose : MatchOptions) (c : ℕ) → IsLooser strict loose → IsTrue (is_excluded_separator loose c) → IsTrue (is_excluded_separator strict c)
 kept_separator-less strict loose c less = and-less strict.require_literal_separator loose.require_literal_separator (c == slash) less.1
 
 -- and so the dot rule
-kept_dot-less : (strict loose : MatchOptions) (opening : Bool) (c : ℕ) → IsLooser strict loose → IsTrue (is_kept_dot loose opening c) → IsTrue (is_kept_dot strict opening c)
+kept_dot-less : (strict loose : MatchOptions) (opening : Bool) (c : ℕ) → IsLooser strict loose → IsTrue (is_excluded_dot loose opening c) → IsTrue (is_excluded_dot strict opening c)
 kept_dot-less strict loose opening c less =
     and-less (strict.require_literal_leading_dot && opening) (loose.require_literal_leading_dot && opening) (c == dot)
     (and-less strict.require_literal_leading_dot loose.require_literal_leading_dot opening less.2)
@@ -34,9 +34,9 @@ kept_dot-less strict loose opening c less =
 -- what strict rules leave free, looser ones do
 is_free-looser : (strict loose : MatchOptions) (opening : Bool) (c : ℕ) → IsLooser strict loose → IsTrue (is_free strict opening c) → IsTrue (is_free loose opening c)
 is_free-looser strict loose opening c less h =
-    let free : IsTrue (not (is_kept_separator strict c)) × IsTrue (not (is_kept_dot strict opening c)) = and_parts _ _ h in
-    and_from _ _ (not-from_less (is_kept_separator strict c) (is_kept_separator loose c) (kept_separator-less strict loose c less) free.0)
-    (not-from_less (is_kept_dot strict opening c) (is_kept_dot loose opening c) (kept_dot-less strict loose opening c less) free.1)
+    let free : IsTrue (not (is_excluded_separator strict c)) × IsTrue (not (is_excluded_dot strict opening c)) = and_parts _ _ h in
+    and_from _ _ (not-from_less (is_excluded_separator strict c) (is_excluded_separator loose c) (kept_separator-less strict loose c less) free.0)
+    (not-from_less (is_excluded_dot strict opening c) (is_excluded_dot loose opening c) (kept_dot-less strict loose opening c less) free.1)
 
 -- a token takes under looser rules what it takes under strict ones
 takes-looser : (strict loose : MatchOptions) (opening : Bool) (c : ℕ) (t : Token) → IsLooser strict loose → IsTrue (takes strict opening c t) → IsTrue (takes loose opening c t)
@@ -44,7 +44,7 @@ takes-looser strict loose opening c (Plain x) less h = rw less.0 h
 takes-looser strict loose opening c Any less h = is_free-looser strict loose opening c less h
 takes-looser strict loose opening c Run less h = is_free-looser strict loose opening c less h
 takes-looser strict loose opening c Deep less h =
-    not-from_less (is_kept_dot strict opening c) (is_kept_dot loose opening c) (kept_dot-less strict loose opening c less) h
+    not-from_less (is_excluded_dot strict opening c) (is_excluded_dot loose opening c) (kept_dot-less strict loose opening c less) h
 takes-looser strict loose opening c (Within entries) less h =
     let entries_of_nodes : IsTrue (is_free strict opening c) × IsTrue (holds strict.case_sensitive c entries) = and_parts _ _ h in
     and_from _ _ (is_free-looser strict loose opening c less entries_of_nodes.0) (subst (λ case. IsTrue (holds case c entries)) (sym less.0) entries_of_nodes.1)

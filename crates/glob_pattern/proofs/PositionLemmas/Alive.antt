@@ -3,8 +3,8 @@ use Rattle.std.proofs.Common.{◌≡◌, ℕ, zero, suc, ◌+◌, ◌<◌, ◌�
 use Rattle.std.proofs.lemmas.Bool.{cases_eq}
 use Rattle.std.proofs.lemmas.List.{drop_all, get_or_past}
 use Rattle.glob_pattern.specs.Matching.Splits.{Table, TakesAll, MayReach, Splits}
-use Rattle.glob_pattern.specs.Private.Leading.{LeadingSplit, IsAlive, HasTaken}
-use Rattle.glob_pattern.proofs.PositionLemmas.Leading.{Splits-iff_leading}
+use Rattle.glob_pattern.specs.Private.Prefixes.{PrefixSplits, IsAlive, HasTaken}
+use Rattle.glob_pattern.proofs.PositionLemmas.Prefixes.{Splits-iff_prefix}
 use Rattle.glob_pattern.specs.declared.matcher.Shape.{Shape}
 use Rattle.glob_pattern.specs.declared.matcher.Shape.TheVariants.{One, Run, Deep}
 
@@ -15,13 +15,13 @@ MayEnd table shapes n k = (suc n ≡ length shapes) ⊎ IsTrue (table.opens k)
 -- The two ways to be alive with n shapes, where the next is `shape`: those split the characters before place k, or the
 -- next piece, which may be longer than a character, has taken the last of them.
 abbrev pub ComesAlive : Table → List Shape → (shape : Shape) → (n k : ℕ) → Type 0
-ComesAlive table shapes shape n k = LeadingSplit table shapes n k ⊎ (HasTaken table shapes n k × (shape ≢ One))
+ComesAlive table shapes shape n k = PrefixSplits table shapes n k ⊎ (HasTaken table shapes n k × (shape ≢ One))
 
 -- The two ways to split with one shape more: its piece is empty, where it may be, or it has taken the last character
 -- and ends, where it may.
 abbrev pub ComesWhole : Table → List Shape → (shape : Shape) → (n k : ℕ) → Type 0
 ComesWhole table shapes shape n k =
-    (LeadingSplit table shapes n k × (shape ≢ One))
+    (PrefixSplits table shapes n k × (shape ≢ One))
     ⊎ (HasTaken table shapes n k × (shape ≡ Deep → MayEnd table shapes n k))
 
 module _ (table : Table) (shapes : List Shape) (n : ℕ) where
@@ -39,45 +39,45 @@ module _ (table : Table) (shapes : List Shape) (n : ℕ) where
   TakesAll-fewer i k all j from below = all j from (omega arith)
 
   -- a piece that may be longer than a character has taken all since it began
-  HasTaken-since : get_or shapes n One ≢ One → (k i : ℕ) → i ≤ k → i ≢ k → LeadingSplit table shapes n i → TakesAll table n i k → HasTaken table shapes n k
+  HasTaken-since : get_or shapes n One ≢ One → (k i : ℕ) → i ≤ k → i ≢ k → PrefixSplits table shapes n i → TakesAll table n i k → HasTaken table shapes n k
   unfolding HasTaken IsAlive
-  HasTaken-since grows zero i le ne lead all = absurd (omega arith)
-  HasTaken-since grows (suc k) i le ne lead all =
+  HasTaken-since grows zero i le ne prefix all = absurd (omega arith)
+  HasTaken-since grows (suc k) i le ne prefix all =
       let before : i ≤ k = omega arith in
-      ((i, before, lead, TakesAll-fewer i k all, inr grows), all k before (omega arith))
+      ((i, before, prefix, TakesAll-fewer i k all, inr grows), all k before (omega arith))
 
   -- a piece begins and takes its first character
-  HasTaken-first : (i : ℕ) → LeadingSplit table shapes n i → IsTrue (table.takes n i) → HasTaken table shapes n (suc i)
+  HasTaken-first : (i : ℕ) → PrefixSplits table shapes n i → IsTrue (table.takes n i) → HasTaken table shapes n (suc i)
   unfolding HasTaken IsAlive
-  HasTaken-first i lead takes = ((i, omega arith, lead, TakesAll-none i, inl refl), takes)
+  HasTaken-first i prefix takes = ((i, omega arith, prefix, TakesAll-none i, inl refl), takes)
 
   -- where the piece began that has taken a character
-  piece-from_taken : (k : ℕ) → HasTaken table shapes n k → (i : ℕ) × (i ≤ k) × LeadingSplit table shapes n i × TakesAll table n i k
+  piece-from_taken : (k : ℕ) → HasTaken table shapes n k → (i : ℕ) × (i ≤ k) × PrefixSplits table shapes n i × TakesAll table n i k
   unfolding HasTaken IsAlive
   piece-from_taken zero none = absurd none
-  piece-from_taken (suc k) ((i, le, lead, all, here), takes) = (i, omega arith, lead, TakesAll-more i k all takes)
+  piece-from_taken (suc k) ((i, le, prefix, all, here), takes) = (i, omega arith, prefix, TakesAll-more i k all takes)
 
   -- a piece of one character began right before it
-  one-from_taken : get_or shapes n One ≡ One → (k : ℕ) → HasTaken table shapes n k → (i : ℕ) × (k ≡ i + 1) × LeadingSplit table shapes n i × TakesAll table n i k
+  one-from_taken : get_or shapes n One ≡ One → (k : ℕ) → HasTaken table shapes n k → (i : ℕ) × (k ≡ i + 1) × PrefixSplits table shapes n i × TakesAll table n i k
   unfolding HasTaken IsAlive
   one-from_taken one zero none = absurd none
-  one-from_taken one (suc k) ((i, le, lead, all, here), takes) =
+  one-from_taken one (suc k) ((i, le, prefix, all, here), takes) =
       let at : i ≡ k = ⊎_elim (λ e. e) (λ ne. absurd (ne one)) here in
-      (i, omega arith, lead, TakesAll-more i k all takes)
+      (i, omega arith, prefix, TakesAll-more i k all takes)
 
-  -- the step of a row: whether the first n shapes are alive
+  -- the step of a position set: whether the first n shapes are alive
   pub IsAlive-step : (k : ℕ) → IsAlive table shapes n k ↔ ComesAlive table shapes (get_or shapes n One) n k
   unfolding IsAlive
   IsAlive-step k = (
-    λ (i, le, lead, all, here).
+    λ (i, le, prefix, all, here).
         ⊎_elim
-        (λ e. inl (subst (LeadingSplit table shapes n) e lead))
-        (λ ne. ⊎_elim (λ e. absurd (ne e)) (λ grows. inr (HasTaken-since grows k i le ne lead all, grows)) here)
+        (λ e. inl (subst (PrefixSplits table shapes n) e prefix))
+        (λ ne. ⊎_elim (λ e. absurd (ne e)) (λ grows. inr (HasTaken-since grows k i le ne prefix all, grows)) here)
         (cases_eq i k),
     λ parts.
         ⊎_elim
-        (λ lead. (k, omega arith, lead, TakesAll-none k, inl refl))
-        (λ (taken, grows). let (i, le, lead, all) = piece-from_taken k taken in (i, le, lead, all, inr grows))
+        (λ prefix. (k, omega arith, prefix, TakesAll-none k, inl refl))
+        (λ (taken, grows). let (i, le, prefix, all) = piece-from_taken k taken in (i, le, prefix, all, inr grows))
         parts,
   )
 
@@ -89,19 +89,19 @@ module _ (table : Table) (shapes : List Shape) (n : ℕ) where
   )
 
   -- a piece that reaches a place came there in one of the two ways
-  ComesWhole-from_piece : (shape : Shape) → get_or shapes n One ≡ shape → n < length shapes → (i k : ℕ) → LeadingSplit table shapes n i → MayReach table shape (drop (suc n) shapes) i k → TakesAll table n i k → ComesWhole table shapes shape n k
-  ComesWhole-from_piece One is lt i k lead reach all =
+  ComesWhole-from_piece : (shape : Shape) → get_or shapes n One ≡ shape → n < length shapes → (i k : ℕ) → PrefixSplits table shapes n i → MayReach table shape (drop (suc n) shapes) i k → TakesAll table n i k → ComesWhole table shapes shape n k
+  ComesWhole-from_piece One is lt i k prefix reach all =
       let e : suc i ≡ k = omega arith in
-      inr (subst (HasTaken table shapes n) e (HasTaken-first i lead (all i (omega arith) (omega arith))), λ deep. cc)
-  ComesWhole-from_piece Run is lt i k lead le all =
+      inr (subst (HasTaken table shapes n) e (HasTaken-first i prefix (all i (omega arith) (omega arith))), λ deep. cc)
+  ComesWhole-from_piece Run is lt i k prefix le all =
       ⊎_elim
-      (λ e. inl (subst (LeadingSplit table shapes n) e lead, λ one. cc))
-      (λ ne. inr (HasTaken-since (λ one. cc) k i le ne lead all, λ deep. cc))
+      (λ e. inl (subst (PrefixSplits table shapes n) e prefix, λ one. cc))
+      (λ ne. inr (HasTaken-since (λ one. cc) k i le ne prefix all, λ deep. cc))
       (cases_eq i k)
-  ComesWhole-from_piece Deep is lt i k lead (le, ends) all =
+  ComesWhole-from_piece Deep is lt i k prefix (le, ends) all =
       ⊎_elim
-      (λ e. inl (subst (LeadingSplit table shapes n) e lead, λ one. cc))
-      (λ ne. inr (HasTaken-since (λ one. cc) k i le ne lead all, λ deep. may_end ne))
+      (λ e. inl (subst (PrefixSplits table shapes n) e prefix, λ one. cc))
+      (λ ne. inr (HasTaken-since (λ one. cc) k i le ne prefix all, λ deep. may_end ne))
       (cases_eq i k)
     where
       may_end : i ≢ k → MayEnd table shapes n k
@@ -112,59 +112,59 @@ module _ (table : Table) (shapes : List Shape) (n : ℕ) where
           ends
 
   -- and in either of the two ways a piece reaches it
-  piece-from_ComesWhole : (shape : Shape) → get_or shapes n One ≡ shape → n < length shapes → (k : ℕ) → ComesWhole table shapes shape n k → (i : ℕ) × LeadingSplit table shapes n i × MayReach table shape (drop (suc n) shapes) i k × TakesAll table n i k
-  piece-from_ComesWhole One is lt k (inl (lead, grows)) = absurd (grows refl)
-  piece-from_ComesWhole Run is lt k (inl (lead, grows)) = (k, lead, omega arith, TakesAll-none k)
-  piece-from_ComesWhole Deep is lt k (inl (lead, grows)) = (k, lead, (omega arith, inr (inl refl)), TakesAll-none k)
+  piece-from_ComesWhole : (shape : Shape) → get_or shapes n One ≡ shape → n < length shapes → (k : ℕ) → ComesWhole table shapes shape n k → (i : ℕ) × PrefixSplits table shapes n i × MayReach table shape (drop (suc n) shapes) i k × TakesAll table n i k
+  piece-from_ComesWhole One is lt k (inl (prefix, grows)) = absurd (grows refl)
+  piece-from_ComesWhole Run is lt k (inl (prefix, grows)) = (k, prefix, omega arith, TakesAll-none k)
+  piece-from_ComesWhole Deep is lt k (inl (prefix, grows)) = (k, prefix, (omega arith, inr (inl refl)), TakesAll-none k)
   piece-from_ComesWhole One is lt k (inr (taken, ends)) =
-      let (i, e, lead, all) = one-from_taken is k taken in (i, lead, e, all)
+      let (i, e, prefix, all) = one-from_taken is k taken in (i, prefix, e, all)
   piece-from_ComesWhole Run is lt k (inr (taken, ends)) =
-      let (i, le, lead, all) = piece-from_taken k taken in (i, lead, le, all)
+      let (i, le, prefix, all) = piece-from_taken k taken in (i, prefix, le, all)
   piece-from_ComesWhole Deep is lt k (inr (taken, ends)) =
-      let (i, le, lead, all) = piece-from_taken k taken in
+      let (i, le, prefix, all) = piece-from_taken k taken in
       let end = ⊎_elim (λ last. inl ((last_has_no_others lt).0 last)) (λ opening. inr (inr opening)) (ends refl) in
-      (i, lead, (le, end), all)
+      (i, prefix, (le, end), all)
 
-  -- the step of a row: whether the first n shapes and the next are whole
-  pub LeadingSplit-step : n < length shapes → (k : ℕ) → LeadingSplit table shapes (suc n) k ↔ ComesWhole table shapes (get_or shapes n One) n k
-  unfolding LeadingSplit
-  LeadingSplit-step lt k = (
-    λ (i, lead, reach, all). ComesWhole-from_piece (get_or shapes n One) refl lt i k lead reach all,
+  -- the step of a position set: whether the first n shapes and the next are whole
+  pub PrefixSplits-step : n < length shapes → (k : ℕ) → PrefixSplits table shapes (suc n) k ↔ ComesWhole table shapes (get_or shapes n One) n k
+  unfolding PrefixSplits
+  PrefixSplits-step lt k = (
+    λ (i, prefix, reach, all). ComesWhole-from_piece (get_or shapes n One) refl lt i k prefix reach all,
     piece-from_ComesWhole (get_or shapes n One) refl lt k,
   )
 
 module _ (table : Table) (shapes : List Shape) where
   -- past the last shape there is no piece to begin
-  pub IsAlive-all : (k : ℕ) → IsAlive table shapes (length shapes) k ↔ LeadingSplit table shapes (length shapes) k
+  pub IsAlive-all : (k : ℕ) → IsAlive table shapes (length shapes) k ↔ PrefixSplits table shapes (length shapes) k
   IsAlive-all k =
       let step : IsAlive table shapes (length shapes) k ↔ ComesAlive table shapes (get_or shapes (length shapes) One) (length shapes) k =
       IsAlive-step table shapes (length shapes) k in
       let none : get_or shapes (length shapes) One ≡ One = get_or_past shapes (length shapes) One (omega arith) in
-      (λ alive. ⊎_elim (λ lead. lead) (λ (taken, grows). absurd (grows none)) (step.0 alive), λ lead. step.1 (inl lead))
+      (λ alive. ⊎_elim (λ prefix. prefix) (λ (taken, grows). absurd (grows none)) (step.0 alive), λ prefix. step.1 (inl prefix))
 
   -- all characters split where all shapes are alive after the last
   pub Splits-iff_alive : Splits table shapes ↔ IsAlive table shapes (length shapes) table.characters
   Splits-iff_alive =
-      let all : IsAlive table shapes (length shapes) table.characters ↔ LeadingSplit table shapes (length shapes) table.characters =
+      let all : IsAlive table shapes (length shapes) table.characters ↔ PrefixSplits table shapes (length shapes) table.characters =
       IsAlive-all table.characters in
-      let split : Splits table shapes ↔ LeadingSplit table shapes (length shapes) table.characters = Splits-iff_leading table shapes in
+      let split : Splits table shapes ↔ PrefixSplits table shapes (length shapes) table.characters = Splits-iff_prefix table shapes in
       (λ h. all.1 (split.0 h), λ h. split.1 (all.0 h))
 
   -- what is whole at a place comes from what was alive at the place before
-  LeadingSplit-before : (n k : ℕ) → n ≤ length shapes → LeadingSplit table shapes n (suc k) → (m : ℕ) × (m ≤ length shapes) × IsAlive table shapes m k
-  unfolding LeadingSplit HasTaken
-  LeadingSplit-before zero k le end = absurd (omega arith)
-  LeadingSplit-before (suc n) k le lead =
+  PrefixSplits-before : (n k : ℕ) → n ≤ length shapes → PrefixSplits table shapes n (suc k) → (m : ℕ) × (m ≤ length shapes) × IsAlive table shapes m k
+  unfolding PrefixSplits HasTaken
+  PrefixSplits-before zero k le end = absurd (omega arith)
+  PrefixSplits-before (suc n) k le prefix =
       ⊎_elim
-      (λ (fewer, grows). LeadingSplit-before n k (omega arith) fewer)
+      (λ (fewer, grows). PrefixSplits-before n k (omega arith) fewer)
       (λ (taken, ends). (n, omega arith, taken.0))
-      ((LeadingSplit-step table shapes n (omega arith) (suc k)).0 lead)
+      ((PrefixSplits-step table shapes n (omega arith) (suc k)).0 prefix)
 
   -- what is alive at a place comes from what was alive at the place before
   pub IsAlive-before : (n k : ℕ) → n ≤ length shapes → IsAlive table shapes n (suc k) → (m : ℕ) × (m ≤ length shapes) × IsAlive table shapes m k
   unfolding HasTaken
   IsAlive-before n k le alive =
-      ⊎_elim (LeadingSplit-before n k le) (λ (taken, grows). (n, le, taken.0)) ((IsAlive-step table shapes n (suc k)).0 alive)
+      ⊎_elim (PrefixSplits-before n k le) (λ (taken, grows). (n, le, taken.0)) ((IsAlive-step table shapes n (suc k)).0 alive)
 
   -- As long as something is alive, each character is asked about: the count was `start` at place `from`, and the
   -- character before place k + 1 raised it from `old` to `new`.

@@ -4,22 +4,22 @@ use Rattle.std.proofs.lemmas.Bool.{cases_eq}
 use Rattle.std.proofs.lemmas.List.{get_or_append_left, get_or_push}
 use Rattle.std.proofs.lemmas.Nat.{le_or_l, le_or_r}
 use Rattle.glob_pattern.specs.Matching.Splits.{Table, Splits}
-use Rattle.glob_pattern.specs.Private.Leading.{LeadingSplit, IsAlive}
+use Rattle.glob_pattern.specs.Private.Prefixes.{PrefixSplits, IsAlive}
 use Rattle.glob_pattern.specs.Matching.Bits.{IsSet}
-use Rattle.glob_pattern.specs.Private.Positions.{IsRowWord, IsRow}
+use Rattle.glob_pattern.specs.Private.Positions.{IsPositionWord, IsPositionSet}
 use Rattle.glob_pattern.proofs.BitLemmas.SetBits.{IsSet-zero}
-use Rattle.glob_pattern.proofs.PositionLemmas.WordRows.{Splits-by_word}
+use Rattle.glob_pattern.proofs.PositionLemmas.PositionWords.{Splits-by_word}
 use Rattle.glob_pattern.specs.declared.matcher.Shape.{Shape}
-use Rattle.glob_pattern.specs.declared.matcher.many_words.Word.{Word}
+use Rattle.glob_pattern.specs.declared.matcher.many_words.PositionWord.{PositionWord}
 
--- the first n words of a row of place k, and whether the shapes of those are whole there
-pub record RowPart (table : Table) (shapes : List Shape) (k n : ℕ) (words : List Word) (whole : Bool) : Type 0 where
-  pub word : (i : ℕ) (d : Word) → i < n → IsRowWord table shapes (64 * i) k (get_or words i d)
-  pub whole_is : 64 * n ≤ length shapes → IsTrue whole ↔ LeadingSplit table shapes (64 * n) k
+-- the first n words of a position set of place k, and whether the shapes of those are whole there
+pub record PositionsPart (table : Table) (shapes : List Shape) (k n : ℕ) (words : List PositionWord) (whole : Bool) : Type 0 where
+  pub word : (i : ℕ) (d : PositionWord) → i < n → IsPositionWord table shapes (64 * i) k (get_or words i d)
+  pub whole_is : 64 * n ≤ length shapes → IsTrue whole ↔ PrefixSplits table shapes (64 * n) k
 
--- the words of a row of place k from the n-th on
-pub record RowRest (table : Table) (shapes : List Shape) (k n : ℕ) (words : List Word) : Type 0 where
-  pub word : (i : ℕ) (d : Word) → n ≤ i → i < length words → IsRowWord table shapes (64 * i) k (get_or words i d)
+-- the words of a position set of place k from the n-th on
+pub record PositionsRest (table : Table) (shapes : List Shape) (k n : ℕ) (words : List PositionWord) : Type 0 where
+  pub word : (i : ℕ) (d : PositionWord) → n ≤ i → i < length words → IsPositionWord table shapes (64 * i) k (get_or words i d)
 
 -- each number of leading shapes stands in a word
 word_of : (n : ℕ) → 64 * (n / 64) + n % 64 ≡ n
@@ -27,70 +27,70 @@ word_of n = omega arith
 
 module _ (table : Table) (shapes : List Shape) (k : ℕ) where
   -- before the first word
-  pub RowPart-start : (words : List Word) (whole : Bool) → IsTrue whole ↔ LeadingSplit table shapes 0 k → RowPart table shapes k 0 words whole
-  RowPart-start words whole first = record { word = λ i d lt. absurd (omega arith); whole_is = λ _. let none : 64 * 0 ≡ 0 = omega arith in rw none first }
+  pub PositionsPart-start : (words : List PositionWord) (whole : Bool) → IsTrue whole ↔ PrefixSplits table shapes 0 k → PositionsPart table shapes k 0 words whole
+  PositionsPart-start words whole first = record { word = λ i d lt. absurd (omega arith); whole_is = λ _. let none : 64 * 0 ≡ 0 = omega arith in rw none first }
 
-  module _ (n : ℕ) (words : List Word) (whole : Bool) (part : RowPart table shapes k n words whole) (w : Word) (here : IsRowWord table shapes (64 * n) k w)
-      (next : Bool) (past : 64 * n + 64 ≤ length shapes → IsTrue next ↔ LeadingSplit table shapes (64 * n + 64) k) where
-    next_whole : 64 * (n + 1) ≤ length shapes → IsTrue next ↔ LeadingSplit table shapes (64 * (n + 1)) k
+  module _ (n : ℕ) (words : List PositionWord) (whole : Bool) (part : PositionsPart table shapes k n words whole) (w : PositionWord) (here : IsPositionWord table shapes (64 * n) k w)
+      (next : Bool) (past : 64 * n + 64 ≤ length shapes → IsTrue next ↔ PrefixSplits table shapes (64 * n + 64) k) where
+    next_whole : 64 * (n + 1) ≤ length shapes → IsTrue next ↔ PrefixSplits table shapes (64 * (n + 1)) k
     next_whole le = let more : 64 * (n + 1) ≡ 64 * n + 64 = omega arith in rw more (past (omega arith))
 
     -- a word more at the end
-    pub RowPart-push : length words ≡ n → RowPart table shapes k (n + 1) (words ++ w ∷ []) next
-    RowPart-push count = record {
+    pub PositionsPart-push : length words ≡ n → PositionsPart table shapes k (n + 1) (words ++ w ∷ []) next
+    PositionsPart-push count = record {
       word = λ i d lt.
           ⊎_elim
-          (λ e. let at : get_or (words ++ w ∷ []) i d ≡ w = get_or_push words w d i (omega arith) in rw at (subst (λ j. IsRowWord table shapes (64 * j) k w) (sym e) here))
+          (λ e. let at : get_or (words ++ w ∷ []) i d ≡ w = get_or_push words w d i (omega arith) in rw at (subst (λ j. IsPositionWord table shapes (64 * j) k w) (sym e) here))
           (λ ne. let at : get_or (words ++ w ∷ []) i d ≡ get_or words i d = get_or_append_left words (w ∷ []) d i (omega arith) in rw at (part.word i d (omega arith)))
           (cases_eq i n);
       whole_is = next_whole;
     }
 
     -- a word more in the place of another
-    pub RowPart-set : n < length words → RowPart table shapes k (n + 1) (set words n w) next
-    RowPart-set lt_all = record {
+    pub PositionsPart-set : n < length words → PositionsPart table shapes k (n + 1) (set words n w) next
+    PositionsPart-set lt_all = record {
       word = λ i d lt.
           ⊎_elim
-          (λ e. let at : get_or (set words n w) i d ≡ w = rw e (get_or-set_same words n w d lt_all) in rw at (subst (λ j. IsRowWord table shapes (64 * j) k w) (sym e) here))
+          (λ e. let at : get_or (set words n w) i d ≡ w = rw e (get_or-set_same words n w d lt_all) in rw at (subst (λ j. IsPositionWord table shapes (64 * j) k w) (sym e) here))
           (λ ne. let at : get_or (set words n w) i d ≡ get_or words i d = get_or-set_other words n i w d ne in rw at (part.word i d (omega arith)))
           (cases_eq i n);
       whole_is = next_whole;
     }
 
-  -- what is left of the row before
-  pub RowRest-set : (n : ℕ) (words : List Word) (w : Word) → RowRest table shapes k n words → RowRest table shapes k (n + 1) (set words n w)
-  RowRest-set n words w rest = record {
+  -- what is left of the positions before
+  pub PositionsRest-set : (n : ℕ) (words : List PositionWord) (w : PositionWord) → PositionsRest table shapes k n words → PositionsRest table shapes k (n + 1) (set words n w)
+  PositionsRest-set n words w rest = record {
     word = λ i d le lt.
         let ne : i ≢ n = omega arith in
         let at : get_or (set words n w) i d ≡ get_or words i d = get_or-set_other words n i w d ne in
         rw at (rest.word i d (omega arith) (omega (arith, length-set words n w)));
   }
 
-  -- all words are a row
-  pub IsRow-from_part : (n : ℕ) (words : List Word) (whole : Bool) → length words ≡ length shapes / 64 + 1 → n ≡ length words → RowPart table shapes k n words whole → IsRow table shapes k words
-  IsRow-from_part n words whole count all part = record { count = count; word = λ i d lt. part.word i d (omega arith) }
+  -- all words are a position set
+  pub IsPositionSet-from_part : (n : ℕ) (words : List PositionWord) (whole : Bool) → length words ≡ length shapes / 64 + 1 → n ≡ length words → PositionsPart table shapes k n words whole → IsPositionSet table shapes k words
+  IsPositionSet-from_part n words whole count all part = record { count = count; word = λ i d lt. part.word i d (omega arith) }
 
   -- the bit past the last shape, after the last character, is the answer
-  pub Splits-by_row : (words : List Word) (w : Word) (answer : Bool) → IsRow table shapes k words → k ≡ table.characters → w ≡ get_or words (length shapes / 64) w
+  pub Splits-by_positions : (words : List PositionWord) (w : PositionWord) (answer : Bool) → IsPositionSet table shapes k words → k ≡ table.characters → w ≡ get_or words (length shapes / 64) w
       → IsTrue answer ↔ IsSet w.alive (length shapes % 64) → IsTrue answer ↔ Splits table shapes
-  Splits-by_row words w answer row end at bit =
-      let last : IsRowWord table shapes (64 * (length shapes / 64)) k w = rw (← at) at (row.word (length shapes / 64) w (omega (arith, row.count))) in
+  Splits-by_positions words w answer positions end at bit =
+      let last : IsPositionWord table shapes (64 * (length shapes / 64)) k w = rw (← at) at (positions.word (length shapes / 64) w (omega (arith, positions.count))) in
       Splits-by_word table shapes (64 * (length shapes / 64)) (length shapes % 64) k w.alive answer (word_of (length shapes)) (omega arith) end last.alive bit
 
 -- the first n words are 0
-pub record NonePart (n : ℕ) (words : List Word) : Type 0 where
-  pub zero_is : (i : ℕ) (d : Word) → i < n → (get_or words i d).alive ≡ 0
+pub record NonePart (n : ℕ) (words : List PositionWord) : Type 0 where
+  pub zero_is : (i : ℕ) (d : PositionWord) → i < n → (get_or words i d).alive ≡ 0
 
--- a row of words of 0 has nothing alive
-pub dead-from_zeros : (table : Table) (shapes : List Shape) (k : ℕ) (words : List Word) (d : Word) → IsRow table shapes k words → NonePart (length words) words
+-- a position set of words of 0 has nothing alive
+pub dead-from_zeros : (table : Table) (shapes : List Shape) (k : ℕ) (words : List PositionWord) (d : PositionWord) → IsPositionSet table shapes k words → NonePart (length words) words
     → (m : ℕ) → m ≤ length shapes → IsAlive table shapes m k → ⊥
-dead-from_zeros table shapes k words d row none m le alive =
-    let lt : m / 64 < length words = omega (arith, row.count) in
-    let here : IsSet (get_or words (m / 64) d).alive (m % 64) ↔ IsAlive table shapes m k = rw (word_of m) at ((row.word (m / 64) d lt).alive.alive (m % 64) (omega arith) (omega arith)) in
+dead-from_zeros table shapes k words d positions none m le alive =
+    let lt : m / 64 < length words = omega (arith, positions.count) in
+    let here : IsSet (get_or words (m / 64) d).alive (m % 64) ↔ IsAlive table shapes m k = rw (word_of m) at ((positions.word (m / 64) d lt).alive.alive (m % 64) (omega arith) (omega arith)) in
     IsSet-zero (m % 64) (rw (none.zero_is (m / 64) d lt) at (here.1 alive))
 
 -- one more word is 0
-pub NonePart-set : (n : ℕ) (words : List Word) (w : Word) → n < length words → NonePart n words → w.alive ≡ 0 → NonePart (n + 1) (set words n w)
+pub NonePart-set : (n : ℕ) (words : List PositionWord) (w : PositionWord) → n < length words → NonePart n words → w.alive ≡ 0 → NonePart (n + 1) (set words n w)
 NonePart-set n words w lt_all none zero_here = record {
   zero_is = λ i d lt.
       ⊎_elim

@@ -7,22 +7,22 @@ use Rattle.glob_pattern.specs.declared.options.MatchOptions.{MatchOptions}
 use Rattle.glob_pattern.specs.declared.token.Token.TheVariants.{Plain, Any, Run, Deep, Within, Except}
 
 -- the separator rule keeps `/` from wildcards
-abbrev pub is_kept_separator : MatchOptions → ℕ → Bool
-is_kept_separator o c = o.require_literal_separator && c == slash
+abbrev pub is_excluded_separator : MatchOptions → ℕ → Bool
+is_excluded_separator o c = o.require_literal_separator && c == slash
 
 -- the dot rule keeps a dot at an opening place from wildcards
-abbrev pub is_kept_dot : MatchOptions → (opening : Bool) → ℕ → Bool
-is_kept_dot o opening c = o.require_literal_leading_dot && opening && c == dot
+abbrev pub is_excluded_dot : MatchOptions → (opening : Bool) → ℕ → Bool
+is_excluded_dot o opening c = o.require_literal_leading_dot && opening && c == dot
 
 -- neither rule keeps c from wildcards
 abbrev pub is_free : MatchOptions → (opening : Bool) → ℕ → Bool
-is_free o opening c = not (is_kept_separator o c) && not (is_kept_dot o opening c)
+is_free o opening c = not (is_excluded_separator o c) && not (is_excluded_dot o opening c)
 
 -- the token takes the character c, at a place that opens or not
 abbrev pub takes : MatchOptions → (opening : Bool) → ℕ → Token → Bool
 takes o opening c (Plain x) = same o.case_sensitive c x
 takes o opening c Any = is_free o opening c
 takes o opening c Run = is_free o opening c
-takes o opening c Deep = not (is_kept_dot o opening c)
+takes o opening c Deep = not (is_excluded_dot o opening c)
 takes o opening c (Within entries) = is_free o opening c && holds o.case_sensitive c entries
 takes o opening c (Except entries) = is_free o opening c && not (holds o.case_sensitive c entries)

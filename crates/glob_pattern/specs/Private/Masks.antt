@@ -1,15 +1,18 @@
--- Which tokens take which characters of ASCII, as bits. For each 64 tokens there are 131 words, a row each: row c below
--- 128 says which take the character c, with case and where neither rule is in force; the three after it say which are
--- `?` or `*`, which are `**`, and which are brackets.
-use Rattle.std.specs.Prelude.{◌≡◌, ℕ, ◌+◌, ◌*◌, ◌/◌, ◌<◌, ◌↔◌, Bool, true, false, ◌||◌, if◌then◌else◌, nat_lt, ◌==◌, List, length, slice_index_or, IsTrue}
+-- Which tokens take which characters of ASCII, as bits of words of 64.
+use Rattle.std.specs.Prelude.{◌≡◌, ◌≢◌, ℕ, ◌+◌, ◌*◌, ◌/◌, ◌<◌, ◌↔◌, Bool, true, false, ◌||◌, List, length, slice_index_or, IsTrue}
 use Rattle.glob_pattern.specs.Grammar.Tokens.{Token, is_deep}
-use Rattle.glob_pattern.specs.Matching.Taking.{takes, is_kept_separator, is_kept_dot}
-use Rattle.glob_pattern.specs.declared.options.MatchOptions.{MatchOptions}
-use Rattle.glob_pattern.specs.Matching.Options.{new_options}
 use Rattle.glob_pattern.specs.Matching.Bits.{IsSet}
+use Rattle.glob_pattern.specs.Matching.Options.{new_options}
+use Rattle.glob_pattern.specs.Matching.Taking.{takes, is_excluded_separator, is_excluded_dot}
+use Rattle.glob_pattern.specs.declared.options.MatchOptions.{MatchOptions}
+use Rattle.glob_pattern.specs.declared.pattern.masks.TokenMasks.{TokenMasks}
 use Rattle.glob_pattern.specs.declared.token.Token.TheVariants.{Plain, Any, Run, Deep, Within, Except}
 
--- `?` or `*`
+-- the mask of a character of ASCII
+abbrev pub mask_of : ℕ → TokenMasks → ℕ
+mask_of c masks = slice_index_or masks.characters c 0
+
+-- the token is `?` or `*`
 abbrev pub is_any_or_run : Token → Bool
 is_any_or_run (Plain c) = false
 is_any_or_run Any = true
@@ -18,7 +21,7 @@ is_any_or_run Deep = false
 is_any_or_run (Within entries) = false
 is_any_or_run (Except entries) = false
 
--- within or except
+-- the token is a bracket
 abbrev pub is_bracket : Token → Bool
 is_bracket (Plain c) = false
 is_bracket Any = false
@@ -27,25 +30,46 @@ is_bracket Deep = false
 is_bracket (Within entries) = true
 is_bracket (Except entries) = true
 
--- the bit of the token is set in the row
-abbrev pub in_row : (row : ℕ) → Token → Bool
-in_row row token =
-    if nat_lt row 128 then takes new_options true row token
-    else if row == 128 then is_any_or_run token
-    else if row == 129 then is_deep token
-    else is_bracket token
+-- a rule excludes the character from the token
+abbrev pub is_excluded : MatchOptions → (opening : Bool) → ℕ → Token → Bool
+is_excluded o opening c (Plain x) = false
+is_excluded o opening c Any = is_excluded_separator o c || is_excluded_dot o opening c
+is_excluded o opening c Run = is_excluded_separator o c || is_excluded_dot o opening c
+is_excluded o opening c Deep = is_excluded_dot o opening c
+is_excluded o opening c (Within entries) = is_excluded_separator o c || is_excluded_dot o opening c
+is_excluded o opening c (Except entries) = is_excluded_separator o c || is_excluded_dot o opening c
 
--- The words say of the tokens before number `end` which are of which row.
-pub record AreMasks (tokens : List Token) (end : ℕ) (masks : List ℕ) : Type 0 where
-  pub count : length masks ≡ 131 * ((length tokens + 63) / 64)
-  pub row : (row word j : ℕ) → row < 131 → 131 * word + row < length masks → j < 64
-      → IsSet (slice_index_or masks (131 * word + row) 0) j ↔ ((64 * word + j < end) × IsTrue (in_row row (slice_index_or tokens (64 * word + j) Any)))
+-- the token that is the j-th from `start` on takes the character
+abbrev pub TakesBit : MatchOptions → (opening : Bool) → ℕ → List Token → (start j : ℕ) → Type 0
+TakesBit o opening c tokens start j = IsTrue (takes o opening c (slice_index_or tokens (start + j) Any))
 
--- a rule keeps the character from the token
-abbrev pub is_kept : MatchOptions → (opening : Bool) → ℕ → Token → Bool
-is_kept o opening c (Plain x) = false
-is_kept o opening c Any = is_kept_separator o c || is_kept_dot o opening c
-is_kept o opening c Run = is_kept_separator o c || is_kept_dot o opening c
-is_kept o opening c Deep = is_kept_dot o opening c
-is_kept o opening c (Within entries) = is_kept_separator o c || is_kept_dot o opening c
-is_kept o opening c (Except entries) = is_kept_separator o c || is_kept_dot o opening c
+-- Of the tokens from number `start` up to `end`, the mask has the bits of those that meet the test.
+pub record IsMask (tokens : List Token) (start end : ℕ) (test : Token → Bool) (mask : ℕ) : Type 0 where
+  pub bit : (j : ℕ) → j < 64
+      → IsSet mask j ↔ ((start + j < end) × IsTrue (test (slice_index_or tokens (start + j) Any)))
+
+-- the masks of the tokens from number `start` up to `end`
+pub record AreMasks (tokens : List Token) (start end : ℕ) (masks : TokenMasks) : Type 0 where
+  pub characters : (c : ℕ) → c < 128
+      → IsMask tokens start end (takes new_options true c) (mask_of c masks)
+  pub any_or_run : IsMask tokens start end is_any_or_run masks.any_or_run
+  pub deep : IsMask tokens start end is_deep masks.deep
+  pub brackets : IsMask tokens start end is_bracket masks.brackets
+
+-- the masks of all tokens, 64 in each
+pub record AreAllMasks (tokens : List Token) (list : List TokenMasks) : Type 0 where
+  pub count : length list ≡ (length tokens + 63) / 64
+  pub each : (i : ℕ) (d : TokenMasks) → i < length list
+      → AreMasks tokens (64 * i) (length tokens) (slice_index_or list i d)
+
+-- the new mask has this bit exactly if P holds, and the other bits of the old one
+pub record IsPut (old new bit : ℕ) (P : Type 0) : Type 0 where
+  pub here : IsSet new bit ↔ P
+  pub others : (j : ℕ) → j < 64 → j ≢ bit → IsSet new j ↔ IsSet old j
+
+-- the bit is set in none of the masks
+pub record IsClear (masks : TokenMasks) (bit : ℕ) : Type 0 where
+  pub characters : (c : ℕ) → c < 128 → ¬ (IsSet (mask_of c masks) bit)
+  pub any_or_run : ¬ (IsSet masks.any_or_run bit)
+  pub deep : ¬ (IsSet masks.deep bit)
+  pub brackets : ¬ (IsSet masks.brackets bit)

@@ -3,19 +3,19 @@
 use Rattle.std.specs.Prelude.{◌≡◌, ℕ, ◌+◌, ◌*◌, ◌/◌, ◌<◌, ◌≤◌, ◌≢◌, ◌↔◌, List, length, slice_index_or}
 use Rattle.glob_pattern.specs.Matching.Bits.{IsSet}
 use Rattle.glob_pattern.specs.Matching.Splits.{Table}
-use Rattle.glob_pattern.specs.Private.Leading.{IsAlive, HasTaken}
+use Rattle.glob_pattern.specs.Private.Prefixes.{IsAlive, HasTaken}
 use Rattle.glob_pattern.specs.declared.matcher.Shape.{Shape}
 use Rattle.glob_pattern.specs.declared.matcher.Shape.TheVariants.{One, Deep}
-use Rattle.glob_pattern.specs.declared.matcher.shape_masks.Kinds.{Kinds}
-use Rattle.glob_pattern.specs.declared.matcher.many_words.Word.{Word}
+use Rattle.glob_pattern.specs.declared.matcher.shape_masks.ShapeMasks.{ShapeMasks}
+use Rattle.glob_pattern.specs.declared.matcher.many_words.PositionWord.{PositionWord}
 
 -- Of the 64 shapes from number `start` on, the words say which stand before number `end`, which of these may have pieces
 -- of any length, and which are deep and have others after them.
-pub record AreKinds (shapes : List Shape) (start end : ℕ) (kinds : Kinds) : Type 0 where
-  pub tokens : (j : ℕ) → j < 64 → IsSet kinds.tokens j ↔ (start + j < end)
-  pub growing : (j : ℕ) → j < 64 → IsSet kinds.growing j ↔ ((start + j < end) × (slice_index_or shapes (start + j) One ≢ One))
+pub record AreShapeMasks (shapes : List Shape) (start end : ℕ) (masks : ShapeMasks) : Type 0 where
+  pub tokens : (j : ℕ) → j < 64 → IsSet masks.tokens j ↔ (start + j < end)
+  pub growing : (j : ℕ) → j < 64 → IsSet masks.growing j ↔ ((start + j < end) × (slice_index_or shapes (start + j) One ≢ One))
   pub bound : (j : ℕ) → j < 64
-      → IsSet kinds.bound j ↔ ((start + j < end) × (slice_index_or shapes (start + j) One ≡ Deep) × (start + j + 1 < length shapes))
+      → IsSet masks.bound j ↔ ((start + j < end) × (slice_index_or shapes (start + j) One ≡ Deep) × (start + j + 1 < length shapes))
 
 -- the word says of the numbers of leading shapes from `start` on, 64 at most, whether they are alive at place k
 pub record AliveWord (table : Table) (shapes : List Shape) (start k word : ℕ) : Type 0 where
@@ -25,12 +25,12 @@ pub record AliveWord (table : Table) (shapes : List Shape) (start k word : ℕ) 
 pub record TakenWord (table : Table) (shapes : List Shape) (start k word : ℕ) : Type 0 where
   pub taken : (j : ℕ) → j < 64 → start + j < length shapes → IsSet word j ↔ HasTaken table shapes (start + j) k
 
--- what a word of a row says of the numbers of leading shapes from `start` on
-pub record IsRowWord (table : Table) (shapes : List Shape) (start k : ℕ) (word : Word) : Type 0 where
-  pub kinds : AreKinds shapes start (length shapes) word.kinds
+-- what a word of a position set says of the numbers of leading shapes from `start` on
+pub record IsPositionWord (table : Table) (shapes : List Shape) (start k : ℕ) (word : PositionWord) : Type 0 where
+  pub masks : AreShapeMasks shapes start (length shapes) word.masks
   pub alive : AliveWord table shapes start k word.alive
 
 -- the words say of all numbers of leading shapes, 64 in each, whether they are alive at place k
-pub record IsRow (table : Table) (shapes : List Shape) (k : ℕ) (words : List Word) : Type 0 where
+pub record IsPositionSet (table : Table) (shapes : List Shape) (k : ℕ) (words : List PositionWord) : Type 0 where
   pub count : length words ≡ length shapes / 64 + 1
-  pub word : (i : ℕ) (d : Word) → i < length words → IsRowWord table shapes (64 * i) k (slice_index_or words i d)
+  pub word : (i : ℕ) (d : PositionWord) → i < length words → IsPositionWord table shapes (64 * i) k (slice_index_or words i d)

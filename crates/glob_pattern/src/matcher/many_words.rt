@@ -1,85 +1,85 @@
 //! Matching with any number of shapes, in one list of words.
 ghost use Rattle.std.specs.Prelude.{◌≡◌, ℕ, ◌+◌, ◌-◌, ◌*◌, ◌/◌, ◌^◌, ◌<◌, ◌≤◌, ◌↔◌, false, length, IfOk, IsTrue};
 ghost use Rattle.glob_pattern.specs.Matching.Splits.{Table, Splits};
-ghost use Rattle.glob_pattern.specs.Private.Leading.{IsAlive, LeadingOnes};
-ghost use Rattle.glob_pattern.specs.Private.Positions.{IsRow};
+ghost use Rattle.glob_pattern.specs.Private.Prefixes.{IsAlive, IsTakenPrefix};
+ghost use Rattle.glob_pattern.specs.Private.Positions.{IsPositionSet};
 
-use super::shape_masks::{Kinds, last_before};
+use super::shape_masks::{ShapeMasks, last_before};
 use super::{Judge, Shape};
 use std::alloc::{AllocError, Allocator};
 
 /// Sixty-four neighbouring positions: the shapes after them, and whether those before them are alive.
 #[derive(Clone, Copy)]
-pub struct Word {
-    pub kinds: Kinds,
+pub struct PositionWord {
+    pub masks: ShapeMasks,
     pub alive: u64,
 }
 
-/// A row of positions.
+/// The position set of a place: a word for each 64 positions.
 #[derive(Drop)]
-struct Many<'a, A: Allocator> {
+struct ManyWordSet<'a, A: Allocator> {
     shapes: &'a [Shape],
-    words: Vec<Word, A>,
+    words: Vec<PositionWord, A>,
 }
 
-/// Whether the characters split, of a judge that has stepped over those of the first `lead` shapes. An error where there
-/// is no memory for a row.
+/// Whether the characters split, of a judge that has stepped over those of the first `prefix` shapes. An error where there
+/// is no memory for the position set.
 #[inline(always)]
-pub fn run_many<A: Allocator, J: Judge>(
+pub fn run_many_words<A: Allocator, J: Judge>(
     alloc: A,
     shapes: &[Shape],
-    lead: usize,
+    prefix: usize,
     judge: &mut J,
 ) -> Result<bool, AllocError>
     requires tokens { length shapes.now ≤ (J.table judge.old).tokens }
-    requires led { LeadingOnes (J.table judge.old) shapes.now lead }
-    requires place { J.place judge.old ≡ lead }
-    requires within { lead ≤ (J.table judge.old).characters }
-    requires room { J.count judge.old + length shapes.now * ((J.table judge.old).characters - lead) < 2 ^ 128 }
+    requires reached { IsTakenPrefix (J.table judge.old) shapes.now prefix }
+    requires place { J.place judge.old ≡ prefix }
+    requires within { prefix ≤ (J.table judge.old).characters }
+    requires room { J.count judge.old + length shapes.now * ((J.table judge.old).characters - prefix) < 2 ^ 128 }
     ensures answer { IfOk result (λ yes. IsTrue yes ↔ Splits (J.table judge.old) shapes.now) }
-    ensures most { J.count judge.new ≤ J.count judge.old + length shapes.now * ((J.table judge.old).characters - lead) }
+    ensures most { J.count judge.new ≤ J.count judge.old + length shapes.now * ((J.table judge.old).characters - prefix) }
     ensures least { IfOk result
-        (λ yes. IsTrue yes → J.count judge.old + (J.table judge.old).characters ≤ J.count judge.new + lead) }
+        (λ yes. IsTrue yes → J.count judge.old + (J.table judge.old).characters ≤ J.count judge.new + prefix) }
     ensures monotone { J.count judge.old ≤ J.count judge.new }
     ensures same { J.table judge.new ≡ J.table judge.old }
 {
-    let mut row = Many::new(alloc, shapes, lead, judge.opens())?;
+    let mut positions = ManyWordSet::new(alloc, shapes, prefix, judge.opens())?;
     while judge.step() {
-        if !row.step(judge) {
+        if !positions.step(judge) {
             return Ok(false);
         }
     }
-    Ok(row.is_whole())
+    Ok(positions.is_whole())
 }
 
-impl<'a, A: Allocator> Many<'a, A> {
-    /// The row of the place after the characters of the first `lead` shapes.
-    fn new(alloc: A, shapes: &'a [Shape], lead: usize, opens: bool) -> Result<Self, AllocError>
-        ensures { IfOk result (λ row. (row.shapes.now ≡ shapes.now)
-            × ((table : Table) → LeadingOnes table shapes.now lead → opens ≡ table.opens lead → IsRow table shapes.now lead row.words.items)) }
+impl<'a, A: Allocator> ManyWordSet<'a, A> {
+    /// The position set of the place after the characters of the first `prefix` shapes.
+    fn new(alloc: A, shapes: &'a [Shape], prefix: usize, opens: bool) -> Result<Self, AllocError>
+        ensures { IfOk result (λ positions. (positions.shapes.now ≡ shapes.now)
+            × ((table : Table) → IsTakenPrefix table shapes.now prefix → opens ≡ table.opens prefix → IsPositionSet table shapes.now prefix positions.words.items)) }
     {
         let count = shapes.len() / 64 + 1;
         let mut words = Vec::with_capacity(alloc, count)?;
-        let mut whole = lead == 0;
+        let mut whole = prefix == 0;
         for n in 0..count {
-            let kinds = Kinds::new(shapes, 64 * n);
-            let (alive, next) = kinds.advance(last_before(lead, 64 * n), opens, whole);
-            words.push(Word { kinds, alive })?;
+            let masks = ShapeMasks::new(shapes, 64 * n);
+            let (alive, next) = masks.advance(last_before(prefix, 64 * n), opens, whole);
+            words.push(PositionWord { masks, alive })?;
             whole = next;
         }
-        Ok(Many { shapes, words })
+        Ok(ManyWordSet { shapes, words })
     }
 
-    /// Goes to the row of the place of a judge that has stepped, from that of the place before. Answers whether anything
+    /// Goes to the position set of the place of a judge that has stepped, from that of the place before. Answers whether anything
     /// is alive.
     #[inline(always)]
     fn step<J: Judge>(&mut self, judge: &mut J) -> bool
         requires stepped { 0 < J.place judge.old }
         requires tokens { length self.old.shapes.now ≤ (J.table judge.old).tokens }
         requires room { J.count judge.old + length self.old.shapes.now < 2 ^ 128 }
-        requires row { IsRow (J.table judge.old) self.old.shapes.now (J.place judge.old - 1) self.old.words.items }
+        requires positions { IsPositionSet (J.table judge.old) self.old.shapes.now (J.place judge.old - 1) self.old.words.items }
         ensures shapes { self.new.shapes.now ≡ self.old.shapes.now }
-        ensures row { IsRow (J.table judge.old) self.old.shapes.now (J.place judge.old) self.new.words.items }
+        ensures positions { IsPositionSet (J.table judge.old) self.old.shapes.now (J.place judge.old) self.new.words.items }
         ensures dead { result ≡ false → (n : ℕ) → n ≤ length self.old.shapes.now
             → ¬ (IsAlive (J.table judge.old) self.old.shapes.now n (J.place judge.old)) }
         ensures most { J.count judge.new ≤ J.count judge.old + length self.old.shapes.now }
@@ -94,19 +94,19 @@ impl<'a, A: Allocator> Many<'a, A> {
         let mut any = 0;
         for n in 0..self.words.len() {
             let word = self.words[n];
-            let took = judge.takes_each(n, word.alive & word.kinds.tokens);
-            let (alive, next) = word.kinds.advance(took, opens, whole);
-            self.words[n] = Word { alive, ..word };
+            let took = judge.takes_each(n, word.alive & word.masks.tokens);
+            let (alive, next) = word.masks.advance(took, opens, whole);
+            self.words[n] = PositionWord { alive, ..word };
             whole = next;
             any |= alive;
         }
         any != 0
     }
 
-    /// Whether the row, which is of the last place, says that the characters split.
+    /// Whether the position set, which is of the last place, says that the characters split.
     fn is_whole(&self) -> bool
         requires { length self.now.words.items ≡ length self.now.shapes.now / 64 + 1 }
-        ensures { (table : Table) → IsRow table self.now.shapes.now table.characters self.now.words.items
+        ensures { (table : Table) → IsPositionSet table self.now.shapes.now table.characters self.now.words.items
             → IsTrue result ↔ Splits table self.now.shapes.now }
     {
         let end = self.shapes.len();

@@ -1,84 +1,84 @@
 //! Matching with at most 63 shapes, without memory.
 ghost use Rattle.std.specs.Prelude.{◌≡◌, ℕ, ◌+◌, ◌-◌, ◌*◌, ◌^◌, ◌<◌, ◌≤◌, ◌↔◌, false, length, IsTrue};
 ghost use Rattle.glob_pattern.specs.Matching.Splits.{Table, Splits};
-ghost use Rattle.glob_pattern.specs.Private.Leading.{IsAlive, LeadingOnes};
+ghost use Rattle.glob_pattern.specs.Private.Prefixes.{IsAlive, IsTakenPrefix};
 ghost use Rattle.glob_pattern.specs.Matching.Bits.{IsSet};
-ghost use Rattle.glob_pattern.specs.Private.Positions.{AreKinds, AliveWord};
+ghost use Rattle.glob_pattern.specs.Private.Positions.{AreShapeMasks, AliveWord};
 
-use super::shape_masks::{Kinds, last_before};
+use super::shape_masks::{ShapeMasks, last_before};
 use super::{Judge, Shape};
 
-/// The shapes as bits. A row of positions is a word too: bit n of it says whether the first n shapes are alive.
+/// The shapes as bits. A position set is one word: bit n says whether the first n shapes are alive.
 #[derive(Clone, Copy)]
-struct Few<'a> {
+struct OneWordMatcher<'a> {
     shapes: &'a [Shape],
-    kinds: Kinds,
+    masks: ShapeMasks,
     ghost few: { length shapes.now < 64 },
-    ghost are: { AreKinds shapes.now 0 (length shapes.now) kinds },
+    ghost are: { AreShapeMasks shapes.now 0 (length shapes.now) masks },
 }
 
-/// Whether the characters split, of a judge that has stepped over those of the first `lead` shapes.
+/// Whether the characters split, of a judge that has stepped over those of the first `prefix` shapes.
 #[inline(always)]
-pub fn run_few<J: Judge>(shapes: &[Shape], lead: usize, judge: &mut J) -> bool
+pub fn run_one_word<J: Judge>(shapes: &[Shape], prefix: usize, judge: &mut J) -> bool
     requires few { length shapes.now < 64 }
     requires tokens { length shapes.now ≤ (J.table judge.old).tokens }
-    requires led { LeadingOnes (J.table judge.old) shapes.now lead }
-    requires place { J.place judge.old ≡ lead }
-    requires within { lead ≤ (J.table judge.old).characters }
-    requires room { J.count judge.old + length shapes.now * ((J.table judge.old).characters - lead) < 2 ^ 128 }
+    requires reached { IsTakenPrefix (J.table judge.old) shapes.now prefix }
+    requires place { J.place judge.old ≡ prefix }
+    requires within { prefix ≤ (J.table judge.old).characters }
+    requires room { J.count judge.old + length shapes.now * ((J.table judge.old).characters - prefix) < 2 ^ 128 }
     ensures answer { IsTrue result ↔ Splits (J.table judge.old) shapes.now }
-    ensures most { J.count judge.new ≤ J.count judge.old + length shapes.now * ((J.table judge.old).characters - lead) }
-    ensures least { IsTrue result → J.count judge.old + (J.table judge.old).characters ≤ J.count judge.new + lead }
+    ensures most { J.count judge.new ≤ J.count judge.old + length shapes.now * ((J.table judge.old).characters - prefix) }
+    ensures least { IsTrue result → J.count judge.old + (J.table judge.old).characters ≤ J.count judge.new + prefix }
     ensures monotone { J.count judge.old ≤ J.count judge.new }
     ensures same { J.table judge.new ≡ J.table judge.old }
 {
-    let positions = Few::new(shapes);
-    let mut row = positions.first(lead, judge.opens());
-    while positions.goes_on(row) {
+    let matcher = OneWordMatcher::new(shapes);
+    let mut positions = matcher.first(prefix, judge.opens());
+    while matcher.goes_on(positions) {
         if !judge.step() {
-            return positions.is_whole(row);
+            return matcher.is_whole(positions);
         }
-        row = positions.next(row, judge);
+        positions = matcher.next(positions, judge);
     }
-    positions.is_whole(row) && !judge.step()
+    matcher.is_whole(positions) && !judge.step()
 }
 
-impl<'a> Few<'a> {
+impl<'a> OneWordMatcher<'a> {
     fn new(shapes: &'a [Shape]) -> Self
         requires { length shapes.now < 64 }
         ensures { result.shapes.now ≡ shapes.now }
     {
-        Few {
+        OneWordMatcher {
             shapes,
-            kinds: Kinds::new(shapes, 0),
+            masks: ShapeMasks::new(shapes, 0),
         }
     }
 
-    /// The row of the place after the characters of the first `lead` shapes.
-    fn first(&self, lead: usize, opens: bool) -> u64
-        ensures { (table : Table) → LeadingOnes table self.now.shapes.now lead → opens ≡ table.opens lead
-            → AliveWord table self.now.shapes.now 0 lead result }
+    /// The position set of the place after the characters of the first `prefix` shapes.
+    fn first(&self, prefix: usize, opens: bool) -> u64
+        ensures { (table : Table) → IsTakenPrefix table self.now.shapes.now prefix → opens ≡ table.opens prefix
+            → AliveWord table self.now.shapes.now 0 prefix result }
     {
-        let took = last_before(lead, 0);
-        self.kinds.advance(took, opens, lead == 0).0
+        let took = last_before(prefix, 0);
+        self.masks.advance(took, opens, prefix == 0).0
     }
 
     /// Whether a token is alive, so that another character may be taken.
     #[inline(always)]
-    fn goes_on(&self, row: u64) -> bool
-        ensures { result ≡ false → (j : ℕ) → j < length self.now.shapes.now → ¬ (IsSet row j) }
+    fn goes_on(&self, positions: u64) -> bool
+        ensures { result ≡ false → (j : ℕ) → j < length self.now.shapes.now → ¬ (IsSet positions j) }
     {
-        row & self.kinds.tokens != 0
+        positions & self.masks.tokens != 0
     }
 
-    /// The row of the place of a judge that has stepped, from the row of the place before.
+    /// The position set of the place of a judge that has stepped, from the position set of the place before.
     #[inline(always)]
-    fn next<J: Judge>(&self, row: u64, judge: &mut J) -> u64
+    fn next<J: Judge>(&self, positions: u64, judge: &mut J) -> u64
         requires stepped { 0 < J.place judge.old }
         requires tokens { length self.now.shapes.now ≤ (J.table judge.old).tokens }
         requires room { J.count judge.old + length self.now.shapes.now < 2 ^ 128 }
-        requires row { AliveWord (J.table judge.old) self.now.shapes.now 0 (J.place judge.old - 1) row }
-        ensures row { AliveWord (J.table judge.old) self.now.shapes.now 0 (J.place judge.old) result }
+        requires positions { AliveWord (J.table judge.old) self.now.shapes.now 0 (J.place judge.old - 1) positions }
+        ensures positions { AliveWord (J.table judge.old) self.now.shapes.now 0 (J.place judge.old) result }
         ensures most { J.count judge.new ≤ J.count judge.old + length self.now.shapes.now }
         ensures least { (n : ℕ) → n ≤ length self.now.shapes.now
             → IsAlive (J.table judge.old) self.now.shapes.now n (J.place judge.old) → J.count judge.old < J.count judge.new }
@@ -86,14 +86,14 @@ impl<'a> Few<'a> {
         ensures place { J.place judge.new ≡ J.place judge.old }
         ensures same { J.table judge.new ≡ J.table judge.old }
     {
-        let took = judge.takes_each(0, row & self.kinds.tokens);
-        self.kinds.advance(took, judge.opens(), false).0
+        let took = judge.takes_each(0, positions & self.masks.tokens);
+        self.masks.advance(took, judge.opens(), false).0
     }
 
     /// Whether all shapes are alive, after the last.
-    fn is_whole(&self, row: u64) -> bool
-        ensures { IsTrue result ↔ IsSet row (length self.now.shapes.now) }
+    fn is_whole(&self, positions: u64) -> bool
+        ensures { IsTrue result ↔ IsSet positions (length self.now.shapes.now) }
     {
-        (row >> self.shapes.len()) & 1 != 0
+        (positions >> self.shapes.len()) & 1 != 0
     }
 }

@@ -1,18 +1,18 @@
 ghost use Rattle.std.specs.Prelude.{◌≡◌, ◌+◌, ◌*◌, ◌^◌, ◌<◌, ◌≤◌, length, MatchOption};
 ghost use Rattle.glob_pattern.specs.Matching.Splits.{Splits};
-ghost use Rattle.glob_pattern.specs.Private.Leading.{LeadingOnes};
+ghost use Rattle.glob_pattern.specs.Private.Prefixes.{IsTakenPrefix};
 
 use super::{Judge, Shape};
 
 /// Steps over a character for each of the leading shapes of one character, as long as their tokens take them. Answers
 /// how many they are, or `None` where the characters do not split.
 #[inline(always)]
-pub fn take_ones<J: Judge>(shapes: &[Shape], judge: &mut J) -> Option<usize>
+pub fn take_prefix<J: Judge>(shapes: &[Shape], judge: &mut J) -> Option<usize>
     requires tokens { length shapes.now ≤ (J.table judge.old).tokens }
     requires start { J.place judge.old ≡ 0 }
     requires room { J.count judge.old + length shapes.now * (J.table judge.old).characters < 2 ^ 128 }
-    ensures led { MatchOption result (¬ (Splits (J.table judge.old) shapes.now))
-        (λ n. (J.place judge.new ≡ n) × LeadingOnes (J.table judge.old) shapes.now n) }
+    ensures reached { MatchOption result (¬ (Splits (J.table judge.old) shapes.now))
+        (λ n. (J.place judge.new ≡ n) × IsTakenPrefix (J.table judge.old) shapes.now n) }
     ensures count { J.count judge.new ≡ J.count judge.old + J.place judge.new }
     ensures within { J.place judge.new ≤ (J.table judge.old).characters }
     ensures shapes { 0 < J.place judge.new → 0 < length shapes.now }

@@ -1,14 +1,14 @@
 ghost use Rattle.std.specs.Prelude.{◌≡◌, ℕ, ◌+◌, ◌<◌, ◌≤◌, ◌≢◌, ◌⊎◌, ◌↔◌, List, length, IsTrue};
 ghost use Rattle.glob_pattern.specs.Matching.Splits.{Table};
-ghost use Rattle.glob_pattern.specs.Private.Leading.{LeadingSplit};
+ghost use Rattle.glob_pattern.specs.Private.Prefixes.{PrefixSplits};
 ghost use Rattle.glob_pattern.specs.Matching.Bits.{IsSet};
-ghost use Rattle.glob_pattern.specs.Private.Positions.{AreKinds, AliveWord, TakenWord};
+ghost use Rattle.glob_pattern.specs.Private.Positions.{AreShapeMasks, AliveWord, TakenWord};
 
 use super::Shape;
 
 /// The shapes from one of them on, 64 at most, as bits: bit 0 is of that one.
 #[derive(Clone, Copy)]
-pub struct Kinds {
+pub struct ShapeMasks {
     /// All of them: the bits of the shapes that there are.
     pub tokens: u64,
     /// Those whose pieces may be of any length.
@@ -17,21 +17,21 @@ pub struct Kinds {
     pub bound: u64,
 }
 
-impl Kinds {
+impl ShapeMasks {
     /// The shapes from number `start` on.
     pub fn new(shapes: &[Shape], start: usize) -> Self
         requires { start ≤ length shapes.now }
-        ensures { AreKinds shapes.now start (length shapes.now) result }
+        ensures { AreShapeMasks shapes.now start (length shapes.now) result }
     {
-        let mut kinds = Kinds {
+        let mut masks = ShapeMasks {
             tokens: 0,
             growing: 0,
             bound: 0,
         };
         for n in start..shapes.len().min(start + 64) {
-            kinds = kinds.with(n - start, shapes[n], n + 1 < shapes.len());
+            masks = masks.with(n - start, shapes[n], n + 1 < shapes.len());
         }
-        kinds
+        masks
     }
 
     /// These shapes and one more, which has others after it or not.
@@ -41,19 +41,19 @@ impl Kinds {
         ensures growing { (j : ℕ) → IsSet result.growing j ↔ (IsSet self.growing j ⊎ ((j ≡ bit) × (shape ≢ Shape.One))) }
         ensures bound { (j : ℕ) → IsSet result.bound j ↔ (IsSet self.bound j ⊎ ((j ≡ bit) × (shape ≡ Shape.Deep) × IsTrue followed)) }
     {
-        let mut kinds = self;
-        kinds.tokens = with_bit(self.tokens, bit);
+        let mut masks = self;
+        masks.tokens = with_bit(self.tokens, bit);
         match shape {
             Shape::One => {}
-            Shape::Run => kinds.growing = with_bit(self.growing, bit),
+            Shape::Run => masks.growing = with_bit(self.growing, bit),
             Shape::Deep => {
-                kinds.growing = with_bit(self.growing, bit);
+                masks.growing = with_bit(self.growing, bit);
                 if followed {
-                    kinds.bound = with_bit(self.bound, bit);
+                    masks.bound = with_bit(self.bound, bit);
                 }
             }
         }
-        kinds
+        masks
     }
 
     /// The positions alive after a character, from the tokens that took it. `opens` says whether the place after it
@@ -61,12 +61,12 @@ impl Kinds {
     /// part of the answer says so of the shapes up to the last of 64.
     #[inline(always)]
     pub fn advance(self, took: u64, opens: bool, whole: bool) -> (u64, bool)
-        ensures alive { (table : Table) (shapes : List Shape) (start k : ℕ) → AreKinds shapes start (length shapes) self
-            → TakenWord table shapes start k took → opens ≡ table.opens k → IsTrue whole ↔ LeadingSplit table shapes start k
+        ensures alive { (table : Table) (shapes : List Shape) (start k : ℕ) → AreShapeMasks shapes start (length shapes) self
+            → TakenWord table shapes start k took → opens ≡ table.opens k → IsTrue whole ↔ PrefixSplits table shapes start k
             → AliveWord table shapes start k result.0 }
-        ensures whole { (table : Table) (shapes : List Shape) (start k : ℕ) → AreKinds shapes start (length shapes) self
-            → TakenWord table shapes start k took → opens ≡ table.opens k → IsTrue whole ↔ LeadingSplit table shapes start k
-            → start + 64 ≤ length shapes → IsTrue result.1 ↔ LeadingSplit table shapes (start + 64) k }
+        ensures whole { (table : Table) (shapes : List Shape) (start k : ℕ) → AreShapeMasks shapes start (length shapes) self
+            → TakenWord table shapes start k took → opens ≡ table.opens k → IsTrue whole ↔ PrefixSplits table shapes start k
+            → start + 64 ≤ length shapes → IsTrue result.1 ↔ PrefixSplits table shapes (start + 64) k }
     {
         let ending = self.ending(took, opens);
         let begun = (ending << 1) | u64::from(whole);

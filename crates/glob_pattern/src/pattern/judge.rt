@@ -2,13 +2,13 @@ ghost use Rattle.std.specs.Prelude.{◌≡◌, length, chars};
 ghost use Rattle.std.specs.Str.Iter.{chars_rest};
 ghost use Rattle.glob_pattern.specs.Private.Stepping.{StandsBefore, place_before};
 ghost use Rattle.glob_pattern.specs.Private.TextTable.{table_of};
-ghost use Rattle.glob_pattern.specs.Private.Masks.{AreMasks};
+ghost use Rattle.glob_pattern.specs.Private.Masks.{AreAllMasks};
 
 use crate::matcher::Judge;
 use crate::options::MatchOptions;
-use crate::pattern::masks::take_known;
+use crate::pattern::masks::TokenMasks;
 use crate::token::Token;
-use crate::token::bracket::Class;
+use crate::token::bracket::Bracket;
 use crate::token::taking::{take_left, takes};
 use std::alloc::Allocator;
 use std::str::Chars;
@@ -16,8 +16,8 @@ use std::str::Chars;
 /// Asks of a text what a pattern's tokens take.
 #[derive(Drop)]
 pub struct TextJudge<'a, A: Allocator> {
-    tokens: &'a [Token<Class<A>>],
-    masks: &'a [u64],
+    tokens: &'a [Token<Bracket<A>>],
+    masks: &'a [TokenMasks],
     options: MatchOptions,
     text: &'a str,
     rest: Chars<'a>,
@@ -27,7 +27,7 @@ pub struct TextJudge<'a, A: Allocator> {
     // whether the place after it opens
     opens: bool,
     count: u128,
-    ghost masked: { AreMasks tokens.now (length tokens.now) masks.now },
+    ghost masked: { AreAllMasks tokens.now masks.now },
     ghost stands: { StandsBefore (chars text.now) (chars (chars_rest rest)) current opened opens },
 }
 
@@ -35,12 +35,12 @@ impl<'a, A: Allocator> TextJudge<'a, A> {
     /// Before the first character, with nothing asked.
     #[inline(always)]
     pub fn new(
-        tokens: &'a [Token<Class<A>>],
-        masks: &'a [u64],
+        tokens: &'a [Token<Bracket<A>>],
+        masks: &'a [TokenMasks],
         text: &'a str,
         options: MatchOptions,
     ) -> Self
-        requires { AreMasks tokens.now (length tokens.now) masks.now }
+        requires { AreAllMasks tokens.now masks.now }
         ensures tokens { result.tokens.now ≡ tokens.now }
         ensures text { result.text.now ≡ text.now }
         ensures options { result.options ≡ options }
@@ -100,14 +100,8 @@ impl<A: Allocator> Judge for TextJudge<'_, A> {
             return 0;
         }
         self.count += u128::from(asked.count_ones());
-        let (took, left) = take_known(
-            self.masks,
-            word,
-            asked,
-            self.options,
-            self.opened,
-            self.current,
-        );
+        let masks = self.masks;
+        let (took, left) = masks[word].take_known(asked, self.options, self.opened, self.current);
         if left == 0 {
             return took;
         }

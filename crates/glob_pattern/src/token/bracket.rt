@@ -39,11 +39,11 @@ impl Entry {
 
 /// What stands in a bracket: its entries, in the order of the pattern.
 #[derive(Debug, Drop)]
-pub struct Class<A: Allocator = Global> {
+pub struct Bracket<A: Allocator = Global> {
     entries: Vec<Entry, A>,
 }
 
-impl<A: Allocator> Model for Class<A> {
+impl<A: Allocator> Model for Bracket<A> {
     ghost use Rattle.std.specs.Prelude.{List};
     ghost use Rattle.glob_pattern.specs.declared.token.bracket.Entry.{Entry};
 
@@ -52,10 +52,10 @@ impl<A: Allocator> Model for Class<A> {
     ghost view = { λ c. c.entries.items };
 }
 
-impl<A: Allocator> Class<A> {
+impl<A: Allocator> Bracket<A> {
     /// The entries of a bracket's content. It fails only for want of memory.
     pub fn read(alloc: A, content: &[char]) -> Result<Self, AllocError>
-        ensures { IfOk result (λ class. class ≡ entries_of content.now) }
+        ensures { IfOk result (λ bracket. bracket ≡ entries_of content.now) }
     {
         let mut entries = Vec::new(alloc);
         let mut rest = content;
@@ -70,7 +70,7 @@ impl<A: Allocator> Class<A> {
                 rest = others;
             }
         }
-        Ok(Class { entries })
+        Ok(Bracket { entries })
     }
 
     /// The entries, in the order of the pattern.
@@ -91,12 +91,12 @@ impl<A: Allocator> Class<A> {
 }
 
 /// A copy of the entries on the same allocator. It fails only for want of memory.
-impl<A: Allocator + Copy> Clone for Class<A> {
-    ghost is_clone = { λ class copy. copy ≡ class };
+impl<A: Allocator + Copy> Clone for Bracket<A> {
+    ghost is_clone = { λ bracket copy. copy ≡ bracket };
 
     fn clone(&self) -> Result<Self, AllocError> {
         let entries = Vec::from_slice(*self.entries.allocator(), self.entries.as_slice())?;
-        Ok(Class { entries })
+        Ok(Bracket { entries })
     }
 }
 

@@ -5,12 +5,12 @@ ghost use Rattle.glob_pattern.specs.declared.token.Token.TheVariants.{Any};
 
 use crate::options::MatchOptions;
 use crate::token::Token;
-use crate::token::bracket::{self, Class};
+use crate::token::bracket::{self, Bracket};
 use std::alloc::Allocator;
 
 /// Whether the token takes the character, at a place that opens or not.
 pub fn takes<A: Allocator>(
-    token: &Token<Class<A>>,
+    token: &Token<Bracket<A>>,
     options: MatchOptions,
     opening: bool,
     c: char,
@@ -20,12 +20,12 @@ pub fn takes<A: Allocator>(
     match token {
         Token::Plain(x) => bracket::is_same(options.case_sensitive, c, *x),
         Token::Any | Token::Run => is_free(options, opening, c),
-        Token::Deep => !is_kept_dot(options, opening, c),
-        Token::Within(class) => {
-            is_free(options, opening, c) && class.holds(c, options.case_sensitive)
+        Token::Deep => !is_excluded_dot(options, opening, c),
+        Token::Within(bracket) => {
+            is_free(options, opening, c) && bracket.holds(c, options.case_sensitive)
         }
-        Token::Except(class) => {
-            is_free(options, opening, c) && !class.holds(c, options.case_sensitive)
+        Token::Except(bracket) => {
+            is_free(options, opening, c) && !bracket.holds(c, options.case_sensitive)
         }
     }
 }
@@ -34,13 +34,13 @@ pub fn takes<A: Allocator>(
 fn is_free(options: MatchOptions, opening: bool, c: char) -> bool
     ensures { result ≡ taking.is_free options opening c }
 {
-    !(options.require_literal_separator && c == '/') && !is_kept_dot(options, opening, c)
+    !(options.require_literal_separator && c == '/') && !is_excluded_dot(options, opening, c)
 }
 
 /// Whether the dot rule keeps the character from wildcards.
 #[inline(always)]
-pub fn is_kept_dot(options: MatchOptions, opening: bool, c: char) -> bool
-    ensures { result ≡ taking.is_kept_dot options opening c }
+pub fn is_excluded_dot(options: MatchOptions, opening: bool, c: char) -> bool
+    ensures { result ≡ taking.is_excluded_dot options opening c }
 {
     options.require_literal_leading_dot && opening && c == '.'
 }
@@ -49,7 +49,7 @@ pub fn is_kept_dot(options: MatchOptions, opening: bool, c: char) -> bool
 /// apart from the judge's loop, which seldom comes here, so that the judge stays in registers.
 #[inline(never)]
 pub fn take_left<A: Allocator>(
-    tokens: &[Token<Class<A>>],
+    tokens: &[Token<Bracket<A>>],
     word: usize,
     asked: u64,
     options: MatchOptions,

@@ -1,20 +1,19 @@
 use Rattle.std.proofs.Common.{◌≡◌, ◌+◌, ◌*◌, ◌/◌, ℕ, [], length, refl, arith}
 use Rattle.std.proofs.lemmas.Str.{chars-nil}
 use Rattle.glob_pattern.specs.Grammar.Units.{HasTokens}
-use Rattle.glob_pattern.specs.Private.Masks.{AreMasks}
-use Rattle.glob_pattern.proofs.MaskLemmas.Masks.{AreMasks-none}
+use Rattle.glob_pattern.specs.Private.Masks.{AreAllMasks}
 use Rattle.glob_pattern.proofs.pattern.Pattern.default.Goals as goal
 
 -- The empty text has no token.
 HasTokens-nil : HasTokens [] []
 HasTokens-nil = ([], refl, refl)
 
--- and no word of masks
-AreMasks-nil : AreMasks [] 0 []
-AreMasks-nil = let none : length {A = ℕ} [] ≡ 131 * ((0 + 63) / 64) = omega arith in AreMasks-none [] [] none 0 refl
+-- and no masks
+AreAllMasks-nil : AreAllMasks [] []
+AreAllMasks-nil = record { count = refl; each = λ i d lt. absurd (omega arith) }
 
 pub invariant_of-result : goal.invariant_of-result
-invariant_of-result g c = (rw (c.new-2.ensures.items, c.new-4.ensures.items) AreMasks-nil, _)
+invariant_of-result g c = (rw (c.new-2.ensures.items, c.new-4.ensures.items) AreAllMasks-nil, _)
 
 pub invariant_of-result-2 : goal.invariant_of-result-2
 invariant_of-result-2 g c = record {

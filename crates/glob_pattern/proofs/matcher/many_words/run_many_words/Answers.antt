@@ -1,0 +1,45 @@
+use Rattle.std.proofs.Common.{◌≡◌, ℕ, ◌∙◌, length, sym, subst, arith}
+use Rattle.std.proofs.lemmas.Bool.{false≢true}
+use Rattle.glob_pattern.specs.Private.Positions.{IsPositionSet}
+use Rattle.glob_pattern.proofs.PositionLemmas.Alive.{asked_more, asked_all}
+use Rattle.glob_pattern.proofs.Counts.{mul-left}
+use Rattle.glob_pattern.proofs.PositionLemmas.TakenPrefixes.{dead-never_splits}
+use Rattle.glob_pattern.proofs.matcher.many_words.run_many_words.Goals as goal
+
+pub returns-then-not-step-clause-answer : goal.returns-then-not-step-clause-answer
+returns-then-not-step-clause-answer g c =
+    let i = c.loop-positions.invariant in
+    let table : g.J.Judge.table c.step.new.self ≡ g.J.Judge.table c.args.judge.now = c.step.ensures.same ∙ i.same in
+    let stepped = rw table at (c.step.ensures.stepped c.loop-positions-test.true) in
+    let dead = rw (table, i.shapes) at (c.step-in-loop-positions.ensures.dead c.if-not-step.true) in (
+      λ t. absurd (false≢true t),
+      λ split. absurd (dead-never_splits (g.J.Judge.table c.args.judge.now) c.args.shapes.now (g.J.Judge.place c.step.new.self) (record { none = dead }) stepped.1 split),
+    )
+
+pub loop-positions-preserved : goal.loop-positions-preserved
+loop-positions-preserved g c =
+    let i = c.loop-positions.invariant in
+    let table : g.J.Judge.table c.step.new.self ≡ g.J.Judge.table c.args.judge.now = c.step.ensures.same ∙ i.same in
+    let stepped = rw table at (c.step.ensures.stepped c.loop-positions-test.true) in
+    let h = rw (table, i.shapes) at c.step-in-loop-positions.ensures in
+    let room = mul-left (length c.args.shapes.now) (g.J.Judge.table c.args.judge.now).characters (g.J.Judge.place c.loop-positions.judge) (omega (arith, stepped.0, stepped.1)) in
+    record {
+      shapes = h.shapes;
+      positions = rw h.place h.positions;
+      within = rw h.place stepped.1;
+      most = rw (h.place, stepped.0) (omega (arith, room, h.most, c.step.ensures.count, i.most));
+      least = rw h.place
+          (asked_more (g.J.Judge.table c.args.judge.now) c.args.shapes.now (g.J.Judge.place c.args.judge.now) (g.J.Judge.count c.args.judge.now) (g.J.Judge.place c.loop-positions.judge) (g.J.Judge.place c.step.new.self) (g.J.Judge.count c.loop-positions.judge) (g.J.Judge.count c.step-in-loop-positions.new.judge) stepped.0 (rw c.step.ensures.count at h.least) i.least);
+      monotone = omega (arith, h.monotone, i.monotone, c.step.ensures.count);
+      same = h.same;
+    }
+
+pub returns-clause-least : goal.returns-clause-least
+returns-clause-least g c = λ yes.
+    let i = c.loop-positions.invariant in
+    let table : g.J.Judge.table c.step.new.self ≡ g.J.Judge.table c.args.judge.now = c.step.ensures.same ∙ i.same in
+    let ended = rw table at (c.step.ensures.ended c.loop-positions-test.false) in
+    let positions = subst (λ (k : ℕ). IsPositionSet (g.J.Judge.table c.args.judge.now) c.args.shapes.now k c.loop-positions.positions.words.items) (sym ended.1) i.positions in
+    let whole = rw i.shapes at (c.is_whole.ensures (g.J.Judge.table c.args.judge.now)) in
+    let asked = asked_all (g.J.Judge.table c.args.judge.now) c.args.shapes.now (g.J.Judge.place c.args.judge.now) (g.J.Judge.count c.args.judge.now) (g.J.Judge.place c.loop-positions.judge) (g.J.Judge.count c.loop-positions.judge) ended.1 i.least ((whole positions).0 yes) in
+    omega (arith, asked, c.step.ensures.count, c.requires.place)

@@ -1,0 +1,34 @@
+-- How far leading shapes reach: what the rows of a match say, in contracts that are not public.
+use Rattle.std.specs.Prelude.{◌≡◌, ℕ, zero, suc, ◌+◌, ◌<◌, ◌≤◌, ◌≢◌, ◌⊎◌, ◌↔◌, List, length, drop, slice_index_or, IsTrue}
+use Rattle.glob_pattern.specs.Matching.Splits.{Table, TakesAll, MayReach}
+use Rattle.glob_pattern.specs.declared.matcher.Shape.{Shape}
+use Rattle.glob_pattern.specs.declared.matcher.Shape.TheVariants.{One}
+
+-- the first n shapes split the characters before place k
+unfoldable pub PrefixSplits : Table → List Shape → (n k : ℕ) → Type 0
+PrefixSplits table shapes zero k = k ≡ 0
+PrefixSplits table shapes (suc n) k =
+    (i : ℕ) × PrefixSplits table shapes n i × MayReach table (slice_index_or shapes n One) (drop (suc n) shapes) i k
+    × TakesAll table n i k
+
+-- At place k the first n shapes are alive: they split the characters before it, or fewer, and the rest may begin a
+-- piece of the next shape.
+unfoldable pub IsAlive : Table → List Shape → (n k : ℕ) → Type 0
+IsAlive table shapes n k =
+    (i : ℕ) × (i ≤ k) × PrefixSplits table shapes n i × TakesAll table n i k
+    × ((i ≡ k) ⊎ (slice_index_or shapes n One ≢ One))
+
+-- the first n shapes were alive at the place before place k, and token n takes the character between
+unfoldable pub HasTaken : Table → List Shape → (n k : ℕ) → Type 0
+HasTaken table shapes n zero = ⊥
+HasTaken table shapes n (suc k) = IsAlive table shapes n k × IsTrue (table.takes n k)
+
+-- of all tokens, the one before place k alone has taken the character before it
+pub record TakenByLast (table : Table) (shapes : List Shape) (k : ℕ) : Type 0 where
+  pub last : (n : ℕ) → n < length shapes → HasTaken table shapes n k ↔ (n + 1 ≡ k)
+
+-- the first n shapes are of one character, and the token of each takes the character of its own number
+pub record IsTakenPrefix (table : Table) (shapes : List Shape) (n : ℕ) : Type 0 where
+  pub within : n ≤ length shapes
+  pub ones : (j : ℕ) → j < n → slice_index_or shapes j One ≡ One
+  pub taken : TakenByLast table shapes n
