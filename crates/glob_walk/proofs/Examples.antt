@@ -5,6 +5,7 @@ pub mod Dotted
 pub mod Edges
 pub mod Goals
 pub mod Held
+pub mod Joined
 pub mod Limits
 pub mod Ordered
 pub mod Recursive

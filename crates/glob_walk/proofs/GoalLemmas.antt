@@ -1,0 +1,12 @@
+pub mod Characters
+pub mod Covered
+pub mod Finding
+pub mod Finds
+pub mod Hits
+pub mod LiteralComponents
+pub mod Misses
+pub mod OnceInOrder
+pub mod Pairs
+pub mod PatternParts
+pub mod ReachedGoals
+pub mod Undivided

@@ -1,0 +1,223 @@
+-- The paths of the written listing come once, and in order.
+use Rattle.std.proofs.Common.{◌≡◌, ◌≢◌, ℕ, suc, ◌+◌, ◌-◌, ◌<◌, ◌≤◌, Bool, true, false, cond, not, List, [], ◌∷◌, ◌++◌, length, drop, map, filter, refl, sym, ap, ap₂, subst, ◌∙◌, arith}
+use Rattle.std.specs.Prelude.{Contains, AllPairs, nat_le}
+use Rattle.std.specs.List.{list_any, prefix_len, join_with_byte}
+use Rattle.std.specs.Cmp.Lexicographic.{slice_cmp}
+use Rattle.std.specs.Ordering.{nat_cmp, is_eq}
+use Rattle.std.specs.Str.{IsUtf8}
+use Rattle.std.specs.declared.cmp.Ordering.{Ordering}
+use Rattle.std.specs.declared.cmp.Ordering.TheVariants.{Less, Equal, Greater}
+use Rattle.std.proofs.lemmas.Bool.{false≢true, both_ways, or_parts, and_parts, cond-true, cond-false, not-true, not_from_false, leb-true}
+use Rattle.std.proofs.lemmas.List.Elements.{Contains-append_left}
+use Rattle.std.proofs.lemmas.List.Kept.{AllPairs-cons}
+use Rattle.std.proofs.lemmas.Map.Text.{is_eq-slice_cmp}
+use Rattle.std.proofs.lemmas.Slice.Eq.{bytes_eq-Decides}
+use Rattle.glob_text.specs.Text.{Text}
+use Rattle.glob_text.specs.Characters.{slash}
+use Rattle.glob_text.specs.Pieces.{is_empty, pieces}
+use Rattle.glob_tree.specs.Content.{Content, Key}
+use Rattle.glob_walk.specs.Marks.{Item, items, paths, IsBeginning}
+use Rattle.glob_walk.specs.Components.{has_root, start, components, wants_directories, begins_recursive, is_recursive}
+use Rattle.glob_walk.specs.Listing.{listing}
+use Rattle.glob_walk.specs.Goal.{is_plain, start_key, text_below}
+use Rattle.glob_walk.specs.Order.{from_run, after_run, has_one_run, keeps_order, names_of, path_cmp, IsOnce, IsAscending, IsOrderly}
+use Rattle.glob_pattern.specs.declared.options.MatchOptions.{MatchOptions}
+use Rattle.glob_tree.proofs.ContentLemmas.Membership.{Contains-head, Contains-tail, All-from_contains}
+use Rattle.glob_tree.proofs.ContentLemmas.Contents.{IsContent}
+use Rattle.glob_tree.proofs.ContentLemmas.Resolving.{pieces-append, pieces_one}
+use Rattle.glob_walk.proofs.ListingLemmas.Marks.{paths-append}
+use Rattle.glob_walk.proofs.GoalLemmas.Finds.{Find, Hit, Miss, item_under, under}
+use Rattle.glob_walk.proofs.GoalLemmas.Hits.{IsHit, sound_hits}
+use Rattle.glob_walk.proofs.GoalLemmas.LiteralComponents.{own_name}
+use Rattle.glob_walk.proofs.GoalLemmas.PatternParts.{components-utf8}
+use Rattle.glob_walk.proofs.GoalLemmas.ReachedGoals.{AreNames, names_at, AreNames-from, under-start, finds, items-finds, here, hit_of, all_utf8, not_empty}
+use Rattle.glob_walk.proofs.GoalLemmas.Pairs.{Pairs, AtRuns, ordered_finds}
+
+-- a text compares as equal with itself
+cmp-same : (n : Text) → slice_cmp nat_cmp n n ≡ Equal
+cmp-same n = equal (slice_cmp nat_cmp n n) (is_eq-slice_cmp n n ∙ (bytes_eq-Decides n n).1 refl)
+  where
+    equal : (r : Ordering) → is_eq r ≡ true → r ≡ Equal
+    equal Less h = absurd (false≢true h)
+    equal Equal h = refl
+    equal Greater h = absurd (false≢true h)
+
+-- names that differ
+abbrev Differ : Key → Key → Type 0
+Differ a b = a ≢ b
+
+differ-cons : (n : Text) (a b : Key) → Differ a b → Differ (n ∷ a) (n ∷ b)
+differ-cons n a b other e = other (cc)
+
+differ-first : (m n : Text) (a b : Key) → slice_cmp nat_cmp m n ≡ Less → Differ (m ∷ a) (n ∷ b)
+differ-first m n a b less e = less_not_equal (sym less ∙ ap (λ x. slice_cmp nat_cmp x n) same ∙ cmp-same n)
+  where
+    same : m ≡ n
+    same = cc
+
+    less_not_equal : Less ≡ Equal → ⊥
+    less_not_equal f = cc
+
+differ-shorter : (m : ℕ) (a b : Key) → length a ≡ m → m < length b → Differ a b
+differ-shorter m a b l h e = omega (arith, ap length e)
+
+-- names in order
+abbrev Rises : Key → Key → Type 0
+Rises a b = slice_cmp (slice_cmp nat_cmp) a b ≡ Less
+
+rises-cons : (n : Text) (a b : Key) → Rises a b → Rises (n ∷ a) (n ∷ b)
+rises-cons n a b h = rw (cmp-same n) h
+
+rises-first : (m n : Text) (a b : Key) → slice_cmp nat_cmp m n ≡ Less → Rises (m ∷ a) (n ∷ b)
+rises-first m n a b less = rw less refl
+
+rises-shorter : (m : ℕ) → m ≡ 0 → (a b : Key) → length a ≡ m → m < length b → Rises a b
+rises-shorter m z [] [] l h = absurd (omega arith)
+rises-shorter m z [] (n ∷ b) l h = refl
+rises-shorter m z (x ∷ a) b l h = absurd (omega arith)
+
+-- the components after the first run
+from_run-other : (t : Text) (ts : List Text) → is_recursive t ≡ false → from_run (t ∷ ts) ≡ from_run ts
+from_run-other t ts e =
+    let one : 1 + prefix_len (λ u. not (is_recursive u)) ts ≡ suc (prefix_len (λ u. not (is_recursive u)) ts) = omega arith in
+    ap (λ k. drop k (t ∷ ts)) (cond-true (not (is_recursive t)) _ 0 (not_from_false (is_recursive t) e) ∙ one)
+
+from_run-run : (t : Text) (ts : List Text) → is_recursive t ≡ true → from_run (t ∷ ts) ≡ t ∷ ts
+from_run-run t ts e = ap (λ b. drop (cond (not b) (1 + prefix_len (λ u. not (is_recursive u)) ts) 0) (t ∷ ts)) e
+
+after_run-other : (t : Text) (ts : List Text) → is_recursive t ≡ false → after_run (t ∷ ts) ≡ after_run ts
+after_run-other t ts e = ap (λ us. drop (prefix_len is_recursive us) us) (from_run-other t ts e)
+
+past : List Text → List Text
+past ts = drop (prefix_len is_recursive ts) ts
+
+past-run : (t : Text) (ts : List Text) → is_recursive t ≡ true → past (t ∷ ts) ≡ past ts
+unfolding past
+past-run t ts e =
+    let one : 1 + prefix_len is_recursive ts ≡ suc (prefix_len is_recursive ts) = omega arith in
+    ap (λ k. drop k (t ∷ ts)) (cond-true (is_recursive t) _ 0 e ∙ one)
+
+past-other : (ts : List Text) → begins_recursive ts ≡ false → past ts ≡ ts
+unfolding past
+past-other [] e = refl
+past-other (t ∷ ts) e = ap (λ k. drop k (t ∷ ts)) (cond-false (is_recursive t) _ 0 e)
+
+after_run-run : (t : Text) (ts : List Text) → is_recursive t ≡ true → after_run (t ∷ ts) ≡ past ts
+unfolding past
+after_run-run t ts e = ap (λ us. drop (prefix_len is_recursive us) us) (from_run-run t ts e) ∙ past-run t ts e
+
+after_run-more : (ts : List Text) → begins_recursive ts ≡ true → after_run ts ≡ past ts
+unfolding past
+after_run-more [] e = absurd (false≢true e)
+after_run-more (t ∷ ts) e = after_run-run t ts e ∙ sym (past-run t ts e)
+
+module _ (c : Content) (w : IsContent c) (R : Key → Key → Type 0)
+    (cons : (n : Text) (a b : Key) → R a b → R (n ∷ a) (n ∷ b))
+    (first : (m n : Text) (a b : Key) → slice_cmp nat_cmp m n ≡ Less → R (m ∷ a) (n ∷ b)) (o : MatchOptions) (directories : Bool) where
+  -- where no `**` is left
+  at_no_run : (ts : List Text) → list_any is_recursive ts ≡ false → AtRuns c w R cons first o directories ts
+  at_no_run [] h = tt
+  at_no_run (t ∷ ts) h =
+      let both = or_parts (is_recursive t) (list_any is_recursive ts) h in
+      ((λ r last. absurd (both_ways (is_recursive t) both.0 r)), at_no_run ts both.1)
+
+  at_runs : (ts : List Text) → list_any is_recursive (after_run ts) ≡ false → ((a b : Key) → length a ≡ length (after_run ts) - 1 → length (after_run ts) - 1 < length b → R a b) → AtRuns c w R cons first o directories ts
+  at_runs [] h shorter = tt
+  at_runs (t ∷ ts) h shorter = by_test (is_recursive t) refl
+      (λ e. at_runs ts (subst (λ us. list_any is_recursive us ≡ false) e h) (subst (λ us. (a b : Key) → length a ≡ length us - 1 → length us - 1 < length b → R a b) e shorter))
+    where
+      by_next : is_recursive t ≡ true → (b : Bool) → begins_recursive ts ≡ b → (after_run (t ∷ ts) ≡ after_run ts → AtRuns c w R cons first o directories ts) → AtRuns c w R cons first o directories (t ∷ ts)
+      by_next r true more further = ((λ q last. absurd (both_ways (begins_recursive ts) last more)), further (after_run-run t ts r ∙ sym (after_run-more ts more)))
+      by_next r false last further =
+          let e : after_run (t ∷ ts) ≡ ts = after_run-run t ts r ∙ past-other ts last in
+          let plain = subst (λ us. list_any is_recursive us ≡ false) e h in
+          ((λ q l. (plain, subst (λ us. (a b : Key) → length a ≡ length us - 1 → length us - 1 < length b → R a b) e shorter)), at_no_run ts plain)
+
+      by_test : (b : Bool) → is_recursive t ≡ b → (after_run (t ∷ ts) ≡ after_run ts → AtRuns c w R cons first o directories ts) → AtRuns c w R cons first o directories (t ∷ ts)
+      by_test true r further = by_next r (begins_recursive ts) refl further
+      by_test false r further = ((λ q last. absurd (both_ways (is_recursive t) r q)), further (after_run-other t ts r))
+
+-- the paths of what is found
+Pairs-paths : (R : Key → Key → Type 0) (S : Text → Text → Type 0) (path : Text) (fs : List Find)
+    → Pairs (λ f g. (a b : Key) → f ≡ Hit a → g ≡ Hit b → R a b) fs
+    → ((text : Text) → Contains (paths (map (item_under path) fs)) text → (names : Key) × (text ≡ under path names) × Contains fs (Hit names))
+    → ((a b : Key) → Contains fs (Hit a) → Contains fs (Hit b) → R a b → S (under path a) (under path b))
+    → ((gs : List Find) (text : Text) → Contains (paths (map (item_under path) gs)) text → (names : Key) × (text ≡ under path names) × Contains gs (Hit names))
+    → Pairs S (paths (map (item_under path) fs))
+Pairs-paths R S path [] pairs hit turn hits = tt
+Pairs-paths R S path (Hit a ∷ fs) pairs hit turn hits = (
+  λ text in'.
+      let (b, e, there) = hits fs text in' in
+      subst (S (under path a)) (sym e) (turn a b (Contains-head (Hit a) fs) (Contains-tail (Hit a) fs (Hit b) there) (pairs.0 (Hit b) there a b refl refl)),
+  Pairs-paths R S path fs pairs.1 (hits fs) (λ x y left right. turn x y (Contains-tail (Hit a) fs (Hit x) left) (Contains-tail (Hit a) fs (Hit y) right)) hits,
+)
+Pairs-paths R S path (Miss a kind ∷ fs) pairs hit turn hits =
+    Pairs-paths R S path fs pairs.1 (hits fs) (λ x y left right. turn x y (Contains-tail (Miss a kind) fs (Hit x) left) (Contains-tail (Miss a kind) fs (Hit y) right)) hits
+
+Pairs-front : {X : Type 0} (S : X → X → Type 0) (xs ys : List X) → Pairs S (xs ++ ys) → Pairs S xs
+Pairs-front S [] ys p = tt
+Pairs-front S (x ∷ xs) ys p = ((λ y in'. p.0 y (Contains-append_left xs ys y in')), Pairs-front S xs ys p.1)
+
+AllPairs-from : {X : Type 0} (S : X → X → Type 0) (xs : List X) → Pairs S xs → AllPairs S xs
+AllPairs-from S [] p = λ i j d l h. absurd (omega arith)
+AllPairs-from S (x ∷ xs) p = AllPairs-cons S x xs (All-from_contains (S x) xs p.0) (AllPairs-from S xs p.1)
+
+-- the names of a path are those that it was made of
+pieces-joined : (n : Text) (ns : Key) → AreNames (n ∷ ns) → pieces (join_with_byte slash (n ∷ ns)) ≡ n ∷ ns
+pieces-joined n [] names = pieces_one n names.0.plain
+pieces-joined n (m ∷ ns) names =
+    pieces-append n (join_with_byte slash (m ∷ ns)) ∙ ap₂ (λ x y. x ++ y) (pieces_one n names.0.plain) (pieces-joined m ns names.1)
+
+kept_names : (ns : Key) → AreNames ns → filter (λ piece. not (is_empty piece)) ns ≡ ns
+kept_names [] names = refl
+kept_names (n ∷ ns) names = cond-true (not (is_empty n)) _ _ (some n names.0.some) ∙ ap (λ ms. n ∷ ms) (kept_names ns names.1)
+  where
+    some : (n : Text) → 0 < length n → not (is_empty n) ≡ true
+    some [] l = absurd (omega arith)
+    some (x ∷ xs) l = refl
+
+names_of-below : (pattern : Text) (n : Text) (ns : Key) → AreNames (n ∷ ns) → names_of (text_below pattern (n ∷ ns)) ≡ n ∷ ns
+names_of-below pattern n ns names = by_root (has_root pattern)
+  where
+    by_root : (b : Bool) → names_of (cond b (slash ∷ join_with_byte slash (n ∷ ns)) (join_with_byte slash (n ∷ ns))) ≡ n ∷ ns
+    by_root true = ap (filter (λ piece. not (is_empty piece))) (pieces-append [] (join_with_byte slash (n ∷ ns)) ∙ ap (λ ps. [] ∷ ps) (pieces-joined n ns names)) ∙ kept_names (n ∷ ns) names
+    by_root false = ap (filter (λ piece. not (is_empty piece))) (pieces-joined n ns names) ∙ kept_names (n ∷ ns) names
+
+module _ (c : Content) (w : IsContent c) (o : MatchOptions) (case : o.case_sensitive ≡ true) (pattern : Text) (utf8 : IsUtf8 pattern) (plain : is_plain pattern ≡ true) where
+  -- the names of a hit are those of its path
+  hit_names : (names : Key) → Contains (finds c w o case pattern utf8 plain) (Hit names) → names_of (under (start pattern) names) ≡ names
+  hit_names names in' = of_hit names (sound_hits c w o (wants_directories pattern) (own_name o case) (components pattern) (all_utf8 c w o case pattern utf8 plain (components pattern) (components-utf8 pattern utf8)) (start_key c pattern) true (here c w o case pattern utf8 plain) names in')
+    where
+      of_hit : (names : Key) → IsHit c w o (wants_directories pattern) (components pattern) (start_key c pattern) names → names_of (under (start pattern) names) ≡ names
+      of_hit [] is = absurd (not_empty c w o case pattern utf8 plain [] is.taken refl)
+      of_hit (n ∷ ns) is =
+          let all = AreNames-from (n ∷ ns) (names_at c w (start_key c pattern) (n ∷ ns) is.kind is.held) in
+          ap names_of (under-start pattern n ns all) ∙ names_of-below pattern n ns all
+
+  given_pairs : (R : Key → Key → Type 0) (S : Text → Text → Type 0) → Pairs (λ f g. (a b : Key) → f ≡ Hit a → g ≡ Hit b → R a b) (finds c w o case pattern utf8 plain)
+      → ((p q : Text) → R (names_of p) (names_of q) → S p q) → (given : List Item) → IsBeginning given (items (listing c o pattern)) → AllPairs S (paths given)
+  given_pairs R S pairs turn given begins =
+      AllPairs-from S (paths given) (Pairs-front S (paths given) (paths begins.0)
+      (subst (Pairs S) (ap paths (sym (items-finds c w o case pattern utf8 plain) ∙ begins.1) ∙ paths-append given begins.0)
+      (Pairs-paths R S (start pattern) (finds c w o case pattern utf8 plain) pairs (hit_of c w o case pattern utf8 plain (finds c w o case pattern utf8 plain))
+      (λ a b left right r. turn (under (start pattern) a) (under (start pattern) b) (subst (λ x. R x (names_of (under (start pattern) b))) (sym (hit_names a left)) (subst (R a) (sym (hit_names b right)) r)))
+      (hit_of c w o case pattern utf8 plain))))
+
+  -- a beginning of the written listing gives its paths once and in order, as the pattern has runs
+  pub listing_orderly : (given : List Item) → IsBeginning given (items (listing c o pattern)) → IsOrderly pattern (paths given)
+  listing_orderly given begins = record { once = once; ascending = ascending }
+    where
+      once : has_one_run pattern ≡ true → IsOnce (paths given)
+      once h = given_pairs Differ (λ p q. p ≢ q)
+          (ordered_finds c w Differ differ-cons differ-first o (wants_directories pattern) (components pattern)
+          (at_runs c w Differ differ-cons differ-first o (wants_directories pattern) (components pattern) (not-true _ h) (differ-shorter (length (after_run (components pattern)) - 1))) (start_key c pattern) true)
+          (λ p q r e. r (ap names_of e)) given begins
+
+      ascending : keeps_order pattern ≡ true → IsAscending (paths given)
+      ascending h =
+          let both = and_parts (has_one_run pattern) (nat_le (length (after_run (components pattern))) 1) h in
+          let few : length (after_run (components pattern)) ≤ 1 = leb-true _ 1 both.1 in
+          given_pairs Rises (λ p q. path_cmp p q ≡ Less)
+          (ordered_finds c w Rises rises-cons rises-first o (wants_directories pattern) (components pattern)
+          (at_runs c w Rises rises-cons rises-first o (wants_directories pattern) (components pattern) (not-true _ both.0) (rises-shorter (length (after_run (components pattern)) - 1) (omega arith))) (start_key c pattern) true)
+          (λ p q r. r) given begins
