@@ -27,11 +27,11 @@ use Rattle.glob_tree.proofs.ContentLemmas.Contents.{IsContent}
 use Rattle.glob_tree.proofs.ContentLemmas.Resolving.{pieces-append, pieces_one}
 use Rattle.glob_walk.proofs.ListingLemmas.Marks.{paths-append}
 use Rattle.glob_walk.proofs.GoalLemmas.Finds.{Find, Hit, Miss, item_under, under}
-use Rattle.glob_walk.proofs.GoalLemmas.Hits.{IsHit, sound_hits}
+use Rattle.glob_walk.proofs.GoalLemmas.FoundIsTaken.{IsHit, sound_hits}
 use Rattle.glob_walk.proofs.GoalLemmas.LiteralComponents.{own_name}
 use Rattle.glob_walk.proofs.GoalLemmas.PatternParts.{components-utf8}
 use Rattle.glob_walk.proofs.GoalLemmas.ReachedGoals.{AreNames, names_at, AreNames-from, under-start, finds, items-finds, here, hit_of, all_utf8, not_empty}
-use Rattle.glob_walk.proofs.GoalLemmas.Pairs.{Pairs, AtRuns, ordered_finds}
+use Rattle.glob_walk.proofs.GoalLemmas.FoundInOrder.{Pairs, AtRuns, ordered_finds}
 
 -- a text compares as equal with itself
 cmp-same : (n : Text) → slice_cmp nat_cmp n n ≡ Equal
@@ -188,7 +188,7 @@ module _ (c : Content) (w : IsContent c) (o : MatchOptions) (case : o.case_sensi
   hit_names : (names : Key) → Contains (finds c w o case pattern utf8 plain) (Hit names) → names_of (under (start pattern) names) ≡ names
   hit_names names in' = of_hit names (sound_hits c w o (wants_directories pattern) (own_name o case) (components pattern) (all_utf8 c w o case pattern utf8 plain (components pattern) (components-utf8 pattern utf8)) (start_key c pattern) true (here c w o case pattern utf8 plain) names in')
     where
-      of_hit : (names : Key) → IsHit c w o (wants_directories pattern) (components pattern) (start_key c pattern) names → names_of (under (start pattern) names) ≡ names
+      of_hit : (names : Key) → IsHit c o (wants_directories pattern) (components pattern) (start_key c pattern) names → names_of (under (start pattern) names) ≡ names
       of_hit [] is = absurd (not_empty c w o case pattern utf8 plain [] is.taken refl)
       of_hit (n ∷ ns) is =
           let all = AreNames-from (n ∷ ns) (names_at c w (start_key c pattern) (n ∷ ns) is.kind is.held) in

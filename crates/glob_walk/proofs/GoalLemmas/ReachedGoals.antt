@@ -32,9 +32,10 @@ use Rattle.glob_tree.proofs.MemoryLemmas.Keys.{directory_kind}
 use Rattle.glob_pattern.specs.Matching.Components.{takes_names}
 use Rattle.glob_walk.proofs.GoalLemmas.Finds.{Find, Hit, Miss, item_under, under, enter_names}
 use Rattle.glob_walk.proofs.GoalLemmas.Characters.{AllUtf8}
-use Rattle.glob_walk.proofs.GoalLemmas.Finding.{same_enter, held_above}
-use Rattle.glob_walk.proofs.GoalLemmas.Hits.{run-nil, takes-one_none, Here, IsHit, sound_hits, map-contains}
-use Rattle.glob_walk.proofs.GoalLemmas.Covered.{whole_hits, on_the_way}
+use Rattle.glob_walk.proofs.GoalLemmas.ListingFinds.{same_enter, held_above}
+use Rattle.glob_walk.proofs.GoalLemmas.FoundIsTaken.{Here, IsHit, sound_hits, map-contains}
+use Rattle.glob_walk.proofs.GoalLemmas.TakenNames.{run-nil, takes-one_none}
+use Rattle.glob_walk.proofs.GoalLemmas.TakenIsFound.{whole_hits, on_the_way}
 use Rattle.glob_walk.proofs.GoalLemmas.LiteralComponents.{own_only, own_name}
 use Rattle.glob_walk.proofs.GoalLemmas.PatternParts.{components-utf8, components-flat}
 use Rattle.glob_walk.proofs.GoalLemmas.Undivided.{undivided_takes}
@@ -227,9 +228,9 @@ module _ (c : Content) (w : IsContent c) where
       where
         no_names : (ts : List Text) → 0 < length ts → takes_names o (matches_name o) ts [] ≡ true → ⊥
         no_names [] l g = omega arith
-        no_names (t ∷ ts) l g = ⊎_elim (λ r. run-nil c w o (wants_directories pattern) t ts r g) (λ r. both_ways (takes_names o (matches_name o) (t ∷ ts) []) (takes-one_none c w o (wants_directories pattern) t ts r) g) (cases_Bool (is_recursive t))
+        no_names (t ∷ ts) l g = ⊎_elim (λ r. run-nil o t ts r g) (λ r. both_ways (takes_names o (matches_name o) (t ∷ ts) []) (takes-one_none o t ts r) g) (cases_Bool (is_recursive t))
 
-    goal_of_hit : (names : Key) → IsHit c w o (wants_directories pattern) (components pattern) (start_key c pattern) names → (text : Text) → text ≡ under (start pattern) names → Contains (goal c o pattern) text
+    goal_of_hit : (names : Key) → IsHit c o (wants_directories pattern) (components pattern) (start_key c pattern) names → (text : Text) → text ≡ under (start pattern) names → Contains (goal c o pattern) text
     unfolding goal
     goal_of_hit [] is text e = absurd (not_empty [] is.taken refl)
     goal_of_hit (n ∷ ns) is text e =
@@ -247,7 +248,7 @@ module _ (c : Content) (w : IsContent c) where
       name : Text
       names : Key
       text_is : text ≡ text_below pattern (name ∷ names)
-      hit : IsHit c w o (wants_directories pattern) (components pattern) (start_key c pattern) (name ∷ names)
+      hit : IsHit c o (wants_directories pattern) (components pattern) (start_key c pattern) (name ∷ names)
       proper : list_all (λ n. is_utf8 n && is_proper n) (name ∷ names) ≡ true
 
     goal_text-parts : (kind : Kind) (names : Key) (text : Text) → kind_at c (start_key c pattern ++ names) ≡ Some kind → goal_text o pattern kind names ≡ Some text → IsGoal text

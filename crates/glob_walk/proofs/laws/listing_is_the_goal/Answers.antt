@@ -3,7 +3,7 @@ use Rattle.std.proofs.lemmas.List.{append-nil}
 use Rattle.glob_walk.specs.Marks.{items}
 use Rattle.glob_walk.specs.Listing.{listing}
 use Rattle.glob_tree.proofs.ContentLemmas.Contents.{IsContent-from_test}
-use Rattle.glob_walk.proofs.GoalLemmas.Misses.{no_error}
+use Rattle.glob_walk.proofs.GoalLemmas.NoError.{no_error}
 use Rattle.glob_walk.proofs.GoalLemmas.ReachedGoals.{listing_reaches}
 use Rattle.glob_walk.proofs.laws.listing_is_the_goal.Goals as goal
 

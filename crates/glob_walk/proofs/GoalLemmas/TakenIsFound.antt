@@ -24,8 +24,10 @@ use Rattle.glob_tree.proofs.ContentLemmas.Directories.{is_dir_at-kind}
 use Rattle.glob_tree.proofs.ContentLemmas.Sorting.{sorted_entries-contains}
 use Rattle.glob_tree.proofs.MemoryLemmas.Keys.{all_above, directory_kind}
 use Rattle.glob_walk.proofs.GoalLemmas.Finds.{Find, Hit, Miss, deepen, below, list_kind, list_names, found_names, descent_names, enter_names, meet_names}
-use Rattle.glob_walk.proofs.GoalLemmas.Finding.{kind-Literal, kind-Recursive, kind-Wild, literal_not_recursive, held_above, names-literal, names-wild, names-run, names-levels}
-use Rattle.glob_walk.proofs.GoalLemmas.Hits.{flat_map-contains, map-contains, Here, Here-dir, takes, opens_to, takes-one, takes-one_none, run-cases, run-nil, run-run, IsHit, IsMet, held-from_deeper, ends-cons}
+use Rattle.glob_walk.proofs.GoalLemmas.ListingFinds.{kind-Literal, kind-Recursive, kind-Wild, literal_not_recursive, held_above, names-literal, names-wild, names-run, names-levels}
+use Rattle.glob_walk.proofs.GoalLemmas.FoundIsTaken.{flat_map-contains, map-contains, Here, Here-dir, IsHit, IsMet, held-from_deeper, ends-cons}
+use Rattle.glob_pattern.specs.Matching.Components.{is_open}
+use Rattle.glob_walk.proofs.GoalLemmas.TakenNames.{takes, takes-one, takes-one_none, run-cases, run-nil, run-run}
 
 module _ (c : Content) (w : IsContent c) where
   -- what stands on the way to a key
@@ -86,8 +88,8 @@ module _ (c : Content) (w : IsContent c) where
   Gives-cond false xs k names e h = absurd (false≢true e)
 
   -- a directory's entry, or nothing where the directory is shut
-  Gives-list_result : (k : Key) (n : Text) (ns : Key) (kind : Kind) → kind_at c (k ++ n ∷ []) ≡ Some kind → (each : DirEntry → List Find) → Gives (each (n, is_dir kind)) k (n ∷ ns) → Gives (list_names c k each) k (n ∷ ns)
-  Gives-list_result k n ns kind held each h = by_kind (kind_at c k) refl (held_above c w k n kind held)
+  Gives-listed : (k : Key) (n : Text) (ns : Key) (kind : Kind) → kind_at c (k ++ n ∷ []) ≡ Some kind → (each : DirEntry → List Find) → Gives (each (n, is_dir kind)) k (n ∷ ns) → Gives (list_names c k each) k (n ∷ ns)
+  Gives-listed k n ns kind held each h = by_kind (kind_at c k) refl (held_above c w k n kind held)
     where
       cons_some : n ∷ ns ≢ []
       cons_some e = cc
@@ -110,10 +112,10 @@ module _ (c : Content) (w : IsContent c) where
   module _ (o : MatchOptions) (directories : Bool)
       (own : (t n : Text) → is_literal t ≡ true → is_utf8 t ≡ true → is_utf8 n ≡ true → matches_name o t n ≡ true → t ≡ n) where
     abbrev Entered : List Text → Type 0
-    Entered ts = (k : Key) (d : Bool) → Here c k d → (names : Key) → IsHit c w o directories ts k names → Gives (enter_names c o directories ts k d) k names
+    Entered ts = (k : Key) (d : Bool) → Here c k d → (names : Key) → IsHit c o directories ts k names → Gives (enter_names c o directories ts k d) k names
 
     abbrev Met : List Text → Text → Type 0
-    Met ts t = (k : Key) (name : Text) (d : Bool) → Here c k d → (names : Key) → IsMet c w o directories t ts k name names → Gives (meet_names c o directories ts k name d) k names
+    Met ts t = (k : Key) (name : Text) (d : Bool) → Here c k d → (names : Key) → IsMet c o directories t ts k name names → Gives (meet_names c o directories ts k name d) k names
 
     record BothWhole (ts : List Text) : Type 0 where
       entered : Entered ts
@@ -140,7 +142,7 @@ module _ (c : Content) (w : IsContent c) where
         let (e, open') = is.met in
         let directory : d ≡ true = sym (kind-here k d at names is.kind e is.held) ∙ by_tests directories (is_dir is.kind) (is_recursive t) r is.allowed in
         subst (Gives (cond (is_entered o name d) (Hit [] ∷ []) []) k) (sym e)
-        (Gives-cond (is_entered o name d) (Hit [] ∷ []) k [] (and_from d (opens_to c w o directories name) directory open') (inl (Contains-head (Hit []) [])))
+        (Gives-cond (is_entered o name d) (Hit [] ∷ []) k [] (and_from d (is_open o name) directory open') (inl (Contains-head (Hit []) [])))
       where
         by_tests : (b x r : Bool) → r ≡ true → (x || not (b || r)) ≡ true → x ≡ true
         by_tests b true r e h = refl
@@ -151,20 +153,20 @@ module _ (c : Content) (w : IsContent c) where
     whole-met : (u : Text) (us : List Text) → is_recursive u ≡ false → Entered us → (t : Text) → Met (u ∷ us) t
     unfolding meet_names
     whole-met u us plain next t k name d at names is =
-        let both = and_parts (matches_name o u name) (takes c w o directories us names) (sym (takes-one c w o directories u us name names plain) ∙ is.met) in
+        let both = and_parts (matches_name o u name) (takes o us names) (sym (takes-one o u us name names plain) ∙ is.met) in
         Gives-cond (matches_name o u name) (enter_names c o directories us k d) k names both.0
-        (next k d at names (record { kind = is.kind; held = is.held; taken = both.1; allowed = ap (λ x. is_dir is.kind || not (directories || x)) (sym (ends-cons c w o directories u us plain)) ∙ is.allowed }))
+        (next k d at names (record { kind = is.kind; held = is.held; taken = both.1; allowed = ap (λ x. is_dir is.kind || not (directories || x)) (sym (ends-cons u us plain)) ∙ is.allowed }))
 
     -- the hit of a component and of what follows it
     record IsStep (t : Text) (ts : List Text) (k : Key) (n : Text) (ns : Key) : Type 0 where
       matched : matches_name o t n ≡ true
       found : Kind
       stands : kind_at c (k ++ n ∷ []) ≡ Some found
-      hit : IsHit c w o directories ts (k ++ n ∷ []) ns
+      hit : IsHit c o directories ts (k ++ n ∷ []) ns
 
-    step_of : (t : Text) (ts : List Text) (k : Key) (n : Text) (ns : Key) → is_recursive t ≡ false → IsHit c w o directories (t ∷ ts) k (n ∷ ns) → IsStep t ts k n ns
+    step_of : (t : Text) (ts : List Text) (k : Key) (n : Text) (ns : Key) → is_recursive t ≡ false → IsHit c o directories (t ∷ ts) k (n ∷ ns) → IsStep t ts k n ns
     step_of t ts k n ns plain is =
-        let both = and_parts (matches_name o t n) (takes c w o directories ts ns) (sym (takes-one c w o directories t ts n ns plain) ∙ is.taken) in
+        let both = and_parts (matches_name o t n) (takes o ts ns) (sym (takes-one o t ts n ns plain) ∙ is.taken) in
         let way = on_the_way k n ns is.kind is.held in
         record {
           matched = both.0;
@@ -172,14 +174,14 @@ module _ (c : Content) (w : IsContent c) where
           stands = way.1;
           hit = record {
             kind = is.kind;
-            held = held-from_deeper c w o directories k n ns (Some is.kind) is.held;
+            held = held-from_deeper c k n ns (Some is.kind) is.held;
             taken = both.1;
-            allowed = ap (λ x. is_dir is.kind || not (directories || x)) (sym (ends-cons c w o directories t ts plain)) ∙ is.allowed;
+            allowed = ap (λ x. is_dir is.kind || not (directories || x)) (sym (ends-cons t ts plain)) ∙ is.allowed;
           };
         }
 
     whole-literal : (t : Text) (ts : List Text) → component_kind t ≡ Literal → is_utf8 t ≡ true → Entered ts → Entered (t ∷ ts)
-    whole-literal t ts kind utf8 next k d at [] is = absurd (both_ways _ (takes-one_none c w o directories t ts (literal_not_recursive t (kind-Literal t kind))) is.taken)
+    whole-literal t ts kind utf8 next k d at [] is = absurd (both_ways _ (takes-one_none o t ts (literal_not_recursive t (kind-Literal t kind))) is.taken)
     whole-literal t ts kind utf8 next k d at (n ∷ ns) is =
         let literal = kind-Literal t kind in
         let step = step_of t ts k n ns (literal_not_recursive t literal) is in
@@ -195,27 +197,27 @@ module _ (c : Content) (w : IsContent c) where
     is_directory_here k d at n found held = sym (Here-dir c k d at) ∙ held_above c w k n found held
 
     whole-wild : (t : Text) (ts : List Text) → component_kind t ≡ Wild → Entered ts → Entered (t ∷ ts)
-    whole-wild t ts kind next k d at [] is = absurd (both_ways _ (takes-one_none c w o directories t ts (kind-Wild t kind).1) is.taken)
+    whole-wild t ts kind next k d at [] is = absurd (both_ways _ (takes-one_none o t ts (kind-Wild t kind).1) is.taken)
     whole-wild t ts kind next k d at (n ∷ ns) is =
         let step = step_of t ts k n ns (kind-Wild t kind).1 is in
         subst (λ b. Gives (enter_names c o directories (t ∷ ts) k b) k (n ∷ ns)) (sym (is_directory_here k d at n step.found step.stands))
         (subst (λ fs. Gives fs k (n ∷ ns)) (sym (names-wild c o directories t ts k kind))
-        (Gives-list_result k n ns step.found step.stands (λ e. below e.0 (cond (matches_name o t e.0) (enter_names c o directories ts (k ++ e.0 ∷ []) e.1) []))
+        (Gives-listed k n ns step.found step.stands (λ e. below e.0 (cond (matches_name o t e.0) (enter_names c o directories ts (k ++ e.0 ∷ []) e.1) []))
         (Gives-below n (cond (matches_name o t n) (enter_names c o directories ts (k ++ n ∷ []) (is_dir step.found)) []) k ns
         (Gives-cond (matches_name o t n) (enter_names c o directories ts (k ++ n ∷ []) (is_dir step.found)) (k ++ n ∷ []) ns step.matched
         (next (k ++ n ∷ []) (is_dir step.found) (record { kind = step.found; held = step.stands; is = refl }) ns step.hit)))))
 
-    whole-descent : (t : Text) (ts : List Text) → is_recursive t ≡ true → Met ts t → (n : ℕ) (k names : Key) → is_dir_at c k ≡ true → levels c ≤ length k + n → IsHit c w o directories (t ∷ ts) k names
+    whole-descent : (t : Text) (ts : List Text) → is_recursive t ≡ true → Met ts t → (n : ℕ) (k names : Key) → is_dir_at c k ≡ true → levels c ≤ length k + n → IsHit c o directories (t ∷ ts) k names
         → Gives (descent_names c o (meet_names c o directories ts) n k) k names
     unfolding descent_names
-    whole-descent t ts r next n k [] d l is = absurd (run-nil c w o directories t ts r is.taken)
+    whole-descent t ts r next n k [] d l is = absurd (run-nil o t ts r is.taken)
     whole-descent t ts r next zero k (m ∷ ms) d l is = absurd (omega (arith, l, depth c k d))
     whole-descent t ts r next (suc n) k (m ∷ ms) d l is =
         let (found, stands) = on_the_way k m ms is.kind is.held in
         let met : List Find = meet_names c o directories ts (k ++ m ∷ []) m (is_dir found) in
         let deep : List Find = cond (is_entered o m (is_dir found)) (descent_names c o (meet_names c o directories ts) n (k ++ m ∷ [])) [] in
-        let deeper = held-from_deeper c w o directories k m ms (Some is.kind) is.held in
-        Gives-list_result k m ms found stands
+        let deeper = held-from_deeper c k m ms (Some is.kind) is.held in
+        Gives-listed k m ms found stands
         (λ e. below e.0 (meet_names c o directories ts (k ++ e.0 ∷ []) e.0 e.1 ++ (cond (is_entered o e.0 e.1) (descent_names c o (meet_names c o directories ts) n (k ++ e.0 ∷ [])) [])))
         (Gives-below m (met ++ deep) k ms
         (⊎_elim
@@ -223,13 +225,13 @@ module _ (c : Content) (w : IsContent c) where
         (next (k ++ m ∷ []) m (is_dir found) (record { kind = found; held = stands; is = refl }) ms (record { kind = is.kind; held = deeper; met = by; allowed = is.allowed })))
         (λ on. from_below found stands deeper on
         (λ directory. whole-descent t ts r next n (k ++ m ∷ []) ms directory (omega (arith, l, length-append k (m ∷ []))) (record { kind = is.kind; held = deeper; taken = on.1; allowed = is.allowed })) ms refl)
-        (run-cases c w o directories t ts m ms r is.taken)))
+        (run-cases o t ts m ms r is.taken)))
       where
         from_below : (found : Kind) → kind_at c (k ++ m ∷ []) ≡ Some found → kind_at c ((k ++ m ∷ []) ++ ms) ≡ Some is.kind
-            → (opens_to c w o directories m ≡ true) × (takes c w o directories (t ∷ ts) ms ≡ true)
+            → (is_open o m ≡ true) × (takes o (t ∷ ts) ms ≡ true)
             → (is_dir_at c (k ++ m ∷ []) ≡ true → Gives (descent_names c o (meet_names c o directories ts) n (k ++ m ∷ [])) (k ++ m ∷ []) ms) → (ls : Key) → ms ≡ ls
             → Gives (meet_names c o directories ts (k ++ m ∷ []) m (is_dir found) ++ (cond (is_entered o m (is_dir found)) (descent_names c o (meet_names c o directories ts) n (k ++ m ∷ [])) [])) (k ++ m ∷ []) ms
-        from_below found stands deeper on further [] e = absurd (run-nil c w o directories t ts r (subst (λ ls. takes c w o directories (t ∷ ts) ls ≡ true) e on.1))
+        from_below found stands deeper on further [] e = absurd (run-nil o t ts r (subst (λ ls. takes o (t ∷ ts) ls ≡ true) e on.1))
         from_below found stands deeper on further (l' ∷ ls) e =
             let met : List Find = meet_names c o directories ts (k ++ m ∷ []) m (is_dir found) in
             let deep : List Find = descent_names c o (meet_names c o directories ts) n (k ++ m ∷ []) in
@@ -237,16 +239,16 @@ module _ (c : Content) (w : IsContent c) where
             let directory : is_dir_at c (k ++ m ∷ []) ≡ true = held_above c w (k ++ m ∷ []) l' way.0 way.1 in
             let is_directory : is_dir found ≡ true = sym (is_dir_at-kind c (k ++ m ∷ []) found stands) ∙ directory in
             Gives-more (cond (is_entered o m (is_dir found)) deep []) (met ++ (cond (is_entered o m (is_dir found)) deep [])) (λ f in'. Contains-append_right met (cond (is_entered o m (is_dir found)) deep []) f in') (k ++ m ∷ []) ms
-            (Gives-cond (is_entered o m (is_dir found)) deep (k ++ m ∷ []) ms (and_from (is_dir found) (opens_to c w o directories m) is_directory on.0) (further directory))
+            (Gives-cond (is_entered o m (is_dir found)) deep (k ++ m ∷ []) ms (and_from (is_dir found) (is_open o m) is_directory on.0) (further directory))
 
-    whole-run : (t : Text) (ts : List Text) → is_recursive t ≡ true → begins_recursive ts ≡ true → (k names : Key) → IsHit c w o directories (t ∷ ts) k names → IsHit c w o directories ts k names
+    whole-run : (t : Text) (ts : List Text) → is_recursive t ≡ true → begins_recursive ts ≡ true → (k names : Key) → IsHit c o directories (t ∷ ts) k names → IsHit c o directories ts k names
     whole-run t [] r more k names is = absurd (false≢true more)
-    whole-run t (u ∷ us) r more k names is = record { kind = is.kind; held = is.held; taken = run-run c w o directories t u us names r more is.taken; allowed = is.allowed }
+    whole-run t (u ∷ us) r more k names is = record { kind = is.kind; held = is.held; taken = run-run o t u us names r more is.taken; allowed = is.allowed }
 
     whole-recursive : (t : Text) (ts : List Text) → component_kind t ≡ Recursive → BothWhole ts → (b : Bool) → begins_recursive ts ≡ b → Entered (t ∷ ts)
     whole-recursive t ts kind next true more k d at names is =
         subst (λ fs. Gives fs k names) (sym (names-run c o directories t ts k d kind more)) (next.entered k d at names (whole-run t ts (kind-Recursive t kind) more k names is))
-    whole-recursive t ts kind next false last k d at [] is = absurd (run-nil c w o directories t ts (kind-Recursive t kind) is.taken)
+    whole-recursive t ts kind next false last k d at [] is = absurd (run-nil o t ts (kind-Recursive t kind) is.taken)
     whole-recursive t ts kind next false last k d at (n ∷ ns) is =
         let (found, stands) = on_the_way k n ns is.kind is.held in
         subst (λ b. Gives (enter_names c o directories (t ∷ ts) k b) k (n ∷ ns)) (sym (is_directory_here k d at n found stands))

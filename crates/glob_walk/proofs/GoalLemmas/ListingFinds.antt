@@ -67,10 +67,10 @@ given-entries path each names (e ∷ es) same =
     ∙ ap₂ (λ x y. x ++ y) (same e (Contains-head e es)) (given-entries path each names es (λ x in'. same x (Contains-tail e es x in')))
     ∙ sym (map-append (item_under path) (names e) (flat_map names es))
 
-given-list_result : (c : Content) (path : Text) (k : Key) → LeadsTo c path k → (each : Next) (names : DirEntry → List Find)
+given-listed : (c : Content) (path : Text) (k : Key) → LeadsTo c path k → (each : Next) (names : DirEntry → List Find)
     → ((e : DirEntry) → Contains (children c k) e → given (each e.0 e.1) ≡ map (item_under path) (names e))
     → given (list_directory c path [] each) ≡ map (item_under path) (list_names c k names)
-given-list_result c path k at each names same = by_answer (ListsAs-from_leads c path k at)
+given-listed c path k at each names same = by_answer (ListsAs-from_leads c path k at)
   where
     by_answer : ListsAs c path k → given (after_listing path [] each (list_result c path)) ≡ map (item_under path) (list_kind c k (kind_at c k) names)
     by_answer (Read held answer) = rw (answer, held)
@@ -99,7 +99,7 @@ given-descent : (c : Content) → IsContent c → (o : MatchOptions) (each : Tex
     → given (descent c o each n path) ≡ map (item_under path) (descent_names c o names n k)
 unfolding descent descent_names
 given-descent c w o each names same zero path k at = refl
-given-descent c w o each names same (suc n) path k at = given-list_result c path k at
+given-descent c w o each names same (suc n) path k at = given-listed c path k at
     (λ name d. each (child path name) name d ++ (cond (is_entered o name d) (descent c o each n (child path name)) []))
     (λ e. below e.0 (names (k ++ e.0 ∷ []) e.0 e.1 ++ (cond (is_entered o e.0 e.1) (descent_names c o names n (k ++ e.0 ∷ [])) [])))
     (λ e in'.
@@ -272,7 +272,7 @@ module _ (c : Content) (w : IsContent c) (o : MatchOptions) (directories : Bool)
   same-wild t ts kind plain next path k true at =
       ap given (enter-wild c o directories t ts path kind)
       ∙ ap (λ before. given (list_directory c path before (λ name d. match_at o (enter c o directories ts) t (child path name) name d))) (no_specials c o (enter c o directories ts) t path plain (kind-Wild t kind).0)
-      ∙ given-list_result c path k (record { resolved = at.resolved; directory = at.is })
+      ∙ given-listed c path k (record { resolved = at.resolved; directory = at.is })
       (λ name d. match_at o (enter c o directories ts) t (child path name) name d)
       (λ e. below e.0 (cond (matches_name o t e.0) (enter_names c o directories ts (k ++ e.0 ∷ []) e.1) []))
       (λ e in'.

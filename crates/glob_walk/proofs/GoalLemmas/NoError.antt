@@ -18,8 +18,8 @@ use Rattle.glob_tree.specs.declared.tree.Kind.TheVariants.{Dir, Shut, Other}
 use Rattle.glob_tree.proofs.ContentLemmas.Membership.{Contains-tail, Contains-cases, Contains-nil, list_all-contains}
 use Rattle.glob_tree.proofs.ContentLemmas.Contents.{IsContent, contains_kind_at, names_past-append}
 use Rattle.glob_walk.proofs.GoalLemmas.Finds.{Find, Hit, Miss, deepen, item_under, below, list_kind, list_names, found_names, descent_names, enter_names, meet_names}
-use Rattle.glob_walk.proofs.GoalLemmas.Finding.{names-literal, names-wild, names-wild_none, names-run, names-recursive_none, names-levels}
-use Rattle.glob_walk.proofs.GoalLemmas.Hits.{Contains-flat_map}
+use Rattle.glob_walk.proofs.GoalLemmas.ListingFinds.{names-literal, names-wild, names-wild_none, names-run, names-recursive_none, names-levels}
+use Rattle.glob_walk.proofs.GoalLemmas.FoundIsTaken.{Contains-flat_map}
 use Rattle.glob_walk.proofs.GoalLemmas.ReachedGoals.{finds, items-finds}
 
 miss-below : (n : Text) (fs : List Find) (names : Key) (kind : ErrorKind) → Contains (below n fs) (Miss names kind) → (ns : Key) × (names ≡ n ∷ ns) × Contains fs (Miss ns kind)
@@ -52,8 +52,8 @@ module _ (c : Content) where
   shut-deeper : (k : Key) (n : Text) (ns names : Key) (kind : ErrorKind) → names ≡ n ∷ ns → ShutAt (k ++ n ∷ []) ns kind → ShutAt k names kind
   shut-deeper k n ns names kind e h = ap (kind_at c) (ap (λ ms. k ++ ms) e ∙ sym (append_assoc k (n ∷ []) ns)) ∙ h
 
-  shut-list_result : (k : Key) (each : DirEntry → List Find) (names : Key) (kind : ErrorKind) → ((e : DirEntry) → Contains (each e) (Miss names kind) → ShutAt k names kind) → Contains (list_names c k each) (Miss names kind) → ShutAt k names kind
-  shut-list_result k each names kind inner = by_kind (kind_at c k) refl
+  shut-listed : (k : Key) (each : DirEntry → List Find) (names : Key) (kind : ErrorKind) → ((e : DirEntry) → Contains (each e) (Miss names kind) → ShutAt k names kind) → Contains (list_names c k each) (Miss names kind) → ShutAt k names kind
+  shut-listed k each names kind inner = by_kind (kind_at c k) refl
     where
       by_kind : (found : Option Kind) → kind_at c k ≡ found → Contains (list_kind c k found each) (Miss names kind) → ShutAt k names kind
       by_kind None e h = absurd (Contains-nil (Miss names kind) h)
@@ -89,7 +89,7 @@ module _ (c : Content) where
     miss-descent : (ts : List Text) → Met ts → (n : ℕ) (k names : Key) (kind : ErrorKind) → Contains (descent_names c o (meet_names c o directories ts) n k) (Miss names kind) → ShutAt k names kind
     unfolding descent_names
     miss-descent ts met zero k names kind h = absurd (Contains-nil (Miss names kind) h)
-    miss-descent ts met (suc n) k names kind h = shut-list_result k
+    miss-descent ts met (suc n) k names kind h = shut-listed k
         (λ e. below e.0 (meet_names c o directories ts (k ++ e.0 ∷ []) e.0 e.1 ++ (cond (is_entered o e.0 e.1) (descent_names c o (meet_names c o directories ts) n (k ++ e.0 ∷ [])) []))) names kind
         (λ e in'.
         let here : List Find = meet_names c o directories ts (k ++ e.0 ∷ []) e.0 e.1 in
@@ -112,7 +112,7 @@ module _ (c : Content) where
 
     miss-wild : (t : Text) (ts : List Text) → component_kind t ≡ Wild → Entered ts → Entered (t ∷ ts)
     miss-wild t ts is next k false names kind h = absurd (Contains-nil (Miss names kind) (subst (λ fs. Contains fs (Miss names kind)) (names-wild_none c o directories t ts k is) h))
-    miss-wild t ts is next k true names kind h = shut-list_result k
+    miss-wild t ts is next k true names kind h = shut-listed k
         (λ e. below e.0 (cond (matches_name o t e.0) (enter_names c o directories ts (k ++ e.0 ∷ []) e.1) [])) names kind
         (λ e in'.
         let (ns, same, gives) = miss-below e.0 (cond (matches_name o t e.0) (enter_names c o directories ts (k ++ e.0 ∷ []) e.1) []) names kind in' in

@@ -18,8 +18,8 @@ use Rattle.glob_tree.proofs.ContentLemmas.Membership.{Contains-head, Contains-ta
 use Rattle.glob_tree.proofs.ContentLemmas.Contents.{IsContent}
 use Rattle.glob_tree.proofs.ContentLemmas.Sorting.{IsRising, IsRising-sorted_entries, children_apart}
 use Rattle.glob_walk.proofs.GoalLemmas.Finds.{Find, Hit, Miss, deepen, below, list_kind, list_names, found_names, descent_names, enter_names, meet_names}
-use Rattle.glob_walk.proofs.GoalLemmas.Finding.{kind-Recursive, names-literal, names-wild, names-wild_none, names-run, names-recursive_none, names-levels}
-use Rattle.glob_walk.proofs.GoalLemmas.Hits.{Contains-flat_map, hit-below, hit-cond, hit-one, hit-list_result}
+use Rattle.glob_walk.proofs.GoalLemmas.ListingFinds.{kind-Recursive, names-literal, names-wild, names-wild_none, names-run, names-recursive_none, names-levels}
+use Rattle.glob_walk.proofs.GoalLemmas.FoundIsTaken.{Contains-flat_map, hit-below, hit-cond, hit-one, hit-listed}
 
 -- each element against those after it
 abbrev pub Pairs : {X : Type 0} → (X → X → Type 0) → List X → Type 0
@@ -57,7 +57,7 @@ module _ (c : Content) (o : MatchOptions) (directories : Bool) where
       by_wild : component_kind t ≡ Wild → (b : Bool) → Contains (enter_names c o directories (t ∷ ts) k b) (Hit names) → length names ≡ length (t ∷ ts)
       by_wild kind false g = absurd (Contains-nil (Hit names) (subst (λ fs. Contains fs (Hit names)) (names-wild_none c o directories t ts k kind) g))
       by_wild kind true g =
-          let (e, child', in') = hit-list_result c k (λ e. below e.0 (cond (matches_name o t e.0) (enter_names c o directories ts (k ++ e.0 ∷ []) e.1) [])) names (subst (λ fs. Contains fs (Hit names)) (names-wild c o directories t ts k kind) g) in
+          let (e, child', in') = hit-listed c k (λ e. below e.0 (cond (matches_name o t e.0) (enter_names c o directories ts (k ++ e.0 ∷ []) e.1) [])) names (subst (λ fs. Contains fs (Hit names)) (names-wild c o directories t ts k kind) g) in
           let (ns, same, gives) = hit-below e.0 (cond (matches_name o t e.0) (enter_names c o directories ts (k ++ e.0 ∷ []) e.1) []) names in' in
           longer e.0 ns same (next (k ++ e.0 ∷ []) e.1 ns (hit-cond (matches_name o t e.0) (enter_names c o directories ts (k ++ e.0 ∷ []) e.1) (Hit ns) gives).1)
 
@@ -102,8 +102,8 @@ module _ (c : Content) (w : IsContent c) (R : Key → Key → Type 0)
       let (bs, right, _) = hit-below f.0 (each f) b (subst (Contains (below f.0 (each f))) h gives) in
       subst (λ z. R z b) (sym left) (subst (R (e.0 ∷ ns)) (sym right) (first e.0 f.0 ns bs (rising.0 f in'))))
 
-  Pairs-list_result : (k : Key) (each : DirEntry → List Find) → ((e : DirEntry) → Pairs Q (each e)) → Pairs Q (list_names c k (λ e. below e.0 (each e)))
-  Pairs-list_result k each inner = by_kind (kind_at c k)
+  Pairs-listed : (k : Key) (each : DirEntry → List Find) → ((e : DirEntry) → Pairs Q (each e)) → Pairs Q (list_names c k (λ e. below e.0 (each e)))
+  Pairs-listed k each inner = by_kind (kind_at c k)
     where
       by_kind : (found : Option Kind) → Pairs Q (list_kind c k found (λ e. below e.0 (each e)))
       by_kind None = tt
@@ -135,7 +135,7 @@ module _ (c : Content) (w : IsContent c) (R : Key → Key → Type 0)
     unfolding descent_names
     length-descent ts plain zero k names h = absurd (Contains-nil (Hit names) h)
     length-descent ts plain (suc n) k names h =
-        let (e, child', in') = hit-list_result c k (λ e. below e.0 (meet_names c o directories ts (k ++ e.0 ∷ []) e.0 e.1 ++ (cond (is_entered o e.0 e.1) (descent_names c o (meet_names c o directories ts) n (k ++ e.0 ∷ [])) []))) names h in
+        let (e, child', in') = hit-listed c k (λ e. below e.0 (meet_names c o directories ts (k ++ e.0 ∷ []) e.0 e.1 ++ (cond (is_entered o e.0 e.1) (descent_names c o (meet_names c o directories ts) n (k ++ e.0 ∷ [])) []))) names h in
         let (ns, same, gives) = hit-below e.0 (meet_names c o directories ts (k ++ e.0 ∷ []) e.0 e.1 ++ (cond (is_entered o e.0 e.1) (descent_names c o (meet_names c o directories ts) n (k ++ e.0 ∷ [])) [])) names in' in
         let l : length names ≡ suc (length ns) = ap length same in
         ⊎_elim
@@ -163,7 +163,7 @@ module _ (c : Content) (w : IsContent c) (R : Key → Key → Type 0)
     pairs-wild t ts kind next k false = subst (Pairs Q) (sym (names-wild_none c o directories t ts k kind)) tt
     pairs-wild t ts kind next k true =
         subst (Pairs Q) (sym (names-wild c o directories t ts k kind))
-        (Pairs-list_result k (λ e. cond (matches_name o t e.0) (enter_names c o directories ts (k ++ e.0 ∷ []) e.1) [])
+        (Pairs-listed k (λ e. cond (matches_name o t e.0) (enter_names c o directories ts (k ++ e.0 ∷ []) e.1) [])
         (λ e. Pairs-cond (matches_name o t e.0) (enter_names c o directories ts (k ++ e.0 ∷ []) e.1) (next (k ++ e.0 ∷ []) e.1)))
 
     pairs-met : (ts : List Text) → ((u : Text) (us : List Text) → ts ≡ u ∷ us → Ordered us) → (k : Key) (name : Text) (d : Bool) → Pairs Q (meet_names c o directories ts k name d)
@@ -175,7 +175,7 @@ module _ (c : Content) (w : IsContent c) (R : Key → Key → Type 0)
         → (n : ℕ) (k : Key) → Pairs Q (descent_names c o (meet_names c o directories ts) n k)
     unfolding descent_names
     pairs-descent ts plain shorter met zero k = tt
-    pairs-descent ts plain shorter met (suc n) k = Pairs-list_result k
+    pairs-descent ts plain shorter met (suc n) k = Pairs-listed k
         (λ e. meet_names c o directories ts (k ++ e.0 ∷ []) e.0 e.1 ++ (cond (is_entered o e.0 e.1) (descent_names c o (meet_names c o directories ts) n (k ++ e.0 ∷ [])) []))
         (λ e.
         let here : List Find = meet_names c o directories ts (k ++ e.0 ∷ []) e.0 e.1 in
