@@ -2,8 +2,12 @@ pub mod Characters
 pub mod Finds
 pub mod FoundInOrder
 pub mod FoundIsTaken
+pub mod GoalNames
+pub mod ItemsFound
+pub mod KeysBelow
 pub mod ListingFinds
 pub mod LiteralComponents
+pub mod NamedPaths
 pub mod NoError
 pub mod OnceInOrder
 pub mod PatternParts

@@ -1,22 +1,23 @@
 //! Laws of walks: each is the contract of a function that does nothing.
-ghost use Rattle.glob_walk.specs.Laws.{UndividedTakes, ListingReaches, ListingIsGoal, ListingOrderly};
+ghost use Rattle.glob_walk.specs.Laws.{PlainMatchesLevels, PlainWalkReaches, PlainWalkGives, PlainWalkOrderly};
 
-/// A plain pattern matches the text of some names exactly where its components take the names.
-pub fn components_take_what_the_pattern_matches()
-    ensures { UndividedTakes }
+/// A plain pattern matches the path of a key below the start exactly where its components take the key's names.
+pub fn plain_pattern_matches_level_by_level()
+    ensures { PlainMatchesLevels }
 {}
 
-/// The written listing of a plain pattern, whole or cut, finds what the undivided pattern matches.
-pub fn listing_reaches_the_goal()
-    ensures { ListingReaches }
+/// A plain walk finds what the undivided pattern matches, as far as it came and as far as it could read.
+pub fn plain_walk_reaches_the_goal()
+    ensures { PlainWalkReaches }
 {}
 
-/// Over a readable content the written listing of a plain pattern has no error, and its paths are exactly the goal.
-pub fn listing_is_the_goal()
-    ensures { ListingIsGoal }
+/// Over a readable content a plain walk has no error, and its paths are exactly what the undivided pattern matches.
+pub fn plain_walk_gives_the_goal()
+    ensures { PlainWalkGives }
 {}
 
-/// The written listing of a plain pattern gives each path once and in order, as far as its runs of `**` allow.
-pub fn listing_is_orderly()
-    ensures { ListingOrderly }
+/// A plain walk gives each path once where the pattern has at most one run of `**`, and in order where at most one
+/// component follows the run.
+pub fn plain_walk_is_orderly()
+    ensures { PlainWalkOrderly }
 {}

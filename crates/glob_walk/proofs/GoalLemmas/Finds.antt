@@ -1,11 +1,12 @@
 -- What a walk finds, as the names of keys: the same recursion as the written listing, with no paths, no units and no errors.
-use Rattle.std.specs.Prelude.{ℕ, zero, suc, Bool, ◌||◌, not, if◌then◌else◌, List, [], ◌∷◌, ◌++◌, map, flat_map, Option, Some, None}
+use Rattle.std.specs.Prelude.{ℕ, zero, suc, Bool, true, ◌||◌, not, if◌then◌else◌, List, [], ◌∷◌, ◌++◌, map, flat_map, Option, Some, None}
 use Rattle.std.specs.declared.io.ErrorKind.{ErrorKind}
 use Rattle.glob_text.specs.Text.{Text}
 use Rattle.glob_walk.specs.Marks.{Item, Found, Unread}
 use Rattle.glob_tree.specs.Paths.{child}
 use Rattle.glob_tree.specs.Content.{Content, Key, DirEntry, kind_at, is_dir, children, sorted_entries}
-use Rattle.glob_walk.specs.Components.{Literal, Recursive, Wild, component_kind, begins_recursive, matches_name}
+use Rattle.glob_walk.specs.Components.{components, wants_directories, Literal, Recursive, Wild, component_kind, begins_recursive, matches_name}
+use Rattle.glob_walk.specs.Goal.{start_key}
 use Rattle.glob_walk.specs.Listing.{is_entered, levels}
 use Rattle.glob_pattern.specs.declared.options.MatchOptions.{MatchOptions}
 use Rattle.glob_tree.specs.declared.tree.Kind.{Kind}
@@ -69,3 +70,7 @@ module _ (c : Content) (o : MatchOptions) (directories : Bool) where
     pub meet_names : List Text → Key → Text → Bool → List Find
     meet_names [] k name d = if is_entered o name d then Hit [] ∷ [] else []
     meet_names (t ∷ ts) k name d = if matches_name o t name then enter_names ts k d else []
+
+-- what a walk after the pattern finds, as names past its start
+abbrev pub finds : Content → MatchOptions → (pattern : Text) → List Find
+finds c o pattern = enter_names c o (wants_directories pattern) (components pattern) (start_key c pattern) true

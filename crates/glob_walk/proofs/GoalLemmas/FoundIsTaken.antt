@@ -18,6 +18,7 @@ use Rattle.glob_tree.proofs.ContentLemmas.Membership.{Contains-head, Contains-ta
 use Rattle.glob_tree.proofs.ContentLemmas.Contents.{IsContent, IsChild-list_result}
 use Rattle.glob_tree.proofs.ContentLemmas.Directories.{is_dir_at-kind}
 use Rattle.glob_tree.proofs.ContentLemmas.Sorting.{Contains-sorted_entries}
+use Rattle.glob_walk.proofs.GoalLemmas.KeysBelow.{Here, Here-entry, held-deeper}
 use Rattle.glob_walk.proofs.GoalLemmas.TakenNames.{takes, takes-one, MetBy, run-met, run-enter, run-from_run}
 use Rattle.glob_pattern.specs.Matching.Components.{is_open, run_to_end, run_before, takes_names}
 use Rattle.glob_walk.proofs.GoalLemmas.Finds.{Find, Hit, Miss, deepen, below, list_kind, list_names, found_names, descent_names, enter_names, meet_names}
@@ -61,15 +62,6 @@ hit-cond false finds x h = absurd (Contains-nil x h)
 pub hit-one : (names ns : Key) → Contains (Hit ns ∷ []) (Hit names) → names ≡ ns
 hit-one names ns h = ⊎_elim (λ same. cc) (λ later. absurd (Contains-nil (Hit names) later)) (Contains-cases (Hit ns) [] (Hit names) h)
 
--- what stands at the key
-pub record Here (c : Content) (k : Key) (d : Bool) : Type 0 where
-  pub kind : Kind
-  pub held : kind_at c k ≡ Some kind
-  pub is : is_dir kind ≡ d
-
-pub Here-dir : (c : Content) (k : Key) (d : Bool) → Here c k d → is_dir_at c k ≡ d
-Here-dir c k d at = is_dir_at-kind c k at.kind at.held ∙ at.is
-
 pub hit-listed : (c : Content) (k : Key) (each : DirEntry → List Find) (names : Key) → Contains (list_names c k each) (Hit names) → (e : DirEntry) × Contains (children c k) e × Contains (each e) (Hit names)
 hit-listed c k each names = by_kind (kind_at c k)
   where
@@ -78,9 +70,6 @@ hit-listed c k each names = by_kind (kind_at c k)
     by_kind (Some Dir) h = let (e, in', gives) = Contains-flat_map each (sorted_entries (children c k)) (Hit names) h in (e, Contains-sorted_entries (children c k) e in', gives)
     by_kind (Some (Shut kind)) h = ⊎_elim (λ same. absurd (cc)) (λ later. absurd (Contains-nil (Hit names) later)) (Contains-cases (Miss [] kind) [] (Hit names) h)
     by_kind (Some Other) h = absurd (Contains-nil (Hit names) h)
-
-pub Here-entry : (c : Content) → IsContent c → (k : Key) (e : DirEntry) → Contains (children c k) e → Here c (k ++ e.0 ∷ []) e.1
-Here-entry c w k e in' = let is = IsChild-list_result c w k e in' in record { kind = is.kind; held = is.held; is = is.is_same }
 
 -- the kind that the components want
 abbrev pub allows : (directories : Bool) → List Text → Kind → Bool
@@ -98,12 +87,6 @@ pub record IsMet (c : Content) (o : MatchOptions) (directories : Bool) (t : Text
   pub held : kind_at c (k ++ names) ≡ Some kind
   pub met : MetBy o ts name names
   pub allowed : allows directories (t ∷ ts) kind ≡ true
-
-pub held-deeper : (c : Content) (k : Key) (n : Text) (ns : Key) (found : Option Kind) → kind_at c ((k ++ n ∷ []) ++ ns) ≡ found → kind_at c (k ++ n ∷ ns) ≡ found
-held-deeper c k n ns found h = ap (kind_at c) (sym (append_assoc k (n ∷ []) ns)) ∙ h
-
-pub held-from_deeper : (c : Content) (k : Key) (n : Text) (ns : Key) (found : Option Kind) → kind_at c (k ++ n ∷ ns) ≡ found → kind_at c ((k ++ n ∷ []) ++ ns) ≡ found
-held-from_deeper c k n ns found h = ap (kind_at c) (append_assoc k (n ∷ []) ns) ∙ h
 
 pub entered-parts : (o : MatchOptions) (name : Text) (d : Bool) → is_entered o name d ≡ true → (d ≡ true) × (is_open o name ≡ true)
 entered-parts o name d h = and_parts d (is_open o name) h

@@ -31,6 +31,7 @@ use Rattle.glob_tree.proofs.ContentLemmas.Resolving.{resolve_child}
 use Rattle.glob_tree.proofs.ContentLemmas.Sorting.{Contains-sorted_entries}
 use Rattle.glob_walk.proofs.ListingLemmas.Marks.{items-append, items-replicate}
 use Rattle.glob_walk.proofs.ListingLemmas.Descending.{enter-literal, enter-wild, enter_none, enter-run, enter-recursive_none, enter-levels, is_entered-directory}
+use Rattle.glob_walk.proofs.GoalLemmas.KeysBelow.{held_above}
 use Rattle.glob_walk.proofs.GoalLemmas.Finds.{Find, Hit, Miss, deepen, item_under, below, list_kind, list_names, found_names, descent_names, enter_names, meet_names}
 
 -- the paths that marks give
@@ -140,12 +141,6 @@ module _ (c : Content) (o : MatchOptions) (directories : Bool) where
       → enter_names c o directories (t ∷ ts) k true ≡ descent_names c o (meet_names c o directories ts) (levels c) k
   unfolding enter_names
   names-levels t ts k kind last = rw (kind, last, enter_names) refl
-
--- what stands at a key stands in a directory
-pub held_above : (c : Content) → IsContent c → (k : Key) (name : Text) (kind : Kind) → kind_at c (k ++ name ∷ []) ≡ Some kind → is_dir_at c k ≡ true
-held_above c w k name kind is =
-    let placed = list_all-contains (is_placed c) c.kinds (k ++ name ∷ [], kind) w.placed (contains_kind_at c (k ++ name ∷ []) kind is) in
-    ap (is_dir_at c) (sym (parent_key-append k name)) ∙ (and_parts (list_all (λ n. is_utf8 n && is_proper n) (k ++ name ∷ [])) (is_dir_at c (parent_key (k ++ name ∷ []))) placed).1
 
 -- a component of a plain pattern that stands for itself
 record IsOwnName (t : Text) : Type 0 where

@@ -1,7 +1,6 @@
 -- Each directory that is found but cannot be listed is shut; so over a readable content a walk gives no error.
 use Rattle.std.proofs.Common.{◌≡◌, ℕ, zero, suc, ⊎_elim, Bool, true, false, cond, not, ◌||◌, List, [], ◌∷◌, ◌++◌, map, Option, Some, None, refl, sym, ap, subst, ◌∙◌, arith}
 use Rattle.std.specs.Prelude.{Contains, is_none}
-use Rattle.std.specs.Str.{IsUtf8}
 use Rattle.std.specs.declared.io.ErrorKind.{ErrorKind}
 use Rattle.std.proofs.lemmas.Bool.{false≢true}
 use Rattle.std.proofs.lemmas.List.{append_assoc, append-nil}
@@ -11,16 +10,16 @@ use Rattle.glob_tree.specs.Content.{Content, Key, DirEntry, kind_at, is_dir, chi
 use Rattle.glob_walk.specs.Components.{Literal, Recursive, Wild, component_kind, ComponentKind, begins_recursive, matches_name, start, components, wants_directories}
 use Rattle.glob_walk.specs.Listing.{is_entered, levels, listing}
 use Rattle.glob_walk.specs.Marks.{Unread, items}
-use Rattle.glob_walk.specs.Goal.{is_plain, is_readable, is_shut, start_key}
+use Rattle.glob_walk.specs.Goal.{IsPlainWalk, is_readable, is_shut, start_key}
 use Rattle.glob_pattern.specs.declared.options.MatchOptions.{MatchOptions}
 use Rattle.glob_tree.specs.declared.tree.Kind.{Kind}
 use Rattle.glob_tree.specs.declared.tree.Kind.TheVariants.{Dir, Shut, Other}
 use Rattle.glob_tree.proofs.ContentLemmas.Membership.{Contains-tail, Contains-cases, Contains-nil, list_all-contains}
-use Rattle.glob_tree.proofs.ContentLemmas.Contents.{IsContent, contains_kind_at, names_past-append}
-use Rattle.glob_walk.proofs.GoalLemmas.Finds.{Find, Hit, Miss, deepen, item_under, below, list_kind, list_names, found_names, descent_names, enter_names, meet_names}
+use Rattle.glob_tree.proofs.ContentLemmas.Contents.{IsContent, IsContent-from_test, contains_kind_at, names_past-append}
+use Rattle.glob_walk.proofs.GoalLemmas.Finds.{finds, Find, Hit, Miss, deepen, item_under, below, list_kind, list_names, found_names, descent_names, enter_names, meet_names}
 use Rattle.glob_walk.proofs.GoalLemmas.ListingFinds.{names-literal, names-wild, names-wild_none, names-run, names-recursive_none, names-levels}
 use Rattle.glob_walk.proofs.GoalLemmas.FoundIsTaken.{Contains-flat_map}
-use Rattle.glob_walk.proofs.GoalLemmas.ReachedGoals.{finds, items-finds}
+use Rattle.glob_walk.proofs.GoalLemmas.ItemsFound.{items-finds}
 
 miss-below : (n : Text) (fs : List Find) (names : Key) (kind : ErrorKind) → Contains (below n fs) (Miss names kind) → (ns : Key) × (names ≡ n ∷ ns) × Contains fs (Miss ns kind)
 miss-below n [] names kind h = absurd (Contains-nil (Miss names kind) h)
@@ -140,17 +139,17 @@ module _ (c : Content) where
       false≢true (ap is_none (sym (names_past-append (start_key c pattern) names))
       ∙ list_all-contains (λ e. not (is_shut e.1) || is_none (names_past (start_key c pattern) e.0)) c.kinds (start_key c pattern ++ names, Shut kind) readable (contains_kind_at c (start_key c pattern ++ names) (Shut kind) shut))
 
-  -- the written listing of a plain pattern over a readable content has no error
-  pub no_error : (w : IsContent c) (o : MatchOptions) (case : o.case_sensitive ≡ true) (pattern : Text) (utf8 : IsUtf8 pattern) (plain : is_plain pattern ≡ true) → is_readable c pattern ≡ true
-      → (path : Text) (kind : ErrorKind) → Contains (items (listing c o pattern)) (Unread path kind) → ⊥
-  no_error w o case pattern utf8 plain readable path kind h =
-      let (names, in') = missed (finds c w o case pattern utf8 plain) (subst (λ is. Contains is (Unread path kind)) (items-finds c w o case pattern utf8 plain) h) in
-      readable-none w pattern readable names kind ((both_missed o (wants_directories pattern) (components pattern)).0 (start_key c pattern) true names kind in')
-    where
-      missed : (fs : List Find) → Contains (map (item_under (start pattern)) fs) (Unread path kind) → (names : Key) × Contains fs (Miss names kind)
-      missed [] g = absurd (Contains-nil (Unread path kind) g)
-      missed (f ∷ fs) g = ⊎_elim (first f) (λ later. let (names, in') = missed fs later in (names, Contains-tail f fs (Miss names kind) in')) (Contains-cases (item_under (start pattern) f) (map (item_under (start pattern)) fs) (Unread path kind) g)
-        where
-          first : (x : Find) → item_under (start pattern) x ≡ Unread path kind → (names : Key) × Contains (x ∷ fs) (Miss names kind)
-          first (Hit ns) e = absurd (cc)
-          first (Miss ns other) e = let kinds : other ≡ kind = cc in (ns, (0, omega arith, ap (Miss ns) kinds))
+-- the written listing of a plain walk over a readable content has no error
+pub no_error : (c : Content) (o : MatchOptions) (pattern : Text) → IsPlainWalk c o pattern → is_readable c pattern ≡ true → (path : Text) (kind : ErrorKind) → Contains (items (listing c o pattern)) (Unread path kind) → ⊥
+no_error c o pattern p readable path kind h =
+    let (names, in') = missed (finds c o pattern) (subst (λ is. Contains is (Unread path kind)) (items-finds c o pattern p) h) in
+    readable-none c (IsContent-from_test c p.content) pattern readable names kind
+    ((both_missed c o (wants_directories pattern) (components pattern)).0 (start_key c pattern) true names kind in')
+  where
+    missed : (fs : List Find) → Contains (map (item_under (start pattern)) fs) (Unread path kind) → (names : Key) × Contains fs (Miss names kind)
+    missed [] g = absurd (Contains-nil (Unread path kind) g)
+    missed (f ∷ fs) g = ⊎_elim (first f) (λ later. let (names, in') = missed fs later in (names, Contains-tail f fs (Miss names kind) in')) (Contains-cases (item_under (start pattern) f) (map (item_under (start pattern)) fs) (Unread path kind) g)
+      where
+        first : (x : Find) → item_under (start pattern) x ≡ Unread path kind → (names : Key) × Contains (x ∷ fs) (Miss names kind)
+        first (Hit ns) e = absurd (cc)
+        first (Miss ns other) e = let kinds : other ≡ kind = cc in (ns, (0, omega arith, ap (Miss ns) kinds))

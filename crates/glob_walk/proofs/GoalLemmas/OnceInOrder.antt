@@ -19,18 +19,18 @@ use Rattle.glob_tree.specs.Content.{Content, Key}
 use Rattle.glob_walk.specs.Marks.{Item, items, paths, IsBeginning}
 use Rattle.glob_walk.specs.Components.{has_root, start, components, wants_directories, begins_recursive, is_recursive}
 use Rattle.glob_walk.specs.Listing.{listing}
-use Rattle.glob_walk.specs.Goal.{is_plain, start_key, text_below}
+use Rattle.glob_walk.specs.Goal.{IsPlainWalk, start_key}
 use Rattle.glob_walk.specs.Order.{from_run, after_run, has_one_run, keeps_order, names_of, path_cmp, IsOnce, IsAscending, IsOrderly}
 use Rattle.glob_pattern.specs.declared.options.MatchOptions.{MatchOptions}
 use Rattle.glob_tree.proofs.ContentLemmas.Membership.{Contains-head, Contains-tail, All-from_contains}
-use Rattle.glob_tree.proofs.ContentLemmas.Contents.{IsContent}
+use Rattle.glob_tree.proofs.ContentLemmas.Contents.{IsContent, IsContent-from_test}
 use Rattle.glob_tree.proofs.ContentLemmas.Resolving.{pieces-append, pieces_one}
 use Rattle.glob_walk.proofs.ListingLemmas.Marks.{paths-append}
-use Rattle.glob_walk.proofs.GoalLemmas.Finds.{Find, Hit, Miss, item_under, under}
-use Rattle.glob_walk.proofs.GoalLemmas.FoundIsTaken.{IsHit, sound_hits}
-use Rattle.glob_walk.proofs.GoalLemmas.LiteralComponents.{own_name}
-use Rattle.glob_walk.proofs.GoalLemmas.PatternParts.{components-utf8}
-use Rattle.glob_walk.proofs.GoalLemmas.ReachedGoals.{AreNames, names_at, AreNames-from, under-start, finds, items-finds, here, hit_of, all_utf8, not_empty}
+use Rattle.glob_walk.proofs.GoalLemmas.Finds.{Find, Hit, Miss, item_under, under, finds}
+use Rattle.glob_walk.proofs.GoalLemmas.KeysBelow.{names_at}
+use Rattle.glob_walk.proofs.GoalLemmas.NamedPaths.{AreNames-from, under-start, names_of-below}
+use Rattle.glob_walk.proofs.GoalLemmas.GoalNames.{takes_some, IsTaken}
+use Rattle.glob_walk.proofs.GoalLemmas.ItemsFound.{hit_of_path, items-finds, found_is_taken}
 use Rattle.glob_walk.proofs.GoalLemmas.FoundInOrder.{Pairs, AtRuns, ordered_finds}
 
 -- a text compares as equal with itself
@@ -140,19 +140,17 @@ module _ (c : Content) (w : IsContent c) (R : Key → Key → Type 0)
 -- the paths of what is found
 Pairs-paths : (R : Key → Key → Type 0) (S : Text → Text → Type 0) (path : Text) (fs : List Find)
     → Pairs (λ f g. (a b : Key) → f ≡ Hit a → g ≡ Hit b → R a b) fs
-    → ((text : Text) → Contains (paths (map (item_under path) fs)) text → (names : Key) × (text ≡ under path names) × Contains fs (Hit names))
     → ((a b : Key) → Contains fs (Hit a) → Contains fs (Hit b) → R a b → S (under path a) (under path b))
-    → ((gs : List Find) (text : Text) → Contains (paths (map (item_under path) gs)) text → (names : Key) × (text ≡ under path names) × Contains gs (Hit names))
     → Pairs S (paths (map (item_under path) fs))
-Pairs-paths R S path [] pairs hit turn hits = tt
-Pairs-paths R S path (Hit a ∷ fs) pairs hit turn hits = (
+Pairs-paths R S path [] pairs turn = tt
+Pairs-paths R S path (Hit a ∷ fs) pairs turn = (
   λ text in'.
-      let (b, e, there) = hits fs text in' in
+      let (b, e, there) = hit_of_path path fs text in' in
       subst (S (under path a)) (sym e) (turn a b (Contains-head (Hit a) fs) (Contains-tail (Hit a) fs (Hit b) there) (pairs.0 (Hit b) there a b refl refl)),
-  Pairs-paths R S path fs pairs.1 (hits fs) (λ x y left right. turn x y (Contains-tail (Hit a) fs (Hit x) left) (Contains-tail (Hit a) fs (Hit y) right)) hits,
+  Pairs-paths R S path fs pairs.1 (λ x y left right. turn x y (Contains-tail (Hit a) fs (Hit x) left) (Contains-tail (Hit a) fs (Hit y) right)),
 )
-Pairs-paths R S path (Miss a kind ∷ fs) pairs hit turn hits =
-    Pairs-paths R S path fs pairs.1 (hits fs) (λ x y left right. turn x y (Contains-tail (Miss a kind) fs (Hit x) left) (Contains-tail (Miss a kind) fs (Hit y) right)) hits
+Pairs-paths R S path (Miss a kind ∷ fs) pairs turn =
+    Pairs-paths R S path fs pairs.1 (λ x y left right. turn x y (Contains-tail (Miss a kind) fs (Hit x) left) (Contains-tail (Miss a kind) fs (Hit y) right))
 
 Pairs-front : {X : Type 0} (S : X → X → Type 0) (xs ys : List X) → Pairs S (xs ++ ys) → Pairs S xs
 Pairs-front S [] ys p = tt
@@ -162,50 +160,32 @@ AllPairs-from : {X : Type 0} (S : X → X → Type 0) (xs : List X) → Pairs S 
 AllPairs-from S [] p = λ i j d l h. absurd (omega arith)
 AllPairs-from S (x ∷ xs) p = AllPairs-cons S x xs (All-from_contains (S x) xs p.0) (AllPairs-from S xs p.1)
 
--- the names of a path are those that it was made of
-pieces-joined : (n : Text) (ns : Key) → AreNames (n ∷ ns) → pieces (join_with_byte slash (n ∷ ns)) ≡ n ∷ ns
-pieces-joined n [] names = pieces_one n names.0.plain
-pieces-joined n (m ∷ ns) names =
-    pieces-append n (join_with_byte slash (m ∷ ns)) ∙ ap₂ (λ x y. x ++ y) (pieces_one n names.0.plain) (pieces-joined m ns names.1)
+module _ (c : Content) (o : MatchOptions) (pattern : Text) (p : IsPlainWalk c o pattern) where
+  w : IsContent c
+  w = IsContent-from_test c p.content
 
-kept_names : (ns : Key) → AreNames ns → filter (λ piece. not (is_empty piece)) ns ≡ ns
-kept_names [] names = refl
-kept_names (n ∷ ns) names = cond-true (not (is_empty n)) _ _ (some n names.0.some) ∙ ap (λ ms. n ∷ ms) (kept_names ns names.1)
-  where
-    some : (n : Text) → 0 < length n → not (is_empty n) ≡ true
-    some [] l = absurd (omega arith)
-    some (x ∷ xs) l = refl
-
-names_of-below : (pattern : Text) (n : Text) (ns : Key) → AreNames (n ∷ ns) → names_of (text_below pattern (n ∷ ns)) ≡ n ∷ ns
-names_of-below pattern n ns names = by_root (has_root pattern)
-  where
-    by_root : (b : Bool) → names_of (cond b (slash ∷ join_with_byte slash (n ∷ ns)) (join_with_byte slash (n ∷ ns))) ≡ n ∷ ns
-    by_root true = ap (filter (λ piece. not (is_empty piece))) (pieces-append [] (join_with_byte slash (n ∷ ns)) ∙ ap (λ ps. [] ∷ ps) (pieces-joined n ns names)) ∙ kept_names (n ∷ ns) names
-    by_root false = ap (filter (λ piece. not (is_empty piece))) (pieces-joined n ns names) ∙ kept_names (n ∷ ns) names
-
-module _ (c : Content) (w : IsContent c) (o : MatchOptions) (case : o.case_sensitive ≡ true) (pattern : Text) (utf8 : IsUtf8 pattern) (plain : is_plain pattern ≡ true) where
   -- the names of a hit are those of its path
-  hit_names : (names : Key) → Contains (finds c w o case pattern utf8 plain) (Hit names) → names_of (under (start pattern) names) ≡ names
-  hit_names names in' = of_hit names (sound_hits c w o (wants_directories pattern) (own_name o case) (components pattern) (all_utf8 c w o case pattern utf8 plain (components pattern) (components-utf8 pattern utf8)) (start_key c pattern) true (here c w o case pattern utf8 plain) names in')
+  hit_names : (names : Key) → Contains (finds c o pattern) (Hit names) → names_of (under (start pattern) names) ≡ names
+  hit_names names in' = of_hit names (found_is_taken c o pattern p names in')
     where
-      of_hit : (names : Key) → IsHit c o (wants_directories pattern) (components pattern) (start_key c pattern) names → names_of (under (start pattern) names) ≡ names
-      of_hit [] is = absurd (not_empty c w o case pattern utf8 plain [] is.taken refl)
+      of_hit : (names : Key) → IsTaken c o pattern names → names_of (under (start pattern) names) ≡ names
+      of_hit [] is = absurd (takes_some o pattern is.taken)
       of_hit (n ∷ ns) is =
           let all = AreNames-from (n ∷ ns) (names_at c w (start_key c pattern) (n ∷ ns) is.kind is.held) in
           ap names_of (under-start pattern n ns all) ∙ names_of-below pattern n ns all
 
-  given_pairs : (R : Key → Key → Type 0) (S : Text → Text → Type 0) → Pairs (λ f g. (a b : Key) → f ≡ Hit a → g ≡ Hit b → R a b) (finds c w o case pattern utf8 plain)
-      → ((p q : Text) → R (names_of p) (names_of q) → S p q) → (given : List Item) → IsBeginning given (items (listing c o pattern)) → AllPairs S (paths given)
+  given_pairs : (R : Key → Key → Type 0) (S : Text → Text → Type 0) → Pairs (λ f g. (a b : Key) → f ≡ Hit a → g ≡ Hit b → R a b) (finds c o pattern)
+      → ((path later : Text) → R (names_of path) (names_of later) → S path later) → (given : List Item) → IsBeginning given (items (listing c o pattern)) → AllPairs S (paths given)
   given_pairs R S pairs turn given begins =
       AllPairs-from S (paths given) (Pairs-front S (paths given) (paths begins.0)
-      (subst (Pairs S) (ap paths (sym (items-finds c w o case pattern utf8 plain) ∙ begins.1) ∙ paths-append given begins.0)
-      (Pairs-paths R S (start pattern) (finds c w o case pattern utf8 plain) pairs (hit_of c w o case pattern utf8 plain (finds c w o case pattern utf8 plain))
-      (λ a b left right r. turn (under (start pattern) a) (under (start pattern) b) (subst (λ x. R x (names_of (under (start pattern) b))) (sym (hit_names a left)) (subst (R a) (sym (hit_names b right)) r)))
-      (hit_of c w o case pattern utf8 plain))))
+      (subst (Pairs S) (ap paths (sym (items-finds c o pattern p) ∙ begins.1) ∙ paths-append given begins.0)
+      (Pairs-paths R S (start pattern) (finds c o pattern) pairs
+      (λ a b left right r. turn (under (start pattern) a) (under (start pattern) b)
+      (subst (λ x. R x (names_of (under (start pattern) b))) (sym (hit_names a left)) (subst (R a) (sym (hit_names b right)) r))))))
 
   -- a beginning of the written listing gives its paths once and in order, as the pattern has runs
-  pub listing_orderly : (given : List Item) → IsBeginning given (items (listing c o pattern)) → IsOrderly pattern (paths given)
-  listing_orderly given begins = record { once = once; ascending = ascending }
+  pub plain_walk_orderly : (given : List Item) → IsBeginning given (items (listing c o pattern)) → IsOrderly pattern (paths given)
+  plain_walk_orderly given begins = record { once = once; ascending = ascending }
     where
       once : has_one_run pattern ≡ true → IsOnce (paths given)
       once h = given_pairs Differ (λ p q. p ≢ q)

@@ -24,54 +24,31 @@ use Rattle.glob_tree.proofs.ContentLemmas.Directories.{is_dir_at-kind}
 use Rattle.glob_tree.proofs.ContentLemmas.Sorting.{sorted_entries-contains}
 use Rattle.glob_tree.proofs.MemoryLemmas.Keys.{all_above, directory_kind}
 use Rattle.glob_walk.proofs.GoalLemmas.Finds.{Find, Hit, Miss, deepen, below, list_kind, list_names, found_names, descent_names, enter_names, meet_names}
-use Rattle.glob_walk.proofs.GoalLemmas.ListingFinds.{kind-Literal, kind-Recursive, kind-Wild, literal_not_recursive, held_above, names-literal, names-wild, names-run, names-levels}
-use Rattle.glob_walk.proofs.GoalLemmas.FoundIsTaken.{flat_map-contains, map-contains, Here, Here-dir, IsHit, IsMet, held-from_deeper, ends-cons}
+use Rattle.glob_walk.proofs.GoalLemmas.ListingFinds.{kind-Literal, kind-Recursive, kind-Wild, literal_not_recursive, names-literal, names-wild, names-run, names-levels}
+use Rattle.glob_walk.proofs.GoalLemmas.FoundIsTaken.{flat_map-contains, map-contains, IsHit, IsMet, ends-cons}
 use Rattle.glob_pattern.specs.Matching.Components.{is_open}
+use Rattle.glob_walk.proofs.GoalLemmas.KeysBelow.{held_above, on_the_way, name_is_utf8, Here, Here-dir, held-from_deeper}
 use Rattle.glob_walk.proofs.GoalLemmas.TakenNames.{takes, takes-one, takes-one_none, run-cases, run-nil, run-run}
 
+-- the key with these names past k lies below one that is shut, which is a miss
+pub record IsCovered (c : Content) (finds : List Find) (k names : Key) : Type 0 where
+  pub upper : Key
+  pub lower : Key
+  pub kind : ErrorKind
+  pub split : names ≡ upper ++ lower
+  pub longer : lower ≢ []
+  pub shut : kind_at c (k ++ upper) ≡ Some (Shut kind)
+  pub miss : Contains finds (Miss upper kind)
+
+abbrev pub Gives : Content → List Find → Key → Key → Type 0
+Gives c finds k names = Contains finds (Hit names) ⊎ IsCovered c finds k names
+
 module _ (c : Content) (w : IsContent c) where
-  -- what stands on the way to a key
-  pub on_the_way : (k : Key) (n : Text) (ns : Key) (kind : Kind) → kind_at c (k ++ n ∷ ns) ≡ Some kind → (found : Kind) × (kind_at c (k ++ n ∷ []) ≡ Some found)
-  on_the_way k n [] kind held = (kind, held)
-  on_the_way k n (m ∷ ns) kind held =
-      let here : kind_at c ((k ++ n ∷ []) ++ m ∷ ns) ≡ Some kind = ap (kind_at c) (append_assoc k (n ∷ []) (m ∷ ns)) ∙ held in
-      directory_kind c (k ++ n ∷ []) (first_directory (k ++ n ∷ []) m ns kind here)
-    where
-      first_directory : (j : Key) (m : Text) (ns : Key) (kind : Kind) → kind_at c (j ++ m ∷ ns) ≡ Some kind → is_dir_at c j ≡ true
-      first_directory j m [] kind held = held_above c w j m kind held
-      first_directory j m (p ∷ ns) kind held =
-          let deeper = first_directory (j ++ m ∷ []) p ns kind (ap (kind_at c) (append_assoc j (m ∷ []) (p ∷ ns)) ∙ held) in
-          all_above c w j (m ∷ []) deeper
-
-  -- its names are texts
-  pub name_is_utf8 : (k : Key) (n : Text) (ns : Key) (kind : Kind) → kind_at c (k ++ n ∷ ns) ≡ Some kind → is_utf8 n ≡ true
-  name_is_utf8 k n ns kind held =
-      let placed = list_all-contains (is_placed c) c.kinds (k ++ n ∷ ns, kind) w.placed (contains_kind_at c (k ++ n ∷ ns) kind held) in
-      let names = (and_parts (list_all is_name (k ++ n ∷ ns)) (is_dir_at c (parent_key (k ++ n ∷ ns))) placed).0 in
-      let last = (and_parts (list_all is_name k) (list_all is_name (n ∷ ns)) (sym (list_all-append is_name k (n ∷ ns)) ∙ names)).1 in
-      (and_parts (is_utf8 n) (is_proper n) (and_parts (is_name n) (list_all is_name ns) last).0).0
-    where
-      is_name : Text → Bool
-      is_name n = is_utf8 n && is_proper n
-
-  -- the key with these names past k lies below one that is shut, which is a miss
-  pub record IsCovered (finds : List Find) (k names : Key) : Type 0 where
-    pub upper : Key
-    pub lower : Key
-    pub kind : ErrorKind
-    pub split : names ≡ upper ++ lower
-    pub longer : lower ≢ []
-    pub shut : kind_at c (k ++ upper) ≡ Some (Shut kind)
-    pub miss : Contains finds (Miss upper kind)
-
-  abbrev pub Gives : List Find → Key → Key → Type 0
-  Gives finds k names = Contains finds (Hit names) ⊎ IsCovered finds k names
-
-  Gives-more : (xs ys : List Find) → ((f : Find) → Contains xs f → Contains ys f) → (k names : Key) → Gives xs k names → Gives ys k names
+  Gives-more : (xs ys : List Find) → ((f : Find) → Contains xs f → Contains ys f) → (k names : Key) → Gives c xs k names → Gives c ys k names
   Gives-more xs ys more k names h = ⊎_elim (λ hit. inl (more (Hit names) hit))
       (λ is. inr (record { upper = is.upper; lower = is.lower; kind = is.kind; split = is.split; longer = is.longer; shut = is.shut; miss = more (Miss is.upper is.kind) is.miss })) h
 
-  Gives-below : (n : Text) (xs : List Find) (k ns : Key) → Gives xs (k ++ n ∷ []) ns → Gives (below n xs) k (n ∷ ns)
+  Gives-below : (n : Text) (xs : List Find) (k ns : Key) → Gives c xs (k ++ n ∷ []) ns → Gives c (below n xs) k (n ∷ ns)
   Gives-below n xs k ns h = ⊎_elim (λ hit. inl (map-contains (deepen n) xs (Hit ns) hit))
       (λ is. inr (record {
         upper = n ∷ is.upper;
@@ -83,18 +60,18 @@ module _ (c : Content) (w : IsContent c) where
         miss = map-contains (deepen n) xs (Miss is.upper is.kind) is.miss;
       })) h
 
-  Gives-cond : (b : Bool) (xs : List Find) (k names : Key) → b ≡ true → Gives xs k names → Gives (cond b xs []) k names
+  Gives-cond : (b : Bool) (xs : List Find) (k names : Key) → b ≡ true → Gives c xs k names → Gives c (cond b xs []) k names
   Gives-cond true xs k names e h = h
   Gives-cond false xs k names e h = absurd (false≢true e)
 
   -- a directory's entry, or nothing where the directory is shut
-  Gives-listed : (k : Key) (n : Text) (ns : Key) (kind : Kind) → kind_at c (k ++ n ∷ []) ≡ Some kind → (each : DirEntry → List Find) → Gives (each (n, is_dir kind)) k (n ∷ ns) → Gives (list_names c k each) k (n ∷ ns)
+  Gives-listed : (k : Key) (n : Text) (ns : Key) (kind : Kind) → kind_at c (k ++ n ∷ []) ≡ Some kind → (each : DirEntry → List Find) → Gives c (each (n, is_dir kind)) k (n ∷ ns) → Gives c (list_names c k each) k (n ∷ ns)
   Gives-listed k n ns kind held each h = by_kind (kind_at c k) refl (held_above c w k n kind held)
     where
       cons_some : n ∷ ns ≢ []
       cons_some e = cc
 
-      by_kind : (found : Option Kind) → kind_at c k ≡ found → unwrap_or (option_map is_dir (kind_at c k)) false ≡ true → Gives (list_kind c k found each) k (n ∷ ns)
+      by_kind : (found : Option Kind) → kind_at c k ≡ found → unwrap_or (option_map is_dir (kind_at c k)) false ≡ true → Gives c (list_kind c k found each) k (n ∷ ns)
       by_kind None e d = absurd (both_ways false refl (sym (ap (λ x. unwrap_or (option_map is_dir x) false) e) ∙ d))
       by_kind (Some Dir) e d = Gives-more (each (n, is_dir kind)) (flat_map each (sorted_entries (children c k)))
           (λ f in'. flat_map-contains each (sorted_entries (children c k)) (n, is_dir kind) f (sorted_entries-contains (children c k) (n, is_dir kind) (listed_child c k n kind held)) in') k (n ∷ ns) h
@@ -112,10 +89,10 @@ module _ (c : Content) (w : IsContent c) where
   module _ (o : MatchOptions) (directories : Bool)
       (own : (t n : Text) → is_literal t ≡ true → is_utf8 t ≡ true → is_utf8 n ≡ true → matches_name o t n ≡ true → t ≡ n) where
     abbrev Entered : List Text → Type 0
-    Entered ts = (k : Key) (d : Bool) → Here c k d → (names : Key) → IsHit c o directories ts k names → Gives (enter_names c o directories ts k d) k names
+    Entered ts = (k : Key) (d : Bool) → Here c k d → (names : Key) → IsHit c o directories ts k names → Gives c (enter_names c o directories ts k d) k names
 
     abbrev Met : List Text → Text → Type 0
-    Met ts t = (k : Key) (name : Text) (d : Bool) → Here c k d → (names : Key) → IsMet c o directories t ts k name names → Gives (meet_names c o directories ts k name d) k names
+    Met ts t = (k : Key) (name : Text) (d : Bool) → Here c k d → (names : Key) → IsMet c o directories t ts k name names → Gives c (meet_names c o directories ts k name d) k names
 
     record BothWhole (ts : List Text) : Type 0 where
       entered : Entered ts
@@ -141,7 +118,7 @@ module _ (c : Content) (w : IsContent c) where
     whole-met_nothing t r k name d at names is =
         let (e, open') = is.met in
         let directory : d ≡ true = sym (kind-here k d at names is.kind e is.held) ∙ by_tests directories (is_dir is.kind) (is_recursive t) r is.allowed in
-        subst (Gives (cond (is_entered o name d) (Hit [] ∷ []) []) k) (sym e)
+        subst (Gives c (cond (is_entered o name d) (Hit [] ∷ []) []) k) (sym e)
         (Gives-cond (is_entered o name d) (Hit [] ∷ []) k [] (and_from d (is_open o name) directory open') (inl (Contains-head (Hit []) [])))
       where
         by_tests : (b x r : Bool) → r ≡ true → (x || not (b || r)) ≡ true → x ≡ true
@@ -167,7 +144,7 @@ module _ (c : Content) (w : IsContent c) where
     step_of : (t : Text) (ts : List Text) (k : Key) (n : Text) (ns : Key) → is_recursive t ≡ false → IsHit c o directories (t ∷ ts) k (n ∷ ns) → IsStep t ts k n ns
     step_of t ts k n ns plain is =
         let both = and_parts (matches_name o t n) (takes o ts ns) (sym (takes-one o t ts n ns plain) ∙ is.taken) in
-        let way = on_the_way k n ns is.kind is.held in
+        let way = on_the_way c w k n ns is.kind is.held in
         record {
           matched = both.0;
           found = way.0;
@@ -185,10 +162,10 @@ module _ (c : Content) (w : IsContent c) where
     whole-literal t ts kind utf8 next k d at (n ∷ ns) is =
         let literal = kind-Literal t kind in
         let step = step_of t ts k n ns (literal_not_recursive t literal) is in
-        let same : t ≡ n = own t n literal utf8 (name_is_utf8 k n ns is.kind is.held) step.matched in
-        subst (λ fs. Gives fs k (n ∷ ns)) (sym (names-literal c o directories t ts k d kind))
-        (subst (λ m. Gives (below m (found_names (kind_at c (k ++ m ∷ [])) (λ x. enter_names c o directories ts (k ++ m ∷ []) x))) k (n ∷ ns)) (sym same)
-        (subst (λ found. Gives (below n (found_names found (λ x. enter_names c o directories ts (k ++ n ∷ []) x))) k (n ∷ ns)) (sym step.stands)
+        let same : t ≡ n = own t n literal utf8 (name_is_utf8 c w k n ns is.kind is.held) step.matched in
+        subst (λ fs. Gives c fs k (n ∷ ns)) (sym (names-literal c o directories t ts k d kind))
+        (subst (λ m. Gives c (below m (found_names (kind_at c (k ++ m ∷ [])) (λ x. enter_names c o directories ts (k ++ m ∷ []) x))) k (n ∷ ns)) (sym same)
+        (subst (λ found. Gives c (below n (found_names found (λ x. enter_names c o directories ts (k ++ n ∷ []) x))) k (n ∷ ns)) (sym step.stands)
         (Gives-below n (enter_names c o directories ts (k ++ n ∷ []) (is_dir step.found)) k ns
         (next (k ++ n ∷ []) (is_dir step.found) (record { kind = step.found; held = step.stands; is = refl }) ns step.hit))))
 
@@ -200,20 +177,20 @@ module _ (c : Content) (w : IsContent c) where
     whole-wild t ts kind next k d at [] is = absurd (both_ways _ (takes-one_none o t ts (kind-Wild t kind).1) is.taken)
     whole-wild t ts kind next k d at (n ∷ ns) is =
         let step = step_of t ts k n ns (kind-Wild t kind).1 is in
-        subst (λ b. Gives (enter_names c o directories (t ∷ ts) k b) k (n ∷ ns)) (sym (is_directory_here k d at n step.found step.stands))
-        (subst (λ fs. Gives fs k (n ∷ ns)) (sym (names-wild c o directories t ts k kind))
+        subst (λ b. Gives c (enter_names c o directories (t ∷ ts) k b) k (n ∷ ns)) (sym (is_directory_here k d at n step.found step.stands))
+        (subst (λ fs. Gives c fs k (n ∷ ns)) (sym (names-wild c o directories t ts k kind))
         (Gives-listed k n ns step.found step.stands (λ e. below e.0 (cond (matches_name o t e.0) (enter_names c o directories ts (k ++ e.0 ∷ []) e.1) []))
         (Gives-below n (cond (matches_name o t n) (enter_names c o directories ts (k ++ n ∷ []) (is_dir step.found)) []) k ns
         (Gives-cond (matches_name o t n) (enter_names c o directories ts (k ++ n ∷ []) (is_dir step.found)) (k ++ n ∷ []) ns step.matched
         (next (k ++ n ∷ []) (is_dir step.found) (record { kind = step.found; held = step.stands; is = refl }) ns step.hit)))))
 
     whole-descent : (t : Text) (ts : List Text) → is_recursive t ≡ true → Met ts t → (n : ℕ) (k names : Key) → is_dir_at c k ≡ true → levels c ≤ length k + n → IsHit c o directories (t ∷ ts) k names
-        → Gives (descent_names c o (meet_names c o directories ts) n k) k names
+        → Gives c (descent_names c o (meet_names c o directories ts) n k) k names
     unfolding descent_names
     whole-descent t ts r next n k [] d l is = absurd (run-nil o t ts r is.taken)
     whole-descent t ts r next zero k (m ∷ ms) d l is = absurd (omega (arith, l, depth c k d))
     whole-descent t ts r next (suc n) k (m ∷ ms) d l is =
-        let (found, stands) = on_the_way k m ms is.kind is.held in
+        let (found, stands) = on_the_way c w k m ms is.kind is.held in
         let met : List Find = meet_names c o directories ts (k ++ m ∷ []) m (is_dir found) in
         let deep : List Find = cond (is_entered o m (is_dir found)) (descent_names c o (meet_names c o directories ts) n (k ++ m ∷ [])) [] in
         let deeper = held-from_deeper c k m ms (Some is.kind) is.held in
@@ -229,13 +206,13 @@ module _ (c : Content) (w : IsContent c) where
       where
         from_below : (found : Kind) → kind_at c (k ++ m ∷ []) ≡ Some found → kind_at c ((k ++ m ∷ []) ++ ms) ≡ Some is.kind
             → (is_open o m ≡ true) × (takes o (t ∷ ts) ms ≡ true)
-            → (is_dir_at c (k ++ m ∷ []) ≡ true → Gives (descent_names c o (meet_names c o directories ts) n (k ++ m ∷ [])) (k ++ m ∷ []) ms) → (ls : Key) → ms ≡ ls
-            → Gives (meet_names c o directories ts (k ++ m ∷ []) m (is_dir found) ++ (cond (is_entered o m (is_dir found)) (descent_names c o (meet_names c o directories ts) n (k ++ m ∷ [])) [])) (k ++ m ∷ []) ms
+            → (is_dir_at c (k ++ m ∷ []) ≡ true → Gives c (descent_names c o (meet_names c o directories ts) n (k ++ m ∷ [])) (k ++ m ∷ []) ms) → (ls : Key) → ms ≡ ls
+            → Gives c (meet_names c o directories ts (k ++ m ∷ []) m (is_dir found) ++ (cond (is_entered o m (is_dir found)) (descent_names c o (meet_names c o directories ts) n (k ++ m ∷ [])) [])) (k ++ m ∷ []) ms
         from_below found stands deeper on further [] e = absurd (run-nil o t ts r (subst (λ ls. takes o (t ∷ ts) ls ≡ true) e on.1))
         from_below found stands deeper on further (l' ∷ ls) e =
             let met : List Find = meet_names c o directories ts (k ++ m ∷ []) m (is_dir found) in
             let deep : List Find = descent_names c o (meet_names c o directories ts) n (k ++ m ∷ []) in
-            let way = on_the_way (k ++ m ∷ []) l' ls is.kind (ap (λ x. kind_at c ((k ++ m ∷ []) ++ x)) (sym e) ∙ deeper) in
+            let way = on_the_way c w (k ++ m ∷ []) l' ls is.kind (ap (λ x. kind_at c ((k ++ m ∷ []) ++ x)) (sym e) ∙ deeper) in
             let directory : is_dir_at c (k ++ m ∷ []) ≡ true = held_above c w (k ++ m ∷ []) l' way.0 way.1 in
             let is_directory : is_dir found ≡ true = sym (is_dir_at-kind c (k ++ m ∷ []) found stands) ∙ directory in
             Gives-more (cond (is_entered o m (is_dir found)) deep []) (met ++ (cond (is_entered o m (is_dir found)) deep [])) (λ f in'. Contains-append_right met (cond (is_entered o m (is_dir found)) deep []) f in') (k ++ m ∷ []) ms
@@ -247,12 +224,12 @@ module _ (c : Content) (w : IsContent c) where
 
     whole-recursive : (t : Text) (ts : List Text) → component_kind t ≡ Recursive → BothWhole ts → (b : Bool) → begins_recursive ts ≡ b → Entered (t ∷ ts)
     whole-recursive t ts kind next true more k d at names is =
-        subst (λ fs. Gives fs k names) (sym (names-run c o directories t ts k d kind more)) (next.entered k d at names (whole-run t ts (kind-Recursive t kind) more k names is))
+        subst (λ fs. Gives c fs k names) (sym (names-run c o directories t ts k d kind more)) (next.entered k d at names (whole-run t ts (kind-Recursive t kind) more k names is))
     whole-recursive t ts kind next false last k d at [] is = absurd (run-nil o t ts (kind-Recursive t kind) is.taken)
     whole-recursive t ts kind next false last k d at (n ∷ ns) is =
-        let (found, stands) = on_the_way k n ns is.kind is.held in
-        subst (λ b. Gives (enter_names c o directories (t ∷ ts) k b) k (n ∷ ns)) (sym (is_directory_here k d at n found stands))
-        (subst (λ fs. Gives fs k (n ∷ ns)) (sym (names-levels c o directories t ts k kind last))
+        let (found, stands) = on_the_way c w k n ns is.kind is.held in
+        subst (λ b. Gives c (enter_names c o directories (t ∷ ts) k b) k (n ∷ ns)) (sym (is_directory_here k d at n found stands))
+        (subst (λ fs. Gives c fs k (n ∷ ns)) (sym (names-levels c o directories t ts k kind last))
         (whole-descent t ts (kind-Recursive t kind) (next.met last t (kind-Recursive t kind)) (levels c) k (n ∷ ns) (held_above c w k n found stands) (omega arith) is))
 
     both_whole : (ts : List Text) → list_all is_utf8 ts ≡ true → BothWhole ts
