@@ -8,6 +8,7 @@ pub mod Held
 pub mod Joined
 pub mod Limits
 pub mod Ordered
+pub mod Premises
 pub mod Recursive
 pub mod Shut
 pub mod Small

@@ -1,16 +1,14 @@
 -- The tokens of a whole pattern match names joined by separators exactly where its components take the names.
-use Rattle.std.proofs.Common.{◌≡◌, Bool, true, false, not, ◌&&◌, ◌||◌, ◌==◌, List, [], ◌∷◌, ◌++◌, refl, sym, ap, ap₂, subst, ◌∙◌}
+use Rattle.std.proofs.Common.{◌≡◌, Bool, true, false, ◌&&◌, ◌||◌, List, [], ◌∷◌, ◌++◌, refl, sym, ap, ap₂, subst, ◌∙◌}
 use Rattle.std.specs.List.{list_all, join_with_byte}
 use Rattle.std.specs.Path.{has_no_slash}
 use Rattle.std.proofs.lemmas.Bool.{false≢true, and_parts}
-use Rattle.glob_text.specs.Characters.{slash, dot}
+use Rattle.glob_text.specs.Characters.{slash}
 use Rattle.glob_text.specs.Text.{Text}
 use Rattle.glob_pattern.specs.Grammar.Tokens.{Token}
-use Rattle.glob_pattern.specs.Matching.Taking.{takes}
-use Rattle.glob_text.specs.Pieces.{begins_with}
 use Rattle.glob_pattern.specs.declared.options.MatchOptions.{MatchOptions}
-use Rattle.glob_pattern.specs.declared.token.Token.TheVariants.{Plain, Any, Run, Deep, Within, Except}
-use Rattle.glob_pattern.proofs.ComponentLemmas.Fits.{After, one_then, many_then, closed_then, fits}
+use Rattle.glob_pattern.specs.declared.token.Token.TheVariants.{Plain, Deep}
+use Rattle.glob_pattern.proofs.ComponentLemmas.Fits.{closed_then, fits}
 use Rattle.glob_pattern.specs.Matching.Components.{with_separator_rule, is_open}
 use Rattle.glob_pattern.proofs.ComponentLemmas.Parts.{is_inner, Part, Levels, Level, is_level, joined_tokens, reaches}
 use Rattle.glob_pattern.proofs.ComponentLemmas.FirstSeparator.{and_no, and_yes, cut, fall, stop}

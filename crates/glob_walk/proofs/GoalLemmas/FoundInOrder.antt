@@ -72,56 +72,59 @@ module _ (c : Content) (o : MatchOptions) (directories : Bool) where
   length-enter [] plain k d names h = length-nothing k d names h
   length-enter (t ∷ ts) plain k d names h = length-cons t ts plain (length-enter ts (no_run-cons t ts plain).1) k d names h
 
-module _ (c : Content) (w : IsContent c) (R : Key → Key → Type 0)
-    (cons : (n : Text) (a b : Key) → R a b → R (n ∷ a) (n ∷ b))
-    (first : (m n : Text) (a b : Key) → slice_cmp nat_cmp m n ≡ Less → R (m ∷ a) (n ∷ b)) where
-  -- what is said of hits
-  abbrev pub Q : Find → Find → Type 0
-  Q f g = (a b : Key) → f ≡ Hit a → g ≡ Hit b → R a b
+-- a relation of lists of names that holds under a common first name, and where the first names rise
+pub record IsNameOrder (R : Key → Key → Type 0) : Type 0 where
+  pub under : (n : Text) (a b : Key) → R a b → R (n ∷ a) (n ∷ b)
+  pub first : (m n : Text) (a b : Key) → slice_cmp nat_cmp m n ≡ Less → R (m ∷ a) (n ∷ b)
 
-  Pairs-below : (n : Text) (xs : List Find) → Pairs Q xs → Pairs Q (below n xs)
+-- of two hits, the names are so related
+abbrev pub OfHits : (Key → Key → Type 0) → Find → Find → Type 0
+OfHits R f g = (a b : Key) → f ≡ Hit a → g ≡ Hit b → R a b
+
+-- names of this length are related to longer ones
+abbrev pub Shorter : (Key → Key → Type 0) → ℕ → Type 0
+Shorter R m = (a b : Key) → length a ≡ m → m < length b → R a b
+
+-- The last `**` of each run has no `**` after it, and the names that meet what follows it are related to longer ones.
+abbrev pub AtRuns : (Key → Key → Type 0) → List Text → Type 0
+AtRuns R [] = Unit {0}
+AtRuns R (t ∷ ts) = (is_recursive t ≡ true → begins_recursive ts ≡ false → (list_any is_recursive ts ≡ false) × Shorter R (length ts - 1)) × AtRuns R ts
+
+module _ (c : Content) (w : IsContent c) (R : Key → Key → Type 0) (order : IsNameOrder R) where
+  Pairs-below : (n : Text) (xs : List Find) → Pairs (OfHits R) xs → Pairs (OfHits R) (below n xs)
   Pairs-below n [] p = tt
   Pairs-below n (f ∷ fs) p = (λ y in' a b e g. by_find f (p.0) a b e (hit-below n fs b (subst (Contains (below n fs)) g in')), Pairs-below n fs p.1)
     where
-      by_find : (x : Find) → ((y : Find) → Contains fs y → Q x y) → (a b : Key) → deepen n x ≡ Hit a → (bs : Key) × (b ≡ n ∷ bs) × Contains fs (Hit bs) → R a b
+      by_find : (x : Find) → ((y : Find) → Contains fs y → (OfHits R) x y) → (a b : Key) → deepen n x ≡ Hit a → (bs : Key) × (b ≡ n ∷ bs) × Contains fs (Hit bs) → R a b
       by_find (Hit ns) here a b e (bs, same, in') =
           let left : n ∷ ns ≡ a = cc in
-          subst (λ x. R x b) left (subst (R (n ∷ ns)) (sym same) (cons n ns bs (here (Hit bs) in' ns bs refl refl)))
+          subst (λ x. R x b) left (subst (R (n ∷ ns)) (sym same) (order.under n ns bs (here (Hit bs) in' ns bs refl refl)))
       by_find (Miss ns kind) here a b e found = absurd (cc)
 
-  Pairs-cond : (b : Bool) (xs : List Find) → Pairs Q xs → Pairs Q (cond b xs [])
+  Pairs-cond : (b : Bool) (xs : List Find) → Pairs (OfHits R) xs → Pairs (OfHits R) (cond b xs [])
   Pairs-cond true xs p = p
   Pairs-cond false xs p = tt
 
-  Pairs-flat : (each : DirEntry → List Find) (es : List DirEntry) → IsRising es → ((e : DirEntry) → Pairs Q (below e.0 (each e))) → Pairs Q (flat_map (λ e. below e.0 (each e)) es)
+  Pairs-flat : (each : DirEntry → List Find) (es : List DirEntry) → IsRising es → ((e : DirEntry) → Pairs (OfHits R) (below e.0 (each e))) → Pairs (OfHits R) (flat_map (λ e. below e.0 (each e)) es)
   Pairs-flat each [] rising inner = tt
-  Pairs-flat each (e ∷ es) rising inner = Pairs-append Q (below e.0 (each e)) (flat_map (λ e. below e.0 (each e)) es) (inner e) (Pairs-flat each es rising.1 inner)
+  Pairs-flat each (e ∷ es) rising inner = Pairs-append (OfHits R) (below e.0 (each e)) (flat_map (λ e. below e.0 (each e)) es) (inner e) (Pairs-flat each es rising.1 inner)
       (λ x y here there a b g h.
       let (ns, left, _) = hit-below e.0 (each e) a (subst (Contains (below e.0 (each e))) g here) in
       let (f, in', gives) = Contains-flat_map (λ e. below e.0 (each e)) es y there in
       let (bs, right, _) = hit-below f.0 (each f) b (subst (Contains (below f.0 (each f))) h gives) in
-      subst (λ z. R z b) (sym left) (subst (R (e.0 ∷ ns)) (sym right) (first e.0 f.0 ns bs (rising.0 f in'))))
+      subst (λ z. R z b) (sym left) (subst (R (e.0 ∷ ns)) (sym right) (order.first e.0 f.0 ns bs (rising.0 f in'))))
 
-  Pairs-listed : (k : Key) (each : DirEntry → List Find) → ((e : DirEntry) → Pairs Q (each e)) → Pairs Q (list_names c k (λ e. below e.0 (each e)))
+  Pairs-listed : (k : Key) (each : DirEntry → List Find) → ((e : DirEntry) → Pairs (OfHits R) (each e)) → Pairs (OfHits R) (list_names c k (λ e. below e.0 (each e)))
   Pairs-listed k each inner = by_kind (kind_at c k)
     where
-      by_kind : (found : Option Kind) → Pairs Q (list_kind c k found (λ e. below e.0 (each e)))
+      by_kind : (found : Option Kind) → Pairs (OfHits R) (list_kind c k found (λ e. below e.0 (each e)))
       by_kind None = tt
       by_kind (Some Dir) = Pairs-flat each (sorted_entries (children c k)) (IsRising-sorted_entries (children c k) (children_apart c w k)) (λ e. Pairs-below e.0 (each e) (inner e))
       by_kind (Some (Shut kind)) = ((λ y in'. absurd (Contains-nil y in')), tt)
       by_kind (Some Other) = tt
 
   module _ (o : MatchOptions) (directories : Bool) where
-    -- shorter names before longer ones
-    abbrev pub Shorter : ℕ → Type 0
-    Shorter m = (a b : Key) → length a ≡ m → m < length b → R a b
-
-    -- a last `**` of a run has no `**` after it, and the names that meet what follows it stand before longer ones
-    abbrev pub AtRuns : List Text → Type 0
-    AtRuns [] = Unit {0}
-    AtRuns (t ∷ ts) = (is_recursive t ≡ true → begins_recursive ts ≡ false → (list_any is_recursive ts ≡ false) × Shorter (length ts - 1)) × AtRuns ts
-
-    Pairs-one : (b : Bool) → Pairs Q (cond b (Hit [] ∷ []) [])
+    Pairs-one : (b : Bool) → Pairs (OfHits R) (cond b (Hit [] ∷ []) [])
     Pairs-one true = ((λ y in'. absurd (Contains-nil y in')), tt)
     Pairs-one false = tt
 
@@ -144,7 +147,7 @@ module _ (c : Content) (w : IsContent c) (R : Key → Key → Type 0)
         (Contains-append_cases (meet_names c o directories ts (k ++ e.0 ∷ []) e.0 e.1) (cond (is_entered o e.0 e.1) (descent_names c o (meet_names c o directories ts) n (k ++ e.0 ∷ [])) []) (Hit ns) gives)
 
     abbrev Ordered : List Text → Type 0
-    Ordered ts = (k : Key) (d : Bool) → Pairs Q (enter_names c o directories ts k d)
+    Ordered ts = (k : Key) (d : Bool) → Pairs (OfHits R) (enter_names c o directories ts k d)
 
     pairs-nothing : Ordered []
     unfolding enter_names
@@ -152,27 +155,27 @@ module _ (c : Content) (w : IsContent c) (R : Key → Key → Type 0)
 
     pairs-literal : (t : Text) (ts : List Text) → component_kind t ≡ Literal → Ordered ts → Ordered (t ∷ ts)
     pairs-literal t ts kind next k d =
-        subst (Pairs Q) (sym (names-literal c o directories t ts k d kind))
+        subst (Pairs (OfHits R)) (sym (names-literal c o directories t ts k d kind))
         (Pairs-below t (found_names (kind_at c (k ++ t ∷ [])) (λ e. enter_names c o directories ts (k ++ t ∷ []) e)) (by_kind (kind_at c (k ++ t ∷ []))))
       where
-        by_kind : (found : Option Kind) → Pairs Q (found_names found (λ e. enter_names c o directories ts (k ++ t ∷ []) e))
+        by_kind : (found : Option Kind) → Pairs (OfHits R) (found_names found (λ e. enter_names c o directories ts (k ++ t ∷ []) e))
         by_kind None = tt
         by_kind (Some kind) = next (k ++ t ∷ []) (is_dir kind)
 
     pairs-wild : (t : Text) (ts : List Text) → component_kind t ≡ Wild → Ordered ts → Ordered (t ∷ ts)
-    pairs-wild t ts kind next k false = subst (Pairs Q) (sym (names-wild_none c o directories t ts k kind)) tt
+    pairs-wild t ts kind next k false = subst (Pairs (OfHits R)) (sym (names-wild_none c o directories t ts k kind)) tt
     pairs-wild t ts kind next k true =
-        subst (Pairs Q) (sym (names-wild c o directories t ts k kind))
+        subst (Pairs (OfHits R)) (sym (names-wild c o directories t ts k kind))
         (Pairs-listed k (λ e. cond (matches_name o t e.0) (enter_names c o directories ts (k ++ e.0 ∷ []) e.1) [])
         (λ e. Pairs-cond (matches_name o t e.0) (enter_names c o directories ts (k ++ e.0 ∷ []) e.1) (next (k ++ e.0 ∷ []) e.1)))
 
-    pairs-met : (ts : List Text) → ((u : Text) (us : List Text) → ts ≡ u ∷ us → Ordered us) → (k : Key) (name : Text) (d : Bool) → Pairs Q (meet_names c o directories ts k name d)
+    pairs-met : (ts : List Text) → ((u : Text) (us : List Text) → ts ≡ u ∷ us → Ordered us) → (k : Key) (name : Text) (d : Bool) → Pairs (OfHits R) (meet_names c o directories ts k name d)
     unfolding meet_names
     pairs-met [] next k name d = Pairs-one (is_entered o name d)
     pairs-met (u ∷ us) next k name d = Pairs-cond (matches_name o u name) (enter_names c o directories us k d) (next u us refl k d)
 
-    pairs-descent : (ts : List Text) → list_any is_recursive ts ≡ false → Shorter (length ts - 1) → ((k : Key) (name : Text) (d : Bool) → Pairs Q (meet_names c o directories ts k name d))
-        → (n : ℕ) (k : Key) → Pairs Q (descent_names c o (meet_names c o directories ts) n k)
+    pairs-descent : (ts : List Text) → list_any is_recursive ts ≡ false → Shorter R (length ts - 1) → ((k : Key) (name : Text) (d : Bool) → Pairs (OfHits R) (meet_names c o directories ts k name d))
+        → (n : ℕ) (k : Key) → Pairs (OfHits R) (descent_names c o (meet_names c o directories ts) n k)
     unfolding descent_names
     pairs-descent ts plain shorter met zero k = tt
     pairs-descent ts plain shorter met (suc n) k = Pairs-listed k
@@ -180,25 +183,25 @@ module _ (c : Content) (w : IsContent c) (R : Key → Key → Type 0)
         (λ e.
         let here : List Find = meet_names c o directories ts (k ++ e.0 ∷ []) e.0 e.1 in
         let deep : List Find = descent_names c o (meet_names c o directories ts) n (k ++ e.0 ∷ []) in
-        Pairs-append Q here (cond (is_entered o e.0 e.1) deep []) (met (k ++ e.0 ∷ []) e.0 e.1)
+        Pairs-append (OfHits R) here (cond (is_entered o e.0 e.1) deep []) (met (k ++ e.0 ∷ []) e.0 e.1)
         (Pairs-cond (is_entered o e.0 e.1) deep (pairs-descent ts plain shorter met n (k ++ e.0 ∷ [])))
         (λ x y left right a b g h. shorter a b
         (length-meet ts plain (k ++ e.0 ∷ []) e.0 e.1 a (subst (Contains here) g left))
         (length-descent ts plain n (k ++ e.0 ∷ []) b (hit-cond (is_entered o e.0 e.1) deep (Hit b) (subst (Contains (cond (is_entered o e.0 e.1) deep [])) h right)).1)))
 
-    pairs-recursive : (t : Text) (ts : List Text) → component_kind t ≡ Recursive → (is_recursive t ≡ true → begins_recursive ts ≡ false → (list_any is_recursive ts ≡ false) × Shorter (length ts - 1))
+    pairs-recursive : (t : Text) (ts : List Text) → component_kind t ≡ Recursive → (is_recursive t ≡ true → begins_recursive ts ≡ false → (list_any is_recursive ts ≡ false) × Shorter R (length ts - 1))
         → Ordered ts → ((u : Text) (us : List Text) → ts ≡ u ∷ us → Ordered us) → (b : Bool) → begins_recursive ts ≡ b → Ordered (t ∷ ts)
-    pairs-recursive t ts kind at next after true more k d = subst (Pairs Q) (sym (names-run c o directories t ts k d kind more)) (next k d)
-    pairs-recursive t ts kind at next after false last k false = subst (Pairs Q) (sym (names-recursive_none c o directories t ts k kind last)) tt
+    pairs-recursive t ts kind at next after true more k d = subst (Pairs (OfHits R)) (sym (names-run c o directories t ts k d kind more)) (next k d)
+    pairs-recursive t ts kind at next after false last k false = subst (Pairs (OfHits R)) (sym (names-recursive_none c o directories t ts k kind last)) tt
     pairs-recursive t ts kind at next after false last k true =
         let (plain, shorter) = at (kind-Recursive t kind) last in
-        subst (Pairs Q) (sym (names-levels c o directories t ts k kind last)) (pairs-descent ts plain shorter (pairs-met ts after) (levels c) k)
+        subst (Pairs (OfHits R)) (sym (names-levels c o directories t ts k kind last)) (pairs-descent ts plain shorter (pairs-met ts after) (levels c) k)
 
     record BothOrdered (ts : List Text) : Type 0 where
       entered : Ordered ts
       after : (u : Text) (us : List Text) → ts ≡ u ∷ us → Ordered us
 
-    both_ordered : (ts : List Text) → AtRuns ts → BothOrdered ts
+    both_ordered : (ts : List Text) → AtRuns R ts → BothOrdered ts
     both_ordered [] at = record { entered = pairs-nothing; after = λ u us e. absurd (cc) }
     both_ordered (t ∷ ts) at =
         let next = both_ordered ts at.1 in
@@ -210,5 +213,5 @@ module _ (c : Content) (w : IsContent c) (R : Key → Key → Type 0)
         by_kind next Wild kind = pairs-wild t ts kind next.entered
 
     -- the names that are found, each against those after it
-    pub ordered_finds : (ts : List Text) → AtRuns ts → (k : Key) (d : Bool) → Pairs Q (enter_names c o directories ts k d)
+    pub ordered_finds : (ts : List Text) → AtRuns R ts → (k : Key) (d : Bool) → Pairs (OfHits R) (enter_names c o directories ts k d)
     ordered_finds ts at = (both_ordered ts at).entered

@@ -20,12 +20,9 @@ use Rattle.glob_pattern.specs.declared.options.MatchOptions.{MatchOptions}
 use Rattle.glob_tree.specs.declared.tree.Kind.{Kind}
 use Rattle.glob_tree.specs.declared.tree.Kind.TheVariants.{Dir, Shut, Other}
 use Rattle.glob_tree.proofs.ContentLemmas.Membership.{Contains-head, Contains-tail}
-use Rattle.glob_tree.proofs.ContentLemmas.Membership.{list_all-contains}
-use Rattle.glob_tree.specs.Content.{is_placed, parent_key, look_of}
+use Rattle.glob_tree.specs.Content.{look_of}
 use Rattle.glob_pattern.specs.Grammar.Characters.{star}
-use Rattle.std.specs.Str.{is_utf8}
-use Rattle.glob_tree.specs.Paths.{is_proper}
-use Rattle.glob_tree.proofs.ContentLemmas.Contents.{contains_kind_at, parent_key-append, IsContent, IsChild-list_result}
+use Rattle.glob_tree.proofs.ContentLemmas.Contents.{IsContent, IsChild-list_result}
 use Rattle.glob_tree.proofs.ContentLemmas.Directories.{LeadsTo, ListsAs, Read, Unreadable, ListsAs-from_leads, resolve_listed, is_dir_at-kind}
 use Rattle.glob_tree.proofs.ContentLemmas.Resolving.{resolve_child}
 use Rattle.glob_tree.proofs.ContentLemmas.Sorting.{Contains-sorted_entries}

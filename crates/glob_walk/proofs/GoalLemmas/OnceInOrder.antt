@@ -1,10 +1,9 @@
 -- The paths of the written listing come once, and in order.
-use Rattle.std.proofs.Common.{◌≡◌, ◌≢◌, ℕ, suc, ◌+◌, ◌-◌, ◌<◌, ◌≤◌, Bool, true, false, cond, not, List, [], ◌∷◌, ◌++◌, length, drop, map, filter, refl, sym, ap, ap₂, subst, ◌∙◌, arith}
+use Rattle.std.proofs.Common.{◌≡◌, ◌≢◌, ℕ, suc, ◌+◌, ◌-◌, ◌<◌, ◌≤◌, Bool, true, false, cond, not, List, [], ◌∷◌, ◌++◌, length, drop, map, refl, sym, ap, subst, ◌∙◌, arith}
 use Rattle.std.specs.Prelude.{Contains, AllPairs, nat_le}
-use Rattle.std.specs.List.{list_any, prefix_len, join_with_byte}
+use Rattle.std.specs.List.{list_any, prefix_len}
 use Rattle.std.specs.Cmp.Lexicographic.{slice_cmp}
 use Rattle.std.specs.Ordering.{nat_cmp, is_eq}
-use Rattle.std.specs.Str.{IsUtf8}
 use Rattle.std.specs.declared.cmp.Ordering.{Ordering}
 use Rattle.std.specs.declared.cmp.Ordering.TheVariants.{Less, Equal, Greater}
 use Rattle.std.proofs.lemmas.Bool.{false≢true, both_ways, or_parts, and_parts, cond-true, cond-false, not-true, not_from_false, leb-true}
@@ -13,25 +12,22 @@ use Rattle.std.proofs.lemmas.List.Kept.{AllPairs-cons}
 use Rattle.std.proofs.lemmas.Map.Text.{is_eq-slice_cmp}
 use Rattle.std.proofs.lemmas.Slice.Eq.{bytes_eq-Decides}
 use Rattle.glob_text.specs.Text.{Text}
-use Rattle.glob_text.specs.Characters.{slash}
-use Rattle.glob_text.specs.Pieces.{is_empty, pieces}
 use Rattle.glob_tree.specs.Content.{Content, Key}
 use Rattle.glob_walk.specs.Marks.{Item, items, paths, IsBeginning}
-use Rattle.glob_walk.specs.Components.{has_root, start, components, wants_directories, begins_recursive, is_recursive}
+use Rattle.glob_walk.specs.Components.{start, components, wants_directories, begins_recursive, is_recursive}
 use Rattle.glob_walk.specs.Listing.{listing}
 use Rattle.glob_walk.specs.Goal.{IsPlainWalk, start_key}
 use Rattle.glob_walk.specs.Order.{from_run, after_run, has_one_run, keeps_order, names_of, path_cmp, IsOnce, IsAscending, IsOrderly}
 use Rattle.glob_pattern.specs.declared.options.MatchOptions.{MatchOptions}
 use Rattle.glob_tree.proofs.ContentLemmas.Membership.{Contains-head, Contains-tail, All-from_contains}
 use Rattle.glob_tree.proofs.ContentLemmas.Contents.{IsContent, IsContent-from_test}
-use Rattle.glob_tree.proofs.ContentLemmas.Resolving.{pieces-append, pieces_one}
 use Rattle.glob_walk.proofs.ListingLemmas.Marks.{paths-append}
 use Rattle.glob_walk.proofs.GoalLemmas.Finds.{Find, Hit, Miss, item_under, under, finds}
 use Rattle.glob_walk.proofs.GoalLemmas.KeysBelow.{names_at}
 use Rattle.glob_walk.proofs.GoalLemmas.NamedPaths.{AreNames-from, under-start, names_of-below}
 use Rattle.glob_walk.proofs.GoalLemmas.GoalNames.{takes_some, IsTaken}
 use Rattle.glob_walk.proofs.GoalLemmas.ItemsFound.{hit_of_path, items-finds, found_is_taken}
-use Rattle.glob_walk.proofs.GoalLemmas.FoundInOrder.{Pairs, AtRuns, ordered_finds}
+use Rattle.glob_walk.proofs.GoalLemmas.FoundInOrder.{Pairs, OfHits, Shorter, AtRuns, ordered_finds}
 
 -- a text compares as equal with itself
 cmp-same : (n : Text) → slice_cmp nat_cmp n n ≡ Equal
@@ -46,8 +42,8 @@ cmp-same n = equal (slice_cmp nat_cmp n n) (is_eq-slice_cmp n n ∙ (bytes_eq-De
 abbrev Differ : Key → Key → Type 0
 Differ a b = a ≢ b
 
-differ-cons : (n : Text) (a b : Key) → Differ a b → Differ (n ∷ a) (n ∷ b)
-differ-cons n a b other e = other (cc)
+differ-under : (n : Text) (a b : Key) → Differ a b → Differ (n ∷ a) (n ∷ b)
+differ-under n a b other e = other (cc)
 
 differ-first : (m n : Text) (a b : Key) → slice_cmp nat_cmp m n ≡ Less → Differ (m ∷ a) (n ∷ b)
 differ-first m n a b less e = less_not_equal (sym less ∙ ap (λ x. slice_cmp nat_cmp x n) same ∙ cmp-same n)
@@ -65,8 +61,8 @@ differ-shorter m a b l h e = omega (arith, ap length e)
 abbrev Rises : Key → Key → Type 0
 Rises a b = slice_cmp (slice_cmp nat_cmp) a b ≡ Less
 
-rises-cons : (n : Text) (a b : Key) → Rises a b → Rises (n ∷ a) (n ∷ b)
-rises-cons n a b h = rw (cmp-same n) h
+rises-under : (n : Text) (a b : Key) → Rises a b → Rises (n ∷ a) (n ∷ b)
+rises-under n a b h = rw (cmp-same n) h
 
 rises-first : (m n : Text) (a b : Key) → slice_cmp nat_cmp m n ≡ Less → Rises (m ∷ a) (n ∷ b)
 rises-first m n a b less = rw less refl
@@ -111,35 +107,32 @@ unfolding past
 after_run-more [] e = absurd (false≢true e)
 after_run-more (t ∷ ts) e = after_run-run t ts e ∙ sym (past-run t ts e)
 
-module _ (c : Content) (w : IsContent c) (R : Key → Key → Type 0)
-    (cons : (n : Text) (a b : Key) → R a b → R (n ∷ a) (n ∷ b))
-    (first : (m n : Text) (a b : Key) → slice_cmp nat_cmp m n ≡ Less → R (m ∷ a) (n ∷ b)) (o : MatchOptions) (directories : Bool) where
-  -- where no `**` is left
-  at_no_run : (ts : List Text) → list_any is_recursive ts ≡ false → AtRuns c w R cons first o directories ts
-  at_no_run [] h = tt
-  at_no_run (t ∷ ts) h =
-      let both = or_parts (is_recursive t) (list_any is_recursive ts) h in
-      ((λ r last. absurd (both_ways (is_recursive t) both.0 r)), at_no_run ts both.1)
+-- where no `**` is left
+at_no_run : (R : Key → Key → Type 0) (ts : List Text) → list_any is_recursive ts ≡ false → AtRuns R ts
+at_no_run R [] h = tt
+at_no_run R (t ∷ ts) h =
+    let both = or_parts (is_recursive t) (list_any is_recursive ts) h in
+    ((λ r last. absurd (both_ways (is_recursive t) both.0 r)), at_no_run R ts both.1)
 
-  at_runs : (ts : List Text) → list_any is_recursive (after_run ts) ≡ false → ((a b : Key) → length a ≡ length (after_run ts) - 1 → length (after_run ts) - 1 < length b → R a b) → AtRuns c w R cons first o directories ts
-  at_runs [] h shorter = tt
-  at_runs (t ∷ ts) h shorter = by_test (is_recursive t) refl
-      (λ e. at_runs ts (subst (λ us. list_any is_recursive us ≡ false) e h) (subst (λ us. (a b : Key) → length a ≡ length us - 1 → length us - 1 < length b → R a b) e shorter))
-    where
-      by_next : is_recursive t ≡ true → (b : Bool) → begins_recursive ts ≡ b → (after_run (t ∷ ts) ≡ after_run ts → AtRuns c w R cons first o directories ts) → AtRuns c w R cons first o directories (t ∷ ts)
-      by_next r true more further = ((λ q last. absurd (both_ways (begins_recursive ts) last more)), further (after_run-run t ts r ∙ sym (after_run-more ts more)))
-      by_next r false last further =
-          let e : after_run (t ∷ ts) ≡ ts = after_run-run t ts r ∙ past-other ts last in
-          let plain = subst (λ us. list_any is_recursive us ≡ false) e h in
-          ((λ q l. (plain, subst (λ us. (a b : Key) → length a ≡ length us - 1 → length us - 1 < length b → R a b) e shorter)), at_no_run ts plain)
+at_runs : (R : Key → Key → Type 0) (ts : List Text) → list_any is_recursive (after_run ts) ≡ false → Shorter R (length (after_run ts) - 1) → AtRuns R ts
+at_runs R [] h shorter = tt
+at_runs R (t ∷ ts) h shorter = by_test (is_recursive t) refl
+    (λ e. at_runs R ts (subst (λ us. list_any is_recursive us ≡ false) e h) (subst (λ us. Shorter R (length us - 1)) e shorter))
+  where
+    by_next : is_recursive t ≡ true → (b : Bool) → begins_recursive ts ≡ b → (after_run (t ∷ ts) ≡ after_run ts → AtRuns R ts) → AtRuns R (t ∷ ts)
+    by_next r true more further = ((λ q last. absurd (both_ways (begins_recursive ts) last more)), further (after_run-run t ts r ∙ sym (after_run-more ts more)))
+    by_next r false last further =
+        let e : after_run (t ∷ ts) ≡ ts = after_run-run t ts r ∙ past-other ts last in
+        let plain = subst (λ us. list_any is_recursive us ≡ false) e h in
+        ((λ q l. (plain, subst (λ us. Shorter R (length us - 1)) e shorter)), at_no_run R ts plain)
 
-      by_test : (b : Bool) → is_recursive t ≡ b → (after_run (t ∷ ts) ≡ after_run ts → AtRuns c w R cons first o directories ts) → AtRuns c w R cons first o directories (t ∷ ts)
-      by_test true r further = by_next r (begins_recursive ts) refl further
-      by_test false r further = ((λ q last. absurd (both_ways (is_recursive t) r q)), further (after_run-other t ts r))
+    by_test : (b : Bool) → is_recursive t ≡ b → (after_run (t ∷ ts) ≡ after_run ts → AtRuns R ts) → AtRuns R (t ∷ ts)
+    by_test true r further = by_next r (begins_recursive ts) refl further
+    by_test false r further = ((λ q last. absurd (both_ways (is_recursive t) r q)), further (after_run-other t ts r))
 
 -- the paths of what is found
 Pairs-paths : (R : Key → Key → Type 0) (S : Text → Text → Type 0) (path : Text) (fs : List Find)
-    → Pairs (λ f g. (a b : Key) → f ≡ Hit a → g ≡ Hit b → R a b) fs
+    → Pairs (OfHits R) fs
     → ((a b : Key) → Contains fs (Hit a) → Contains fs (Hit b) → R a b → S (under path a) (under path b))
     → Pairs S (paths (map (item_under path) fs))
 Pairs-paths R S path [] pairs turn = tt
@@ -174,7 +167,7 @@ module _ (c : Content) (o : MatchOptions) (pattern : Text) (p : IsPlainWalk c o 
           let all = AreNames-from (n ∷ ns) (names_at c w (start_key c pattern) (n ∷ ns) is.kind is.held) in
           ap names_of (under-start pattern n ns all) ∙ names_of-below pattern n ns all
 
-  given_pairs : (R : Key → Key → Type 0) (S : Text → Text → Type 0) → Pairs (λ f g. (a b : Key) → f ≡ Hit a → g ≡ Hit b → R a b) (finds c o pattern)
+  given_pairs : (R : Key → Key → Type 0) (S : Text → Text → Type 0) → Pairs (OfHits R) (finds c o pattern)
       → ((path later : Text) → R (names_of path) (names_of later) → S path later) → (given : List Item) → IsBeginning given (items (listing c o pattern)) → AllPairs S (paths given)
   given_pairs R S pairs turn given begins =
       AllPairs-from S (paths given) (Pairs-front S (paths given) (paths begins.0)
@@ -189,8 +182,8 @@ module _ (c : Content) (o : MatchOptions) (pattern : Text) (p : IsPlainWalk c o 
     where
       once : has_one_run pattern ≡ true → IsOnce (paths given)
       once h = given_pairs Differ (λ p q. p ≢ q)
-          (ordered_finds c w Differ differ-cons differ-first o (wants_directories pattern) (components pattern)
-          (at_runs c w Differ differ-cons differ-first o (wants_directories pattern) (components pattern) (not-true _ h) (differ-shorter (length (after_run (components pattern)) - 1))) (start_key c pattern) true)
+          (ordered_finds c w Differ (record { under = differ-under; first = differ-first }) o (wants_directories pattern) (components pattern)
+          (at_runs Differ (components pattern) (not-true _ h) (differ-shorter (length (after_run (components pattern)) - 1))) (start_key c pattern) true)
           (λ p q r e. r (ap names_of e)) given begins
 
       ascending : keeps_order pattern ≡ true → IsAscending (paths given)
@@ -198,6 +191,6 @@ module _ (c : Content) (o : MatchOptions) (pattern : Text) (p : IsPlainWalk c o 
           let both = and_parts (has_one_run pattern) (nat_le (length (after_run (components pattern))) 1) h in
           let few : length (after_run (components pattern)) ≤ 1 = leb-true _ 1 both.1 in
           given_pairs Rises (λ p q. path_cmp p q ≡ Less)
-          (ordered_finds c w Rises rises-cons rises-first o (wants_directories pattern) (components pattern)
-          (at_runs c w Rises rises-cons rises-first o (wants_directories pattern) (components pattern) (not-true _ both.0) (rises-shorter (length (after_run (components pattern)) - 1) (omega arith))) (start_key c pattern) true)
+          (ordered_finds c w Rises (record { under = rises-under; first = rises-first }) o (wants_directories pattern) (components pattern)
+          (at_runs Rises (components pattern) (not-true _ both.0) (rises-shorter (length (after_run (components pattern)) - 1) (omega arith))) (start_key c pattern) true)
           (λ p q r. r) given begins

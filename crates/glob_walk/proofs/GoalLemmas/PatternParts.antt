@@ -1,28 +1,18 @@
 -- The components of a pattern are texts without separators, which joined give the pattern.
-use Rattle.std.proofs.Common.{◌≡◌, ◌≢◌, ℕ, suc, ◌-◌, ◌<◌, ◌≤◌, ⊎_elim, Bool, true, false, cond, not, ◌&&◌, ◌||◌, ◌==◌, List, [], ◌∷◌, ◌++◌, length, take, drop, map, slice_index, get_or, Option, Some, None, refl, sym, ap, ap₂, subst, ◌∙◌, arith, lit<}
-use Rattle.std.specs.Prelude.{Result, Ok, Err, is_none}
-use Rattle.std.specs.Option.{option_or}
-use Rattle.std.specs.Result.{result_err}
+use Rattle.std.proofs.Common.{◌≡◌, ◌≢◌, ℕ, suc, ◌-◌, ◌<◌, ◌≤◌, ⊎_elim, Bool, true, false, cond, not, ◌&&◌, ◌==◌, List, [], ◌∷◌, ◌++◌, length, take, slice_index, get_or, refl, sym, ap, subst, ◌∙◌, arith, lit<}
 use Rattle.std.specs.List.{list_all, join_with_byte, onto_first}
 use Rattle.std.specs.Path.{has_no_slash}
-use Rattle.std.specs.Str.{chars, is_utf8, IsUtf8}
+use Rattle.std.specs.Str.{IsUtf8}
 use lib.Utf8.{encode, encodes, scalars}
-use Rattle.std.proofs.lemmas.Str.{encode_ascii, encodes-chars, inside_one, chars-nil, IsUtf8-nil, IsUtf8-append, IsUtf8-from_is_utf8, IsUtf8-take, IsUtf8-drop, IsCharBoundary-before_ascii, IsCharBoundary-after_ascii}
-use Rattle.std.proofs.lemmas.Bool.{false≢true, both_ways, and_parts, and_from, not-true, not_from_false, eqb-true, eq-eqb, ne_eqb, cases_lt, cond-true, cond-false}
+use Rattle.std.proofs.lemmas.Str.{encode_ascii, inside_one, IsUtf8-nil, IsUtf8-append, IsUtf8-take, IsUtf8-drop, IsCharBoundary-before_ascii, IsCharBoundary-after_ascii}
+use Rattle.std.proofs.lemmas.Bool.{both_ways, and_parts, and_from, not-true, not_from_false, eqb-true, eq-eqb, ne_eqb, cases_lt, cond-false}
 use Rattle.std.proofs.lemmas.List.{append-nil}
 use Rattle.std.proofs.lemmas.List.Splits.{join_with_byte-slice_split, length-slice_split}
-use Rattle.glob_text.specs.Characters.{slash, dot}
+use Rattle.glob_text.specs.Characters.{slash}
 use Rattle.glob_text.specs.Text.{Text}
-use Rattle.glob_text.specs.Pieces.{is_empty, begins_with, ends_with, pieces}
-use Rattle.glob_pattern.specs.Grammar.Tokens.{Token}
-use Rattle.glob_pattern.specs.Grammar.Units.{HasUnits}
-use Rattle.glob_pattern.specs.Grammar.Faults.{Fault}
-use Rattle.glob_pattern.specs.Computing.Reading.{reading_of}
-use Rattle.glob_pattern.specs.Computing.Deciding.{is_match}
-use Rattle.glob_walk.specs.Components.{has_root, without_root, without_end_separator, components, is_literal, is_recursive, is_special_name, matches_name, first_fault, walk_fault}
-use Rattle.glob_walk.specs.Goal.{is_plain_component, are_plain, is_plain, text_below, goal_options, matches_undivided}
-use Rattle.glob_pattern.specs.declared.options.MatchOptions.{MatchOptions}
-use Rattle.glob_walk.proofs.GoalLemmas.Characters.{no_slash-chars, literal-chars, chars_same, AllUtf8, chars-joined, chars-rooted}
+use Rattle.glob_text.specs.Pieces.{ends_with, pieces}
+use Rattle.glob_walk.specs.Components.{without_root, without_end_separator, components}
+use Rattle.glob_walk.proofs.GoalLemmas.Characters.{AllUtf8}
 
 -- the pieces of a text
 onto_first-flat : (x : ℕ) (ps : List Text) → (x == slash) ≡ false → list_all has_no_slash ps ≡ true → list_all has_no_slash (onto_first x ps) ≡ true

@@ -1,7 +1,7 @@
 -- A plain walk finds its goal, but for what lies below directories that cannot be listed.
-use Rattle.std.proofs.Common.{◌≡◌, ◌⊎◌, inl, inr, ⊎_elim, true, List, [], ◌∷◌, ◌++◌, map, refl, sym, ap, subst, ◌∙◌}
+use Rattle.std.proofs.Common.{◌≡◌, ◌⊎◌, inl, inr, ⊎_elim, true, List, [], ◌∷◌, ◌++◌, map, sym, ap, subst, ◌∙◌}
 use Rattle.std.specs.Prelude.{Contains}
-use Rattle.std.proofs.lemmas.List.{append_assoc, append-nil}
+use Rattle.std.proofs.lemmas.List.{append_assoc}
 use Rattle.std.proofs.lemmas.List.Elements.{Contains-append_left}
 use Rattle.glob_text.specs.Text.{Text}
 use Rattle.glob_tree.specs.Content.{Content, Key}
@@ -10,12 +10,12 @@ use Rattle.glob_tree.proofs.ContentLemmas.Contents.{IsContent, IsContent-from_te
 use Rattle.glob_walk.specs.Marks.{Item, Unread, items, paths, IsBeginning}
 use Rattle.glob_walk.specs.Components.{start}
 use Rattle.glob_walk.specs.Listing.{listing}
-use Rattle.glob_walk.specs.Goal.{start_key, text_below, is_readable, goal, IsPlainWalk, IsHidden, ReachesGoal, GivesGoal}
+use Rattle.glob_walk.specs.Goal.{start_key, is_readable, goal, IsPlainWalk, IsHidden, ReachesGoal, GivesGoal}
 use Rattle.glob_pattern.specs.declared.options.MatchOptions.{MatchOptions}
 use Rattle.glob_walk.proofs.ListingLemmas.Marks.{paths-append}
 use Rattle.glob_walk.proofs.GoalLemmas.KeysBelow.{names_at}
 use Rattle.glob_walk.proofs.GoalLemmas.NamedPaths.{AreNames-from, under-start, LeadsTo-start, resolve-under}
-use Rattle.glob_walk.proofs.GoalLemmas.Finds.{Find, Hit, Miss, item_under, under, finds}
+use Rattle.glob_walk.proofs.GoalLemmas.Finds.{Miss, item_under, under, finds}
 use Rattle.glob_walk.proofs.GoalLemmas.FoundIsTaken.{map-contains}
 use Rattle.glob_walk.proofs.GoalLemmas.TakenIsFound.{IsCovered}
 use Rattle.glob_walk.proofs.GoalLemmas.GoalNames.{takes_some, IsTaken, IsGoal, goal_of_taken, taken_of_goal}

@@ -1,28 +1,25 @@
 -- Each key whose names the components take is found, or lies below a directory that cannot be listed.
-use Rattle.std.proofs.Common.{◌≡◌, ◌≢◌, ℕ, zero, suc, ◌+◌, ◌≤◌, ◌⊎◌, inl, inr, ⊎_elim, Bool, true, false, cond, not, ◌&&◌, ◌||◌, List, [], ◌∷◌, ◌++◌, length, flat_map, Option, Some, None, refl, sym, ap, subst, ◌∙◌, arith}
+use Rattle.std.proofs.Common.{◌≡◌, ◌≢◌, ℕ, zero, suc, ◌+◌, ◌≤◌, ◌⊎◌, inl, inr, ⊎_elim, Bool, true, false, cond, not, ◌||◌, List, [], ◌∷◌, ◌++◌, length, flat_map, Option, Some, None, refl, sym, ap, subst, ◌∙◌, arith}
 use Rattle.std.specs.Prelude.{Contains, option_map, unwrap_or}
 use Rattle.std.specs.List.{list_all}
 use Rattle.std.specs.Str.{is_utf8}
 use Rattle.std.specs.declared.io.ErrorKind.{ErrorKind}
 use Rattle.std.proofs.lemmas.Bool.{false≢true, both_ways, and_parts, and_from}
 use Rattle.std.proofs.lemmas.List.{append_assoc, append-nil, length-append}
-use Rattle.std.proofs.lemmas.List.Folds.{list_all-append}
 use Rattle.std.proofs.lemmas.List.Elements.{Contains-append_left, Contains-append_right}
 use Rattle.std.proofs.lemmas.Option.{same_Some}
 use Rattle.glob_text.specs.Text.{Text}
-use Rattle.glob_tree.specs.Paths.{is_proper}
-use Rattle.glob_tree.specs.Content.{Content, Key, DirEntry, kind_at, is_dir, is_dir_at, is_placed, parent_key, children, sorted_entries}
+use Rattle.glob_tree.specs.Content.{Content, Key, DirEntry, kind_at, is_dir, is_dir_at, children, sorted_entries}
 use Rattle.glob_walk.specs.Components.{Literal, Recursive, Wild, component_kind, ComponentKind, begins_recursive, is_recursive, is_literal, matches_name}
 use Rattle.glob_walk.specs.Listing.{is_entered, levels}
 use Rattle.glob_pattern.specs.declared.options.MatchOptions.{MatchOptions}
 use Rattle.glob_tree.specs.declared.tree.Kind.{Kind}
 use Rattle.glob_tree.specs.declared.tree.Kind.TheVariants.{Dir, Shut, Other}
-use Rattle.glob_tree.proofs.ContentLemmas.Membership.{Contains-head, list_all-contains}
-use Rattle.glob_tree.proofs.ContentLemmas.Contents.{IsContent, listed_child, contains_kind_at}
+use Rattle.glob_tree.proofs.ContentLemmas.Membership.{Contains-head}
+use Rattle.glob_tree.proofs.ContentLemmas.Contents.{IsContent, listed_child}
 use Rattle.glob_walk.proofs.ListingLemmas.Descending.{depth}
 use Rattle.glob_tree.proofs.ContentLemmas.Directories.{is_dir_at-kind}
 use Rattle.glob_tree.proofs.ContentLemmas.Sorting.{sorted_entries-contains}
-use Rattle.glob_tree.proofs.MemoryLemmas.Keys.{all_above, directory_kind}
 use Rattle.glob_walk.proofs.GoalLemmas.Finds.{Find, Hit, Miss, deepen, below, list_kind, list_names, found_names, descent_names, enter_names, meet_names}
 use Rattle.glob_walk.proofs.GoalLemmas.ListingFinds.{kind-Literal, kind-Recursive, kind-Wild, literal_not_recursive, names-literal, names-wild, names-run, names-levels}
 use Rattle.glob_walk.proofs.GoalLemmas.FoundIsTaken.{flat_map-contains, map-contains, IsHit, IsMet, ends-cons}

@@ -1,19 +1,18 @@
 -- The undivided pattern matches the text of some names exactly where the components take the names.
-use Rattle.std.proofs.Common.{◌≡◌, ◌≢◌, ℕ, suc, ◌-◌, ◌<◌, ◌≤◌, ⊎_elim, Bool, true, false, cond, not, ◌&&◌, ◌||◌, ◌==◌, List, [], ◌∷◌, ◌++◌, length, take, drop, map, slice_index, get_or, Option, Some, None, refl, sym, ap, ap₂, subst, ◌∙◌, arith, lit<}
+use Rattle.std.proofs.Common.{◌≡◌, Bool, true, false, cond, not, ◌&&◌, ◌||◌, ◌==◌, List, [], ◌∷◌, length, drop, map, Option, Some, None, refl, sym, ap, ap₂, subst, ◌∙◌, arith}
 use Rattle.std.specs.Prelude.{Result, Ok, Err, is_none}
 use Rattle.std.specs.Option.{option_or}
 use Rattle.std.specs.Result.{result_err}
-use Rattle.std.specs.List.{list_all, join_with_byte, onto_first}
+use Rattle.std.specs.List.{list_all, join_with_byte}
 use Rattle.std.specs.Path.{has_no_slash}
-use Rattle.std.specs.Str.{chars, is_utf8, IsUtf8}
-use lib.Utf8.{encode, encodes, scalars}
-use Rattle.std.proofs.lemmas.Str.{encode_ascii, encodes-chars, inside_one, chars-nil, IsUtf8-nil, IsUtf8-append, IsUtf8-from_is_utf8, IsUtf8-take, IsUtf8-drop, IsCharBoundary-before_ascii, IsCharBoundary-after_ascii}
-use Rattle.std.proofs.lemmas.Bool.{false≢true, true≢false, both_ways, and_parts, and_from, not-true, not_from_false, eqb-true, eq-eqb, ne_eqb, cases_lt, cond-true, cond-false}
-use Rattle.std.proofs.lemmas.List.{append-nil}
-use Rattle.std.proofs.lemmas.List.Splits.{join_with_byte-slice_split, length-slice_split}
+use Rattle.std.specs.Str.{chars, IsUtf8}
+use lib.Utf8.{encodes}
+use Rattle.std.proofs.lemmas.Str.{encodes-chars, chars-nil}
+use Rattle.std.proofs.lemmas.Bool.{false≢true, true≢false, both_ways, and_parts, and_from, not-true, eqb-true, cond-true, cond-false}
+use Rattle.std.proofs.lemmas.List.Splits.{length-slice_split}
 use Rattle.glob_text.specs.Characters.{slash, dot}
 use Rattle.glob_text.specs.Text.{Text}
-use Rattle.glob_text.specs.Pieces.{is_empty, begins_with, ends_with, pieces}
+use Rattle.glob_text.specs.Pieces.{is_empty, begins_with}
 use Rattle.glob_pattern.specs.Grammar.Tokens.{Token}
 use Rattle.glob_pattern.specs.Grammar.Units.{IsAccepted}
 use Rattle.glob_pattern.specs.Grammar.Faults.{Fault}
@@ -22,14 +21,11 @@ use Rattle.glob_pattern.specs.Computing.Deciding.{is_match}
 use Rattle.glob_walk.specs.Components.{has_root, without_root, without_end_separator, components, is_literal, is_recursive, is_special_name, matches_name, first_fault, walk_fault}
 use Rattle.glob_walk.specs.Goal.{is_plain_component, are_plain, is_plain, text_below, goal_options, matches_undivided}
 use Rattle.glob_pattern.specs.declared.options.MatchOptions.{MatchOptions}
-use Rattle.glob_pattern.proofs.GrammarLemmas.Reading.{HasTokens-reading_of, reading_of-HasTokens}
-use Rattle.glob_pattern.proofs.GrammarLemmas.Accepted.{one_reading}
-use Rattle.glob_pattern.proofs.MatchingLemmas.PlainPatterns.{plain_matches_itself}
-use Rattle.glob_pattern.proofs.MatchingLemmas.Deciding.{Decides-Matches}
+use Rattle.glob_pattern.proofs.GrammarLemmas.Reading.{HasTokens-reading_of}
 use Rattle.glob_pattern.specs.Matching.Components.{is_open, run_to_end, run_before, name_before, takes_names, with_separator_rule, AreComponents}
 use Rattle.glob_pattern.proofs.ComponentLemmas.JoinedComponents.{joined_takes, rooted_takes}
-use Rattle.glob_walk.proofs.GoalLemmas.PatternParts.{pieces-flat, pieces-utf8, components-utf8, components-flat, components-joined, without_end-rooted}
-use Rattle.glob_walk.proofs.GoalLemmas.Characters.{dot-chars, recursive-chars, no_slash-chars, literal-chars, chars_same, AllUtf8, chars-joined, chars-rooted}
+use Rattle.glob_walk.proofs.GoalLemmas.PatternParts.{components-utf8, components-flat, components-joined, without_end-rooted}
+use Rattle.glob_walk.proofs.GoalLemmas.Characters.{dot-chars, recursive-chars, no_slash-chars, AllUtf8, chars-joined, chars-rooted}
 
 -- the components take names by their characters as by their bytes
 open-chars : (o : MatchOptions) (n : Text) → IsUtf8 n → is_open o (chars n) ≡ is_open o n
