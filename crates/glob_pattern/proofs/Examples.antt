@@ -1,5 +1,5 @@
 -- What the definitions answer at worked rows, computed from the definitions alone.
-use Rattle.std.specs.Prelude.{◌≡◌, ℕ, Bool, true, false, List, [], ◌∷◌, ◌++◌, Result, Err, codes, refl, map}
+use Rattle.std.specs.Prelude.{◌≡◌, ℕ, Bool, true, false, List, [], ◌∷◌, Result, Err, codes, refl, map}
 use Rattle.glob_text.specs.Text.{Text}
 use Rattle.glob_pattern.specs.Grammar.Tokens.{Token}
 use Rattle.glob_pattern.specs.Computing.Deciding.{is_match, tokens_match}

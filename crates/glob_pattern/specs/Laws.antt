@@ -1,11 +1,14 @@
 -- Laws of patterns, as statements.
-use Rattle.std.specs.Prelude.{◌≡◌, ℕ, ◌<◌, Bool, List, length, slice_index, IsTrue, IsFalse, Decides, ◌↔◌}
-use Rattle.std.specs.List.{list_any}
+use Rattle.std.specs.Prelude.{◌≡◌, ℕ, ◌<◌, Bool, List, ◌∷◌, length, slice_index, IsTrue, IsFalse, Decides, ◌↔◌}
+use Rattle.std.specs.List.{list_any, list_all, join_with_byte}
+use Rattle.std.specs.Path.{has_no_slash}
+use Rattle.glob_text.specs.Characters.{slash}
 use Rattle.glob_pattern.specs.Grammar.Characters.{is_wildcard}
 use Rattle.glob_text.specs.Text.{Text}
 use Rattle.glob_pattern.specs.Grammar.Brackets.{same}
 use Rattle.glob_pattern.specs.Grammar.Tokens.{Token, tokens_of_units}
 use Rattle.glob_pattern.specs.Grammar.Units.{IsAccepted}
+use Rattle.glob_pattern.specs.Matching.Components.{takes_names, with_separator_rule, AreComponents}
 use Rattle.glob_pattern.specs.Matching.Texts.{TokensMatch, Matches}
 use Rattle.glob_pattern.specs.Escaping.{escaped_text}
 use Rattle.glob_pattern.specs.Computing.Deciding.{tokens_match, is_match}
@@ -77,3 +80,26 @@ TokensDecided = (o : MatchOptions) (tokens : List Token) (text : Text) → Decid
 -- the decider says yes where the pattern matches, and nowhere else
 abbrev pub PatternsDecided : Type 0
 PatternsDecided = (o : MatchOptions) (pattern text : Text) → Decides (is_match o pattern text) (Matches o pattern text)
+
+-- the separator rule changes nothing for a text without separators
+abbrev pub SeparatorRuleSparesNames : Type 0
+SeparatorRuleSparesNames =
+    (o : MatchOptions) (pattern name : Text) → IsTrue (has_no_slash name)
+    → is_match (with_separator_rule o) pattern name ≡ is_match o pattern name
+
+-- Under the separator rule, components joined by `/` match names joined by `/` exactly where the components take the
+-- names.
+abbrev pub JoinedMatchLevels : Type 0
+JoinedMatchLevels =
+    (o : MatchOptions) (t : Text) (ts : List Text) (n : Text) (ns : List Text)
+    → AreComponents (t ∷ ts) → IsTrue (list_all has_no_slash (n ∷ ns))
+    → is_match (with_separator_rule o) (join_with_byte slash (t ∷ ts)) (join_with_byte slash (n ∷ ns))
+    ≡ takes_names o (is_match o) (t ∷ ts) (n ∷ ns)
+
+-- so they do where both stand after a first separator
+abbrev pub RootedMatchLevels : Type 0
+RootedMatchLevels =
+    (o : MatchOptions) (t : Text) (ts : List Text) (n : Text) (ns : List Text)
+    → AreComponents (t ∷ ts) → IsTrue (list_all has_no_slash (n ∷ ns))
+    → is_match (with_separator_rule o) (slash ∷ join_with_byte slash (t ∷ ts)) (slash ∷ join_with_byte slash (n ∷ ns))
+    ≡ takes_names o (is_match o) (t ∷ ts) (n ∷ ns)

@@ -1,4 +1,5 @@
 pub mod Bits
+pub mod Components
 pub mod Options
 pub mod Short
 pub mod Splits

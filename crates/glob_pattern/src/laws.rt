@@ -5,7 +5,7 @@ ghost use Rattle.glob_pattern.specs.Grammar.Tokens.{Token};
 ghost use Rattle.glob_pattern.specs.Grammar.Units.{UnitAt, HasUnits, IsAccepted, HasTokens};
 ghost use Rattle.glob_pattern.specs.Grammar.Faults.{Fault, IsFault};
 ghost use Rattle.glob_pattern.specs.Computing.Reading.{reading_of};
-ghost use Rattle.glob_pattern.specs.Laws.{TokensLoosened, PatternsLoosened, PlainAccepted, PlainMatchesSame, PlainMatchesItself, FoldedMatchSame, EscapedAccepted, EscapedMatchesSame, EscapedMatchesItself, TokensDecided, PatternsDecided};
+ghost use Rattle.glob_pattern.specs.Laws.{TokensLoosened, PatternsLoosened, PlainAccepted, PlainMatchesSame, PlainMatchesItself, FoldedMatchSame, EscapedAccepted, EscapedMatchesSame, EscapedMatchesItself, TokensDecided, PatternsDecided, SeparatorRuleSparesNames, JoinedMatchLevels, RootedMatchLevels};
 
 /// Reading by computation answers tokens exactly where they are those of the text.
 pub fn reading_answers_tokens()
@@ -76,4 +76,16 @@ pub fn escaped_text_matches_itself()
 pub fn matching_is_decided()
     ensures tokens { TokensDecided }
     ensures patterns { PatternsDecided }
+{}
+
+/// The separator rule changes nothing for a text without separators.
+pub fn separator_rule_spares_names()
+    ensures { SeparatorRuleSparesNames }
+{}
+
+/// A pattern matches names joined by `/`, under the separator rule, exactly where its components take the names: `**` any
+/// number of them, another component one. So `a/**/c` matches `a/b/c`, since `a` takes `a`, `**` takes `b` and `c` takes `c`.
+pub fn components_match_level_by_level()
+    ensures joined { JoinedMatchLevels }
+    ensures rooted { RootedMatchLevels }
 {}

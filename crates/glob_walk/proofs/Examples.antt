@@ -5,8 +5,10 @@ pub mod Dotted
 pub mod Edges
 pub mod Goals
 pub mod Held
+pub mod Joined
 pub mod Limits
 pub mod Ordered
+pub mod Premises
 pub mod Recursive
 pub mod Shut
 pub mod Small

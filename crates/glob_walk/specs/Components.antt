@@ -6,7 +6,8 @@ use Rattle.std.specs.List.{list_any}
 use Rattle.std.specs.Path.{root_dir, cur_dir, parent_dir}
 use Rattle.std.specs.Str.{chars}
 use Rattle.glob_text.specs.Characters.{slash}
-use Rattle.glob_pattern.specs.Grammar.Characters.{star, is_wildcard}
+use Rattle.glob_pattern.specs.Grammar.Characters.{is_wildcard}
+pub use Rattle.glob_pattern.specs.Matching.Components.{is_recursive}
 use Rattle.glob_text.specs.Text.{Text}
 use Rattle.glob_text.specs.Pieces.{begins_with, ends_with, pieces}
 use Rattle.glob_pattern.specs.Grammar.Faults.{Fault}
@@ -38,10 +39,6 @@ wants_directories pattern = ends_with slash pattern
 -- the component stands for itself alone
 abbrev pub is_literal : Text → Bool
 is_literal component = not (list_any is_wildcard component)
-
--- `**`
-abbrev pub is_recursive : Text → Bool
-is_recursive component = bytes_eq component (star ∷ star ∷ [])
 
 abbrev pub begins_recursive : List Text → Bool
 begins_recursive [] = false

@@ -1,12 +1,12 @@
 -- What a walk is for: the texts of the keys below its start that the undivided pattern matches.
-use Rattle.std.specs.Prelude.{◌≡◌, ◌≢◌, Bool, true, false, ◌&&◌, ◌||◌, not, if◌then◌else◌, List, [], ◌∷◌, ◌++◌, filter_map, Contains, Option, Some, None, is_none, option_and_then, ◌⊎◌}
+use Rattle.std.specs.Prelude.{◌≡◌, ◌≢◌, Bool, true, false, ◌&&◌, ◌||◌, not, if◌then◌else◌, List, [], ◌∷◌, ◌++◌, filter_map, Contains, Option, Some, None, is_none, option_and_then, ◌⊎◌, ◌↔◌, IsTrue}
 use Rattle.std.specs.List.{list_all, join_with_byte}
-use Rattle.std.specs.Str.{chars}
+use Rattle.std.specs.Str.{chars, IsUtf8}
 use Rattle.std.specs.declared.io.ErrorKind.{ErrorKind}
 use Rattle.glob_text.specs.Characters.{slash, dot}
 use Rattle.glob_text.specs.Text.{Text}
 use Rattle.glob_text.specs.Pieces.{is_empty, begins_with}
-use Rattle.glob_tree.specs.Content.{Content, Key, is_dir, names_past, kind_at, resolve}
+use Rattle.glob_tree.specs.Content.{Content, is_content, Key, is_dir, names_past, kind_at, resolve}
 use Rattle.glob_walk.specs.Components.{components, has_root, wants_directories, without_end_separator, is_literal, is_recursive, is_special_name, walk_fault}
 use Rattle.glob_pattern.specs.Computing.Deciding.{is_match}
 use Rattle.glob_walk.specs.Marks.{Item, Unread, paths}
@@ -78,6 +78,13 @@ is_shut Other = false
 unfoldable pub is_readable : Content → (pattern : Text) → Bool
 is_readable c pattern = list_all (λ e. not (is_shut e.1) || is_none (names_past (start_key c pattern) e.0)) c.kinds
 
+-- a plain walk: over a content, after a plain pattern, with case
+pub record IsPlainWalk (c : Content) (o : MatchOptions) (pattern : Text) : Type 0 where
+  pub content : IsTrue (is_content c)
+  pub text : IsUtf8 pattern
+  pub plain : IsTrue (is_plain pattern)
+  pub case : IsTrue o.case_sensitive
+
 -- the text is that of a key below a shut one, to which the path of an error item leads
 pub record IsHidden (c : Content) (pattern : Text) (given : List Item) (text : Text) : Type 0 where
   pub path : Text
@@ -96,3 +103,8 @@ pub record IsHidden (c : Content) (pattern : Text) (given : List Item) (text : T
 pub record ReachesGoal (c : Content) (o : MatchOptions) (pattern : Text) (IsWhole : Type 0) (given : List Item) : Type 0 where
   pub sound : (text : Text) → Contains (paths given) text → Contains (goal c o pattern) text
   pub complete : IsWhole → (text : Text) → Contains (goal c o pattern) text → Contains (paths given) text ⊎ IsHidden c pattern given text
+
+-- no item is an error, and the paths are exactly the goal
+pub record GivesGoal (c : Content) (o : MatchOptions) (pattern : Text) (given : List Item) : Type 0 where
+  pub readable : (path : Text) (kind : ErrorKind) → ¬ (Contains given (Unread path kind))
+  pub exact : (text : Text) → Contains (paths given) text ↔ Contains (goal c o pattern) text

@@ -2,6 +2,7 @@ pub mod Components
 pub mod GlobCauses
 pub mod GlobErrors
 pub mod Goal
+pub mod Laws
 pub mod Listing
 pub mod Marks
 pub mod Order

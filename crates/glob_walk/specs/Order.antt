@@ -43,4 +43,4 @@ IsAscending paths = AllPairs (λ path later. path_cmp path later ≡ Less) paths
 -- each path once if there is at most one run of `**`, and in order if at most one component follows it
 pub record IsOrderly (pattern : Text) (paths : List Text) : Type 0 where
   pub once : has_one_run pattern ≡ true → IsOnce paths
-  pub sorted_entries : keeps_order pattern ≡ true → IsAscending paths
+  pub ascending : keeps_order pattern ≡ true → IsAscending paths

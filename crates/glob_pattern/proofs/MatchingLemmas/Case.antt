@@ -1,8 +1,9 @@
 -- Characters that are the same without case.
-use Rattle.std.proofs.Common.{◌≡◌, ℕ, ◌+◌, ◌<◌, ◌≤◌, ◌⊎◌, ◌↔◌, false, ◌&&◌, ◌==◌, IsTrue, inl, inr, ⊎_elim, arith}
-use Rattle.std.proofs.lemmas.Bool.{or_cases, or_right, and_parts, and_from, eqb-true, eq-eqb, ltb-true, lt-ltb, cases_eq, cases_lt}
+use Rattle.std.proofs.Common.{◌≡◌, ℕ, ◌+◌, ◌<◌, ◌≤◌, ◌⊎◌, ◌↔◌, Bool, false, ◌&&◌, ◌==◌, IsTrue, sym, inl, inr, ⊎_elim, arith}
+use Rattle.std.proofs.lemmas.Bool.{both_ways, or_from, and_right, ne_eqb, or_cases, or_right, and_parts, and_from, eqb-true, eq-eqb, ltb-true, lt-ltb, cases_eq, cases_lt}
 use Rattle.std.proofs.lemmas.Str.Ascii.{lowercase_is, uppercase_is}
 use Rattle.std.specs.Char.{to_ascii_lowercase, to_ascii_uppercase}
+use Rattle.glob_text.specs.Characters.{slash}
 use Rattle.glob_pattern.specs.Grammar.Brackets.{same, is_ascii}
 
 lower_cases : (c : ℕ) → ((65 ≤ c) × (c ≤ 90) × (to_ascii_lowercase c ≡ c + 32)) ⊎ (((c < 65) ⊎ (90 < c)) × (to_ascii_lowercase c ≡ c))
@@ -45,3 +46,15 @@ same-forms c x low = (
       let is : to_ascii_lowercase c ≡ to_ascii_lowercase x = ⊎_elim (λ e. omega arith) (λ e. omega arith) h in
       or_right (c == x) _ (and_from _ _ (and_from _ _ (lt-ltb c 128 low) (lt-ltb x 128 ascii)) (eq-eqb (to_ascii_lowercase c) (to_ascii_lowercase x) is)),
 )
+
+-- with or without case, no other character is the same as `/`
+pub same-slash : (case : Bool) (c : ℕ) → (c == slash) ≡ false → (same case slash c ≡ false) × (same case c slash ≡ false)
+same-slash case c e =
+    let lower = lower_cases c in
+    let kept = lower_cases slash in (
+      or_from (slash == c) _ (ne_eqb slash c (λ is. other (sym is))) (and_right _ (to_ascii_lowercase slash == to_ascii_lowercase c) (ne_eqb _ _ (λ is. other (omega arith)))),
+      or_from (c == slash) _ e (and_right _ (to_ascii_lowercase c == to_ascii_lowercase slash) (ne_eqb _ _ (λ is. other (omega arith)))),
+    )
+  where
+    other : c ≡ slash → ⊥
+    other is = both_ways (c == slash) e (eq-eqb c slash is)

@@ -1,5 +1,5 @@
 -- What a pattern keeps of its text.
-use Rattle.std.specs.Prelude.{◌≡◌, ◌<◌, List, map}
+use Rattle.std.specs.Prelude.{◌≡◌, List, map}
 use Rattle.glob_text.specs.Text.{Text}
 use Rattle.glob_pattern.specs.Grammar.Tokens.{Token, shape_of}
 use Rattle.glob_pattern.specs.Grammar.Units.{HasTokens}

@@ -47,7 +47,7 @@ longest n (f ∷ es) e in' = ⊎_elim
     (Contains-cases f es e in')
 
 -- a directory is no deeper than the levels of its content
-depth : (c : Content) (k : Key) → is_dir_at c k ≡ true → length k < levels c
+pub depth : (c : Content) (k : Key) → is_dir_at c k ≡ true → length k < levels c
 depth c k d = of_kind (kind_at c k) refl d
   where
     of_kind : (o : Option Kind) → kind_at c k ≡ o → unwrap_or (option_map is_dir o) false ≡ true → length k < levels c
@@ -60,7 +60,7 @@ cond_agree true x y z same = same refl
 cond_agree false x y z same = refl
 
 -- what is entered is a directory
-is_entered-directory : (o : MatchOptions) (name : Text) (d : Bool) → is_entered o name d ≡ true → d ≡ true
+pub is_entered-directory : (o : MatchOptions) (name : Text) (d : Bool) → is_entered o name d ≡ true → d ≡ true
 is_entered-directory o name d h = (and_parts d (not (o.require_literal_leading_dot && begins_with dot name)) h).0
 
 -- Below a directory at k, all numbers of levels give the same marks that reach down to the deepest keys.
@@ -123,7 +123,7 @@ module _ (c : Content) (o : MatchOptions) (directories : Bool) where
   unfolding enter
   enter-recursive_none t ts path kind last = rw (kind, last, enter) refl
 
-  enter-levels : (t : Text) (ts : List Text) (path : Text) → component_kind t ≡ Recursive → begins_recursive ts ≡ false
+  pub enter-levels : (t : Text) (ts : List Text) (path : Text) → component_kind t ≡ Recursive → begins_recursive ts ≡ false
       → enter c o directories (t ∷ ts) path true ≡ descent c o (meet c o directories ts) (levels c) path
   unfolding enter
   enter-levels t ts path kind last = rw (kind, last, enter) refl

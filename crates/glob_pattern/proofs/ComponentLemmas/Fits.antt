@@ -1,0 +1,82 @@
+-- Tokens against a text from its first character on, with no places and no pieces: `fits`, which says what the decider says.
+use Rattle.std.proofs.Common.{◌≡◌, Bool, true, false, ◌&&◌, ◌||◌, ◌==◌, List, [], ◌∷◌, refl, ap, ap₂, ◌∙◌}
+use Rattle.glob_text.specs.Characters.{slash}
+use Rattle.glob_text.specs.Text.{Text}
+use Rattle.glob_pattern.specs.Grammar.Tokens.{Token}
+use Rattle.glob_pattern.specs.Matching.Taking.{takes}
+use Rattle.glob_pattern.specs.Computing.Deciding.{placed_characters, whole, one_before, many_before, closed_before, rests_matched, tokens_match}
+use Rattle.glob_pattern.specs.declared.options.MatchOptions.{MatchOptions}
+use Rattle.glob_pattern.specs.declared.token.Token.TheVariants.{Plain, Any, Run, Deep, Within, Except}
+use Rattle.glob_pattern.proofs.MatchingLemmas.Rests.{matched, whole-either, whole-one_before, whole-many_before, whole-closed_before}
+use Rattle.glob_text.specs.Pieces.{is_empty}
+
+-- what is said of a rest of a text, by whether its place opens
+abbrev pub After : Type 0
+After = Bool → Text → Bool
+
+-- the token takes one character, and then
+abbrev pub one_then : MatchOptions → Token → After → After
+one_then o t next b [] = false
+one_then o t next b (c ∷ cs) = takes o b c t && next (c == slash) cs
+
+-- the token takes any number of characters, and then
+abbrev pub many_then : MatchOptions → Token → After → After
+many_then o t next b [] = next b []
+many_then o t next b (c ∷ cs) = next b (c ∷ cs) || (takes o b c t && many_then o t next (c == slash) cs)
+
+-- the token takes some characters, of which the last is `/`, and then
+abbrev pub closed_then : MatchOptions → Token → After → After
+closed_then o t next b [] = false
+closed_then o t next b (c ∷ cs) = takes o b c t && ((c == slash && next (c == slash) cs) || closed_then o t next (c == slash) cs)
+
+abbrev pub fits : MatchOptions → List Token → After
+fits o [] b cs = is_empty cs
+fits o (Plain x ∷ ts) b cs = one_then o (Plain x) (fits o ts) b cs
+fits o (Any ∷ ts) b cs = one_then o Any (fits o ts) b cs
+fits o (Run ∷ ts) b cs = many_then o Run (fits o ts) b cs
+fits o (Deep ∷ []) b cs = many_then o Deep (fits o []) b cs
+fits o (Deep ∷ t ∷ ts) b cs = fits o (t ∷ ts) b cs || closed_then o Deep (fits o (t ∷ ts)) b cs
+fits o (Within entries ∷ ts) b cs = one_then o (Within entries) (fits o ts) b cs
+fits o (Except entries ∷ ts) b cs = one_then o (Except entries) (fits o ts) b cs
+
+-- what the rests say and what `fits` says are the same, at each text
+abbrev Agree : MatchOptions → List Token → Type 0
+Agree o ts = (b : Bool) (cs : Text) → matched o ts (placed_characters b cs) ≡ fits o ts b cs
+
+Agree-one : (o : MatchOptions) (t : Token) (ts : List Token) → Agree o ts → (b : Bool) (cs : Text)
+    → whole (one_before o t (placed_characters b cs) (rests_matched o ts (placed_characters b cs))) ≡ one_then o t (fits o ts) b cs
+Agree-one o t ts next b [] = refl
+Agree-one o t ts next b (c ∷ cs) =
+    whole-one_before o t ts (b, c) (placed_characters (c == slash) cs) ∙ ap (λ x. takes o b c t && x) (next (c == slash) cs)
+
+Agree-many : (o : MatchOptions) (t : Token) (ts : List Token) → Agree o ts → (b : Bool) (cs : Text)
+    → whole (many_before o t (placed_characters b cs) (rests_matched o ts (placed_characters b cs))) ≡ many_then o t (fits o ts) b cs
+Agree-many o t ts next b [] = next b []
+Agree-many o t ts next b (c ∷ cs) =
+    whole-many_before o t ts (b, c) (placed_characters (c == slash) cs)
+    ∙ ap₂ (λ x y. x || (takes o b c t && y)) (next b (c ∷ cs)) (Agree-many o t ts next (c == slash) cs)
+
+Agree-closed : (o : MatchOptions) (t : Token) (ts : List Token) → Agree o ts → (b : Bool) (cs : Text)
+    → whole (closed_before o t (placed_characters b cs) (rests_matched o ts (placed_characters b cs))) ≡ closed_then o t (fits o ts) b cs
+Agree-closed o t ts next b [] = refl
+Agree-closed o t ts next b (c ∷ cs) =
+    whole-closed_before o t ts b c (placed_characters (c == slash) cs)
+    ∙ ap₂ (λ x y. takes o b c t && ((c == slash && x) || y)) (next (c == slash) cs) (Agree-closed o t ts next (c == slash) cs)
+
+pub agree : (o : MatchOptions) (ts : List Token) → Agree o ts
+agree o [] b [] = refl
+agree o [] b (c ∷ cs) = refl
+agree o (Plain x ∷ ts) b cs = Agree-one o (Plain x) ts (agree o ts) b cs
+agree o (Any ∷ ts) b cs = Agree-one o Any ts (agree o ts) b cs
+agree o (Run ∷ ts) b cs = Agree-many o Run ts (agree o ts) b cs
+agree o (Deep ∷ []) b cs = Agree-many o Deep [] (agree o []) b cs
+agree o (Deep ∷ t ∷ ts) b cs =
+    whole-either (rests_matched o (t ∷ ts) (placed_characters b cs)) (closed_before o Deep (placed_characters b cs) (rests_matched o (t ∷ ts) (placed_characters b cs)))
+    ∙ ap₂ (λ x y. x || y) (agree o (t ∷ ts) b cs) (Agree-closed o Deep (t ∷ ts) (agree o (t ∷ ts)) b cs)
+agree o (Within entries ∷ ts) b cs = Agree-one o (Within entries) ts (agree o ts) b cs
+agree o (Except entries ∷ ts) b cs = Agree-one o (Except entries) ts (agree o ts) b cs
+
+-- the decider is `fits`
+pub tokens_match-fits : (o : MatchOptions) (ts : List Token) (cs : Text) → tokens_match o ts cs ≡ fits o ts true cs
+unfolding tokens_match
+tokens_match-fits o ts cs = agree o ts true cs

@@ -1,0 +1,17 @@
+pub mod Characters
+pub mod Finds
+pub mod FoundInOrder
+pub mod FoundIsTaken
+pub mod GoalNames
+pub mod ItemsFound
+pub mod KeysBelow
+pub mod ListingFinds
+pub mod LiteralComponents
+pub mod NamedPaths
+pub mod NoError
+pub mod OnceInOrder
+pub mod PatternParts
+pub mod ReachedGoals
+pub mod TakenIsFound
+pub mod TakenNames
+pub mod Undivided

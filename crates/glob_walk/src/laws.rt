@@ -1,0 +1,23 @@
+//! Laws of walks: each is the contract of a function that does nothing.
+ghost use Rattle.glob_walk.specs.Laws.{PlainMatchesLevels, PlainWalkReaches, PlainWalkGives, PlainWalkOrderly};
+
+/// A plain pattern matches the path of a key below the start exactly where its components take the key's names.
+pub fn plain_pattern_matches_level_by_level()
+    ensures { PlainMatchesLevels }
+{}
+
+/// A plain walk finds what the undivided pattern matches, as far as it came and as far as it could read.
+pub fn plain_walk_reaches_the_goal()
+    ensures { PlainWalkReaches }
+{}
+
+/// Over a readable content a plain walk has no error, and its paths are exactly what the undivided pattern matches.
+pub fn plain_walk_gives_the_goal()
+    ensures { PlainWalkGives }
+{}
+
+/// A plain walk gives each path once where the pattern has at most one run of `**`, and in order where at most one
+/// component follows the run.
+pub fn plain_walk_is_orderly()
+    ensures { PlainWalkOrderly }
+{}
