@@ -5,7 +5,7 @@ use Rattle.std.specs.Path.{has_no_slash}
 use Rattle.glob_text.specs.Characters.{slash}
 use Rattle.glob_text.specs.Text.{Text}
 use Rattle.glob_pattern.specs.Grammar.Tokens.{Token}
-use Rattle.glob_pattern.specs.Matching.Taking.{is_kept_dot, takes}
+use Rattle.glob_pattern.specs.Matching.Taking.{is_excluded_dot, takes}
 use Rattle.glob_pattern.specs.Grammar.Faults.{Fault}
 use Rattle.glob_pattern.specs.Computing.Reading.{reading_of}
 use Rattle.glob_pattern.specs.Computing.Deciding.{match_read, is_match}
@@ -23,13 +23,13 @@ kept false x e = sym e
 
 takes-kept : (o : MatchOptions) (b : Bool) (c : ℕ) (t : Token) → (c == slash) ≡ false → takes o b c t ≡ takes (with_separator_rule o) b c t
 takes-kept o b c (Plain x) e = refl
-takes-kept o b c Any e = ap (λ k. not k && not (is_kept_dot o b c)) (kept o.require_literal_separator (c == slash) e)
-takes-kept o b c Run e = ap (λ k. not k && not (is_kept_dot o b c)) (kept o.require_literal_separator (c == slash) e)
+takes-kept o b c Any e = ap (λ k. not k && not (is_excluded_dot o b c)) (kept o.require_literal_separator (c == slash) e)
+takes-kept o b c Run e = ap (λ k. not k && not (is_excluded_dot o b c)) (kept o.require_literal_separator (c == slash) e)
 takes-kept o b c Deep e = refl
 takes-kept o b c (Within entries) e =
-    ap (λ k. not k && not (is_kept_dot o b c) && holds o.case_sensitive c entries) (kept o.require_literal_separator (c == slash) e)
+    ap (λ k. not k && not (is_excluded_dot o b c) && holds o.case_sensitive c entries) (kept o.require_literal_separator (c == slash) e)
 takes-kept o b c (Except entries) e =
-    ap (λ k. not k && not (is_kept_dot o b c) && not (holds o.case_sensitive c entries)) (kept o.require_literal_separator (c == slash) e)
+    ap (λ k. not k && not (is_excluded_dot o b c) && not (holds o.case_sensitive c entries)) (kept o.require_literal_separator (c == slash) e)
 
 abbrev Alike : After → After → Type 0
 Alike f g = (b : Bool) (cs : Text) → has_no_slash cs ≡ true → f b cs ≡ g b cs
