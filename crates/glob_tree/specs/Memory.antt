@@ -9,8 +9,7 @@ use Rattle.glob_text.specs.Characters.{slash}
 use Rattle.glob_text.specs.Text.{Text}
 use Rattle.glob_text.specs.Pieces.{begins_with, pieces}
 use Rattle.glob_tree.specs.Paths.{is_proper}
-use Rattle.glob_tree.specs.Content.{Content, Key, parent_key, kind_at, is_dir, is_dir_at, kind_found}
-use Rattle.glob_tree.specs.Private.Nodes.{key_numbered, kind_numbered}
+use Rattle.glob_tree.specs.Content.{Content, Key, parent_key, kind_at, is_dir_at, kind_found}
 use Rattle.glob_tree.specs.declared.kind.Kind.{Kind}
 use Rattle.glob_tree.specs.declared.kind.Kind.TheVariants.{Dir, Shut, Other}
 use Rattle.glob_tree.specs.declared.tree.ListError.{ListError}

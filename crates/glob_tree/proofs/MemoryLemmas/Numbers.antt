@@ -2,7 +2,7 @@
 use Rattle.std.proofs.Common.{◌≡◌, ℕ, zero, suc, ◌+◌, ◌-◌, ◌<◌, ◌≤◌, List, [], ◌∷◌, ◌++◌, length, Option, Some, None, refl, ap, sym, subst, ◌∙◌, arith, Bor}
 use Rattle.std.specs.Prelude.{MatchOption, slice_index_or, position, Contains, Bool, true, false, cond, is_some, nat_lt, ◌==◌, bytes_eq, filter_map, option_map, option_and_then}
 use Rattle.std.specs.List.{HoldsAt, position_or_len, cons_option}
-use Rattle.std.proofs.lemmas.List.{get_or_append_left, get_or_default, length-append, same_from_push}
+use Rattle.std.proofs.lemmas.List.{get_or_default, length-append, same_from_push}
 use Rattle.std.proofs.lemmas.List.Sums.{fails_before_first}
 use Rattle.std.proofs.lemmas.List.Quantifiers.{position-Some}
 use Rattle.std.proofs.lemmas.List.Elements.{Contains-get_or}

@@ -1,8 +1,8 @@
-ghost use Rattle.std.specs.Prelude.{Some, true, ◌≡◌, ◌+◌, ◌<◌, ◌++◌, ◌∷◌, [], length, OnOk, OnErr, IfOk, IsTrue, None, position, filter_map};
+ghost use Rattle.std.specs.Prelude.{Some, true, ◌≡◌, ◌+◌, ◌<◌, ◌∷◌, [], length, OnOk, OnErr, IfOk, IsTrue, None, position, filter_map};
 ghost use Rattle.std.specs.List.{list_all};
 ghost use Rattle.std.specs.Str.{is_utf8};
 ghost use Rattle.glob_tree.specs.Answers.{entries_of};
-ghost use Rattle.glob_tree.specs.Content.{is_content, is_dir, kind_at, parent_key, child_key, origin, step, steps, resolve, children};
+ghost use Rattle.glob_tree.specs.Content.{is_content, is_dir, parent_key, child_key, origin, step, steps, resolve, children};
 ghost use Rattle.glob_tree.specs.Paths.{is_proper};
 ghost use Rattle.glob_text.specs.Pieces.{pieces};
 ghost use Rattle.glob_tree.specs.Private.Nodes.{root_entry, entry_numbered, key_numbered, kind_numbered, rooted_content, content_at};
