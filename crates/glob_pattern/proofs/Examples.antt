@@ -1,4 +1,4 @@
--- What the definitions answer at worked rows, computed from the definitions alone.
+-- What the definitions say of worked examples, computed from the definitions alone.
 use Rattle.std.specs.Prelude.{◌≡◌, ℕ, Bool, true, false, List, [], ◌∷◌, Result, Err, codes, refl, map}
 use Rattle.glob_text.specs.Text.{Text}
 use Rattle.glob_pattern.specs.Grammar.Tokens.{Token}

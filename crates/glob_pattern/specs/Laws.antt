@@ -54,30 +54,30 @@ abbrev pub PlainMatchesItself : Type 0
 PlainMatchesItself =
     (o : MatchOptions) (pattern text : Text) → IsPlain pattern → IsTrue o.case_sensitive → (Matches o pattern text ↔ (pattern ≡ text))
 
--- neighbouring deep tokens match what one of them matches
+-- neighbouring `**` match what one of them matches
 abbrev pub FoldedMatchSame : Type 0
 FoldedMatchSame =
     (o : MatchOptions) (units : List Token) (text : Text) → (TokensMatch o units text ↔ TokensMatch o (tokens_of_units units) text)
 
--- what is written for a text to stand for itself is accepted
+-- an escaped text is accepted
 abbrev pub EscapedAccepted : Type 0
 EscapedAccepted = (text : Text) → IsAccepted (escaped_text text)
 
--- what is written for a text matches the texts that are the same as it, whatever the rules
+-- an escaped text matches the texts that are the same as the text, whatever the rules
 abbrev pub EscapedMatchesSame : Type 0
 EscapedMatchesSame =
     (o : MatchOptions) (text other : Text) → (Matches o (escaped_text text) other ↔ SameTexts o.case_sensitive other text)
 
--- what is written for a text matches with case that text alone
+-- with case, an escaped text matches the text alone
 abbrev pub EscapedMatchesItself : Type 0
 EscapedMatchesItself =
     (o : MatchOptions) (text other : Text) → IsTrue o.case_sensitive → (Matches o (escaped_text text) other ↔ (text ≡ other))
 
--- the decider says yes where the tokens match, and nowhere else
+-- the computation says yes exactly for the texts that the tokens match
 abbrev pub TokensDecided : Type 0
 TokensDecided = (o : MatchOptions) (tokens : List Token) (text : Text) → Decides (tokens_match o tokens text) (TokensMatch o tokens text)
 
--- the decider says yes where the pattern matches, and nowhere else
+-- the computation says yes exactly for the texts that the pattern matches
 abbrev pub PatternsDecided : Type 0
 PatternsDecided = (o : MatchOptions) (pattern text : Text) → Decides (is_match o pattern text) (Matches o pattern text)
 

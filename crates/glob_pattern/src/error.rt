@@ -5,12 +5,13 @@ use std::alloc::{AllocError, AllocFailed};
 use std::error::Error;
 use std::fmt;
 
-/// A fault of a pattern.
+/// Where a text is no pattern, and why. For `a**` it has the place 0 and the message `recursive wildcards must form a
+/// single path component`, and is printed as `Pattern syntax error near position 0: ` and the message.
 #[derive(Debug, Drop)]
 pub struct PatternError {
-    /// Where it is, as a number of characters from the start.
+    /// The place, in characters from 0.
     pub pos: usize,
-    /// What it is.
+    /// What is wrong there.
     pub msg: &'static str,
 }
 
@@ -26,12 +27,12 @@ impl fmt::Display for PatternError {
 
 impl Error for PatternError {}
 
-/// Why a text became no pattern.
+/// Why [`Pattern::new`](crate::Pattern::new) made no pattern.
 #[derive(Debug, Drop)]
 pub enum PatternRefusal {
-    /// It is not accepted, and this is its first fault.
+    /// The text is not accepted, and this is its first fault from the left.
     Syntax(PatternError),
-    /// There was no memory for it.
+    /// Out of memory: an allocation failed.
     Memory,
 }
 
@@ -48,7 +49,7 @@ impl fmt::Display for PatternRefusal {
 
 impl Error for PatternRefusal {}
 
-/// Want of memory.
+/// A failed allocation.
 impl From<AllocError> for PatternRefusal {
     ghost use Rattle.std.specs.Prelude.{◌≡◌};
     ghost use Rattle.glob_pattern.specs.declared.error.PatternRefusal.TheVariants.{Memory};
@@ -60,7 +61,7 @@ impl From<AllocError> for PatternRefusal {
     }
 }
 
-/// Want of memory.
+/// A failed allocation.
 impl<T: Drop> From<AllocFailed<T>> for PatternRefusal {
     ghost use Rattle.std.specs.Prelude.{◌≡◌};
     ghost use Rattle.glob_pattern.specs.declared.error.PatternRefusal.TheVariants.{Memory};

@@ -1,11 +1,10 @@
-ghost use Rattle.std.specs.Prelude.{◌≡◌, ◌+◌, ◌<◌, ◌≤◌, List, [], ◌∷◌, ◌++◌, length, option_map, map, IfSome, IfOk, IfErr, OnOk};
+ghost use Rattle.std.specs.Prelude.{◌≡◌, ◌+◌, ◌<◌, ◌≤◌, List, [], ◌∷◌, ◌++◌, length, map, IfSome, IfOk, IfErr, OnOk};
 ghost use Rattle.std.specs.Str.{chars};
-ghost use Rattle.glob_text.specs.Text.{has, opens, between};
-ghost use Rattle.glob_pattern.specs.Grammar.Brackets.{entries_of};
+ghost use Rattle.glob_text.specs.Text.{has, opens};
 ghost use Rattle.glob_pattern.specs.Grammar.Tokens.{Token as Kept, is_deep, ends_deep, tokens_of_units, shape_of};
 ghost use Rattle.glob_pattern.specs.Grammar.Units.{HasTokens};
 ghost use Rattle.glob_pattern.specs.Grammar.Faults.{Refuses, fault_at};
-ghost use Rattle.glob_pattern.specs.Computing.Reading.{stars_at, close_from, bracket_at, unit_at};
+ghost use Rattle.glob_pattern.specs.Computing.Reading.{stars_at, close_from, content_from, bracket_at, unit_at};
 
 use crate::error::{PatternError, PatternRefusal};
 use crate::matcher::Shape;
@@ -13,7 +12,7 @@ use crate::token::Token;
 use crate::token::bracket::Bracket;
 use std::alloc::{AllocError, Allocator};
 
-/// The shapes of the tokens, in order. It fails only for want of memory.
+/// The shapes of the tokens, in order. Fails only if allocation fails.
 pub fn shapes_of<A: Allocator + Copy>(
     alloc: A,
     tokens: &[Token<Bracket<A>>],
@@ -23,7 +22,7 @@ pub fn shapes_of<A: Allocator + Copy>(
     tokens.iter().map(|token| token.shape()).collect(alloc)
 }
 
-/// The same tokens on the same allocator. It fails only for want of memory.
+/// The same tokens on the same allocator. Fails only if allocation fails.
 pub fn clone_tokens<A: Allocator + Copy>(
     tokens: &Vec<Token<Bracket<A>>, A>,
 ) -> Result<Vec<Token<Bracket<A>>, A>, AllocError>
@@ -32,12 +31,13 @@ pub fn clone_tokens<A: Allocator + Copy>(
     tokens.clone()
 }
 
-/// The tokens of an accepted pattern. An `Err` says the first fault of another, or that there was no memory.
+/// The tokens of a pattern. The error is the first fault of a text that is not accepted, or a failed allocation.
 pub fn read_tokens<A: Allocator + Copy>(
     alloc: A,
     pattern: &str,
 ) -> Result<Vec<Token<Bracket<A>>, A>, PatternRefusal>
-    ensures accepted { IfOk result (λ tokens. HasTokens (chars pattern.now) tokens.items) }
+    ensures accepted { IfOk result
+        (λ tokens. HasTokens (chars pattern.now) tokens.items) }
     ensures refused { IfErr result (Refuses (chars pattern.now)) }
 {
     let text: Vec<char, A> = pattern.chars().collect(alloc)?;
@@ -66,12 +66,14 @@ fn read_text<A: Allocator + Copy>(
     Ok(tokens)
 }
 
-/// Puts the token of the next unit at the end. Neighbouring deep ones are one.
+/// Puts the token of the next unit at the end. Neighbouring recursive wildcards become one.
 fn push_unit<A: Allocator>(
     tokens: &mut Vec<Token<Bracket<A>>, A>,
     token: Token<Bracket<A>>,
 ) -> Result<(), AllocError>
-    ensures { OnOk result ((units : List Kept) → tokens.old.items ≡ tokens_of_units units → tokens.new.items ≡ tokens_of_units (units ++ token ∷ [])) }
+    ensures { OnOk result ((units : List Kept)
+        → tokens.old.items ≡ tokens_of_units units
+        → tokens.new.items ≡ tokens_of_units (units ++ token ∷ [])) }
 {
     if token.is_deep() && ends_deep(tokens.as_slice()) {
         return Ok(());
@@ -80,7 +82,7 @@ fn push_unit<A: Allocator>(
     Ok(())
 }
 
-/// Whether the last token is deep.
+/// Whether the last token is `**`.
 fn ends_deep<A: Allocator>(tokens: &[Token<Bracket<A>>]) -> bool
     ensures { result ≡ ends_deep tokens.now }
 {
@@ -154,7 +156,7 @@ fn content_from<A: Allocator>(
     start: usize,
 ) -> Result<Option<(Bracket<A>, usize)>, AllocError>
     requires { start ≤ length text.now + 1 }
-    ensures { IfOk result (λ found. found ≡ option_map (λ close. (entries_of (between text.now start close), close + 1)) (close_from text.now (start + 1))) }
+    ensures { IfOk result (λ found. found ≡ content_from text.now start) }
 {
     match close_from(text, start + 1) {
         Some(close) => Ok(Some((Bracket::read(alloc, &text[start..close])?, close + 1))),
@@ -166,7 +168,8 @@ fn content_from<A: Allocator>(
 fn close_from(text: &[char], start: usize) -> Option<usize>
     requires { start ≤ length text.now + 2 }
     ensures place { result ≡ close_from text.now start }
-    ensures within { IfSome result (λ close. (start ≤ close) × (close < length text.now)) }
+    ensures within { IfSome result
+        (λ close. (start ≤ close) × (close < length text.now)) }
 {
     for place in start..text.len() {
         if text[place] == ']' {
@@ -176,7 +179,7 @@ fn close_from(text: &[char], start: usize) -> Option<usize>
     None
 }
 
-/// What is told of a place where no unit stands.
+/// The fault at a place where no unit stands: where it is, in characters, and what it is.
 fn fault_at(text: &[char], place: usize) -> PatternError
     requires { place < length text.now }
     ensures place { result.pos ≡ (fault_at text.now place).place }
@@ -218,7 +221,7 @@ fn has(text: &[char], place: usize, c: char) -> bool
     place < text.len() && text[place] == c
 }
 
-/// Whether a place opens: it is the start, or `/` stands before it.
+/// Whether a component begins at a place: it is the start, or `/` stands before it.
 fn opens(text: &[char], place: usize) -> bool
     requires { place ≤ length text.now }
     ensures { result ≡ opens text.now place }

@@ -7,29 +7,34 @@ ghost use Rattle.glob_pattern.specs.Grammar.Faults.{Fault, IsFault};
 ghost use Rattle.glob_pattern.specs.Computing.Reading.{reading_of};
 ghost use Rattle.glob_pattern.specs.Laws.{TokensLoosened, PatternsLoosened, PlainAccepted, PlainMatchesSame, PlainMatchesItself, FoldedMatchSame, EscapedAccepted, EscapedMatchesSame, EscapedMatchesItself, TokensDecided, PatternsDecided, SeparatorRuleSparesNames, JoinedMatchLevels, RootedMatchLevels};
 
-/// Reading by computation answers tokens exactly where they are those of the text.
+/// The computed reading of a text has tokens exactly if they are those of the text.
 pub fn reading_answers_tokens()
-    ensures { (text : Text) (tokens : List Token) → (reading_of text ≡ Ok tokens) ↔ HasTokens text tokens }
+    ensures { (text : Text) (tokens : List Token)
+        → (reading_of text ≡ Ok tokens) ↔ HasTokens text tokens }
 {}
 
-/// Reading by computation answers a fault exactly where it is the fault of the text.
+/// The computed reading of a text has a fault exactly if it is the fault of the text.
 pub fn reading_answers_fault()
-    ensures { (text : Text) (fault : Fault) → (reading_of text ≡ Err fault) ↔ IsFault text fault }
+    ensures { (text : Text) (fault : Fault)
+        → (reading_of text ≡ Err fault) ↔ IsFault text fault }
 {}
 
-/// At a place stands one unit at most.
+/// At most one unit begins at a place.
 pub fn one_unit_at_a_place()
-    ensures { (text : Text) (f : ℕ) (t u : Token) (e m : ℕ) → UnitAt text f t e → UnitAt text f u m → (t ≡ u) × (e ≡ m) }
+    ensures { (text : Text) (f : ℕ) (t u : Token) (e m : ℕ)
+        → UnitAt text f t e → UnitAt text f u m → (t ≡ u) × (e ≡ m) }
 {}
 
 /// A text is a concatenation of units in one way at most.
 pub fn one_way_of_units()
-    ensures { (text : Text) (units others : List Token) → HasUnits text units → HasUnits text others → units ≡ others }
+    ensures { (text : Text) (units others : List Token)
+        → HasUnits text units → HasUnits text others → units ≡ others }
 {}
 
 /// An accepted text has one list of tokens.
 pub fn one_list_of_tokens()
-    ensures { (text : Text) (tokens others : List Token) → HasTokens text tokens → HasTokens text others → tokens ≡ others }
+    ensures { (text : Text) (tokens others : List Token)
+        → HasTokens text tokens → HasTokens text others → tokens ≡ others }
 {}
 
 /// An accepted text has no fault.
@@ -39,15 +44,17 @@ pub fn accepted_has_no_fault()
 
 /// A text that is not accepted has exactly one fault.
 pub fn refused_has_one_fault()
-    ensures { (text : Text) → ¬ (IsAccepted text) → (fault : Fault) × IsFault text fault × ((other : Fault) → IsFault text other → other ≡ fault) }
+    ensures { (text : Text) → ¬ (IsAccepted text) → (fault : Fault) × IsFault text fault
+        × ((other : Fault) → IsFault text other → other ≡ fault) }
 {}
 
-/// Each token has a character of the pattern of its own.
+/// A pattern has at most as many tokens as characters.
 pub fn no_more_tokens_than_characters()
-    ensures { (text : Text) (tokens : List Token) → HasTokens text tokens → length tokens ≤ length text }
+    ensures { (text : Text) (tokens : List Token)
+        → HasTokens text tokens → length tokens ≤ length text }
 {}
 
-/// A match stays a match where a rule is no longer asked for.
+/// A match stays a match if a rule is dropped.
 pub fn looser_rules_keep_a_match()
     ensures tokens { TokensLoosened }
     ensures patterns { PatternsLoosened }
@@ -60,19 +67,19 @@ pub fn plain_pattern_matches_itself()
     ensures itself { PlainMatchesItself }
 {}
 
-/// Neighbouring deep tokens match what one of them matches.
+/// Neighbouring `**` match what one of them matches.
 pub fn deep_tokens_match_as_one()
     ensures { FoldedMatchSame }
 {}
 
-/// What is written for a text to stand for itself does so, whatever the rules.
+/// An escaped text matches the text, whatever the rules.
 pub fn escaped_text_matches_itself()
     ensures accepted { EscapedAccepted }
     ensures same { EscapedMatchesSame }
     ensures itself { EscapedMatchesItself }
 {}
 
-/// Whether tokens and patterns match a text is decided by a computation.
+/// A computation decides whether tokens and patterns match a text.
 pub fn matching_is_decided()
     ensures tokens { TokensDecided }
     ensures patterns { PatternsDecided }

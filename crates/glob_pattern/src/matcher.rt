@@ -12,19 +12,19 @@ use one_word::run_one_word;
 use prefix::take_prefix;
 use std::alloc::{AllocError, Allocator};
 
-/// Which pieces a token may have.
+/// Which pieces of a text a token may match.
 #[derive(Clone, Copy, Debug, PartialEq, Eq)]
 pub enum Shape {
     /// One character.
     One,
     /// Any number of characters.
     Run,
-    /// Any number of characters; where shapes follow, none or up to a place that opens.
+    /// Any number of characters. If shapes follow, either none or up to the start of a component.
     Deep,
 }
 
-/// What is asked about a list of characters and a list of tokens, both numbered from 0. A judge stands at a place: the
-/// number of characters that it has stepped over.
+/// Answers questions about a list of characters and a list of tokens, both numbered from 0: which token takes which
+/// character. A judge stands at a place: the number of characters that it has stepped over. It counts the questions.
 pub trait Judge {
     ghost table: { Self → Table };
 
@@ -32,21 +32,23 @@ pub trait Judge {
 
     ghost count: { Self → ℕ };
 
-    /// Goes to the next character. Answers true, or false where none is left.
+    /// Steps over the next character. Returns whether there was one.
     fn step(&mut self) -> bool
         ensures same { table self.new ≡ table self.old }
         ensures count { count self.new ≡ count self.old }
         ensures stepped { IsTrue result
-            → (place self.new ≡ place self.old + 1) × (place self.new ≤ (table self.new).characters) }
+            → (place self.new ≡ place self.old + 1)
+            × (place self.new ≤ (table self.new).characters) }
         ensures ended { result ≡ false
-            → (place self.new ≡ place self.old) × ((table self.new).characters ≡ place self.old) };
+            → (place self.new ≡ place self.old)
+            × ((table self.new).characters ≡ place self.old) };
 
-    /// Whether the place after the characters stepped over opens.
+    /// Whether a component begins at the place of the judge.
     fn opens(&self) -> bool
         ensures { result ≡ (table self.now).opens (place self.now) };
 
-    /// Whether a token takes the character last stepped onto. Raises the count by one. `step` has to have answered true
-    /// before, the token to be one of the list, and the count to be below `u128::MAX`.
+    /// Whether a token takes the character last stepped over. Raises the count by one. `step` must have returned true
+    /// before, the token must be in the list, and the count below `u128::MAX`.
     fn takes(&mut self, token: usize) -> bool
         requires stepped { 0 < place self.old }
         requires token { token < (table self.old).tokens }
@@ -56,24 +58,26 @@ pub trait Judge {
         ensures count { count self.new ≡ count self.old + 1 }
         ensures value { result ≡ (table self.old).takes token (place self.old - 1) };
 
-    /// Which of up to 64 tokens take the character last stepped onto: bit n of `asked` asks token 64 · `word` + n, and the
-    /// answer has the bits of those that take it. So `takes_each(1, 0b101)` asks tokens 64 and 66. Raises the count by
-    /// one for each bit of `asked`. `step` has to have answered true before, each bit to be of a token of the list, and
-    /// the count to have room.
+    /// Which of up to 64 tokens take the character last stepped over. Bit n of `asked` asks token 64 · `word` + n, and
+    /// the result has the bits of those that take the character. So `takes_each(1, 0b101)` asks tokens 64 and 66.
+    /// Raises the count by one for each bit of `asked`. `step` must have returned true before, each bit must be of a
+    /// token in the list, and the count must have room.
     ///
-    /// This body asks one after another by [`takes`](Self::takes). A judge that knows many answers at once may have its
-    /// own.
+    /// This body calls [`takes`](Self::takes) for one token after another. A judge that knows many answers at once may
+    /// have its own.
     #[inline]
     fn takes_each(&mut self, word: usize, asked: u64) -> u64
         requires stepped { 0 < place self.old }
         requires within { 64 * word + 64 ≤ 2 ^ 64 }
-        requires tokens { (j : ℕ) → IsSet asked j → 64 * word + j < (table self.old).tokens }
+        requires tokens { (j : ℕ)
+            → IsSet asked j → 64 * word + j < (table self.old).tokens }
         requires room { count self.old + count_ones asked < 2 ^ 128 }
         ensures same { table self.new ≡ table self.old }
         ensures place { place self.new ≡ place self.old }
         ensures count { count self.new ≡ count self.old + count_ones asked }
         ensures took { (j : ℕ) → j < 64
-            → IsSet result j ↔ (IsSet asked j × IsTrue ((table self.old).takes (64 * word + j) (place self.old - 1))) }
+            → IsSet result j
+            ↔ (IsSet asked j × IsTrue ((table self.old).takes (64 * word + j) (place self.old - 1))) }
     {
         let mut left = asked;
         let mut took = 0u64;
@@ -87,15 +91,15 @@ pub trait Judge {
         took
     }
 
-    /// The count: how often a token was asked about a character.
+    /// The count: how many questions were asked.
     fn asked(&self) -> u128
         ensures { result ≡ count self.now };
 }
 
-/// Whether all characters of a judge that has not stepped split into pieces, one a shape, where the token of the
-/// shape's number takes each character of the piece. Each token is asked at most once a character. The judge needs a
-/// token for each shape, and room in its count for shapes times characters. An error says that there was no memory, which
-/// at most 63 shapes never need.
+/// Whether all characters of a judge split into pieces, one for each shape, where the token of the shape's number takes
+/// each character of its piece. So the shapes of `*a` split `bca` into `bc` and `a`. Each token is asked at most once
+/// for each character. The judge must not have stepped; it needs a token for each shape, and room in its count for
+/// shapes times characters. The error is a failed allocation; at most 63 shapes allocate nothing.
 #[inline(always)]
 pub fn run_positions<A: Allocator + Copy, J: Judge>(
     alloc: A,
@@ -104,17 +108,21 @@ pub fn run_positions<A: Allocator + Copy, J: Judge>(
 ) -> Result<bool, AllocError>
     requires tokens { length shapes.now ≤ (J.table judge.old).tokens }
     requires start { J.place judge.old ≡ 0 }
-    requires room { J.count judge.old + length shapes.now * (J.table judge.old).characters < 2 ^ 128 }
-    ensures answer { IfOk result (λ yes. IsTrue yes ↔ Splits (J.table judge.old) shapes.now) }
+    requires room { J.count judge.old
+        + length shapes.now * (J.table judge.old).characters < 2 ^ 128 }
+    ensures answer { IfOk result
+        (λ yes. IsTrue yes ↔ Splits (J.table judge.old) shapes.now) }
 
-    // The asks: at most one for each token and character, and for a yes at least one for each character.
-    ensures most { J.count judge.new ≤ J.count judge.old + length shapes.now * (J.table judge.old).characters }
+    // The questions: at most one for each token and character, and for a match at least one for each character.
+    ensures most { J.count judge.new
+        ≤ J.count judge.old + length shapes.now * (J.table judge.old).characters }
     ensures least { IfOk result
-        (λ yes. IsTrue yes → J.count judge.old + (J.table judge.old).characters ≤ J.count judge.new) }
+        (λ yes. IsTrue yes
+        → J.count judge.old + (J.table judge.old).characters ≤ J.count judge.new) }
     ensures monotone { J.count judge.old ≤ J.count judge.new }
     ensures same { J.table judge.new ≡ J.table judge.old }
 
-    // At most 63 shapes take no memory.
+    // At most 63 shapes need no memory.
     ensures small { length shapes.now < 64 → IsOk result }
 {
     let Some(prefix) = take_prefix(shapes, judge) else {

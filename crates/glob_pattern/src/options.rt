@@ -1,16 +1,17 @@
 ghost use Rattle.std.specs.Prelude.{◌≡◌};
 ghost use Rattle.glob_pattern.specs.Matching.Options.{new_options, default_options};
 
-/// How a pattern is compared with a text.
+/// How a pattern is compared with a text. With `MatchOptions::new()`, `*.rs` matches `src/.x.rs`; with
+/// `require_literal_separator` it does not.
 #[derive(Clone, Copy, Debug, PartialEq, Eq, PartialOrd, Ord, Hash)]
 pub struct MatchOptions {
-    /// Whether letters in upper and lower case differ. Without it, letters of ASCII in either case are the same, in
-    /// brackets too; other characters are the same only as themselves.
+    /// Whether uppercase and lowercase letters differ. If not, letters of ASCII are the same in either case, in
+    /// brackets too; every other character is the same only as itself.
     pub case_sensitive: bool,
-    /// Whether `/` is taken only by a `/` outside brackets and by `**`: the separator rule.
+    /// The separator rule: `/` is matched only by a `/` outside brackets, or by `**`.
     pub require_literal_separator: bool,
-    /// Whether a `.` at the start of the text, or right after a `/`, is taken only by a `.` outside
-    /// brackets: the dot rule.
+    /// The dot rule: a leading dot at a component start, which is the start of the text or right after a `/`, is
+    /// matched only by a `.` outside brackets.
     pub require_literal_leading_dot: bool,
 }
 

@@ -24,7 +24,16 @@ use std::alloc::{AllocError, Allocator, Global};
 use std::marker::Model;
 use std::path::Path;
 
-/// A pattern that was read.
+/// A parsed pattern, which matches texts.
+///
+/// | In a pattern | Matches |
+/// |---|---|
+/// | `?` | any one character |
+/// | `*` | any number of characters |
+/// | `**` | any number of whole components; it stands as a component of its own |
+/// | `[abc]`, `[a-z]` | one character that is listed or in a range |
+/// | `[!abc]` | one character that is not |
+/// | any other character | itself |
 #[derive(Drop)]
 pub struct Pattern<A: Allocator = Global> {
     text: String<A>,
@@ -49,7 +58,7 @@ impl<A: Allocator> Model for Pattern<A> {
 }
 
 impl<A: Allocator> Pattern<A> {
-    /// The text that the pattern was read from. It is accepted: read again it gives an equal pattern.
+    /// The text that the pattern was parsed from. It is accepted: parsed again it gives an equal pattern.
     pub fn as_str(&self) -> &str
         ensures text { result.now ≡ self.now }
         ensures accepted { IsAccepted (chars self.now) }
@@ -59,8 +68,10 @@ impl<A: Allocator> Pattern<A> {
 }
 
 impl<A: Allocator + Copy> Pattern<A> {
-    /// Reads a pattern. A text that is not accepted is refused with its first fault from the left, whose place is a
-    /// number of characters; and any text may be refused for want of memory.
+    /// Parses a pattern. So `src/**/*.rs` is accepted, and `src/**.rs` is not.
+    ///
+    /// The error is [`Syntax`](PatternRefusal::Syntax) if the text is not accepted, with its first fault from the left,
+    /// whose place counts characters; or [`Memory`](PatternRefusal::Memory) if an allocation fails.
     pub fn new(alloc: A, pattern: &str) -> Result<Self, PatternRefusal>
         ensures accepted { IfOk result (λ _. IsAccepted (chars pattern.now)) }
         ensures text { IfOk result (λ p. p ≡ pattern.now) }
@@ -79,7 +90,7 @@ impl<A: Allocator + Copy> Pattern<A> {
         })
     }
 
-    /// [`new`](Self::new), under the name that the trait `FromStr` gives it.
+    /// [`new`](Self::new), under the name of the trait `FromStr`, with its errors.
     pub fn from_str(alloc: A, s: &str) -> Result<Self, PatternRefusal>
         ensures accepted { IfOk result (λ _. IsAccepted (chars s.now)) }
         ensures text { IfOk result (λ p. p ≡ s.now) }
@@ -88,7 +99,7 @@ impl<A: Allocator + Copy> Pattern<A> {
         Self::new(alloc, s)
     }
 
-    /// The pattern of the empty text, which matches the empty text alone. It takes no memory.
+    /// The empty pattern, which matches the empty text alone. It allocates nothing.
     pub fn default(alloc: A) -> Self
         ensures { result ≡ [] }
     {
@@ -101,7 +112,7 @@ impl<A: Allocator + Copy> Pattern<A> {
         }
     }
 
-    /// An equal pattern on the same allocator. It fails only for want of memory.
+    /// An equal pattern on the same allocator. Fails only if allocation fails.
     pub fn clone(&self) -> Result<Self, AllocError>
         ensures { IfOk result (λ p. p ≡ self.now) }
     {
@@ -117,19 +128,22 @@ impl<A: Allocator + Copy> Pattern<A> {
     /// Whether the pattern matches the whole text, with case and without the separator rule and the dot rule:
     /// [`matches_with`](Self::matches_with) under `MatchOptions::new()`. So `*.rs` matches `main.rs` and `src/main.rs`.
     ///
-    /// An error says that there was no memory, which no pattern of at most 63 tokens needs.
+    /// The error is a failed allocation. A pattern of at most 63 tokens allocates nothing.
     pub fn matches(&self, str: &str) -> Result<bool, AllocError>
-        ensures answer { IfOk result (λ yes. IsTrue yes ↔ Matches new_options (chars self.now) (chars str.now)) }
+        ensures answer { IfOk result
+            (λ yes. IsTrue yes ↔ Matches new_options (chars self.now) (chars str.now)) }
         ensures short { IsShort (chars self.now) → IsOk result }
     {
         Ok(self.matches_counted(str, MatchOptions::new())?.0)
     }
 
-    /// Whether the pattern matches the whole text: whether the text splits into one allowed piece for each token.
+    /// Whether the pattern matches the whole text: whether the text splits into one allowed piece for each token. So
+    /// `*.rs` matches `src/main.rs`, and with the separator rule it does not.
     ///
-    /// An error says that there was no memory, which no pattern of at most 63 tokens needs.
+    /// The error is a failed allocation. A pattern of at most 63 tokens allocates nothing.
     pub fn matches_with(&self, str: &str, options: MatchOptions) -> Result<bool, AllocError>
-        ensures answer { IfOk result (λ yes. IsTrue yes ↔ Matches options (chars self.now) (chars str.now)) }
+        ensures answer { IfOk result
+            (λ yes. IsTrue yes ↔ Matches options (chars self.now) (chars str.now)) }
         ensures short { IsShort (chars self.now) → IsOk result }
     {
         if options == MatchOptions::new() {
@@ -139,28 +153,32 @@ impl<A: Allocator + Copy> Pattern<A> {
         }
     }
 
-    /// The answer of [`matches_with`](Self::matches_with) by a loop that asks about the options. It is never inlined, so
-    /// that the loop in `matches_with` is compiled for `MatchOptions::new()` alone.
+    /// The answer of [`matches_with`](Self::matches_with) by a loop that tests the options. It is never inlined, so
+    /// that the loop in `matches` is compiled for `MatchOptions::new()` alone.
     #[inline(never)]
     fn matches_under(&self, str: &str, options: MatchOptions) -> Result<bool, AllocError>
-        ensures answer { IfOk result (λ yes. IsTrue yes ↔ Matches options (chars self.now) (chars str.now)) }
+        ensures answer { IfOk result
+            (λ yes. IsTrue yes ↔ Matches options (chars self.now) (chars str.now)) }
         ensures short { IsShort (chars self.now) → IsOk result }
     {
         Ok(self.matches_counted(str, options)?.0)
     }
 
-    /// The answer of [`matches_with`](Self::matches_with), and how many questions it took: how often a token was asked
-    /// whether it takes a character. They are at most the pattern's characters times the text's, and for a yes at least
-    /// the text's characters; nothing more is promised of their number.
+    /// The answer of [`matches_with`](Self::matches_with), and how many questions it took: how often it was asked
+    /// whether a token takes a character. Their number is at most the pattern's characters times the text's, and for a
+    /// match at least the text's characters. The error is that of [`matches_with`](Self::matches_with).
     #[inline(always)]
     pub fn matches_counted(
         &self,
         str: &str,
         options: MatchOptions,
     ) -> Result<(bool, u128), AllocError>
-        ensures answer { IfOk result (λ told. IsTrue told.0 ↔ Matches options (chars self.now) (chars str.now)) }
-        ensures most { IfOk result (λ told. told.1 ≤ length (chars self.now) * length (chars str.now)) }
-        ensures least { IfOk result (λ told. IsTrue told.0 → length (chars str.now) ≤ told.1) }
+        ensures answer { IfOk result
+            (λ counted. IsTrue counted.0 ↔ Matches options (chars self.now) (chars str.now)) }
+        ensures most { IfOk result
+            (λ counted. counted.1 ≤ length (chars self.now) * length (chars str.now)) }
+        ensures least { IfOk result
+            (λ counted. IsTrue counted.0 → length (chars str.now) ≤ counted.1) }
         ensures short { IsShort (chars self.now) → IsOk result }
     {
         let mut judge = TextJudge::new(self.tokens.as_slice(), self.masks.as_slice(), str, options);
@@ -168,21 +186,23 @@ impl<A: Allocator + Copy> Pattern<A> {
         Ok((answer, judge.asked()))
     }
 
-    /// [`matches`](Self::matches) on the path's text, with its errors.
+    /// [`matches`](Self::matches) on the path's text, with its error.
     pub fn matches_path(&self, path: Path<'_>) -> Result<bool, AllocError>
-        ensures answer { IfOk result (λ yes. IsTrue yes ↔ Matches new_options (chars self.now) (chars (path_bytes path.entry))) }
+        ensures answer { IfOk result (λ yes. IsTrue yes
+            ↔ Matches new_options (chars self.now) (chars (path_bytes path.entry))) }
         ensures short { IsShort (chars self.now) → IsOk result }
     {
         self.matches(path.as_str())
     }
 
-    /// [`matches_with`](Self::matches_with) on the path's text, with its errors.
+    /// [`matches_with`](Self::matches_with) on the path's text, with its error.
     pub fn matches_path_with(
         &self,
         path: Path<'_>,
         options: MatchOptions,
     ) -> Result<bool, AllocError>
-        ensures answer { IfOk result (λ yes. IsTrue yes ↔ Matches options (chars self.now) (chars (path_bytes path.entry))) }
+        ensures answer { IfOk result (λ yes. IsTrue yes
+            ↔ Matches options (chars self.now) (chars (path_bytes path.entry))) }
         ensures short { IsShort (chars self.now) → IsOk result }
     {
         self.matches_with(path.as_str(), options)

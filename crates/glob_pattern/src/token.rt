@@ -8,7 +8,7 @@ use crate::matcher::Shape;
 use bracket::Bracket;
 use std::alloc::Allocator;
 
-/// What a unit of a pattern stands for, where a bracket is kept as `C`.
+/// What a unit of a pattern stands for. `C` is what stands in a bracket.
 #[derive(Clone, Debug, Drop)]
 pub enum Token<C> {
     /// A character.
@@ -17,7 +17,7 @@ pub enum Token<C> {
     Any,
     /// `*`, any number of characters.
     Run,
-    /// `**`, any number of whole path components.
+    /// `**`, the recursive wildcard: any number of whole path components.
     Deep,
     /// `[..]`, a character that the bracket holds.
     Within(C),
@@ -26,7 +26,7 @@ pub enum Token<C> {
 }
 
 impl<A: Allocator> Token<Bracket<A>> {
-    /// Which pieces the token may have.
+    /// Which pieces of a text the token may match.
     pub fn shape(&self) -> Shape
         ensures { result ≡ shape_of self.now }
     {

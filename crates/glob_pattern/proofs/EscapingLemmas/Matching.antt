@@ -105,7 +105,7 @@ same-special : (case : Bool) (c x : ℕ) → IsTrue (is_special x) → IsTrue (s
 same-special case c x special h =
     ⊎_elim (λ e. eqb-true c x e) (λ small. special-lowercase c x special (eqb-true _ _ (and_parts _ _ small).1)) (or_cases _ _ h)
 
--- no rule keeps a special character from wildcards
+-- no rule excludes a special character from wildcards
 special-is_free : (o : MatchOptions) (opening : Bool) (c : ℕ) → IsTrue (is_special c) → IsTrue (is_free o opening c)
 special-is_free o opening c special =
     and_from _ _ (not_from_false (is_excluded_separator o c) (and_right o.require_literal_separator (c == slash) (ne_eqb c slash (special-apart c slash special refl))))

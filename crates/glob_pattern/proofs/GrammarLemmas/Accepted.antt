@@ -17,7 +17,7 @@ reading_of-Ok text tokens = (HasTokens-reading_of text tokens, reading_of-HasTok
 pub reading_of-Err : (text : Text) (fault : Fault) → (reading_of text ≡ Err fault) ↔ IsFault text fault
 reading_of-Err text fault = (IsFault-reading_of text fault, reading_of-IsFault text fault)
 
--- One value was found, read or told.
+-- A reading has one value.
 same_found : (found : Option (Token × ℕ)) (t u : Token) (e m : ℕ) → found ≡ Some (t, e) → found ≡ Some (u, m) → (t ≡ u) × (e ≡ m)
 same_found found t u e m first second =
     let same : ◌≡◌ {A = Token × ℕ} (t, e) (u, m) = cc in (ap (λ (p : Token × ℕ). p.0) same, ap (λ (p : Token × ℕ). p.1) same)

@@ -11,7 +11,7 @@ use Rattle.glob_pattern.specs.Grammar.Units.{NoCloseBetween, ClosesBefore}
 use Rattle.glob_text.specs.Text.{has}
 use Rattle.glob_pattern.specs.Computing.Reading.{close_from}
 
--- The test tells whether the character is there.
+-- The test says whether the character is there.
 pub Decides-has : (text : Text) (k c : ℕ) → Decides (has text k c) (Has text k c)
 Decides-has text k c = Decides-and _ _ (Decides-ltb k (length text)) (Decides-eqb (get_or text k 0) c)
 

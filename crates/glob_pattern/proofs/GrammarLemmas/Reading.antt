@@ -5,7 +5,7 @@ use Rattle.glob_text.specs.Text.{Text}
 use Rattle.glob_pattern.specs.Grammar.Tokens.{Token, tokens_of_units}
 use Rattle.glob_pattern.specs.Grammar.Units.{UnitAt, UnitsBetween, HasTokens}
 use Rattle.glob_pattern.specs.Grammar.Faults.{Fault, fault_at, NoUnitAt, IsFault}
-use Rattle.glob_pattern.specs.Computing.Reading.{unit_at, with_first, after_unit, units_from, folded_tokens, reading_of}
+use Rattle.glob_pattern.specs.Computing.Reading.{unit_at, reading_with_first, reading_after_unit, units_from, tokens_of_reading, reading_of}
 use Rattle.glob_pattern.proofs.GrammarLemmas.Units.{IsClear, UnitAt-within, IsClear-after, Stands, Stands-unit_at, unit_at-UnitAt, NoUnitAt-None}
 
 -- Units reach on, and not past the end.
@@ -33,16 +33,16 @@ Answers text f (Ok units) = UnitsBetween text f units (length text)
 Answers text f (Err fault) = IsFaultFrom text f fault
 
 -- a unit before what is read after it
-Answers-with_first : (text : Text) (f : ℕ) (t : Token) (e : ℕ) (read : Result (List Token) Fault) → UnitAt text f t e → Answers text e read → Answers text f (with_first t read)
-Answers-with_first text f t e (Ok ts) unit answers = (e, unit, answers)
-Answers-with_first text f t e (Err fault) unit answers =
+Answers-reading_with_first : (text : Text) (f : ℕ) (t : Token) (e : ℕ) (read : Result (List Token) Fault) → UnitAt text f t e → Answers text e read → Answers text f (reading_with_first t read)
+Answers-reading_with_first text f t e (Ok ts) unit answers = (e, unit, answers)
+Answers-reading_with_first text f t e (Err fault) unit answers =
     (answers.0, t ∷ answers.1, (e, unit, answers.2), answers.3, answers.4, answers.5)
 
-Answers-after_unit : (text : Text) (f : ℕ) (read : ℕ → Result (List Token) Fault) (found : Option (Token × ℕ)) → f < length text → unit_at text f ≡ found → Stands text f found → ((t : Token) (e : ℕ) → UnitAt text f t e → Answers text e (read e)) → Answers text f (after_unit text f read found)
-Answers-after_unit text f read None within found stands later =
+Answers-reading_after_unit : (text : Text) (f : ℕ) (read : ℕ → Result (List Token) Fault) (found : Option (Token × ℕ)) → f < length text → unit_at text f ≡ found → Stands text f found → ((t : Token) (e : ℕ) → UnitAt text f t e → Answers text e (read e)) → Answers text f (reading_after_unit text f read found)
+Answers-reading_after_unit text f read None within found stands later =
     (f, [], refl, within, NoUnitAt-None text f found, refl)
-Answers-after_unit text f read (Some (t, e)) within found stands later =
-    Answers-with_first text f t e (read e) stands (later t e stands)
+Answers-reading_after_unit text f read (Some (t, e)) within found stands later =
+    Answers-reading_with_first text f t e (read e) stands (later t e stands)
 
 -- What the computation answers is so.
 pub Answers-units_from : (n : ℕ) (text : Text) (f : ℕ) → length text < f + n → f ≤ length text → IsClear text f → Answers text f (units_from n text f)
@@ -53,13 +53,13 @@ Answers-units_from (suc n) text f enough within clear =
     (λ e. let at_end = leb-true (length text) f e in let done : f ≡ length text = omega arith in done)
     (λ e.
     let before = leb-false (length text) f e in
-    Answers-after_unit text f (units_from n text) (unit_at text f) before refl (Stands-unit_at text f before clear)
+    Answers-reading_after_unit text f (units_from n text) (unit_at text f) before refl (Stands-unit_at text f before clear)
     (λ t m unit.
     let reach = UnitAt-within text f t m unit in
     Answers-units_from n text m (omega arith) reach.1 (IsClear-after text f t m unit)))
 
 -- one more place to read, where a unit stands
-units_from-unit : (n : ℕ) (text : Text) (f : ℕ) (t : Token) (e : ℕ) → UnitAt text f t e → units_from (suc n) text f ≡ with_first t (units_from n text e)
+units_from-unit : (n : ℕ) (text : Text) (f : ℕ) (t : Token) (e : ℕ) → UnitAt text f t e → units_from (suc n) text f ≡ reading_with_first t (units_from n text e)
 unfolding units_from
 units_from-unit n text f t e unit =
     let reach = UnitAt-within text f t e unit in
@@ -73,7 +73,7 @@ units_from-Ok (suc n) text f [] enough within between = rw (le-leb (length text)
 units_from-Ok (suc n) text f (t ∷ ts) enough within between =
     let reach = UnitAt-within text f t between.0 between.1 in
     units_from-unit n text f t between.0 between.1
-    ∙ ap (with_first t) (units_from-Ok n text between.0 ts (omega arith) reach.1 between.2)
+    ∙ ap (reading_with_first t) (units_from-Ok n text between.0 ts (omega arith) reach.1 between.2)
 
 -- Where no unit stands none is found.
 unit_at-None : (text : Text) (f : ℕ) (found : Option (Token × ℕ)) → Stands text f found → NoUnitAt text f → found ≡ None
@@ -96,7 +96,7 @@ units_from-Err (suc n) text f [] p enough within between clear before none =
 units_from-Err (suc n) text f (t ∷ ts) p enough within between clear before none =
     let reach = UnitAt-within text f t between.0 between.1 in
     units_from-unit n text f t between.0 between.1
-    ∙ ap (with_first t) (units_from-Err n text between.0 ts p (omega arith) reach.1 between.2 (IsClear-after text f t between.0 between.1) before none)
+    ∙ ap (reading_with_first t) (units_from-Err n text between.0 ts p (omega arith) reach.1 between.2 (IsClear-after text f t between.0 between.1) before none)
 
 -- no character stands before the start
 pub IsClear-start : (text : Text) → IsClear text 0
@@ -105,11 +105,11 @@ IsClear-start text at positive = absurd (omega arith)
 Answers-start : (text : Text) → Answers text 0 (units_from (suc (length text)) text 0)
 Answers-start text = Answers-units_from (suc (length text)) text 0 (omega arith) (omega arith) (IsClear-start text)
 
-HasTokens-Answers : (text : Text) (read : Result (List Token) Fault) (tokens : List Token) → Answers text 0 read → folded_tokens read ≡ Ok tokens → HasTokens text tokens
+HasTokens-Answers : (text : Text) (read : Result (List Token) Fault) (tokens : List Token) → Answers text 0 read → tokens_of_reading read ≡ Ok tokens → HasTokens text tokens
 HasTokens-Answers text (Ok units) tokens answers e = (units, answers, cc)
 HasTokens-Answers text (Err fault) tokens answers e = cc
 
-IsFault-Answers : (text : Text) (read : Result (List Token) Fault) (fault : Fault) → Answers text 0 read → folded_tokens read ≡ Err fault → IsFault text fault
+IsFault-Answers : (text : Text) (read : Result (List Token) Fault) (fault : Fault) → Answers text 0 read → tokens_of_reading read ≡ Err fault → IsFault text fault
 IsFault-Answers text (Ok units) fault answers e = cc
 IsFault-Answers text (Err other) fault answers e = let same : other ≡ fault = cc in subst (IsFault text) same answers
 
@@ -120,16 +120,16 @@ HasTokens-reading_of text tokens e = HasTokens-Answers text _ tokens (Answers-st
 -- The tokens of a text are read.
 pub reading_of-HasTokens : (text : Text) (tokens : List Token) → HasTokens text tokens → reading_of text ≡ Ok tokens
 reading_of-HasTokens text tokens has =
-    ap folded_tokens (units_from-Ok (suc (length text)) text 0 has.0 (omega arith) (omega arith) has.1) ∙ ap Ok (sym has.2)
+    ap tokens_of_reading (units_from-Ok (suc (length text)) text 0 has.0 (omega arith) (omega arith) has.1) ∙ ap Ok (sym has.2)
 
--- What is told is the fault of the text.
+-- The fault that is read is the fault of the text.
 pub IsFault-reading_of : (text : Text) (fault : Fault) → reading_of text ≡ Err fault → IsFault text fault
 IsFault-reading_of text fault e = IsFault-Answers text _ fault (Answers-start text) e
 
--- The fault of a text is told.
+-- The fault of a text is read.
 pub reading_of-IsFault : (text : Text) (fault : Fault) → IsFault text fault → reading_of text ≡ Err fault
 reading_of-IsFault text fault is =
-    ap folded_tokens (units_from-Err (suc (length text)) text 0 is.1 is.0 (omega arith) (omega arith) is.2 (IsClear-start text) is.3 is.4)
+    ap tokens_of_reading (units_from-Err (suc (length text)) text 0 is.1 is.0 (omega arith) (omega arith) is.2 (IsClear-start text) is.3 is.4)
     ∙ ap Err (sym is.5)
 
 -- The tokens are those of the units up to place f.

@@ -1,4 +1,4 @@
--- What the rows of masks tell of a token and a character.
+-- What the masks say of a token and a character.
 use Rattle.std.proofs.Common.{◌≡◌, ℕ, ◌<◌, ◌≤◌, ◌⊎◌, ◌↔◌, Bool, true, false, not, ◌||◌, ◌&&◌, ◌==◌, IsTrue, refl, sym, ap, ◌∙◌, inl, inr, ⊎_elim, arith}
 use Rattle.std.proofs.lemmas.Bool.{false≢true, or_left, or_right, eqb-true, eq-eqb, ne_eqb, not-true, not_from_false}
 use Rattle.std.proofs.Math.Bool.{and-true, and-false, or-false}
@@ -25,7 +25,7 @@ and_comm false true = refl
 and_comm false false = refl
 
 module _ (o : MatchOptions) (opening : Bool) (c : ℕ) where
-  -- what the dot rule keeps from wildcards, it keeps from all of them
+  -- what the dot rule excludes from wildcards, it excludes from all of them
   pub excluded-by_dot : is_excluded_dot o opening c ≡ true → (t : Token) → IsTrue (is_excluded o opening c t) ↔ (IsTrue (is_any_or_run t) ⊎ IsTrue (is_bracket t) ⊎ IsTrue (is_deep t))
   excluded-by_dot is (Plain x) = (λ t. absurd (false≢true t), λ h. ⊎_elim (λ e. absurd (false≢true e)) (λ h. ⊎_elim (λ e. absurd (false≢true e)) (λ e. absurd (false≢true e)) h) h)
   excluded-by_dot is Any = (λ _. inl refl, λ _. or_right (is_excluded_separator o c) _ is)
@@ -34,7 +34,7 @@ module _ (o : MatchOptions) (opening : Bool) (c : ℕ) where
   excluded-by_dot is (Within e) = (λ _. inr (inl refl), λ _. or_right (is_excluded_separator o c) _ is)
   excluded-by_dot is (Except e) = (λ _. inr (inl refl), λ _. or_right (is_excluded_separator o c) _ is)
 
-  -- what the separator rule alone keeps, it keeps from all but `**`
+  -- what the separator rule alone excludes, it excludes from all but `**`
   pub excluded-by_separator : is_excluded_dot o opening c ≡ false → is_excluded_separator o c ≡ true → (t : Token) → IsTrue (is_excluded o opening c t) ↔ (IsTrue (is_any_or_run t) ⊎ IsTrue (is_bracket t))
   excluded-by_separator off is (Plain x) = (λ t. absurd (false≢true t), λ h. ⊎_elim (λ e. absurd (false≢true e)) (λ e. absurd (false≢true e)) h)
   excluded-by_separator off is Any = (λ _. inl refl, λ _. or_left _ (is_excluded_dot o opening c) is)
@@ -43,7 +43,7 @@ module _ (o : MatchOptions) (opening : Bool) (c : ℕ) where
   excluded-by_separator off is (Within e) = (λ _. inr refl, λ _. or_left _ (is_excluded_dot o opening c) is)
   excluded-by_separator off is (Except e) = (λ _. inr refl, λ _. or_left _ (is_excluded_dot o opening c) is)
 
-  -- with case, a token takes the characters of its row that no rule keeps from it
+  -- with case, a token takes the characters whose masks it is in and that no rule excludes
   pub takes-with_case : o.case_sensitive ≡ true → (t : Token) → takes o opening c t ≡ (takes new_options true c t && not (is_excluded o opening c t))
   takes-with_case case (Plain x) = rw case (sym (and-true (same true c x)))
   takes-with_case case Any = neither (is_excluded_separator o c) (is_excluded_dot o opening c)
@@ -52,7 +52,7 @@ module _ (o : MatchOptions) (opening : Bool) (c : ℕ) where
   takes-with_case case (Within e) = rw case (ap (λ b. b && holds true c e) (neither (is_excluded_separator o c) (is_excluded_dot o opening c)) ∙ and_comm _ (holds true c e))
   takes-with_case case (Except e) = rw case (ap (λ b. b && not (holds true c e)) (neither (is_excluded_separator o c) (is_excluded_dot o opening c)) ∙ and_comm _ (not (holds true c e)))
 
-  -- without case, one that is no bracket takes those whose small or capital form is of its row
+  -- without case, one that is no bracket takes those with a lowercase or uppercase form whose mask it is in
   pub takes-without_case : c < 128 → o.case_sensitive ≡ false → (t : Token) → is_bracket t ≡ false
       → IsTrue (takes o opening c t) ↔ ((IsTrue (takes new_options true (to_ascii_lowercase c) t) ⊎ IsTrue (takes new_options true (to_ascii_uppercase c) t)) × (is_excluded o opening c t ≡ false))
   takes-without_case low case (Plain x) plain =
@@ -72,7 +72,7 @@ module _ (o : MatchOptions) (opening : Bool) (c : ℕ) where
   takes-without_case low case (Within e) plain = absurd (false≢true (sym plain))
   takes-without_case low case (Except e) plain = absurd (false≢true (sym plain))
 
-  -- no rule keeps a character beyond ASCII
+  -- no rule excludes a character beyond ASCII
   excluded-beyond : 128 ≤ c → (is_excluded_separator o c ≡ false) × (is_excluded_dot o opening c ≡ false)
   excluded-beyond high =
       let no_slash : (c == slash) ≡ false = ne_eqb c slash (λ e. omega arith) in

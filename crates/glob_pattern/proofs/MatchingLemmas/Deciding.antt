@@ -12,14 +12,14 @@ use Rattle.glob_pattern.specs.Grammar.Faults.{Fault}
 use Rattle.glob_pattern.specs.Computing.Reading.{reading_of}
 use Rattle.glob_pattern.specs.Matching.Splits.{Table, SplitsFrom, Splits}
 use Rattle.glob_pattern.specs.Private.TextTable.{table_of}
-use Rattle.glob_pattern.specs.Computing.Deciding.{placed_characters, whole, one_before, many_before, closed_before, rests_matched, tokens_match, match_read, is_match}
+use Rattle.glob_pattern.specs.Computing.Deciding.{characters_with_openings, first_answer, one_character_answers, run_answers, component_answers, tokens_answers, tokens_match, match_of_reading, is_match}
 use Rattle.glob_pattern.specs.declared.options.MatchOptions.{MatchOptions}
 use Rattle.glob_pattern.specs.declared.matcher.Shape.TheVariants as shape
 use Rattle.glob_pattern.specs.declared.token.Token.TheVariants.{Plain, Any, Run, Deep, Within, Except}
 use Rattle.glob_pattern.proofs.Places.{get_or-at_drop, drop-at_drop, length-at_drop, length-at_end}
 use Rattle.glob_pattern.proofs.MatchingLemmas.Splits.{SplitsMany, SplitsClosed, SplitsFrom-within, SplitsFrom-one, one-from_SplitsFrom, SplitsMany-within, SplitsClosed-within, SplitsMany-cases, SplitsMany-from, SplitsClosed-cases, SplitsClosed-from, SplitsFrom-last_deep, many-from_last_deep, SplitsFrom-deep, deep-from_SplitsFrom}
 use Rattle.glob_pattern.proofs.MatchingLemmas.PiecesAndSplits.{takes-at, Splits-from_TokensMatch, TokensMatch-from_Splits}
-use Rattle.glob_pattern.proofs.MatchingLemmas.Rests.{matched, whole-either, whole-one_before, whole-many_before, whole-closed_before}
+use Rattle.glob_pattern.proofs.MatchingLemmas.Rests.{tokens_match_rest, first_answer-joined_answers, first_answer-one_character_answers, first_answer-run_answers, first_answer-component_answers}
 
 -- the place after a character opens where that is `/`
 pub opens-next : (text : Text) (k c : ℕ) (cs : Text) → drop k text ≡ c ∷ cs → (c == slash) ≡ opens text (k + 1)
@@ -43,7 +43,7 @@ decides_no h = ((λ e. absurd (false≢true e)), (λ p. absurd (h p)))
 abbrev pub RestsDecided : MatchOptions → List Token → Text → ℕ → List Token → Type 0
 RestsDecided o all text n ts =
     (cs : Text) (k : ℕ) (b : Bool) → b ≡ opens text k → drop k text ≡ cs → k ≤ length text
-    → Decides (matched o ts (placed_characters b cs)) (SplitsFrom (table_of o all text) n (map shape_of ts) k)
+    → Decides (tokens_match_rest o ts (characters_with_openings b cs)) (SplitsFrom (table_of o all text) n (map shape_of ts) k)
 
 -- no token is left
 Decides-none : (o : MatchOptions) (all : List Token) (text : Text) (n : ℕ) → RestsDecided o all text n []
@@ -55,7 +55,7 @@ Decides-none o all text n (c ∷ cs) k b p q h =
 -- a first token that takes one character
 Decides-one : (o : MatchOptions) (all : List Token) (text : Text) (n : ℕ) (t : Token) (ts : List Token) → drop n all ≡ t ∷ ts → RestsDecided o all text (n + 1) ts
     → (cs : Text) (k : ℕ) (b : Bool) → b ≡ opens text k → drop k text ≡ cs → k ≤ length text
-    → Decides (whole (one_before o t (placed_characters b cs) (rests_matched o ts (placed_characters b cs)))) (SplitsFrom (table_of o all text) n (shape.One ∷ map shape_of ts) k)
+    → Decides (first_answer (one_character_answers o t (characters_with_openings b cs) (tokens_answers o ts (characters_with_openings b cs)))) (SplitsFrom (table_of o all text) n (shape.One ∷ map shape_of ts) k)
 unfolding table_of
 Decides-one o all text n t ts e next [] k b p q h =
     let end : k ≡ length text = length-at_end text k q h in
@@ -63,7 +63,7 @@ Decides-one o all text n t ts e next [] k b p q h =
 Decides-one o all text n t ts e next (c ∷ cs) k b p q h =
     let table : Table = table_of o all text in
     let l : length text ≡ k + suc (length cs) = length-at_drop text cs k c q in
-    Decides-at _ _ (whole-one_before o t ts (b, c) (placed_characters (c == slash) cs))
+    Decides-at _ _ (first_answer-one_character_answers o t ts (b, c) (characters_with_openings (c == slash) cs))
     (Decides-like _ (SplitsFrom-one table n (map shape_of ts) k) (one-from_SplitsFrom table n (map shape_of ts) k)
     (Decides-and (takes o b c t) _ (Decides-takes o all text n k c b t ts cs e p q)
     (next cs (k + 1) (c == slash) (opens-next text k c cs q) (drop-at_drop text cs k c q) (omega arith))))
@@ -71,7 +71,7 @@ Decides-one o all text n t ts e next (c ∷ cs) k b p q h =
 -- a first token that takes any number of characters
 Decides-many : (o : MatchOptions) (all : List Token) (text : Text) (n : ℕ) (t : Token) (ts : List Token) → drop n all ≡ t ∷ ts → RestsDecided o all text (n + 1) ts
     → (cs : Text) (k : ℕ) (b : Bool) → b ≡ opens text k → drop k text ≡ cs → k ≤ length text
-    → Decides (whole (many_before o t (placed_characters b cs) (rests_matched o ts (placed_characters b cs)))) (SplitsMany (table_of o all text) n (map shape_of ts) k)
+    → Decides (first_answer (run_answers o t (characters_with_openings b cs) (tokens_answers o ts (characters_with_openings b cs)))) (SplitsMany (table_of o all text) n (map shape_of ts) k)
 unfolding table_of
 Decides-many o all text n t ts e next [] k b p q h =
     let table : Table = table_of o all text in
@@ -82,16 +82,16 @@ Decides-many o all text n t ts e next [] k b p q h =
 Decides-many o all text n t ts e next (c ∷ cs) k b p q h =
     let table : Table = table_of o all text in
     let l : length text ≡ k + suc (length cs) = length-at_drop text cs k c q in
-    Decides-at _ _ (whole-many_before o t ts (b, c) (placed_characters (c == slash) cs))
+    Decides-at _ _ (first_answer-run_answers o t ts (b, c) (characters_with_openings (c == slash) cs))
     (Decides-like _ (SplitsMany-from table n (map shape_of ts) k) (SplitsMany-cases table n (map shape_of ts) k)
-    (Decides-or (matched o ts (placed_characters b (c ∷ cs))) _ (next (c ∷ cs) k b p q h)
+    (Decides-or (tokens_match_rest o ts (characters_with_openings b (c ∷ cs))) _ (next (c ∷ cs) k b p q h)
     (Decides-and (takes o b c t) _ (Decides-takes o all text n k c b t ts cs e p q)
     (Decides-many o all text n t ts e next cs (k + 1) (c == slash) (opens-next text k c cs q) (drop-at_drop text cs k c q) (omega arith)))))
 
 -- a first token that takes some characters, up to a place that opens
 Decides-closed : (o : MatchOptions) (all : List Token) (text : Text) (n : ℕ) (t : Token) (ts : List Token) → drop n all ≡ t ∷ ts → RestsDecided o all text (n + 1) ts
     → (cs : Text) (k : ℕ) (b : Bool) → b ≡ opens text k → drop k text ≡ cs → k ≤ length text
-    → Decides (whole (closed_before o t (placed_characters b cs) (rests_matched o ts (placed_characters b cs)))) (SplitsClosed (table_of o all text) n (map shape_of ts) k)
+    → Decides (first_answer (component_answers o t (characters_with_openings b cs) (tokens_answers o ts (characters_with_openings b cs)))) (SplitsClosed (table_of o all text) n (map shape_of ts) k)
 unfolding table_of
 Decides-closed o all text n t ts e next [] k b p q h =
     let end : k ≡ length text = length-at_end text k q h in
@@ -101,10 +101,10 @@ Decides-closed o all text n t ts e next (c ∷ cs) k b p q h =
     let l : length text ≡ k + suc (length cs) = length-at_drop text cs k c q in
     let opening : (c == slash) ≡ opens text (k + 1) = opens-next text k c cs q in
     let after : drop (k + 1) text ≡ cs = drop-at_drop text cs k c q in
-    Decides-at _ _ (whole-closed_before o t ts b c (placed_characters (c == slash) cs))
+    Decides-at _ _ (first_answer-component_answers o t ts b c (characters_with_openings (c == slash) cs))
     (Decides-like _ (SplitsClosed-from table n (map shape_of ts) k) (SplitsClosed-cases table n (map shape_of ts) k)
     (Decides-and (takes o b c t) _ (Decides-takes o all text n k c b t ts cs e p q)
-    (Decides-or ((c == slash) && matched o ts (placed_characters (c == slash) cs)) _
+    (Decides-or ((c == slash) && tokens_match_rest o ts (characters_with_openings (c == slash) cs)) _
     (Decides-and (c == slash) _ ((λ s. sym opening ∙ s), (λ s. opening ∙ s)) (next cs (k + 1) (c == slash) opening after (omega arith)))
     (Decides-closed o all text n t ts e next cs (k + 1) (c == slash) opening after (omega arith)))))
 
@@ -122,9 +122,9 @@ Decides-rests o all text (Deep ∷ t ∷ ts) n e =
     let table : Table = table_of o all text in
     let next : RestsDecided o all text (n + 1) (t ∷ ts) = Decides-rests o all text (t ∷ ts) (n + 1) (drop-at_drop all (t ∷ ts) n Deep e) in
     λ cs k b p q h.
-    Decides-at _ _ (whole-either (rests_matched o (t ∷ ts) (placed_characters b cs)) (closed_before o Deep (placed_characters b cs) (rests_matched o (t ∷ ts) (placed_characters b cs))))
+    Decides-at _ _ (first_answer-joined_answers (tokens_answers o (t ∷ ts) (characters_with_openings b cs)) (component_answers o Deep (characters_with_openings b cs) (tokens_answers o (t ∷ ts) (characters_with_openings b cs))))
     (Decides-like _ (SplitsFrom-deep table n (shape_of t) (map shape_of ts) k) (deep-from_SplitsFrom table n (shape_of t) (map shape_of ts) k)
-    (Decides-or (matched o (t ∷ ts) (placed_characters b cs)) _ (next cs k b p q h) (Decides-closed o all text n Deep (t ∷ ts) e next cs k b p q h)))
+    (Decides-or (tokens_match_rest o (t ∷ ts) (characters_with_openings b cs)) _ (next cs k b p q h) (Decides-closed o all text n Deep (t ∷ ts) e next cs k b p q h)))
 Decides-rests o all text (Within entries ∷ ts) n e = Decides-one o all text n (Within entries) ts e (Decides-rests o all text ts (n + 1) (drop-at_drop all ts n (Within entries) e))
 Decides-rests o all text (Except entries ∷ ts) n e = Decides-one o all text n (Except entries) ts e (Decides-rests o all text ts (n + 1) (drop-at_drop all ts n (Except entries) e))
 
@@ -147,9 +147,9 @@ pub decider-from_TokensMatch : (o : MatchOptions) (tokens : List Token) (text : 
 decider-from_TokensMatch o tokens text = (Decides-TokensMatch o tokens text).1
 
 -- a yes to what was read is a yes to tokens that were read
-match_read-tells : (o : MatchOptions) (read : Result (List Token) Fault) (text : Text) → match_read o read text ≡ true → (tokens : List Token) × (read ≡ Ok tokens) × (tokens_match o tokens text ≡ true)
-match_read-tells o (Ok tokens) text h = (tokens, refl, h)
-match_read-tells o (Err fault) text h = absurd (false≢true h)
+match_of_reading-tells : (o : MatchOptions) (read : Result (List Token) Fault) (text : Text) → match_of_reading o read text ≡ true → (tokens : List Token) × (read ≡ Ok tokens) × (tokens_match o tokens text ≡ true)
+match_of_reading-tells o (Ok tokens) text h = (tokens, refl, h)
+match_of_reading-tells o (Err fault) text h = absurd (false≢true h)
 
 -- what is read of a pattern is what the grammar says of it
 abbrev pub IsReadAs : (pattern : Text) → Type 0
@@ -160,7 +160,7 @@ IsReadAs pattern =
 pub Decides-Matches : (o : MatchOptions) (pattern text : Text) → IsReadAs pattern → Decides (is_match o pattern text) (Matches o pattern text)
 unfolding is_match
 Decides-Matches o pattern text reading = (
-  (λ h. let told : (tokens : List Token) × (reading_of pattern ≡ Ok tokens) × (tokens_match o tokens text ≡ true) = match_read-tells o (reading_of pattern) text h in
+  (λ h. let told : (tokens : List Token) × (reading_of pattern ≡ Ok tokens) × (tokens_match o tokens text ≡ true) = match_of_reading-tells o (reading_of pattern) text h in
       (told.0, (reading told.0).1 told.1, TokensMatch-from_decider o told.0 text told.2)),
-  (λ m. ap (λ read. match_read o read text) ((reading m.0).0 m.1) ∙ decider-from_TokensMatch o m.0 text m.2),
+  (λ m. ap (λ read. match_of_reading o read text) ((reading m.0).0 m.1) ∙ decider-from_TokensMatch o m.0 text m.2),
 )

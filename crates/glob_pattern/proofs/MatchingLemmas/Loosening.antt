@@ -21,7 +21,7 @@ not-from_less false true less h = absurd (false≢true (less refl))
 and-less : (a b c : Bool) → (IsTrue b → IsTrue a) → IsTrue (b && c) → IsTrue (a && c)
 and-less a b c less h = and_from a c (less (and_parts b c h).0) (and_parts b c h).1
 
--- a looser separator rule keeps `/` where a strict one does, or not at all
+-- a looser separator rule excludes `/` where a strict one does, or not at all
 kept_separator-less : (strict loose : MatchOptions) (c : ℕ) → IsLooser strict loose → IsTrue (is_excluded_separator loose c) → IsTrue (is_excluded_separator strict c)
 kept_separator-less strict loose c less = and-less strict.require_literal_separator loose.require_literal_separator (c == slash) less.1
 

@@ -3,47 +3,47 @@ use Rattle.std.proofs.Common.{◌≡◌, ℕ, Bool, ◌&&◌, ◌||◌, ◌==◌
 use Rattle.glob_text.specs.Characters.{slash}
 use Rattle.glob_pattern.specs.Grammar.Tokens.{Token}
 use Rattle.glob_pattern.specs.Matching.Taking.{takes}
-use Rattle.glob_pattern.specs.Computing.Deciding.{whole, shorter, take_placed, one_before, many_before, closed_before, either, rests_matched}
+use Rattle.glob_pattern.specs.Computing.Deciding.{first_answer, later_answers, is_taken, one_character_answers, run_answers, component_answers, joined_answers, tokens_answers}
 use Rattle.glob_pattern.specs.declared.options.MatchOptions.{MatchOptions}
 use Rattle.glob_pattern.specs.declared.token.Token.TheVariants.{Plain, Any, Run, Deep, Within, Except}
 
 -- the tokens match the placed characters
-abbrev pub matched : MatchOptions → List Token → List (Bool × ℕ) → Bool
-matched o ts xs = whole (rests_matched o ts xs)
+abbrev pub tokens_match_rest : MatchOptions → List Token → List (Bool × ℕ) → Bool
+tokens_match_rest o ts xs = first_answer (tokens_answers o ts xs)
 
 -- the later answers of two lists, of which either says yes
-pub shorter-either : (bs cs : List Bool) → shorter (either bs cs) ≡ either (shorter bs) (shorter cs)
-shorter-either [] cs = refl
-shorter-either (b ∷ bs) cs = refl
+pub later_answers-joined_answers : (bs cs : List Bool) → later_answers (joined_answers bs cs) ≡ joined_answers (later_answers bs) (later_answers cs)
+later_answers-joined_answers [] cs = refl
+later_answers-joined_answers (b ∷ bs) cs = refl
 
 -- the first answer of two lists, of which either says yes
-pub whole-either : (bs cs : List Bool) → whole (either bs cs) ≡ (whole bs || whole cs)
-whole-either [] cs = refl
-whole-either (b ∷ bs) cs = refl
+pub first_answer-joined_answers : (bs cs : List Bool) → first_answer (joined_answers bs cs) ≡ (first_answer bs || first_answer cs)
+first_answer-joined_answers [] cs = refl
+first_answer-joined_answers (b ∷ bs) cs = refl
 
 -- the rests after the first are those of the characters after the first
-pub shorter-rests_matched : (o : MatchOptions) (ts : List Token) (x : Bool × ℕ) (xs : List (Bool × ℕ)) → shorter (rests_matched o ts (x ∷ xs)) ≡ rests_matched o ts xs
-shorter-rests_matched o [] x xs = refl
-shorter-rests_matched o (Plain c ∷ ts) x xs = ap (one_before o (Plain c) xs) (shorter-rests_matched o ts x xs)
-shorter-rests_matched o (Any ∷ ts) x xs = ap (one_before o Any xs) (shorter-rests_matched o ts x xs)
-shorter-rests_matched o (Run ∷ ts) x xs = ap (many_before o Run xs) (shorter-rests_matched o ts x xs)
-shorter-rests_matched o (Deep ∷ []) x xs = ap (many_before o Deep xs) (shorter-rests_matched o [] x xs)
-shorter-rests_matched o (Deep ∷ t ∷ ts) x xs =
-    shorter-either (rests_matched o (t ∷ ts) (x ∷ xs)) (closed_before o Deep (x ∷ xs) (rests_matched o (t ∷ ts) (x ∷ xs)))
-    ∙ ap (λ rs. either rs (closed_before o Deep xs rs)) (shorter-rests_matched o (t ∷ ts) x xs)
-shorter-rests_matched o (Within entries ∷ ts) x xs = ap (one_before o (Within entries) xs) (shorter-rests_matched o ts x xs)
-shorter-rests_matched o (Except entries ∷ ts) x xs = ap (one_before o (Except entries) xs) (shorter-rests_matched o ts x xs)
+pub later_answers-tokens_answers : (o : MatchOptions) (ts : List Token) (x : Bool × ℕ) (xs : List (Bool × ℕ)) → later_answers (tokens_answers o ts (x ∷ xs)) ≡ tokens_answers o ts xs
+later_answers-tokens_answers o [] x xs = refl
+later_answers-tokens_answers o (Plain c ∷ ts) x xs = ap (one_character_answers o (Plain c) xs) (later_answers-tokens_answers o ts x xs)
+later_answers-tokens_answers o (Any ∷ ts) x xs = ap (one_character_answers o Any xs) (later_answers-tokens_answers o ts x xs)
+later_answers-tokens_answers o (Run ∷ ts) x xs = ap (run_answers o Run xs) (later_answers-tokens_answers o ts x xs)
+later_answers-tokens_answers o (Deep ∷ []) x xs = ap (run_answers o Deep xs) (later_answers-tokens_answers o [] x xs)
+later_answers-tokens_answers o (Deep ∷ t ∷ ts) x xs =
+    later_answers-joined_answers (tokens_answers o (t ∷ ts) (x ∷ xs)) (component_answers o Deep (x ∷ xs) (tokens_answers o (t ∷ ts) (x ∷ xs)))
+    ∙ ap (λ rs. joined_answers rs (component_answers o Deep xs rs)) (later_answers-tokens_answers o (t ∷ ts) x xs)
+later_answers-tokens_answers o (Within entries ∷ ts) x xs = ap (one_character_answers o (Within entries) xs) (later_answers-tokens_answers o ts x xs)
+later_answers-tokens_answers o (Except entries ∷ ts) x xs = ap (one_character_answers o (Except entries) xs) (later_answers-tokens_answers o ts x xs)
 
 -- a first token that takes one character
-pub whole-one_before : (o : MatchOptions) (t : Token) (ts : List Token) (x : Bool × ℕ) (xs : List (Bool × ℕ)) → whole (one_before o t (x ∷ xs) (rests_matched o ts (x ∷ xs))) ≡ (take_placed o t x && matched o ts xs)
-whole-one_before o t ts x xs = ap (λ rs. take_placed o t x && whole rs) (shorter-rests_matched o ts x xs)
+pub first_answer-one_character_answers : (o : MatchOptions) (t : Token) (ts : List Token) (x : Bool × ℕ) (xs : List (Bool × ℕ)) → first_answer (one_character_answers o t (x ∷ xs) (tokens_answers o ts (x ∷ xs))) ≡ (is_taken o t x && tokens_match_rest o ts xs)
+first_answer-one_character_answers o t ts x xs = ap (λ rs. is_taken o t x && first_answer rs) (later_answers-tokens_answers o ts x xs)
 
 -- a first token that takes any number of characters
-pub whole-many_before : (o : MatchOptions) (t : Token) (ts : List Token) (x : Bool × ℕ) (xs : List (Bool × ℕ)) → whole (many_before o t (x ∷ xs) (rests_matched o ts (x ∷ xs))) ≡ (matched o ts (x ∷ xs) || (take_placed o t x && whole (many_before o t xs (rests_matched o ts xs))))
-whole-many_before o t ts x xs =
-    ap (λ rs. matched o ts (x ∷ xs) || (take_placed o t x && whole (many_before o t xs rs))) (shorter-rests_matched o ts x xs)
+pub first_answer-run_answers : (o : MatchOptions) (t : Token) (ts : List Token) (x : Bool × ℕ) (xs : List (Bool × ℕ)) → first_answer (run_answers o t (x ∷ xs) (tokens_answers o ts (x ∷ xs))) ≡ (tokens_match_rest o ts (x ∷ xs) || (is_taken o t x && first_answer (run_answers o t xs (tokens_answers o ts xs))))
+first_answer-run_answers o t ts x xs =
+    ap (λ rs. tokens_match_rest o ts (x ∷ xs) || (is_taken o t x && first_answer (run_answers o t xs rs))) (later_answers-tokens_answers o ts x xs)
 
 -- a piece that is not empty and ends in `/`
-pub whole-closed_before : (o : MatchOptions) (t : Token) (ts : List Token) (opening : Bool) (c : ℕ) (xs : List (Bool × ℕ)) → whole (closed_before o t ((opening, c) ∷ xs) (rests_matched o ts ((opening, c) ∷ xs))) ≡ (takes o opening c t && ((c == slash && matched o ts xs) || whole (closed_before o t xs (rests_matched o ts xs))))
-whole-closed_before o t ts opening c xs =
-    ap (λ rs. takes o opening c t && ((c == slash && whole rs) || whole (closed_before o t xs rs))) (shorter-rests_matched o ts (opening, c) xs)
+pub first_answer-component_answers : (o : MatchOptions) (t : Token) (ts : List Token) (opening : Bool) (c : ℕ) (xs : List (Bool × ℕ)) → first_answer (component_answers o t ((opening, c) ∷ xs) (tokens_answers o ts ((opening, c) ∷ xs))) ≡ (takes o opening c t && ((c == slash && tokens_match_rest o ts xs) || first_answer (component_answers o t xs (tokens_answers o ts xs))))
+first_answer-component_answers o t ts opening c xs =
+    ap (λ rs. takes o opening c t && ((c == slash && first_answer rs) || first_answer (component_answers o t xs rs))) (later_answers-tokens_answers o ts (opening, c) xs)

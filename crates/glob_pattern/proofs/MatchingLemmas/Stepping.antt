@@ -31,7 +31,7 @@ opens-suc text p =
     let later : (suc p == 0) ≡ false = grind (arith, nat_tests) in
     rw (back, later) refl
 
--- the first byte tells whether the first character is a slash
+-- the first byte says whether the first character is a slash
 pub slash-by_byte : (bytes rest : List ℕ) (c : ℕ) → bytes ≡ encode c ++ rest → (get_or bytes 0 0 == slash) ≡ (c == slash)
 slash-by_byte bytes rest c is =
     ⊎_elim

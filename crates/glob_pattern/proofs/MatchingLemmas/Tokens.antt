@@ -37,7 +37,7 @@ Matches-by_table {yes} o pattern text tokens shapes keeps asked asked_tokens ask
     rw (← keeps.shaped, ← same_shapes, ← same_options, ← same_tokens, ← same_text) decided in
     (λ h. by_tokens.0 (moved.0 h), λ h. moved.1 (by_tokens.1 h))
 
--- a pattern of few tokens keeps few shapes
+-- a pattern of few tokens has few shapes
 pub shapes_are_few : (pattern : Text) (tokens : List Token) (shapes : List Shape) → KeepsTokens pattern tokens shapes → IsShort pattern → length shapes < 64
 shapes_are_few pattern tokens shapes keeps (others, read, few) =
     let same : tokens ≡ others = one_reading pattern tokens others keeps.read read in

@@ -1,4 +1,4 @@
--- Reading a pattern: a computation that answers what the grammar says of a text.
+-- Reading a pattern, as a computation: its tokens or its fault.
 use Rattle.std.specs.Prelude.{ℕ, zero, suc, ◌+◌, ◌||◌, not, nat_le, ◌==◌, if◌then◌else◌, List, [], ◌∷◌, length, drop, slice_index, Option, Some, None, Result, Ok, Err, option_map}
 use Rattle.std.specs.List.{position_from}
 use Rattle.glob_text.specs.Characters.{slash}
@@ -23,10 +23,16 @@ stars_at text f =
 abbrev pub close_from : Text → ℕ → Option ℕ
 close_from text i = position_from (λ c. c == close_bracket) i (drop i text)
 
+-- the entries of a bracket whose content begins at place i, and the place after its `]`
+abbrev pub content_from : Text → ℕ → Option (List Entry × ℕ)
+content_from text i =
+    option_map (λ k. (entries_of (between text i k), k + 1)) (close_from text (i + 1))
+
 -- a bracket whose content begins at place i
 abbrev pub bracket_from : (List Entry → Token) → Text → ℕ → Option (Token × ℕ)
 bracket_from kind text i = option_map (λ k. (kind (entries_of (between text i k)), k + 1)) (close_from text (i + 1))
 
+-- the bracket at place f as a unit
 abbrev pub bracket_at : Text → ℕ → Option (Token × ℕ)
 bracket_at text f =
     if has text (f + 1) exclamation_mark then bracket_from Except text (f + 2) else bracket_from Within text (f + 1)
@@ -40,25 +46,26 @@ unit_at text f =
     else Some (Plain (slice_index text f), f + 1)
 
 -- a token before those that were read
-abbrev pub with_first : Token → Result (List Token) Fault → Result (List Token) Fault
-with_first t (Ok ts) = Ok (t ∷ ts)
-with_first t (Err fault) = Err fault
+abbrev pub reading_with_first : Token → Result (List Token) Fault → Result (List Token) Fault
+reading_with_first t (Ok ts) = Ok (t ∷ ts)
+reading_with_first t (Err fault) = Err fault
 
--- a unit was found, or none, at place f: its token before what is read of the places after it, or the fault
-abbrev pub after_unit : Text → ℕ → (ℕ → Result (List Token) Fault) → Option (Token × ℕ) → Result (List Token) Fault
-after_unit text f read None = Err (fault_at text f)
-after_unit text f read (Some (t, e)) = with_first t (read e)
+-- The unit at place f, if there is one, before what is read from its end on; else the fault.
+abbrev pub reading_after_unit : Text → ℕ → (ℕ → Result (List Token) Fault) → Option (Token × ℕ) → Result (List Token) Fault
+reading_after_unit text f read None = Err (fault_at text f)
+reading_after_unit text f read (Some (t, e)) = reading_with_first t (read e)
 
 -- the tokens of the units from place f on, or the fault, where n is more than the number of characters left
 unfoldable pub units_from : ℕ → Text → ℕ → Result (List Token) Fault
 units_from zero text f = Ok []
 units_from (suc n) text f =
-    if nat_le (length text) f then Ok [] else after_unit text f (units_from n text) (unit_at text f)
+    if nat_le (length text) f then Ok [] else reading_after_unit text f (units_from n text) (unit_at text f)
 
-abbrev pub folded_tokens : Result (List Token) Fault → Result (List Token) Fault
-folded_tokens (Ok units) = Ok (tokens_of_units units)
-folded_tokens (Err fault) = Err fault
+-- the tokens of the units that were read
+abbrev pub tokens_of_reading : Result (List Token) Fault → Result (List Token) Fault
+tokens_of_reading (Ok units) = Ok (tokens_of_units units)
+tokens_of_reading (Err fault) = Err fault
 
 -- the tokens of an accepted text, or the fault of another
 abbrev pub reading_of : Text → Result (List Token) Fault
-reading_of text = folded_tokens (units_from (suc (length text)) text 0)
+reading_of text = tokens_of_reading (units_from (suc (length text)) text 0)

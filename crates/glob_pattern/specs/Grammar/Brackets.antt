@@ -16,10 +16,11 @@ entries_of (x ∷ y ∷ []) = Single x ∷ Single y ∷ []
 entries_of (x ∷ d ∷ y ∷ rest) =
     if d == hyphen then Range x y ∷ entries_of rest else Single x ∷ entries_of (d ∷ y ∷ rest)
 
+-- c is of ASCII
 abbrev pub is_ascii : ℕ → Bool
 is_ascii c = nat_lt c 128
 
--- `a` to `z`
+-- c is one of `a` to `z`
 abbrev pub is_small_letter : ℕ → Bool
 is_small_letter c = nat_le 97 c && nat_le c 122
 
@@ -40,6 +41,7 @@ in_folded_range x y c =
     && is_small_letter (to_ascii_lowercase x) && is_small_letter (to_ascii_lowercase y)
     && in_range (to_ascii_lowercase x) (to_ascii_lowercase y) (to_ascii_lowercase c)
 
+-- the entry holds c
 abbrev pub entry_holds : (case : Bool) → ℕ → Entry → Bool
 entry_holds case c (Single x) = same case c x
 entry_holds case c (Range x y) = in_range x y c || (not case && in_folded_range x y c)

@@ -6,10 +6,11 @@ use Rattle.glob_pattern.specs.declared.token.Token.TheVariants.{Plain, Any, Run,
 use Rattle.glob_pattern.specs.declared.matcher.Shape.{Shape}
 use Rattle.glob_pattern.specs.declared.matcher.Shape.TheVariants as shape
 
--- A token: a plain character, any one (`?`), a run (`*`), a deep run (`**`), or a bracket with its entries.
+-- A token: a plain character, any one (`?`), a run (`*`), a recursive wildcard (`**`), or a bracket with its entries.
 abbrev pub Token : Type 0
 Token = kept.Token (List Entry)
 
+-- the token is `**`
 abbrev pub is_deep : Token → Bool
 is_deep Deep = true
 is_deep (Plain c) = false
@@ -18,23 +19,23 @@ is_deep Run = false
 is_deep (Within entries) = false
 is_deep (Except entries) = false
 
--- the first of the tokens is deep
+-- the first of the tokens is `**`
 abbrev pub begins_deep : List Token → Bool
 begins_deep [] = false
 begins_deep (t ∷ ts) = is_deep t
 
--- the last of the tokens is deep
+-- the last of the tokens is `**`
 abbrev pub ends_deep : List Token → Bool
 ends_deep [] = false
 ends_deep (t ∷ []) = is_deep t
 ends_deep (t ∷ u ∷ ts) = ends_deep (u ∷ ts)
 
--- neighbouring deep tokens made one
+-- the tokens of units: neighbouring `**` are one token
 abbrev pub tokens_of_units : List Token → List Token
 tokens_of_units [] = []
 tokens_of_units (t ∷ ts) = if is_deep t && begins_deep ts then tokens_of_units ts else t ∷ tokens_of_units ts
 
--- which pieces a token may have
+-- which pieces a token may match
 abbrev pub shape_of : Token → Shape
 shape_of (Plain c) = shape.One
 shape_of Any = shape.One

@@ -3,8 +3,8 @@ use Rattle.std.specs.Prelude.{◌≡◌, ℕ, ◌+◌, ◌<◌, ◌≤◌, ◌�
 use Rattle.glob_pattern.specs.declared.matcher.Shape.{Shape}
 use Rattle.glob_pattern.specs.declared.matcher.Shape.TheVariants.{One, Run, Deep}
 
--- What a judge answers: how many characters and tokens there are, which places open, and whether a token takes the
--- character at a place.
+-- What a judge answers: how many characters and tokens there are, at which places a component begins, and whether a
+-- token takes the character at a place.
 pub record Table : Type 0 where
   pub characters : ℕ
   pub tokens : ℕ
@@ -15,8 +15,9 @@ pub record Table : Type 0 where
 abbrev pub TakesAll : Table → (token : ℕ) → ℕ → ℕ → Type 0
 TakesAll table token i j = (k : ℕ) → i ≤ k → k < j → IsTrue (table.takes token k)
 
--- The piece of a shape may reach from place i up to place j, where `others` are the shapes after it: one character;
--- of a run any number; of a deep run too, but if shapes follow, the piece is empty or ends where the place opens.
+-- The piece of a shape may reach from place i up to place j, where `others` are the shapes after it: one character; for
+-- a run any number; for a recursive wildcard too, but if shapes follow, the piece is empty or a component begins at its
+-- end.
 abbrev pub MayReach : Table → Shape → (others : List Shape) → ℕ → ℕ → Type 0
 MayReach table One others i j = j ≡ i + 1
 MayReach table Run others i j = i ≤ j

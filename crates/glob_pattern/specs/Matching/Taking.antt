@@ -6,19 +6,19 @@ use Rattle.glob_pattern.specs.Grammar.Tokens.{Token}
 use Rattle.glob_pattern.specs.declared.options.MatchOptions.{MatchOptions}
 use Rattle.glob_pattern.specs.declared.token.Token.TheVariants.{Plain, Any, Run, Deep, Within, Except}
 
--- the separator rule keeps `/` from wildcards
+-- the separator rule excludes c from wildcards: it is a `/`
 abbrev pub is_excluded_separator : MatchOptions → ℕ → Bool
 is_excluded_separator o c = o.require_literal_separator && c == slash
 
--- the dot rule keeps a dot at an opening place from wildcards
+-- the dot rule excludes c from wildcards: it is a leading dot at a component start
 abbrev pub is_excluded_dot : MatchOptions → (opening : Bool) → ℕ → Bool
 is_excluded_dot o opening c = o.require_literal_leading_dot && opening && c == dot
 
--- neither rule keeps c from wildcards
+-- no rule excludes c from wildcards
 abbrev pub is_free : MatchOptions → (opening : Bool) → ℕ → Bool
 is_free o opening c = not (is_excluded_separator o c) && not (is_excluded_dot o opening c)
 
--- the token takes the character c, at a place that opens or not
+-- the token takes the character c; `opening`: a component begins at its place
 abbrev pub takes : MatchOptions → (opening : Bool) → ℕ → Token → Bool
 takes o opening c (Plain x) = same o.case_sensitive c x
 takes o opening c Any = is_free o opening c

@@ -14,11 +14,12 @@ abbrev pub TakesPiece : MatchOptions → Text → Token → ℕ → Text → Typ
 TakesPiece o text t k piece =
     (i : ℕ) → i < length piece → IsTrue (takes o (opens text (k + i)) (slice_index piece i) t)
 
+-- the piece ends in `/`
 abbrev pub EndsInSlash : Text → Type 0
 EndsInSlash piece = (front : Text) × (piece ≡ front ++ slash ∷ [])
 
--- The form of a token's piece, where `others` are the tokens after it: one character; of a run any number of them; of a
--- deep run too, but if tokens follow, the piece is empty or ends in `/`.
+-- The form of a token's piece, where `others` are the tokens after it: one character; for `*` any number of them; for
+-- `**` too, but if tokens follow, the piece is empty or ends in `/`.
 abbrev pub HasForm : Token → (others : List Token) → Text → Type 0
 HasForm (Plain c) others piece = length piece ≡ 1
 HasForm Any others piece = length piece ≡ 1

@@ -1,4 +1,4 @@
--- What a pattern keeps of its text.
+-- What a pattern stores beside its text.
 use Rattle.std.specs.Prelude.{◌≡◌, List, map}
 use Rattle.glob_text.specs.Text.{Text}
 use Rattle.glob_pattern.specs.Grammar.Tokens.{Token, shape_of}

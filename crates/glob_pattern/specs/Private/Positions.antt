@@ -1,16 +1,16 @@
--- Positions among shapes as bits: words of 64 bits that say which shapes there are and what pieces they may have, and of
--- leading shapes whether they are alive.
-use Rattle.std.specs.Prelude.{◌≡◌, ℕ, ◌+◌, ◌*◌, ◌/◌, ◌<◌, ◌≤◌, ◌≢◌, ◌↔◌, List, length, slice_index_or}
+-- Positions among shapes as bits: words of 64 bits that say which shapes there are and what pieces they may have, and
+-- of leading shapes whether they are alive.
+use Rattle.std.specs.Prelude.{◌≡◌, ℕ, ◌+◌, ◌*◌, ◌/◌, ◌<◌, ◌≤◌, ◌≢◌, ◌↔◌, Bool, List, length, slice_index_or, IsTrue}
 use Rattle.glob_pattern.specs.Matching.Bits.{IsSet}
 use Rattle.glob_pattern.specs.Matching.Splits.{Table}
-use Rattle.glob_pattern.specs.Private.Prefixes.{IsAlive, HasTaken}
+use Rattle.glob_pattern.specs.Private.Prefixes.{PrefixSplits, IsAlive, HasTaken}
 use Rattle.glob_pattern.specs.declared.matcher.Shape.{Shape}
 use Rattle.glob_pattern.specs.declared.matcher.Shape.TheVariants.{One, Deep}
 use Rattle.glob_pattern.specs.declared.matcher.shape_masks.ShapeMasks.{ShapeMasks}
 use Rattle.glob_pattern.specs.declared.matcher.many_words.PositionWord.{PositionWord}
 
--- Of the 64 shapes from number `start` on, the words say which stand before number `end`, which of these may have pieces
--- of any length, and which are deep and have others after them.
+-- Of the 64 shapes from number `start` on, the words say which stand before number `end`, which of these may have
+-- pieces of any length, and which are deep and have others after them.
 pub record AreShapeMasks (shapes : List Shape) (start end : ℕ) (masks : ShapeMasks) : Type 0 where
   pub tokens : (j : ℕ) → j < 64 → IsSet masks.tokens j ↔ (start + j < end)
   pub growing : (j : ℕ) → j < 64 → IsSet masks.growing j ↔ ((start + j < end) × (slice_index_or shapes (start + j) One ≢ One))
@@ -24,6 +24,16 @@ pub record AliveWord (table : Table) (shapes : List Shape) (start k word : ℕ) 
 -- the word says of the tokens from number `start` on, 64 at most, whether they have taken the character before place k
 pub record TakenWord (table : Table) (shapes : List Shape) (start k word : ℕ) : Type 0 where
   pub taken : (j : ℕ) → j < 64 → start + j < length shapes → IsSet word j ↔ HasTaken table shapes (start + j) k
+
+-- What holds of the word of place k that masks are advanced to: `took` has the tokens that took the character before
+-- place k, `opens` says whether place k opens, and `whole` whether the shapes before `start` split the characters up to
+-- it.
+abbrev pub AfterAdvance : ShapeMasks → (took : ℕ) → (opens whole : Bool)
+    → (holds : Table → List Shape → (start k : ℕ) → Type 0) → Type 0
+AfterAdvance masks took opens whole holds =
+    (table : Table) (shapes : List Shape) (start k : ℕ) → AreShapeMasks shapes start (length shapes) masks
+    → TakenWord table shapes start k took → opens ≡ table.opens k
+    → IsTrue whole ↔ PrefixSplits table shapes start k → holds table shapes start k
 
 -- what a word of a position set says of the numbers of leading shapes from `start` on
 pub record IsPositionWord (table : Table) (shapes : List Shape) (start k : ℕ) (word : PositionWord) : Type 0 where

@@ -1,4 +1,4 @@
--- How far leading shapes reach: what the rows of a match say, in contracts that are not public.
+-- How far prefixes of the shapes reach: what the position sets of a match say.
 use Rattle.std.specs.Prelude.{◌≡◌, ℕ, zero, suc, ◌+◌, ◌<◌, ◌≤◌, ◌≢◌, ◌⊎◌, ◌↔◌, List, length, drop, slice_index_or, IsTrue}
 use Rattle.glob_pattern.specs.Matching.Splits.{Table, TakesAll, MayReach}
 use Rattle.glob_pattern.specs.declared.matcher.Shape.{Shape}

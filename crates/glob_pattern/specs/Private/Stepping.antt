@@ -1,4 +1,4 @@
--- A text that is stepped through character by character.
+-- A text that is stepped over, one character after another.
 use Rattle.std.specs.Prelude.{◌≡◌, ℕ, ◌-◌, ◌<◌, Bool, length, drop, slice_index}
 use Rattle.glob_text.specs.Text.{Text, opens}
 

@@ -1,4 +1,4 @@
--- What a pattern's tokens answer of a text.
+-- The table of a pattern's tokens and a text: which token takes which character.
 use Rattle.std.specs.Prelude.{List, length, slice_index, slice_index_or}
 use Rattle.glob_text.specs.Text.{Text, opens}
 use Rattle.glob_pattern.specs.Grammar.Tokens.{Token}
@@ -7,7 +7,7 @@ use Rattle.glob_pattern.specs.Matching.Splits.{Table}
 use Rattle.glob_pattern.specs.declared.options.MatchOptions.{MatchOptions}
 use Rattle.glob_pattern.specs.declared.token.Token.TheVariants.{Any}
 
--- Of a number past the last token, or a place past the last character, nothing is asked.
+-- No question is asked past the last token or the last character.
 unfoldable pub table_of : MatchOptions → List Token → Text → Table
 table_of o tokens text = record {
   characters = length text;

@@ -1,4 +1,4 @@
-//! Matching with at most 63 shapes, without memory.
+//! Matching with at most 63 shapes, whose position set is one word and is never allocated.
 ghost use Rattle.std.specs.Prelude.{◌≡◌, ℕ, ◌+◌, ◌-◌, ◌*◌, ◌^◌, ◌<◌, ◌≤◌, ◌↔◌, false, length, IsTrue};
 ghost use Rattle.glob_pattern.specs.Matching.Splits.{Table, Splits};
 ghost use Rattle.glob_pattern.specs.Private.Prefixes.{IsAlive, IsTakenPrefix};
@@ -8,7 +8,7 @@ ghost use Rattle.glob_pattern.specs.Private.Positions.{AreShapeMasks, AliveWord}
 use super::shape_masks::{ShapeMasks, last_before};
 use super::{Judge, Shape};
 
-/// The shapes as bits. A position set is one word: bit n says whether the first n shapes are alive.
+/// At most 63 shapes, as masks. Their position set is one word: bit n says whether the first n shapes are alive.
 #[derive(Clone, Copy)]
 struct OneWordMatcher<'a> {
     shapes: &'a [Shape],
@@ -17,7 +17,7 @@ struct OneWordMatcher<'a> {
     ghost are: { AreShapeMasks shapes.now 0 (length shapes.now) masks },
 }
 
-/// Whether the characters split, of a judge that has stepped over those of the first `prefix` shapes.
+/// Whether the characters split, by a judge that has stepped over those of the first `prefix` shapes.
 #[inline(always)]
 pub fn run_one_word<J: Judge>(shapes: &[Shape], prefix: usize, judge: &mut J) -> bool
     requires few { length shapes.now < 64 }
@@ -25,10 +25,13 @@ pub fn run_one_word<J: Judge>(shapes: &[Shape], prefix: usize, judge: &mut J) ->
     requires reached { IsTakenPrefix (J.table judge.old) shapes.now prefix }
     requires place { J.place judge.old ≡ prefix }
     requires within { prefix ≤ (J.table judge.old).characters }
-    requires room { J.count judge.old + length shapes.now * ((J.table judge.old).characters - prefix) < 2 ^ 128 }
+    requires room { J.count judge.old
+        + length shapes.now * ((J.table judge.old).characters - prefix) < 2 ^ 128 }
     ensures answer { IsTrue result ↔ Splits (J.table judge.old) shapes.now }
-    ensures most { J.count judge.new ≤ J.count judge.old + length shapes.now * ((J.table judge.old).characters - prefix) }
-    ensures least { IsTrue result → J.count judge.old + (J.table judge.old).characters ≤ J.count judge.new + prefix }
+    ensures most { J.count judge.new
+        ≤ J.count judge.old + length shapes.now * ((J.table judge.old).characters - prefix) }
+    ensures least { IsTrue result
+        → J.count judge.old + (J.table judge.old).characters ≤ J.count judge.new + prefix }
     ensures monotone { J.count judge.old ≤ J.count judge.new }
     ensures same { J.table judge.new ≡ J.table judge.old }
 {
@@ -56,17 +59,20 @@ impl<'a> OneWordMatcher<'a> {
 
     /// The position set of the place after the characters of the first `prefix` shapes.
     fn first(&self, prefix: usize, opens: bool) -> u64
-        ensures { (table : Table) → IsTakenPrefix table self.now.shapes.now prefix → opens ≡ table.opens prefix
+        ensures { (table : Table)
+            → IsTakenPrefix table self.now.shapes.now prefix
+            → opens ≡ table.opens prefix
             → AliveWord table self.now.shapes.now 0 prefix result }
     {
         let took = last_before(prefix, 0);
         self.masks.advance(took, opens, prefix == 0).0
     }
 
-    /// Whether a token is alive, so that another character may be taken.
+    /// Whether a token is alive, so that one more character may be taken.
     #[inline(always)]
     fn goes_on(&self, positions: u64) -> bool
-        ensures { result ≡ false → (j : ℕ) → j < length self.now.shapes.now → ¬ (IsSet positions j) }
+        ensures { result ≡ false
+            → (j : ℕ) → j < length self.now.shapes.now → ¬ (IsSet positions j) }
     {
         positions & self.masks.tokens != 0
     }
@@ -75,13 +81,19 @@ impl<'a> OneWordMatcher<'a> {
     #[inline(always)]
     fn next<J: Judge>(&self, positions: u64, judge: &mut J) -> u64
         requires stepped { 0 < J.place judge.old }
-        requires tokens { length self.now.shapes.now ≤ (J.table judge.old).tokens }
-        requires room { J.count judge.old + length self.now.shapes.now < 2 ^ 128 }
-        requires positions { AliveWord (J.table judge.old) self.now.shapes.now 0 (J.place judge.old - 1) positions }
-        ensures positions { AliveWord (J.table judge.old) self.now.shapes.now 0 (J.place judge.old) result }
-        ensures most { J.count judge.new ≤ J.count judge.old + length self.now.shapes.now }
+        requires tokens { length self.now.shapes.now
+            ≤ (J.table judge.old).tokens }
+        requires room { J.count judge.old + length self.now.shapes.now
+            < 2 ^ 128 }
+        requires positions { AliveWord (J.table judge.old) self.now.shapes.now 0
+            (J.place judge.old - 1) positions }
+        ensures positions { AliveWord (J.table judge.old) self.now.shapes.now 0
+            (J.place judge.old) result }
+        ensures most { J.count judge.new
+            ≤ J.count judge.old + length self.now.shapes.now }
         ensures least { (n : ℕ) → n ≤ length self.now.shapes.now
-            → IsAlive (J.table judge.old) self.now.shapes.now n (J.place judge.old) → J.count judge.old < J.count judge.new }
+            → IsAlive (J.table judge.old) self.now.shapes.now n (J.place judge.old)
+            → J.count judge.old < J.count judge.new }
         ensures monotone { J.count judge.old ≤ J.count judge.new }
         ensures place { J.place judge.new ≡ J.place judge.old }
         ensures same { J.table judge.new ≡ J.table judge.old }
@@ -90,9 +102,10 @@ impl<'a> OneWordMatcher<'a> {
         self.masks.advance(took, judge.opens(), false).0
     }
 
-    /// Whether all shapes are alive, after the last.
+    /// Whether the position after the last shape is alive.
     fn is_whole(&self, positions: u64) -> bool
-        ensures { IsTrue result ↔ IsSet positions (length self.now.shapes.now) }
+        ensures { IsTrue result
+            ↔ IsSet positions (length self.now.shapes.now) }
     {
         (positions >> self.shapes.len()) & 1 != 0
     }

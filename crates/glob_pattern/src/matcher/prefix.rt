@@ -4,13 +4,14 @@ ghost use Rattle.glob_pattern.specs.Private.Prefixes.{IsTakenPrefix};
 
 use super::{Judge, Shape};
 
-/// Steps over a character for each of the leading shapes of one character, as long as their tokens take them. Answers
-/// how many they are, or `None` where the characters do not split.
+/// Steps over one character for each shape of the longest prefix of one-character shapes. Returns the prefix's length,
+/// or `None` if one of its tokens does not take its character: then the characters do not split.
 #[inline(always)]
 pub fn take_prefix<J: Judge>(shapes: &[Shape], judge: &mut J) -> Option<usize>
     requires tokens { length shapes.now ≤ (J.table judge.old).tokens }
     requires start { J.place judge.old ≡ 0 }
-    requires room { J.count judge.old + length shapes.now * (J.table judge.old).characters < 2 ^ 128 }
+    requires room { J.count judge.old
+        + length shapes.now * (J.table judge.old).characters < 2 ^ 128 }
     ensures reached { MatchOption result (¬ (Splits (J.table judge.old) shapes.now))
         (λ n. (J.place judge.new ≡ n) × IsTakenPrefix (J.table judge.old) shapes.now n) }
     ensures count { J.count judge.new ≡ J.count judge.old + J.place judge.new }

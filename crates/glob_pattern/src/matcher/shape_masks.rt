@@ -1,19 +1,19 @@
-ghost use Rattle.std.specs.Prelude.{◌≡◌, ℕ, ◌+◌, ◌<◌, ◌≤◌, ◌≢◌, ◌⊎◌, ◌↔◌, List, length, IsTrue};
-ghost use Rattle.glob_pattern.specs.Matching.Splits.{Table};
+ghost use Rattle.std.specs.Prelude.{◌≡◌, ℕ, ◌+◌, ◌<◌, ◌≤◌, ◌≢◌, ◌⊎◌, ◌↔◌, length, IsTrue};
 ghost use Rattle.glob_pattern.specs.Private.Prefixes.{PrefixSplits};
 ghost use Rattle.glob_pattern.specs.Matching.Bits.{IsSet};
-ghost use Rattle.glob_pattern.specs.Private.Positions.{AreShapeMasks, AliveWord, TakenWord};
+ghost use Rattle.glob_pattern.specs.Private.Positions.{AreShapeMasks, AliveWord, AfterAdvance};
 
 use super::Shape;
 
-/// The shapes from one of them on, 64 at most, as bits: bit 0 is of that one.
+/// Neighbouring shapes as bits, 64 at most: bit n is of the nth of them.
 #[derive(Clone, Copy)]
 pub struct ShapeMasks {
-    /// All of them: the bits of the shapes that there are.
+    /// The shapes that there are.
     pub tokens: u64,
     /// Those whose pieces may be of any length.
     pub growing: u64,
-    /// The deep ones that have others after them: a piece of theirs that is not empty ends where the place opens.
+    /// Those of recursive wildcards that other shapes follow: a piece of theirs that is not empty ends where a
+    /// component begins.
     pub bound: u64,
 }
 
@@ -37,9 +37,12 @@ impl ShapeMasks {
     /// These shapes and one more, which has others after it or not.
     fn with(self, bit: usize, shape: Shape, followed: bool) -> Self
         requires { bit < 64 }
-        ensures tokens { (j : ℕ) → IsSet result.tokens j ↔ (IsSet self.tokens j ⊎ (j ≡ bit)) }
-        ensures growing { (j : ℕ) → IsSet result.growing j ↔ (IsSet self.growing j ⊎ ((j ≡ bit) × (shape ≢ Shape.One))) }
-        ensures bound { (j : ℕ) → IsSet result.bound j ↔ (IsSet self.bound j ⊎ ((j ≡ bit) × (shape ≡ Shape.Deep) × IsTrue followed)) }
+        ensures tokens { (j : ℕ)
+            → IsSet result.tokens j ↔ (IsSet self.tokens j ⊎ (j ≡ bit)) }
+        ensures growing { (j : ℕ)
+            → IsSet result.growing j ↔ (IsSet self.growing j ⊎ ((j ≡ bit) × (shape ≢ Shape.One))) }
+        ensures bound { (j : ℕ) → IsSet result.bound j
+            ↔ (IsSet self.bound j ⊎ ((j ≡ bit) × (shape ≡ Shape.Deep) × IsTrue followed)) }
     {
         let mut masks = self;
         masks.tokens = with_bit(self.tokens, bit);
@@ -56,17 +59,16 @@ impl ShapeMasks {
         masks
     }
 
-    /// The positions alive after a character, from the tokens that took it. `opens` says whether the place after it
-    /// opens, and `whole` whether the shapes before the first of these split the characters up to there. The second
-    /// part of the answer says so of the shapes up to the last of 64.
+    /// The positions that are alive after a character, from the tokens that took it. `opens`: a component begins after
+    /// the character. `whole`: the shapes before the first of these split the characters up to there. The second result
+    /// is `whole` for the next 64 shapes.
     #[inline(always)]
     pub fn advance(self, took: u64, opens: bool, whole: bool) -> (u64, bool)
-        ensures alive { (table : Table) (shapes : List Shape) (start k : ℕ) → AreShapeMasks shapes start (length shapes) self
-            → TakenWord table shapes start k took → opens ≡ table.opens k → IsTrue whole ↔ PrefixSplits table shapes start k
-            → AliveWord table shapes start k result.0 }
-        ensures whole { (table : Table) (shapes : List Shape) (start k : ℕ) → AreShapeMasks shapes start (length shapes) self
-            → TakenWord table shapes start k took → opens ≡ table.opens k → IsTrue whole ↔ PrefixSplits table shapes start k
-            → start + 64 ≤ length shapes → IsTrue result.1 ↔ PrefixSplits table shapes (start + 64) k }
+        ensures alive { AfterAdvance self took opens whole
+            (λ table shapes start k. AliveWord table shapes start k result.0) }
+        ensures whole { AfterAdvance self took opens whole
+            (λ table shapes start k. start + 64 ≤ length shapes
+            → IsTrue result.1 ↔ PrefixSplits table shapes (start + 64) k) }
     {
         let ending = self.ending(took, opens);
         let begun = (ending << 1) | u64::from(whole);
@@ -78,13 +80,14 @@ impl ShapeMasks {
     /// Of the tokens that took a character, those whose pieces may end after it.
     #[inline(always)]
     fn ending(self, took: u64, opens: bool) -> u64
-        ensures { (j : ℕ) → j < 64 → IsSet result j ↔ (IsSet took j × (IsTrue opens ⊎ ¬ (IsSet self.bound j))) }
+        ensures { (j : ℕ) → j < 64
+            → IsSet result j ↔ (IsSet took j × (IsTrue opens ⊎ ¬ (IsSet self.bound j))) }
     {
         if opens { took } else { took & !self.bound }
     }
 }
 
-/// The word with one bit more.
+/// The word with one more bit set.
 fn with_bit(word: u64, bit: usize) -> u64
     requires { bit < 64 }
     ensures { (j : ℕ) → IsSet result j ↔ (IsSet word j ⊎ (j ≡ bit)) }

@@ -1,4 +1,4 @@
-//! Texts as patterns of their own.
+//! Texts escaped, as patterns that match themselves.
 ghost use Rattle.std.specs.Prelude.{◌≡◌, ◌<◌, ◌++◌, length, IsTrue, IfNone, IfSome, IfOk, chars, string_bytes, position, count_by};
 ghost use Rattle.glob_pattern.specs.Escaping.{is_special, escaped_character, escaped_text};
 
@@ -6,10 +6,11 @@ use crate::pattern::Pattern;
 use std::alloc::{AllocError, Allocator};
 
 impl<A: Allocator> Pattern<A> {
-    /// The pattern that stands for a text alone: each `?`, `*`, `[` and `]` in a bracket of its own, and every other
-    /// character as it is. It fails only for want of memory.
+    /// The text as a pattern that matches it: each `?`, `*`, `[` and `]` stands in a bracket of its own, and every
+    /// other character as it is. So `a[1].rs` becomes `a[[]1[]].rs`. Fails only if allocation fails.
     pub fn escape(alloc: A, s: &str) -> Result<String<A>, AllocError>
-        ensures { IfOk result (λ t. chars (string_bytes t) ≡ escaped_text (chars s.now)) }
+        ensures { IfOk result
+            (λ t. chars (string_bytes t) ≡ escaped_text (chars s.now)) }
     {
         let specials = count_special(s);
         if specials == 0 {
@@ -38,7 +39,8 @@ fn count_special(text: &str) -> usize
 /// What stands before the first special character, a bracket for it, and what follows it.
 fn split_at_special(text: &str) -> Option<(&str, &'static str, &str)>
     ensures plain { IfNone result (escaped_text text.now ≡ text.now) }
-    ensures split { IfSome result (λ p. escaped_text text.now ≡ p.0.now ++ (p.1.now ++ escaped_text p.2.now)) }
+    ensures split { IfSome result
+        (λ p. escaped_text text.now ≡ p.0.now ++ (p.1.now ++ escaped_text p.2.now)) }
     ensures shorter { IfSome result (λ p. length p.2.now < length text.now) }
 {
     let place = first_special(text)?;

@@ -13,7 +13,7 @@ use crate::token::taking::{take_left, takes};
 use std::alloc::Allocator;
 use std::str::Chars;
 
-/// Asks of a text what a pattern's tokens take.
+/// A judge of a text's characters and a pattern's tokens.
 #[derive(Drop)]
 pub struct TextJudge<'a, A: Allocator> {
     tokens: &'a [Token<Bracket<A>>],
@@ -21,10 +21,10 @@ pub struct TextJudge<'a, A: Allocator> {
     options: MatchOptions,
     text: &'a str,
     rest: Chars<'a>,
-    // the character last stepped onto, and whether its place opens
+    // the character last stepped onto, and whether a component begins at its place
     current: char,
     opened: bool,
-    // whether the place after it opens
+    // whether a component begins at the place after it
     opens: bool,
     count: u128,
     ghost masked: { AreAllMasks tokens.now masks.now },
@@ -45,7 +45,8 @@ impl<'a, A: Allocator> TextJudge<'a, A> {
         ensures text { result.text.now ≡ text.now }
         ensures options { result.options ≡ options }
         ensures count { result.count ≡ 0 }
-        ensures start { place_before (chars text.now) (chars (chars_rest result.rest)) ≡ 0 }
+        ensures start { place_before (chars text.now) (chars (chars_rest result.rest))
+            ≡ 0 }
     {
         TextJudge {
             tokens,

@@ -65,10 +65,14 @@ impl TokenMasks {
         requires bit { bit < 64 }
         requires clear { IsClear self.old bit }
         ensures characters { (c : ℕ) → c < 128
-            → IsPut (mask_of c self.old) (mask_of c self.new) bit (IsTrue (takes new_options true c token.now)) }
-        ensures any_or_run { IsPut self.old.any_or_run self.new.any_or_run bit (IsTrue (is_any_or_run token.now)) }
-        ensures deep { IsPut self.old.deep self.new.deep bit (IsTrue (is_deep token.now)) }
-        ensures brackets { IsPut self.old.brackets self.new.brackets bit (IsTrue (is_bracket token.now)) }
+            → IsPut (mask_of c self.old) (mask_of c self.new) bit
+            (IsTrue (takes new_options true c token.now)) }
+        ensures any_or_run { IsPut self.old.any_or_run self.new.any_or_run bit
+            (IsTrue (is_any_or_run token.now)) }
+        ensures deep { IsPut self.old.deep self.new.deep bit
+            (IsTrue (is_deep token.now)) }
+        ensures brackets { IsPut self.old.brackets self.new.brackets bit
+            (IsTrue (is_bracket token.now)) }
     {
         match token {
             Token::Plain(c) => paint(&mut self.characters, bit, *c, *c, true),
@@ -92,8 +96,8 @@ impl TokenMasks {
         }
     }
 
-    /// Of the tokens that are asked, those that take the character by the masks, and those that the masks do not decide:
-    /// without case the brackets, and at a character beyond ASCII all but `?`, `*` and `**`.
+    /// Of the tokens that are asked, those that take the character by the masks, and those that the masks do not
+    /// decide: without case the brackets, and at a character beyond ASCII all but `?`, `*` and `**`.
     #[inline(always)]
     pub fn take_known(
         &self,
@@ -103,11 +107,15 @@ impl TokenMasks {
         c: char,
     ) -> (u64, u64)
         ensures left { (j : ℕ) → IsSet result.1 j → IsSet asked j }
-        ensures taken { (tokens : List Kept) (start : ℕ) → AreMasks tokens start (length tokens) self.now
-            → (j : ℕ) → j < 64 → IsSet result.0 j → IsSet asked j × TakesBit options opening c tokens start j }
-        ensures all { (tokens : List Kept) (start : ℕ) → AreMasks tokens start (length tokens) self.now
+        ensures taken { (tokens : List Kept) (start : ℕ)
+            → AreMasks tokens start (length tokens) self.now
+            → (j : ℕ) → j < 64 → IsSet result.0 j
+            → IsSet asked j × TakesBit options opening c tokens start j }
+        ensures all { (tokens : List Kept) (start : ℕ)
+            → AreMasks tokens start (length tokens) self.now
             → (j : ℕ) → j < 64 → start + j < length tokens
-            → IsSet asked j → TakesBit options opening c tokens start j → IsSet result.0 j ⊎ IsSet result.1 j }
+            → IsSet asked j → TakesBit options opening c tokens start j
+            → IsSet result.0 j ⊎ IsSet result.1 j }
     {
         if !c.is_ascii() {
             let wild = self.any_or_run | self.deep;
@@ -125,9 +133,11 @@ impl TokenMasks {
     /// The tokens that may not take the character, by a rule.
     #[inline(always)]
     fn excluded(&self, options: MatchOptions, opening: bool, c: char) -> u64
-        ensures { (tokens : List Kept) (start : ℕ) → AreMasks tokens start (length tokens) self.now
+        ensures { (tokens : List Kept) (start : ℕ)
+            → AreMasks tokens start (length tokens) self.now
             → (j : ℕ) → j < 64 → start + j < length tokens
-            → IsSet result j ↔ IsTrue (is_excluded options opening c (slice_index_or tokens (start + j) Any)) }
+            → IsSet result j
+            ↔ IsTrue (is_excluded options opening c (slice_index_or tokens (start + j) Any)) }
     {
         let wild = self.any_or_run | self.brackets;
         if is_excluded_dot(options, opening, c) {
@@ -140,12 +150,15 @@ impl TokenMasks {
     }
 }
 
-/// Sets the bit to `on` in the masks of the characters that an entry holds, with case. In the others it is the other way.
+/// Sets the bit to `on` in the masks of the characters that an entry holds, with case. In the others it is the other
+/// way.
 fn paint_entries(characters: &mut [u64; 128], bit: usize, entries: &[Entry], on: bool)
     requires bit { bit < 64 }
-    requires before { (c : ℕ) → c < 128 → IsSet (slice_index_or characters.old c 0) bit ↔ (on ≡ false) }
+    requires before { (c : ℕ) → c < 128
+        → IsSet (slice_index_or characters.old c 0) bit ↔ (on ≡ false) }
     ensures { (c : ℕ) → c < 128
-        → IsPut (slice_index_or characters.old c 0) (slice_index_or characters.new c 0) bit (holds true c entries.now ≡ on) }
+        → IsPut (slice_index_or characters.old c 0) (slice_index_or characters.new c 0) bit
+        (holds true c entries.now ≡ on) }
 {
     for n in 0..entries.len() {
         let (low, high) = entries[n].ends();
@@ -157,7 +170,8 @@ fn paint_entries(characters: &mut [u64; 128], bit: usize, entries: &[Entry], on:
 fn paint(characters: &mut [u64; 128], bit: usize, low: char, high: char, on: bool)
     requires { bit < 64 }
     ensures painted { (c : ℕ) → low ≤ c → c ≤ high → c < 128
-        → IsPut (slice_index_or characters.old c 0) (slice_index_or characters.new c 0) bit (IsTrue on) }
+        → IsPut (slice_index_or characters.old c 0) (slice_index_or characters.new c 0) bit
+        (IsTrue on) }
     ensures others { (c : ℕ) → c < 128 → (low ≤ c → c ≤ high → ⊥)
         → slice_index_or characters.new c 0 ≡ slice_index_or characters.old c 0 }
 {

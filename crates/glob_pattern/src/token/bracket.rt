@@ -16,7 +16,8 @@ pub enum Entry {
 impl Entry {
     /// The first and the last character that the entry holds with case.
     pub fn ends(self) -> (char, char)
-        ensures { (c : ℕ) → entry_holds true c self ≡ in_range result.0 result.1 c }
+        ensures { (c : ℕ)
+            → entry_holds true c self ≡ in_range result.0 result.1 c }
     {
         match self {
             Entry::Single(x) => (x, x),
@@ -53,7 +54,7 @@ impl<A: Allocator> Model for Bracket<A> {
 }
 
 impl<A: Allocator> Bracket<A> {
-    /// The entries of a bracket's content. It fails only for want of memory.
+    /// The entries of a bracket's content. Fails only if allocation fails.
     pub fn read(alloc: A, content: &[char]) -> Result<Self, AllocError>
         ensures { IfOk result (λ bracket. bracket ≡ entries_of content.now) }
     {
@@ -90,7 +91,7 @@ impl<A: Allocator> Bracket<A> {
     }
 }
 
-/// A copy of the entries on the same allocator. It fails only for want of memory.
+/// A copy of the entries on the same allocator. Fails only if allocation fails.
 impl<A: Allocator + Copy> Clone for Bracket<A> {
     ghost is_clone = { λ bracket copy. copy ≡ bracket };
 
@@ -100,7 +101,8 @@ impl<A: Allocator + Copy> Clone for Bracket<A> {
     }
 }
 
-/// Whether `c` and `x` are the same character. Without case, two of ASCII are the same where their small letters are.
+/// Whether `c` and `x` are the same character. Without case, two of ASCII are also the same if their lowercase forms
+/// are.
 pub fn is_same(case_sensitive: bool, c: char, x: char) -> bool
     ensures { result ≡ same case_sensitive c x }
 {
@@ -111,7 +113,8 @@ pub fn is_same(case_sensitive: bool, c: char, x: char) -> bool
             && c.to_ascii_lowercase() == x.to_ascii_lowercase())
 }
 
-/// Whether the range from `x` to `y` holds the small letter of `c`, where the three are of ASCII and both ends letters.
+/// Whether `c` is in the range from `x` to `y` once all are in lowercase. The three are of ASCII, and both ends
+/// letters.
 fn is_in_folded_range(x: char, y: char, c: char) -> bool
     ensures { result ≡ in_folded_range x y c }
 {

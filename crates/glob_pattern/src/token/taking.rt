@@ -1,14 +1,14 @@
 ghost use Rattle.std.specs.Prelude.{◌≡◌, ℕ, ◌+◌, ◌*◌, ◌^◌, ◌<◌, ◌≤◌, ◌↔◌, length, slice_index_or, IsTrue};
 ghost use Rattle.glob_pattern.specs.Matching.Taking as taking;
 ghost use Rattle.glob_pattern.specs.Matching.Bits.{IsSet};
-ghost use Rattle.glob_pattern.specs.declared.token.Token.TheVariants.{Any};
+ghost use Rattle.glob_pattern.specs.Private.Masks.{TakesBit};
 
 use crate::options::MatchOptions;
 use crate::token::Token;
 use crate::token::bracket::{self, Bracket};
 use std::alloc::Allocator;
 
-/// Whether the token takes the character, at a place that opens or not.
+/// Whether the token takes the character. `opening`: a component begins at its place.
 pub fn takes<A: Allocator>(
     token: &Token<Bracket<A>>,
     options: MatchOptions,
@@ -30,14 +30,14 @@ pub fn takes<A: Allocator>(
     }
 }
 
-/// Whether neither rule keeps the character from wildcards.
+/// Whether no rule excludes the character from wildcards.
 fn is_free(options: MatchOptions, opening: bool, c: char) -> bool
     ensures { result ≡ taking.is_free options opening c }
 {
     !(options.require_literal_separator && c == '/') && !is_excluded_dot(options, opening, c)
 }
 
-/// Whether the dot rule keeps the character from wildcards.
+/// Whether the dot rule excludes the character from wildcards: it is a leading dot at a component start.
 #[inline(always)]
 pub fn is_excluded_dot(options: MatchOptions, opening: bool, c: char) -> bool
     ensures { result ≡ taking.is_excluded_dot options opening c }
@@ -57,9 +57,10 @@ pub fn take_left<A: Allocator>(
     c: char,
 ) -> u64
     requires within { 64 * word + 64 ≤ 2 ^ 64 }
-    requires tokens { (j : ℕ) → IsSet asked j → 64 * word + j < length tokens.now }
+    requires tokens { (j : ℕ)
+        → IsSet asked j → 64 * word + j < length tokens.now }
     ensures { (j : ℕ) → j < 64
-        → IsSet result j ↔ (IsSet asked j × IsTrue (taking.takes options opening c (slice_index_or tokens.now (64 * word + j) Any))) }
+        → IsSet result j ↔ (IsSet asked j × TakesBit options opening c tokens.now (64 * word) j) }
 {
     let mut left = asked;
     let mut took = 0u64;
