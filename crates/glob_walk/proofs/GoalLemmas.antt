@@ -1,4 +1,5 @@
 pub mod Characters
+pub mod Clauses
 pub mod Finds
 pub mod FoundInOrder
 pub mod FoundIsTaken
