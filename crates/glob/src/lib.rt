@@ -21,9 +21,11 @@
 //! A call that makes or grows something takes its allocator, and reports an allocation failure as an error.
 #![tactic(auto)]
 
+pub mod laws;
+
 pub use glob_lines::{LineFault, Watch, filter_lines};
 pub use glob_pattern::{
-    Judge, MatchOptions, Pattern, PatternError, PatternRefusal, Shape, laws, run_positions,
+    Judge, MatchOptions, Pattern, PatternError, PatternRefusal, Shape, run_positions,
 };
 pub use glob_tree::{Asks, Entry, ListError, Look, MemTree, Name, Tree, TreeRefusal};
 pub use glob_walk::{GlobCause, GlobError, GlobResult};

@@ -1,7 +1,9 @@
 pub mod Characters
+pub mod Clauses
 pub mod Finds
 pub mod FoundInOrder
 pub mod FoundIsTaken
+pub mod FoundParts
 pub mod GoalNames
 pub mod ItemsFound
 pub mod KeysBelow

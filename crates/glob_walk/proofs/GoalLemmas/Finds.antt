@@ -71,6 +71,23 @@ module _ (c : Content) (o : MatchOptions) (directories : Bool) where
     meet_names [] k name d = if is_entered o name d then Hit [] ∷ [] else []
     meet_names (t ∷ ts) k name d = if matches_name o t name then enter_names ts k d else []
 
+module _ (c : Content) (o : MatchOptions) (directories : Bool) where
+  -- what is found at the name below k, if something stands there
+  abbrev pub at_name : Text → List Text → Key → List Find
+  at_name t ts k = found_names (kind_at c (k ++ t ∷ [])) (λ d. enter_names c o directories ts (k ++ t ∷ []) d)
+
+  -- what is found at an entry of k, if the component matches its name
+  abbrev pub at_entry : Text → List Text → Key → DirEntry → List Find
+  at_entry t ts k e = if matches_name o t e.0 then enter_names c o directories ts (k ++ e.0 ∷ []) e.1 else []
+
+  -- what a run of `**` finds past an entry of k, n levels down
+  abbrev pub past_entry : List Text → ℕ → Key → DirEntry → List Find
+  past_entry ts n k e = if is_entered o e.0 e.1 then descent_names c o (meet_names c o directories ts) n (k ++ e.0 ∷ []) else []
+
+  -- what a run of `**` finds at an entry of k: it is met, and then entered
+  abbrev pub run_entry : List Text → ℕ → Key → DirEntry → List Find
+  run_entry ts n k e = meet_names c o directories ts (k ++ e.0 ∷ []) e.0 e.1 ++ past_entry ts n k e
+
 -- what a walk after the pattern finds, as names past its start
 abbrev pub finds : Content → MatchOptions → (pattern : Text) → List Find
 finds c o pattern = enter_names c o (wants_directories pattern) (components pattern) (start_key c pattern) true

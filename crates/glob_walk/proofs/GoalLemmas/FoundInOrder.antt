@@ -17,9 +17,9 @@ use Rattle.glob_tree.specs.declared.tree.Kind.TheVariants.{Dir, Shut, Other}
 use Rattle.glob_tree.proofs.ContentLemmas.Membership.{Contains-head, Contains-tail, Contains-nil}
 use Rattle.glob_tree.proofs.ContentLemmas.Contents.{IsContent}
 use Rattle.glob_tree.proofs.ContentLemmas.Sorting.{IsRising, IsRising-sorted_entries, children_apart}
-use Rattle.glob_walk.proofs.GoalLemmas.Finds.{Find, Hit, Miss, deepen, below, list_kind, list_names, found_names, descent_names, enter_names, meet_names}
+use Rattle.glob_walk.proofs.GoalLemmas.Finds.{at_entry, at_name, past_entry, run_entry, Find, Hit, Miss, deepen, below, list_kind, list_names, found_names, descent_names, enter_names, meet_names}
 use Rattle.glob_walk.proofs.GoalLemmas.ListingFinds.{kind-Recursive, names-literal, names-wild, names-wild_none, names-run, names-recursive_none, names-levels}
-use Rattle.glob_walk.proofs.GoalLemmas.FoundIsTaken.{Contains-flat_map, hit-below, hit-cond, hit-one, hit-listed}
+use Rattle.glob_walk.proofs.GoalLemmas.FoundParts.{Contains-flat_map, hit-below, hit-cond, hit-one, hit-listed}
 
 -- each element against those after it
 abbrev pub Pairs : {X : Type 0} → (X → X → Type 0) → List X → Type 0
@@ -57,13 +57,13 @@ module _ (c : Content) (o : MatchOptions) (directories : Bool) where
       by_wild : component_kind t ≡ Wild → (b : Bool) → Contains (enter_names c o directories (t ∷ ts) k b) (Hit names) → length names ≡ length (t ∷ ts)
       by_wild kind false g = absurd (Contains-nil (Hit names) (subst (λ fs. Contains fs (Hit names)) (names-wild_none c o directories t ts k kind) g))
       by_wild kind true g =
-          let (e, child', in') = hit-listed c k (λ e. below e.0 (cond (matches_name o t e.0) (enter_names c o directories ts (k ++ e.0 ∷ []) e.1) [])) names (subst (λ fs. Contains fs (Hit names)) (names-wild c o directories t ts k kind) g) in
-          let (ns, same, gives) = hit-below e.0 (cond (matches_name o t e.0) (enter_names c o directories ts (k ++ e.0 ∷ []) e.1) []) names in' in
+          let (e, child', in') = hit-listed c k (λ e. below e.0 (at_entry c o directories t ts k e)) names (subst (λ fs. Contains fs (Hit names)) (names-wild c o directories t ts k kind) g) in
+          let (ns, same, gives) = hit-below e.0 (at_entry c o directories t ts k e) names in' in
           longer e.0 ns same (next (k ++ e.0 ∷ []) e.1 ns (hit-cond (matches_name o t e.0) (enter_names c o directories ts (k ++ e.0 ∷ []) e.1) (Hit ns) gives).1)
 
       by_kind : (kind : ComponentKind) → component_kind t ≡ kind → length names ≡ length (t ∷ ts)
       by_kind Literal kind =
-          let (ns, same, in') = hit-below t (found_names (kind_at c (k ++ t ∷ [])) (λ x. enter_names c o directories ts (k ++ t ∷ []) x)) names (subst (λ fs. Contains fs (Hit names)) (names-literal c o directories t ts k d kind) h) in
+          let (ns, same, in') = hit-below t (at_name c o directories t ts k) names (subst (λ fs. Contains fs (Hit names)) (names-literal c o directories t ts k d kind) h) in
           longer t ns same (by_found ns (kind_at c (k ++ t ∷ [])) in')
       by_kind Recursive kind = absurd (both_ways (is_recursive t) (no_run-cons t ts plain).0 (kind-Recursive t kind))
       by_kind Wild kind = by_wild kind d h
@@ -138,13 +138,13 @@ module _ (c : Content) (w : IsContent c) (R : Key → Key → Type 0) (order : I
     unfolding descent_names
     length-descent ts plain zero k names h = absurd (Contains-nil (Hit names) h)
     length-descent ts plain (suc n) k names h =
-        let (e, child', in') = hit-listed c k (λ e. below e.0 (meet_names c o directories ts (k ++ e.0 ∷ []) e.0 e.1 ++ (cond (is_entered o e.0 e.1) (descent_names c o (meet_names c o directories ts) n (k ++ e.0 ∷ [])) []))) names h in
-        let (ns, same, gives) = hit-below e.0 (meet_names c o directories ts (k ++ e.0 ∷ []) e.0 e.1 ++ (cond (is_entered o e.0 e.1) (descent_names c o (meet_names c o directories ts) n (k ++ e.0 ∷ [])) [])) names in' in
+        let (e, child', in') = hit-listed c k (λ e. below e.0 (run_entry c o directories ts n k e)) names h in
+        let (ns, same, gives) = hit-below e.0 (run_entry c o directories ts n k e) names in' in
         let l : length names ≡ suc (length ns) = ap length same in
         ⊎_elim
         (λ here. let m = length-meet ts plain (k ++ e.0 ∷ []) e.0 e.1 ns here in omega arith)
         (λ later. let m = length-descent ts plain n (k ++ e.0 ∷ []) ns (hit-cond (is_entered o e.0 e.1) (descent_names c o (meet_names c o directories ts) n (k ++ e.0 ∷ [])) (Hit ns) later).1 in omega arith)
-        (Contains-append_cases (meet_names c o directories ts (k ++ e.0 ∷ []) e.0 e.1) (cond (is_entered o e.0 e.1) (descent_names c o (meet_names c o directories ts) n (k ++ e.0 ∷ [])) []) (Hit ns) gives)
+        (Contains-append_cases (meet_names c o directories ts (k ++ e.0 ∷ []) e.0 e.1) (past_entry c o directories ts n k e) (Hit ns) gives)
 
     abbrev Ordered : List Text → Type 0
     Ordered ts = (k : Key) (d : Bool) → Pairs (OfHits R) (enter_names c o directories ts k d)
@@ -156,7 +156,7 @@ module _ (c : Content) (w : IsContent c) (R : Key → Key → Type 0) (order : I
     pairs-literal : (t : Text) (ts : List Text) → component_kind t ≡ Literal → Ordered ts → Ordered (t ∷ ts)
     pairs-literal t ts kind next k d =
         subst (Pairs (OfHits R)) (sym (names-literal c o directories t ts k d kind))
-        (Pairs-below t (found_names (kind_at c (k ++ t ∷ [])) (λ e. enter_names c o directories ts (k ++ t ∷ []) e)) (by_kind (kind_at c (k ++ t ∷ []))))
+        (Pairs-below t (at_name c o directories t ts k) (by_kind (kind_at c (k ++ t ∷ []))))
       where
         by_kind : (found : Option Kind) → Pairs (OfHits R) (found_names found (λ e. enter_names c o directories ts (k ++ t ∷ []) e))
         by_kind None = tt
@@ -166,7 +166,7 @@ module _ (c : Content) (w : IsContent c) (R : Key → Key → Type 0) (order : I
     pairs-wild t ts kind next k false = subst (Pairs (OfHits R)) (sym (names-wild_none c o directories t ts k kind)) tt
     pairs-wild t ts kind next k true =
         subst (Pairs (OfHits R)) (sym (names-wild c o directories t ts k kind))
-        (Pairs-listed k (λ e. cond (matches_name o t e.0) (enter_names c o directories ts (k ++ e.0 ∷ []) e.1) [])
+        (Pairs-listed k (λ e. at_entry c o directories t ts k e)
         (λ e. Pairs-cond (matches_name o t e.0) (enter_names c o directories ts (k ++ e.0 ∷ []) e.1) (next (k ++ e.0 ∷ []) e.1)))
 
     pairs-met : (ts : List Text) → ((u : Text) (us : List Text) → ts ≡ u ∷ us → Ordered us) → (k : Key) (name : Text) (d : Bool) → Pairs (OfHits R) (meet_names c o directories ts k name d)
@@ -179,7 +179,7 @@ module _ (c : Content) (w : IsContent c) (R : Key → Key → Type 0) (order : I
     unfolding descent_names
     pairs-descent ts plain shorter met zero k = tt
     pairs-descent ts plain shorter met (suc n) k = Pairs-listed k
-        (λ e. meet_names c o directories ts (k ++ e.0 ∷ []) e.0 e.1 ++ (cond (is_entered o e.0 e.1) (descent_names c o (meet_names c o directories ts) n (k ++ e.0 ∷ [])) []))
+        (λ e. run_entry c o directories ts n k e)
         (λ e.
         let here : List Find = meet_names c o directories ts (k ++ e.0 ∷ []) e.0 e.1 in
         let deep : List Find = descent_names c o (meet_names c o directories ts) n (k ++ e.0 ∷ []) in

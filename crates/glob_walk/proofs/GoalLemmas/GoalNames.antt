@@ -18,7 +18,7 @@ use Rattle.glob_pattern.specs.declared.options.MatchOptions.{MatchOptions}
 use Rattle.glob_walk.proofs.GoalLemmas.KeysBelow.{names_at}
 use Rattle.glob_walk.proofs.GoalLemmas.NamedPaths.{AreNames-from, AllUtf8-from, flat-from}
 use Rattle.glob_walk.proofs.GoalLemmas.TakenNames.{takes, run-nil, takes-one_none}
-use Rattle.glob_walk.proofs.GoalLemmas.FoundIsTaken.{IsHit}
+use Rattle.glob_walk.proofs.GoalLemmas.FoundIsTaken.{IsTakenAt}
 use Rattle.glob_walk.proofs.GoalLemmas.Undivided.{undivided_takes}
 
 -- the pattern matches the text of names where its components take them
@@ -39,7 +39,7 @@ takes_some o pattern h = no_names (components pattern) (omega (arith, length-sli
 
 -- the names are those of a key below the start that the components take, and its kind is wanted
 abbrev pub IsTaken : Content → MatchOptions → (pattern : Text) → Key → Type 0
-IsTaken c o pattern names = IsHit c o (wants_directories pattern) (components pattern) (start_key c pattern) names
+IsTaken c o pattern names = IsTakenAt c o (wants_directories pattern) (components pattern) (start_key c pattern) names
 
 -- the text is that of such names
 pub record IsGoal (c : Content) (o : MatchOptions) (pattern text : Text) : Type 0 where

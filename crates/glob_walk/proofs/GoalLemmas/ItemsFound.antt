@@ -23,30 +23,9 @@ use Rattle.glob_walk.proofs.GoalLemmas.KeysBelow.{Here}
 use Rattle.glob_walk.proofs.GoalLemmas.NamedPaths.{LeadsTo-start}
 use Rattle.glob_walk.proofs.GoalLemmas.Finds.{Find, Hit, Miss, item_under, under, finds}
 use Rattle.glob_walk.proofs.GoalLemmas.ListingFinds.{same_enter}
-use Rattle.glob_walk.proofs.GoalLemmas.FoundIsTaken.{sound_hits}
-use Rattle.glob_walk.proofs.GoalLemmas.TakenIsFound.{Gives, whole_hits}
+use Rattle.glob_walk.proofs.GoalLemmas.FoundIsTaken.{hits_are_taken}
+use Rattle.glob_walk.proofs.GoalLemmas.TakenIsFound.{FoundOrCovered, taken_are_found}
 use Rattle.glob_walk.proofs.GoalLemmas.GoalNames.{IsTaken}
-
--- a path among the items of what is found is that of a hit
-pub hit_of_path : (path : Text) (fs : List Find) (text : Text) → Contains (paths (map (item_under path) fs)) text → (names : Key) × (text ≡ under path names) × Contains fs (Hit names)
-hit_of_path path [] text h = absurd (Contains-nil text h)
-hit_of_path path (Hit ns ∷ fs) text h = ⊎_elim
-    (λ same. (ns, sym same, Contains-head (Hit ns) fs))
-    (λ later. let (names, e, in') = hit_of_path path fs text later in (names, e, Contains-tail (Hit ns) fs (Hit names) in'))
-    (Contains-cases (under path ns) (paths (map (item_under path) fs)) text h)
-hit_of_path path (Miss ns kind ∷ fs) text h =
-    let (names, e, in') = hit_of_path path fs text h in (names, e, Contains-tail (Miss ns kind) fs (Hit names) in')
-
-pub path_of_hit : (path : Text) (fs : List Find) (names : Key) → Contains fs (Hit names) → Contains (paths (map (item_under path) fs)) (under path names)
-path_of_hit path [] names h = absurd (Contains-nil (Hit names) h)
-path_of_hit path (f ∷ fs) names h = ⊎_elim (first f) (λ later. rest f (path_of_hit path fs names later)) (Contains-cases f fs (Hit names) h)
-  where
-    first : (g : Find) → g ≡ Hit names → Contains (paths (map (item_under path) (g ∷ fs))) (under path names)
-    first g e = subst (λ x. Contains (paths (map (item_under path) (x ∷ fs))) (under path names)) (sym e) (Contains-head (under path names) (paths (map (item_under path) fs)))
-
-    rest : (g : Find) → Contains (paths (map (item_under path) fs)) (under path names) → Contains (paths (map (item_under path) (g ∷ fs))) (under path names)
-    rest (Hit ns) in' = Contains-tail (under path ns) (paths (map (item_under path) fs)) (under path names) in'
-    rest (Miss ns kind) in' = in'
 
 module _ (c : Content) (o : MatchOptions) (pattern : Text) (p : IsPlainWalk c o pattern) where
   w : IsContent c
@@ -78,8 +57,8 @@ module _ (c : Content) (o : MatchOptions) (pattern : Text) (p : IsPlainWalk c o 
 
   -- each hit is of a key that the components take
   pub found_is_taken : (names : Key) → Contains (finds c o pattern) (Hit names) → IsTaken c o pattern names
-  found_is_taken = sound_hits c w o (wants_directories pattern) (own_name o p.case) (components pattern) utf8-components (start_key c pattern) true here
+  found_is_taken = hits_are_taken c w o (wants_directories pattern) (own_name o p.case) (components pattern) utf8-components (start_key c pattern) true here
 
   -- each key that the components take is a hit, or lies below one that cannot be listed
-  pub taken_is_found : (names : Key) → IsTaken c o pattern names → Gives c (finds c o pattern) (start_key c pattern) names
-  taken_is_found = whole_hits c w o (wants_directories pattern) (own_only o p.case) (components pattern) utf8-components (start_key c pattern) true here
+  pub taken_is_found : (names : Key) → IsTaken c o pattern names → FoundOrCovered c (finds c o pattern) (start_key c pattern) names
+  taken_is_found = taken_are_found c w o (wants_directories pattern) (own_only o p.case) (components pattern) utf8-components (start_key c pattern) true here

@@ -29,7 +29,7 @@ use Rattle.glob_tree.proofs.ContentLemmas.Sorting.{Contains-sorted_entries}
 use Rattle.glob_walk.proofs.ListingLemmas.Marks.{items-append, items-replicate}
 use Rattle.glob_walk.proofs.ListingLemmas.Descending.{enter-literal, enter-wild, enter_none, enter-run, enter-recursive_none, enter-levels, is_entered-directory}
 use Rattle.glob_walk.proofs.GoalLemmas.KeysBelow.{held_above}
-use Rattle.glob_walk.proofs.GoalLemmas.Finds.{Find, Hit, Miss, deepen, item_under, below, list_kind, list_names, found_names, descent_names, enter_names, meet_names}
+use Rattle.glob_walk.proofs.GoalLemmas.Finds.{at_entry, at_name, Find, Hit, Miss, deepen, item_under, below, list_kind, list_names, found_names, descent_names, enter_names, meet_names}
 
 -- the paths that marks give
 abbrev pub given : List Mark → List Item
@@ -111,12 +111,12 @@ given-descent c w o each names same (suc n) path k at = given-listed c path k at
 
 module _ (c : Content) (o : MatchOptions) (directories : Bool) where
   pub names-literal : (t : Text) (ts : List Text) (k : Key) (d : Bool) → component_kind t ≡ Literal
-      → enter_names c o directories (t ∷ ts) k d ≡ below t (found_names (kind_at c (k ++ t ∷ [])) (λ e. enter_names c o directories ts (k ++ t ∷ []) e))
+      → enter_names c o directories (t ∷ ts) k d ≡ below t (at_name c o directories t ts k)
   unfolding enter_names
   names-literal t ts k d kind = rw (kind, enter_names) refl
 
   pub names-wild : (t : Text) (ts : List Text) (k : Key) → component_kind t ≡ Wild
-      → enter_names c o directories (t ∷ ts) k true ≡ list_names c k (λ e. below e.0 (cond (matches_name o t e.0) (enter_names c o directories ts (k ++ e.0 ∷ []) e.1) []))
+      → enter_names c o directories (t ∷ ts) k true ≡ list_names c k (λ e. below e.0 (at_entry c o directories t ts k e))
   unfolding enter_names
   names-wild t ts k kind = rw (kind, enter_names) refl
 
@@ -253,7 +253,7 @@ module _ (c : Content) (w : IsContent c) (o : MatchOptions) (directories : Bool)
       ∙ ap (map (item_under path)) (sym (names-literal c o directories t ts k d kind))
     where
       by_kind : (found : Option Kind) → kind_at c (k ++ t ∷ []) ≡ found
-          → given (by_name c (enter c o directories ts) t path d) ≡ map (item_under path) (below t (found_names (kind_at c (k ++ t ∷ [])) (λ e. enter_names c o directories ts (k ++ t ∷ []) e)))
+          → given (by_name c (enter c o directories ts) t path d) ≡ map (item_under path) (below t (at_name c o directories t ts k))
       by_kind None e = rw (is.special, look_result-own c path k t w is at.resolved, e) refl
       by_kind (Some kind) e = rw (is.special, look_result-own c path k t w is at.resolved, e, look_of-there kind, look_of-directory kind)
           (next (child path t) (k ++ t ∷ []) (is_dir kind) (record { resolved = resolve-own c path k t kind w is at.resolved e; is = is_dir_at-kind c (k ++ t ∷ []) kind e })
@@ -266,11 +266,11 @@ module _ (c : Content) (w : IsContent c) (o : MatchOptions) (directories : Bool)
       ∙ ap (λ before. given (list_directory c path before (λ name d. match_at o (enter c o directories ts) t (child path name) name d))) (no_specials c o (enter c o directories ts) t path plain (kind-Wild t kind).0)
       ∙ given-listed c path k (record { resolved = at.resolved; directory = at.is })
       (λ name d. match_at o (enter c o directories ts) t (child path name) name d)
-      (λ e. below e.0 (cond (matches_name o t e.0) (enter_names c o directories ts (k ++ e.0 ∷ []) e.1) []))
+      (λ e. below e.0 (at_entry c o directories t ts k e))
       (λ e in'.
       given-cond (matches_name o t e.0) (child path e.0) (enter c o directories ts (child path e.0) e.1) (enter_names c o directories ts (k ++ e.0 ∷ []) e.1)
       (λ m. next (child path e.0) (k ++ e.0 ∷ []) e.1 (Leads-entry c w path k (record { resolved = at.resolved; directory = at.is }) e in'))
-      ∙ sym (under-below path e.0 (cond (matches_name o t e.0) (enter_names c o directories ts (k ++ e.0 ∷ []) e.1) [])))
+      ∙ sym (under-below path e.0 (at_entry c o directories t ts k e)))
       ∙ ap (map (item_under path)) (sym (names-wild c o directories t ts k kind))
 
   same-recursive : (t : Text) (ts : List Text) → component_kind t ≡ Recursive → begins_recursive ts ≡ false → SameMet c (meet c o directories ts) (meet_names c o directories ts) → Same c (enter c o directories (t ∷ ts)) (enter_names c o directories (t ∷ ts))

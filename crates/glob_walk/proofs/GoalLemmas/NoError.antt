@@ -16,32 +16,11 @@ use Rattle.glob_tree.specs.declared.tree.Kind.{Kind}
 use Rattle.glob_tree.specs.declared.tree.Kind.TheVariants.{Dir, Shut, Other}
 use Rattle.glob_tree.proofs.ContentLemmas.Membership.{Contains-tail, Contains-cases, Contains-nil, list_all-contains}
 use Rattle.glob_tree.proofs.ContentLemmas.Contents.{IsContent, IsContent-from_test, contains_kind_at, names_past-append}
-use Rattle.glob_walk.proofs.GoalLemmas.Finds.{finds, Find, Hit, Miss, deepen, item_under, below, list_kind, list_names, found_names, descent_names, enter_names, meet_names}
+use Rattle.glob_walk.proofs.GoalLemmas.Finds.{at_entry, at_name, past_entry, run_entry, finds, Find, Hit, Miss, deepen, item_under, below, list_kind, list_names, found_names, descent_names, enter_names, meet_names}
 use Rattle.glob_walk.proofs.GoalLemmas.ListingFinds.{names-literal, names-wild, names-wild_none, names-run, names-recursive_none, names-levels}
-use Rattle.glob_walk.proofs.GoalLemmas.FoundIsTaken.{Contains-flat_map}
+use Rattle.glob_walk.proofs.GoalLemmas.FoundParts.{Contains-flat_map}
+use Rattle.glob_walk.proofs.GoalLemmas.FoundParts.{hit-cond, miss-below, no_miss, miss_of_error}
 use Rattle.glob_walk.proofs.GoalLemmas.ItemsFound.{items-finds}
-
-miss-below : (n : Text) (fs : List Find) (names : Key) (kind : ErrorKind) → Contains (below n fs) (Miss names kind) → (ns : Key) × (names ≡ n ∷ ns) × Contains fs (Miss ns kind)
-miss-below n [] names kind h = absurd (Contains-nil (Miss names kind) h)
-miss-below n (f ∷ fs) names kind h = ⊎_elim (first f) (λ later. let (ns, e, in') = miss-below n fs names kind later in (ns, e, Contains-tail f fs (Miss ns kind) in')) (Contains-cases (deepen n f) (below n fs) (Miss names kind) h)
-  where
-    first : (g : Find) → deepen n g ≡ Miss names kind → (ns : Key) × (names ≡ n ∷ ns) × Contains (g ∷ fs) (Miss ns kind)
-    first (Hit ns) same = absurd (cc)
-    first (Miss ns other) same =
-        let child_key : names ≡ n ∷ ns = cc in
-        let kinds : other ≡ kind = cc in
-        (ns, child_key, (0, omega arith, ap (Miss ns) kinds))
-
-miss-cond : (b : Bool) (fs : List Find) (x : Find) → Contains (cond b fs []) x → Contains fs x
-miss-cond true fs x h = h
-miss-cond false fs x h = absurd (Contains-nil x h)
-
-no_miss : (b : Bool) (names : Key) (kind : ErrorKind) → Contains (cond b (Hit [] ∷ []) []) (Miss names kind) → ⊥
-no_miss true names kind h = ⊎_elim (λ same. differ same) (λ later. Contains-nil (Miss names kind) later) (Contains-cases (Hit []) [] (Miss names kind) h)
-  where
-    differ : Hit [] ≡ Miss names kind → ⊥
-    differ e = cc
-no_miss false names kind h = Contains-nil (Miss names kind) h
 
 module _ (c : Content) where
   -- a directory that cannot be listed stands at these names past k
@@ -83,26 +62,26 @@ module _ (c : Content) where
 
     miss-met : (t : Text) (ts : List Text) → Entered ts → Met (t ∷ ts)
     unfolding meet_names
-    miss-met t ts next k name d names kind h = next k d names kind (miss-cond (matches_name o t name) (enter_names c o directories ts k d) (Miss names kind) h)
+    miss-met t ts next k name d names kind h = next k d names kind ((hit-cond (matches_name o t name) (enter_names c o directories ts k d) (Miss names kind) h).1)
 
     miss-descent : (ts : List Text) → Met ts → (n : ℕ) (k names : Key) (kind : ErrorKind) → Contains (descent_names c o (meet_names c o directories ts) n k) (Miss names kind) → ShutAt k names kind
     unfolding descent_names
     miss-descent ts met zero k names kind h = absurd (Contains-nil (Miss names kind) h)
     miss-descent ts met (suc n) k names kind h = shut-listed k
-        (λ e. below e.0 (meet_names c o directories ts (k ++ e.0 ∷ []) e.0 e.1 ++ (cond (is_entered o e.0 e.1) (descent_names c o (meet_names c o directories ts) n (k ++ e.0 ∷ [])) []))) names kind
+        (λ e. below e.0 (run_entry c o directories ts n k e)) names kind
         (λ e in'.
         let here : List Find = meet_names c o directories ts (k ++ e.0 ∷ []) e.0 e.1 in
         let deep : List Find = descent_names c o (meet_names c o directories ts) n (k ++ e.0 ∷ []) in
         let (ns, same, gives) = miss-below e.0 (here ++ (cond (is_entered o e.0 e.1) deep [])) names kind in' in
         shut-deeper k e.0 ns names kind same (⊎_elim
         (λ left. met (k ++ e.0 ∷ []) e.0 e.1 ns kind left)
-        (λ right. miss-descent ts met n (k ++ e.0 ∷ []) ns kind (miss-cond (is_entered o e.0 e.1) deep (Miss ns kind) right))
+        (λ right. miss-descent ts met n (k ++ e.0 ∷ []) ns kind ((hit-cond (is_entered o e.0 e.1) deep (Miss ns kind) right).1))
         (Contains-append_cases here (cond (is_entered o e.0 e.1) deep []) (Miss ns kind) gives)))
         h
 
     miss-literal : (t : Text) (ts : List Text) → component_kind t ≡ Literal → Entered ts → Entered (t ∷ ts)
     miss-literal t ts is next k d names kind h =
-        let (ns, same, in') = miss-below t (found_names (kind_at c (k ++ t ∷ [])) (λ x. enter_names c o directories ts (k ++ t ∷ []) x)) names kind (subst (λ fs. Contains fs (Miss names kind)) (names-literal c o directories t ts k d is) h) in
+        let (ns, same, in') = miss-below t (at_name c o directories t ts k) names kind (subst (λ fs. Contains fs (Miss names kind)) (names-literal c o directories t ts k d is) h) in
         shut-deeper k t ns names kind same (by_kind ns (kind_at c (k ++ t ∷ [])) in')
       where
         by_kind : (ns : Key) (found : Option Kind) → Contains (found_names found (λ x. enter_names c o directories ts (k ++ t ∷ []) x)) (Miss ns kind) → ShutAt (k ++ t ∷ []) ns kind
@@ -112,10 +91,10 @@ module _ (c : Content) where
     miss-wild : (t : Text) (ts : List Text) → component_kind t ≡ Wild → Entered ts → Entered (t ∷ ts)
     miss-wild t ts is next k false names kind h = absurd (Contains-nil (Miss names kind) (subst (λ fs. Contains fs (Miss names kind)) (names-wild_none c o directories t ts k is) h))
     miss-wild t ts is next k true names kind h = shut-listed k
-        (λ e. below e.0 (cond (matches_name o t e.0) (enter_names c o directories ts (k ++ e.0 ∷ []) e.1) [])) names kind
+        (λ e. below e.0 (at_entry c o directories t ts k e)) names kind
         (λ e in'.
-        let (ns, same, gives) = miss-below e.0 (cond (matches_name o t e.0) (enter_names c o directories ts (k ++ e.0 ∷ []) e.1) []) names kind in' in
-        shut-deeper k e.0 ns names kind same (next (k ++ e.0 ∷ []) e.1 ns kind (miss-cond (matches_name o t e.0) (enter_names c o directories ts (k ++ e.0 ∷ []) e.1) (Miss ns kind) gives)))
+        let (ns, same, gives) = miss-below e.0 (at_entry c o directories t ts k e) names kind in' in
+        shut-deeper k e.0 ns names kind same (next (k ++ e.0 ∷ []) e.1 ns kind (hit-cond (matches_name o t e.0) (enter_names c o directories ts (k ++ e.0 ∷ []) e.1) (Miss ns kind) gives).1))
         (subst (λ fs. Contains fs (Miss names kind)) (names-wild c o directories t ts k is) h)
 
     miss-recursive : (t : Text) (ts : List Text) → component_kind t ≡ Recursive → Entered ts → Met ts → (b : Bool) → begins_recursive ts ≡ b → Entered (t ∷ ts)
@@ -142,14 +121,6 @@ module _ (c : Content) where
 -- the written listing of a plain walk over a readable content has no error
 pub no_error : (c : Content) (o : MatchOptions) (pattern : Text) → IsPlainWalk c o pattern → is_readable c pattern ≡ true → (path : Text) (kind : ErrorKind) → Contains (items (listing c o pattern)) (Unread path kind) → ⊥
 no_error c o pattern p readable path kind h =
-    let (names, in') = missed (finds c o pattern) (subst (λ is. Contains is (Unread path kind)) (items-finds c o pattern p) h) in
+    let (names, in') = miss_of_error (start pattern) path kind (finds c o pattern) (subst (λ is. Contains is (Unread path kind)) (items-finds c o pattern p) h) in
     readable-none c (IsContent-from_test c p.content) pattern readable names kind
     ((both_missed c o (wants_directories pattern) (components pattern)).0 (start_key c pattern) true names kind in')
-  where
-    missed : (fs : List Find) → Contains (map (item_under (start pattern)) fs) (Unread path kind) → (names : Key) × Contains fs (Miss names kind)
-    missed [] g = absurd (Contains-nil (Unread path kind) g)
-    missed (f ∷ fs) g = ⊎_elim (first f) (λ later. let (names, in') = missed fs later in (names, Contains-tail f fs (Miss names kind) in')) (Contains-cases (item_under (start pattern) f) (map (item_under (start pattern)) fs) (Unread path kind) g)
-      where
-        first : (x : Find) → item_under (start pattern) x ≡ Unread path kind → (names : Key) × Contains (x ∷ fs) (Miss names kind)
-        first (Hit ns) e = absurd (cc)
-        first (Miss ns other) e = let kinds : other ≡ kind = cc in (ns, (0, omega arith, ap (Miss ns) kinds))

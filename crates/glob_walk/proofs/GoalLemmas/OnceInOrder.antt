@@ -26,7 +26,8 @@ use Rattle.glob_walk.proofs.GoalLemmas.Finds.{Find, Hit, Miss, item_under, under
 use Rattle.glob_walk.proofs.GoalLemmas.KeysBelow.{names_at}
 use Rattle.glob_walk.proofs.GoalLemmas.NamedPaths.{AreNames-from, under-start, names_of-below}
 use Rattle.glob_walk.proofs.GoalLemmas.GoalNames.{takes_some, IsTaken}
-use Rattle.glob_walk.proofs.GoalLemmas.ItemsFound.{hit_of_path, items-finds, found_is_taken}
+use Rattle.glob_walk.proofs.GoalLemmas.ItemsFound.{items-finds, found_is_taken}
+use Rattle.glob_walk.proofs.GoalLemmas.FoundParts.{hit_of_path}
 use Rattle.glob_walk.proofs.GoalLemmas.FoundInOrder.{Pairs, OfHits, Shorter, AtRuns, ordered_finds}
 
 -- a text compares as equal with itself

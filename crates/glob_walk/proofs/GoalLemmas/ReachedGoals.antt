@@ -16,10 +16,11 @@ use Rattle.glob_walk.proofs.ListingLemmas.Marks.{paths-append}
 use Rattle.glob_walk.proofs.GoalLemmas.KeysBelow.{names_at}
 use Rattle.glob_walk.proofs.GoalLemmas.NamedPaths.{AreNames-from, under-start, LeadsTo-start, resolve-under}
 use Rattle.glob_walk.proofs.GoalLemmas.Finds.{Miss, item_under, under, finds}
-use Rattle.glob_walk.proofs.GoalLemmas.FoundIsTaken.{map-contains}
+use Rattle.glob_walk.proofs.GoalLemmas.FoundParts.{map-contains}
 use Rattle.glob_walk.proofs.GoalLemmas.TakenIsFound.{IsCovered}
 use Rattle.glob_walk.proofs.GoalLemmas.GoalNames.{takes_some, IsTaken, IsGoal, goal_of_taken, taken_of_goal}
-use Rattle.glob_walk.proofs.GoalLemmas.ItemsFound.{hit_of_path, path_of_hit, items-finds, found_is_taken, taken_is_found}
+use Rattle.glob_walk.proofs.GoalLemmas.ItemsFound.{items-finds, found_is_taken, taken_is_found}
+use Rattle.glob_walk.proofs.GoalLemmas.FoundParts.{hit_of_path, path_of_hit}
 use Rattle.glob_walk.proofs.GoalLemmas.NoError.{no_error}
 
 module _ (c : Content) (o : MatchOptions) (pattern : Text) (p : IsPlainWalk c o pattern) where

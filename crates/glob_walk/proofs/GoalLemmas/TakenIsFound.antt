@@ -20,9 +20,10 @@ use Rattle.glob_tree.proofs.ContentLemmas.Contents.{IsContent, listed_child}
 use Rattle.glob_walk.proofs.ListingLemmas.Descending.{depth}
 use Rattle.glob_tree.proofs.ContentLemmas.Directories.{is_dir_at-kind}
 use Rattle.glob_tree.proofs.ContentLemmas.Sorting.{sorted_entries-contains}
-use Rattle.glob_walk.proofs.GoalLemmas.Finds.{Find, Hit, Miss, deepen, below, list_kind, list_names, found_names, descent_names, enter_names, meet_names}
+use Rattle.glob_walk.proofs.GoalLemmas.Finds.{at_entry, past_entry, run_entry, Find, Hit, Miss, deepen, below, list_kind, list_names, found_names, descent_names, enter_names, meet_names}
 use Rattle.glob_walk.proofs.GoalLemmas.ListingFinds.{kind-Literal, kind-Recursive, kind-Wild, literal_not_recursive, names-literal, names-wild, names-run, names-levels}
-use Rattle.glob_walk.proofs.GoalLemmas.FoundIsTaken.{flat_map-contains, map-contains, IsHit, IsMet, ends-cons}
+use Rattle.glob_walk.proofs.GoalLemmas.FoundIsTaken.{IsTakenAt, IsMet, ends-cons}
+use Rattle.glob_walk.proofs.GoalLemmas.FoundParts.{flat_map-contains, map-contains}
 use Rattle.glob_pattern.specs.Matching.Components.{is_open}
 use Rattle.glob_walk.proofs.GoalLemmas.KeysBelow.{held_above, on_the_way, name_is_utf8, Here, Here-dir, held-from_deeper}
 use Rattle.glob_walk.proofs.GoalLemmas.TakenNames.{takes, takes-one, takes-one_none, run-cases, run-nil, run-run}
@@ -37,16 +38,16 @@ pub record IsCovered (c : Content) (finds : List Find) (k names : Key) : Type 0 
   pub shut : kind_at c (k ++ upper) ≡ Some (Shut kind)
   pub miss : Contains finds (Miss upper kind)
 
-abbrev pub Gives : Content → List Find → Key → Key → Type 0
-Gives c finds k names = Contains finds (Hit names) ⊎ IsCovered c finds k names
+abbrev pub FoundOrCovered : Content → List Find → Key → Key → Type 0
+FoundOrCovered c finds k names = Contains finds (Hit names) ⊎ IsCovered c finds k names
 
 module _ (c : Content) (w : IsContent c) where
-  Gives-more : (xs ys : List Find) → ((f : Find) → Contains xs f → Contains ys f) → (k names : Key) → Gives c xs k names → Gives c ys k names
-  Gives-more xs ys more k names h = ⊎_elim (λ hit. inl (more (Hit names) hit))
+  FoundOrCovered-more : (xs ys : List Find) → ((f : Find) → Contains xs f → Contains ys f) → (k names : Key) → FoundOrCovered c xs k names → FoundOrCovered c ys k names
+  FoundOrCovered-more xs ys more k names h = ⊎_elim (λ hit. inl (more (Hit names) hit))
       (λ is. inr (record { upper = is.upper; lower = is.lower; kind = is.kind; split = is.split; longer = is.longer; shut = is.shut; miss = more (Miss is.upper is.kind) is.miss })) h
 
-  Gives-below : (n : Text) (xs : List Find) (k ns : Key) → Gives c xs (k ++ n ∷ []) ns → Gives c (below n xs) k (n ∷ ns)
-  Gives-below n xs k ns h = ⊎_elim (λ hit. inl (map-contains (deepen n) xs (Hit ns) hit))
+  FoundOrCovered-below : (n : Text) (xs : List Find) (k ns : Key) → FoundOrCovered c xs (k ++ n ∷ []) ns → FoundOrCovered c (below n xs) k (n ∷ ns)
+  FoundOrCovered-below n xs k ns h = ⊎_elim (λ hit. inl (map-contains (deepen n) xs (Hit ns) hit))
       (λ is. inr (record {
         upper = n ∷ is.upper;
         lower = is.lower;
@@ -57,20 +58,20 @@ module _ (c : Content) (w : IsContent c) where
         miss = map-contains (deepen n) xs (Miss is.upper is.kind) is.miss;
       })) h
 
-  Gives-cond : (b : Bool) (xs : List Find) (k names : Key) → b ≡ true → Gives c xs k names → Gives c (cond b xs []) k names
-  Gives-cond true xs k names e h = h
-  Gives-cond false xs k names e h = absurd (false≢true e)
+  FoundOrCovered-cond : (b : Bool) (xs : List Find) (k names : Key) → b ≡ true → FoundOrCovered c xs k names → FoundOrCovered c (cond b xs []) k names
+  FoundOrCovered-cond true xs k names e h = h
+  FoundOrCovered-cond false xs k names e h = absurd (false≢true e)
 
   -- a directory's entry, or nothing where the directory is shut
-  Gives-listed : (k : Key) (n : Text) (ns : Key) (kind : Kind) → kind_at c (k ++ n ∷ []) ≡ Some kind → (each : DirEntry → List Find) → Gives c (each (n, is_dir kind)) k (n ∷ ns) → Gives c (list_names c k each) k (n ∷ ns)
-  Gives-listed k n ns kind held each h = by_kind (kind_at c k) refl (held_above c w k n kind held)
+  FoundOrCovered-listed : (k : Key) (n : Text) (ns : Key) (kind : Kind) → kind_at c (k ++ n ∷ []) ≡ Some kind → (each : DirEntry → List Find) → FoundOrCovered c (each (n, is_dir kind)) k (n ∷ ns) → FoundOrCovered c (list_names c k each) k (n ∷ ns)
+  FoundOrCovered-listed k n ns kind held each h = by_kind (kind_at c k) refl (held_above c w k n kind held)
     where
       cons_some : n ∷ ns ≢ []
       cons_some e = cc
 
-      by_kind : (found : Option Kind) → kind_at c k ≡ found → unwrap_or (option_map is_dir (kind_at c k)) false ≡ true → Gives c (list_kind c k found each) k (n ∷ ns)
+      by_kind : (found : Option Kind) → kind_at c k ≡ found → unwrap_or (option_map is_dir (kind_at c k)) false ≡ true → FoundOrCovered c (list_kind c k found each) k (n ∷ ns)
       by_kind None e d = absurd (both_ways false refl (sym (ap (λ x. unwrap_or (option_map is_dir x) false) e) ∙ d))
-      by_kind (Some Dir) e d = Gives-more (each (n, is_dir kind)) (flat_map each (sorted_entries (children c k)))
+      by_kind (Some Dir) e d = FoundOrCovered-more (each (n, is_dir kind)) (flat_map each (sorted_entries (children c k)))
           (λ f in'. flat_map-contains each (sorted_entries (children c k)) (n, is_dir kind) f (sorted_entries-contains (children c k) (n, is_dir kind) (listed_child c k n kind held)) in') k (n ∷ ns) h
       by_kind (Some (Shut error)) e d = inr (record {
         upper = [];
@@ -86,12 +87,12 @@ module _ (c : Content) (w : IsContent c) where
   module _ (o : MatchOptions) (directories : Bool)
       (own : (t n : Text) → is_literal t ≡ true → is_utf8 t ≡ true → is_utf8 n ≡ true → matches_name o t n ≡ true → t ≡ n) where
     abbrev Entered : List Text → Type 0
-    Entered ts = (k : Key) (d : Bool) → Here c k d → (names : Key) → IsHit c o directories ts k names → Gives c (enter_names c o directories ts k d) k names
+    Entered ts = (k : Key) (d : Bool) → Here c k d → (names : Key) → IsTakenAt c o directories ts k names → FoundOrCovered c (enter_names c o directories ts k d) k names
 
     abbrev Met : List Text → Text → Type 0
-    Met ts t = (k : Key) (name : Text) (d : Bool) → Here c k d → (names : Key) → IsMet c o directories t ts k name names → Gives c (meet_names c o directories ts k name d) k names
+    Met ts t = (k : Key) (name : Text) (d : Bool) → Here c k d → (names : Key) → IsMet c o directories t ts k name names → FoundOrCovered c (meet_names c o directories ts k name d) k names
 
-    record BothWhole (ts : List Text) : Type 0 where
+    record EachFound (ts : List Text) : Type 0 where
       entered : Entered ts
       met : begins_recursive ts ≡ false → (t : Text) → is_recursive t ≡ true → Met ts t
 
@@ -100,23 +101,23 @@ module _ (c : Content) (w : IsContent c) where
     kind-here k d at names kind e held =
         ap is_dir (same_Some kind at.kind (sym held ∙ ap (kind_at c) (ap (λ ns. k ++ ns) e ∙ append-nil k) ∙ at.held)) ∙ at.is
 
-    whole-nothing : Entered []
+    found-nothing : Entered []
     unfolding enter_names
-    whole-nothing k d at [] is = Gives-cond (not directories || d) (Hit [] ∷ []) k [] (by_tests directories d (is_dir is.kind) (kind-here k d at [] is.kind refl is.held) is.allowed) (inl (Contains-head (Hit []) []))
+    found-nothing k d at [] is = FoundOrCovered-cond (not directories || d) (Hit [] ∷ []) k [] (by_tests directories d (is_dir is.kind) (kind-here k d at [] is.kind refl is.held) is.allowed) (inl (Contains-head (Hit []) []))
       where
         by_tests : (b d x : Bool) → x ≡ d → (x || not (b || false)) ≡ true → (not b || d) ≡ true
         by_tests true d true e h = sym e
         by_tests true d false e h = absurd (false≢true h)
         by_tests false d x e h = refl
-    whole-nothing k d at (n ∷ ns) is = absurd (false≢true is.taken)
+    found-nothing k d at (n ∷ ns) is = absurd (false≢true is.taken)
 
-    whole-met_nothing : (t : Text) → is_recursive t ≡ true → Met [] t
+    found-met_nothing : (t : Text) → is_recursive t ≡ true → Met [] t
     unfolding meet_names
-    whole-met_nothing t r k name d at names is =
+    found-met_nothing t r k name d at names is =
         let (e, open') = is.met in
         let directory : d ≡ true = sym (kind-here k d at names is.kind e is.held) ∙ by_tests directories (is_dir is.kind) (is_recursive t) r is.allowed in
-        subst (Gives c (cond (is_entered o name d) (Hit [] ∷ []) []) k) (sym e)
-        (Gives-cond (is_entered o name d) (Hit [] ∷ []) k [] (and_from d (is_open o name) directory open') (inl (Contains-head (Hit []) [])))
+        subst (FoundOrCovered c (cond (is_entered o name d) (Hit [] ∷ []) []) k) (sym e)
+        (FoundOrCovered-cond (is_entered o name d) (Hit [] ∷ []) k [] (and_from d (is_open o name) directory open') (inl (Contains-head (Hit []) [])))
       where
         by_tests : (b x r : Bool) → r ≡ true → (x || not (b || r)) ≡ true → x ≡ true
         by_tests b true r e h = refl
@@ -124,11 +125,11 @@ module _ (c : Content) (w : IsContent c) where
         by_tests false false true e h = absurd (false≢true h)
         by_tests false false false e h = absurd (false≢true e)
 
-    whole-met : (u : Text) (us : List Text) → is_recursive u ≡ false → Entered us → (t : Text) → Met (u ∷ us) t
+    found-met : (u : Text) (us : List Text) → is_recursive u ≡ false → Entered us → (t : Text) → Met (u ∷ us) t
     unfolding meet_names
-    whole-met u us plain next t k name d at names is =
+    found-met u us plain next t k name d at names is =
         let both = and_parts (matches_name o u name) (takes o us names) (sym (takes-one o u us name names plain) ∙ is.met) in
-        Gives-cond (matches_name o u name) (enter_names c o directories us k d) k names both.0
+        FoundOrCovered-cond (matches_name o u name) (enter_names c o directories us k d) k names both.0
         (next k d at names (record { kind = is.kind; held = is.held; taken = both.1; allowed = ap (λ x. is_dir is.kind || not (directories || x)) (sym (ends-cons u us plain)) ∙ is.allowed }))
 
     -- the hit of a component and of what follows it
@@ -136,9 +137,9 @@ module _ (c : Content) (w : IsContent c) where
       matched : matches_name o t n ≡ true
       found : Kind
       stands : kind_at c (k ++ n ∷ []) ≡ Some found
-      hit : IsHit c o directories ts (k ++ n ∷ []) ns
+      hit : IsTakenAt c o directories ts (k ++ n ∷ []) ns
 
-    step_of : (t : Text) (ts : List Text) (k : Key) (n : Text) (ns : Key) → is_recursive t ≡ false → IsHit c o directories (t ∷ ts) k (n ∷ ns) → IsStep t ts k n ns
+    step_of : (t : Text) (ts : List Text) (k : Key) (n : Text) (ns : Key) → is_recursive t ≡ false → IsTakenAt c o directories (t ∷ ts) k (n ∷ ns) → IsStep t ts k n ns
     step_of t ts k n ns plain is =
         let both = and_parts (matches_name o t n) (takes o ts ns) (sym (takes-one o t ts n ns plain) ∙ is.taken) in
         let way = on_the_way c w k n ns is.kind is.held in
@@ -154,57 +155,57 @@ module _ (c : Content) (w : IsContent c) where
           };
         }
 
-    whole-literal : (t : Text) (ts : List Text) → component_kind t ≡ Literal → is_utf8 t ≡ true → Entered ts → Entered (t ∷ ts)
-    whole-literal t ts kind utf8 next k d at [] is = absurd (both_ways _ (takes-one_none o t ts (literal_not_recursive t (kind-Literal t kind))) is.taken)
-    whole-literal t ts kind utf8 next k d at (n ∷ ns) is =
+    found-literal : (t : Text) (ts : List Text) → component_kind t ≡ Literal → is_utf8 t ≡ true → Entered ts → Entered (t ∷ ts)
+    found-literal t ts kind utf8 next k d at [] is = absurd (both_ways _ (takes-one_none o t ts (literal_not_recursive t (kind-Literal t kind))) is.taken)
+    found-literal t ts kind utf8 next k d at (n ∷ ns) is =
         let literal = kind-Literal t kind in
         let step = step_of t ts k n ns (literal_not_recursive t literal) is in
         let same : t ≡ n = own t n literal utf8 (name_is_utf8 c w k n ns is.kind is.held) step.matched in
-        subst (λ fs. Gives c fs k (n ∷ ns)) (sym (names-literal c o directories t ts k d kind))
-        (subst (λ m. Gives c (below m (found_names (kind_at c (k ++ m ∷ [])) (λ x. enter_names c o directories ts (k ++ m ∷ []) x))) k (n ∷ ns)) (sym same)
-        (subst (λ found. Gives c (below n (found_names found (λ x. enter_names c o directories ts (k ++ n ∷ []) x))) k (n ∷ ns)) (sym step.stands)
-        (Gives-below n (enter_names c o directories ts (k ++ n ∷ []) (is_dir step.found)) k ns
+        subst (λ fs. FoundOrCovered c fs k (n ∷ ns)) (sym (names-literal c o directories t ts k d kind))
+        (subst (λ m. FoundOrCovered c (below m (found_names (kind_at c (k ++ m ∷ [])) (λ x. enter_names c o directories ts (k ++ m ∷ []) x))) k (n ∷ ns)) (sym same)
+        (subst (λ found. FoundOrCovered c (below n (found_names found (λ x. enter_names c o directories ts (k ++ n ∷ []) x))) k (n ∷ ns)) (sym step.stands)
+        (FoundOrCovered-below n (enter_names c o directories ts (k ++ n ∷ []) (is_dir step.found)) k ns
         (next (k ++ n ∷ []) (is_dir step.found) (record { kind = step.found; held = step.stands; is = refl }) ns step.hit))))
 
     -- a directory, where a key below it stands
     is_directory_here : (k : Key) (d : Bool) → Here c k d → (n : Text) (found : Kind) → kind_at c (k ++ n ∷ []) ≡ Some found → d ≡ true
     is_directory_here k d at n found held = sym (Here-dir c k d at) ∙ held_above c w k n found held
 
-    whole-wild : (t : Text) (ts : List Text) → component_kind t ≡ Wild → Entered ts → Entered (t ∷ ts)
-    whole-wild t ts kind next k d at [] is = absurd (both_ways _ (takes-one_none o t ts (kind-Wild t kind).1) is.taken)
-    whole-wild t ts kind next k d at (n ∷ ns) is =
+    found-wild : (t : Text) (ts : List Text) → component_kind t ≡ Wild → Entered ts → Entered (t ∷ ts)
+    found-wild t ts kind next k d at [] is = absurd (both_ways _ (takes-one_none o t ts (kind-Wild t kind).1) is.taken)
+    found-wild t ts kind next k d at (n ∷ ns) is =
         let step = step_of t ts k n ns (kind-Wild t kind).1 is in
-        subst (λ b. Gives c (enter_names c o directories (t ∷ ts) k b) k (n ∷ ns)) (sym (is_directory_here k d at n step.found step.stands))
-        (subst (λ fs. Gives c fs k (n ∷ ns)) (sym (names-wild c o directories t ts k kind))
-        (Gives-listed k n ns step.found step.stands (λ e. below e.0 (cond (matches_name o t e.0) (enter_names c o directories ts (k ++ e.0 ∷ []) e.1) []))
-        (Gives-below n (cond (matches_name o t n) (enter_names c o directories ts (k ++ n ∷ []) (is_dir step.found)) []) k ns
-        (Gives-cond (matches_name o t n) (enter_names c o directories ts (k ++ n ∷ []) (is_dir step.found)) (k ++ n ∷ []) ns step.matched
+        subst (λ b. FoundOrCovered c (enter_names c o directories (t ∷ ts) k b) k (n ∷ ns)) (sym (is_directory_here k d at n step.found step.stands))
+        (subst (λ fs. FoundOrCovered c fs k (n ∷ ns)) (sym (names-wild c o directories t ts k kind))
+        (FoundOrCovered-listed k n ns step.found step.stands (λ e. below e.0 (at_entry c o directories t ts k e))
+        (FoundOrCovered-below n (cond (matches_name o t n) (enter_names c o directories ts (k ++ n ∷ []) (is_dir step.found)) []) k ns
+        (FoundOrCovered-cond (matches_name o t n) (enter_names c o directories ts (k ++ n ∷ []) (is_dir step.found)) (k ++ n ∷ []) ns step.matched
         (next (k ++ n ∷ []) (is_dir step.found) (record { kind = step.found; held = step.stands; is = refl }) ns step.hit)))))
 
-    whole-descent : (t : Text) (ts : List Text) → is_recursive t ≡ true → Met ts t → (n : ℕ) (k names : Key) → is_dir_at c k ≡ true → levels c ≤ length k + n → IsHit c o directories (t ∷ ts) k names
-        → Gives c (descent_names c o (meet_names c o directories ts) n k) k names
+    found-descent : (t : Text) (ts : List Text) → is_recursive t ≡ true → Met ts t → (n : ℕ) (k names : Key) → is_dir_at c k ≡ true → levels c ≤ length k + n → IsTakenAt c o directories (t ∷ ts) k names
+        → FoundOrCovered c (descent_names c o (meet_names c o directories ts) n k) k names
     unfolding descent_names
-    whole-descent t ts r next n k [] d l is = absurd (run-nil o t ts r is.taken)
-    whole-descent t ts r next zero k (m ∷ ms) d l is = absurd (omega (arith, l, depth c k d))
-    whole-descent t ts r next (suc n) k (m ∷ ms) d l is =
+    found-descent t ts r next n k [] d l is = absurd (run-nil o t ts r is.taken)
+    found-descent t ts r next zero k (m ∷ ms) d l is = absurd (omega (arith, l, depth c k d))
+    found-descent t ts r next (suc n) k (m ∷ ms) d l is =
         let (found, stands) = on_the_way c w k m ms is.kind is.held in
         let met : List Find = meet_names c o directories ts (k ++ m ∷ []) m (is_dir found) in
         let deep : List Find = cond (is_entered o m (is_dir found)) (descent_names c o (meet_names c o directories ts) n (k ++ m ∷ [])) [] in
         let deeper = held-from_deeper c k m ms (Some is.kind) is.held in
-        Gives-listed k m ms found stands
-        (λ e. below e.0 (meet_names c o directories ts (k ++ e.0 ∷ []) e.0 e.1 ++ (cond (is_entered o e.0 e.1) (descent_names c o (meet_names c o directories ts) n (k ++ e.0 ∷ [])) [])))
-        (Gives-below m (met ++ deep) k ms
+        FoundOrCovered-listed k m ms found stands
+        (λ e. below e.0 (run_entry c o directories ts n k e))
+        (FoundOrCovered-below m (met ++ deep) k ms
         (⊎_elim
-        (λ by. Gives-more met (met ++ deep) (λ f in'. Contains-append_left met deep f in') (k ++ m ∷ []) ms
+        (λ by. FoundOrCovered-more met (met ++ deep) (λ f in'. Contains-append_left met deep f in') (k ++ m ∷ []) ms
         (next (k ++ m ∷ []) m (is_dir found) (record { kind = found; held = stands; is = refl }) ms (record { kind = is.kind; held = deeper; met = by; allowed = is.allowed })))
         (λ on. from_below found stands deeper on
-        (λ directory. whole-descent t ts r next n (k ++ m ∷ []) ms directory (omega (arith, l, length-append k (m ∷ []))) (record { kind = is.kind; held = deeper; taken = on.1; allowed = is.allowed })) ms refl)
+        (λ directory. found-descent t ts r next n (k ++ m ∷ []) ms directory (omega (arith, l, length-append k (m ∷ []))) (record { kind = is.kind; held = deeper; taken = on.1; allowed = is.allowed })) ms refl)
         (run-cases o t ts m ms r is.taken)))
       where
         from_below : (found : Kind) → kind_at c (k ++ m ∷ []) ≡ Some found → kind_at c ((k ++ m ∷ []) ++ ms) ≡ Some is.kind
             → (is_open o m ≡ true) × (takes o (t ∷ ts) ms ≡ true)
-            → (is_dir_at c (k ++ m ∷ []) ≡ true → Gives c (descent_names c o (meet_names c o directories ts) n (k ++ m ∷ [])) (k ++ m ∷ []) ms) → (ls : Key) → ms ≡ ls
-            → Gives c (meet_names c o directories ts (k ++ m ∷ []) m (is_dir found) ++ (cond (is_entered o m (is_dir found)) (descent_names c o (meet_names c o directories ts) n (k ++ m ∷ [])) [])) (k ++ m ∷ []) ms
+            → (is_dir_at c (k ++ m ∷ []) ≡ true → FoundOrCovered c (descent_names c o (meet_names c o directories ts) n (k ++ m ∷ [])) (k ++ m ∷ []) ms) → (ls : Key) → ms ≡ ls
+            → FoundOrCovered c (meet_names c o directories ts (k ++ m ∷ []) m (is_dir found) ++ (cond (is_entered o m (is_dir found)) (descent_names c o (meet_names c o directories ts) n (k ++ m ∷ [])) [])) (k ++ m ∷ []) ms
         from_below found stands deeper on further [] e = absurd (run-nil o t ts r (subst (λ ls. takes o (t ∷ ts) ls ≡ true) e on.1))
         from_below found stands deeper on further (l' ∷ ls) e =
             let met : List Find = meet_names c o directories ts (k ++ m ∷ []) m (is_dir found) in
@@ -212,35 +213,35 @@ module _ (c : Content) (w : IsContent c) where
             let way = on_the_way c w (k ++ m ∷ []) l' ls is.kind (ap (λ x. kind_at c ((k ++ m ∷ []) ++ x)) (sym e) ∙ deeper) in
             let directory : is_dir_at c (k ++ m ∷ []) ≡ true = held_above c w (k ++ m ∷ []) l' way.0 way.1 in
             let is_directory : is_dir found ≡ true = sym (is_dir_at-kind c (k ++ m ∷ []) found stands) ∙ directory in
-            Gives-more (cond (is_entered o m (is_dir found)) deep []) (met ++ (cond (is_entered o m (is_dir found)) deep [])) (λ f in'. Contains-append_right met (cond (is_entered o m (is_dir found)) deep []) f in') (k ++ m ∷ []) ms
-            (Gives-cond (is_entered o m (is_dir found)) deep (k ++ m ∷ []) ms (and_from (is_dir found) (is_open o m) is_directory on.0) (further directory))
+            FoundOrCovered-more (cond (is_entered o m (is_dir found)) deep []) (met ++ (cond (is_entered o m (is_dir found)) deep [])) (λ f in'. Contains-append_right met (cond (is_entered o m (is_dir found)) deep []) f in') (k ++ m ∷ []) ms
+            (FoundOrCovered-cond (is_entered o m (is_dir found)) deep (k ++ m ∷ []) ms (and_from (is_dir found) (is_open o m) is_directory on.0) (further directory))
 
-    whole-run : (t : Text) (ts : List Text) → is_recursive t ≡ true → begins_recursive ts ≡ true → (k names : Key) → IsHit c o directories (t ∷ ts) k names → IsHit c o directories ts k names
-    whole-run t [] r more k names is = absurd (false≢true more)
-    whole-run t (u ∷ us) r more k names is = record { kind = is.kind; held = is.held; taken = run-run o t u us names r more is.taken; allowed = is.allowed }
+    found-run : (t : Text) (ts : List Text) → is_recursive t ≡ true → begins_recursive ts ≡ true → (k names : Key) → IsTakenAt c o directories (t ∷ ts) k names → IsTakenAt c o directories ts k names
+    found-run t [] r more k names is = absurd (false≢true more)
+    found-run t (u ∷ us) r more k names is = record { kind = is.kind; held = is.held; taken = run-run o t u us names r more is.taken; allowed = is.allowed }
 
-    whole-recursive : (t : Text) (ts : List Text) → component_kind t ≡ Recursive → BothWhole ts → (b : Bool) → begins_recursive ts ≡ b → Entered (t ∷ ts)
-    whole-recursive t ts kind next true more k d at names is =
-        subst (λ fs. Gives c fs k names) (sym (names-run c o directories t ts k d kind more)) (next.entered k d at names (whole-run t ts (kind-Recursive t kind) more k names is))
-    whole-recursive t ts kind next false last k d at [] is = absurd (run-nil o t ts (kind-Recursive t kind) is.taken)
-    whole-recursive t ts kind next false last k d at (n ∷ ns) is =
+    found-recursive : (t : Text) (ts : List Text) → component_kind t ≡ Recursive → EachFound ts → (b : Bool) → begins_recursive ts ≡ b → Entered (t ∷ ts)
+    found-recursive t ts kind next true more k d at names is =
+        subst (λ fs. FoundOrCovered c fs k names) (sym (names-run c o directories t ts k d kind more)) (next.entered k d at names (found-run t ts (kind-Recursive t kind) more k names is))
+    found-recursive t ts kind next false last k d at [] is = absurd (run-nil o t ts (kind-Recursive t kind) is.taken)
+    found-recursive t ts kind next false last k d at (n ∷ ns) is =
         let (found, stands) = on_the_way c w k n ns is.kind is.held in
-        subst (λ b. Gives c (enter_names c o directories (t ∷ ts) k b) k (n ∷ ns)) (sym (is_directory_here k d at n found stands))
-        (subst (λ fs. Gives c fs k (n ∷ ns)) (sym (names-levels c o directories t ts k kind last))
-        (whole-descent t ts (kind-Recursive t kind) (next.met last t (kind-Recursive t kind)) (levels c) k (n ∷ ns) (held_above c w k n found stands) (omega arith) is))
+        subst (λ b. FoundOrCovered c (enter_names c o directories (t ∷ ts) k b) k (n ∷ ns)) (sym (is_directory_here k d at n found stands))
+        (subst (λ fs. FoundOrCovered c fs k (n ∷ ns)) (sym (names-levels c o directories t ts k kind last))
+        (found-descent t ts (kind-Recursive t kind) (next.met last t (kind-Recursive t kind)) (levels c) k (n ∷ ns) (held_above c w k n found stands) (omega arith) is))
 
-    both_whole : (ts : List Text) → list_all is_utf8 ts ≡ true → BothWhole ts
-    both_whole [] utf8 = record { entered = whole-nothing; met = λ last t r. whole-met_nothing t r }
-    both_whole (t ∷ ts) utf8 =
+    each_is_found : (ts : List Text) → list_all is_utf8 ts ≡ true → EachFound ts
+    each_is_found [] utf8 = record { entered = found-nothing; met = λ last t r. found-met_nothing t r }
+    each_is_found (t ∷ ts) utf8 =
         let both = and_parts (is_utf8 t) (list_all is_utf8 ts) utf8 in
-        let next = both_whole ts both.1 in
-        record { entered = by_kind both.0 next (component_kind t) refl; met = λ plain u r. whole-met t ts plain next.entered u }
+        let next = each_is_found ts both.1 in
+        record { entered = by_kind both.0 next (component_kind t) refl; met = λ plain u r. found-met t ts plain next.entered u }
       where
-        by_kind : is_utf8 t ≡ true → BothWhole ts → (kind : ComponentKind) → component_kind t ≡ kind → Entered (t ∷ ts)
-        by_kind utf8 next Literal kind = whole-literal t ts kind utf8 next.entered
-        by_kind utf8 next Recursive kind = whole-recursive t ts kind next (begins_recursive ts) refl
-        by_kind utf8 next Wild kind = whole-wild t ts kind next.entered
+        by_kind : is_utf8 t ≡ true → EachFound ts → (kind : ComponentKind) → component_kind t ≡ kind → Entered (t ∷ ts)
+        by_kind utf8 next Literal kind = found-literal t ts kind utf8 next.entered
+        by_kind utf8 next Recursive kind = found-recursive t ts kind next (begins_recursive ts) refl
+        by_kind utf8 next Wild kind = found-wild t ts kind next.entered
 
     -- each key whose names the components take is found or covered
-    pub whole_hits : (ts : List Text) → list_all is_utf8 ts ≡ true → Entered ts
-    whole_hits ts utf8 = (both_whole ts utf8).entered
+    pub taken_are_found : (ts : List Text) → list_all is_utf8 ts ≡ true → Entered ts
+    taken_are_found ts utf8 = (each_is_found ts utf8).entered

@@ -1,0 +1,12 @@
+//! Laws of the definitions that the contracts name: of patterns and the texts that they match, and of walks.
+pub use glob_pattern::laws::{
+    accepted_has_no_fault, components_match_level_by_level, deep_tokens_match_as_one,
+    escaped_text_matches_itself, looser_rules_keep_a_match, matching_is_decided,
+    no_more_tokens_than_characters, one_list_of_tokens, one_unit_at_a_place, one_way_of_units,
+    plain_pattern_matches_itself, reading_answers_fault, reading_answers_tokens,
+    refused_has_one_fault, separator_rule_spares_names,
+};
+pub use glob_walk::laws::{
+    plain_pattern_matches_level_by_level, plain_walk_gives_the_goal, plain_walk_is_orderly,
+    plain_walk_reaches_the_goal,
+};
