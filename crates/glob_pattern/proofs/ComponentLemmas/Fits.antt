@@ -4,10 +4,10 @@ use Rattle.glob_text.specs.Characters.{slash}
 use Rattle.glob_text.specs.Text.{Text}
 use Rattle.glob_pattern.specs.Grammar.Tokens.{Token}
 use Rattle.glob_pattern.specs.Matching.Taking.{takes}
-use Rattle.glob_pattern.specs.Computing.Deciding.{placed_characters, whole, one_before, many_before, closed_before, rests_matched, tokens_match}
+use Rattle.glob_pattern.specs.Computing.Deciding.{characters_with_openings, first_answer, one_character_answers, run_answers, component_answers, tokens_answers, tokens_match}
 use Rattle.glob_pattern.specs.declared.options.MatchOptions.{MatchOptions}
 use Rattle.glob_pattern.specs.declared.token.Token.TheVariants.{Plain, Any, Run, Deep, Within, Except}
-use Rattle.glob_pattern.proofs.MatchingLemmas.Rests.{matched, whole-either, whole-one_before, whole-many_before, whole-closed_before}
+use Rattle.glob_pattern.proofs.MatchingLemmas.Rests.{tokens_match_rest, first_answer-joined_answers, first_answer-one_character_answers, first_answer-run_answers, first_answer-component_answers}
 use Rattle.glob_text.specs.Pieces.{is_empty}
 
 -- what is said of a rest of a text, by whether its place opens
@@ -41,26 +41,26 @@ fits o (Except entries ∷ ts) b cs = one_then o (Except entries) (fits o ts) b 
 
 -- what the rests say and what `fits` says are the same, at each text
 abbrev Agree : MatchOptions → List Token → Type 0
-Agree o ts = (b : Bool) (cs : Text) → matched o ts (placed_characters b cs) ≡ fits o ts b cs
+Agree o ts = (b : Bool) (cs : Text) → tokens_match_rest o ts (characters_with_openings b cs) ≡ fits o ts b cs
 
 Agree-one : (o : MatchOptions) (t : Token) (ts : List Token) → Agree o ts → (b : Bool) (cs : Text)
-    → whole (one_before o t (placed_characters b cs) (rests_matched o ts (placed_characters b cs))) ≡ one_then o t (fits o ts) b cs
+    → first_answer (one_character_answers o t (characters_with_openings b cs) (tokens_answers o ts (characters_with_openings b cs))) ≡ one_then o t (fits o ts) b cs
 Agree-one o t ts next b [] = refl
 Agree-one o t ts next b (c ∷ cs) =
-    whole-one_before o t ts (b, c) (placed_characters (c == slash) cs) ∙ ap (λ x. takes o b c t && x) (next (c == slash) cs)
+    first_answer-one_character_answers o t ts (b, c) (characters_with_openings (c == slash) cs) ∙ ap (λ x. takes o b c t && x) (next (c == slash) cs)
 
 Agree-many : (o : MatchOptions) (t : Token) (ts : List Token) → Agree o ts → (b : Bool) (cs : Text)
-    → whole (many_before o t (placed_characters b cs) (rests_matched o ts (placed_characters b cs))) ≡ many_then o t (fits o ts) b cs
+    → first_answer (run_answers o t (characters_with_openings b cs) (tokens_answers o ts (characters_with_openings b cs))) ≡ many_then o t (fits o ts) b cs
 Agree-many o t ts next b [] = next b []
 Agree-many o t ts next b (c ∷ cs) =
-    whole-many_before o t ts (b, c) (placed_characters (c == slash) cs)
+    first_answer-run_answers o t ts (b, c) (characters_with_openings (c == slash) cs)
     ∙ ap₂ (λ x y. x || (takes o b c t && y)) (next b (c ∷ cs)) (Agree-many o t ts next (c == slash) cs)
 
 Agree-closed : (o : MatchOptions) (t : Token) (ts : List Token) → Agree o ts → (b : Bool) (cs : Text)
-    → whole (closed_before o t (placed_characters b cs) (rests_matched o ts (placed_characters b cs))) ≡ closed_then o t (fits o ts) b cs
+    → first_answer (component_answers o t (characters_with_openings b cs) (tokens_answers o ts (characters_with_openings b cs))) ≡ closed_then o t (fits o ts) b cs
 Agree-closed o t ts next b [] = refl
 Agree-closed o t ts next b (c ∷ cs) =
-    whole-closed_before o t ts b c (placed_characters (c == slash) cs)
+    first_answer-component_answers o t ts b c (characters_with_openings (c == slash) cs)
     ∙ ap₂ (λ x y. takes o b c t && ((c == slash && x) || y)) (next (c == slash) cs) (Agree-closed o t ts next (c == slash) cs)
 
 pub agree : (o : MatchOptions) (ts : List Token) → Agree o ts
@@ -71,7 +71,7 @@ agree o (Any ∷ ts) b cs = Agree-one o Any ts (agree o ts) b cs
 agree o (Run ∷ ts) b cs = Agree-many o Run ts (agree o ts) b cs
 agree o (Deep ∷ []) b cs = Agree-many o Deep [] (agree o []) b cs
 agree o (Deep ∷ t ∷ ts) b cs =
-    whole-either (rests_matched o (t ∷ ts) (placed_characters b cs)) (closed_before o Deep (placed_characters b cs) (rests_matched o (t ∷ ts) (placed_characters b cs)))
+    first_answer-joined_answers (tokens_answers o (t ∷ ts) (characters_with_openings b cs)) (component_answers o Deep (characters_with_openings b cs) (tokens_answers o (t ∷ ts) (characters_with_openings b cs)))
     ∙ ap₂ (λ x y. x || y) (agree o (t ∷ ts) b cs) (Agree-closed o Deep (t ∷ ts) (agree o (t ∷ ts)) b cs)
 agree o (Within entries ∷ ts) b cs = Agree-one o (Within entries) ts (agree o ts) b cs
 agree o (Except entries ∷ ts) b cs = Agree-one o (Except entries) ts (agree o ts) b cs

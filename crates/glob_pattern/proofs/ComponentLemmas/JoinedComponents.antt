@@ -10,7 +10,7 @@ use Rattle.glob_pattern.specs.Grammar.Characters.{star}
 use Rattle.glob_text.specs.Text.{Text, Has}
 use Rattle.glob_pattern.specs.Grammar.Tokens.{Token, tokens_of_units}
 use Rattle.glob_pattern.specs.Grammar.Units.{UnitAt, UnitsBetween, HasUnits}
-use Rattle.glob_pattern.specs.Computing.Deciding.{tokens_match, match_read, is_match}
+use Rattle.glob_pattern.specs.Computing.Deciding.{tokens_match, match_of_reading, is_match}
 use Rattle.glob_pattern.specs.declared.options.MatchOptions.{MatchOptions}
 use Rattle.glob_pattern.specs.declared.token.Token.TheVariants.{Plain, Any, Run, Deep, Within, Except}
 use Rattle.glob_pattern.proofs.GrammarLemmas.Reading.{reading_of-HasTokens}
@@ -36,7 +36,7 @@ same_test false false f g to from = refl
 pub is_match-units : (o : MatchOptions) (pattern text : Text) (units : List Token) → HasUnits pattern units → is_match o pattern text ≡ fits o units true text
 unfolding is_match
 is_match-units o pattern text units has =
-    ap (λ read. match_read o read text) (reading_of-HasTokens pattern (tokens_of_units units) (units, has, refl))
+    ap (λ read. match_of_reading o read text) (reading_of-HasTokens pattern (tokens_of_units units) (units, has, refl))
     ∙ same_test (tokens_match o (tokens_of_units units) text) (tokens_match o units text) (Decides-TokensMatch o (tokens_of_units units) text) (Decides-TokensMatch o units text)
     (folded_match_same o units text).1 (folded_match_same o units text).0
     ∙ tokens_match-fits o units text
@@ -163,9 +163,9 @@ pub joined_takes : (o : MatchOptions) (t : Text) (ts : List Text) (n : Text) (ns
     → is_match (with_separator_rule o) (join_with_byte slash (t ∷ ts)) (join_with_byte slash (n ∷ ns)) ≡ takes_names o (is_match o) (t ∷ ts) (n ∷ ns)
 joined_takes o t ts n ns all flat =
     let found = has_parts o t ts all in
-    let whole : Text = join_with_byte slash (t ∷ ts) in
-    is_match-units (with_separator_rule o) whole (join_with_byte slash (n ∷ ns)) (joined_tokens (found.first ∷ found.others))
-    (joined-units whole t ts (found.first ∷ found.others) 0 found.are refl (omega arith) refl)
+    let first_answer : Text = join_with_byte slash (t ∷ ts) in
+    is_match-units (with_separator_rule o) first_answer (join_with_byte slash (n ∷ ns)) (joined_tokens (found.first ∷ found.others))
+    (joined-units first_answer t ts (found.first ∷ found.others) 0 found.are refl (omega arith) refl)
     ∙ level_by_level o found.first found.others found.levels n ns flat ∙ found.takes (n ∷ ns) flat
 
 -- So they do after a first separator, which both have.
@@ -174,10 +174,10 @@ pub rooted_takes : (o : MatchOptions) (t : Text) (ts : List Text) (n : Text) (ns
 rooted_takes o t ts n ns all flat =
     let found = has_parts o t ts all in
     let rest : Text = join_with_byte slash (t ∷ ts) in
-    let whole : Text = slash ∷ rest in
-    is_match-units (with_separator_rule o) whole (slash ∷ join_with_byte slash (n ∷ ns)) (Plain slash ∷ joined_tokens (found.first ∷ found.others)) (
+    let first_answer : Text = slash ∷ rest in
+    is_match-units (with_separator_rule o) first_answer (slash ∷ join_with_byte slash (n ∷ ns)) (Plain slash ∷ joined_tokens (found.first ∷ found.others)) (
       1,
-      UnitAt-plain whole rest 0 slash ((λ x. omega arith), (λ x. omega arith), (λ x. omega arith)) refl,
-      joined-units whole t ts (found.first ∷ found.others) 1 found.are refl (omega arith) refl,
+      UnitAt-plain first_answer rest 0 slash ((λ x. omega arith), (λ x. omega arith), (λ x. omega arith)) refl,
+      joined-units first_answer t ts (found.first ∷ found.others) 1 found.are refl (omega arith) refl,
     )
     ∙ level_by_level o found.first found.others found.levels n ns flat ∙ found.takes (n ∷ ns) flat

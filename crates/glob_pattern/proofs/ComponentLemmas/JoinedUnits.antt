@@ -16,58 +16,58 @@ use Rattle.glob_pattern.proofs.GrammarLemmas.WrittenUnits.{UnitAt-plain}
 use Rattle.glob_pattern.proofs.ComponentLemmas.Parts.{is_inner, Part, Levels, Level, joined_tokens, AreParts}
 
 -- a component stands in the whole text from place p on: after a separator or at the start, and before a separator or the end
-record Stands (whole piece : Text) (p : ℕ) : Type 0 where
+record Stands (first_answer piece : Text) (p : ℕ) : Type 0 where
   rest : Text
-  at : drop p whole ≡ piece ++ rest
+  at : drop p first_answer ≡ piece ++ rest
   ends : (rest ≡ []) ⊎ ((r : Text) × (rest ≡ slash ∷ r))
-  within : p ≤ length whole
-  opening : opens whole p ≡ true
+  within : p ≤ length first_answer
+  opening : opens first_answer p ≡ true
 
-module _ (whole piece : Text) (p : ℕ) (s : Stands whole piece p) where
-  end_within : p + length piece ≤ length whole
-  end_within = length-after_piece whole piece s.rest p s.at s.within
+module _ (first_answer piece : Text) (p : ℕ) (s : Stands first_answer piece p) where
+  end_within : p + length piece ≤ length first_answer
+  end_within = length-after_piece first_answer piece s.rest p s.at s.within
 
-  Has-in : (k c : ℕ) → Has piece k c → Has whole (p + k) c
-  Has-in k c has = (omega (arith, end_within), get_or-in_piece whole piece s.rest p k 0 s.at has.0 ∙ has.1)
+  Has-in : (k c : ℕ) → Has piece k c → Has first_answer (p + k) c
+  Has-in k c has = (omega (arith, end_within), get_or-in_piece first_answer piece s.rest p k 0 s.at has.0 ∙ has.1)
 
-  Has-out : (k c : ℕ) → k < length piece → Has whole (p + k) c → Has piece k c
-  Has-out k c l has = (l, sym (get_or-in_piece whole piece s.rest p k 0 s.at l) ∙ has.1)
+  Has-out : (k c : ℕ) → k < length piece → Has first_answer (p + k) c → Has piece k c
+  Has-out k c l has = (l, sym (get_or-in_piece first_answer piece s.rest p k 0 s.at l) ∙ has.1)
 
-  Has-after : (c : ℕ) → Has whole (p + length piece) c → c ≡ slash
+  Has-after : (c : ℕ) → Has first_answer (p + length piece) c → c ≡ slash
   Has-after c has = ⊎_elim
-      (λ none. absurd (omega (arith, has.0, length-at_end whole (p + length piece) (drop-after_piece whole piece s.rest p s.at ∙ none) end_within)))
-      (λ some. sym has.1 ∙ get_or-at_drop whole some.0 (p + length piece) slash 0 (drop-after_piece whole piece s.rest p s.at ∙ some.1))
+      (λ none. absurd (omega (arith, has.0, length-at_end first_answer (p + length piece) (drop-after_piece first_answer piece s.rest p s.at ∙ none) end_within)))
+      (λ some. sym has.1 ∙ get_or-at_drop first_answer some.0 (p + length piece) slash 0 (drop-after_piece first_answer piece s.rest p s.at ∙ some.1))
       s.ends
 
-  Has-before : (c : ℕ) → 0 < p → Has whole (p - 1) c → c ≡ slash
-  Has-before c l has = ⊎_elim (λ z. absurd (omega (arith, eqb-true p 0 z))) (λ e. sym has.1 ∙ eqb-true _ _ e) (or_cases (p == 0) (slice_index whole (p - 1) == slash) s.opening)
+  Has-before : (c : ℕ) → 0 < p → Has first_answer (p - 1) c → c ≡ slash
+  Has-before c l has = ⊎_elim (λ z. absurd (omega (arith, eqb-true p 0 z))) (λ e. sym has.1 ∙ eqb-true _ _ e) (or_cases (p == 0) (slice_index first_answer (p - 1) == slash) s.opening)
 
   -- a character that is not `/` stands right after place k of the piece in the whole text alone if it does so in the piece
-  not_after : (k c : ℕ) → k ≤ length piece → c ≢ slash → ¬ (Has piece k c) → ¬ (Has whole (p + k) c)
+  not_after : (k c : ℕ) → k ≤ length piece → c ≢ slash → ¬ (Has piece k c) → ¬ (Has first_answer (p + k) c)
   not_after k c l other none has = ⊎_elim
       (λ below. none (Has-out k c below has))
-      (λ end. let e : k ≡ length piece = omega arith in other (Has-after c (subst (λ n. Has whole (p + n) c) e has)))
+      (λ end. let e : k ≡ length piece = omega arith in other (Has-after c (subst (λ n. Has first_answer (p + n) c) e has)))
       (cases_lt k (length piece))
 
-  between-in : (i j : ℕ) → j ≤ length piece → between whole (p + i) (p + j) ≡ between piece i j
+  between-in : (i j : ℕ) → j ≤ length piece → between first_answer (p + i) (p + j) ≡ between piece i j
   between-in i j l = ⊎_elim within (λ over. outside over) (cases_lt i j)
     where
-      within : i < j → between whole (p + i) (p + j) ≡ between piece i j
+      within : i < j → between first_answer (p + i) (p + j) ≡ between piece i j
       within b =
           let n : p + j - (p + i) ≡ j - i = omega arith in
-          ap₂ take n (sym (drop-drop i p whole) ∙ ap (drop i) s.at ∙ drop-append-le i piece s.rest (omega arith))
+          ap₂ take n (sym (drop-drop i p first_answer) ∙ ap (drop i) s.at ∙ drop-append-le i piece s.rest (omega arith))
           ∙ take-append-le (j - i) (drop i piece) s.rest (omega (arith, length-drop i piece))
 
-      outside : j ≤ i → between whole (p + i) (p + j) ≡ between piece i j
+      outside : j ≤ i → between first_answer (p + i) (p + j) ≡ between piece i j
       outside b =
           let n : p + j - (p + i) ≡ 0 = omega arith in
           let m : j - i ≡ 0 = omega arith in
-          ap (λ x. take x (drop (p + i) whole)) n ∙ ap (λ x. take x (drop i piece)) (sym m)
+          ap (λ x. take x (drop (p + i) first_answer)) n ∙ ap (λ x. take x (drop i piece)) (sym m)
 
-  moved : (a b : ℕ) (c : ℕ) → a ≡ b → Has whole a c → Has whole b c
-  moved a b c e h = subst (λ k. Has whole k c) e h
+  moved : (a b : ℕ) (c : ℕ) → a ≡ b → Has first_answer a c → Has first_answer b c
+  moved a b c e h = subst (λ k. Has first_answer k c) e h
 
-  Closes-in : (i e : ℕ) → e ≤ length piece → ClosesBefore piece i e → ClosesBefore whole (p + i) (p + e)
+  Closes-in : (i e : ℕ) → e ≤ length piece → ClosesBefore piece i e → ClosesBefore first_answer (p + i) (p + e)
   Closes-in i e l closes =
       let last : p + (e - 1) ≡ p + e - 1 = omega (arith, closes.0) in (
         omega (arith, closes.0),
@@ -77,7 +77,7 @@ module _ (whole piece : Text) (p : ℕ) (s : Stands whole piece p) where
             closes.2 (k - p) (omega arith) (omega arith) (Has-out (k - p) close_bracket (omega arith) (moved k (p + (k - p)) close_bracket back has)),
       )
 
-  UnitAt-in : (f : ℕ) (t : Token) (e : ℕ) → is_inner t ≡ true → UnitAt piece f t e → UnitAt whole (p + f) t (p + e)
+  UnitAt-in : (f : ℕ) (t : Token) (e : ℕ) → is_inner t ≡ true → UnitAt piece f t e → UnitAt first_answer (p + f) t (p + e)
   UnitAt-in f (Plain c) e inner unit = (Has-in f c unit.0, unit.1, unit.2, unit.3, omega arith)
   UnitAt-in f Any e inner unit = (Has-in f question_mark unit.0, omega arith)
   UnitAt-in f Run e inner unit =
@@ -90,7 +90,7 @@ module _ (whole piece : Text) (p : ℕ) (s : Stands whole piece p) where
         omega arith,
       )
     where
-      before : Has piece f star → (0 < f → ¬ (Has piece (f - 1) star)) → 0 < p + f → ¬ (Has whole (p + f - 1) star)
+      before : Has piece f star → (0 < f → ¬ (Has piece (f - 1) star)) → 0 < p + f → ¬ (Has first_answer (p + f - 1) star)
       before at none l has = ⊎_elim
           (λ first.
           let start : p + f - 1 ≡ p - 1 = omega arith in
@@ -107,8 +107,8 @@ module _ (whole piece : Text) (p : ℕ) (s : Stands whole piece p) where
       let last : p + e - 1 ≡ p + (e - 1) = omega (arith, l) in (
         Has-in f open_bracket unit.0,
         (λ has. unit.1 (Has-out (f + 1) exclamation_mark (omega (arith, unit.2.0, l)) (moved (p + f + 1) (p + (f + 1)) exclamation_mark next has))),
-        subst (λ k. ClosesBefore whole k (p + e)) (sym second) (Closes-in (f + 2) e l.1 unit.2),
-        unit.3 ∙ ap entries_of (sym (between-in (f + 1) (e - 1) (omega arith)) ∙ ap₂ (λ i j. between whole i j) (sym next) (sym last)),
+        subst (λ k. ClosesBefore first_answer k (p + e)) (sym second) (Closes-in (f + 2) e l.1 unit.2),
+        unit.3 ∙ ap entries_of (sym (between-in (f + 1) (e - 1) (omega arith)) ∙ ap₂ (λ i j. between first_answer i j) (sym next) (sym last)),
       )
   UnitAt-in f (Except entries) e inner unit =
       let l = UnitAt-within piece f (Except entries) e unit in
@@ -118,18 +118,18 @@ module _ (whole piece : Text) (p : ℕ) (s : Stands whole piece p) where
       let last : p + e - 1 ≡ p + (e - 1) = omega (arith, l) in (
         Has-in f open_bracket unit.0,
         moved (p + (f + 1)) (p + f + 1) exclamation_mark (sym next) (Has-in (f + 1) exclamation_mark unit.1),
-        subst (λ k. ClosesBefore whole k (p + e)) (sym third) (Closes-in (f + 3) e l.1 unit.2),
-        unit.3 ∙ ap entries_of (sym (between-in (f + 2) (e - 1) (omega arith)) ∙ ap₂ (λ i j. between whole i j) (sym second) (sym last)),
+        subst (λ k. ClosesBefore first_answer k (p + e)) (sym third) (Closes-in (f + 3) e l.1 unit.2),
+        unit.3 ∙ ap entries_of (sym (between-in (f + 2) (e - 1) (omega arith)) ∙ ap₂ (λ i j. between first_answer i j) (sym second) (sym last)),
       )
 
-  UnitsBetween-in : (f : ℕ) (ts : List Token) (e : ℕ) → list_all is_inner ts ≡ true → UnitsBetween piece f ts e → UnitsBetween whole (p + f) ts (p + e)
+  UnitsBetween-in : (f : ℕ) (ts : List Token) (e : ℕ) → list_all is_inner ts ≡ true → UnitsBetween piece f ts e → UnitsBetween first_answer (p + f) ts (p + e)
   UnitsBetween-in f [] e inner units = ap (λ k. p + k) units
   UnitsBetween-in f (t ∷ ts) e inner (m, unit, units) =
       let both = and_parts (is_inner t) (list_all is_inner ts) inner in
       (p + m, UnitAt-in f t m both.0 unit, UnitsBetween-in m ts e both.1 units)
 
   -- `**`
-  UnitAt-deep : piece ≡ star ∷ star ∷ [] → (rest : Text) → s.rest ≡ rest → (e : ℕ) → ((rest ≡ []) × (e ≡ p + 2)) ⊎ ((r : Text) × (rest ≡ slash ∷ r) × (e ≡ p + 3)) → UnitAt whole p Deep e
+  UnitAt-deep : piece ≡ star ∷ star ∷ [] → (rest : Text) → s.rest ≡ rest → (e : ℕ) → ((rest ≡ []) × (e ≡ p + 2)) ⊎ ((r : Text) × (rest ≡ slash ∷ r) × (e ≡ p + 3)) → UnitAt first_answer p Deep e
   UnitAt-deep is rest same e ends =
       let l : length piece ≡ 2 = ap length is in
       let first : Has piece 0 star = (omega arith, ap (λ t. slice_index t 0) is) in
@@ -145,10 +145,10 @@ module _ (whole piece : Text) (p : ℕ) (s : Stands whole piece p) where
         ),
         s.opening,
         ⊎_elim
-            (λ last. inl (last.1, last.1 ∙ two ∙ length-at_end whole (p + length piece) (drop-after_piece whole piece s.rest p s.at ∙ same ∙ last.0) end_within))
+            (λ last. inl (last.1, last.1 ∙ two ∙ length-at_end first_answer (p + length piece) (drop-after_piece first_answer piece s.rest p s.at ∙ same ∙ last.0) end_within))
             (λ more.
-            let on : drop (p + length piece) whole ≡ slash ∷ more.0 = drop-after_piece whole piece s.rest p s.at ∙ same ∙ more.1 in
-            inr (more.2, moved (p + length piece) (p + 2) slash (sym two) (omega (arith, length-at_drop whole more.0 (p + length piece) slash on), get_or-at_drop whole more.0 (p + length piece) slash 0 on)))
+            let on : drop (p + length piece) first_answer ≡ slash ∷ more.0 = drop-after_piece first_answer piece s.rest p s.at ∙ same ∙ more.1 in
+            inr (more.2, moved (p + length piece) (p + 2) slash (sym two) (omega (arith, length-at_drop first_answer more.0 (p + length piece) slash on), get_or-at_drop first_answer more.0 (p + length piece) slash 0 on)))
             ends,
       )
 
@@ -157,50 +157,50 @@ UnitsBetween-append : (text : Text) (f : ℕ) (ts us : List Token) (m e : ℕ) �
 UnitsBetween-append text f [] us m e first second = subst (λ k. UnitsBetween text k us e) (sym first) second
 UnitsBetween-append text f (t ∷ ts) us m e (n, unit, units) second = (n, unit, UnitsBetween-append text n ts us m e units second)
 
-opens-after : (whole r : Text) (q : ℕ) → drop q whole ≡ slash ∷ r → opens whole (q + 1) ≡ true
-opens-after whole r q e =
+opens-after : (first_answer r : Text) (q : ℕ) → drop q first_answer ≡ slash ∷ r → opens first_answer (q + 1) ≡ true
+opens-after first_answer r q e =
     let back : q + 1 - 1 ≡ q = omega arith in
-    or_right (q + 1 == 0) (slice_index whole (q + 1 - 1) == slash) (eq-eqb _ _ (ap (slice_index whole) back ∙ get_or-at_drop whole r q slash 0 e))
+    or_right (q + 1 == 0) (slice_index first_answer (q + 1 - 1) == slash) (eq-eqb _ _ (ap (slice_index first_answer) back ∙ get_or-at_drop first_answer r q slash 0 e))
 
 -- from place p on the components stand, joined by separators: these are the units there
-pub joined-units : (whole : Text) (t : Text) (ts : List Text) (ps : List Part) (p : ℕ) → AreParts (t ∷ ts) ps → drop p whole ≡ join_with_byte slash (t ∷ ts) → p ≤ length whole → opens whole p ≡ true
-    → UnitsBetween whole p (joined_tokens ps) (length whole)
-joined-units whole t ts [] p are at within opening = absurd are
-joined-units whole t [] (Levels ∷ []) p are at within opening =
-    let s : Stands whole t p = record { rest = []; at = at ∙ sym (append-nil t); ends = inl refl; within = within; opening = opening } in
+pub joined-units : (first_answer : Text) (t : Text) (ts : List Text) (ps : List Part) (p : ℕ) → AreParts (t ∷ ts) ps → drop p first_answer ≡ join_with_byte slash (t ∷ ts) → p ≤ length first_answer → opens first_answer p ≡ true
+    → UnitsBetween first_answer p (joined_tokens ps) (length first_answer)
+joined-units first_answer t ts [] p are at within opening = absurd are
+joined-units first_answer t [] (Levels ∷ []) p are at within opening =
+    let s : Stands first_answer t p = record { rest = []; at = at ∙ sym (append-nil t); ends = inl refl; within = within; opening = opening } in
     let l : length t ≡ 2 = ap length are.0 in
-    let end : length whole ≡ p + 2 = sym (length-at_end whole (p + length t) (drop-after_piece whole t [] p s.at) (end_within whole t p s)) ∙ ap (λ n. p + n) l in
-    (length whole, UnitAt-deep whole t p s are.0 [] refl (length whole) (inl (refl, end)), refl)
-joined-units whole t [] (Levels ∷ q ∷ ps) p are at within opening = absurd are.1
-joined-units whole t (u ∷ us) (Levels ∷ ps) p are at within opening =
-    let s : Stands whole t p = record { rest = slash ∷ join_with_byte slash (u ∷ us); at = at; ends = inr (join_with_byte slash (u ∷ us), refl); within = within; opening = opening } in
+    let end : length first_answer ≡ p + 2 = sym (length-at_end first_answer (p + length t) (drop-after_piece first_answer t [] p s.at) (end_within first_answer t p s)) ∙ ap (λ n. p + n) l in
+    (length first_answer, UnitAt-deep first_answer t p s are.0 [] refl (length first_answer) (inl (refl, end)), refl)
+joined-units first_answer t [] (Levels ∷ q ∷ ps) p are at within opening = absurd are.1
+joined-units first_answer t (u ∷ us) (Levels ∷ ps) p are at within opening =
+    let s : Stands first_answer t p = record { rest = slash ∷ join_with_byte slash (u ∷ us); at = at; ends = inr (join_with_byte slash (u ∷ us), refl); within = within; opening = opening } in
     let l : length t ≡ 2 = ap length are.0 in
-    let on : drop (p + length t) whole ≡ slash ∷ join_with_byte slash (u ∷ us) = drop-after_piece whole t s.rest p at in
+    let on : drop (p + length t) first_answer ≡ slash ∷ join_with_byte slash (u ∷ us) = drop-after_piece first_answer t s.rest p at in
     let next : p + length t + 1 ≡ p + 3 = omega arith in (
       p + 3,
-      UnitAt-deep whole t p s are.0 s.rest refl (p + 3) (inr (join_with_byte slash (u ∷ us), refl, refl)),
-      joined-units whole u us ps (p + 3) are.1
-          (ap (λ k. drop k whole) (sym next) ∙ drop-at_drop whole (join_with_byte slash (u ∷ us)) (p + length t) slash on)
-          (omega (arith, length-at_drop whole (join_with_byte slash (u ∷ us)) (p + length t) slash on))
-          (ap (opens whole) (sym next) ∙ opens-after whole (join_with_byte slash (u ∷ us)) (p + length t) on),
+      UnitAt-deep first_answer t p s are.0 s.rest refl (p + 3) (inr (join_with_byte slash (u ∷ us), refl, refl)),
+      joined-units first_answer u us ps (p + 3) are.1
+          (ap (λ k. drop k first_answer) (sym next) ∙ drop-at_drop first_answer (join_with_byte slash (u ∷ us)) (p + length t) slash on)
+          (omega (arith, length-at_drop first_answer (join_with_byte slash (u ∷ us)) (p + length t) slash on))
+          (ap (opens first_answer) (sym next) ∙ opens-after first_answer (join_with_byte slash (u ∷ us)) (p + length t) on),
     )
-joined-units whole t [] (Level vs ∷ []) p are at within opening =
-    let s : Stands whole t p = record { rest = []; at = at ∙ sym (append-nil t); ends = inl refl; within = within; opening = opening } in
-    let end : p + length t ≡ length whole = length-at_end whole (p + length t) (drop-after_piece whole t [] p s.at) (end_within whole t p s) in
+joined-units first_answer t [] (Level vs ∷ []) p are at within opening =
+    let s : Stands first_answer t p = record { rest = []; at = at ∙ sym (append-nil t); ends = inl refl; within = within; opening = opening } in
+    let end : p + length t ≡ length first_answer = length-at_end first_answer (p + length t) (drop-after_piece first_answer t [] p s.at) (end_within first_answer t p s) in
     let z : p + 0 ≡ p = omega arith in
-    subst (λ k. UnitsBetween whole k vs (length whole)) z (subst (λ k. UnitsBetween whole (p + 0) vs k) end (UnitsBetween-in whole t p s 0 vs (length t) are.2 are.0))
-joined-units whole t [] (Level vs ∷ q ∷ ps) p are at within opening = absurd are.3
-joined-units whole t (u ∷ us) (Level vs ∷ []) p are at within opening = absurd are.3
-joined-units whole t (u ∷ us) (Level vs ∷ q ∷ ps) p are at within opening =
-    let s : Stands whole t p = record { rest = slash ∷ join_with_byte slash (u ∷ us); at = at; ends = inr (join_with_byte slash (u ∷ us), refl); within = within; opening = opening } in
-    let on : drop (p + length t) whole ≡ slash ∷ join_with_byte slash (u ∷ us) = drop-after_piece whole t s.rest p at in
+    subst (λ k. UnitsBetween first_answer k vs (length first_answer)) z (subst (λ k. UnitsBetween first_answer (p + 0) vs k) end (UnitsBetween-in first_answer t p s 0 vs (length t) are.2 are.0))
+joined-units first_answer t [] (Level vs ∷ q ∷ ps) p are at within opening = absurd are.3
+joined-units first_answer t (u ∷ us) (Level vs ∷ []) p are at within opening = absurd are.3
+joined-units first_answer t (u ∷ us) (Level vs ∷ q ∷ ps) p are at within opening =
+    let s : Stands first_answer t p = record { rest = slash ∷ join_with_byte slash (u ∷ us); at = at; ends = inr (join_with_byte slash (u ∷ us), refl); within = within; opening = opening } in
+    let on : drop (p + length t) first_answer ≡ slash ∷ join_with_byte slash (u ∷ us) = drop-after_piece first_answer t s.rest p at in
     let z : p + 0 ≡ p = omega arith in
-    UnitsBetween-append whole p vs (Plain slash ∷ joined_tokens (q ∷ ps)) (p + length t) (length whole)
-    (subst (λ k. UnitsBetween whole k vs (p + length t)) z (UnitsBetween-in whole t p s 0 vs (length t) are.2 are.0)) (
+    UnitsBetween-append first_answer p vs (Plain slash ∷ joined_tokens (q ∷ ps)) (p + length t) (length first_answer)
+    (subst (λ k. UnitsBetween first_answer k vs (p + length t)) z (UnitsBetween-in first_answer t p s 0 vs (length t) are.2 are.0)) (
       p + length t + 1,
-      UnitAt-plain whole (join_with_byte slash (u ∷ us)) (p + length t) slash ((λ x. omega arith), (λ x. omega arith), (λ x. omega arith)) on,
-      joined-units whole u us (q ∷ ps) (p + length t + 1) are.3
-          (drop-at_drop whole (join_with_byte slash (u ∷ us)) (p + length t) slash on)
-          (omega (arith, length-at_drop whole (join_with_byte slash (u ∷ us)) (p + length t) slash on))
-          (opens-after whole (join_with_byte slash (u ∷ us)) (p + length t) on),
+      UnitAt-plain first_answer (join_with_byte slash (u ∷ us)) (p + length t) slash ((λ x. omega arith), (λ x. omega arith), (λ x. omega arith)) on,
+      joined-units first_answer u us (q ∷ ps) (p + length t + 1) are.3
+          (drop-at_drop first_answer (join_with_byte slash (u ∷ us)) (p + length t) slash on)
+          (omega (arith, length-at_drop first_answer (join_with_byte slash (u ∷ us)) (p + length t) slash on))
+          (opens-after first_answer (join_with_byte slash (u ∷ us)) (p + length t) on),
     )

@@ -8,7 +8,7 @@ use Rattle.glob_pattern.specs.Grammar.Tokens.{Token}
 use Rattle.glob_pattern.specs.Matching.Taking.{is_excluded_dot, takes}
 use Rattle.glob_pattern.specs.Grammar.Faults.{Fault}
 use Rattle.glob_pattern.specs.Computing.Reading.{reading_of}
-use Rattle.glob_pattern.specs.Computing.Deciding.{match_read, is_match}
+use Rattle.glob_pattern.specs.Computing.Deciding.{match_of_reading, is_match}
 use Rattle.glob_pattern.specs.Matching.Components.{with_separator_rule}
 use Rattle.glob_pattern.specs.declared.options.MatchOptions.{MatchOptions}
 use Rattle.glob_pattern.specs.declared.token.Token.TheVariants.{Plain, Any, Run, Deep, Within, Except}
@@ -67,7 +67,7 @@ pub separator_rule_free : (o : MatchOptions) (pattern text : Text) → has_no_sl
 unfolding is_match
 separator_rule_free o pattern text h = by_reading (reading_of pattern)
   where
-    by_reading : (read : Result (List Token) Fault) → match_read (with_separator_rule o) read text ≡ match_read o read text
+    by_reading : (read : Result (List Token) Fault) → match_of_reading (with_separator_rule o) read text ≡ match_of_reading o read text
     by_reading (Ok tokens) =
         tokens_match-fits (with_separator_rule o) tokens text
         ∙ sym (alike o tokens true text h)
