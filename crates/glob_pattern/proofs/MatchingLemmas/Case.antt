@@ -3,7 +3,8 @@ use Rattle.std.proofs.Common.{◌≡◌, ℕ, ◌+◌, ◌<◌, ◌≤◌, ◌�
 use Rattle.std.proofs.lemmas.Bool.{or_cases, or_right, and_parts, and_from, eqb-true, eq-eqb, ltb-true, lt-ltb, cases_eq, cases_lt}
 use Rattle.std.proofs.lemmas.Str.Ascii.{lowercase_is, uppercase_is}
 use Rattle.std.specs.Char.{to_ascii_lowercase, to_ascii_uppercase}
-use Rattle.glob_pattern.specs.Grammar.Brackets.{same, is_ascii}
+use Rattle.glob_pattern.specs.Grammar.Brackets.{same}
+use Rattle.std.specs.Char.{is_ascii}
 
 lower_cases : (c : ℕ) → ((65 ≤ c) × (c ≤ 90) × (to_ascii_lowercase c ≡ c + 32)) ⊎ (((c < 65) ⊎ (90 < c)) × (to_ascii_lowercase c ≡ c))
 lower_cases c =
