@@ -1,3 +1,4 @@
+pub mod Digits
 pub mod LowestBits
 pub mod PutBits
 pub mod SetBits

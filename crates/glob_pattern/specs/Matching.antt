@@ -1,4 +1,3 @@
-pub mod Bits
 pub mod Components
 pub mod Options
 pub mod Short

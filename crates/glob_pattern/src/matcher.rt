@@ -1,6 +1,6 @@
 ghost use Rattle.std.specs.Prelude.{◌≡◌, ℕ, ◌+◌, ◌-◌, ◌*◌, ◌^◌, ◌<◌, ◌≤◌, ◌↔◌, false, length, IsTrue, IsOk, IfOk, count_ones};
 ghost use Rattle.glob_pattern.specs.Matching.Splits.{Table, Splits};
-ghost use Rattle.glob_pattern.specs.Matching.Bits.{IsSet};
+ghost use Rattle.std.specs.Int.{IsBitSet};
 
 mod many_words;
 mod one_word;
@@ -70,14 +70,14 @@ pub trait Judge {
         requires stepped { 0 < place self.old }
         requires within { 64 * word + 64 ≤ 2 ^ 64 }
         requires tokens { (j : ℕ)
-            → IsSet asked j → 64 * word + j < (table self.old).tokens }
+            → IsBitSet asked j → 64 * word + j < (table self.old).tokens }
         requires room { count self.old + count_ones asked < 2 ^ 128 }
         ensures same { table self.new ≡ table self.old }
         ensures place { place self.new ≡ place self.old }
         ensures count { count self.new ≡ count self.old + count_ones asked }
         ensures took { (j : ℕ) → j < 64
-            → IsSet result j
-            ↔ (IsSet asked j × IsTrue ((table self.old).takes (64 * word + j) (place self.old - 1))) }
+            → IsBitSet result j
+            ↔ (IsBitSet asked j × IsTrue ((table self.old).takes (64 * word + j) (place self.old - 1))) }
     {
         let mut left = asked;
         let mut took = 0u64;

@@ -1,10 +1,10 @@
 -- Masks in which one bit is put.
 use Rattle.std.proofs.Common.{ℕ, ◌↔◌}
-use Rattle.glob_pattern.specs.Matching.Bits.{IsSet}
+use Rattle.std.specs.Int.{IsBitSet}
 use Rattle.glob_pattern.specs.Private.Masks.{IsPut}
 
 -- a mask without the bit stays as it is
-pub IsPut-same : (mask bit : ℕ) (P : Type 0) → ¬ (IsSet mask bit) → ¬ P → IsPut mask mask bit P
+pub IsPut-same : (mask bit : ℕ) (P : Type 0) → ¬ (IsBitSet mask bit) → ¬ P → IsPut mask mask bit P
 IsPut-same mask bit P clear fails = record {
   here = (λ s. absurd (clear s), λ p. absurd (fails p));
   others = λ j lt ne. (λ s. s, λ s. s);

@@ -1,147 +1,141 @@
 -- Which bits of a word are set, after the operations on words.
-use Rattle.std.proofs.Common.{◌≡◌, ℕ, suc, ◌+◌, ◌-◌, ◌*◌, ◌/◌, ◌%◌, ◌^◌, ◌<◌, ◌≤◌, ◌≢◌, ◌⊎◌, ◌↔◌, min, max, Bool, true, false, not, nat_eq, IsTrue, bit_and, bit_or, bit_xor, refl, sym, ap, ◌∙◌, inl, inr, ⊎_elim, arith, add-zero}
-use Rattle.std.specs.Int.{bit_at, bit_not, w64}
+use Rattle.std.proofs.Common.{◌≡◌, ℕ, suc, ◌+◌, ◌*◌, ◌/◌, ◌%◌, ◌^◌, ◌<◌, ◌≤◌, ◌≢◌, ◌⊎◌, ◌↔◌, Bool, not, nat_eq, IsTrue, bit_and, bit_or, bit_xor, sym, ◌∙◌, inl, inr, ⊎_elim, arith}
+use Rattle.std.specs.Int.{IsBitSet, bit_at, bit_not, w64}
 use mir.Val.{bool_byte}
-use Rattle.std.proofs.lemmas.Bool.{cases_eq, false≢true, eqb-false, ne_eqb, not-true}
-use Rattle.std.proofs.lemmas.Nat.{one_shl, shr_split, and_le_r}
-use Rattle.std.proofs.lemmas.Nat.Bits.{bit_at-zero, bit_at_and, bit_at_or, bit_at_xor, bit_at_not, bit_at-lt, bit_at-pow_same, bit_at-pow_other, bit_at_cat_low, bit_at_above, bit_at_lowest, bit_at-suc, shr_and_one}
-use Rattle.glob_pattern.specs.Matching.Bits.{IsSet}
-use Rattle.glob_pattern.proofs.PositionLemmas.Spreading.{spread, spread-low, spread-next}
+use Rattle.std.proofs.lemmas.Bool.{cases_eq, cases_lt}
+use Rattle.std.proofs.lemmas.Nat.{bit_set_by_shift}
+use Rattle.std.proofs.lemmas.Nat.Bits.{bit_at_above, shr_and_one}
+use Rattle.glob_pattern.proofs.PositionLemmas.Spreading.{spread}
+use Rattle.glob_pattern.proofs.BitLemmas.Digits as digits
+use Rattle.glob_pattern.proofs.BitLemmas.Digits.{IsOne}
 
--- one of two bits is the greater
-max_set : (x y : ℕ) → x < 2 → y < 2 → (max x y ≡ 1) ↔ ((x ≡ 1) ⊎ (y ≡ 1))
-max_set x y p q = (
-  λ h. ⊎_elim inl (λ ne. inr (omega arith)) (cases_eq x 1),
-  λ h. ⊎_elim (λ e. omega arith) (λ e. omega arith) h,
-)
+-- a bit is set where the binary digit is 1
+pub IsBitSet-iff_one : (n k : ℕ) → IsBitSet n k ↔ IsOne n k
+IsBitSet-iff_one n k =
+    let by_shift = bit_set_by_shift n k in
+    let same = shr_and_one n k in
+    (λ s. sym same ∙ by_shift.1 s, λ one. by_shift.0 (same ∙ one))
 
--- both of two bits are the lesser
-min_set : (x y : ℕ) → x < 2 → y < 2 → (min x y ≡ 1) ↔ ((x ≡ 1) × (y ≡ 1))
-min_set x y p q = (λ h. (omega arith, omega arith), λ (e, f). omega arith)
+-- a bit is set or not
+pub IsBitSet-cases : (n k : ℕ) → IsBitSet n k ⊎ ¬ (IsBitSet n k)
+IsBitSet-cases n k =
+    let iff = IsBitSet-iff_one n k in
+    ⊎_elim (λ e. inl (iff.1 e)) (λ ne. inr (λ s. ne (iff.0 s))) (cases_eq (bit_at n k) 1)
 
-pub IsSet-zero : (j : ℕ) → IsSet 0 j → ⊥
-IsSet-zero j h = let none = bit_at-zero j in omega arith
+-- a fact on one bit, from one on the digit
+one_from : (P : Type 0) (n k : ℕ) → IsOne n k ↔ P → IsBitSet n k ↔ P
+one_from P n k h = let iff = IsBitSet-iff_one n k in (λ s. h.0 (iff.0 s), λ p. iff.1 (h.1 p))
 
-pub IsSet-or : (a b j : ℕ) → IsSet (bit_or a b) j ↔ (IsSet a j ⊎ IsSet b j)
-IsSet-or a b j = rw bit_at_or (max_set (bit_at a j) (bit_at b j) (bit_at-lt a j) (bit_at-lt b j))
+-- a fact on two bits, from one on the digits
+two_from : (m n i j : ℕ) → IsOne m i ↔ IsOne n j → IsBitSet m i ↔ IsBitSet n j
+two_from m n i j h =
+    let first = IsBitSet-iff_one m i in
+    let second = IsBitSet-iff_one n j in
+    (λ s. second.1 (h.0 (first.0 s)), λ s. first.1 (h.1 (second.0 s)))
 
-pub IsSet-and : (a b j : ℕ) → IsSet (bit_and a b) j ↔ (IsSet a j × IsSet b j)
-IsSet-and a b j = rw bit_at_and (min_set (bit_at a j) (bit_at b j) (bit_at-lt a j) (bit_at-lt b j))
+pub IsBitSet-zero : (j : ℕ) → IsBitSet 0 j → ⊥
+IsBitSet-zero j s = digits.IsOne-zero j ((IsBitSet-iff_one 0 j).0 s)
 
-pub IsSet-not : (a j : ℕ) → a < 2 ^ 64 → j < 64 → IsSet (bit_not w64 a) j ↔ (IsSet a j → ⊥)
-IsSet-not a j fits lt =
-    let at : bit_at (bit_not w64 a) j ≡ 1 - bit_at a j = bit_at_not w64 a j fits lt in
-    let low = bit_at-lt a j in
-    (λ h s. omega arith, λ none. ⊎_elim (λ e. absurd (none e)) (λ ne. omega arith) (cases_eq (bit_at a j) 1))
-
--- the bits of a word of 64 are those of the number
-bit_at-word : (n j : ℕ) → j < 64 → bit_at (n % 2 ^ 64) j ≡ bit_at n j
-bit_at-word n j lt = sym (bit_at_cat_low (n / 2 ^ 64) 64 (n % 2 ^ 64) j lt) ∙ ap (λ x. bit_at x j) (shr_split n 64)
-
--- one bit
-pub IsSet-one : (k j : ℕ) → k < 64 → IsSet (1 * 2 ^ k % 2 ^ 64) j ↔ (j ≡ k)
-IsSet-one k j lt =
-    let one : 1 * 2 ^ k % 2 ^ 64 ≡ 2 ^ k = one_shl k 64 lt in
-    rw one (
-      λ h. ⊎_elim (λ e. e) (λ ne. let other = bit_at-pow_other k j ne in absurd (omega arith)) (cases_eq j k),
-      λ e. rw e (bit_at-pow_same k),
+pub IsBitSet-or : (a b j : ℕ) → IsBitSet (bit_or a b) j ↔ (IsBitSet a j ⊎ IsBitSet b j)
+IsBitSet-or a b j =
+    let first = IsBitSet-iff_one a j in
+    let second = IsBitSet-iff_one b j in
+    let or = digits.IsOne-or a b j in
+    one_from _ (bit_or a b) j (
+      λ h. ⊎_elim (λ s. inl (first.1 s)) (λ s. inr (second.1 s)) (or.0 h),
+      λ h. or.1 (⊎_elim (λ s. inl (first.0 s)) (λ s. inr (second.0 s)) h),
     )
 
+pub IsBitSet-and : (a b j : ℕ) → IsBitSet (bit_and a b) j ↔ (IsBitSet a j × IsBitSet b j)
+IsBitSet-and a b j =
+    let first = IsBitSet-iff_one a j in
+    let second = IsBitSet-iff_one b j in
+    let and = digits.IsOne-and a b j in
+    one_from _ (bit_and a b) j (λ h. let (s, t) = and.0 h in (first.1 s, second.1 t), λ (s, t). and.1 (first.0 s, second.0 t))
+
+pub IsBitSet-not : (a j : ℕ) → a < 2 ^ 64 → j < 64 → IsBitSet (bit_not w64 a) j ↔ (IsBitSet a j → ⊥)
+IsBitSet-not a j fits lt =
+    let here = IsBitSet-iff_one a j in
+    let not = digits.IsOne-not a j fits lt in
+    one_from _ (bit_not w64 a) j (λ h s. not.0 h (here.0 s), λ none. not.1 (λ s. none (here.1 s)))
+
+-- one bit
+pub IsBitSet-one : (k j : ℕ) → k < 64 → IsBitSet (1 * 2 ^ k % 2 ^ 64) j ↔ (j ≡ k)
+IsBitSet-one k j lt = one_from _ (1 * 2 ^ k % 2 ^ 64) j (digits.IsOne-one k j lt)
+
 -- one bit more
-pub IsSet-with : (word k : ℕ) → k < 64 → (j : ℕ) → IsSet (bit_or word (1 * 2 ^ k % 2 ^ 64)) j ↔ (IsSet word j ⊎ (j ≡ k))
-IsSet-with word k lt j =
-    let or = IsSet-or word (1 * 2 ^ k % 2 ^ 64) j in
-    let one = IsSet-one k j lt in
+pub IsBitSet-with : (word k : ℕ) → k < 64 → (j : ℕ) → IsBitSet (bit_or word (1 * 2 ^ k % 2 ^ 64)) j ↔ (IsBitSet word j ⊎ (j ≡ k))
+IsBitSet-with word k lt j =
+    let or = IsBitSet-or word (1 * 2 ^ k % 2 ^ 64) j in
+    let one = IsBitSet-one k j lt in
     (λ h. ⊎_elim inl (λ s. inr (one.0 s)) (or.0 h), λ h. or.1 (⊎_elim inl (λ e. inr (one.1 e)) h))
 
 -- bits that spread over the ones of a mask, from those of a word
-pub IsSet-spread_low : (word mask : ℕ) → IsSet (spread word mask 0) 0 ↔ IsSet word 0
-IsSet-spread_low word mask =
-    let low = spread-low word mask 0 (omega arith) in
-    let first = bit_at-lt word 0 in
-    (λ h. omega arith, λ h. omega arith)
+pub IsBitSet-spread_low : (word mask : ℕ) → IsBitSet (spread word mask 0) 0 ↔ IsBitSet word 0
+IsBitSet-spread_low word mask = two_from (spread word mask 0) word 0 0 (digits.IsOne-spread_low word mask)
 
-pub IsSet-spread_next : (word mask j : ℕ) → IsSet (spread word mask 0) (suc j) ↔ (IsSet word (suc j) ⊎ (IsSet mask j × IsSet (spread word mask 0) j))
-IsSet-spread_next word mask j =
-    let next = spread-next j word mask 0 (omega arith) in
-    let both = min_set (bit_at mask j) (bit_at (spread word mask 0) j) (bit_at-lt mask j) (bit_at-lt (spread word mask 0) j) in
-    let one = max_set (bit_at word (suc j)) (min (bit_at mask j) (bit_at (spread word mask 0) j)) (bit_at-lt word (suc j)) (let a = bit_at-lt mask j in omega arith) in
-    rw next (λ h. ⊎_elim inl (λ s. inr (both.0 s)) (one.0 h), λ h. one.1 (⊎_elim inl (λ s. inr (both.1 s)) h))
-
--- the low bit of a word that is moved up by one
-pub IsSet-moved_low : (a : ℕ) (low : Bool) → IsSet (bit_or (a * 2 ^ 1 % 2 ^ 64) (bool_byte low)) 0 ↔ IsTrue low
-IsSet-moved_low a low =
-    let or = IsSet-or (a * 2 ^ 1 % 2 ^ 64) (bool_byte low) 0 in
-    let even : bit_at (a * 2 ^ 1 % 2 ^ 64) 0 ≡ 0 = bit_at_lowest (a * 2 ^ 1 % 2 ^ 64) ∙ omega arith in
-    (λ h. ⊎_elim (λ s. absurd (omega arith)) (low_set low) (or.0 h), λ t. or.1 (inr (set_low low t)))
-  where
-    low_set : (b : Bool) → IsSet (bool_byte b) 0 → IsTrue b
-    low_set true h = refl
-    low_set false h = absurd (IsSet-zero 0 h)
-
-    set_low : (b : Bool) → IsTrue b → IsSet (bool_byte b) 0
-    set_low true t = refl
-    set_low false t = absurd (false≢true t)
-
--- and its other bits
-pub IsSet-moved_next : (a : ℕ) (low : Bool) (j : ℕ) → suc j < 64 → IsSet (bit_or (a * 2 ^ 1 % 2 ^ 64) (bool_byte low)) (suc j) ↔ IsSet a j
-IsSet-moved_next a low j lt =
-    let or = IsSet-or (a * 2 ^ 1 % 2 ^ 64) (bool_byte low) (suc j) in
-    let half : a * 2 ^ 1 / 2 ≡ a = omega arith in
-    let up : bit_at (a * 2 ^ 1 % 2 ^ 64) (suc j) ≡ bit_at a j = bit_at-word (a * 2 ^ 1) (suc j) lt ∙ bit_at-suc (a * 2 ^ 1) j ∙ ap (λ x. bit_at x j) half in
-    (λ h. ⊎_elim (λ s. omega arith) (λ s. absurd (only_low low s)) (or.0 h), λ s. or.1 (inl (omega arith)))
-  where
-    only_low : (b : Bool) → IsSet (bool_byte b) (suc j) → ⊥
-    only_low true s = IsSet-zero j (sym (bit_at-suc 1 j) ∙ s)
-    only_low false s = IsSet-zero (suc j) s
-
--- the bits that spread within a word
-pub IsSet-closed : (word mask j : ℕ) → j < 64 → IsSet (bit_or word (bit_xor ((bit_and word mask + mask) % 2 ^ 64) mask)) j ↔ IsSet (spread word mask 0) j
-IsSet-closed word mask j lt =
-    let sum : bit_at ((bit_and word mask + mask) % 2 ^ 64) j ≡ bit_at (bit_and word mask + mask + 0) j = bit_at-word (bit_and word mask + mask) j lt ∙ ap (λ x. bit_at x j) (sym (add-zero (bit_and word mask + mask))) in
-    let same : bit_at (bit_or word (bit_xor ((bit_and word mask + mask) % 2 ^ 64) mask)) j ≡ bit_at (spread word mask 0) j =
-    bit_at_or word _ j ∙ ap (max (bit_at word j)) (bit_at_xor _ mask j ∙ ap (λ x. (x + bit_at mask j) % 2) sum ∙ sym (bit_at_xor _ mask j)) ∙ sym (bit_at_or word _ j) in
-    (λ h. sym same ∙ h, λ h. same ∙ h)
-
--- the bit that spreads past the end of a word
-pub spread_past : (word mask : ℕ) → word < 2 ^ 64 → mask < 2 ^ 64 → (2 ^ 64 ≤ bit_and word mask + mask) ↔ (IsSet mask 63 × IsSet (spread word mask 0) 63)
-spread_past word mask fits mask_fits =
-    let above : bit_at word 64 ≡ 0 = bit_at_above word 64 64 fits (omega arith) in
-    let mask_above : bit_at mask 64 ≡ 0 = bit_at_above mask 64 64 mask_fits (omega arith) in
-    let none : IsSet word 64 → ⊥ = λ s. omega arith in
-    let low : bit_and word mask ≤ mask = and_le_r word mask in
-    let next = IsSet-spread_next word mask 63 in
-    let or = IsSet-or word (bit_xor (bit_and word mask + mask + 0) mask) 64 in
-    let xor : bit_at (bit_xor (bit_and word mask + mask + 0) mask) 64 ≡ (bit_at (bit_and word mask + mask + 0) 64 + bit_at mask 64) % 2 = bit_at_xor _ mask 64 in
-    let high : bit_at (bit_and word mask + mask + 0) 64 ≡ (bit_and word mask + mask + 0) / 2 ^ 64 % 2 = refl in (
-      λ le. ⊎_elim (λ s. absurd (none s)) (λ both. both) (next.0 (or.1 (inr (omega arith)))),
-      λ both. ⊎_elim (λ s. absurd (none s)) (λ s. omega arith) (or.0 (next.1 (inr both))),
+pub IsBitSet-spread_next : (word mask j : ℕ) → IsBitSet (spread word mask 0) (suc j) ↔ (IsBitSet word (suc j) ⊎ (IsBitSet mask j × IsBitSet (spread word mask 0) j))
+IsBitSet-spread_next word mask j =
+    let next = digits.IsOne-spread_next word mask j in
+    let up = IsBitSet-iff_one word (suc j) in
+    let masked = IsBitSet-iff_one mask j in
+    let here = IsBitSet-iff_one (spread word mask 0) j in
+    one_from _ (spread word mask 0) (suc j) (
+      λ h. ⊎_elim (λ s. inl (up.1 s)) (λ (s, t). inr (masked.1 s, here.1 t)) (next.0 h),
+      λ h. next.1 (⊎_elim (λ s. inl (up.0 s)) (λ (s, t). inr (masked.0 s, here.0 t)) h),
     )
 
--- what is left of a word moved down by 63 is its highest bit
-pub highest_set : (a : ℕ) → a < 2 ^ 64 → (a / 2 ^ 63 ≢ 0) ↔ IsSet a 63
-highest_set a fits = (λ ne. omega arith, λ s e. omega arith)
+-- the low bit of a word that is moved up by one
+pub IsBitSet-moved_low : (a : ℕ) (low : Bool) → IsBitSet (bit_or (a * 2 ^ 1 % 2 ^ 64) (bool_byte low)) 0 ↔ IsTrue low
+IsBitSet-moved_low a low = one_from _ (bit_or (a * 2 ^ 1 % 2 ^ 64) (bool_byte low)) 0 (digits.IsOne-moved_low a low)
 
-pub IsSet-any_of_three : (a b c j : ℕ) → IsSet (bit_or (bit_or a b) c) j ↔ (IsSet a j ⊎ IsSet b j ⊎ IsSet c j)
-IsSet-any_of_three a b c j =
-    let two = IsSet-or a b j in
-    let all = IsSet-or (bit_or a b) c j in (
+-- and its other bits
+pub IsBitSet-moved_next : (a : ℕ) (low : Bool) (j : ℕ) → suc j < 64 → IsBitSet (bit_or (a * 2 ^ 1 % 2 ^ 64) (bool_byte low)) (suc j) ↔ IsBitSet a j
+IsBitSet-moved_next a low j lt = two_from (bit_or (a * 2 ^ 1 % 2 ^ 64) (bool_byte low)) a (suc j) j (digits.IsOne-moved_next a low j lt)
+
+-- the bits that spread within a word
+pub IsBitSet-closed : (word mask j : ℕ) → j < 64 → IsBitSet (bit_or word (bit_xor ((bit_and word mask + mask) % 2 ^ 64) mask)) j ↔ IsBitSet (spread word mask 0) j
+IsBitSet-closed word mask j lt = two_from (bit_or word (bit_xor ((bit_and word mask + mask) % 2 ^ 64) mask)) (spread word mask 0) j j (digits.IsOne-closed word mask j lt)
+
+-- the bit that spreads past the end of a word
+pub spread_past : (word mask : ℕ) → word < 2 ^ 64 → mask < 2 ^ 64 → (2 ^ 64 ≤ bit_and word mask + mask) ↔ (IsBitSet mask 63 × IsBitSet (spread word mask 0) 63)
+spread_past word mask fits mask_fits =
+    let past = digits.spread_past word mask fits mask_fits in
+    let masked = IsBitSet-iff_one mask 63 in
+    let last = IsBitSet-iff_one (spread word mask 0) 63 in
+    (λ le. let (s, t) = past.0 le in (masked.1 s, last.1 t), λ (s, t). past.1 (masked.0 s, last.0 t))
+
+-- what is left of a word moved down by 63 is its highest bit
+pub highest_set : (a : ℕ) → a < 2 ^ 64 → (a / 2 ^ 63 ≢ 0) ↔ IsBitSet a 63
+highest_set a fits =
+    let high = digits.highest_set a fits in
+    let last = IsBitSet-iff_one a 63 in
+    (λ ne. last.1 (high.0 ne), λ s. high.1 (last.0 s))
+
+pub IsBitSet-any_of_three : (a b c j : ℕ) → IsBitSet (bit_or (bit_or a b) c) j ↔ (IsBitSet a j ⊎ IsBitSet b j ⊎ IsBitSet c j)
+IsBitSet-any_of_three a b c j =
+    let two = IsBitSet-or a b j in
+    let all = IsBitSet-or (bit_or a b) c j in (
       λ h. ⊎_elim (λ s. ⊎_elim inl (λ t. inr (inl t)) (two.0 s)) (λ s. inr (inr s)) (all.0 h),
       λ h. all.1 (⊎_elim (λ s. inl (two.1 (inl s))) (λ others. ⊎_elim (λ s. inl (two.1 (inr s))) inr others) h),
     )
 
 -- the test of a bit
-pub IsSet-test : (a j : ℕ) → IsTrue (not (nat_eq (bit_and (a / 2 ^ j) 1) 0)) ↔ IsSet a j
-IsSet-test a j =
-    let low : bit_and (a / 2 ^ j) 1 ≡ bit_at a j = shr_and_one a j in
-    let lt = bit_at-lt a j in (
-      λ t. let ne = eqb-false (bit_and (a / 2 ^ j) 1) 0 (not-true _ t) in ⊎_elim (λ e. e) (λ other. absurd (ne (omega arith))) (cases_eq (bit_at a j) 1),
-      λ s. ap not (ne_eqb (bit_and (a / 2 ^ j) 1) 0 (λ e. omega arith)),
-    )
+pub IsBitSet-test : (a j : ℕ) → IsTrue (not (nat_eq (bit_and (a / 2 ^ j) 1) 0)) ↔ IsBitSet a j
+IsBitSet-test a j =
+    let test = digits.IsOne-test a j in
+    let here = IsBitSet-iff_one a j in
+    (λ t. here.1 (test.0 t), λ s. test.1 (here.0 s))
 
 -- the bits of one word that another does not have
-pub IsSet-without : (a b j : ℕ) → b < 2 ^ 64 → j < 64 → IsSet (bit_and a (bit_not w64 b)) j ↔ (IsSet a j × (IsSet b j → ⊥))
-IsSet-without a b j fits lt =
-    let both = IsSet-and a (bit_not w64 b) j in
-    let none = IsSet-not b j fits lt in
+pub IsBitSet-without : (a b j : ℕ) → b < 2 ^ 64 → j < 64 → IsBitSet (bit_and a (bit_not w64 b)) j ↔ (IsBitSet a j × (IsBitSet b j → ⊥))
+IsBitSet-without a b j fits lt =
+    let both = IsBitSet-and a (bit_not w64 b) j in
+    let none = IsBitSet-not b j fits lt in
     (λ s. ((both.0 s).0, none.0 (both.0 s).1), λ (s, n). both.1 (s, none.1 n))
+
+-- a bit of a word is one of 64
+pub bit_below : (word j : ℕ) → word < 2 ^ 64 → IsBitSet word j → j < 64
+bit_below word j fits set =
+    let one = (IsBitSet-iff_one word j).0 set in
+    ⊎_elim (λ lt. lt) (λ le. let none = bit_at_above word 64 j fits le in absurd (omega (arith, one, none))) (cases_lt j 64)

@@ -3,18 +3,18 @@ use Rattle.std.proofs.Common.{◌≡◌, ℕ, ◌+◌, ◌-◌, ◌*◌, ◌/◌
 use Rattle.std.proofs.lemmas.List.{get_or-replicate, get_or_append_left, get_or_push}
 use Rattle.std.proofs.lemmas.Bool.{cases_eq}
 use Rattle.glob_pattern.specs.Grammar.Tokens.{Token, is_deep}
-use Rattle.glob_pattern.specs.Matching.Bits.{IsSet}
+use Rattle.std.specs.Int.{IsBitSet}
 use Rattle.glob_pattern.specs.Matching.Options.{new_options}
 use Rattle.glob_pattern.specs.Matching.Taking.{takes}
 use Rattle.glob_pattern.specs.Private.Masks.{mask_of, is_any_or_run, is_bracket, IsMask, AreMasks, IsPut, IsClear}
 use Rattle.glob_pattern.specs.declared.pattern.masks.TokenMasks.{TokenMasks}
 use Rattle.glob_pattern.specs.declared.token.Token.TheVariants.{Any}
-use Rattle.glob_pattern.proofs.BitLemmas.SetBits.{IsSet-zero}
+use Rattle.glob_pattern.proofs.BitLemmas.SetBits.{IsBitSet-zero}
 
 -- of no tokens no bit is set
 IsMask-none : (tokens : List Token) (start : ℕ) (test : Token → Bool) (mask : ℕ) → mask ≡ 0 → IsMask tokens start start test mask
 IsMask-none tokens start test mask zero = record {
-  bit = λ j lt. (λ s. absurd (IsSet-zero j (rw zero at s)), λ (below, _). absurd (omega arith));
+  bit = λ j lt. (λ s. absurd (IsBitSet-zero j (rw zero at s)), λ (below, _). absurd (omega arith));
 }
 
 pub AreMasks-none : (tokens : List Token) (start : ℕ) (masks : TokenMasks) → masks.characters ≡ replicate 128 0
@@ -30,7 +30,7 @@ AreMasks-none tokens start masks characters any_or_run deep brackets = record {
 pub AreMasks-clear : (tokens : List Token) (start n : ℕ) (masks : TokenMasks) → AreMasks tokens start n masks → start ≤ n → n < start + 64
     → IsClear masks (n - start)
 AreMasks-clear tokens start n masks are from near =
-    let clear : (test : Token → Bool) (mask : ℕ) → IsMask tokens start n test mask → ¬ (IsSet mask (n - start)) =
+    let clear : (test : Token → Bool) (mask : ℕ) → IsMask tokens start n test mask → ¬ (IsBitSet mask (n - start)) =
     λ test mask is s. let (below, _) = (is.bit (n - start) (omega arith)).0 s in omega arith in
     record {
       characters = λ c lt. clear (takes new_options true c) (mask_of c masks) (are.characters c lt);
@@ -47,7 +47,7 @@ IsMask-more tokens start n test token old new from is before put = record {
       ⊎_elim
       (λ e.
       let at : start + j ≡ n = omega arith in
-      let here : IsSet new j ↔ IsTrue (test token) = rw e put.here in
+      let here : IsBitSet new j ↔ IsTrue (test token) = rw e put.here in
       rw (at, ← is) (λ s. (omega arith, here.0 s), λ (_, t). here.1 t))
       (λ ne.
       let same = put.others j lt ne in
@@ -100,5 +100,5 @@ masks-push tokens n list masks count before here i d lt =
 
 -- what a mask says of a token that there is
 pub IsMask-within : (tokens : List Token) (start : ℕ) (test : Token → Bool) (mask : ℕ) → IsMask tokens start (length tokens) test mask
-    → (j : ℕ) → j < 64 → start + j < length tokens → IsSet mask j ↔ IsTrue (test (get_or tokens (start + j) Any))
+    → (j : ℕ) → j < 64 → start + j < length tokens → IsBitSet mask j ↔ IsTrue (test (get_or tokens (start + j) Any))
 IsMask-within tokens start test mask is j lt below = let bit = is.bit j lt in (λ s. let (_, t) = bit.0 s in t, λ t. bit.1 (below, t))

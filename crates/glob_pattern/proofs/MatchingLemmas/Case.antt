@@ -3,8 +3,9 @@ use Rattle.std.proofs.Common.{◌≡◌, ℕ, ◌+◌, ◌<◌, ◌≤◌, ◌�
 use Rattle.std.proofs.lemmas.Bool.{both_ways, or_from, and_right, ne_eqb, or_cases, or_right, and_parts, and_from, eqb-true, eq-eqb, ltb-true, lt-ltb, cases_eq, cases_lt}
 use Rattle.std.proofs.lemmas.Str.Ascii.{lowercase_is, uppercase_is}
 use Rattle.std.specs.Char.{to_ascii_lowercase, to_ascii_uppercase}
+use Rattle.std.specs.Char.{is_ascii}
 use Rattle.glob_text.specs.Characters.{slash}
-use Rattle.glob_pattern.specs.Grammar.Brackets.{same, is_ascii}
+use Rattle.glob_pattern.specs.Grammar.Brackets.{same}
 
 lower_cases : (c : ℕ) → ((65 ≤ c) × (c ≤ 90) × (to_ascii_lowercase c ≡ c + 32)) ⊎ (((c < 65) ⊎ (90 < c)) × (to_ascii_lowercase c ≡ c))
 lower_cases c =

@@ -7,11 +7,11 @@ use Rattle.std.proofs.lemmas.Bool.{cases_eq, false≢true, eqb-false, ne_eqb, no
 use Rattle.std.proofs.lemmas.List.{get_or_past}
 use Rattle.glob_pattern.specs.Matching.Splits.{Table}
 use Rattle.glob_pattern.specs.Private.Prefixes.{PrefixSplits, IsAlive, HasTaken}
-use Rattle.glob_pattern.specs.Matching.Bits.{IsSet}
+use Rattle.std.specs.Int.{IsBitSet}
 use Rattle.glob_pattern.specs.Private.Positions.{AreShapeMasks, AliveWord, TakenWord}
 use Rattle.glob_pattern.proofs.PositionLemmas.Alive.{MayEnd, ComesAlive, ComesWhole, IsAlive-step, PrefixSplits-step}
 use Rattle.glob_pattern.proofs.PositionLemmas.Spreading.{spread}
-use Rattle.glob_pattern.proofs.BitLemmas.SetBits.{IsSet-or, IsSet-and, IsSet-spread_low, IsSet-spread_next, IsSet-moved_low, IsSet-moved_next, IsSet-closed, spread_past, highest_set}
+use Rattle.glob_pattern.proofs.BitLemmas.SetBits.{IsBitSet-cases, IsBitSet-or, IsBitSet-and, IsBitSet-spread_low, IsBitSet-spread_next, IsBitSet-moved_low, IsBitSet-moved_next, IsBitSet-closed, spread_past, highest_set}
 use Rattle.glob_pattern.specs.declared.matcher.Shape.{Shape}
 use Rattle.glob_pattern.specs.declared.matcher.Shape.TheVariants.{One, Deep}
 use Rattle.glob_pattern.specs.declared.matcher.shape_masks.ShapeMasks.{ShapeMasks}
@@ -19,20 +19,20 @@ use Rattle.glob_pattern.specs.declared.matcher.shape_masks.ShapeMasks.{ShapeMask
 -- The tokens of the word whose pieces may end, where those in `ending` may.
 record EndingWord (table : Table) (shapes : List Shape) (start k ending : ℕ) : Type 0 where
   pub ends : (j : ℕ) → j < 64 → start + j < length shapes
-      → IsSet ending j ↔ (HasTaken table shapes (start + j) k × (get_or shapes (start + j) One ≡ Deep → MayEnd table shapes (start + j) k))
+      → IsBitSet ending j ↔ (HasTaken table shapes (start + j) k × (get_or shapes (start + j) One ≡ Deep → MayEnd table shapes (start + j) k))
 
 module _ (table : Table) (shapes : List Shape) (start k : ℕ) (masks : ShapeMasks) (are : AreShapeMasks shapes start (length shapes) masks) where
   -- the shapes whose pieces may be of any length
-  growing-is : (j : ℕ) → j < 64 → start + j < length shapes → IsSet masks.growing j ↔ (get_or shapes (start + j) One ≢ One)
+  growing-is : (j : ℕ) → j < 64 → start + j < length shapes → IsBitSet masks.growing j ↔ (get_or shapes (start + j) One ≢ One)
   growing-is j lt within = let grows = are.growing j lt in (λ h. (grows.0 h).1, λ ne. grows.1 (within, ne))
 
   -- past the last shape there is none
-  growing-within : (j : ℕ) → j < 64 → IsSet masks.growing j → start + j < length shapes
+  growing-within : (j : ℕ) → j < 64 → IsBitSet masks.growing j → start + j < length shapes
   growing-within j lt h = ((are.growing j lt).0 h).0
 
   -- the tokens whose pieces may end, from those that have taken the character
   EndingWord-from_taken : (took ending : ℕ) (opens : Bool) → opens ≡ table.opens k → TakenWord table shapes start k took
-      → ((j : ℕ) → j < 64 → IsSet ending j ↔ (IsSet took j × (IsTrue opens ⊎ (IsSet masks.bound j → ⊥)))) → EndingWord table shapes start k ending
+      → ((j : ℕ) → j < 64 → IsBitSet ending j ↔ (IsBitSet took j × (IsTrue opens ⊎ (IsBitSet masks.bound j → ⊥)))) → EndingWord table shapes start k ending
   EndingWord-from_taken took ending opens at taken ends = record {
     ends = λ j lt within.
         let bound = are.bound j lt in
@@ -46,20 +46,20 @@ module _ (table : Table) (shapes : List Shape) (start k : ℕ) (masks : ShapeMas
       last : (j : ℕ) → start + j < length shapes → (start + j + 1 < length shapes → ⊥) → suc (start + j) ≡ length shapes
       last j within none = ⊎_elim (λ e. e) (λ ne. absurd (none (omega arith))) (cases_eq (suc (start + j)) (length shapes))
 
-      cases_bound : (j : ℕ) → IsSet masks.bound j ⊎ (IsSet masks.bound j → ⊥)
-      cases_bound j = cases_eq _ 1
+      cases_bound : (j : ℕ) → IsBitSet masks.bound j ⊎ (IsBitSet masks.bound j → ⊥)
+      cases_bound j = IsBitSet-cases masks.bound j
 
   -- the positions of the word that are whole
-  spread-is_whole : (begun : ℕ) (whole : Bool) (ending : ℕ) → (IsSet begun 0 ↔ IsTrue whole) → ((j : ℕ) → suc j < 64 → IsSet begun (suc j) ↔ IsSet ending j)
+  spread-is_whole : (begun : ℕ) (whole : Bool) (ending : ℕ) → (IsBitSet begun 0 ↔ IsTrue whole) → ((j : ℕ) → suc j < 64 → IsBitSet begun (suc j) ↔ IsBitSet ending j)
       → (IsTrue whole ↔ PrefixSplits table shapes start k) → EndingWord table shapes start k ending
-      → (j : ℕ) → j < 64 → start + j ≤ length shapes → IsSet (spread begun masks.growing 0) j ↔ PrefixSplits table shapes (start + j) k
+      → (j : ℕ) → j < 64 → start + j ≤ length shapes → IsBitSet (spread begun masks.growing 0) j ↔ PrefixSplits table shapes (start + j) k
   spread-is_whole begun whole ending low next first ends zero lt within =
-      let s = IsSet-spread_low begun masks.growing in
+      let s = IsBitSet-spread_low begun masks.growing in
       rw (add-zero start) (λ h. first.0 (low.0 (s.0 h)), λ h. s.1 (low.1 (first.1 h)))
   spread-is_whole begun whole ending low next first ends (suc j) lt within =
       let n_lt : start + j < length shapes = omega arith in
       let j_lt : j < 64 = omega arith in
-      let s = IsSet-spread_next begun masks.growing j in
+      let s = IsBitSet-spread_next begun masks.growing j in
       let ih = spread-is_whole begun whole ending low next first ends j j_lt (omega arith) in
       let grows = growing-is j j_lt n_lt in
       let end = ends.ends j j_lt n_lt in
@@ -71,8 +71,8 @@ module _ (table : Table) (shapes : List Shape) (start k : ℕ) (masks : ShapeMas
 
   -- the positions of the word that are alive
   AliveWord-from_whole : (took closed word : ℕ) → TakenWord table shapes start k took
-      → ((j : ℕ) → j < 64 → start + j ≤ length shapes → IsSet closed j ↔ PrefixSplits table shapes (start + j) k)
-      → ((j : ℕ) → j < 64 → IsSet word j ↔ ((IsSet took j × IsSet masks.growing j) ⊎ IsSet closed j)) → AliveWord table shapes start k word
+      → ((j : ℕ) → j < 64 → start + j ≤ length shapes → IsBitSet closed j ↔ PrefixSplits table shapes (start + j) k)
+      → ((j : ℕ) → j < 64 → IsBitSet word j ↔ ((IsBitSet took j × IsBitSet masks.growing j) ⊎ IsBitSet closed j)) → AliveWord table shapes start k word
   AliveWord-from_whole took closed word taken whole bits = record {
     alive = λ j lt within.
         let step : IsAlive table shapes (start + j) k ↔ ComesAlive table shapes (get_or shapes (start + j) One) (start + j) k = IsAlive-step table shapes (start + j) k in
@@ -88,8 +88,8 @@ module _ (table : Table) (shapes : List Shape) (start k : ℕ) (masks : ShapeMas
 
   -- whether the shapes of a whole word are
   whole-past_word : (ending closed : ℕ) → EndingWord table shapes start k ending
-      → ((j : ℕ) → j < 64 → start + j ≤ length shapes → IsSet closed j ↔ PrefixSplits table shapes (start + j) k)
-      → start + 64 ≤ length shapes → ((IsSet masks.growing 63 × IsSet closed 63) ⊎ IsSet ending 63) ↔ PrefixSplits table shapes (start + 64) k
+      → ((j : ℕ) → j < 64 → start + j ≤ length shapes → IsBitSet closed j ↔ PrefixSplits table shapes (start + j) k)
+      → start + 64 ≤ length shapes → ((IsBitSet masks.growing 63 × IsBitSet closed 63) ⊎ IsBitSet ending 63) ↔ PrefixSplits table shapes (start + 64) k
   whole-past_word ending closed ends whole within =
       let n_lt : start + 63 < length shapes = omega arith in
       let lt : 63 < 64 = omega arith in
@@ -112,22 +112,22 @@ closed_of begun growing = bit_or begun (bit_xor ((bit_and begun growing + growin
 
 module _ (table : Table) (shapes : List Shape) (start k : ℕ) (masks : ShapeMasks) (are : AreShapeMasks shapes start (length shapes) masks) (took ending : ℕ) (opens whole : Bool) (taken : TakenWord table shapes start k took)
     (at : opens ≡ table.opens k) (first : IsTrue whole ↔ PrefixSplits table shapes start k)
-    (ends : (j : ℕ) → j < 64 → IsSet ending j ↔ (IsSet took j × (IsTrue opens ⊎ (IsSet masks.bound j → ⊥)))) where
+    (ends : (j : ℕ) → j < 64 → IsBitSet ending j ↔ (IsBitSet took j × (IsTrue opens ⊎ (IsBitSet masks.bound j → ⊥)))) where
   ending_word : EndingWord table shapes start k ending
   ending_word = EndingWord-from_taken table shapes start k masks are took ending opens at taken ends
 
-  closed-is_whole : (j : ℕ) → j < 64 → start + j ≤ length shapes → IsSet (closed_of (begun_of ending whole) masks.growing) j ↔ PrefixSplits table shapes (start + j) k
+  closed-is_whole : (j : ℕ) → j < 64 → start + j ≤ length shapes → IsBitSet (closed_of (begun_of ending whole) masks.growing) j ↔ PrefixSplits table shapes (start + j) k
   closed-is_whole j lt within =
-      let word = IsSet-closed (begun_of ending whole) masks.growing j lt in
-      let prefix = spread-is_whole table shapes start k masks are (begun_of ending whole) whole ending (IsSet-moved_low ending whole) (IsSet-moved_next ending whole) first ending_word j lt within in
+      let word = IsBitSet-closed (begun_of ending whole) masks.growing j lt in
+      let prefix = spread-is_whole table shapes start k masks are (begun_of ending whole) whole ending (IsBitSet-moved_low ending whole) (IsBitSet-moved_next ending whole) first ending_word j lt within in
       (λ h. prefix.0 (word.0 h), λ h. word.1 (prefix.1 h))
 
   -- the positions alive after the character
   pub AliveWord-advanced : AliveWord table shapes start k (bit_or (bit_and took masks.growing) (closed_of (begun_of ending whole) masks.growing))
   AliveWord-advanced =
       AliveWord-from_whole table shapes start k masks are took (closed_of (begun_of ending whole) masks.growing) _ taken closed-is_whole (λ j lt.
-      let or = IsSet-or (bit_and took masks.growing) (closed_of (begun_of ending whole) masks.growing) j in
-      let and = IsSet-and took masks.growing j in
+      let or = IsBitSet-or (bit_and took masks.growing) (closed_of (begun_of ending whole) masks.growing) j in
+      let and = IsBitSet-and took masks.growing j in
       (λ h. ⊎_elim (λ s. inl (and.0 s)) inr (or.0 h), λ h. or.1 (⊎_elim (λ s. inl (and.1 s)) inr h)))
 
   -- whether the shapes of the whole word are whole
@@ -136,7 +136,7 @@ module _ (table : Table) (shapes : List Shape) (start k : ℕ) (masks : ShapeMas
   whole-advanced past over fits growing_fits within =
       let whole_one = whole-past_word table shapes start k masks are ending (closed_of (begun_of ending whole) masks.growing) ending_word closed-is_whole within in
       let spreads = spread_past (begun_of ending whole) masks.growing (or_lt 64 _ _ (omega arith) (byte_small whole)) growing_fits in
-      let word = IsSet-closed (begun_of ending whole) masks.growing 63 (omega arith) in
+      let word = IsBitSet-closed (begun_of ending whole) masks.growing 63 (omega arith) in
       let high = highest_set ending fits in (
         λ h. whole_one.0 (⊎_elim (λ e. let both = spreads.0 (past_true past over e) in inl (both.0, word.1 both.1)) (λ e. inr (high.0 (eqb-false (ending / 2 ^ 63) 0 (not-true (nat_eq (ending / 2 ^ 63) 0) e)))) (or_cases past (not (nat_eq (ending / 2 ^ 63) 0)) h)),
         λ h. ⊎_elim (λ (g, c). or_left past _ (true_past past over (spreads.1 (g, word.0 c)))) (λ e. or_right past _ (ap not (ne_eqb (ending / 2 ^ 63) 0 (high.1 e)))) (whole_one.1 h),

@@ -5,9 +5,9 @@ use Rattle.std.proofs.lemmas.List.{get_or_append_left, get_or_push}
 use Rattle.std.proofs.lemmas.Nat.{le_or_l, le_or_r}
 use Rattle.glob_pattern.specs.Matching.Splits.{Table, Splits}
 use Rattle.glob_pattern.specs.Private.Prefixes.{PrefixSplits, IsAlive}
-use Rattle.glob_pattern.specs.Matching.Bits.{IsSet}
+use Rattle.std.specs.Int.{IsBitSet}
 use Rattle.glob_pattern.specs.Private.Positions.{IsPositionWord, IsPositionSet}
-use Rattle.glob_pattern.proofs.BitLemmas.SetBits.{IsSet-zero}
+use Rattle.glob_pattern.proofs.BitLemmas.SetBits.{IsBitSet-zero}
 use Rattle.glob_pattern.proofs.PositionLemmas.PositionWords.{Splits-by_word}
 use Rattle.glob_pattern.specs.declared.matcher.Shape.{Shape}
 use Rattle.glob_pattern.specs.declared.matcher.many_words.PositionWord.{PositionWord}
@@ -72,7 +72,7 @@ module _ (table : Table) (shapes : List Shape) (k : ℕ) where
 
   -- the bit past the last shape, after the last character, is the answer
   pub Splits-by_positions : (words : List PositionWord) (w : PositionWord) (answer : Bool) → IsPositionSet table shapes k words → k ≡ table.characters → w ≡ get_or words (length shapes / 64) w
-      → IsTrue answer ↔ IsSet w.alive (length shapes % 64) → IsTrue answer ↔ Splits table shapes
+      → IsTrue answer ↔ IsBitSet w.alive (length shapes % 64) → IsTrue answer ↔ Splits table shapes
   Splits-by_positions words w answer positions end at bit =
       let last : IsPositionWord table shapes (64 * (length shapes / 64)) k w = rw (← at) at (positions.word (length shapes / 64) w (omega (arith, positions.count))) in
       Splits-by_word table shapes (64 * (length shapes / 64)) (length shapes % 64) k w.alive answer (word_of (length shapes)) (omega arith) end last.alive bit
@@ -86,8 +86,8 @@ pub dead-from_zeros : (table : Table) (shapes : List Shape) (k : ℕ) (words : L
     → (m : ℕ) → m ≤ length shapes → IsAlive table shapes m k → ⊥
 dead-from_zeros table shapes k words d positions none m le alive =
     let lt : m / 64 < length words = omega (arith, positions.count) in
-    let here : IsSet (get_or words (m / 64) d).alive (m % 64) ↔ IsAlive table shapes m k = rw (word_of m) at ((positions.word (m / 64) d lt).alive.alive (m % 64) (omega arith) (omega arith)) in
-    IsSet-zero (m % 64) (rw (none.zero_is (m / 64) d lt) at (here.1 alive))
+    let here : IsBitSet (get_or words (m / 64) d).alive (m % 64) ↔ IsAlive table shapes m k = rw (word_of m) at ((positions.word (m / 64) d lt).alive.alive (m % 64) (omega arith) (omega arith)) in
+    IsBitSet-zero (m % 64) (rw (none.zero_is (m / 64) d lt) at (here.1 alive))
 
 -- one more word is 0
 pub NonePart-set : (n : ℕ) (words : List PositionWord) (w : PositionWord) → n < length words → NonePart n words → w.alive ≡ 0 → NonePart (n + 1) (set words n w)

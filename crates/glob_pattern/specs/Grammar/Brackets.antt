@@ -1,7 +1,7 @@
 -- What stands in a bracket, and which characters it holds.
-use Rattle.std.specs.Prelude.{ℕ, Bool, ◌&&◌, ◌||◌, not, nat_lt, nat_le, ◌==◌, if◌then◌else◌, List, [], ◌∷◌}
+use Rattle.std.specs.Prelude.{ℕ, Bool, ◌&&◌, ◌||◌, not, nat_le, ◌==◌, if◌then◌else◌, List, [], ◌∷◌}
 use Rattle.std.specs.List.{list_any}
-use Rattle.std.specs.Char.{to_ascii_lowercase}
+use Rattle.std.specs.Char.{to_ascii_lowercase, is_ascii, is_ascii_lowercase}
 use Rattle.glob_pattern.specs.Grammar.Characters.{hyphen}
 use Rattle.glob_text.specs.Text.{Text}
 use Rattle.glob_pattern.specs.declared.token.bracket.Entry.{Entry}
@@ -15,14 +15,6 @@ entries_of (x ∷ []) = Single x ∷ []
 entries_of (x ∷ y ∷ []) = Single x ∷ Single y ∷ []
 entries_of (x ∷ d ∷ y ∷ rest) =
     if d == hyphen then Range x y ∷ entries_of rest else Single x ∷ entries_of (d ∷ y ∷ rest)
-
--- c is of ASCII
-abbrev pub is_ascii : ℕ → Bool
-is_ascii c = nat_lt c 128
-
--- c is one of `a` to `z`
-abbrev pub is_small_letter : ℕ → Bool
-is_small_letter c = nat_le 97 c && nat_le c 122
 
 -- c and x are the same character. Without case, two of ASCII are the same too if they are equal once capital letters
 -- are made small.
@@ -38,7 +30,7 @@ in_range x y c = nat_le x c && nat_le c y
 abbrev pub in_folded_range : ℕ → ℕ → ℕ → Bool
 in_folded_range x y c =
     is_ascii x && is_ascii y && is_ascii c
-    && is_small_letter (to_ascii_lowercase x) && is_small_letter (to_ascii_lowercase y)
+    && is_ascii_lowercase (to_ascii_lowercase x) && is_ascii_lowercase (to_ascii_lowercase y)
     && in_range (to_ascii_lowercase x) (to_ascii_lowercase y) (to_ascii_lowercase c)
 
 -- the entry holds c

@@ -1,7 +1,7 @@
 -- Which tokens take which characters of ASCII, as bits of words of 64.
 use Rattle.std.specs.Prelude.{◌≡◌, ◌≢◌, ℕ, ◌+◌, ◌*◌, ◌/◌, ◌<◌, ◌↔◌, Bool, true, false, ◌||◌, List, length, slice_index_or, IsTrue}
 use Rattle.glob_pattern.specs.Grammar.Tokens.{Token, is_deep}
-use Rattle.glob_pattern.specs.Matching.Bits.{IsSet}
+use Rattle.std.specs.Int.{IsBitSet}
 use Rattle.glob_pattern.specs.Matching.Options.{new_options}
 use Rattle.glob_pattern.specs.Matching.Taking.{takes, is_excluded_separator, is_excluded_dot}
 use Rattle.glob_pattern.specs.declared.options.MatchOptions.{MatchOptions}
@@ -46,7 +46,7 @@ TakesBit o opening c tokens start j = IsTrue (takes o opening c (slice_index_or 
 -- Of the tokens from number `start` up to `end`, the mask has the bits of those that meet the test.
 pub record IsMask (tokens : List Token) (start end : ℕ) (test : Token → Bool) (mask : ℕ) : Type 0 where
   pub bit : (j : ℕ) → j < 64
-      → IsSet mask j ↔ ((start + j < end) × IsTrue (test (slice_index_or tokens (start + j) Any)))
+      → IsBitSet mask j ↔ ((start + j < end) × IsTrue (test (slice_index_or tokens (start + j) Any)))
 
 -- the masks of the tokens from number `start` up to `end`
 pub record AreMasks (tokens : List Token) (start end : ℕ) (masks : TokenMasks) : Type 0 where
@@ -64,12 +64,12 @@ pub record AreAllMasks (tokens : List Token) (list : List TokenMasks) : Type 0 w
 
 -- the new mask has this bit exactly if P holds, and the other bits of the old one
 pub record IsPut (old new bit : ℕ) (P : Type 0) : Type 0 where
-  pub here : IsSet new bit ↔ P
-  pub others : (j : ℕ) → j < 64 → j ≢ bit → IsSet new j ↔ IsSet old j
+  pub here : IsBitSet new bit ↔ P
+  pub others : (j : ℕ) → j < 64 → j ≢ bit → IsBitSet new j ↔ IsBitSet old j
 
 -- the bit is set in none of the masks
 pub record IsClear (masks : TokenMasks) (bit : ℕ) : Type 0 where
-  pub characters : (c : ℕ) → c < 128 → ¬ (IsSet (mask_of c masks) bit)
-  pub any_or_run : ¬ (IsSet masks.any_or_run bit)
-  pub deep : ¬ (IsSet masks.deep bit)
-  pub brackets : ¬ (IsSet masks.brackets bit)
+  pub characters : (c : ℕ) → c < 128 → ¬ (IsBitSet (mask_of c masks) bit)
+  pub any_or_run : ¬ (IsBitSet masks.any_or_run bit)
+  pub deep : ¬ (IsBitSet masks.deep bit)
+  pub brackets : ¬ (IsBitSet masks.brackets bit)

@@ -1,7 +1,7 @@
 -- Positions among shapes as bits: words of 64 bits that say which shapes there are and what pieces they may have, and
 -- of leading shapes whether they are alive.
 use Rattle.std.specs.Prelude.{◌≡◌, ℕ, ◌+◌, ◌*◌, ◌/◌, ◌<◌, ◌≤◌, ◌≢◌, ◌↔◌, Bool, List, length, slice_index_or, IsTrue}
-use Rattle.glob_pattern.specs.Matching.Bits.{IsSet}
+use Rattle.std.specs.Int.{IsBitSet}
 use Rattle.glob_pattern.specs.Matching.Splits.{Table}
 use Rattle.glob_pattern.specs.Private.Prefixes.{PrefixSplits, IsAlive, HasTaken}
 use Rattle.glob_pattern.specs.declared.matcher.Shape.{Shape}
@@ -12,18 +12,18 @@ use Rattle.glob_pattern.specs.declared.matcher.many_words.PositionWord.{Position
 -- Of the 64 shapes from number `start` on, the words say which stand before number `end`, which of these may have
 -- pieces of any length, and which are deep and have others after them.
 pub record AreShapeMasks (shapes : List Shape) (start end : ℕ) (masks : ShapeMasks) : Type 0 where
-  pub tokens : (j : ℕ) → j < 64 → IsSet masks.tokens j ↔ (start + j < end)
-  pub growing : (j : ℕ) → j < 64 → IsSet masks.growing j ↔ ((start + j < end) × (slice_index_or shapes (start + j) One ≢ One))
+  pub tokens : (j : ℕ) → j < 64 → IsBitSet masks.tokens j ↔ (start + j < end)
+  pub growing : (j : ℕ) → j < 64 → IsBitSet masks.growing j ↔ ((start + j < end) × (slice_index_or shapes (start + j) One ≢ One))
   pub bound : (j : ℕ) → j < 64
-      → IsSet masks.bound j ↔ ((start + j < end) × (slice_index_or shapes (start + j) One ≡ Deep) × (start + j + 1 < length shapes))
+      → IsBitSet masks.bound j ↔ ((start + j < end) × (slice_index_or shapes (start + j) One ≡ Deep) × (start + j + 1 < length shapes))
 
 -- the word says of the numbers of leading shapes from `start` on, 64 at most, whether they are alive at place k
 pub record AliveWord (table : Table) (shapes : List Shape) (start k word : ℕ) : Type 0 where
-  pub alive : (j : ℕ) → j < 64 → start + j ≤ length shapes → IsSet word j ↔ IsAlive table shapes (start + j) k
+  pub alive : (j : ℕ) → j < 64 → start + j ≤ length shapes → IsBitSet word j ↔ IsAlive table shapes (start + j) k
 
 -- the word says of the tokens from number `start` on, 64 at most, whether they have taken the character before place k
 pub record TakenWord (table : Table) (shapes : List Shape) (start k word : ℕ) : Type 0 where
-  pub taken : (j : ℕ) → j < 64 → start + j < length shapes → IsSet word j ↔ HasTaken table shapes (start + j) k
+  pub taken : (j : ℕ) → j < 64 → start + j < length shapes → IsBitSet word j ↔ HasTaken table shapes (start + j) k
 
 -- What holds of the word of place k that masks are advanced to: `took` has the tokens that took the character before
 -- place k, `opens` says whether place k opens, and `whole` whether the shapes before `start` split the characters up to

@@ -2,7 +2,7 @@
 ghost use Rattle.std.specs.Prelude.{◌≡◌, ℕ, ◌+◌, ◌-◌, ◌*◌, ◌^◌, ◌<◌, ◌≤◌, ◌↔◌, false, length, IsTrue};
 ghost use Rattle.glob_pattern.specs.Matching.Splits.{Table, Splits};
 ghost use Rattle.glob_pattern.specs.Private.Prefixes.{IsAlive, IsTakenPrefix};
-ghost use Rattle.glob_pattern.specs.Matching.Bits.{IsSet};
+ghost use Rattle.std.specs.Int.{IsBitSet};
 ghost use Rattle.glob_pattern.specs.Private.Positions.{AreShapeMasks, AliveWord};
 
 use super::shape_masks::{ShapeMasks, last_before};
@@ -72,7 +72,7 @@ impl<'a> OneWordMatcher<'a> {
     #[inline(always)]
     fn goes_on(&self, positions: u64) -> bool
         ensures { result ≡ false
-            → (j : ℕ) → j < length self.now.shapes.now → ¬ (IsSet positions j) }
+            → (j : ℕ) → j < length self.now.shapes.now → ¬ (IsBitSet positions j) }
     {
         positions & self.masks.tokens != 0
     }
@@ -105,7 +105,7 @@ impl<'a> OneWordMatcher<'a> {
     /// Whether the position after the last shape is alive.
     fn is_whole(&self, positions: u64) -> bool
         ensures { IsTrue result
-            ↔ IsSet positions (length self.now.shapes.now) }
+            ↔ IsBitSet positions (length self.now.shapes.now) }
     {
         (positions >> self.shapes.len()) & 1 != 0
     }

@@ -1,6 +1,6 @@
 ghost use Rattle.std.specs.Prelude.{◌≡◌, ℕ, ◌+◌, ◌<◌, ◌≤◌, ◌≢◌, ◌⊎◌, ◌↔◌, length, IsTrue};
 ghost use Rattle.glob_pattern.specs.Private.Prefixes.{PrefixSplits};
-ghost use Rattle.glob_pattern.specs.Matching.Bits.{IsSet};
+ghost use Rattle.std.specs.Int.{IsBitSet};
 ghost use Rattle.glob_pattern.specs.Private.Positions.{AreShapeMasks, AliveWord, AfterAdvance};
 
 use super::Shape;
@@ -38,11 +38,11 @@ impl ShapeMasks {
     fn with(self, bit: usize, shape: Shape, followed: bool) -> Self
         requires { bit < 64 }
         ensures tokens { (j : ℕ)
-            → IsSet result.tokens j ↔ (IsSet self.tokens j ⊎ (j ≡ bit)) }
+            → IsBitSet result.tokens j ↔ (IsBitSet self.tokens j ⊎ (j ≡ bit)) }
         ensures growing { (j : ℕ)
-            → IsSet result.growing j ↔ (IsSet self.growing j ⊎ ((j ≡ bit) × (shape ≢ Shape.One))) }
-        ensures bound { (j : ℕ) → IsSet result.bound j
-            ↔ (IsSet self.bound j ⊎ ((j ≡ bit) × (shape ≡ Shape.Deep) × IsTrue followed)) }
+            → IsBitSet result.growing j ↔ (IsBitSet self.growing j ⊎ ((j ≡ bit) × (shape ≢ Shape.One))) }
+        ensures bound { (j : ℕ) → IsBitSet result.bound j
+            ↔ (IsBitSet self.bound j ⊎ ((j ≡ bit) × (shape ≡ Shape.Deep) × IsTrue followed)) }
     {
         let mut masks = self;
         masks.tokens = with_bit(self.tokens, bit);
@@ -81,7 +81,7 @@ impl ShapeMasks {
     #[inline(always)]
     fn ending(self, took: u64, opens: bool) -> u64
         ensures { (j : ℕ) → j < 64
-            → IsSet result j ↔ (IsSet took j × (IsTrue opens ⊎ ¬ (IsSet self.bound j))) }
+            → IsBitSet result j ↔ (IsBitSet took j × (IsTrue opens ⊎ ¬ (IsBitSet self.bound j))) }
     {
         if opens { took } else { took & !self.bound }
     }
@@ -90,14 +90,14 @@ impl ShapeMasks {
 /// The word with one more bit set.
 fn with_bit(word: u64, bit: usize) -> u64
     requires { bit < 64 }
-    ensures { (j : ℕ) → IsSet result j ↔ (IsSet word j ⊎ (j ≡ bit)) }
+    ensures { (j : ℕ) → IsBitSet result j ↔ (IsBitSet word j ⊎ (j ≡ bit)) }
 {
     word | (1 << bit)
 }
 
 /// The bit of the last token before number `end`, in a word whose bit 0 is of token `start`.
 pub fn last_before(end: usize, start: usize) -> u64
-    ensures { (j : ℕ) → j < 64 → IsSet result j ↔ (start + j + 1 ≡ end) }
+    ensures { (j : ℕ) → j < 64 → IsBitSet result j ↔ (start + j + 1 ≡ end) }
 {
     if start < end && end - start <= 64 {
         1 << (end - start - 1)

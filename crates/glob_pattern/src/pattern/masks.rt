@@ -1,7 +1,7 @@
 //! Masks: for each 64 tokens, which of them take each character of ASCII, and which are wildcards or brackets.
 ghost use Rattle.std.specs.Prelude.{◌≡◌, ℕ, ◌+◌, ◌<◌, ◌≤◌, ◌⊎◌, ◌↔◌, true, false, List, length, slice_index_or, IsTrue, IfOk};
 ghost use Rattle.glob_pattern.specs.Grammar.Brackets.{holds};
-ghost use Rattle.glob_pattern.specs.Matching.Bits.{IsSet};
+ghost use Rattle.std.specs.Int.{IsBitSet};
 ghost use Rattle.glob_pattern.specs.Matching.Options.{new_options};
 ghost use Rattle.glob_pattern.specs.Matching.Taking.{takes};
 ghost use Rattle.glob_pattern.specs.Grammar.Tokens.{Token as Kept, is_deep};
@@ -106,16 +106,16 @@ impl TokenMasks {
         opening: bool,
         c: char,
     ) -> (u64, u64)
-        ensures left { (j : ℕ) → IsSet result.1 j → IsSet asked j }
+        ensures left { (j : ℕ) → IsBitSet result.1 j → IsBitSet asked j }
         ensures taken { (tokens : List Kept) (start : ℕ)
             → AreMasks tokens start (length tokens) self.now
-            → (j : ℕ) → j < 64 → IsSet result.0 j
-            → IsSet asked j × TakesBit options opening c tokens start j }
+            → (j : ℕ) → j < 64 → IsBitSet result.0 j
+            → IsBitSet asked j × TakesBit options opening c tokens start j }
         ensures all { (tokens : List Kept) (start : ℕ)
             → AreMasks tokens start (length tokens) self.now
             → (j : ℕ) → j < 64 → start + j < length tokens
-            → IsSet asked j → TakesBit options opening c tokens start j
-            → IsSet result.0 j ⊎ IsSet result.1 j }
+            → IsBitSet asked j → TakesBit options opening c tokens start j
+            → IsBitSet result.0 j ⊎ IsBitSet result.1 j }
     {
         if !c.is_ascii() {
             let wild = self.any_or_run | self.deep;
@@ -136,7 +136,7 @@ impl TokenMasks {
         ensures { (tokens : List Kept) (start : ℕ)
             → AreMasks tokens start (length tokens) self.now
             → (j : ℕ) → j < 64 → start + j < length tokens
-            → IsSet result j
+            → IsBitSet result j
             ↔ IsTrue (is_excluded options opening c (slice_index_or tokens (start + j) Any)) }
     {
         let wild = self.any_or_run | self.brackets;
@@ -155,7 +155,7 @@ impl TokenMasks {
 fn paint_entries(characters: &mut [u64; 128], bit: usize, entries: &[Entry], on: bool)
     requires bit { bit < 64 }
     requires before { (c : ℕ) → c < 128
-        → IsSet (slice_index_or characters.old c 0) bit ↔ (on ≡ false) }
+        → IsBitSet (slice_index_or characters.old c 0) bit ↔ (on ≡ false) }
     ensures { (c : ℕ) → c < 128
         → IsPut (slice_index_or characters.old c 0) (slice_index_or characters.new c 0) bit
         (holds true c entries.now ≡ on) }

@@ -1,6 +1,6 @@
 ghost use Rattle.std.specs.Prelude.{◌≡◌, ℕ, ◌+◌, ◌*◌, ◌^◌, ◌<◌, ◌≤◌, ◌↔◌, length, slice_index_or, IsTrue};
 ghost use Rattle.glob_pattern.specs.Matching.Taking as taking;
-ghost use Rattle.glob_pattern.specs.Matching.Bits.{IsSet};
+ghost use Rattle.std.specs.Int.{IsBitSet};
 ghost use Rattle.glob_pattern.specs.Private.Masks.{TakesBit};
 
 use crate::options::MatchOptions;
@@ -58,9 +58,9 @@ pub fn take_left<A: Allocator>(
 ) -> u64
     requires within { 64 * word + 64 ≤ 2 ^ 64 }
     requires tokens { (j : ℕ)
-        → IsSet asked j → 64 * word + j < length tokens.now }
+        → IsBitSet asked j → 64 * word + j < length tokens.now }
     ensures { (j : ℕ) → j < 64
-        → IsSet result j ↔ (IsSet asked j × TakesBit options opening c tokens.now (64 * word) j) }
+        → IsBitSet result j ↔ (IsBitSet asked j × TakesBit options opening c tokens.now (64 * word) j) }
 {
     let mut left = asked;
     let mut took = 0u64;

@@ -1,19 +1,17 @@
 use Rattle.std.proofs.Common.{ℕ, ◌+◌, ◌-◌, ◌*◌, ◌∙◌, IsTrue, sym, arith}
 use Rattle.std.proofs.lemmas.Bool.{false≢true}
-use Rattle.std.proofs.lemmas.Nat.Bits.{bit_at-trailing_zeros}
-use Rattle.std.specs.Int.{w64}
-use Rattle.glob_pattern.proofs.BitLemmas.LowestBits.{IsSet-cleared, ones-cleared, took-more, next-taken, next-left}
+use Rattle.glob_pattern.proofs.BitLemmas.LowestBits.{lowest_set, IsBitSet-cleared, ones-cleared, took-more, next-taken, next-left}
 use Rattle.glob_pattern.proofs.matcher.Judge.takes_each.Goals as goal
 use Rattle.glob_pattern.proofs.matcher.Judge.takes_each.Goals.{then-takes, else-takes}
 
 pub takes-requires-clause-token : goal.takes-requires-clause-token
 takes-requires-clause-token g c =
-    let lowest = bit_at-trailing_zeros w64 c.loop-left.left (omega arith) (omega arith) in
+    let lowest = lowest_set c.loop-left.left (omega arith) (omega arith) in
     rw c.loop-left.invariant.same (c.requires.tokens _ (c.loop-left.invariant.within _ lowest.1))
 
 pub takes-requires-clause-room : goal.takes-requires-clause-room
 takes-requires-clause-room g c =
-    let lowest = bit_at-trailing_zeros w64 c.loop-left.left (omega arith) (omega arith) in
+    let lowest = lowest_set c.loop-left.left (omega arith) (omega arith) in
     let fewer = ones-cleared _ c.loop-left.left lowest.1 lowest.2 in
     omega (arith, c.loop-left.invariant.count, c.requires.room, fewer)
 
@@ -21,12 +19,12 @@ pub loop-left-preserved : goal.loop-left-preserved
 loop-left-preserved g c =
     let i = c.loop-left.invariant in
     let h = c.takes.ensures in
-    let lowest = bit_at-trailing_zeros w64 c.loop-left.left (omega arith) (omega arith) in
+    let lowest = lowest_set c.loop-left.left (omega arith) (omega arith) in
     let fewer = ones-cleared _ c.loop-left.left lowest.1 lowest.2 in
     let value = rw (i.same, i.place) at h.value in
     let P : ℕ → Type 0 = λ j. IsTrue ((g.Self.Judge.table c.args.self.now).takes (64 * c.args.word + j) (g.Self.Judge.place c.args.self.now - 1)) in
     record {
-      within = λ j s. i.within j ((IsSet-cleared _ c.loop-left.left lowest.1 lowest.2 j).0 s).0;
+      within = λ j s. i.within j ((IsBitSet-cleared _ c.loop-left.left lowest.1 lowest.2 j).0 s).0;
       took = took-more P c.args.asked c.loop-left.left c.loop-left.took c.if-takes.took _ lowest.1 lowest.2 i.within i.took
           (elim c.if-takes.branch [
             | then-takes w ↦ rw w.took-is (next-taken P c.loop-left.took _ lowest.0 (sym value ∙ w.if-takes.true))

@@ -1,29 +1,29 @@
 use Rattle.std.proofs.Common.{◌≡◌, ◌+◌, ◌*◌, ◌<◌, ◌≤◌, ◌^◌, true, false, length, get_or, bit_and, bit_or, IsTrue, sym, ◌∙◌, inl, inr, ⊎_elim, arith}
-use Rattle.std.proofs.lemmas.Bool.{false≢true, false_from_ne_true, ltb-true, ltb-false, cases_eq, and_parts, and_from, not-true, not_from_false}
+use Rattle.std.proofs.lemmas.Bool.{false≢true, false_from_ne_true, ltb-true, ltb-false, and_parts, and_from, not-true, not_from_false}
 use Rattle.std.proofs.lemmas.Nat.{or_lt}
 use Rattle.std.proofs.lemmas.Str.Ascii.{lowercase_ascii, uppercase_ascii}
 use Rattle.std.specs.Char.{to_ascii_lowercase, to_ascii_uppercase}
-use Rattle.std.specs.Int.{bit_at, bit_not, w64}
+use Rattle.std.specs.Int.{bit_not, w64}
 use Rattle.glob_pattern.specs.Matching.Taking.{takes}
 use Rattle.glob_pattern.specs.Matching.Options.{new_options}
 use Rattle.glob_pattern.specs.Private.Masks.{mask_of, is_bracket, is_excluded}
 use Rattle.glob_pattern.specs.declared.token.Token.TheVariants.{Any}
-use Rattle.glob_pattern.proofs.BitLemmas.SetBits.{IsSet-or, IsSet-and, IsSet-without}
+use Rattle.glob_pattern.proofs.BitLemmas.SetBits.{IsBitSet-cases, IsBitSet-or, IsBitSet-and, IsBitSet-without}
 use Rattle.glob_pattern.proofs.MaskLemmas.Masks.{IsMask-within}
 use Rattle.glob_pattern.proofs.MaskLemmas.KnownTakers.{takes-with_case, takes-without_case, takes-beyond}
 use Rattle.glob_pattern.proofs.pattern.masks.TokenMasks.take_known.Goals as goal
 
 pub returns-then-not-is_ascii-clause-left : goal.returns-then-not-is_ascii-clause-left
-returns-then-not-is_ascii-clause-left c = λ j s. ((IsSet-and c.args.asked _ j).0 s).0
+returns-then-not-is_ascii-clause-left c = λ j s. ((IsBitSet-and c.args.asked _ j).0 s).0
 
 pub returns-then-not-is_ascii-clause-taken : goal.returns-then-not-is_ascii-clause-taken
 returns-then-not-is_ascii-clause-taken c = λ tokens start are j lt s.
     let masks = c.args.self.now in
     let high : 128 ≤ c.args.c = ltb-false c.args.c 128 (sym c.is_ascii.ensures ∙ c.if-not-is_ascii.true) in
-    let both = (IsSet-and c.args.asked (bit_or masks.any_or_run masks.deep) j).0 s in
+    let both = (IsBitSet-and c.args.asked (bit_or masks.any_or_run masks.deep) j).0 s in
     let wild = are.any_or_run.bit j lt in
     let deep = are.deep.bit j lt in
-    (both.0, takes-beyond c.args.options c.args.opening c.args.c high _ (⊎_elim (λ w. inl (wild.0 w).1) (λ d. inr (deep.0 d).1) ((IsSet-or masks.any_or_run masks.deep j).0 both.1)))
+    (both.0, takes-beyond c.args.options c.args.opening c.args.c high _ (⊎_elim (λ w. inl (wild.0 w).1) (λ d. inr (deep.0 d).1) ((IsBitSet-or masks.any_or_run masks.deep j).0 both.1)))
 
 pub returns-then-not-is_ascii-clause-all : goal.returns-then-not-is_ascii-clause-all
 returns-then-not-is_ascii-clause-all c = λ tokens start are j lt below asked takes.
@@ -32,15 +32,15 @@ returns-then-not-is_ascii-clause-all c = λ tokens start are j lt below asked ta
     let wild_fits : masks.any_or_run < 2 ^ 64 = omega arith in
     let deep_fits : masks.deep < 2 ^ 64 = omega arith in
     let fits : wild < 2 ^ 64 = or_lt 64 _ _ wild_fits deep_fits in
-    ⊎_elim (λ s. inl ((IsSet-and c.args.asked wild j).1 (asked, s))) (λ none. inr ((IsSet-without c.args.asked wild j fits lt).1 (asked, none))) (cases_eq (bit_at wild j) 1)
+    ⊎_elim (λ s. inl ((IsBitSet-and c.args.asked wild j).1 (asked, s))) (λ none. inr ((IsBitSet-without c.args.asked wild j fits lt).1 (asked, none))) (IsBitSet-cases wild j)
 
 pub returns-then-options-clause-taken : goal.returns-then-options-clause-taken
 returns-then-options-clause-taken c = λ tokens start are j lt s.
     let masks = c.args.self.now in
     let low : c.args.c < 128 = ltb-true c.args.c 128 (sym c.is_ascii.ensures ∙ c.if-not-is_ascii.false) in
     let excluded_fits : c.excluded-free.result < 2 ^ 64 = omega arith in
-    let both = (IsSet-and (bit_and c.args.asked (bit_not w64 c.excluded-free.result)) (mask_of c.args.c masks) j).0 s in
-    let free = (IsSet-without c.args.asked c.excluded-free.result j excluded_fits lt).0 both.0 in
+    let both = (IsBitSet-and (bit_and c.args.asked (bit_not w64 c.excluded-free.result)) (mask_of c.args.c masks) j).0 s in
+    let free = (IsBitSet-without c.args.asked c.excluded-free.result j excluded_fits lt).0 both.0 in
     let own = ((are.characters c.args.c low).bit j lt).0 both.1 in
     let token = get_or tokens (start + j) Any in
     let excluded = c.excluded-free.ensures tokens start are j lt own.0 in
@@ -57,11 +57,11 @@ returns-then-options-clause-all c = λ tokens start are j lt below asked takes.
     let parts = and_parts _ _ (sym (takes-with_case c.args.options c.args.opening c.args.c c.if-options.true token) ∙ takes) in
     let excluded = c.excluded-free.ensures tokens start are j lt below in
     let own = ((are.characters c.args.c low).bit j lt).1 (below, parts.0) in
-    let free = (IsSet-without c.args.asked c.excluded-free.result j excluded_fits lt).1 (asked, λ s. false≢true (sym (not-true _ parts.1) ∙ excluded.0 s)) in
-    inl ((IsSet-and (bit_and c.args.asked (bit_not w64 c.excluded-free.result)) (mask_of c.args.c masks) j).1 (free, own))
+    let free = (IsBitSet-without c.args.asked c.excluded-free.result j excluded_fits lt).1 (asked, λ s. false≢true (sym (not-true _ parts.1) ∙ excluded.0 s)) in
+    inl ((IsBitSet-and (bit_and c.args.asked (bit_not w64 c.excluded-free.result)) (mask_of c.args.c masks) j).1 (free, own))
 
 pub returns-clause-left : goal.returns-clause-left
-returns-clause-left c = λ j s. ((IsSet-and c.args.asked _ j).0 s).0
+returns-clause-left c = λ j s. ((IsBitSet-and c.args.asked _ j).0 s).0
 
 pub returns-clause-taken : goal.returns-clause-taken
 returns-clause-taken c = λ tokens start are j lt s.
@@ -74,10 +74,10 @@ returns-clause-taken c = λ tokens start are j lt s.
     let excluded_fits : c.excluded-free.result < 2 ^ 64 = omega arith in
     let s = rw (c.to_ascii_lowercase.ensures.value, c.to_ascii_uppercase.ensures.value) at s in
     let forms = bit_or (mask_of (to_ascii_lowercase c.args.c) masks) (mask_of (to_ascii_uppercase c.args.c) masks) in
-    let plain = (IsSet-without (bit_and (bit_and c.args.asked (bit_not w64 c.excluded-free.result)) forms) brackets j brackets_fit lt).0 s in
-    let both = (IsSet-and (bit_and c.args.asked (bit_not w64 c.excluded-free.result)) forms j).0 plain.0 in
-    let free = (IsSet-without c.args.asked c.excluded-free.result j excluded_fits lt).0 both.0 in
-    let one = (IsSet-or (mask_of (to_ascii_lowercase c.args.c) masks) (mask_of (to_ascii_uppercase c.args.c) masks) j).0 both.1 in
+    let plain = (IsBitSet-without (bit_and (bit_and c.args.asked (bit_not w64 c.excluded-free.result)) forms) brackets j brackets_fit lt).0 s in
+    let both = (IsBitSet-and (bit_and c.args.asked (bit_not w64 c.excluded-free.result)) forms j).0 plain.0 in
+    let free = (IsBitSet-without c.args.asked c.excluded-free.result j excluded_fits lt).0 both.0 in
+    let one = (IsBitSet-or (mask_of (to_ascii_lowercase c.args.c) masks) (mask_of (to_ascii_uppercase c.args.c) masks) j).0 both.1 in
     let small_mask = (are.characters (to_ascii_lowercase c.args.c) small).bit j lt in
     let great_mask = (are.characters (to_ascii_uppercase c.args.c) great).bit j lt in
     let bracket_mask = are.brackets.bit j lt in
@@ -107,13 +107,13 @@ returns-clause-all c = λ tokens start are j lt below asked takes.
     let token = get_or tokens (start + j) Any in
     let excluded = c.excluded-free.ensures tokens start are j lt below in
     ⊎_elim
-    (λ s. inr ((IsSet-and c.args.asked brackets j).1 (asked, s)))
+    (λ s. inr ((IsBitSet-and c.args.asked brackets j).1 (asked, s)))
     (λ out.
     let no_bracket : is_bracket token ≡ false = false_from_ne_true _ (λ t. out (bracket_mask.1 (below, t))) in
     let parts = (takes-without_case c.args.options c.args.opening c.args.c low c.if-options.false token no_bracket).0 takes in
     let one = ⊎_elim (λ t. inl (small_mask.1 (below, t))) (λ t. inr (great_mask.1 (below, t))) parts.0 in
-    let free = (IsSet-without c.args.asked c.excluded-free.result j excluded_fits lt).1 (asked, λ s. false≢true (sym parts.1 ∙ excluded.0 s)) in
-    let both = (IsSet-and (bit_and c.args.asked (bit_not w64 c.excluded-free.result)) forms j).1 (free, (IsSet-or _ _ j).1 one) in
+    let free = (IsBitSet-without c.args.asked c.excluded-free.result j excluded_fits lt).1 (asked, λ s. false≢true (sym parts.1 ∙ excluded.0 s)) in
+    let both = (IsBitSet-and (bit_and c.args.asked (bit_not w64 c.excluded-free.result)) forms j).1 (free, (IsBitSet-or _ _ j).1 one) in
     rw (c.to_ascii_lowercase.ensures.value, c.to_ascii_uppercase.ensures.value)
-    (inl ((IsSet-without (bit_and (bit_and c.args.asked (bit_not w64 c.excluded-free.result)) forms) brackets j brackets_fit lt).1 (both, out))))
-    (cases_eq (bit_at brackets j) 1)
+    (inl ((IsBitSet-without (bit_and (bit_and c.args.asked (bit_not w64 c.excluded-free.result)) forms) brackets j brackets_fit lt).1 (both, out))))
+    (IsBitSet-cases brackets j)
