@@ -5,4 +5,5 @@ pub mod Goal
 pub mod Listing
 pub mod Marks
 pub mod Order
+pub mod Private
 pub mod Words

@@ -2,5 +2,11 @@
 #![tactic(auto)]
 
 mod error;
+pub mod frame;
+pub mod meter;
+pub mod paths;
+pub mod plan;
+pub mod stack;
+pub mod walker;
 
 pub use error::{GlobCause, GlobError, GlobResult};

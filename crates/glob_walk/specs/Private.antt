@@ -1,0 +1,6 @@
+pub mod Frames
+pub mod Left
+pub mod Meters
+pub mod Stacks
+pub mod Turns
+pub mod Walking
