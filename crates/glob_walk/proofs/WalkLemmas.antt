@@ -6,4 +6,3 @@ pub mod Opening
 pub mod Running
 pub mod Stacking
 pub mod Stepping
-pub mod Taking

@@ -6,4 +6,5 @@ pub mod Listing
 pub mod Marks
 pub mod Order
 pub mod Private
+pub mod Walks
 pub mod Words

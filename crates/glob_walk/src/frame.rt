@@ -3,11 +3,13 @@ ghost use Rattle.std.specs.Prelude.{◌≡◌, ◌+◌, ◌<◌, ◌≤◌, ◌+
 ghost use Rattle.glob_tree.specs.Content.{Content};
 ghost use Rattle.glob_text.specs.Text.{Text};
 ghost use Rattle.glob_walk.specs.Components.{matches_name as matches_text};
-ghost use Rattle.glob_walk.specs.Private.Left.{next_marks, next_ready, IsNextSound};
+ghost use Rattle.glob_walk.specs.Private.Tasks.{next_marks, next_ready, IsNextSound};
 ghost use Rattle.glob_walk.specs.Private.Frames.{first_part, second_part, met_marks, special_marks, frame_marks, is_done as is_done_frame, steps_left, unmet, IsFrameSound, IsEntrySound};
 
-use crate::plan::{Plan, Sight, Task, Wanted, child, is_entered, join, matches_name};
-use glob_pattern::Pattern;
+use crate::part::Part;
+use crate::path_text::{child, join};
+use crate::plan::{Plan, is_entered};
+use crate::task::{Sight, Task, Wanted};
 use glob_tree::Entry;
 use std::alloc::{AllocError, Allocator};
 
@@ -57,13 +59,13 @@ fn meet<A: Allocator + Copy>(
 /// The number, if the component matches the name.
 fn match_at<A: Allocator + Copy>(
     plan: &Plan<A>,
-    component: &Pattern<A>,
+    component: &Part<A>,
     next: usize,
     name: &str,
 ) -> Result<Option<usize>, AllocError>
     ensures { IfOk result (λ at. at ≡ (if matches_text plan.now.options component.now name.now then Some next else None)) }
 {
-    if matches_name(component, name, plan.options)? {
+    if component.matches(name, plan.options)? {
         Ok(Some(next))
     } else {
         Ok(None)
@@ -90,7 +92,7 @@ impl<A: Allocator + Copy> Frame<A> {
         let Some(component) = plan.component(self.part) else {
             return Ok(None);
         };
-        if !matches_name(component, name, plan.options)? {
+        if !component.matches(name, plan.options)? {
             return Ok(None);
         }
         Ok(Some(Task {

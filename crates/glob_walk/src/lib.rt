@@ -2,11 +2,20 @@
 #![tactic(auto)]
 
 mod error;
-pub mod frame;
-pub mod meter;
-pub mod paths;
-pub mod plan;
-pub mod stack;
-pub mod walker;
+mod frame;
+mod meter;
+mod part;
+mod path_text;
+mod paths;
+mod plan;
+mod same_text;
+mod stack;
+mod task;
+#[cfg(test)]
+mod tests;
+mod walk;
+mod walker;
 
 pub use error::{GlobCause, GlobError, GlobResult};
+pub use paths::{Paths, glob_in};
+pub use walk::{End, Walk, walk_in};

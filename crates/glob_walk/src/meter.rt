@@ -19,7 +19,7 @@ pub struct Meter<T> {
     pub spent: u64,
 }
 
-/// Why a path was not look_result up.
+/// Why a path was not looked up.
 #[derive(Clone, Copy, PartialEq, Eq)]
 pub enum Stop {
     Limit,

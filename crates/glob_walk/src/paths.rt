@@ -1,29 +1,29 @@
-//! The items of a walk.
-ghost use Rattle.std.specs.Prelude.{◌≡◌, ◌≤◌, ◌+◌, true, false, string_bytes, Some};
+//! The items of a walk, one after another.
+ghost use Rattle.std.specs.Prelude.{◌≡◌, ◌≤◌, ◌+◌, None, true, Some, IfOk, IfErr, option_map, string_bytes};
 ghost use Rattle.glob_tree.specs.Content.{Content};
 ghost use Rattle.glob_tree.specs.Answers.{IsTold};
-ghost use Rattle.glob_walk.specs.Listing.{look_up, enter};
-ghost use Rattle.glob_walk.specs.Private.Walking.{told_answer, is_item, is_last as is_last_answer};
+ghost use Rattle.glob_walk.specs.Components.{walk_fault};
+ghost use Rattle.glob_walk.specs.Listing.{listing, look_up, enter};
+ghost use Rattle.glob_walk.specs.Private.Walking.{turn_outcome};
+ghost use Rattle.glob_walk.specs.Walks.{outcome, is_last, item_number, IsFresh, RefusesWith};
 
+use crate::error::{GlobError, GlobResult};
 use crate::meter::Meter;
-use crate::plan::{Plan, Sight, Task, Wanted};
+use crate::plan::{self, Plan};
 use crate::stack::Stack;
+use crate::task::{Sight, Task, Wanted};
 use crate::walker::{Turn, Walker};
+use glob_pattern::{MatchOptions, PatternRefusal};
 use glob_tree::Tree;
 use std::alloc::Allocator;
-use std::io;
 use std::marker::Model;
+use std::path::PathBuf;
 
-/// What a walk gives.
-#[derive(Drop)]
-pub enum Answer<A: Allocator> {
-    Path(String<A>),
-    Unread(String<A>, io::Error),
-    Limit(String<A>),
-    Memory,
-}
-
-/// A walk's items.
+/// The items of a walk: the paths that a pattern leads to in a tree, in order, and an error for each directory that
+/// could not be listed.
+///
+/// An item may also be a refusal, which is the last one: that the limit was reached at its path, or that there was an
+/// allocation failure. After a refusal, and after the first `None`, only `None` follows.
 #[derive(Drop)]
 pub struct Paths<T: Tree> {
     walker: Walker<T>,
@@ -33,7 +33,8 @@ pub struct Paths<T: Tree> {
 
 impl<T: Tree> Model for Paths<T> {
     ghost use Rattle.std.specs.Prelude.{◌≡◌, ℕ, ◌+◌, ◌≤◌, true, false, option_map};
-    ghost use Rattle.glob_walk.specs.Private.Walking.{Walking, IsGood};
+    ghost use Rattle.glob_walk.specs.Private.Walking.{IsGood};
+    ghost use Rattle.glob_walk.specs.Walks.{Walking};
     ghost use Rattle.glob_walk.specs.Private.Stacks.{left};
 
     ghost Value = { Walking T };
@@ -50,10 +51,32 @@ impl<T: Tree> Model for Paths<T> {
     ghost invariant = { λ p. IsGood T.tells p.walker.meter p.walker.stack p.given p.over };
 }
 
+/// Walks `tree` after the components of a pattern, with at most `limit` units of work: one for each lookup, one for each
+/// listing, and one for each entry of a listing. Nothing is looked up before the first call of `next`.
+///
+/// A pattern with a fault is refused with `Syntax`: the fault of the whole text, or else that of the first component
+/// that has one, where a bracket holds `/`. Any pattern may be refused with `Memory`. The tree is then dropped.
+pub fn glob_in<T: Tree>(
+    alloc: T::Alloc,
+    tree: T,
+    pattern: &str,
+    options: MatchOptions,
+    limit: u64,
+) -> Result<Paths<T>, PatternRefusal>
+    ensures accepted { IfOk result (λ _. walk_fault pattern.now ≡ None) }
+    ensures refused { IfErr result (RefusesWith (walk_fault pattern.now)) }
+    ensures fresh { IfOk result (IsFresh tree limit) }
+    ensures listing { (c : Content) → IsTold (T.tells tree) c → IfOk result (λ p. p.left ≡ Some (listing c options pattern.now)) }
+{
+    let plan = Plan::read(alloc, pattern, options)?;
+    let start = String::from_str(alloc, plan::start(pattern))?;
+    Ok(Paths::new(tree, plan, start, limit))
+}
+
 impl<T: Tree> Paths<T> {
-    /// A walk from a path, which is look_result up first.
-    pub fn new(tree: T, plan: Plan<T::Alloc>, start: String<T::Alloc>, limit: u64) -> Self
-        ensures begins { (result.tree ≡ tree) × (result.limit ≡ limit) × (result.spent ≡ 0) × (result.given ≡ 0) × (result.over ≡ false) }
+    /// A walk from a path, which is looked up first.
+    fn new(tree: T, plan: Plan<T::Alloc>, start: String<T::Alloc>, limit: u64) -> Self
+        ensures fresh { IsFresh tree limit result }
         ensures left { (c : Content) → IsTold (T.tells tree) c → result.left ≡ Some (look_up c (λ seen. true) (enter c plan.options plan.directories plan.parts.items) (string_bytes start)) }
     {
         let frames = Vec::new(plan.alloc);
@@ -75,135 +98,82 @@ impl<T: Tree> Paths<T> {
         }
     }
 
+    /// How many units of work were charged: never more than the limit.
     pub fn spent(&self) -> u64
-        ensures { result ≡ self.now.spent }
+        ensures spent { result ≡ self.now.spent }
+        ensures within { result ≤ self.now.limit }
     {
         self.walker.meter.spent
     }
 
+    /// How many items `next` gave, a refusal too: at most one more than `spent`.
     pub fn given(&self) -> u128
         ensures given { result ≡ self.now.given }
         ensures few { result ≤ self.now.spent + 1 }
     {
         self.given
     }
+
+    /// The tree, as the walk leaves it.
+    pub(crate) fn into_tree(self) -> T
+        ensures { result ≡ self.tree }
+    {
+        self.walker.meter.tree
+    }
 }
 
 impl<T: Tree> Iterator for Paths<T> {
-    ghost use Rattle.glob_walk.specs.Private.Walking.{Counts, Takes};
-    ghost use Rattle.std.specs.Prelude.{◌+◌, ◌-◌};
+    ghost use Rattle.glob_walk.specs.Walks.{Goes, outcome};
+    ghost use Rattle.std.specs.Prelude.{◌+◌, ◌-◌, option_map};
     ghost use Rattle.std.specs.Iterator.{at_most};
 
-    type Item = Answer<T::Alloc>;
+    type Item = GlobResult<T::Alloc>;
 
-    ghost next_gives = { λ old answer new. Counts T.asks old answer new × Takes T.tells old answer new };
+    ghost next_gives = { λ old answer new. Goes T.asks T.tells old (option_map outcome answer) new };
 
     ghost remaining = { λ p. at_most (p.limit + 1 - p.given) };
 
-    fn next(&mut self) -> Option<Answer<T::Alloc>> {
+    /// The next item, a path or an error; or `None` where none is left.
+    fn next(&mut self) -> Option<GlobResult<T::Alloc>> {
         if self.over {
             return None;
         }
         let turn = self.walker.run();
-        let answer = answer_of(turn);
-        self.given += item_number(&answer);
-        self.over = is_last(&answer);
-        answer
+        self.given += item_count(&turn);
+        self.over = is_end(&turn);
+        item_of(self.walker.stack.plan.alloc, turn)
     }
 }
 
-fn answer_of<A: Allocator>(turn: Turn<A>) -> Option<Answer<A>>
-    ensures { result ≡ told_answer turn }
+/// How many items a turn comes to.
+fn item_count<A: Allocator>(turn: &Turn<A>) -> u128
+    ensures { result ≡ item_number (turn_outcome turn.now) }
+{
+    match turn {
+        Turn::Went | Turn::Done => 0,
+        Turn::Path(_) | Turn::Unread(..) | Turn::Limit(_) | Turn::Memory => 1,
+    }
+}
+
+/// Whether no item follows the turn.
+fn is_end<A: Allocator>(turn: &Turn<A>) -> bool
+    ensures { result ≡ is_last (turn_outcome turn.now) }
+{
+    match turn {
+        Turn::Path(_) | Turn::Unread(..) => false,
+        Turn::Went | Turn::Done | Turn::Limit(_) | Turn::Memory => true,
+    }
+}
+
+/// The item that a turn comes to.
+fn item_of<A: Allocator>(alloc: A, turn: Turn<A>) -> Option<GlobResult<A>>
+    ensures { option_map outcome result ≡ turn_outcome turn }
 {
     match turn {
         Turn::Went | Turn::Done => None,
-        Turn::Path(path) => Some(Answer::Path(path)),
-        Turn::Unread(path, e) => Some(Answer::Unread(path, e)),
-        Turn::Limit(path) => Some(Answer::Limit(path)),
-        Turn::Memory => Some(Answer::Memory),
-    }
-}
-
-fn item_number<A: Allocator>(answer: &Option<Answer<A>>) -> u128
-    ensures { result ≡ is_item answer.now }
-{
-    match answer {
-        None => 0,
-        Some(_) => 1,
-    }
-}
-
-fn is_last<A: Allocator>(answer: &Option<Answer<A>>) -> bool
-    ensures { result ≡ is_last_answer answer.now }
-{
-    matches!(answer, None | Some(Answer::Limit(_) | Answer::Memory))
-}
-
-#[cfg(test)]
-mod tests {
-    use super::*;
-    use glob::{MatchOptions, MemTree, Pattern};
-    use std::alloc::Global;
-    use std::test::Fail;
-
-    fn plan(alloc: Global, parts: &[&str], directories: bool) -> Result<Plan<Global>, Fail> {
-        let mut compiled = Vec::new(alloc);
-        for part in parts {
-            let Ok(pattern) = Pattern::new(alloc, *part) else {
-                return Err(Fail::from(std::alloc::AllocError));
-            };
-            compiled.push(pattern)?;
-        }
-        Ok(Plan {
-            parts: compiled,
-            options: MatchOptions::new(),
-            directories,
-            alloc,
-        })
-    }
-
-    #[test]
-    fn a_run_of_two_stars(rt: HostRuntime) -> Result<(), Fail> {
-        let alloc = rt.alloc();
-        let mut tree = MemTree::new(alloc)?;
-        let _ = tree.add_dir("/a");
-        let _ = tree.add_dir("/a/a");
-        let _ = tree.add_other("/a/a/b");
-        let _ = tree.add_other("/b");
-        let plan = plan(alloc, &["**", "a", "**", "b"], false)?;
-        let mut paths = Paths::new(tree, plan, String::from_str(alloc, ".")?, 100);
-        let mut text = String::new(alloc);
-        for _ in 0..40u32 {
-            match paths.next() {
-                Some(Answer::Path(path)) => text.push_str(path.as_str())?,
-                Some(_) => text.push_str("!")?,
-                None => {}
-            }
-            text.push_str(" ")?;
-        }
-        let text = text.as_str().trim();
-        assert_eq!(rt; text, "a/a/b a/a/b");
-        assert_eq!(rt; paths.spent(), 14);
-        Ok(())
-    }
-
-    #[test]
-    fn special_names(rt: HostRuntime) -> Result<(), Fail> {
-        let alloc = rt.alloc();
-        let tree = MemTree::new(alloc)?;
-        let plan = plan(alloc, &[".*", ".*"], false)?;
-        let mut paths = Paths::new(tree, plan, String::from_str(alloc, ".")?, 10);
-        let mut text = String::new(alloc);
-        for _ in 0..40u32 {
-            match paths.next() {
-                Some(Answer::Path(path)) => text.push_str(path.as_str())?,
-                Some(_) => text.push_str("!")?,
-                None => {}
-            }
-            text.push_str(" ")?;
-        }
-        assert_eq!(rt; text.as_str().trim(), "./../.. ./../. ././.. ././.");
-        assert_eq!(rt; paths.spent(), 10);
-        Ok(())
+        Turn::Path(path) => Some(Ok(PathBuf::from(path))),
+        Turn::Unread(path, e) => Some(Err(GlobError::read(PathBuf::from(path), e))),
+        Turn::Limit(path) => Some(Err(GlobError::limit(PathBuf::from(path)))),
+        Turn::Memory => Some(Err(GlobError::memory(PathBuf::new(alloc)))),
     }
 }

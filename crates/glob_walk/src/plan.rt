@@ -1,32 +1,54 @@
-//! What a walk looks for, and what it does next.
-ghost use Rattle.std.specs.Prelude.{◌≡◌, ◌+◌, ◌<◌, ◌≤◌, [], ◌∷◌, true, Bool, IfOk, string_bytes, MatchOption, OnSome, IfNone, drop, vec_len};
-ghost use Rattle.glob_tree.specs.Paths.{child as child_text, join as join_text};
-ghost use Rattle.glob_walk.specs.Components.{component_kind, is_special_name, matches_name as matches_text, is_literal as is_literal_text, is_recursive as is_recursive_text};
-ghost use Rattle.glob_walk.specs.Private.Left.{kind_told, is_dotted, enter_from, IsRun, IsOpened};
+//! What a walk looks for.
+ghost use Rattle.std.specs.Prelude.{◌≡◌, ◌+◌, ◌<◌, ◌≤◌, [], ◌∷◌, true, Bool, None, IfOk, IfErr, MatchOption, OnSome, IfNone, drop, vec_len};
+ghost use Rattle.glob_text.specs.Characters.{slash};
+ghost use Rattle.glob_text.specs.Pieces.{pieces};
 ghost use Rattle.glob_text.specs.Text.{Text};
 ghost use Rattle.glob_tree.specs.Content.{Content};
+ghost use Rattle.glob_walk.specs.Components.{components, first_fault, has_root as has_root_text, start as start_text, walk_fault, wants_directories, without_root, without_end_separator};
 ghost use Rattle.glob_walk.specs.Listing.{is_entered as is_entered_entry};
-ghost use Rattle.glob_tree.specs.Paths.{stays as stays_text, is_here as is_here_text};
-ghost use Rattle.glob_text.specs.Pieces.{begins_with, pieces};
-ghost use Rattle.glob_text.specs.Characters.{dot};
-ghost use Rattle.glob_pattern.specs.Grammar.Characters.{is_wildcard};
-ghost use Rattle.std.specs.List.{list_any, list_all};
+ghost use Rattle.glob_walk.specs.Private.Parts.{component_fault};
+ghost use Rattle.glob_walk.specs.Private.Tasks.{is_dotted, enter_from, IsRun, IsOpened};
+ghost use Rattle.glob_walk.specs.Walks.{RefusesWith};
 
-use glob_pattern::{MatchOptions, Pattern};
-use std::alloc::{AllocError, Allocator};
+use crate::part::Part;
+use crate::path_text::begins_with_dot;
+use glob_pattern::{MatchOptions, Pattern, PatternRefusal};
+use std::alloc::Allocator;
 
-/// What a walk looks for.
+/// What a walk looks for: the components of a pattern, in order.
 #[derive(Drop)]
 pub struct Plan<A: Allocator> {
-    pub parts: Vec<Pattern<A>, A>,
+    pub parts: Vec<Part<A>, A>,
     pub options: MatchOptions,
+    /// Whether directories alone are given.
     pub directories: bool,
     pub alloc: A,
 }
 
+impl<A: Allocator + Copy> Plan<A> {
+    /// Reads a pattern. One with a fault is refused with the fault of the whole text, or else with that of the first
+    /// component that has one; and any may be refused with `Memory`.
+    pub fn read(alloc: A, pattern: &str, options: MatchOptions) -> Result<Self, PatternRefusal>
+        ensures parts { IfOk result (λ plan. plan.parts.items ≡ components pattern.now) }
+        ensures options { IfOk result (λ plan. plan.options ≡ options) }
+        ensures directories { IfOk result (λ plan. plan.directories ≡ wants_directories pattern.now) }
+        ensures accepted { IfOk result (λ _. walk_fault pattern.now ≡ None) }
+        ensures refused { IfErr result (RefusesWith (walk_fault pattern.now)) }
+    {
+        check(alloc, pattern)?;
+        let parts = read_parts(alloc, past_root(pattern))?;
+        Ok(Plan {
+            parts,
+            options,
+            directories: pattern.ends_with('/'),
+            alloc,
+        })
+    }
+}
+
 impl<A: Allocator> Plan<A> {
     /// The component with the number.
-    pub fn component(&self, part: usize) -> Option<&Pattern<A>>
+    pub fn component(&self, part: usize) -> Option<&Part<A>>
         ensures rest { MatchOption result (drop part self.now.parts.items ≡ []) (λ t. drop part self.now.parts.items ≡ t.now ∷ drop (part + 1) self.now.parts.items) }
         ensures within { OnSome result (part < vec_len self.now.parts) }
         ensures past { IfNone result (vec_len self.now.parts ≤ part) }
@@ -34,7 +56,7 @@ impl<A: Allocator> Plan<A> {
         self.parts.get(part)
     }
 
-    /// Whether it begins with a dot.
+    /// Whether the component with the number begins with a dot.
     pub fn is_dotted(&self, part: usize) -> bool
         ensures { result ≡ is_dotted (drop part self.now.parts.items) }
     {
@@ -44,7 +66,7 @@ impl<A: Allocator> Plan<A> {
         }
     }
 
-    /// The number of the last `**` of a run.
+    /// The number of the last `**` of a run, given that of one of them.
     pub fn end_of_run(&self, part: usize) -> usize
         requires { IsRun (drop part self.now.parts.items) }
         ensures within { result < vec_len self.now.parts }
@@ -53,7 +75,7 @@ impl<A: Allocator> Plan<A> {
     {
         let mut last = part;
         while let Some(next) = self.component(last + 1) {
-            if !is_recursive(next.as_str()) {
+            if !next.is_recursive() {
                 break;
             }
             last += 1;
@@ -62,139 +84,52 @@ impl<A: Allocator> Plan<A> {
     }
 }
 
-/// Which answers to a look let the walk go on.
-#[derive(Clone, Copy, PartialEq, Eq)]
-pub enum Wanted {
-    Any,
-    Present,
-    Nothing,
-}
-
-/// What is known of a path.
-#[derive(Clone, Copy, PartialEq, Eq)]
-pub enum Sight {
-    Unseen(Wanted),
-    Seen(bool),
-}
-
-/// A path at which the components from a number on are left.
-#[derive(Drop)]
-pub struct Task<A: Allocator> {
-    pub path: String<A>,
-    pub part: usize,
-    pub sight: Sight,
-}
-
-/// What a component is.
-#[derive(Clone, Copy, PartialEq, Eq)]
-pub enum PartKind {
-    Literal,
-    Recursive,
-    Wild,
-}
-
-fn is_recursive(component: &str) -> bool
-    ensures { result ≡ is_recursive_text component.now }
+/// Refuses a pattern whose text has a fault.
+fn check<A: Allocator + Copy>(alloc: A, pattern: &str) -> Result<(), PatternRefusal>
+    ensures accepted { IfOk result (λ _. component_fault pattern.now ≡ None) }
+    ensures refused { IfErr result (RefusesWith (component_fault pattern.now)) }
 {
-    component == "**"
+    Pattern::new(alloc, pattern)?;
+    Ok(())
 }
 
-fn is_literal(component: &str) -> bool
-    ensures { result ≡ is_literal_text component.now }
+/// The components of a text between separators.
+fn read_parts<A: Allocator + Copy>(alloc: A, text: &str) -> Result<Vec<Part<A>, A>, PatternRefusal>
+    ensures parts { IfOk result (λ parts. parts.items ≡ pieces text.now) }
+    ensures accepted { IfOk result (λ _. first_fault (pieces text.now) ≡ None) }
+    ensures refused { IfErr result (RefusesWith (first_fault (pieces text.now))) }
 {
-    !has_wildcard(component)
-}
-
-fn has_wildcard(component: &str) -> bool
-    ensures { result ≡ list_any is_wildcard component.now }
-{
-    component
-        .as_bytes()
-        .iter()
-        .any(|&byte| byte == b'?' || byte == b'*' || byte == b'[')
-}
-
-pub fn kind_of(component: &str) -> PartKind
-    ensures { kind_told result ≡ component_kind component.now }
-{
-    if is_literal(component) {
-        PartKind::Literal
-    } else if is_recursive(component) {
-        PartKind::Recursive
-    } else {
-        PartKind::Wild
+    let mut parts = Vec::new(alloc);
+    for piece in text.split('/') {
+        parts.push(Part::read(alloc, piece)?)?;
     }
+    Ok(parts)
 }
 
-pub fn is_special(component: &str) -> bool
-    ensures { result ≡ is_special_name component.now }
+/// The path at which a walk starts.
+pub fn start(pattern: &str) -> &'static str
+    ensures { result.now ≡ start_text pattern.now }
 {
-    component == "." || component == ".."
+    if pattern.starts_with('/') { "/" } else { "." }
 }
 
-/// A run of `**` enters it.
+/// The components' text: what follows the root, without one separator at its end.
+fn past_root(pattern: &str) -> &str
+    ensures { result.now ≡ without_end_separator (without_root pattern.now) }
+{
+    without_end(pattern.strip_prefix('/').unwrap_or(pattern))
+}
+
+/// The text without one separator at its end.
+fn without_end(text: &str) -> &str
+    ensures { result.now ≡ without_end_separator text.now }
+{
+    text.strip_suffix('/').unwrap_or(text)
+}
+
+/// Whether a run of `**` enters an entry: a directory, and under the dot rule no dotted one.
 pub fn is_entered(options: MatchOptions, name: &str, is_dir: bool) -> bool
     ensures { result ≡ is_entered_entry options name.now is_dir }
 {
     is_dir && !(options.require_literal_leading_dot && begins_with_dot(name))
-}
-
-pub fn begins_with_dot(name: &str) -> bool
-    ensures { result ≡ begins_with dot name.now }
-{
-    name.starts_with('.')
-}
-
-fn stays(piece: &str) -> bool
-    ensures { result ≡ stays_text piece.now }
-{
-    piece.is_empty() || piece == "."
-}
-
-fn is_here(path: &str) -> bool
-    ensures { result ≡ is_here_text path.now }
-{
-    path.starts_with('.') && all_stay(path)
-}
-
-fn all_stay(path: &str) -> bool
-    ensures { result ≡ list_all stays_text (pieces path.now) }
-{
-    path.split('/').all(stays)
-}
-
-/// The path of a name in a directory.
-#[tactic(auto, unfolding(glob_tree::specs::Paths::child))]
-pub fn child<A: Allocator>(alloc: A, dir: &str, name: &str) -> Result<String<A>, AllocError>
-    ensures { IfOk result (λ p. string_bytes p ≡ child_text dir.now name.now) }
-{
-    if is_here(dir) {
-        String::from_str(alloc, name)
-    } else {
-        join(alloc, dir, name)
-    }
-}
-
-/// The path, a separator unless the path is empty or ends in one, and the name.
-#[tactic(auto, unfolding(glob_tree::specs::Paths::join))]
-pub fn join<A: Allocator>(alloc: A, dir: &str, name: &str) -> Result<String<A>, AllocError>
-    ensures { IfOk result (λ p. string_bytes p ≡ join_text dir.now name.now) }
-{
-    let mut path = String::from_str(alloc, dir)?;
-    if !dir.is_empty() && !dir.ends_with('/') {
-        path.push('/')?;
-    }
-    path.push_str(name)?;
-    Ok(path)
-}
-
-/// Whether the component matches the name.
-pub fn matches_name<A: Allocator + Copy>(
-    component: &Pattern<A>,
-    name: &str,
-    options: MatchOptions,
-) -> Result<bool, AllocError>
-    ensures { IfOk result (λ yes. yes ≡ matches_text options component.now name.now) }
-{
-    component.matches_with(name, options)
 }

@@ -5,7 +5,8 @@ ghost use Rattle.glob_walk.specs.Private.Frames.{frame_marks, unmet, IsFrameSoun
 ghost use Rattle.glob_walk.specs.Private.Stacks.{left, weight, frame_weight, ready, IsWithin, IsSound};
 
 use crate::frame::Frame;
-use crate::plan::{Plan, Task};
+use crate::plan::Plan;
+use crate::task::Task;
 use std::alloc::{AllocError, Allocator};
 
 /// What a walk looks for, and what it has still to do: a task, and then what is left in the directories that it is in,

@@ -7,15 +7,17 @@ ghost use Rattle.glob_tree.specs.declared.tree.Look.{Look as LookOf};
 ghost use Rattle.glob_walk.specs.declared.plan.Plan.{Plan as PlanOf};
 ghost use Rattle.glob_tree.specs.Answers.{IsTold};
 ghost use Rattle.glob_tree.specs.Looks.{is_there, is_directory as is_directory_look};
-ghost use Rattle.glob_walk.specs.Private.Left.{task_marks, IsSightSound, is_wanted as is_wanted_look, enter_from, IsOpened, sight_marks, next_marks, next_ready, IsNextSound};
+ghost use Rattle.glob_walk.specs.Private.Tasks.{task_marks, IsSightSound, is_wanted as is_wanted_look, enter_from, IsOpened, sight_marks, next_marks, next_ready, IsNextSound};
 ghost use Rattle.glob_walk.specs.Private.Stacks.{left, weight, next_weight, ready, IsWithin, IsSound};
 ghost use Rattle.glob_walk.specs.Private.Turns.{IfGoing, TurnOf, TurnCounts, item_count, turns_left};
 
 use crate::frame::{Frame, Place};
 use crate::meter::{Meter, Stop, Unlisted};
-use crate::plan::{PartKind, Plan, Sight, Task, Wanted, child, is_special, kind_of};
+use crate::part::{Part, PartKind, is_special};
+use crate::path_text::child;
+use crate::plan::Plan;
 use crate::stack::Stack;
-use glob_pattern::Pattern;
+use crate::task::{Sight, Task, Wanted};
 use glob_tree::{Look, Tree};
 use std::alloc::{AllocError, Allocator};
 use std::io;
@@ -43,19 +45,6 @@ pub struct Walker<T: Tree> {
     pub stack: Stack<T::Alloc>,
 }
 
-fn is_wanted(wanted: Wanted, seen: Look) -> bool
-    ensures { result ≡ is_wanted_look wanted seen }
-{
-    match wanted {
-        Wanted::Any => true,
-        Wanted::Present => match seen {
-            Look::Missing => false,
-            Look::Dir | Look::Other => true,
-        },
-        Wanted::Nothing => false,
-    }
-}
-
 fn is_directory(seen: Look) -> bool
     ensures { result ≡ is_directory_look seen }
 {
@@ -72,7 +61,7 @@ fn found<A: Allocator>(path: String<A>, part: usize, wanted: Wanted, seen: Look)
     ensures weight { next_weight result ≤ 2 }
     ensures ready { (plan : PlanOf A) → next_ready plan result ≤ 1 }
 {
-    if !is_wanted(wanted, seen) {
+    if !wanted.is_met(seen) {
         return None;
     }
     let sight = Sight::Seen(is_directory(seen));
@@ -80,7 +69,7 @@ fn found<A: Allocator>(path: String<A>, part: usize, wanted: Wanted, seen: Look)
 }
 
 impl<T: Tree> Walker<T> {
-    /// A path is look_result up.
+    /// A path is looked up.
     fn look_up(&mut self, path: String<T::Alloc>, part: usize, wanted: Wanted) -> Turn<T::Alloc>
         requires limit { self.old.meter.spent ≤ self.old.meter.limit }
         requires none { self.old.stack.next ≡ None }
@@ -158,7 +147,7 @@ impl<T: Tree> Walker<T> {
             }
             return Turn::Went;
         };
-        match kind_of(component.as_str()) {
+        match component.kind() {
             PartKind::Literal => match named(
                 &self.stack.plan,
                 component,
@@ -236,24 +225,11 @@ impl<T: Tree> Walker<T> {
     }
 }
 
-/// Which answers to the look at a component that stands for itself let the walk go on.
-fn wanted_of(is_special: bool, is_dir: bool) -> Wanted
-    ensures { (seen : LookOf) → is_wanted_look result seen ≡ (if is_special then is_dir else is_there seen) }
-{
-    if !is_special {
-        Wanted::Present
-    } else if is_dir {
-        Wanted::Any
-    } else {
-        Wanted::Nothing
-    }
-}
-
 /// The look at a component that stands for itself.
 #[tactic(auto, using(crate::proofs::WalkLemmas::Naming::named_marks))]
 fn named<A: Allocator + Copy>(
     plan: &Plan<A>,
-    component: &Pattern<A>,
+    component: &Part<A>,
     path: &str,
     part: usize,
     is_dir: bool,
@@ -267,7 +243,7 @@ fn named<A: Allocator + Copy>(
     ensures sound { IfOk result (λ task. (c : Content) → IsNextSound c (Some task)) }
 {
     let name = component.as_str();
-    let wanted = wanted_of(is_special(name), is_dir);
+    let wanted = Wanted::of_literal(is_special(name), is_dir);
     Ok(Task {
         path: child(plan.alloc, path, name)?,
         part: part + 1,

@@ -11,8 +11,8 @@ use Rattle.glob_pattern.specs.declared.options.MatchOptions.{MatchOptions}
 use Rattle.glob_tree.specs.declared.tree.Look.{Look}
 use Rattle.glob_walk.proofs.ListingLemmas.Descending.{enter-literal, enter_none, enter-recursive_none}
 use Rattle.glob_walk.specs.declared.plan.Plan.{Plan}
-use Rattle.glob_walk.specs.declared.plan.Wanted.{Wanted}
-use Rattle.glob_walk.specs.Private.Left.{enter_from, is_wanted, IsOpened}
+use Rattle.glob_walk.specs.declared.task.Wanted.{Wanted}
+use Rattle.glob_walk.specs.Private.Tasks.{enter_from, is_wanted, IsOpened}
 use Rattle.glob_walk.proofs.WalkLemmas.Entering.{enter-end}
 
 pub named_marks : {A : Type 0} (c : Content) (plan : Plan A) (part : ℕ) (path : Text) (d : Bool) (t : Text) (w : Wanted)

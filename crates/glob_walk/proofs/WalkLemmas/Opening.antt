@@ -19,7 +19,7 @@ use Rattle.glob_walk.proofs.ListingLemmas.Descending.{enter-wild, enter-recursiv
 use Rattle.glob_walk.specs.declared.plan.Plan.{Plan}
 use Rattle.glob_walk.specs.declared.frame.Place.{Place}
 use Rattle.glob_walk.specs.declared.frame.Place.TheVariants.{Parent, At}
-use Rattle.glob_walk.specs.Private.Left.{enter_from, IsOpened}
+use Rattle.glob_walk.specs.Private.Tasks.{enter_from, IsOpened}
 use Rattle.glob_walk.specs.Private.Frames.{first_of, entry_marks, entries_marks, special_marks, special_after, place_marks, first_place, IsEntrySound}
 use Rattle.glob_walk.specs.Private.Meters.{IsInOrder, IsCut}
 use Rattle.glob_tree.specs.Answers.{IsListFault}

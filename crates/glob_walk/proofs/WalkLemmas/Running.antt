@@ -12,7 +12,7 @@ use Rattle.std.proofs.lemmas.List.{drop_more}
 use Rattle.glob_walk.specs.Listing.{enter}
 use Rattle.glob_walk.proofs.ListingLemmas.Descending.{enter-run}
 use Rattle.glob_walk.specs.declared.plan.Plan.{Plan}
-use Rattle.glob_walk.specs.Private.Left.{enter_from, IsRun, IsOpened}
+use Rattle.glob_walk.specs.Private.Tasks.{enter_from, IsRun, IsOpened}
 
 pub recursive_kind : (t : Text) → is_recursive t ≡ true → component_kind t ≡ Recursive
 recursive_kind t h = ap component_kind ((bytes_eq-Decides t (star ∷ star ∷ [])).0 h)

@@ -10,11 +10,11 @@ use Rattle.glob_walk.specs.Listing.{enter, meet, match_at, look_up, special_name
 use Rattle.glob_tree.specs.Looks.{is_there, is_directory}
 use Rattle.glob_pattern.specs.declared.options.MatchOptions.{MatchOptions}
 use Rattle.glob_walk.specs.declared.plan.Plan.{Plan}
-use Rattle.glob_walk.specs.declared.plan.Task.{Task}
+use Rattle.glob_walk.specs.declared.task.Task.{Task}
 use Rattle.glob_walk.specs.declared.frame.Frame.{Frame}
 use Rattle.glob_walk.specs.declared.frame.Place.{Place}
 use Rattle.glob_walk.specs.declared.frame.Place.TheVariants as place
-use Rattle.glob_walk.specs.Private.Left.{enter_from, next_marks, is_dotted}
+use Rattle.glob_walk.specs.Private.Tasks.{enter_from, next_marks, is_dotted}
 
 -- what is made of an entry that is met: the components from number `at` on follow
 abbrev pub met_marks : {A : Type 0} → Content → Plan A → Text → DirEntry → Option ℕ → List Mark

@@ -4,12 +4,12 @@ use Rattle.std.specs.List.{All}
 use Rattle.glob_walk.specs.Marks.{Mark}
 use Rattle.glob_tree.specs.Content.{Content}
 use Rattle.glob_walk.specs.declared.plan.Plan.{Plan}
-use Rattle.glob_walk.specs.declared.plan.Task.{Task}
-use Rattle.glob_walk.specs.declared.plan.Sight.{Sight}
-use Rattle.glob_walk.specs.declared.plan.Sight.TheVariants as sight
+use Rattle.glob_walk.specs.declared.task.Task.{Task}
+use Rattle.glob_walk.specs.declared.task.Sight.{Sight}
+use Rattle.glob_walk.specs.declared.task.Sight.TheVariants as sight
 use Rattle.glob_walk.specs.declared.frame.Frame.{Frame}
 use Rattle.glob_walk.specs.declared.stack.Stack.{Stack}
-use Rattle.glob_walk.specs.Private.Left.{next_marks, next_ready, IsNextSound}
+use Rattle.glob_walk.specs.Private.Tasks.{next_marks, next_ready, IsNextSound}
 use Rattle.glob_walk.specs.Private.Frames.{frame_marks, steps_left, unmet, IsFrameSound}
 
 -- the last directory first

@@ -6,22 +6,8 @@ use Rattle.glob_walk.specs.Marks.{Mark, Work, Give, Found, Unread}
 use Rattle.glob_walk.specs.declared.meter.Meter.{Meter}
 use Rattle.glob_walk.specs.declared.walker.Turn.{Turn}
 use Rattle.glob_walk.specs.declared.walker.Turn.TheVariants as turn
+use Rattle.glob_walk.specs.Walks.{Charges, StopsAt}
 use Rattle.glob_walk.specs.Private.Meters.{IsExact, IsAtLimit}
-
--- units of work at these paths
-abbrev pub works : List Text → List Mark
-works ps = map Work ps
-
--- the units that were charged, and what comes after them
-pub record Charges (left : List Mark) (spent : ℕ) (after : List Mark) (spent' : ℕ) : Type 0 where
-  pub paths : List Text
-  pub front : left ≡ works paths ++ after
-  pub units : spent' ≡ spent + length paths
-
--- the next unit is at the path, and the ones before it are charged
-pub record StopsAt (left : List Mark) (spent : ℕ) (path : Text) (spent' : ℕ) : Type 0 where
-  pub rest : List Mark
-  pub charges : Charges left spent (Work path ∷ rest) spent'
 
 -- what a turn takes from the front of what was left
 abbrev pub TurnOf : {A : Type 0} → List Mark → ℕ → Turn A → List Mark → ℕ → Type 0

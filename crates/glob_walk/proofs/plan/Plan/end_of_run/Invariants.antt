@@ -1,7 +1,7 @@
 use Rattle.std.proofs.Common.{◌≡◌, ◌<◌, ◌-◌, length, drop, Bool}
 use Rattle.glob_text.specs.Text.{Text}
 use Rattle.glob_tree.specs.Content.{Content}
-use Rattle.glob_walk.specs.Private.Left.{enter_from, IsRun}
+use Rattle.glob_walk.specs.Private.Tasks.{enter_from, IsRun}
 use Rattle.glob_walk.proofs.plan.Plan.end_of_run.Given as goal
 
 abbrev pub invariant-loop-next : goal.invariant-loop-next

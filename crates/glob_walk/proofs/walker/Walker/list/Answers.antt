@@ -6,7 +6,7 @@ use Rattle.glob_tree.specs.Answers.{entries_of}
 use Rattle.glob_tree.proofs.ContentLemmas.Contents.{IsContent-from_test}
 use Rattle.glob_walk.specs.Private.Meters.{IsInOrder, IsCut, IsUnlisted}
 use Rattle.glob_walk.specs.Private.Turns.{StopsAt, works}
-use Rattle.glob_walk.specs.Private.Left.{enter_from}
+use Rattle.glob_walk.specs.Private.Tasks.{enter_from}
 use Rattle.glob_walk.specs.Private.Stacks.{left, frames_marks}
 use Rattle.std.proofs.lemmas.Grind.{common_steps}
 use Rattle.glob_walk.specs.declared.frame.Place.TheVariants.{At, Parent}

@@ -1,5 +1,5 @@
 use Rattle.std.proofs.Common.{rules, ◌≡◌, subst, sym}
-use Rattle.glob_walk.specs.Private.Left.{IsNextSound}
+use Rattle.glob_walk.specs.Private.Tasks.{IsNextSound}
 use Rattle.glob_walk.proofs.walker.Walker.turn.Goals as goal
 
 pub returns-in-Ok-true-clause-sound : goal.returns-in-Ok-true-clause-sound

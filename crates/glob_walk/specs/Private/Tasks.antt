@@ -13,18 +13,11 @@ use Rattle.glob_walk.specs.Listing.{enter, meet, match_at, look_up, special_name
 use Rattle.glob_tree.specs.Looks.{is_there, is_directory}
 use Rattle.glob_tree.specs.declared.tree.Look.{Look}
 use Rattle.glob_walk.specs.declared.plan.Plan.{Plan}
-use Rattle.glob_walk.specs.declared.plan.Wanted.{Wanted}
-use Rattle.glob_walk.specs.declared.plan.Wanted.TheVariants as wanted
-use Rattle.glob_walk.specs.declared.plan.Sight.{Sight}
-use Rattle.glob_walk.specs.declared.plan.Sight.TheVariants as sight
-use Rattle.glob_walk.specs.declared.plan.Task.{Task}
-use Rattle.glob_walk.specs.declared.plan.PartKind.{PartKind}
-use Rattle.glob_walk.specs.declared.plan.PartKind.TheVariants as part
-
-abbrev pub kind_told : PartKind → ComponentKind
-kind_told part.Literal = Literal
-kind_told part.Recursive = Recursive
-kind_told part.Wild = Wild
+use Rattle.glob_walk.specs.declared.task.Wanted.{Wanted}
+use Rattle.glob_walk.specs.declared.task.Wanted.TheVariants as wanted
+use Rattle.glob_walk.specs.declared.task.Sight.{Sight}
+use Rattle.glob_walk.specs.declared.task.Sight.TheVariants as sight
+use Rattle.glob_walk.specs.declared.task.Task.{Task}
 
 abbrev pub is_wanted : Wanted → Look → Bool
 is_wanted wanted.Any seen = true
@@ -69,7 +62,7 @@ abbrev pub IsRun : List Text → Type 0
 IsRun [] = ⊥
 IsRun (t ∷ ts) = component_kind t ≡ Recursive
 
--- a directory is list_result for the first component: one that is matched, or the last `**` of a run
+-- a directory is listed for the first component: one that is matched, or the last `**` of a run
 abbrev pub IsOpened : Bool → List Text → Type 0
 IsOpened run [] = ⊥
 IsOpened false (t ∷ ts) = component_kind t ≡ Wild

@@ -2,7 +2,7 @@ use Rattle.std.proofs.Common.{lit<, rules}
 use Rattle.std.proofs.lemmas.Iterator.Search.{all_from_yields_List}
 use Rattle.std.proofs.lemmas.Iterator.Splits.{YieldsList-from_str_split}
 use Rattle.glob_tree.specs.Paths.{stays}
-use Rattle.glob_walk.proofs.plan.all_stay.Goals as goal
+use Rattle.glob_walk.proofs.path_text.all_stay.Goals as goal
 
 pub returns : goal.returns
 returns c =
