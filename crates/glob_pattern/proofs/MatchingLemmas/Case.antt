@@ -3,7 +3,7 @@ use Rattle.std.proofs.Common.{◌≡◌, ℕ, ◌+◌, ◌<◌, ◌≤◌, ◌�
 use Rattle.std.proofs.lemmas.Bool.{or_cases, or_right, and_parts, and_from, eqb-true, eq-eqb, ltb-true, lt-ltb, cases_eq, cases_lt}
 use Rattle.std.proofs.lemmas.Str.Ascii.{lowercase_is, uppercase_is}
 use Rattle.std.specs.Char.{to_ascii_lowercase, to_ascii_uppercase}
-use Rattle.glob_pattern.specs.Grammar.Brackets.{same}
+use Rattle.glob_pattern.specs.Grammar.Brackets.{is_same}
 use Rattle.std.specs.Char.{is_ascii}
 
 lower_cases : (c : ℕ) → ((65 ≤ c) × (c ≤ 90) × (to_ascii_lowercase c ≡ c + 32)) ⊎ (((c < 65) ⊎ (90 < c)) × (to_ascii_lowercase c ≡ c))
@@ -19,7 +19,7 @@ upper_cases c =
     (cases_lt c 97)
 
 -- of a character of ASCII they are its small and its capital form
-pub same-forms : (c x : ℕ) → c < 128 → IsTrue (same false c x) ↔ ((to_ascii_lowercase c ≡ x) ⊎ (to_ascii_uppercase c ≡ x))
+pub same-forms : (c x : ℕ) → c < 128 → IsTrue (is_same false c x) ↔ ((to_ascii_lowercase c ≡ x) ⊎ (to_ascii_uppercase c ≡ x))
 same-forms c x low = (
   λ t.
       ⊎_elim inl

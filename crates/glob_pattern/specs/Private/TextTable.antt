@@ -14,7 +14,8 @@ table_of o tokens text = record {
   characters = length text;
   tokens = length tokens;
   opens = opens text;
-  takes = λ token place. takes o (opens text place) (slice_index text place) (slice_index_or tokens token Any);
+  takes = λ token place.
+      takes o (opens text place) (slice_index text place) (slice_index_or tokens token Any);
 }
 
 -- the table of a text of one character, before which a component begins or not
