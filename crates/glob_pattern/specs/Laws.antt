@@ -5,7 +5,7 @@ use Rattle.std.specs.Path.{has_no_slash}
 use Rattle.glob_text.specs.Characters.{slash}
 use Rattle.glob_pattern.specs.Grammar.Characters.{is_wildcard}
 use Rattle.glob_text.specs.Text.{Text}
-use Rattle.glob_pattern.specs.Grammar.Brackets.{same}
+use Rattle.glob_pattern.specs.Grammar.Brackets.{is_same}
 use Rattle.glob_pattern.specs.Grammar.Tokens.{Token, tokens_of_units}
 use Rattle.glob_pattern.specs.Grammar.Units.{IsAccepted}
 use Rattle.glob_pattern.specs.Matching.Components.{takes_names, with_separator_rule, AreComponents}
@@ -30,7 +30,8 @@ TokensLoosened =
 -- a yes under strict rules stays a yes under looser ones, for patterns
 abbrev pub PatternsLoosened : Type 0
 PatternsLoosened =
-    (strict loose : MatchOptions) → IsLooser strict loose → (pattern text : Text) → Matches strict pattern text → Matches loose pattern text
+    (strict loose : MatchOptions) → IsLooser strict loose → (pattern text : Text)
+    → Matches strict pattern text → Matches loose pattern text
 
 -- no character of the text is a wildcard
 abbrev pub IsPlain : Text → Type 0
@@ -38,7 +39,9 @@ IsPlain text = IsFalse (list_any is_wildcard text)
 
 -- the texts have equally many characters, and at each place the same, with or without case
 abbrev pub SameTexts : (case : Bool) → Text → Text → Type 0
-SameTexts case xs ys = (length xs ≡ length ys) × ((k : ℕ) → k < length ys → IsTrue (same case (slice_index xs k) (slice_index ys k)))
+SameTexts case xs ys =
+    (length xs ≡ length ys)
+    × ((k : ℕ) → k < length ys → IsTrue (is_same case (slice_index xs k) (slice_index ys k)))
 
 -- a text without wildcards is accepted
 abbrev pub PlainAccepted : Type 0
@@ -47,17 +50,20 @@ PlainAccepted = (pattern : Text) → IsPlain pattern → IsAccepted pattern
 -- a text without wildcards matches the texts that are the same as it, whatever the rules
 abbrev pub PlainMatchesSame : Type 0
 PlainMatchesSame =
-    (o : MatchOptions) (pattern text : Text) → IsPlain pattern → (Matches o pattern text ↔ SameTexts o.case_sensitive text pattern)
+    (o : MatchOptions) (pattern text : Text) → IsPlain pattern
+    → (Matches o pattern text ↔ SameTexts o.case_sensitive text pattern)
 
 -- a text without wildcards matches with case itself alone
 abbrev pub PlainMatchesItself : Type 0
 PlainMatchesItself =
-    (o : MatchOptions) (pattern text : Text) → IsPlain pattern → IsTrue o.case_sensitive → (Matches o pattern text ↔ (pattern ≡ text))
+    (o : MatchOptions) (pattern text : Text) → IsPlain pattern → IsTrue o.case_sensitive
+    → (Matches o pattern text ↔ (pattern ≡ text))
 
 -- neighbouring `**` match what one of them matches
 abbrev pub FoldedMatchSame : Type 0
 FoldedMatchSame =
-    (o : MatchOptions) (units : List Token) (text : Text) → (TokensMatch o units text ↔ TokensMatch o (tokens_of_units units) text)
+    (o : MatchOptions) (units : List Token) (text : Text)
+    → (TokensMatch o units text ↔ TokensMatch o (tokens_of_units units) text)
 
 -- an escaped text is accepted
 abbrev pub EscapedAccepted : Type 0
@@ -66,20 +72,26 @@ EscapedAccepted = (text : Text) → IsAccepted (escaped_text text)
 -- an escaped text matches the texts that are the same as the text, whatever the rules
 abbrev pub EscapedMatchesSame : Type 0
 EscapedMatchesSame =
-    (o : MatchOptions) (text other : Text) → (Matches o (escaped_text text) other ↔ SameTexts o.case_sensitive other text)
+    (o : MatchOptions) (text other : Text)
+    → (Matches o (escaped_text text) other ↔ SameTexts o.case_sensitive other text)
 
 -- with case, an escaped text matches the text alone
 abbrev pub EscapedMatchesItself : Type 0
 EscapedMatchesItself =
-    (o : MatchOptions) (text other : Text) → IsTrue o.case_sensitive → (Matches o (escaped_text text) other ↔ (text ≡ other))
+    (o : MatchOptions) (text other : Text) → IsTrue o.case_sensitive
+    → (Matches o (escaped_text text) other ↔ (text ≡ other))
 
 -- the computation says yes exactly for the texts that the tokens match
 abbrev pub TokensDecided : Type 0
-TokensDecided = (o : MatchOptions) (tokens : List Token) (text : Text) → Decides (tokens_match o tokens text) (TokensMatch o tokens text)
+TokensDecided =
+    (o : MatchOptions) (tokens : List Token) (text : Text)
+    → Decides (tokens_match o tokens text) (TokensMatch o tokens text)
 
 -- the computation says yes exactly for the texts that the pattern matches
 abbrev pub PatternsDecided : Type 0
-PatternsDecided = (o : MatchOptions) (pattern text : Text) → Decides (is_match o pattern text) (Matches o pattern text)
+PatternsDecided =
+    (o : MatchOptions) (pattern text : Text)
+    → Decides (is_match o pattern text) (Matches o pattern text)
 
 -- the separator rule changes nothing for a text without separators
 abbrev pub SeparatorRuleSparesNames : Type 0

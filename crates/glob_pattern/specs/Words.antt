@@ -10,7 +10,8 @@ out_of_memory = codes "out of memory"
 
 -- of a fault of a pattern: its place, in characters from 0, and its message
 abbrev pub pattern_error_words : PatternError → List ℕ
-pattern_error_words e = codes "Pattern syntax error near position " ++ decimal e.pos ++ codes ": " ++ e.msg.now
+pattern_error_words e =
+    codes "Pattern syntax error near position " ++ decimal e.pos ++ codes ": " ++ e.msg.now
 
 -- of a refusal
 abbrev pub refusal_words : PatternRefusal → List ℕ

@@ -7,6 +7,7 @@ ghost use Rattle.glob_pattern.specs.Grammar.Faults.{Refuses};
 ghost use Rattle.glob_pattern.specs.Matching.Texts.{Matches};
 ghost use Rattle.glob_pattern.specs.Matching.Options.{new_options};
 
+mod character_judge;
 mod compare;
 mod escape;
 mod judge;

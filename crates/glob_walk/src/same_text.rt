@@ -1,6 +1,6 @@
 //! Texts that are the same, with or without case.
 ghost use Rattle.std.specs.Prelude.{◌≡◌, chars};
-ghost use Rattle.glob_pattern.specs.Grammar.Brackets.{same};
+ghost use Rattle.glob_pattern.specs.Grammar.Brackets.{is_same};
 ghost use Rattle.glob_walk.specs.Private.Parts.{same_texts};
 
 /// Whether the texts have equally many characters and at each place the same, with case or without.
@@ -16,7 +16,7 @@ pub fn is_same_text(text: &str, other: &str, case_sensitive: bool) -> bool
 
 /// Whether the characters are the same, with case or without.
 fn is_same(case_sensitive: bool, c: char, x: char) -> bool
-    ensures { result ≡ same case_sensitive c x }
+    ensures { result ≡ is_same case_sensitive c x }
 {
     c == x || (!case_sensitive && c.eq_ignore_ascii_case(&x))
 }

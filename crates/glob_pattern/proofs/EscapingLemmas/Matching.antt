@@ -5,7 +5,7 @@ use Rattle.std.specs.Char.{to_ascii_lowercase}
 use Rattle.glob_pattern.specs.Grammar.Characters.{star, question_mark, open_bracket, close_bracket, exclamation_mark}
 use Rattle.glob_text.specs.Characters.{slash, dot}
 use Rattle.glob_text.specs.Text.{Text, between}
-use Rattle.glob_pattern.specs.Grammar.Brackets.{same, entries_of}
+use Rattle.glob_pattern.specs.Grammar.Brackets.{is_same, entries_of}
 use Rattle.glob_pattern.specs.Grammar.Tokens.{Token, is_deep}
 use Rattle.glob_pattern.specs.Grammar.Units.{UnitAt, HasTokens}
 use Rattle.glob_pattern.specs.Matching.Taking.{is_excluded_separator, is_excluded_dot, is_free}
@@ -101,7 +101,7 @@ special-lowercase c x special e =
     (λ at. lowercase-at c x close_bracket at (omega arith) refl e) (is_special-tells x special)
 
 -- the same as a special character is that character
-same-special : (case : Bool) (c x : ℕ) → IsTrue (is_special x) → IsTrue (same case c x) → c ≡ x
+same-special : (case : Bool) (c x : ℕ) → IsTrue (is_special x) → IsTrue (is_same case c x) → c ≡ x
 same-special case c x special h =
     ⊎_elim (λ e. eqb-true c x e) (λ small. special-lowercase c x special (eqb-true _ _ (and_parts _ _ small).1)) (or_cases _ _ h)
 
@@ -122,7 +122,7 @@ and-implied false false h = refl
 bracketed-literal : (o : MatchOptions) (x : ℕ) → IsTrue (is_special x) → IsLiteral o (bracketed x) x
 bracketed-literal o x special = (
   refl,
-  λ opening c. and-implied (is_free o opening c) (same o.case_sensitive c x)
+  λ opening c. and-implied (is_free o opening c) (is_same o.case_sensitive c x)
       (λ h. subst (λ y. IsTrue (is_free o opening y)) (sym (same-special o.case_sensitive c x special h)) (special-is_free o opening x special)),
 )
 

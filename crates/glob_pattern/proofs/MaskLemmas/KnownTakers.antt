@@ -3,7 +3,7 @@ use Rattle.std.proofs.Common.{◌≡◌, ℕ, ◌<◌, ◌≤◌, ◌⊎◌, ◌
 use Rattle.std.proofs.lemmas.Bool.{false≢true, or_left, or_right, eqb-true, eq-eqb, ne_eqb, not-true, not_from_false}
 use Rattle.std.proofs.Math.Bool.{and-true, and-false, or-false}
 use Rattle.std.specs.Char.{to_ascii_lowercase, to_ascii_uppercase}
-use Rattle.glob_pattern.specs.Grammar.Brackets.{same, holds}
+use Rattle.glob_pattern.specs.Grammar.Brackets.{is_same, holds}
 use Rattle.glob_text.specs.Characters.{slash, dot}
 use Rattle.glob_pattern.specs.Grammar.Tokens.{Token, is_deep}
 use Rattle.glob_pattern.specs.Matching.Taking.{takes, is_excluded_separator, is_excluded_dot}
@@ -45,7 +45,7 @@ module _ (o : MatchOptions) (opening : Bool) (c : ℕ) where
 
   -- with case, a token takes the characters whose masks it is in and that no rule excludes
   pub takes-with_case : o.case_sensitive ≡ true → (t : Token) → takes o opening c t ≡ (takes new_options true c t && not (is_excluded o opening c t))
-  takes-with_case case (Plain x) = rw case (sym (and-true (same true c x)))
+  takes-with_case case (Plain x) = rw case (sym (and-true (is_same true c x)))
   takes-with_case case Any = neither (is_excluded_separator o c) (is_excluded_dot o opening c)
   takes-with_case case Run = neither (is_excluded_separator o c) (is_excluded_dot o opening c)
   takes-with_case case Deep = refl

@@ -3,9 +3,9 @@ use Rattle.std.proofs.Common.{◌≡◌, ℕ, ◌+◌, ◌<◌, ◌≤◌, ◌�
 use Rattle.std.proofs.lemmas.Bool.{both_ways, or_from, and_right, ne_eqb, or_cases, or_right, and_parts, and_from, eqb-true, eq-eqb, ltb-true, lt-ltb, cases_eq, cases_lt}
 use Rattle.std.proofs.lemmas.Str.Ascii.{lowercase_is, uppercase_is}
 use Rattle.std.specs.Char.{to_ascii_lowercase, to_ascii_uppercase}
+use Rattle.glob_pattern.specs.Grammar.Brackets.{is_same}
 use Rattle.std.specs.Char.{is_ascii}
 use Rattle.glob_text.specs.Characters.{slash}
-use Rattle.glob_pattern.specs.Grammar.Brackets.{same}
 
 lower_cases : (c : ℕ) → ((65 ≤ c) × (c ≤ 90) × (to_ascii_lowercase c ≡ c + 32)) ⊎ (((c < 65) ⊎ (90 < c)) × (to_ascii_lowercase c ≡ c))
 lower_cases c =
@@ -20,7 +20,7 @@ upper_cases c =
     (cases_lt c 97)
 
 -- of a character of ASCII they are its small and its capital form
-pub same-forms : (c x : ℕ) → c < 128 → IsTrue (same false c x) ↔ ((to_ascii_lowercase c ≡ x) ⊎ (to_ascii_uppercase c ≡ x))
+pub same-forms : (c x : ℕ) → c < 128 → IsTrue (is_same false c x) ↔ ((to_ascii_lowercase c ≡ x) ⊎ (to_ascii_uppercase c ≡ x))
 same-forms c x low = (
   λ t.
       ⊎_elim inl
@@ -49,7 +49,7 @@ same-forms c x low = (
 )
 
 -- with or without case, no other character is the same as `/`
-pub same-slash : (case : Bool) (c : ℕ) → (c == slash) ≡ false → (same case slash c ≡ false) × (same case c slash ≡ false)
+pub same-slash : (case : Bool) (c : ℕ) → (c == slash) ≡ false → (is_same case slash c ≡ false) × (is_same case c slash ≡ false)
 same-slash case c e =
     let lower = lower_cases c in
     let kept = lower_cases slash in (

@@ -2,7 +2,7 @@
 use Rattle.std.proofs.Common.{◌≡◌, ℕ, ◌+◌, ◌<◌, Bool, [], ◌∷◌, length, map, replicate, slice_index, IsTrue, refl, sym, ap, ap₂, subst, ◌∙◌, arith, zero-add}
 use Rattle.std.proofs.lemmas.List.{get_or-map}
 use Rattle.glob_text.specs.Text.{Text, opens}
-use Rattle.glob_pattern.specs.Grammar.Brackets.{same}
+use Rattle.glob_pattern.specs.Grammar.Brackets.{is_same}
 use Rattle.glob_pattern.specs.Grammar.Tokens.{Token, shape_of}
 use Rattle.glob_pattern.specs.Matching.Taking.{takes}
 use Rattle.glob_pattern.specs.Matching.Texts.{TokensMatch}
@@ -17,7 +17,7 @@ use Rattle.glob_pattern.proofs.MatchingLemmas.PiecesAndSplits.{Splits-from_Token
 
 -- the token takes one character, where it is the same as x
 abbrev pub IsLiteral : MatchOptions → Token → ℕ → Type 0
-IsLiteral o t x = (shape_of t ≡ shape.One) × ((opening : Bool) (c : ℕ) → takes o opening c t ≡ same o.case_sensitive c x)
+IsLiteral o t x = (shape_of t ≡ shape.One) × ((opening : Bool) (c : ℕ) → takes o opening c t ≡ is_same o.case_sensitive c x)
 
 -- the shapes of such tokens
 ones : (o : MatchOptions) (token : ℕ → Token) → ((x : ℕ) → IsLiteral o (token x) x) → (xs : Text) → map shape_of (map token xs) ≡ replicate (length xs) shape.One
@@ -25,7 +25,7 @@ ones o token each [] = refl
 ones o token each (x ∷ xs) = ap₂ (λ s ss. s ∷ ss) (each x).0 (ones o token each xs)
 
 -- what the table says of the k-th of such tokens
-literal-takes : (o : MatchOptions) (token : ℕ → Token) → ((x : ℕ) → IsLiteral o (token x) x) → (xs text : Text) (k : ℕ) → k < length xs → (table_of o (map token xs) text).takes k k ≡ same o.case_sensitive (slice_index text k) (slice_index xs k)
+literal-takes : (o : MatchOptions) (token : ℕ → Token) → ((x : ℕ) → IsLiteral o (token x) x) → (xs text : Text) (k : ℕ) → k < length xs → (table_of o (map token xs) text).takes k k ≡ is_same o.case_sensitive (slice_index text k) (slice_index xs k)
 unfolding table_of
 literal-takes o token each xs text k l =
     ap (takes o (opens text k) (slice_index text k)) (get_or-map token xs k 0 Any l) ∙ (each (slice_index xs k)).1 (opens text k) (slice_index text k)

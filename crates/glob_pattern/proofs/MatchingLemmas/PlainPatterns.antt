@@ -7,7 +7,7 @@ use Rattle.std.proofs.lemmas.List.Folds.{list_any_at}
 use Rattle.std.proofs.lemmas.Grind.{same_number_lists}
 use Rattle.glob_pattern.specs.Grammar.Characters.{star, question_mark, open_bracket, is_wildcard}
 use Rattle.glob_text.specs.Text.{Text}
-use Rattle.glob_pattern.specs.Grammar.Brackets.{same}
+use Rattle.glob_pattern.specs.Grammar.Brackets.{is_same}
 use Rattle.glob_pattern.specs.Grammar.Tokens.{Token}
 use Rattle.glob_pattern.specs.Grammar.Units.{HasTokens}
 use Rattle.glob_pattern.specs.Matching.Texts.{Matches}
@@ -22,7 +22,7 @@ abbrev pub TokensAreUnique : Type 0
 TokensAreUnique = (text : Text) (a b : List Token) → HasTokens text a → HasTokens text b → a ≡ b
 
 -- with case, texts that are the same are one
-pub same-with_case : (c x : ℕ) → IsTrue (same true c x) → c ≡ x
+pub same-with_case : (c x : ℕ) → IsTrue (is_same true c x) → c ≡ x
 same-with_case c x h = ⊎_elim (λ e. eqb-true c x e) (λ no. absurd (false≢true no)) (or_cases (c == x) false h)
 
 -- and so for whole texts

@@ -37,9 +37,12 @@ abbrev pub is_taken : MatchOptions → Token → Bool × ℕ → Bool
 is_taken o t (opening, c) = takes o opening c t
 
 -- a token that takes one character, before tokens that match the `rests`
-abbrev pub one_character_answers : MatchOptions → Token → List (Bool × ℕ) → (rests : List Bool) → List Bool
+abbrev pub one_character_answers : MatchOptions → Token → List (Bool × ℕ) → (rests : List Bool)
+    → List Bool
 one_character_answers o t [] rests = false ∷ []
-one_character_answers o t (x ∷ xs) rests = (is_taken o t x && first_answer (later_answers rests)) ∷ one_character_answers o t xs (later_answers rests)
+one_character_answers o t (x ∷ xs) rests =
+    (is_taken o t x && first_answer (later_answers rests))
+    ∷ one_character_answers o t xs (later_answers rests)
 
 -- a token that takes any number of characters, before tokens that match the `rests`
 abbrev pub run_answers : MatchOptions → Token → List (Bool × ℕ) → (rests : List Bool) → List Bool
@@ -50,13 +53,16 @@ run_answers o t (x ∷ xs) rests = many_more x (run_answers o t xs (later_answer
     many_more y later = (first_answer rests || (is_taken o t y && first_answer later)) ∷ later
 
 -- a piece of characters that the token takes, which is not empty and ends in `/`, before tokens that match the `rests`
-abbrev pub component_answers : MatchOptions → Token → List (Bool × ℕ) → (rests : List Bool) → List Bool
+abbrev pub component_answers : MatchOptions → Token → List (Bool × ℕ) → (rests : List Bool)
+    → List Bool
 component_answers o t [] rests = false ∷ []
-component_answers o t ((opening, c) ∷ xs) rests = closed_more (component_answers o t xs (later_answers rests))
+component_answers o t ((opening, c) ∷ xs) rests =
+    closed_more (component_answers o t xs (later_answers rests))
   where
     closed_more : List Bool → List Bool
     closed_more later =
-        (takes o opening c t && ((c == slash && first_answer (later_answers rests)) || first_answer later)) ∷ later
+        (takes o opening c t
+        && ((c == slash && first_answer (later_answers rests)) || first_answer later)) ∷ later
 
 -- for each suffix, whether one of two lists says yes
 abbrev pub joined_answers : List Bool → List Bool → List Bool
@@ -64,7 +70,8 @@ joined_answers [] bs = bs
 joined_answers (x ∷ xs) bs = (x || first_answer bs) ∷ joined_answers xs (later_answers bs)
 
 -- any token, before the tokens `others` that match the `rests`
-abbrev pub token_answers : MatchOptions → Token → (others : List Token) → List (Bool × ℕ) → (rests : List Bool) → List Bool
+abbrev pub token_answers : MatchOptions → Token → (others : List Token) → List (Bool × ℕ)
+    → (rests : List Bool) → List Bool
 token_answers o (Plain c) others xs rests = one_character_answers o (Plain c) xs rests
 token_answers o Any others xs rests = one_character_answers o Any xs rests
 token_answers o Run others xs rests = run_answers o Run xs rests
@@ -80,7 +87,8 @@ tokens_answers o (t ∷ ts) xs = token_answers o t ts xs (tokens_answers o ts xs
 
 -- the tokens match the text
 unfoldable pub tokens_match : MatchOptions → List Token → Text → Bool
-tokens_match o tokens text = first_answer (tokens_answers o tokens (characters_with_openings true text))
+tokens_match o tokens text =
+    first_answer (tokens_answers o tokens (characters_with_openings true text))
 
 -- a text that was read as tokens or a fault matches
 abbrev pub match_of_reading : MatchOptions → Result (List Token) Fault → Text → Bool

@@ -30,12 +30,14 @@ content_from text i =
 
 -- a bracket whose content begins at place i
 abbrev pub bracket_from : (List Entry → Token) → Text → ℕ → Option (Token × ℕ)
-bracket_from kind text i = option_map (λ k. (kind (entries_of (between text i k)), k + 1)) (close_from text (i + 1))
+bracket_from kind text i =
+    option_map (λ k. (kind (entries_of (between text i k)), k + 1)) (close_from text (i + 1))
 
 -- the bracket at place f as a unit
 abbrev pub bracket_at : Text → ℕ → Option (Token × ℕ)
 bracket_at text f =
-    if has text (f + 1) exclamation_mark then bracket_from Except text (f + 2) else bracket_from Within text (f + 1)
+    if has text (f + 1) exclamation_mark then bracket_from Except text (f + 2)
+    else bracket_from Within text (f + 1)
 
 -- the unit at place f, which is before the end and has no star right before it
 abbrev pub unit_at : Text → ℕ → Option (Token × ℕ)
@@ -51,7 +53,8 @@ reading_with_first t (Ok ts) = Ok (t ∷ ts)
 reading_with_first t (Err fault) = Err fault
 
 -- The unit at place f, if there is one, before what is read from its end on; else the fault.
-abbrev pub reading_after_unit : Text → ℕ → (ℕ → Result (List Token) Fault) → Option (Token × ℕ) → Result (List Token) Fault
+abbrev pub reading_after_unit : Text → ℕ → (ℕ → Result (List Token) Fault) → Option (Token × ℕ)
+    → Result (List Token) Fault
 reading_after_unit text f read None = Err (fault_at text f)
 reading_after_unit text f read (Some (t, e)) = reading_with_first t (read e)
 
@@ -59,7 +62,8 @@ reading_after_unit text f read (Some (t, e)) = reading_with_first t (read e)
 unfoldable pub units_from : ℕ → Text → ℕ → Result (List Token) Fault
 units_from zero text f = Ok []
 units_from (suc n) text f =
-    if nat_le (length text) f then Ok [] else reading_after_unit text f (units_from n text) (unit_at text f)
+    if nat_le (length text) f then Ok []
+    else reading_after_unit text f (units_from n text) (unit_at text f)
 
 -- the tokens of the units that were read
 abbrev pub tokens_of_reading : Result (List Token) Fault → Result (List Token) Fault

@@ -18,8 +18,8 @@ entries_of (x ∷ d ∷ y ∷ rest) =
 
 -- c and x are the same character. Without case, two of ASCII are the same too if they are equal once capital letters
 -- are made small.
-abbrev pub same : (case : Bool) → ℕ → ℕ → Bool
-same case c x =
+abbrev pub is_same : (case : Bool) → ℕ → ℕ → Bool
+is_same case c x =
     c == x || (not case && is_ascii c && is_ascii x && to_ascii_lowercase c == to_ascii_lowercase x)
 
 -- c is one of the characters from x to y, by their numbers
@@ -35,7 +35,7 @@ in_folded_range x y c =
 
 -- the entry holds c
 abbrev pub entry_holds : (case : Bool) → ℕ → Entry → Bool
-entry_holds case c (Single x) = same case c x
+entry_holds case c (Single x) = is_same case c x
 entry_holds case c (Range x y) = in_range x y c || (not case && in_folded_range x y c)
 
 -- some entry of the bracket holds c

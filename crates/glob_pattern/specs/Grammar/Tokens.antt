@@ -33,7 +33,8 @@ ends_deep (t ∷ u ∷ ts) = ends_deep (u ∷ ts)
 -- the tokens of units: neighbouring `**` are one token
 abbrev pub tokens_of_units : List Token → List Token
 tokens_of_units [] = []
-tokens_of_units (t ∷ ts) = if is_deep t && begins_deep ts then tokens_of_units ts else t ∷ tokens_of_units ts
+tokens_of_units (t ∷ ts) =
+    if is_deep t && begins_deep ts then tokens_of_units ts else t ∷ tokens_of_units ts
 
 -- which pieces a token may match
 abbrev pub shape_of : Token → Shape

@@ -24,7 +24,8 @@ ClosesBefore text i e = (i < e) × Has text (e - 1) close_bracket × NoCloseBetw
 
 -- the unit of this token stands from place f up to place e
 abbrev pub UnitAt : Text → ℕ → Token → ℕ → Type 0
-UnitAt text f (Plain c) e = Has text f c × (c ≢ question_mark) × (c ≢ star) × (c ≢ open_bracket) × (e ≡ f + 1)
+UnitAt text f (Plain c) e =
+    Has text f c × (c ≢ question_mark) × (c ≢ star) × (c ≢ open_bracket) × (e ≡ f + 1)
 UnitAt text f Any e = Has text f question_mark × (e ≡ f + 1)
 UnitAt text f Run e = StarsAt text f 1 × (e ≡ f + 1)
 -- a `/` that follows belongs to the unit
@@ -55,4 +56,5 @@ IsAccepted text = (units : List Token) × HasUnits text units
 
 -- The text is accepted, and these are its tokens: those of its units, where neighbouring deep ones are one.
 abbrev pub HasTokens : Text → List Token → Type 0
-HasTokens text tokens = (units : List Token) × HasUnits text units × (tokens ≡ tokens_of_units units)
+HasTokens text tokens =
+    (units : List Token) × HasUnits text units × (tokens ≡ tokens_of_units units)

@@ -27,7 +27,8 @@ MayReach table Deep others i j = (i ≤ j) × ((others ≡ []) ⊎ (j ≡ i) ⊎
 abbrev pub SplitsFrom : Table → ℕ → List Shape → ℕ → Type 0
 SplitsFrom table n [] i = i ≡ table.characters
 SplitsFrom table n (shape ∷ shapes) i =
-    (j : ℕ) × MayReach table shape shapes i j × TakesAll table n i j × SplitsFrom table (n + 1) shapes j
+    (j : ℕ) × MayReach table shape shapes i j × TakesAll table n i j
+    × SplitsFrom table (n + 1) shapes j
 
 -- all characters split into pieces, one a shape
 abbrev pub Splits : Table → List Shape → Type 0

@@ -1,7 +1,7 @@
 -- Which token takes which character, under the options.
 use Rattle.std.specs.Prelude.{ℕ, Bool, ◌&&◌, not, ◌==◌}
 use Rattle.glob_text.specs.Characters.{slash, dot}
-use Rattle.glob_pattern.specs.Grammar.Brackets.{same, holds}
+use Rattle.glob_pattern.specs.Grammar.Brackets.{is_same, holds}
 use Rattle.glob_pattern.specs.Grammar.Tokens.{Token}
 use Rattle.glob_pattern.specs.declared.options.MatchOptions.{MatchOptions}
 use Rattle.glob_pattern.specs.declared.token.Token.TheVariants.{Plain, Any, Run, Deep, Within, Except}
@@ -20,7 +20,7 @@ is_free o opening c = not (is_excluded_separator o c) && not (is_excluded_dot o 
 
 -- the token takes the character c; `opening`: a component begins at its place
 abbrev pub takes : MatchOptions → (opening : Bool) → ℕ → Token → Bool
-takes o opening c (Plain x) = same o.case_sensitive c x
+takes o opening c (Plain x) = is_same o.case_sensitive c x
 takes o opening c Any = is_free o opening c
 takes o opening c Run = is_free o opening c
 takes o opening c Deep = not (is_excluded_dot o opening c)

@@ -34,12 +34,15 @@ AreAllowed o text k [] [] = Unit {0}
 AreAllowed o text k [] (piece ∷ pieces) = ⊥
 AreAllowed o text k (t ∷ ts) [] = ⊥
 AreAllowed o text k (t ∷ ts) (piece ∷ pieces) =
-    TakesPiece o text t k piece × HasForm t ts piece × AreAllowed o text (k + length piece) ts pieces
+    TakesPiece o text t k piece × HasForm t ts piece
+    × AreAllowed o text (k + length piece) ts pieces
 
 -- the text is a concatenation of allowed pieces, one a token
 abbrev pub TokensMatch : MatchOptions → List Token → Text → Type 0
-TokensMatch o tokens text = (pieces : List Text) × (concat pieces ≡ text) × AreAllowed o text 0 tokens pieces
+TokensMatch o tokens text =
+    (pieces : List Text) × (concat pieces ≡ text) × AreAllowed o text 0 tokens pieces
 
 -- the pattern is accepted, and its tokens match the text
 abbrev pub Matches : MatchOptions → (pattern : Text) → Text → Type 0
-Matches o pattern text = (tokens : List Token) × HasTokens pattern tokens × TokensMatch o tokens text
+Matches o pattern text =
+    (tokens : List Token) × HasTokens pattern tokens × TokensMatch o tokens text

@@ -41,12 +41,14 @@ is_excluded o opening c (Except entries) = is_excluded_separator o c || is_exclu
 
 -- the token that is the j-th from `start` on takes the character
 abbrev pub TakesBit : MatchOptions → (opening : Bool) → ℕ → List Token → (start j : ℕ) → Type 0
-TakesBit o opening c tokens start j = IsTrue (takes o opening c (slice_index_or tokens (start + j) Any))
+TakesBit o opening c tokens start j =
+    IsTrue (takes o opening c (slice_index_or tokens (start + j) Any))
 
 -- Of the tokens from number `start` up to `end`, the mask has the bits of those that meet the test.
 pub record IsMask (tokens : List Token) (start end : ℕ) (test : Token → Bool) (mask : ℕ) : Type 0 where
   pub bit : (j : ℕ) → j < 64
-      → IsBitSet mask j ↔ ((start + j < end) × IsTrue (test (slice_index_or tokens (start + j) Any)))
+      → IsBitSet mask j
+      ↔ ((start + j < end) × IsTrue (test (slice_index_or tokens (start + j) Any)))
 
 -- the masks of the tokens from number `start` up to `end`
 pub record AreMasks (tokens : List Token) (start end : ℕ) (masks : TokenMasks) : Type 0 where

@@ -13,17 +13,22 @@ use Rattle.glob_pattern.specs.declared.matcher.many_words.PositionWord.{Position
 -- pieces of any length, and which are deep and have others after them.
 pub record AreShapeMasks (shapes : List Shape) (start end : ℕ) (masks : ShapeMasks) : Type 0 where
   pub tokens : (j : ℕ) → j < 64 → IsBitSet masks.tokens j ↔ (start + j < end)
-  pub growing : (j : ℕ) → j < 64 → IsBitSet masks.growing j ↔ ((start + j < end) × (slice_index_or shapes (start + j) One ≢ One))
+  pub growing : (j : ℕ) → j < 64
+      → IsBitSet masks.growing j ↔ ((start + j < end) × (slice_index_or shapes (start + j) One ≢ One))
   pub bound : (j : ℕ) → j < 64
-      → IsBitSet masks.bound j ↔ ((start + j < end) × (slice_index_or shapes (start + j) One ≡ Deep) × (start + j + 1 < length shapes))
+      → IsBitSet masks.bound j
+      ↔ ((start + j < end) × (slice_index_or shapes (start + j) One ≡ Deep)
+      × (start + j + 1 < length shapes))
 
 -- the word says of the numbers of leading shapes from `start` on, 64 at most, whether they are alive at place k
 pub record AliveWord (table : Table) (shapes : List Shape) (start k word : ℕ) : Type 0 where
-  pub alive : (j : ℕ) → j < 64 → start + j ≤ length shapes → IsBitSet word j ↔ IsAlive table shapes (start + j) k
+  pub alive : (j : ℕ) → j < 64 → start + j ≤ length shapes
+      → IsBitSet word j ↔ IsAlive table shapes (start + j) k
 
 -- the word says of the tokens from number `start` on, 64 at most, whether they have taken the character before place k
 pub record TakenWord (table : Table) (shapes : List Shape) (start k word : ℕ) : Type 0 where
-  pub taken : (j : ℕ) → j < 64 → start + j < length shapes → IsBitSet word j ↔ HasTaken table shapes (start + j) k
+  pub taken : (j : ℕ) → j < 64 → start + j < length shapes
+      → IsBitSet word j ↔ HasTaken table shapes (start + j) k
 
 -- What holds of the word of place k that masks are advanced to: `took` has the tokens that took the character before
 -- place k, `opens` says whether place k opens, and `whole` whether the shapes before `start` split the characters up to
@@ -31,7 +36,8 @@ pub record TakenWord (table : Table) (shapes : List Shape) (start k word : ℕ) 
 abbrev pub AfterAdvance : ShapeMasks → (took : ℕ) → (opens whole : Bool)
     → (holds : Table → List Shape → (start k : ℕ) → Type 0) → Type 0
 AfterAdvance masks took opens whole holds =
-    (table : Table) (shapes : List Shape) (start k : ℕ) → AreShapeMasks shapes start (length shapes) masks
+    (table : Table) (shapes : List Shape) (start k : ℕ)
+    → AreShapeMasks shapes start (length shapes) masks
     → TakenWord table shapes start k took → opens ≡ table.opens k
     → IsTrue whole ↔ PrefixSplits table shapes start k → holds table shapes start k
 
@@ -43,4 +49,5 @@ pub record IsPositionWord (table : Table) (shapes : List Shape) (start k : ℕ) 
 -- the words say of all numbers of leading shapes, 64 in each, whether they are alive at place k
 pub record IsPositionSet (table : Table) (shapes : List Shape) (k : ℕ) (words : List PositionWord) : Type 0 where
   pub count : length words ≡ length shapes / 64 + 1
-  pub word : (i : ℕ) (d : PositionWord) → i < length words → IsPositionWord table shapes (64 * i) k (slice_index_or words i d)
+  pub word : (i : ℕ) (d : PositionWord) → i < length words
+      → IsPositionWord table shapes (64 * i) k (slice_index_or words i d)

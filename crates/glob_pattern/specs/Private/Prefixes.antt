@@ -8,7 +8,8 @@ use Rattle.glob_pattern.specs.declared.matcher.Shape.TheVariants.{One}
 unfoldable pub PrefixSplits : Table → List Shape → (n k : ℕ) → Type 0
 PrefixSplits table shapes zero k = k ≡ 0
 PrefixSplits table shapes (suc n) k =
-    (i : ℕ) × PrefixSplits table shapes n i × MayReach table (slice_index_or shapes n One) (drop (suc n) shapes) i k
+    (i : ℕ) × PrefixSplits table shapes n i
+    × MayReach table (slice_index_or shapes n One) (drop (suc n) shapes) i k
     × TakesAll table n i k
 
 -- At place k the first n shapes are alive: they split the characters before it, or fewer, and the rest may begin a

@@ -47,6 +47,7 @@ pub fn run_one_word<J: Judge>(shapes: &[Shape], prefix: usize, judge: &mut J) ->
 }
 
 impl<'a> OneWordMatcher<'a> {
+    /// The masks of the shapes.
     fn new(shapes: &'a [Shape]) -> Self
         requires { length shapes.now < 64 }
         ensures { result.shapes.now ≡ shapes.now }

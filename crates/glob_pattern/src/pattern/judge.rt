@@ -6,10 +6,11 @@ ghost use Rattle.glob_pattern.specs.Private.Masks.{AreAllMasks};
 
 use crate::matcher::Judge;
 use crate::options::MatchOptions;
+use crate::pattern::character_judge::take_left;
 use crate::pattern::masks::TokenMasks;
 use crate::token::Token;
 use crate::token::bracket::Bracket;
-use crate::token::taking::{take_left, takes};
+use crate::token::taking::takes;
 use std::alloc::Allocator;
 use std::str::Chars;
 

@@ -1,5 +1,5 @@
 ghost use Rattle.std.specs.Prelude.{◌≡◌, ℕ, true, IfOk};
-ghost use Rattle.glob_pattern.specs.Grammar.Brackets.{entries_of, same, in_range, in_folded_range, entry_holds, holds};
+ghost use Rattle.glob_pattern.specs.Grammar.Brackets.{entries_of, is_same, in_range, in_folded_range, entry_holds, holds};
 
 use std::alloc::{AllocError, Allocator, Global};
 use std::marker::Model;
@@ -104,7 +104,7 @@ impl<A: Allocator + Copy> Clone for Bracket<A> {
 /// Whether `c` and `x` are the same character. Without case, two of ASCII are also the same if their lowercase forms
 /// are.
 pub fn is_same(case_sensitive: bool, c: char, x: char) -> bool
-    ensures { result ≡ same case_sensitive c x }
+    ensures { result ≡ is_same case_sensitive c x }
 {
     c == x
         || (!case_sensitive

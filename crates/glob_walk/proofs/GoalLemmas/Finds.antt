@@ -9,8 +9,8 @@ use Rattle.glob_walk.specs.Components.{components, wants_directories, Literal, R
 use Rattle.glob_walk.specs.Goal.{start_key}
 use Rattle.glob_walk.specs.Listing.{is_entered, levels}
 use Rattle.glob_pattern.specs.declared.options.MatchOptions.{MatchOptions}
-use Rattle.glob_tree.specs.declared.tree.Kind.{Kind}
-use Rattle.glob_tree.specs.declared.tree.Kind.TheVariants.{Dir, Shut, Other}
+use Rattle.glob_tree.specs.declared.kind.Kind.{Kind}
+use Rattle.glob_tree.specs.declared.kind.Kind.TheVariants.{Dir, Shut, Other}
 
 -- the path, and on by these names
 abbrev pub under : Text → Key → Text

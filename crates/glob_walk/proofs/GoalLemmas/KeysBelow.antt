@@ -9,7 +9,7 @@ use Rattle.std.proofs.lemmas.List.Folds.{list_all-append}
 use Rattle.glob_text.specs.Text.{Text}
 use Rattle.glob_tree.specs.Paths.{is_proper}
 use Rattle.glob_tree.specs.Content.{Content, Key, DirEntry, kind_at, is_dir, is_dir_at, is_placed, parent_key, children}
-use Rattle.glob_tree.specs.declared.tree.Kind.{Kind}
+use Rattle.glob_tree.specs.declared.kind.Kind.{Kind}
 use Rattle.glob_tree.proofs.ContentLemmas.Membership.{list_all-contains}
 use Rattle.glob_tree.proofs.ContentLemmas.Contents.{contains_kind_at, parent_key-append, IsContent, IsChild-list_result}
 use Rattle.glob_tree.proofs.ContentLemmas.Directories.{is_dir_at-kind}

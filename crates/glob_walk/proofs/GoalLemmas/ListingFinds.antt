@@ -17,8 +17,8 @@ use Rattle.glob_walk.specs.Listing.{Next, by_name, match_at, special_names, afte
 use Rattle.glob_tree.specs.Looks.{is_there, is_directory}
 use Rattle.glob_walk.specs.Goal.{is_plain_component, are_plain}
 use Rattle.glob_pattern.specs.declared.options.MatchOptions.{MatchOptions}
-use Rattle.glob_tree.specs.declared.tree.Kind.{Kind}
-use Rattle.glob_tree.specs.declared.tree.Kind.TheVariants.{Dir, Shut, Other}
+use Rattle.glob_tree.specs.declared.kind.Kind.{Kind}
+use Rattle.glob_tree.specs.declared.kind.Kind.TheVariants.{Dir, Shut, Other}
 use Rattle.glob_tree.proofs.ContentLemmas.Membership.{Contains-head, Contains-tail}
 use Rattle.glob_tree.specs.Content.{look_of}
 use Rattle.glob_pattern.specs.Grammar.Characters.{star}

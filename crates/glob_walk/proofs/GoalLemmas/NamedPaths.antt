@@ -12,7 +12,7 @@ use Rattle.glob_text.specs.Characters.{slash, dot}
 use Rattle.glob_text.specs.Pieces.{is_empty, begins_with, ends_with, pieces}
 use Rattle.glob_tree.specs.Paths.{join, stays, is_here, child, is_proper}
 use Rattle.glob_tree.specs.Content.{Content, Key, kind_at, resolve}
-use Rattle.glob_tree.specs.declared.tree.Kind.{Kind}
+use Rattle.glob_tree.specs.declared.kind.Kind.{Kind}
 use Rattle.glob_tree.proofs.ContentLemmas.Contents.{IsContent}
 use Rattle.glob_tree.proofs.ContentLemmas.Directories.{LeadsTo, IsName, IsName-from_proper, step_name}
 use Rattle.glob_tree.proofs.ContentLemmas.Resolving.{resolve_child, pieces-append, pieces_one}

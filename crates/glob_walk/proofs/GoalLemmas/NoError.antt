@@ -12,8 +12,8 @@ use Rattle.glob_walk.specs.Listing.{is_entered, levels, listing}
 use Rattle.glob_walk.specs.Marks.{Unread, items}
 use Rattle.glob_walk.specs.Goal.{IsPlainWalk, is_readable, is_shut, start_key}
 use Rattle.glob_pattern.specs.declared.options.MatchOptions.{MatchOptions}
-use Rattle.glob_tree.specs.declared.tree.Kind.{Kind}
-use Rattle.glob_tree.specs.declared.tree.Kind.TheVariants.{Dir, Shut, Other}
+use Rattle.glob_tree.specs.declared.kind.Kind.{Kind}
+use Rattle.glob_tree.specs.declared.kind.Kind.TheVariants.{Dir, Shut, Other}
 use Rattle.glob_tree.proofs.ContentLemmas.Membership.{Contains-tail, Contains-cases, Contains-nil, list_all-contains}
 use Rattle.glob_tree.proofs.ContentLemmas.Contents.{IsContent, IsContent-from_test, contains_kind_at, names_past-append}
 use Rattle.glob_walk.proofs.GoalLemmas.Finds.{at_entry, at_name, past_entry, run_entry, finds, Find, Hit, Miss, deepen, item_under, below, list_kind, list_names, found_names, descent_names, enter_names, meet_names}

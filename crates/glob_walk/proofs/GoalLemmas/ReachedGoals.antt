@@ -5,7 +5,7 @@ use Rattle.std.proofs.lemmas.List.{append_assoc}
 use Rattle.std.proofs.lemmas.List.Elements.{Contains-append_left}
 use Rattle.glob_text.specs.Text.{Text}
 use Rattle.glob_tree.specs.Content.{Content, Key}
-use Rattle.glob_tree.specs.declared.tree.Kind.TheVariants.{Shut}
+use Rattle.glob_tree.specs.declared.kind.Kind.TheVariants.{Shut}
 use Rattle.glob_tree.proofs.ContentLemmas.Contents.{IsContent, IsContent-from_test}
 use Rattle.glob_walk.specs.Marks.{Item, Unread, items, paths, IsBeginning}
 use Rattle.glob_walk.specs.Components.{start}

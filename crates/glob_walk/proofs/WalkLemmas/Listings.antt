@@ -10,8 +10,8 @@ use Rattle.glob_text.specs.Text.{Text}
 use Rattle.glob_tree.specs.Content.{Content, Key, DirEntry, ListAnswer, Entries, Fails, NoDirectory, list_result, list_found, list_of, kind_at, resolve, children, sorted_entries}
 use Rattle.glob_tree.specs.Answers.{entries_of, IsListAnswer}
 use Rattle.glob_tree.specs.declared.tree.Entry.{Entry}
-use Rattle.glob_tree.specs.declared.tree.Kind.{Kind}
-use Rattle.glob_tree.specs.declared.tree.Kind.TheVariants.{Dir, Shut, Other}
+use Rattle.glob_tree.specs.declared.kind.Kind.{Kind}
+use Rattle.glob_tree.specs.declared.kind.Kind.TheVariants.{Dir, Shut, Other}
 use Rattle.glob_tree.proofs.ContentLemmas.Contents.{IsContent}
 use Rattle.glob_tree.proofs.ContentLemmas.Sorting.{AreApart, children_apart, sorted_is_ascending}
 use Rattle.glob_walk.specs.Private.Meters.{IsInOrder, IsCut}

@@ -6,7 +6,7 @@ use Rattle.std.specs.Bool.{Decides, one_answer}
 use Rattle.std.specs.Str.{IsUtf8}
 use Rattle.std.proofs.lemmas.Bool.{and_parts, eqb-true, eq-eqb}
 use Rattle.glob_text.specs.Text.{Text}
-use Rattle.glob_pattern.specs.Grammar.Brackets.{same}
+use Rattle.glob_pattern.specs.Grammar.Brackets.{is_same}
 use Rattle.glob_pattern.specs.Laws.{SameTexts}
 use Rattle.glob_pattern.specs.Matching.Texts.{Matches}
 use Rattle.glob_pattern.specs.Computing.Deciding.{is_match}
@@ -23,37 +23,37 @@ and_both true b h k = k
 and_both false b h k = h
 
 module _ (case : Bool) where
-  sound : (xs ys : Text) → length xs ≡ length ys → list_all (λ p. same case p.0 p.1) (zip xs ys) ≡ true → SameTexts case xs ys
+  sound : (xs ys : Text) → length xs ≡ length ys → list_all (λ p. is_same case p.0 p.1) (zip xs ys) ≡ true → SameTexts case xs ys
   sound [] [] l h = (refl, λ k b. absurd (omega (arith, b)))
   sound [] (y ∷ ys) l h = absurd (omega (arith, l))
   sound (x ∷ xs) [] l h = absurd (omega (arith, l))
   sound (x ∷ xs) (y ∷ ys) l h =
-      let both = and_parts (same case x y) (list_all (λ p. same case p.0 p.1) (zip xs ys)) h in
+      let both = and_parts (is_same case x y) (list_all (λ p. is_same case p.0 p.1) (zip xs ys)) h in
       let rest = sound xs ys (omega (arith, l)) both.1 in
       (l, at both.0 rest.1)
     where
-      at : same case x y ≡ true → ((k : ℕ) → k < length ys → IsTrue (same case (slice_index xs k) (slice_index ys k)))
-          → (k : ℕ) → k < length (y ∷ ys) → IsTrue (same case (slice_index (x ∷ xs) k) (slice_index (y ∷ ys) k))
+      at : is_same case x y ≡ true → ((k : ℕ) → k < length ys → IsTrue (is_same case (slice_index xs k) (slice_index ys k)))
+          → (k : ℕ) → k < length (y ∷ ys) → IsTrue (is_same case (slice_index (x ∷ xs) k) (slice_index (y ∷ ys) k))
       at first later zero b = first
       at first later (suc k) b = later k (omega (arith, b))
 
-  complete : (xs ys : Text) → SameTexts case xs ys → list_all (λ p. same case p.0 p.1) (zip xs ys) ≡ true
+  complete : (xs ys : Text) → SameTexts case xs ys → list_all (λ p. is_same case p.0 p.1) (zip xs ys) ≡ true
   complete [] ys h = refl
   complete (x ∷ xs) [] h = refl
   complete (x ∷ xs) (y ∷ ys) (l, at) =
-      and_both (same case x y) (list_all (λ p. same case p.0 p.1) (zip xs ys)) (at 0 (omega arith)) (complete xs ys (omega (arith, l), λ k b. at (suc k) (omega (arith, b))))
+      and_both (is_same case x y) (list_all (λ p. is_same case p.0 p.1) (zip xs ys)) (at 0 (omega arith)) (complete xs ys (omega (arith, l), λ k b. at (suc k) (omega (arith, b))))
 
   Decides-SameTexts : (xs ys : Text) → Decides (same_texts case xs ys) (SameTexts case xs ys)
   Decides-SameTexts xs ys = (
     (λ h.
-    let both = and_parts (length xs == length ys) (list_all (λ p. same case p.0 p.1) (zip xs ys)) h in
+    let both = and_parts (length xs == length ys) (list_all (λ p. is_same case p.0 p.1) (zip xs ys)) h in
     sound xs ys (eqb-true (length xs) (length ys) both.0) both.1),
-    (λ h. and_both (length xs == length ys) (list_all (λ p. same case p.0 p.1) (zip xs ys)) (eq-eqb (length xs) (length ys) h.0) (complete xs ys h)),
+    (λ h. and_both (length xs == length ys) (list_all (λ p. is_same case p.0 p.1) (zip xs ys)) (eq-eqb (length xs) (length ys) h.0) (complete xs ys h)),
   )
 
   -- texts of one length
-  pub counted_same : (xs ys : Text) → length xs ≡ length ys → list_all (λ p. same case p.0 p.1) (zip xs ys) ≡ same_texts case xs ys
-  counted_same xs ys e = sym (ap (λ b. b && list_all (λ p. same case p.0 p.1) (zip xs ys)) (eq-eqb (length xs) (length ys) e))
+  pub counted_same : (xs ys : Text) → length xs ≡ length ys → list_all (λ p. is_same case p.0 p.1) (zip xs ys) ≡ same_texts case xs ys
+  counted_same xs ys e = sym (ap (λ b. b && list_all (λ p. is_same case p.0 p.1) (zip xs ys)) (eq-eqb (length xs) (length ys) e))
 
   -- texts of two lengths
   pub counted_apart : (xs ys : Text) (n m : ℕ) → n ≡ length xs → m ≡ length ys → (n ≡ m → ⊥) → (n == m) ≡ same_texts case xs ys
@@ -61,7 +61,7 @@ module _ (case : Bool) where
     where
       by_test : (b : Bool) → (n == m) ≡ b → b ≡ same_texts case xs ys
       by_test true h = absurd (apart (eqb-true n m h))
-      by_test false h = ap (λ b. b && list_all (λ p. same case p.0 p.1) (zip xs ys)) (sym h ∙ ap (λ k. k == m) e ∙ ap (λ k. length xs == k) f)
+      by_test false h = ap (λ b. b && list_all (λ p. is_same case p.0 p.1) (zip xs ys)) (sym h ∙ ap (λ k. k == m) e ∙ ap (λ k. length xs == k) f)
 
 -- the kind of a literal component
 pub literal_kind : (t : Text) → component_kind t ≡ Literal → is_literal t ≡ true

@@ -3,7 +3,7 @@ use Rattle.std.specs.Prelude.{◌≡◌, ◌==◌, Bool, ◌&&◌, List, length,
 use Rattle.std.specs.List.{list_all, zip}
 use Rattle.std.specs.Result.{result_err}
 use Rattle.glob_text.specs.Text.{Text}
-use Rattle.glob_pattern.specs.Grammar.Brackets.{same}
+use Rattle.glob_pattern.specs.Grammar.Brackets.{is_same}
 use Rattle.glob_pattern.specs.Grammar.Faults.{Fault}
 use Rattle.glob_pattern.specs.Computing.Reading.{reading_of}
 use Rattle.glob_walk.specs.Components.{ComponentKind, Literal, Recursive, Wild, component_kind}
@@ -38,4 +38,4 @@ text_fault t = result_err (reading_of (chars t))
 
 -- the texts have equally many characters, and at each place the same, with case or without
 abbrev pub same_texts : (case : Bool) → Text → Text → Bool
-same_texts case xs ys = (length xs == length ys) && list_all (λ p. same case p.0 p.1) (zip xs ys)
+same_texts case xs ys = (length xs == length ys) && list_all (λ p. is_same case p.0 p.1) (zip xs ys)
