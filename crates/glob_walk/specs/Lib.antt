@@ -6,4 +6,6 @@ pub mod Laws
 pub mod Listing
 pub mod Marks
 pub mod Order
+pub mod Private
+pub mod Walks
 pub mod Words

@@ -1,0 +1,12 @@
+pub mod Charging
+pub mod Entering
+pub mod Listings
+pub mod Naming
+pub mod Opening
+pub mod Running
+pub mod Stacking
+pub mod Stepping
+pub mod Taking
+pub mod Gathering
+pub mod Reading
+pub mod Literals

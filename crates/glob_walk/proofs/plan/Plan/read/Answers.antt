@@ -1,0 +1,11 @@
+use Rattle.std.proofs.Common.{◌≡◌, sym, ap, subst, ◌∙◌}
+use Rattle.glob_walk.specs.Components.{first_fault}
+use Rattle.glob_walk.specs.Private.Parts.{text_fault}
+use Rattle.glob_walk.specs.Walks.{RefusesWith}
+use Rattle.glob_walk.proofs.WalkLemmas.Reading.{walk_fault-whole, walk_fault-components, IfErr-from_known}
+use Rattle.glob_walk.proofs.plan.Plan.read.Goals as goal
+
+pub returns-in_err-check-clause-refused : goal.returns-in_err-check-clause-refused
+returns-in_err-check-clause-refused g c = IfErr-from_known _ _ _
+    (λ e is. walk_fault-whole c.args.pattern.now e (subst (RefusesWith (text_fault c.args.pattern.now)) (sym is) c.in_err-check.ensures.refused))
+    c.from_residual.ensures.1
