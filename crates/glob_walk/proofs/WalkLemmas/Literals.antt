@@ -46,8 +46,8 @@ module _ (case : Bool) where
   Decides-SameTexts : (xs ys : Text) → Decides (same_texts case xs ys) (SameTexts case xs ys)
   Decides-SameTexts xs ys = (
     (λ h.
-    let both = and_parts (length xs == length ys) (list_all (λ p. same case p.0 p.1) (zip xs ys)) h in
-    sound xs ys (eqb-true (length xs) (length ys) both.0) both.1),
+        let both = and_parts (length xs == length ys) (list_all (λ p. same case p.0 p.1) (zip xs ys)) h in
+        sound xs ys (eqb-true (length xs) (length ys) both.0) both.1),
     (λ h. and_both (length xs == length ys) (list_all (λ p. same case p.0 p.1) (zip xs ys)) (eq-eqb (length xs) (length ys) h.0) (complete xs ys h)),
   )
 

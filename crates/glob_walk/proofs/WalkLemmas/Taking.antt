@@ -139,9 +139,9 @@ module _ {X A : Type 0} (asks : X → ℕ) (tells : X → Option Content) (m m' 
       (Goes-after t r))))
 
 -- a walk that is over stays as it is
-pub goes_over : {X A : Type 0} (asks : X → ℕ) (tells : X → Option Content) (m : Meter X) (s : Stack A) (given : ℕ) (v : Walking X) → view tells m s given true ≡ v → IsGood tells m s given true
+pub goes_over : {X A : Type 0} (asks : X → ℕ) (tells : X → Option Content) (m : Meter X) (s : Stack A) (given : ℕ) (over' : Bool) → over' ≡ true → (v : Walking X) → view tells m s given over' ≡ v → IsGood tells m s given over'
     → Goes asks tells v None v
-goes_over asks tells m s given v e good = subst (λ x. Goes asks tells x None x) e (record {
+goes_over asks tells m s given over' yes' v e good = subst (λ x. Goes asks tells x None x) e (record {
   counts = record {
     limit = refl;
     grows = omega arith;
@@ -149,7 +149,7 @@ goes_over asks tells m s given v e good = subst (λ x. Goes asks tells x None x)
     given = omega arith;
     few = good.few;
     asked = refl;
-    ends = refl;
+    ends = yes';
     stays = λ _. (refl, refl);
   };
   told = refl;
@@ -161,7 +161,7 @@ goes_over asks tells m s given v e good = subst (λ x. Goes asks tells x None x)
         new_left = left c s;
         had = ap (option_map f) h.0;
         has = ap (option_map f) h.0;
-        takes = λ no. absurd (false≢true (sym no));
+        takes = λ no. absurd (both_ways over' no yes');
       };
 })
 
@@ -172,15 +172,15 @@ IsGood-fresh tells m s t none fits next unseen empty =
     let none_ready : next_ready s.plan s.next ≡ 0 = ap (next_ready s.plan) next ∙ ap (sight_ready (nat_le (length s.plan.parts.items) t.part)) unseen in
     let none_unmet : sum_by unmet s.frames.items ≡ 0 = ap (sum_by unmet) empty in
     record {
-  limit = omega (arith, none);
-  fits = fits;
-  few = omega arith;
-  going = λ _. record {
-    within = subst (All (λ f. f.part < length s.plan.parts.items)) (sym empty) (All-from_recursion (λ f. f.part < length s.plan.parts.items) [] tt);
-    ready = omega (arith, none_ready, none_unmet);
-    sound = λ c h. record {
-      next = subst (IsNextSound c) (sym next) (subst (IsSightSound c (string_bytes t.path)) (sym unseen) tt);
-      frames = subst (All (IsFrameSound c)) (sym empty) (All-from_recursion (IsFrameSound c) [] tt);
-    };
-  };
-}
+      limit = omega (arith, none);
+      fits = fits;
+      few = omega arith;
+      going = λ _. record {
+        within = subst (All (λ f. f.part < length s.plan.parts.items)) (sym empty) (All-from_recursion (λ f. f.part < length s.plan.parts.items) [] tt);
+        ready = omega (arith, none_ready, none_unmet);
+        sound = λ c h. record {
+          next = subst (IsNextSound c) (sym next) (subst (IsSightSound c (string_bytes t.path)) (sym unseen) tt);
+          frames = subst (All (IsFrameSound c)) (sym empty) (All-from_recursion (IsFrameSound c) [] tt);
+        };
+      };
+    }

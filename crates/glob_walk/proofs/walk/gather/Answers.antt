@@ -1,65 +1,44 @@
-use Rattle.std.proofs.Common.{rules, ◌≡◌, ◌≤◌, [], List, None, Some, IfOk, IfErr, ℕ, ◌+◌, ◌-◌, ◌*◌, ◌<◌, length, ◌/◌, ◌%◌, Bool, true, false, nat_eq, nat_lt, ◌∷◌, ◌++◌, slice_index_or, slice_set, bit_and, bit_or, Fits, w8, w32, w64, Bor, MutBor}
-use Rattle.glob_tree.specs.Content.{Content}
-use Rattle.glob_tree.specs.Answers.{IsTold}
-use Rattle.glob_walk.specs.Components.{walk_fault}
-use Rattle.glob_walk.specs.Listing.{listing}
-use Rattle.glob_walk.specs.Marks.{Mark}
+use Rattle.std.proofs.Common.{rules, ◌≡◌, ◌∙◌, ◌++◌, ◌∷◌, [], Some, None, Option, sym, ap, subst}
+use Rattle.std.specs.Prelude.{option_map}
 use Rattle.glob_walk.specs.Private.Walking.{refusal_end}
-use Rattle.glob_walk.specs.Walks.{outcome, IsFresh, IsWalk, IsWalkAsked, RefusesWith}
+use Rattle.glob_walk.specs.Walks.{Goes, Outcome, outcome}
+use Rattle.glob_walk.specs.declared.walk.End.TheVariants as end
+use Rattle.glob_walk.proofs.WalkLemmas.Gathering.{Gathers, Ends, Gathers-none, Gathers-item, Ends-done, Ends-refusal, Ends-memory, item_from_no_end}
 use Rattle.glob_walk.proofs.walk.gather.Goals as goal
 
--- src/walk.rt:78:5
 pub loop-item-init : goal.loop-item-init
-loop-item-init g c = ?
+loop-item-init g c = subst (λ xs. Gathers g.T.Tree.asks g.T.Tree.tells c.args.paths.now xs c.args.paths.now) (sym c.requires.empty) (Gathers-none g.T.Tree.asks g.T.Tree.tells c.args.paths.now c.requires.fresh)
 
--- src/walk.rt:80:13
-pub returns-in_default-clause-within : goal.returns-in_default-clause-within
-returns-in_default-clause-within g c = ?
+pub returns-in_default : goal.returns-in_default
+returns-in_default g c =
+    let goes : Goes g.T.Tree.asks g.T.Tree.tells c.loop-item.paths None c.next.new.self = subst (λ r. Goes g.T.Tree.asks g.T.Tree.tells c.loop-item.paths (option_map outcome r) c.next.new.self) c.in_default.is c.next.ensures.steps in
+    let e = Ends-done g.T.Tree.asks g.T.Tree.tells c.args.paths.now c.loop-item.paths c.next.new.self c.loop-item.items.items c.loop-item.invariant goes in
+    record { within = e.within; asked = e.asked; told = e.told; walk = e.walk }
 
--- src/walk.rt:80:13
-pub returns-in_default-clause-asked : goal.returns-in_default-clause-asked
-returns-in_default-clause-asked g c = ?
+pub returns-in-Some-end_of : goal.returns-in-Some-end_of
+returns-in-Some-end_of g c =
+    let goes : Goes g.T.Tree.asks g.T.Tree.tells c.loop-item.paths (Some (outcome c.in-Some.item)) c.next.new.self = subst (λ r. Goes g.T.Tree.asks g.T.Tree.tells c.loop-item.paths (option_map outcome r) c.next.new.self) c.in-Some.is c.next.ensures.steps in
+    let e = Ends-refusal g.T.Tree.asks g.T.Tree.tells c.args.paths.now c.loop-item.paths c.next.new.self c.loop-item.items.items c.loop-item.invariant
+    (outcome c.in-Some.item) c.in-Some-end_of.end (sym c.end_of.ensures ∙ c.in-Some-end_of.is) goes in
+    record { within = e.within; asked = e.asked; told = e.told; walk = e.walk }
 
--- src/walk.rt:80:13
-pub returns-in_default-clause-told : goal.returns-in_default-clause-told
-returns-in_default-clause-told g c = ?
+pub returns-then-is_err : goal.returns-then-is_err
+returns-then-is_err g c =
+    let none : refusal_end (outcome c.in-Some.item) ≡ None = sym c.end_of.ensures ∙ c.in_default-end_of.is in
+    let (item, says) = item_from_no_end (outcome c.in-Some.item) none in
+    let goes = subst (λ r. Goes g.T.Tree.asks g.T.Tree.tells c.loop-item.paths (option_map outcome r) c.next.new.self) c.in-Some.is c.next.ensures.steps in
+    let goes' = subst (λ o. Goes g.T.Tree.asks g.T.Tree.tells c.loop-item.paths (Some o) c.next.new.self) says goes in
+    let kept : c.loop-item.items.items ≡ c.push.new.self.items = search rules in
+    let e = subst (λ xs. Ends g.T.Tree.asks g.T.Tree.tells c.args.paths.now end.Memory xs c.next.new.self) kept
+    (Ends-memory g.T.Tree.asks g.T.Tree.tells c.args.paths.now c.loop-item.paths c.next.new.self c.loop-item.items.items c.loop-item.invariant _ goes'.counts.asked goes') in
+    record { within = e.within; asked = e.asked; told = e.told; walk = e.walk }
 
--- src/walk.rt:80:13
-pub returns-in_default-clause-walk : goal.returns-in_default-clause-walk
-returns-in_default-clause-walk g c = ?
-
--- src/walk.rt:83:13
-pub returns-in-Some-end_of-clause-within : goal.returns-in-Some-end_of-clause-within
-returns-in-Some-end_of-clause-within g c = ?
-
--- src/walk.rt:83:13
-pub returns-in-Some-end_of-clause-asked : goal.returns-in-Some-end_of-clause-asked
-returns-in-Some-end_of-clause-asked g c = ?
-
--- src/walk.rt:83:13
-pub returns-in-Some-end_of-clause-told : goal.returns-in-Some-end_of-clause-told
-returns-in-Some-end_of-clause-told g c = ?
-
--- src/walk.rt:83:13
-pub returns-in-Some-end_of-clause-walk : goal.returns-in-Some-end_of-clause-walk
-returns-in-Some-end_of-clause-walk g c = ?
-
--- src/walk.rt:86:13
-pub returns-then-is_err-clause-within : goal.returns-then-is_err-clause-within
-returns-then-is_err-clause-within g c = ?
-
--- src/walk.rt:86:13
-pub returns-then-is_err-clause-asked : goal.returns-then-is_err-clause-asked
-returns-then-is_err-clause-asked g c = ?
-
--- src/walk.rt:86:13
-pub returns-then-is_err-clause-told : goal.returns-then-is_err-clause-told
-returns-then-is_err-clause-told g c = ?
-
--- src/walk.rt:86:13
-pub returns-then-is_err-clause-walk : goal.returns-then-is_err-clause-walk
-returns-then-is_err-clause-walk g c = ?
-
--- src/walk.rt:78:5
 pub loop-item-preserved : goal.loop-item-preserved
-loop-item-preserved g c = ?
+loop-item-preserved g c =
+    let none : refusal_end (outcome c.in-Some.item) ≡ None = sym c.end_of.ensures ∙ c.in_default-end_of.is in
+    let (item, says) = item_from_no_end (outcome c.in-Some.item) none in
+    let goes = subst (λ r. Goes g.T.Tree.asks g.T.Tree.tells c.loop-item.paths (option_map outcome r) c.next.new.self) c.in-Some.is c.next.ensures.steps in
+    let goes' = subst (λ o. Goes g.T.Tree.asks g.T.Tree.tells c.loop-item.paths (Some o) c.next.new.self) says goes in
+    let pushed : c.loop-item.items.items ++ c.in-Some.item ∷ [] ≡ c.push.new.self.items = search rules in
+    subst (λ xs. Gathers g.T.Tree.asks g.T.Tree.tells c.args.paths.now xs c.next.new.self) pushed
+    (Gathers-item g.T.Tree.asks g.T.Tree.tells c.args.paths.now c.loop-item.paths c.next.new.self c.loop-item.items.items c.loop-item.invariant c.in-Some.item item says goes')

@@ -42,3 +42,7 @@ returns-clause-steps g c =
     goes_at g.T.Tree.asks g.T.Tree.tells c.self.inside.walker.meter c.run-turn.new.self.meter c.self.inside.walker.stack c.run-turn.new.self.stack c.self.inside.given c.self.inside.over c.if-self.false
     c.self.invariant.fits (c.self.invariant.going c.if-self.false) c.run-turn.result c.args.self.now _ c.item_count.result c.is_end-self-inside.result
     c.self.view_is c.item_of.ensures c.item_count.ensures c.is_end-self-inside.ensures r
+
+pub returns-then-self-clause-steps : goal.returns-then-self-clause-steps
+returns-then-self-clause-steps g c =
+    goes_over g.T.Tree.asks g.T.Tree.tells c.self.inside.walker.meter c.self.inside.walker.stack c.self.inside.given c.self.inside.over c.if-self.true c.args.self.now c.self.view_is c.self.invariant
