@@ -17,3 +17,4 @@ pub mod ReachedGoals
 pub mod TakenIsFound
 pub mod TakenNames
 pub mod Undivided
+pub mod WalkClauses

@@ -7,5 +7,6 @@ pub mod Listing
 pub mod Marks
 pub mod Order
 pub mod Private
+pub mod WalkGoals
 pub mod Walks
 pub mod Words

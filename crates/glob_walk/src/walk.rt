@@ -6,6 +6,7 @@ ghost use Rattle.glob_walk.specs.Components.{walk_fault};
 ghost use Rattle.glob_walk.specs.Listing.{listing};
 ghost use Rattle.glob_walk.specs.Marks.{Mark};
 ghost use Rattle.glob_walk.specs.Private.Walking.{refusal_end};
+ghost use Rattle.glob_walk.specs.WalkGoals.{FindsGoal, FindsExactly, FindsInOrder};
 ghost use Rattle.glob_walk.specs.Walks.{outcome, IsFresh, IsWalk, IsWalkAsked, RefusesWith};
 
 use crate::error::{GlobCause, GlobResult};
@@ -53,6 +54,9 @@ pub fn walk_in<T: Tree>(
     ensures asked { IfOk result (λ walk. IsWalkAsked limit (T.asks tree) walk.end walk.spent (T.asks walk.tree)) }
     ensures told { IfOk result (λ walk. T.tells walk.tree ≡ T.tells tree) }
     ensures walk { (c : Content) → IsTold (T.tells tree) c → IfOk result (λ walk. IsWalk (listing c options pattern.now) limit walk.end walk.spent walk.items.items) }
+    ensures goal { IfOk result (λ walk. FindsGoal (T.tells tree) options pattern.now walk.end walk.items.items) }
+    ensures exact { IfOk result (λ walk. FindsExactly (T.tells tree) options pattern.now walk.end walk.items.items) }
+    ensures orderly { IfOk result (λ walk. FindsInOrder (T.tells tree) options pattern.now walk.items.items) }
 {
     let mut paths = glob_in(alloc, tree, pattern, options, limit)?;
     let mut items = Vec::new(alloc);

@@ -1,0 +1,47 @@
+-- What a whole walk of a plain pattern finds.
+use Rattle.std.specs.Prelude.{◌≡◌, List, map, filter_map, Option, Some, None, Result, IsTrue}
+use Rattle.std.specs.declared.path.buf.PathBuf.{PathBuf}
+use Rattle.glob_text.specs.Text.{Text}
+use Rattle.glob_tree.specs.Content.{Content}
+use Rattle.glob_tree.specs.Answers.{IsTold}
+use Rattle.glob_pattern.specs.declared.options.MatchOptions.{MatchOptions}
+use Rattle.glob_walk.specs.Goal.{is_plain, is_readable, ReachesGoal, GivesGoal}
+use Rattle.glob_walk.specs.Marks.{Item, paths}
+use Rattle.glob_walk.specs.Order.{IsOrderly}
+use Rattle.glob_walk.specs.Walks.{Outcome, Gives, LimitAt, NoMemory, outcome}
+use Rattle.glob_walk.specs.declared.error.GlobError.{GlobError}
+use Rattle.glob_walk.specs.declared.walk.End.{End}
+use Rattle.glob_walk.specs.declared.walk.End.TheVariants.{Done}
+
+-- the answers of a walk
+abbrev pub Given : (A : Type 0) → Type 0
+Given A = List (Result (PathBuf A) (GlobError A))
+
+abbrev pub item_of : Outcome → Option Item
+item_of (Gives item) = Some item
+item_of (LimitAt path) = None
+item_of NoMemory = None
+
+-- the items among them
+abbrev pub given_items : {A : Type 0} → Given A → List Item
+given_items given = filter_map item_of (map outcome given)
+
+-- the tree tells c, the pattern is plain, and the options keep case
+abbrev pub WalksPlainly : (told : Option Content) → Content → MatchOptions → (pattern : Text) → Type 0
+WalksPlainly told c o pattern = IsTold told c × IsTrue (is_plain pattern) × IsTrue o.case_sensitive
+
+-- each path is a goal, and where the walk is done each goal is a path or hidden
+abbrev pub FindsGoal : {A : Type 0} → (told : Option Content) → MatchOptions → (pattern : Text) → End → Given A → Type 0
+FindsGoal told o pattern end given =
+    (c : Content) → WalksPlainly told c o pattern → ReachesGoal c o pattern (end ≡ Done) (given_items given)
+
+-- where the walk is done over a readable content, no item is an error, and the paths are exactly the goal
+abbrev pub FindsExactly : {A : Type 0} → (told : Option Content) → MatchOptions → (pattern : Text) → End → Given A → Type 0
+FindsExactly told o pattern end given =
+    (c : Content) → WalksPlainly told c o pattern → IsTrue (is_readable c pattern) → end ≡ Done
+    → GivesGoal c o pattern (given_items given)
+
+-- each path comes once and in order, as far as the runs of `**` allow
+abbrev pub FindsInOrder : {A : Type 0} → (told : Option Content) → MatchOptions → (pattern : Text) → Given A → Type 0
+FindsInOrder told o pattern given =
+    (c : Content) → WalksPlainly told c o pattern → IsOrderly pattern (paths (given_items given))
