@@ -7,5 +7,6 @@ mod lines;
 mod matching;
 mod memory;
 mod options;
+mod repeated;
 mod texts;
 mod trees;
