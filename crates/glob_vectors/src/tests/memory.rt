@@ -1,8 +1,8 @@
 //! Each request for memory refused in turn: the answer is out of memory, or the one with ample memory.
 use super::repeated::{Parts, text_of};
-use crate::rationing::{Ration, Rationed};
 use crate::readers::{ShortReader, ShortWriter};
 use glob::{LineFault, MatchOptions, Pattern, PatternRefusal, Watch, filter_lines};
+use glob_testing::rationing::{Ration, Rationed};
 use std::alloc::{Allocator, Global};
 use std::path::Path;
 use std::process::Abort;

@@ -1,6 +1,6 @@
 //! Walks tried in each way, beside what they are to give.
 use super::contents::{Content, tree_of};
-use super::items::{Item, items_of, paths};
+use super::items::{Item, are, items_of, paths};
 use super::reference::{self, Job};
 use glob::{End, GlobResult, MatchOptions, Tree, Walk, glob_in, walk_in};
 use std::alloc::Global;
@@ -94,7 +94,7 @@ pub(super) fn at_once<T: Tree<Alloc = Global>>(
 }
 
 /// The end of a walk that gives these items, and those of them that are no refusal.
-fn ended<'i, 'a>(items: &'i [Item<'a>]) -> (&'i [Item<'a>], End) {
+pub(super) fn ended<'i, 'a>(items: &'i [Item<'a>]) -> (&'i [Item<'a>], End) {
     match items {
         [others @ .., Item::Limit(_)] => (others, End::Limit),
         [others @ .., Item::Memory] => (others, End::Memory),
@@ -111,18 +111,30 @@ pub(super) fn check_over<T: Tree<Alloc = Global>>(
     spent: u64,
 ) -> Result<(), Fail> {
     let pattern = job.pattern;
+    let (others, end) = ended(items);
     let walk = at_once(rt, tree, job)?;
-    let (found, end) = ended(items);
-    let gathered = items_of(rt.alloc(), walk.items.as_slice())?;
-    assert_eq!(rt; gathered.as_slice(), found, "{pattern}");
     assert_eq!(rt; walk.end, end, "{pattern}");
     assert_eq!(rt; walk.spent, spent, "{pattern}");
+    check_given(rt, walk.items.as_slice(), others, pattern)?;
 
     let given = one_by_one(rt, walk.tree, job)?;
-    let stepped = items_of(rt.alloc(), given.items.as_slice())?;
-    assert_eq!(rt; stepped.as_slice(), items, "{pattern}");
     assert_eq!(rt; given.spent, spent, "{pattern}");
     assert!(rt; end != End::Limit || spent == job.limit, "{pattern}");
+    check_given(rt, given.items.as_slice(), items, pattern)
+}
+
+/// A walk after the pattern gave these items.
+pub(super) fn check_given(
+    rt: &(impl Abort + AllocGlobal),
+    given: &[GlobResult],
+    items: &[Item<'_>],
+    pattern: &str,
+) -> Result<(), Fail> {
+    let found = items_of(rt.alloc(), given)?;
+    assert!(rt;
+        are(found.as_slice(), items),
+        "{pattern}: {found:?} in place of {items:?}"
+    );
     Ok(())
 }
 
@@ -135,7 +147,11 @@ pub(super) fn check(
 ) -> Result<u64, Fail> {
     let (known, tree) = reference::walk(rt.alloc(), tree_of(rt, content)?, &job)?;
     let expected = known.items(rt.alloc())?;
-    assert_eq!(rt; expected.as_slice(), items, "{}", job.pattern);
+    assert!(rt;
+        are(expected.as_slice(), items),
+        "{}: {expected:?} in place of {items:?}",
+        job.pattern
+    );
     check_over(rt, tree, job, items, known.spent)?;
     Ok(known.spent)
 }

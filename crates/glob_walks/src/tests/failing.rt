@@ -1,8 +1,7 @@
 //! Directories that cannot be listed.
-use super::checks::{at_once, check, one_by_one};
+use super::checks::{at_once, check, check_given, one_by_one};
 use super::contents::{Content, FILES, tree_of};
 use super::items::Item::{self, Path, Unread};
-use super::items::items_of;
 use super::reference::Job;
 use crate::trees::{LyingTree, Unreadable};
 use glob::{End, GlobResult};
@@ -67,15 +66,14 @@ fn a_listing_that_fails_is_one_error(rt: HostRuntime) -> Result<(), Fail> {
     let job = Job::of(PATTERN);
     for (path, items) in ROWS {
         let tree = tree_of(&rt, &FILES)?;
-        let walk = at_once(&rt, LyingTree::new(Unreadable { tree, path }), job)?;
+        let tree = LyingTree::new(Unreadable { tree, path });
+        let walk = at_once(&rt, tree, job)?;
         assert_eq!(rt; walk.end, End::Done);
-        let found = items_of(rt.alloc(), walk.items.as_slice())?;
-        assert_eq!(rt; found.as_slice(), items, "{path}");
+        check_given(&rt, walk.items.as_slice(), items, PATTERN)?;
         check_kinds(&rt, walk.items.as_slice(), ErrorKind::InvalidData);
 
         let given = one_by_one(&rt, walk.tree, job)?;
-        let found = items_of(rt.alloc(), given.items.as_slice())?;
-        assert_eq!(rt; found.as_slice(), items, "{path}");
+        check_given(&rt, given.items.as_slice(), items, PATTERN)?;
     }
     Ok(())
 }

@@ -65,6 +65,11 @@ fn found<'a>(rt: &impl AllocGlobal, walk: &'a [GlobResult]) -> Result<Vec<&'a st
     Ok(paths)
 }
 
+/// Whether the texts are these.
+fn are(found: &[&str], expected: &[&str]) -> bool {
+    found == expected
+}
+
 /// A walk after a plain pattern gives the paths of its goal. Gives how many there are.
 fn check_goal(
     rt: &(impl Abort + AllocGlobal),
@@ -83,7 +88,10 @@ fn check_goal(
     }
     paths.sort_unstable();
     paths.dedup();
-    assert_eq!(rt; paths.as_slice(), goal.as_slice(), "{pattern}");
+    assert!(rt;
+        are(paths.as_slice(), goal.as_slice()),
+        "{pattern}: {paths:?}, not {goal:?}"
+    );
     Ok(goal.len())
 }
 

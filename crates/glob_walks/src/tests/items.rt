@@ -41,3 +41,8 @@ pub(super) fn items_of<A: Allocator>(
 pub(super) fn paths<'a>(alloc: Global, texts: &[&'a str]) -> Result<Vec<Item<'a>>, AllocError> {
     texts.iter().map(|text| Path(text)).collect(alloc)
 }
+
+/// Whether the items are these.
+pub(super) fn are(found: &[Item<'_>], expected: &[Item<'_>]) -> bool {
+    found == expected
+}

@@ -1,5 +1,5 @@
 //! Trees whose answers belong to no content, and patterns of many components.
-use super::checks::{at_once, check_over, check_paths, one_by_one};
+use super::checks::{at_once, check_given, check_over, check_paths, ended, one_by_one};
 use super::contents::Key::Dir;
 use super::contents::at_root;
 use super::items::Item::{Limit, Memory, Path};
@@ -97,19 +97,11 @@ fn check_fickle(rt: &(impl Abort + AllocGlobal), job: Job<'_>) -> Result<End, Fa
     let walk = at_once(rt, tree(), job)?;
     let given = one_by_one(rt, tree(), job)?;
     assert_eq!(rt; walk.spent, given.spent);
-    let gathered = items_of(rt.alloc(), walk.items.as_slice())?;
     let stepped = items_of(rt.alloc(), given.items.as_slice())?;
-    match stepped.as_slice() {
-        [others @ .., Limit(_)] => {
-            assert_eq!(rt; walk.end, End::Limit);
-            assert_eq!(rt; walk.spent, job.limit);
-            assert!(rt; gathered.as_slice() == others);
-        }
-        all => {
-            assert_eq!(rt; walk.end, End::Done);
-            assert!(rt; gathered.as_slice() == all);
-        }
-    }
+    let (others, end) = ended(stepped.as_slice());
+    assert_eq!(rt; walk.end, end);
+    assert!(rt; end != End::Limit || walk.spent == job.limit);
+    check_given(rt, walk.items.as_slice(), others, job.pattern)?;
     Ok(walk.end)
 }
 

@@ -6,7 +6,7 @@ use glob::{
     End, GlobResult, Look, MatchOptions, MemTree, PatternRefusal, Tree, TreeRefusal, glob_in,
     walk_in,
 };
-use glob_vectors::rationing::{Ration, Rationed};
+use glob_testing::rationing::{Ration, Rationed};
 use std::alloc::{Allocator, Global};
 use std::io::ErrorKind;
 use std::process::Abort;
@@ -137,7 +137,7 @@ fn steps<A: Allocator + Copy>(rt: &impl Abort, alloc: A) -> bool {
 }
 
 /// How many requests for memory the tree makes.
-fn requests_of_tree(rt: &HostRuntime) -> u64 {
+fn requests_of_tree(rt: &(impl Abort + AllocGlobal)) -> u64 {
     let made = rationed(0, rt.alloc());
     assert!(rt; small_tree(&made).is_ok());
     made.ration.asked()
