@@ -8,5 +8,6 @@ mod matching;
 mod memory;
 mod options;
 mod readme;
+mod repeated;
 mod texts;
 mod trees;

@@ -4,7 +4,7 @@ ghost use Rattle.std.specs.Prelude.{◌≡◌, IfOk};
 use glob::{Pattern, PatternRefusal, laws};
 use std::alloc::{AllocError, Allocator};
 
-/// Reads a pattern's text again, which gives an equal pattern. It fails only for want of memory.
+/// Reads a pattern's text again, which gives an equal pattern. It fails only where memory runs out.
 pub fn reread<A: Allocator + Copy, B: Allocator>(
     alloc: A,
     pattern: &Pattern<B>,

@@ -1,37 +1,32 @@
 //! Patterns on which a search that goes back would take long, and patterns of many tokens.
+use super::repeated::{Parts, text_of};
 use glob::{MatchOptions, Pattern};
-use std::alloc::AllocError;
 use std::test::Fail;
 
-/// A text by its start, a part and how many times it stands there, and the end.
-pub(super) type Written = (&'static str, &'static str, usize, &'static str);
-
-pub(super) fn text_of<R: AllocGlobal>(rt: &R, written: Written) -> Result<String, AllocError> {
-    let (start, part, times, end) = written;
-    let mut text = String::from_str(rt.alloc(), start)?;
-    for _ in 0..times {
-        text.push_str(part)?;
-    }
-    text.push_str(end)?;
-    Ok(text)
-}
-
 /// A pattern, a text, and whether the pattern matches the text with case, with the separator rule or without it.
-const ROWS: [(Written, Written, bool); 14] = [
-    (("", "*a", 60, "b"), ("", "a", 200, "/"), false),
-    (("", "*a", 6, "*b"), ("", "a", 40, ""), false),
-    (("", "?", 63, ""), ("", "a", 63, ""), true),
-    (("", "?", 63, ""), ("", "a", 62, ""), false),
-    (("", "?", 63, ""), ("", "a", 64, ""), false),
-    (("", "?", 64, ""), ("", "a", 64, ""), true),
-    (("", "?", 64, ""), ("", "a", 63, ""), false),
-    (("", "[a]", 42, ""), ("", "a", 42, ""), true),
-    (("**/", "?", 62, ""), ("x/", "a", 62, ""), true),
-    (("*", "?", 64, ""), ("", "a", 100, ""), true),
-    (("*", "?", 64, ""), ("", "a", 63, ""), false),
-    (("", "?", 63, "*b"), ("", "a", 70, "b"), true),
-    (("", "?", 63, "*b"), ("", "a", 70, ""), false),
-    (("*", "x/", 40, "**/y"), ("", "x/", 40, "a/b/y"), true),
+type Row = (Parts<'static>, Parts<'static>, bool);
+
+const ROWS: [Row; 16] = [
+    (&[("*a", 60), ("b", 1)], &[("a", 200), ("/", 1)], false),
+    (&[("*a", 6), ("*b", 1)], &[("a", 40)], false),
+    (&[("a*", 8), ("a", 1)], &[("a", 31)], true),
+    (&[("a*", 8), ("a", 1)], &[("a", 8)], false),
+    (&[("?", 63)], &[("a", 63)], true),
+    (&[("?", 63)], &[("a", 62)], false),
+    (&[("?", 63)], &[("a", 64)], false),
+    (&[("?", 64)], &[("a", 64)], true),
+    (&[("?", 64)], &[("a", 63)], false),
+    (&[("[a]", 42)], &[("a", 42)], true),
+    (&[("**/", 1), ("?", 62)], &[("x/", 1), ("a", 62)], true),
+    (&[("*", 1), ("?", 64)], &[("a", 100)], true),
+    (&[("*", 1), ("?", 64)], &[("a", 63)], false),
+    (&[("?", 63), ("*b", 1)], &[("a", 70), ("b", 1)], true),
+    (&[("?", 63), ("*b", 1)], &[("a", 70)], false),
+    (
+        &[("*", 1), ("x/", 40), ("**/y", 1)],
+        &[("x/", 40), ("a/b/y", 1)],
+        true,
+    ),
 ];
 
 #[test]
@@ -41,9 +36,8 @@ fn many_tokens(rt: HostRuntime) -> Result<(), Fail> {
         let text = text_of(&rt, text)?;
         for require_literal_separator in [false, true] {
             let options = MatchOptions {
-                case_sensitive: true,
                 require_literal_separator,
-                require_literal_leading_dot: false,
+                ..MatchOptions::new()
             };
             let found = pattern.matches_with(text.as_str(), options)?;
             assert_eq!(rt; found, answer, "{} on {text}", pattern.as_str());

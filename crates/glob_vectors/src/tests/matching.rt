@@ -11,18 +11,13 @@ type Row = (
     &'static [&'static str],
 );
 
-const STARS: [Row; 9] = [
+const STARS: [Row; 7] = [
     ("a*b", &["a_b"], &["a_c"]),
     ("a*b*c", &["abc", "a_b_c", "a___b___c"], &["abcd"]),
     (
         "abc*abc*abc",
         &["abcabcabcabcabcabcabc"],
         &["abcabcabcabcabcabcabca"],
-    ),
-    (
-        "a*a*a*a*a*a*a*a*a",
-        &["aaaaaaaaaaaaaaaaaaaaaaaaaaaaaaa"],
-        &["aaaaaaaa"],
     ),
     ("a*b[xyz]c*d", &["abxcdbxcddd"], &["abcd"]),
     (
@@ -45,11 +40,6 @@ const STARS: [Row; 9] = [
         ],
     ),
     ("d*g", &["doog"], &[]),
-    (
-        "*a*a*a*a*a*a*b",
-        &[],
-        &["aaaaaaaaaaaaaaaaaaaaaaaaaaaaaaaaaaaaaaaa"],
-    ),
 ];
 
 const DEEP_RUNS: [Row; 9] = [

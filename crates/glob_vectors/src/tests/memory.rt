@@ -1,7 +1,8 @@
-//! Each request for memory refused in turn: the answer is want of memory, or the one with ample memory.
-use crate::rationing::{Ration, Rationed};
+//! Each request for memory refused in turn: the answer is out of memory, or the one with ample memory.
+use super::repeated::{Parts, text_of};
 use crate::readers::{ShortReader, ShortWriter};
 use glob::{LineFault, MatchOptions, Pattern, PatternRefusal, Watch, filter_lines};
+use glob_testing::rationing::{Ration, Rationed};
 use std::alloc::{Allocator, Global};
 use std::path::Path;
 use std::process::Abort;
@@ -14,7 +15,7 @@ fn rationed(refused: u64, inner: Global) -> Rationed<Global> {
     }
 }
 
-/// Whether the pattern matches the text, or `None` for want of memory.
+/// Whether the pattern matches the text, or `None` where memory ran out.
 fn decided<A: Allocator + Copy>(alloc: A, text: &str, str: &str) -> Option<bool> {
     let pattern = Pattern::new(alloc, text).ok()?;
     pattern.matches(str).ok()
@@ -48,47 +49,29 @@ fn patterns_and_matches(rt: HostRuntime) {
     }
 }
 
-/// A pattern, a text, and whether it matches. No pattern has more than 63 tokens.
-const SHORT: [(&str, &str, bool); 10] = [
-    ("*.rs", "main.rs", true),
-    ("**/*.rs", "a/b/c.txt", false),
-    ("[a-c]*[!x]", "beta", true),
-    ("[a][a][a][a][a][a][a][a]*", "aaaaaaaaaa", true),
-    (
-        "*a*a*a*a*a*a*b",
-        "aaaaaaaaaaaaaaaaaaaaaaaaaaaaaaaaaaaaaaaa",
-        false,
-    ),
-    (
-        "???????????????????????????????????????????????????????????????",
-        "aaaaaaaaaaaaaaaaaaaaaaaaaaaaaaaaaaaaaaaaaaaaaaaaaaaaaaaaaaaaaaa",
-        true,
-    ),
-    (
-        "???????????????????????????????????????????????????????????????",
-        "aaaaaaaaaaaaaaaaaaaaaaaaaaaaaaaaaaaaaaaaaaaaaaaaaaaaaaaaaaaaaa",
-        false,
-    ),
-    (
-        "???????????????????????????????????????????????????????????????",
-        "aaaaaaaaaaaaaaaaaaaaaaaaaaaaaaaaaaaaaaaaaaaaaaaaaaaaaaaaaaaaaaaa",
-        false,
-    ),
-    (
-        "[a][a][a][a][a][a][a][a][a][a][a][a][a][a][a][a][a][a][a][a][a][a][a][a][a][a][a][a][a][a][a][a][a][a][a][a][a][a][a][a][a][a]",
-        "aaaaaaaaaaaaaaaaaaaaaaaaaaaaaaaaaaaaaaaaaa",
-        true,
-    ),
-    (
-        "**/??????????????????????????????????????????????????????????????",
-        "x/aaaaaaaaaaaaaaaaaaaaaaaaaaaaaaaaaaaaaaaaaaaaaaaaaaaaaaaaaaaaaa",
-        true,
-    ),
+/// A pattern, a text, and whether the pattern matches it. No pattern has more than 63 tokens.
+type Row = (Parts<'static>, Parts<'static>, bool);
+
+const SHORT: [Row; 10] = [
+    (&[("*.rs", 1)], &[("main.rs", 1)], true),
+    (&[("**/*.rs", 1)], &[("a/b/c.txt", 1)], false),
+    (&[("[a-c]*[!x]", 1)], &[("beta", 1)], true),
+    (&[("[a]", 8), ("*", 1)], &[("a", 10)], true),
+    (&[("*a", 6), ("*b", 1)], &[("a", 40)], false),
+    (&[("?", 63)], &[("a", 63)], true),
+    (&[("?", 63)], &[("a", 62)], false),
+    (&[("?", 63)], &[("a", 64)], false),
+    (&[("[a]", 42)], &[("a", 42)], true),
+    (&[("**/", 1), ("?", 62)], &[("x/", 1), ("a", 62)], true),
 ];
 
 #[test]
 fn short_patterns_match_without_memory(rt: HostRuntime) -> Result<(), Fail> {
-    for (text, str, answer) in SHORT {
+    for (pattern, str, answer) in SHORT {
+        let text = text_of(&rt, pattern)?;
+        let text = text.as_str();
+        let str = text_of(&rt, str)?;
+        let str = str.as_str();
         let ample = rationed(0, rt.alloc());
         Pattern::new(&ample, text)?;
         let requests = ample.ration.asked();
@@ -133,7 +116,7 @@ fn a_refused_pattern_is_refused_alike(rt: HostRuntime) {
     }
 }
 
-/// Copies lines with memory from `alloc`: the count, or `None` for want of memory; and what was written.
+/// Copies lines with memory from `alloc`: the count, or `None` where memory ran out; and what was written.
 fn copied<A: Allocator + Copy>(
     rt: &(impl Abort + AllocGlobal),
     alloc: A,
@@ -157,7 +140,7 @@ fn lines(rt: HostRuntime) -> Result<(), Fail> {
     check_lines(&rt, b"ab\nc\nd", 3)
 }
 
-/// More than one buffer of output, so that whole lines are written before memory is wanting.
+/// More than one buffer of output, so that whole lines are written before memory runs out.
 #[test]
 fn many_lines(rt: HostRuntime) -> Result<(), Fail> {
     let mut input = Vec::new(rt.alloc());
@@ -167,7 +150,7 @@ fn many_lines(rt: HostRuntime) -> Result<(), Fail> {
     check_lines(&rt, input.as_slice(), 40_000)
 }
 
-/// Refuses each request for memory in turn: the count, or want of memory after whole lines.
+/// Refuses each request for memory in turn: the count, or out of memory after whole lines.
 fn check_lines(rt: &(impl Abort + AllocGlobal), input: &[u8], lines: u64) -> Result<(), Fail> {
     let pattern = Pattern::new(rt.alloc(), "*")?;
     let ample = rationed(0, rt.alloc());

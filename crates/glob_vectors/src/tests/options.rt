@@ -3,75 +3,96 @@ use glob::{MatchOptions, Pattern};
 use std::process::Abort;
 use std::test::Fail;
 
-/// The options by three letters, `t` or `f`: case, the separator rule, the dot rule.
-fn options(letters: &str) -> MatchOptions {
-    let mut flags = letters.bytes().map(|letter| letter == b't');
-    MatchOptions {
-        case_sensitive: flags.next() == Some(true),
-        require_literal_separator: flags.next() == Some(true),
-        require_literal_leading_dot: flags.next() == Some(true),
-    }
-}
+/// Neither case nor rules.
+const ANY_CASE: MatchOptions = MatchOptions {
+    case_sensitive: false,
+    require_literal_separator: false,
+    require_literal_leading_dot: false,
+};
+
+/// With case and without rules.
+const CASE: MatchOptions = MatchOptions {
+    case_sensitive: true,
+    ..ANY_CASE
+};
+
+/// With case and the separator rule.
+const SEPARATOR: MatchOptions = MatchOptions {
+    require_literal_separator: true,
+    ..CASE
+};
+
+/// With case and the dot rule.
+const DOT: MatchOptions = MatchOptions {
+    require_literal_leading_dot: true,
+    ..CASE
+};
+
+/// With case and both rules.
+const BOTH_RULES: MatchOptions = MatchOptions {
+    require_literal_leading_dot: true,
+    ..SEPARATOR
+};
 
 /// A pattern, a text, options, and whether the pattern matches the text under each of them.
-type Row = (&'static str, &'static str, &'static [&'static str], bool);
+type Row = (&'static str, &'static str, &'static [MatchOptions], bool);
 
-const CASE: [Row; 17] = [
-    ("aBcDeFg", "aBcDeFg", &["fff"], true),
-    ("aBcDeFg", "abcdefg", &["fff"], true),
-    ("aBcDeFg", "ABCDEFG", &["fff"], true),
-    ("aBcDeFg", "AbCdEfG", &["fff"], true),
-    ("[a]", "a", &["fff"], true),
-    ("[a]", "A", &["fff"], true),
-    ("[a]", "A", &["tff"], false),
-    ("[!a]", "a", &["fff"], false),
-    ("[!a]", "A", &["fff"], false),
-    ("[!a]", "A", &["tff"], true),
-    ("[A-z]", "_", &["fff", "tff"], true),
-    ("É", "é", &["fff"], false),
-    ("[a-Z]", "M", &["fff"], true),
-    ("[a-Z]", "M", &["tff"], false),
-    ("[a-Z]", "_", &["fff", "tff"], false),
-    ("A*", "ab", &["fff"], true),
-    ("[É]", "é", &["fff"], false),
+const CASES: [Row; 17] = [
+    ("aBcDeFg", "aBcDeFg", &[ANY_CASE], true),
+    ("aBcDeFg", "abcdefg", &[ANY_CASE], true),
+    ("aBcDeFg", "ABCDEFG", &[ANY_CASE], true),
+    ("aBcDeFg", "AbCdEfG", &[ANY_CASE], true),
+    ("[a]", "a", &[ANY_CASE], true),
+    ("[a]", "A", &[ANY_CASE], true),
+    ("[a]", "A", &[CASE], false),
+    ("[!a]", "a", &[ANY_CASE], false),
+    ("[!a]", "A", &[ANY_CASE], false),
+    ("[!a]", "A", &[CASE], true),
+    ("[A-z]", "_", &[ANY_CASE, CASE], true),
+    ("É", "é", &[ANY_CASE], false),
+    ("[a-Z]", "M", &[ANY_CASE], true),
+    ("[a-Z]", "M", &[CASE], false),
+    ("[a-Z]", "_", &[ANY_CASE, CASE], false),
+    ("A*", "ab", &[ANY_CASE], true),
+    ("[É]", "é", &[ANY_CASE], false),
 ];
 
 const RULES: [Row; 27] = [
-    ("abc/def", "abc/def", &["ttf", "tff"], true),
-    ("abc?def", "abc/def", &["ttf"], false),
-    ("abc*def", "abc/def", &["ttf"], false),
-    ("abc[/]def", "abc/def", &["ttf"], false),
-    ("abc?def", "abc/def", &["tff"], true),
-    ("abc*def", "abc/def", &["tff"], true),
-    ("abc[/]def", "abc/def", &["tff"], true),
-    ("*.txt", ".hello.txt", &["tff"], true),
-    ("*.txt", ".hello.txt", &["tft"], false),
-    (".*.*", ".hello.txt", &["tff", "tft"], true),
-    ("aaa/bbb/*", "aaa/bbb/.ccc", &["tff"], true),
-    ("aaa/bbb/*", "aaa/bbb/.ccc", &["tft"], false),
-    ("aaa/bbb/*", "aaa/bbb/c.c.c.", &["tff", "tft"], true),
-    ("aaa/bbb/.*", "aaa/bbb/.ccc", &["tff", "tft"], true),
-    ("aaa/?bbb", "aaa/.bbb", &["tff"], true),
-    ("aaa/[.]bbb", "aaa/.bbb", &["tff"], true),
-    ("aaa/?bbb", "aaa/.bbb", &["tft"], false),
-    ("aaa/[.]bbb", "aaa/.bbb", &["tft"], false),
-    ("**/*", ".bbb", &["tff"], true),
-    ("**/*", ".bbb", &["tft"], false),
-    ("*.*b", "x.y/.b", &["tft"], true),
-    ("**", "a/.b", &["tft"], false),
-    ("**", "a.b/c", &["ttt"], true),
-    ("**/.*", "ab.c", &["tff"], false),
-    ("**", "abcde", &["tff"], true),
-    ("a*", "a/b", &["ttf"], false),
-    ("*", ".x", &["tft"], false),
+    ("abc/def", "abc/def", &[SEPARATOR, CASE], true),
+    ("abc?def", "abc/def", &[SEPARATOR], false),
+    ("abc*def", "abc/def", &[SEPARATOR], false),
+    ("abc[/]def", "abc/def", &[SEPARATOR], false),
+    ("abc?def", "abc/def", &[CASE], true),
+    ("abc*def", "abc/def", &[CASE], true),
+    ("abc[/]def", "abc/def", &[CASE], true),
+    ("*.txt", ".hello.txt", &[CASE], true),
+    ("*.txt", ".hello.txt", &[DOT], false),
+    (".*.*", ".hello.txt", &[CASE, DOT], true),
+    ("aaa/bbb/*", "aaa/bbb/.ccc", &[CASE], true),
+    ("aaa/bbb/*", "aaa/bbb/.ccc", &[DOT], false),
+    ("aaa/bbb/*", "aaa/bbb/c.c.c.", &[CASE, DOT], true),
+    ("aaa/bbb/.*", "aaa/bbb/.ccc", &[CASE, DOT], true),
+    ("aaa/?bbb", "aaa/.bbb", &[CASE], true),
+    ("aaa/[.]bbb", "aaa/.bbb", &[CASE], true),
+    ("aaa/?bbb", "aaa/.bbb", &[DOT], false),
+    ("aaa/[.]bbb", "aaa/.bbb", &[DOT], false),
+    ("**/*", ".bbb", &[CASE], true),
+    ("**/*", ".bbb", &[DOT], false),
+    ("*.*b", "x.y/.b", &[DOT], true),
+    ("**", "a/.b", &[DOT], false),
+    ("**", "a.b/c", &[BOTH_RULES], true),
+    ("**/.*", "ab.c", &[CASE], false),
+    ("**", "abcde", &[CASE], true),
+    ("a*", "a/b", &[SEPARATOR], false),
+    ("*", ".x", &[DOT], false),
 ];
 
 fn check(rt: &(impl Abort + AllocGlobal), rows: &[Row]) -> Result<(), Fail> {
-    for (text, str, all_letters, answer) in rows {
+    for (text, str, settings, answer) in rows {
         let pattern = Pattern::new(rt.alloc(), text)?;
-        for letters in *all_letters {
-            let found = pattern.matches_with(str, options(letters))?;
-            assert_eq!(rt; found, *answer, "{text} on {str} under {letters}");
+        for options in *settings {
+            let found = pattern.matches_with(str, *options)?;
+            assert_eq!(rt; found, *answer, "{text} on {str} under {options:?}");
         }
     }
     Ok(())
@@ -79,7 +100,7 @@ fn check(rt: &(impl Abort + AllocGlobal), rows: &[Row]) -> Result<(), Fail> {
 
 #[test]
 fn case(rt: HostRuntime) -> Result<(), Fail> {
-    check(&rt, &CASE)
+    check(&rt, &CASES)
 }
 
 #[test]
@@ -93,7 +114,7 @@ fn capital_letters_in_brackets(rt: HostRuntime) -> Result<(), Fail> {
         let pattern = Pattern::new(rt.alloc(), text)?;
         for c in 'A'..='Z' {
             let str = format!(in rt.alloc(); "{c}")?;
-            let found = pattern.matches_with(str.as_str(), options("fff"))?;
+            let found = pattern.matches_with(str.as_str(), ANY_CASE)?;
             assert!(rt; found, "{text} matches {c}");
         }
     }
@@ -102,8 +123,20 @@ fn capital_letters_in_brackets(rt: HostRuntime) -> Result<(), Fail> {
 
 #[test]
 fn settings(rt: HostRuntime) {
-    assert_eq!(rt; MatchOptions::new(), options("tff"));
-    assert_eq!(rt; MatchOptions::default(), options("fff"));
-    assert!(rt; options("fft") < options("ftf"));
-    assert!(rt; options("ftt") < options("tff"));
+    assert_eq!(rt; MatchOptions::new(), CASE);
+    assert_eq!(rt; MatchOptions::default(), ANY_CASE);
+    let dot_alone = MatchOptions {
+        require_literal_leading_dot: true,
+        ..ANY_CASE
+    };
+    let separator_alone = MatchOptions {
+        require_literal_separator: true,
+        ..ANY_CASE
+    };
+    let rules_alone = MatchOptions {
+        require_literal_leading_dot: true,
+        ..separator_alone
+    };
+    assert!(rt; dot_alone < separator_alone);
+    assert!(rt; rules_alone < CASE);
 }

@@ -1,21 +1,13 @@
 //! Texts and patterns of a million characters.
+use super::repeated::text_of;
 use glob::{Pattern, PatternRefusal};
 use std::test::Fail;
 
 const MILLION: usize = 1_000_000;
 
-/// The text `unit` so many times.
-fn repeated(rt: &HostRuntime, unit: &str, times: usize) -> Result<String, Fail> {
-    let mut text = String::new(rt.alloc());
-    for _ in 0..times {
-        text.push_str(unit)?;
-    }
-    Ok(text)
-}
-
 #[test]
 fn a_long_pattern_is_refused_at_its_first_fault(rt: HostRuntime) -> Result<(), Fail> {
-    let text = repeated(&rt, "[", 100_000)?;
+    let text = text_of(&rt, &[("[", 100_000)])?;
     match Pattern::new(rt.alloc(), text.as_str()) {
         Err(PatternRefusal::Syntax(error)) => assert_eq!(rt; error.pos, 0),
         _ => panic!(rt; "no fault is told"),
@@ -25,7 +17,7 @@ fn a_long_pattern_is_refused_at_its_first_fault(rt: HostRuntime) -> Result<(), F
 
 #[test]
 fn a_long_text_is_matched(rt: HostRuntime) -> Result<(), Fail> {
-    let text = repeated(&rt, "a", MILLION)?;
+    let text = text_of(&rt, &[("a", MILLION)])?;
     let pattern = Pattern::new(rt.alloc(), "*a")?;
     assert!(rt; pattern.matches(text.as_str())?);
     Ok(())
@@ -33,7 +25,7 @@ fn a_long_text_is_matched(rt: HostRuntime) -> Result<(), Fail> {
 
 #[test]
 fn a_long_pattern_is_read(rt: HostRuntime) -> Result<(), Fail> {
-    let text = repeated(&rt, "[b-y]", MILLION / 5)?;
+    let text = text_of(&rt, &[("[b-y]", MILLION / 5)])?;
     let pattern = Pattern::new(rt.alloc(), text.as_str())?;
     assert!(rt; !pattern.matches("b")?);
     Ok(())
@@ -41,10 +33,10 @@ fn a_long_pattern_is_read(rt: HostRuntime) -> Result<(), Fail> {
 
 #[test]
 fn a_long_pattern_is_matched_with_a_long_text(rt: HostRuntime) -> Result<(), Fail> {
-    let text = repeated(&rt, "a", MILLION)?;
+    let text = text_of(&rt, &[("a", MILLION)])?;
     let pattern = Pattern::new(rt.alloc(), text.as_str())?;
     assert!(rt; pattern.matches(text.as_str())?);
-    let shorter = repeated(&rt, "a", MILLION - 1)?;
+    let shorter = text_of(&rt, &[("a", MILLION - 1)])?;
     assert!(rt; !pattern.matches(shorter.as_str())?);
     Ok(())
 }

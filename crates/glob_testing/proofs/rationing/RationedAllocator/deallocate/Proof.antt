@@ -33,10 +33,10 @@ use Rattle.std.proofs.alloc.Calls.{Al, α, seen, token, Gives, at_gives, Gives-g
 use Rattle.std.proofs.raw_atomic.Walks.{proved, leaves}
 use Rattle.std.proofs.VecSteps.Shapes.{after}
 use Rattle.std.specs.Allocator.{owned_block}
-use Rattle.glob_vectors.specs.contracts.rationing.Rationed as wrapper
-use Rattle.glob_vectors.specs.contracts.rationing.RationedAllocator.deallocate as f
-use Rattle.glob_vectors.proofs.rationing.RationedAllocator.deallocate.Statement.{statement}
-use Rattle.glob_vectors.proofs.rationing.RationedAllocator.deallocate.Code as code
+use Rattle.glob_testing.specs.contracts.rationing.Rationed as wrapper
+use Rattle.glob_testing.specs.contracts.rationing.RationedAllocator.deallocate as f
+use Rattle.glob_testing.proofs.rationing.RationedAllocator.deallocate.Statement.{statement}
+use Rattle.glob_testing.proofs.rationing.RationedAllocator.deallocate.Code as code
 
 abbrev Wrapped : RattleType → RattleType
 Wrapped Y = wrapper.the_row (param 0 Y)

@@ -39,13 +39,13 @@ use Rattle.std.proofs.alloc.Calls.{Al, α, seen, token, Answer, answer_val, Answ
 use Rattle.std.proofs.raw_atomic.Walks.{proved, leaves}
 use Rattle.std.proofs.VecSteps.Shapes.{after}
 use Rattle.std.specs.Allocator.{block_if_ok}
-use Rattle.glob_vectors.specs.contracts.rationing.Ration as ration
-use Rattle.glob_vectors.specs.contracts.rationing.Rationed as wrapper
-use Rattle.glob_vectors.specs.contracts.rationing.Ration.refuses_next as asks
-use Rattle.glob_vectors.proofs.rationing.Ration.refuses_next.Met as asks_met
-use Rattle.glob_vectors.specs.contracts.rationing.RationedAllocator.allocate as f
-use Rattle.glob_vectors.proofs.rationing.RationedAllocator.allocate.Statement.{statement}
-use Rattle.glob_vectors.proofs.rationing.RationedAllocator.allocate.Code as code
+use Rattle.glob_testing.specs.contracts.rationing.Ration as ration
+use Rattle.glob_testing.specs.contracts.rationing.Rationed as wrapper
+use Rattle.glob_testing.specs.contracts.rationing.Ration.refuses_next as asks
+use Rattle.glob_testing.proofs.rationing.Ration.refuses_next.Met as asks_met
+use Rattle.glob_testing.specs.contracts.rationing.RationedAllocator.allocate as f
+use Rattle.glob_testing.proofs.rationing.RationedAllocator.allocate.Statement.{statement}
+use Rattle.glob_testing.proofs.rationing.RationedAllocator.allocate.Code as code
 
 abbrev Wrapped : RattleType → RattleType
 Wrapped Y = wrapper.the_row (param 0 Y)
@@ -106,7 +106,7 @@ allocate_spec 𝓤 𝓛 𝓜 𝓡 wired Y L g d d' met _ =
     enter ! _ _ _ _ _ $ alloc_all ! (λ l. pass_all ! refl ((tt, tt), ((tt, record { fits = are.1.0.1 }), ((tt, record { fits = are.1.1.0.1 }), tt))) $
     sets ! (addr ! (through ! refl (fld ! refl (stop !)))) refl (tt, tt) $
     use2 𝓛 (raw (Asked.pre asked)) (asks-goes 𝓛 𝓜.mem 𝓡.returns κ q counter r.now.ration) $
-    calls_at ! fm Asked (asks_met.met 𝓤 𝓛 𝓜 𝓡 (code.calls-glob_vectors::rationing::Ration::refuses_next 𝓡.env wired)) asked (and_then ! (get ! refl) (no_more !)) (λ u.
+    calls_at ! fm Asked (asks_met.met 𝓤 𝓛 𝓜 𝓡 (code.calls-glob_testing::rationing::Ration::refuses_next 𝓡.env wired)) asked (and_then ! (get ! refl) (no_more !)) (λ u.
     use1 𝓛 (later (some (λ (y : Bool). given (u ≡ vbool y) (‵ (flft κ q))))) (asks-gives 𝓛 𝓜.mem 𝓡.returns κ q counter r.now.ration u) $ await ! tt $ pick ! (λ y. learn ! (λ is. lands_as ! is refl (tt, tt) $
     first ! $ branches ! (get ! refl)
     (λ _. move ! (0 ∷ 2 ∷ []) $ join ! $ sets ! (agg ! (no_more !)) refl (tt, tt) $ sets ! (agg ! (and_then ! (lit ! tt) (and_then ! (get ! refl) (no_more !)))) refl (Answer-typed false 0 0) $

@@ -1,0 +1,13 @@
+mod checks;
+mod contents;
+mod failing;
+mod files;
+mod goals;
+mod items;
+mod limits;
+mod lying;
+mod memory;
+mod random;
+mod reference;
+mod refusals;
+mod rows;

@@ -1,0 +1,382 @@
+//! A plain walk by recursion, after the rules as they are written down, beside which the walks of the library are held.
+//!
+//! A component without `?`, `*` and `[` is looked up under its name. Another is met by the entries of a directory that is
+//! listed. One unit is charged for each look, each listing and each entry of a listing, before it is used.
+ghost use Rattle.std.specs.Prelude.{◌<◌, IfOk};
+
+use super::items::Item;
+use glob::{Entry, ListError, Look, MatchOptions, MemTree, Pattern, Tree};
+use std::alloc::{AllocError, Global};
+
+/// A pattern, with what a walk after it needs to know.
+#[derive(Clone, Copy)]
+pub(super) struct Job<'a> {
+    pub(super) pattern: &'a str,
+    pub(super) options: MatchOptions,
+    pub(super) limit: u64,
+}
+
+/// An item that the walk gave.
+#[derive(Drop)]
+enum Given {
+    Path(String),
+    Unread(String),
+    Limit(String),
+}
+
+/// Why a walk is not gone on with.
+#[derive(Drop, Debug)]
+pub(super) enum Stop {
+    /// The limit was reached.
+    Limit,
+    /// The pattern is refused.
+    Refused,
+    /// Memory ran out.
+    Memory,
+    /// The recursion is deeper than was foreseen.
+    TooDeep,
+}
+
+impl From<AllocError> for Stop {
+    fn from(_: AllocError) -> Stop {
+        Stop::Memory
+    }
+}
+
+/// What a walk gave and charged.
+#[derive(Drop)]
+pub(super) struct Walked {
+    given: Vec<Given>,
+    pub(super) spent: u64,
+}
+
+impl Walked {
+    /// Its items, the refusal at a limit too.
+    pub(super) fn items(&self, alloc: Global) -> Result<Vec<Item<'_>>, AllocError> {
+        let mut items = Vec::new(alloc);
+        for given in &self.given {
+            items.push(match given {
+                Given::Path(path) => Item::Path(path.as_str()),
+                Given::Unread(path) => Item::Unread(path.as_str()),
+                Given::Limit(path) => Item::Limit(path.as_str()),
+            })?;
+        }
+        Ok(items)
+    }
+}
+
+/// A component of a pattern.
+#[derive(Drop)]
+struct Component {
+    text: String,
+    pattern: Pattern,
+}
+
+impl Component {
+    fn is_literal(&self) -> bool {
+        !self.text.as_str().contains(['?', '*', '['].as_slice())
+    }
+
+    fn is_recursive(&self) -> bool {
+        self.text.as_str() == "**"
+    }
+
+    fn begins_with_dot(&self) -> bool {
+        self.text.as_str().starts_with('.')
+    }
+}
+
+/// The components of a pattern, and what else a walk goes by.
+#[derive(Drop)]
+struct Rules {
+    components: Vec<Component>,
+    directories: bool,
+    options: MatchOptions,
+    limit: u64,
+    alloc: Global,
+}
+
+/// The path's text, a separator if one is needed, and the name.
+fn join(alloc: Global, path: &str, name: &str) -> Result<String, AllocError> {
+    if path.is_empty() || path.ends_with('/') {
+        format!(in alloc; "{path}{name}")
+    } else {
+        format!(in alloc; "{path}/{name}")
+    }
+}
+
+/// Whether the path is the current directory's, written by dots alone.
+fn is_here(path: &str) -> bool {
+    let mut pieces = path.split('/');
+    pieces.next() == Some(".") && pieces.all(|piece| piece.is_empty() || piece == ".")
+}
+
+/// The path of a name in the directory at a path.
+fn child(alloc: Global, path: &str, name: &str) -> Result<String, AllocError> {
+    if is_here(path) {
+        String::from_str(alloc, name)
+    } else {
+        join(alloc, path, name)
+    }
+}
+
+/// The components of the pattern, the whole of which is read first.
+fn components_of(alloc: Global, text: &str) -> Result<Vec<Component>, Stop> {
+    if Pattern::new(alloc, text).is_err() {
+        return Err(Stop::Refused);
+    }
+    let rest = text.strip_prefix('/').unwrap_or(text);
+    let rest = rest.strip_suffix('/').unwrap_or(rest);
+    let mut components = Vec::new(alloc);
+    for piece in rest.split('/') {
+        let Ok(pattern) = Pattern::new(alloc, piece) else {
+            return Err(Stop::Refused);
+        };
+        let text = String::from_str(alloc, piece)?;
+        if components.push(Component { text, pattern }).is_err() {
+            return Err(Stop::Memory);
+        }
+    }
+    Ok(components)
+}
+
+/// One level of the recursion less.
+fn deeper(depth: u32) -> Result<u32, Stop>
+    ensures { IfOk result (λ rest. rest < depth) }
+{
+    depth.checked_sub(1).ok_or(Stop::TooDeep)
+}
+
+/// A walk that is under way.
+#[derive(Drop)]
+struct Walking {
+    walked: Walked,
+    tree: MemTree,
+}
+
+impl Walking {
+    fn give(&mut self, given: Given) -> Result<(), Stop> {
+        match self.walked.given.push(given) {
+            Ok(()) => Ok(()),
+            Err(_) => Err(Stop::Memory),
+        }
+    }
+
+    /// Charges one unit, or gives the refusal at the limit.
+    fn charge(&mut self, rules: &Rules, path: &str) -> Result<(), Stop> {
+        if self.walked.spent < rules.limit {
+            self.walked.spent += 1;
+            return Ok(());
+        }
+        self.give(Given::Limit(String::from_str(rules.alloc, path)?))?;
+        Err(Stop::Limit)
+    }
+
+    fn look(&mut self, rules: &Rules, path: &str) -> Result<Look, Stop> {
+        self.charge(rules, path)?;
+        Ok(self.tree.look(path)?)
+    }
+
+    /// The entries in ascending byte order of names, or `None` where an error is given.
+    fn list(&mut self, rules: &Rules, path: &str) -> Result<Option<Vec<Entry>>, Stop> {
+        self.charge(rules, path)?;
+        match self.tree.list(path) {
+            Ok(mut entries) => {
+                for _ in entries.iter() {
+                    self.charge(rules, path)?;
+                }
+                entries.sort_unstable_by(|a, b| a.name.as_str().cmp(b.name.as_str()));
+                Ok(Some(entries))
+            }
+            Err(ListError::Read(_)) => {
+                self.give(Given::Unread(String::from_str(rules.alloc, path)?))?;
+                Ok(None)
+            }
+            Err(ListError::Memory) => Err(Stop::Memory),
+        }
+    }
+
+    /// The component of this number is met by a path, which is a directory's where `d` holds.
+    #[cycle(walk)]
+    fn enter(
+        &mut self,
+        rules: &Rules,
+        depth: u32,
+        i: usize,
+        path: &str,
+        d: bool,
+    ) -> Result<(), Stop> {
+        let depth = deeper(depth)?;
+        let Some(component) = rules.components.get(i) else {
+            return Err(Stop::TooDeep);
+        };
+        if component.is_literal() {
+            let name = component.text.as_str();
+            let path = child(rules.alloc, path, name)?;
+            let seen = self.look(rules, path.as_str())?;
+            let there = match name {
+                "." | ".." => d,
+                _ => seen != Look::Missing,
+            };
+            if there {
+                self.reach(rules, depth, i, path.as_str(), seen == Look::Dir)?;
+            }
+            return Ok(());
+        }
+        if !d {
+            return Ok(());
+        }
+        self.by_match(rules, depth, i, component, path)
+    }
+
+    /// A component with wildcards is met by what a directory holds.
+    #[cycle(walk)]
+    fn by_match(
+        &mut self,
+        rules: &Rules,
+        depth: u32,
+        i: usize,
+        component: &Component,
+        path: &str,
+    ) -> Result<(), Stop> {
+        let depth = deeper(depth)?;
+        let Some(entries) = self.list(rules, path)? else {
+            return Ok(());
+        };
+        if component.begins_with_dot() {
+            for name in ["..", "."] {
+                if component.pattern.matches_with(name, rules.options)? {
+                    let path = join(rules.alloc, path, name)?;
+                    let seen = self.look(rules, path.as_str())?;
+                    self.reach(rules, depth, i, path.as_str(), seen == Look::Dir)?;
+                }
+            }
+        }
+        for entry in &entries {
+            let name = entry.name.as_str();
+            let path = child(rules.alloc, path, name)?;
+            self.meet(rules, depth, i, path.as_str(), name, entry.is_dir)?;
+        }
+        Ok(())
+    }
+
+    /// The component of this number takes the path.
+    #[cycle(walk)]
+    fn reach(
+        &mut self,
+        rules: &Rules,
+        depth: u32,
+        i: usize,
+        path: &str,
+        d: bool,
+    ) -> Result<(), Stop> {
+        let depth = deeper(depth)?;
+        let next = i.saturating_add(1);
+        if next < rules.components.len() {
+            return self.enter(rules, depth, next, path, d);
+        }
+        if d || !rules.directories {
+            self.give(Given::Path(String::from_str(rules.alloc, path)?))?;
+        }
+        Ok(())
+    }
+
+    /// The component of this number, which has wildcards, is met by an entry.
+    #[cycle(walk)]
+    fn meet(
+        &mut self,
+        rules: &Rules,
+        depth: u32,
+        i: usize,
+        path: &str,
+        name: &str,
+        d: bool,
+    ) -> Result<(), Stop> {
+        let depth = deeper(depth)?;
+        let Some(j) = rules.last_of_run(i) else {
+            return self.match_at(rules, depth, i, path, name, d);
+        };
+        let hidden = rules.options.require_literal_leading_dot && name.starts_with('.');
+        let open = d && !hidden;
+        let next = j.saturating_add(1);
+        if next < rules.components.len() {
+            self.match_at(rules, depth, next, path, name, d)?;
+        } else if open {
+            self.give(Given::Path(String::from_str(rules.alloc, path)?))?;
+        }
+        if open {
+            self.enter(rules, depth, j, path, true)?;
+        }
+        Ok(())
+    }
+
+    /// The component of this number takes the path where it matches the name.
+    #[cycle(walk)]
+    fn match_at(
+        &mut self,
+        rules: &Rules,
+        depth: u32,
+        i: usize,
+        path: &str,
+        name: &str,
+        d: bool,
+    ) -> Result<(), Stop> {
+        let depth = deeper(depth)?;
+        let Some(component) = rules.components.get(i) else {
+            return Err(Stop::TooDeep);
+        };
+        if component.pattern.matches_with(name, rules.options)? {
+            self.reach(rules, depth, i, path, d)?;
+        }
+        Ok(())
+    }
+}
+
+impl Rules {
+    /// The last of the consecutive `**` from the component of this number on, if it is one.
+    fn last_of_run(&self, i: usize) -> Option<usize> {
+        let run = self
+            .components
+            .iter()
+            .skip(i)
+            .take_while(|component| component.is_recursive())
+            .count();
+        i.saturating_add(run).checked_sub(1).filter(|_| run > 0)
+    }
+}
+
+/// How deep the recursion may go.
+const DEPTH: u32 = 200;
+
+/// Walks over a tree, which comes back.
+pub(super) fn walk(alloc: Global, tree: MemTree, job: &Job<'_>) -> Result<(Walked, MemTree), Stop> {
+    let rules = Rules {
+        components: components_of(alloc, job.pattern)?,
+        directories: job.pattern.ends_with('/'),
+        options: job.options,
+        limit: job.limit,
+        alloc,
+    };
+    let walked = Walked {
+        given: Vec::new(alloc),
+        spent: 0,
+    };
+    let mut walking = Walking { walked, tree };
+    let start = if job.pattern.starts_with('/') {
+        "/"
+    } else {
+        "."
+    };
+    match walking.begin(&rules, start) {
+        Ok(()) | Err(Stop::Limit) => Ok((walking.walked, walking.tree)),
+        Err(stop) => Err(stop),
+    }
+}
+
+impl Walking {
+    /// The start is looked up, and the components follow.
+    fn begin(&mut self, rules: &Rules, start: &str) -> Result<(), Stop> {
+        let seen = self.look(rules, start)?;
+        self.enter(rules, DEPTH, 0, start, seen == Look::Dir)
+    }
+}

@@ -1,0 +1,268 @@
+//! What lying trees say.
+use super::Liar;
+use glob::{Entry, ListError, Look, MemTree, Name, Tree};
+use std::alloc::{AllocError, Allocator, Global};
+use std::cell::Cell;
+use std::io::{self, ErrorKind};
+
+/// Adds an entry of this name to a listing.
+fn add<A: Allocator + Copy>(
+    alloc: A,
+    entries: &mut Vec<Entry<A>, A>,
+    name: &str,
+    is_dir: bool,
+) -> Result<(), ListError> {
+    let Ok(text) = String::from_str(alloc, name) else {
+        return Err(ListError::Memory);
+    };
+    let Ok(name) = Name::new(text) else {
+        return Err(ListError::Read(io::Error::from(ErrorKind::InvalidInput)));
+    };
+    match entries.push(Entry { name, is_dir }) {
+        Ok(()) => Ok(()),
+        Err(_) => Err(ListError::Memory),
+    }
+}
+
+/// A listing of entries of these names, all of them directories or none.
+fn listing<A: Allocator + Copy>(
+    alloc: A,
+    names: &[&str],
+    are_dirs: bool,
+) -> Result<Vec<Entry<A>, A>, ListError> {
+    let mut entries = Vec::new(alloc);
+    for name in names {
+        add(alloc, &mut entries, name, are_dirs)?;
+    }
+    Ok(entries)
+}
+
+/// Every path is a directory's, and every directory holds one directory `d`.
+#[derive(Drop)]
+pub struct Endless {
+    /// Where its entries are made.
+    pub alloc: Global,
+}
+
+impl Liar for Endless {
+    type Alloc = Global;
+
+    fn look(&mut self, _path: &str) -> Result<Look, AllocError> {
+        Ok(Look::Dir)
+    }
+
+    fn list(&mut self, _path: &str) -> Result<Vec<Entry>, ListError> {
+        listing(self.alloc, &["d"], true)
+    }
+}
+
+/// Every path is a directory's. Each directory above a depth holds one directory `d`, and those below it hold nothing.
+#[derive(Drop)]
+pub struct Chain {
+    /// Where its entries are made.
+    pub alloc: Global,
+    /// How many directories stand one in another.
+    pub depth: usize,
+}
+
+impl Liar for Chain {
+    type Alloc = Global;
+
+    fn look(&mut self, _path: &str) -> Result<Look, AllocError> {
+        Ok(Look::Dir)
+    }
+
+    fn list(&mut self, path: &str) -> Result<Vec<Entry>, ListError> {
+        let depth = path.bytes().filter(|&byte| byte == b'd').count();
+        if depth < self.depth {
+            listing(self.alloc, &["d"], true)
+        } else {
+            Ok(Vec::new(self.alloc))
+        }
+    }
+}
+
+/// Its answers change with each call.
+#[derive(Drop)]
+pub struct Fickle {
+    /// Where its entries are made.
+    pub alloc: Global,
+    /// How many calls came before.
+    pub calls: u64,
+}
+
+impl Liar for Fickle {
+    type Alloc = Global;
+
+    fn look(&mut self, _path: &str) -> Result<Look, AllocError> {
+        self.calls = self.calls.wrapping_add(1);
+        match self.calls % 3 {
+            0 => Ok(Look::Missing),
+            1 => Ok(Look::Dir),
+            _ => Ok(Look::Other),
+        }
+    }
+
+    fn list(&mut self, _path: &str) -> Result<Vec<Entry>, ListError> {
+        self.calls = self.calls.wrapping_add(1);
+        match self.calls % 5 {
+            0 => Err(ListError::Read(io::Error::from(ErrorKind::NotFound))),
+            1 => listing(self.alloc, &["b", "a", "b"], true),
+            2 => listing(self.alloc, &["c", "a"], false),
+            3 => Ok(Vec::new(self.alloc)),
+            _ => listing(self.alloc, &["d"], true),
+        }
+    }
+}
+
+/// Every listing says that there is a directory `d`, and a look at it finds nothing.
+#[derive(Drop)]
+pub struct FalseDirectory {
+    /// Where its entries are made.
+    pub alloc: Global,
+}
+
+impl Liar for FalseDirectory {
+    type Alloc = Global;
+
+    fn look(&mut self, path: &str) -> Result<Look, AllocError> {
+        if path.ends_with('d') {
+            Ok(Look::Missing)
+        } else {
+            Ok(Look::Dir)
+        }
+    }
+
+    fn list(&mut self, _path: &str) -> Result<Vec<Entry>, ListError> {
+        listing(self.alloc, &["d"], true)
+    }
+}
+
+/// Every listing answers a file `b` and then a file `a`.
+#[derive(Drop)]
+pub struct Descending {
+    /// Where its entries are made.
+    pub alloc: Global,
+}
+
+impl Liar for Descending {
+    type Alloc = Global;
+
+    fn look(&mut self, _path: &str) -> Result<Look, AllocError> {
+        Ok(Look::Dir)
+    }
+
+    fn list(&mut self, _path: &str) -> Result<Vec<Entry>, ListError> {
+        listing(self.alloc, &["b", "a"], false)
+    }
+}
+
+/// Every answer is out of memory.
+#[derive(Drop)]
+pub struct NoMemory;
+
+impl Liar for NoMemory {
+    type Alloc = Global;
+
+    fn look(&mut self, _path: &str) -> Result<Look, AllocError> {
+        Err(AllocError)
+    }
+
+    fn list(&mut self, _path: &str) -> Result<Vec<Entry>, ListError> {
+        Err(ListError::Memory)
+    }
+}
+
+/// Counts its calls in a place that it is lent. There is nothing in it.
+#[derive(Drop)]
+pub struct Counting<'a> {
+    /// Where its listings are made.
+    pub alloc: Global,
+    /// How many calls there were.
+    pub calls: &'a Cell<u64>,
+}
+
+impl Counting<'_> {
+    fn count(&self) {
+        self.calls.set(self.calls.get().wrapping_add(1));
+    }
+}
+
+impl Liar for Counting<'_> {
+    type Alloc = Global;
+
+    fn look(&mut self, _path: &str) -> Result<Look, AllocError> {
+        self.count();
+        Ok(Look::Missing)
+    }
+
+    fn list(&mut self, _path: &str) -> Result<Vec<Entry>, ListError> {
+        self.count();
+        Ok(Vec::new(self.alloc))
+    }
+}
+
+/// Every path is a directory's. The first listing hands out entries that were made before, and takes no memory. The
+/// later ones are empty.
+#[derive(Drop)]
+pub struct Ready<A: Allocator + Copy> {
+    alloc: A,
+    entries: Option<Vec<Entry<A>, A>>,
+}
+
+impl<A: Allocator + Copy> Ready<A> {
+    /// A directory of so many files, which are named by five digits.
+    pub fn files(alloc: A, count: u32) -> Result<Self, ListError> {
+        let mut entries = Vec::new(alloc);
+        for number in 0..count {
+            let Ok(name) = format!(in alloc; "{number:05}") else {
+                return Err(ListError::Memory);
+            };
+            add(alloc, &mut entries, name.as_str(), false)?;
+        }
+        Ok(Ready {
+            alloc,
+            entries: Some(entries),
+        })
+    }
+}
+
+impl<A: Allocator + Copy> Liar for Ready<A> {
+    type Alloc = A;
+
+    fn look(&mut self, _path: &str) -> Result<Look, AllocError> {
+        Ok(Look::Dir)
+    }
+
+    fn list(&mut self, _path: &str) -> Result<Vec<Entry<A>, A>, ListError> {
+        match self.entries.take() {
+            Some(entries) => Ok(entries),
+            None => Ok(Vec::new(self.alloc)),
+        }
+    }
+}
+
+/// A tree in memory whose listing of one path fails with the kind `InvalidData`, as a directory does on a disk where a
+/// name in it is no text.
+#[derive(Drop)]
+pub struct Unreadable {
+    /// The tree that answers all else.
+    pub tree: MemTree,
+    /// The path that cannot be listed.
+    pub path: &'static str,
+}
+
+impl Liar for Unreadable {
+    type Alloc = Global;
+
+    fn look(&mut self, path: &str) -> Result<Look, AllocError> {
+        self.tree.look(path)
+    }
+
+    fn list(&mut self, path: &str) -> Result<Vec<Entry>, ListError> {
+        if path == self.path {
+            return Err(ListError::Read(io::Error::from(ErrorKind::InvalidData)));
+        }
+        self.tree.list(path)
+    }
+}
