@@ -1,2 +1,3 @@
+pub mod DiskLemmas
 pub mod Examples
 pub mod ListingLemmas
