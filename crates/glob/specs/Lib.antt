@@ -20,3 +20,4 @@ pub use Rattle.glob_walk.specs.Goal
 pub use Rattle.glob_walk.specs.Listing
 pub use Rattle.glob_walk.specs.Marks
 pub use Rattle.glob_walk.specs.Order
+pub use Rattle.glob_walk.specs.Walks

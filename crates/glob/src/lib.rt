@@ -24,4 +24,6 @@ pub use glob_pattern::{
     Judge, MatchOptions, Pattern, PatternError, PatternRefusal, Shape, laws, run_positions,
 };
 pub use glob_tree::{Asks, Entry, ListError, Look, MemTree, Name, Tree, TreeRefusal};
-pub use glob_walk::{Disk, GlobCause, GlobError, GlobResult};
+pub use glob_walk::{
+    Disk, End, GlobCause, GlobError, GlobResult, Paths, Walk, glob, glob_in, glob_with, walk_in,
+};

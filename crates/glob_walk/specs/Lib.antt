@@ -5,4 +5,6 @@ pub mod Goal
 pub mod Listing
 pub mod Marks
 pub mod Order
+pub mod Private
+pub mod Walks
 pub mod Words

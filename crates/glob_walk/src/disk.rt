@@ -1,7 +1,11 @@
 //! The real file system.
-ghost use Rattle.std.specs.Prelude.{◌≡◌, ℕ, ◌+◌, None};
+ghost use Rattle.std.specs.Prelude.{◌≡◌, ℕ, ◌+◌, ◌-◌, ◌^◌, None, IfOk, IfErr};
 ghost use Rattle.glob_tree.specs.Answers.{entry_count};
+ghost use Rattle.glob_walk.specs.Components.{walk_fault};
+ghost use Rattle.glob_walk.specs.Walks.{IsFresh, RefusesWith};
 
+use crate::paths::{Paths, glob_in};
+use glob_pattern::{MatchOptions, PatternRefusal};
 use glob_tree::{Asks, Entry, ListError, Look, Name, Tree};
 use std::alloc::{AllocError, Allocator, Global};
 use std::fs::{Files, Metadata};
@@ -144,6 +148,36 @@ impl<R: Files, A: Allocator + Copy> Disk<R, A> {
             None => Ok(false),
         }
     }
+}
+
+/// Walks the file system that `rt` reaches after the components of a pattern, as [`glob_in`](crate::glob_in) does over a
+/// [`Disk`], with the options of `MatchOptions::new()` and no limit that a walk can reach.
+///
+/// `glob(rt, alloc, "src/*.rs")` gives `src/lib.rs` and `src/walk.rs`, in this order, where these files are there.
+pub fn glob<R: Files + Drop, A: Allocator + Copy>(
+    rt: R,
+    alloc: A,
+    pattern: &str,
+) -> Result<Paths<Disk<R, A>>, PatternRefusal>
+    ensures accepted { IfOk result (λ _. walk_fault pattern.now ≡ None) }
+    ensures refused { IfErr result (RefusesWith (walk_fault pattern.now)) }
+    ensures fresh { IfOk result (IsFresh 0 (2 ^ 64 - 1)) }
+{
+    glob_with(rt, alloc, pattern, MatchOptions::new())
+}
+
+/// As [`glob`], with these options.
+pub fn glob_with<R: Files + Drop, A: Allocator + Copy>(
+    rt: R,
+    alloc: A,
+    pattern: &str,
+    options: MatchOptions,
+) -> Result<Paths<Disk<R, A>>, PatternRefusal>
+    ensures accepted { IfOk result (λ _. walk_fault pattern.now ≡ None) }
+    ensures refused { IfErr result (RefusesWith (walk_fault pattern.now)) }
+    ensures fresh { IfOk result (IsFresh 0 (2 ^ 64 - 1)) }
+{
+    glob_in(alloc, Disk::new(rt, alloc), pattern, options, u64::MAX)
 }
 
 /// The metadata, or `None` where there is none to be had.

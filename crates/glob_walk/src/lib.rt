@@ -3,6 +3,21 @@
 
 mod disk;
 mod error;
+mod frame;
+mod meter;
+mod part;
+mod path_text;
+mod paths;
+mod plan;
+mod same_text;
+mod stack;
+mod task;
+#[cfg(test)]
+mod tests;
+mod walk;
+mod walker;
 
-pub use disk::Disk;
+pub use disk::{Disk, glob, glob_with};
 pub use error::{GlobCause, GlobError, GlobResult};
+pub use paths::{Paths, glob_in};
+pub use walk::{End, Walk, walk_in};

@@ -1,0 +1,83 @@
+-- What is made of an entry that is met.
+use Rattle.std.proofs.Common.{◌≡◌, ℕ, ◌+◌, Bool, true, false, cond, not, ◌&&◌, ◌||◌, List, [], ◌∷◌, ◌++◌, drop, Option, Some, None, refl, ap, sym, ◌∙◌, arith}
+use Rattle.std.proofs.lemmas.Bool.{and_parts, cond-true, cond-false}
+use Rattle.glob_text.specs.Text.{Text}
+use Rattle.glob_text.specs.Characters.{dot}
+use Rattle.glob_tree.specs.Paths.{child}
+use Rattle.glob_text.specs.Pieces.{begins_with}
+use Rattle.glob_walk.specs.Marks.{Mark, Give, Found}
+use Rattle.glob_tree.specs.Content.{Content, DirEntry}
+use Rattle.glob_walk.specs.Components.{matches_name}
+use Rattle.glob_walk.specs.Listing.{enter, meet, match_at, is_entered}
+use Rattle.glob_pattern.specs.declared.options.MatchOptions.{MatchOptions}
+use Rattle.glob_walk.specs.declared.plan.Plan.{Plan}
+use Rattle.glob_walk.specs.Private.Tasks.{enter_from}
+use Rattle.glob_walk.specs.Private.Frames.{first_of, first_part, met_marks}
+
+module _ (c : Content) (o : MatchOptions) (dirs : Bool) where
+  pub enter-end : (path : Text) (d : Bool) → enter c o dirs [] path d ≡ cond (not dirs || d) (Give (Found path) ∷ []) []
+  unfolding enter
+  enter-end path d = refl
+
+  pub meet-end : (path name : Text) (d : Bool) → meet c o dirs [] path name d ≡ cond (is_entered o name d) (Give (Found path) ∷ []) []
+  unfolding meet
+  meet-end path name d = refl
+
+  pub meet-next : (t : Text) (ts : List Text) (path name : Text) (d : Bool) → meet c o dirs (t ∷ ts) path name d ≡ match_at o (enter c o dirs ts) t path name d
+  unfolding meet
+  meet-next t ts path name d = refl
+
+pub is_entered-directory : (o : MatchOptions) (name : Text) (d : Bool) → is_entered o name d ≡ true → d ≡ true
+is_entered-directory o name d h = (and_parts d (not (o.require_literal_leading_dot && begins_with dot name)) h).0
+
+or_true : (b : Bool) → (b || true) ≡ true
+or_true true = refl
+or_true false = refl
+
+matched : {A : Type 0} (c : Content) (plan : Plan A) (t : Text) (next : ℕ) (path name : Text) (d : Bool) (b : Bool)
+    → cond b (enter_from c plan next (child path name) d) [] ≡ met_marks c plan path (name, d) (cond b (Some next) None)
+matched c plan t next path name d true = refl
+matched c plan t next path name d false = refl
+
+-- the component is asked
+pub first_match : {A : Type 0} (c : Content) (plan : Plan A) (part : ℕ) (path name : Text) (d : Bool) (t : Text)
+    → drop part plan.parts.items ≡ t ∷ drop (part + 1) plan.parts.items
+    → first_part c plan false part path (name, d) ≡ met_marks c plan path (name, d) (cond (matches_name plan.options t name) (Some (part + 1)) None)
+first_match c plan part path name d t e =
+    ap (λ ts. first_of c plan.options plan.directories false ts path (name, d)) e ∙ matched c plan t (part + 1) path name d (matches_name plan.options t name)
+
+-- the component after the run is asked
+pub first_in_run : {A : Type 0} (c : Content) (plan : Plan A) (part : ℕ) (path name : Text) (d : Bool) (r t : Text)
+    → drop part plan.parts.items ≡ r ∷ drop (part + 1) plan.parts.items
+    → drop (part + 1) plan.parts.items ≡ t ∷ drop (part + 1 + 1) plan.parts.items
+    → first_part c plan true part path (name, d) ≡ met_marks c plan path (name, d) (cond (matches_name plan.options t name) (Some (part + 2)) None)
+first_in_run c plan part path name d r t e f =
+    let two : part + 1 + 1 ≡ part + 2 = omega arith in
+    ap (λ ts. first_of c plan.options plan.directories true ts path (name, d)) e
+    ∙ ap (λ ts. meet c plan.options plan.directories ts (child path name) name d) f
+    ∙ meet-next c plan.options plan.directories t (drop (part + 1 + 1) plan.parts.items) (child path name) name d
+    ∙ matched c plan t (part + 1 + 1) path name d (matches_name plan.options t name)
+    ∙ ap (λ n. met_marks c plan path (name, d) (cond (matches_name plan.options t name) (Some n) None)) two
+
+-- the run is the last component
+pub first_at_end : {A : Type 0} (c : Content) (plan : Plan A) (part : ℕ) (path name : Text) (d : Bool) (r : Text)
+    → drop part plan.parts.items ≡ r ∷ drop (part + 1) plan.parts.items
+    → drop (part + 1) plan.parts.items ≡ []
+    → first_part c plan true part path (name, d) ≡ met_marks c plan path (name, d) (cond (is_entered plan.options name d) (Some (part + 1)) None)
+first_at_end c plan part path name d r e f =
+    ap (λ ts. first_of c plan.options plan.directories true ts path (name, d)) e
+    ∙ ap (λ ts. meet c plan.options plan.directories ts (child path name) name d) f
+    ∙ meet-end c plan.options plan.directories (child path name) name d
+    ∙ by_test (is_entered plan.options name d) refl
+  where
+    by_test : (b : Bool) → is_entered plan.options name d ≡ b
+        → cond b (Give (Found (child path name)) ∷ []) [] ≡ met_marks c plan path (name, d) (cond b (Some (part + 1)) None)
+    by_test true h = sym (ap (λ ts. enter c plan.options plan.directories ts (child path name) d) f
+        ∙ enter-end c plan.options plan.directories (child path name) d
+        ∙ cond-true (not plan.directories || d) (Give (Found (child path name)) ∷ []) []
+        (ap (λ x. not plan.directories || x) (is_entered-directory plan.options name d h) ∙ or_true (not plan.directories)))
+    by_test false h = refl
+
+pub first_of_none : {A : Type 0} (c : Content) (plan : Plan A) (run : Bool) (part : ℕ) (path name : Text) (d : Bool)
+    → drop part plan.parts.items ≡ [] → first_part c plan run part path (name, d) ≡ []
+first_of_none c plan run part path name d e = ap (λ ts. first_of c plan.options plan.directories run ts path (name, d)) e

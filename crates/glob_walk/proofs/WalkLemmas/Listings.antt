@@ -1,0 +1,66 @@
+-- What a tree lists, in order.
+use Rattle.std.proofs.Common.{◌≡◌, ℕ, ◌+◌, ◌-◌, ◌<◌, ◌≤◌, Bool, true, false, List, [], ◌∷◌, length, get_or, Option, Some, None, refl, ap, sym, subst, ◌∙◌, arith}
+use Rattle.std.specs.Prelude.{map}
+use Rattle.std.specs.List.Sorted.{IsPermutation, IsSortedByKey}
+use Rattle.std.specs.Cmp.Lexicographic.{slice_cmp}
+use Rattle.std.specs.Ordering.{nat_cmp, is_lt}
+use Rattle.std.proofs.lemmas.List.{get_or-map, length-map}
+use Rattle.std.proofs.lemmas.List.Sorted.{IsPermutation-map, IsPermutation-trans, length_permutation}
+use Rattle.glob_text.specs.Text.{Text}
+use Rattle.glob_tree.specs.Content.{Content, Key, DirEntry, ListAnswer, Entries, Fails, NoDirectory, list_result, list_found, list_of, kind_at, resolve, children, sorted_entries}
+use Rattle.glob_tree.specs.Answers.{entries_of, IsListAnswer}
+use Rattle.glob_tree.specs.declared.tree.Entry.{Entry}
+use Rattle.glob_tree.specs.declared.tree.Kind.{Kind}
+use Rattle.glob_tree.specs.declared.tree.Kind.TheVariants.{Dir, Shut, Other}
+use Rattle.glob_tree.proofs.ContentLemmas.Contents.{IsContent}
+use Rattle.glob_tree.proofs.ContentLemmas.Sorting.{AreApart, children_apart, sorted_is_ascending}
+use Rattle.glob_walk.specs.Private.Meters.{IsInOrder, IsCut}
+
+-- no name stands twice in what is list_result
+pub AreApart-list_result : (c : Content) → IsContent c → (path : Text) (es : List DirEntry) → list_result c path ≡ Entries es → AreApart es
+unfolding list_result
+AreApart-list_result c w path es h = of_key (resolve c path) h
+  where
+    of_kind : (k : Key) (o : Option Kind) → list_of c k o ≡ Entries es → AreApart es
+    of_kind k None e = absurd (cc)
+    of_kind k (Some Dir) e = let same : children c k ≡ es = cc in subst AreApart same (children_apart c w k)
+    of_kind k (Some (Shut kind)) e = absurd (cc)
+    of_kind k (Some Other) e = absurd (cc)
+
+    of_key : (o : Option Key) → list_found c o ≡ Entries es → AreApart es
+    of_key None e = absurd (cc)
+    of_key (Some k) e = of_kind k (kind_at c k) e
+
+sorted_listed : {A : Type 0} (es : List (Entry A)) → IsSortedByKey (λ e. e.name) (slice_cmp nat_cmp) es → IsSortedByKey (λ e. e.0) (slice_cmp nat_cmp) (entries_of es)
+sorted_listed {A} [] up k d low high = absurd (omega (arith, high))
+sorted_listed {A} (e ∷ es) up k d low high =
+    let f : Entry A → DirEntry = λ x. (x.name, x.is_dir) in
+    let within : k + 1 < length (e ∷ es) = simp length-map at high in
+    let later = get_or-map f (e ∷ es) (k + 1) e d within in
+    let first = get_or-map f (e ∷ es) k e d (omega (arith, within)) in
+    ap (λ x. is_lt (slice_cmp nat_cmp x.0 (get_or (map f (e ∷ es)) k d).0)) later
+    ∙ ap (λ x. is_lt (slice_cmp nat_cmp (get_or (e ∷ es) (k + 1) e).name x.0)) first
+    ∙ up k e low within
+
+pub in_order : {A : Type 0} (c : Content) → IsContent c → (path : Text) (es sorted : List (Entry A)) → IsListAnswer (list_result c path) (entries_of es)
+    → IsPermutation es sorted → IsSortedByKey (λ e. e.name) (slice_cmp nat_cmp) sorted → IsInOrder (list_result c path) (entries_of sorted)
+in_order {A} c w path es sorted answer moved up = of_answer (list_result c path) refl answer
+  where
+    of_answer : (a : ListAnswer) → list_result c path ≡ a → IsListAnswer a (entries_of es) → IsInOrder a (entries_of sorted)
+    of_answer (Entries xs) e h =
+        let f : Entry A → DirEntry = λ x. (x.name, x.is_dir) in
+        sorted_is_ascending xs (entries_of sorted) (AreApart-list_result c w path xs e)
+        (IsPermutation-trans xs (entries_of es) (entries_of sorted) h (IsPermutation-map f es sorted moved)) (sorted_listed sorted up)
+    of_answer (Fails kind) e h = h
+    of_answer NoDirectory e h = tt
+
+pub is_cut : {A : Type 0} (c : Content) (path : Text) (es : List (Entry A)) (spent limit : ℕ) → IsListAnswer (list_result c path) (entries_of es)
+    → limit - (spent + 1) < length es → IsCut (list_result c path) spent limit
+is_cut {A} c path es spent limit answer few = of_answer (list_result c path) answer
+  where
+    of_answer : (a : ListAnswer) → IsListAnswer a (entries_of es) → IsCut a spent limit
+    of_answer (Entries xs) h =
+        let f : Entry A → DirEntry = λ x. (x.name, x.is_dir) in
+        omega (arith, few, simp length-map at (length_permutation {X = DirEntry} xs (entries_of es) h))
+    of_answer (Fails kind) h = absurd h
+    of_answer NoDirectory h = tt

@@ -1,0 +1,205 @@
+-- What comes of a directory that is list_result.
+use Rattle.std.proofs.Common.{◌≡◌, ℕ, zero, suc, ◌+◌, ◌-◌, ◌<◌, ◌≤◌, Bool, true, false, cond, List, [], ◌∷◌, ◌++◌, length, drop, replicate, refl, ap, sym, subst, ◌∙◌, arith, append_assoc}
+use Rattle.std.specs.Prelude.{map, flat_map, Contains}
+use Rattle.std.specs.Path.{cur_dir, parent_dir}
+use Rattle.std.specs.declared.io.ErrorKind.{ErrorKind}
+use Rattle.glob_text.specs.Text.{Text}
+use Rattle.glob_text.specs.Characters.{dot}
+use Rattle.glob_tree.specs.Paths.{child}
+use Rattle.glob_text.specs.Pieces.{begins_with}
+use Rattle.glob_walk.specs.Marks.{Mark, Work, Give, Unread}
+use Rattle.glob_tree.specs.Content.{Content, Key, DirEntry, ListAnswer, Entries, Fails, NoDirectory, list_result, look_result, sorted_entries, insert_entry, is_before, children}
+use Rattle.glob_walk.specs.Components.{Recursive, Wild, component_kind}
+use Rattle.glob_walk.specs.Listing.{enter, meet, match_at, is_entered, list_directory, after_listing, special_names, special_name}
+use Rattle.glob_tree.specs.Looks.{is_directory}
+use Rattle.glob_pattern.specs.declared.options.MatchOptions.{MatchOptions}
+use Rattle.glob_tree.proofs.ContentLemmas.Contents.{IsContent}
+use Rattle.glob_tree.proofs.ContentLemmas.Directories.{LeadsTo-from_looked, ListsAs, LeadsTo, LeadsTo-list_result, is_directory-look_result, ListsAs-from_leads, Read, Unreadable}
+use Rattle.glob_walk.proofs.ListingLemmas.Descending.{enter-wild, enter-recursive}
+use Rattle.glob_walk.specs.declared.plan.Plan.{Plan}
+use Rattle.glob_walk.specs.declared.frame.Place.{Place}
+use Rattle.glob_walk.specs.declared.frame.Place.TheVariants.{Parent, At}
+use Rattle.glob_walk.specs.Private.Tasks.{enter_from, IsOpened}
+use Rattle.glob_walk.specs.Private.Frames.{first_of, entry_marks, entries_marks, special_marks, special_after, place_marks, first_place, IsEntrySound}
+use Rattle.glob_walk.specs.Private.Meters.{IsInOrder, IsCut}
+use Rattle.glob_tree.specs.Answers.{IsListFault}
+use Rattle.glob_tree.proofs.ContentLemmas.Sorting.{Contains-sorted_entries}
+use Rattle.glob_walk.specs.Private.Turns.{works, Charges, StopsAt}
+use Rattle.glob_walk.proofs.WalkLemmas.Stepping.{append_none}
+
+works_replicate : (n : ℕ) (path : Text) → replicate n (Work path) ≡ works (replicate n path)
+works_replicate zero path = refl
+works_replicate (suc n) path = ap (λ ms. Work path ∷ ms) (works_replicate n path)
+
+second_of : Content → MatchOptions → Bool → Bool → List Text → Text → DirEntry → List Mark
+second_of c o dirs false ts path e = []
+second_of c o dirs true ts path e = cond (is_entered o e.0 e.1) (enter c o dirs ts (child path e.0) true) []
+
+-- what stands before the entries
+before : Content → MatchOptions → Bool → Bool → List Text → Text → List Mark
+before c o dirs run [] path = []
+before c o dirs false (t ∷ ts) path = special_names c o (enter c o dirs ts) t path
+before c o dirs true (t ∷ ts) path = []
+
+module _ (c : Content) (w : IsContent c) (o : MatchOptions) (dirs : Bool) where
+  -- the directory is list_result, and each entry has its two parts
+  opened : (run : Bool) (ts : List Text) (path : Text) → IsOpened run ts → is_directory (look_result c path) ≡ true
+      → enter c o dirs ts path true
+      ≡ list_directory c path (before c o dirs run ts path) (λ name d. first_of c o dirs run ts path (name, d) ++ second_of c o dirs run ts path (name, d))
+  unfolding before second_of
+  opened run [] path h d = absurd h
+  opened false (t ∷ ts) path h d =
+      enter-wild c o dirs t ts path h
+      ∙ ap (λ each. list_directory c path (special_names c o (enter c o dirs ts) t path) each)
+      (λ i name d. sym (append_none (match_at o (enter c o dirs ts) t (child path name) name d)) i)
+  opened true (t ∷ ts) path h d =
+      let (k, at) = LeadsTo-from_looked c path d in
+      enter-recursive c o dirs w t ts path k h.0 h.1 at
+
+length-insert_entry : (e : DirEntry) (es : List DirEntry) → length (insert_entry e es) ≡ suc (length es)
+length-insert_entry e [] = refl
+length-insert_entry e (f ∷ es) = by_test (is_before e f) (length-insert_entry e es)
+  where
+    by_test : (b : Bool) → length (insert_entry e es) ≡ suc (length es) → length (cond b (e ∷ f ∷ es) (f ∷ insert_entry e es)) ≡ suc (suc (length es))
+    by_test true h = refl
+    by_test false h = ap suc h
+
+pub length-sorted_entries : (es : List DirEntry) → length (sorted_entries es) ≡ length es
+length-sorted_entries [] = refl
+length-sorted_entries (e ∷ es) = length-insert_entry e (sorted_entries es) ∙ ap suc (length-sorted_entries es)
+
+length-replicate : {X : Type 0} (n : ℕ) (x : X) → length (replicate n x) ≡ n
+length-replicate zero x = refl
+length-replicate (suc n) x = ap suc (length-replicate n x)
+
+replicate_split : {X : Type 0} (k m : ℕ) (x : X) → replicate (k + suc m) x ≡ replicate k x ++ (x ∷ replicate m x)
+replicate_split zero m x = let e : 0 + suc m ≡ suc m = omega arith in rw e refl
+replicate_split (suc k) m x = let e : suc k + suc m ≡ suc (k + suc m) = omega arith in rw e (ap (λ xs. x ∷ xs) (replicate_split k m x))
+
+works-append : (ps qs : List Text) → works (ps ++ qs) ≡ works ps ++ works qs
+works-append [] qs = refl
+works-append (p ∷ ps) qs = ap (λ ms. Work p ∷ ms) (works-append ps qs)
+
+-- the limit does not reach all of the units
+pub stops_within : (n : ℕ) (path : Text) (rest : List Mark) (spent limit : ℕ) → spent ≤ limit → limit < spent + suc n
+    → StopsAt (works (replicate (suc n) path) ++ rest) spent path limit
+stops_within n path rest spent limit h few =
+    let k : ℕ = limit - spent in
+    let e : suc n ≡ k + suc (n - k) = omega (arith, h, few) in
+    record {
+      rest = works (replicate (n - k) path) ++ rest;
+      charges = record {
+        paths = replicate k path;
+        front = ap (λ m. works (replicate m path) ++ rest) e ∙ ap (λ ps. works ps ++ rest) (replicate_split k (n - k) path)
+            ∙ ap (λ ms. ms ++ rest) (works-append (replicate k path) (path ∷ replicate (n - k) path))
+            ∙ append_assoc (works (replicate k path)) (Work path ∷ works (replicate (n - k) path)) rest;
+        units = omega (arith, h, length-replicate k path);
+      };
+    }
+
+module _ {A : Type 0} (c : Content) (w : IsContent c) (plan : Plan A) (run : Bool) (part : ℕ) (path : Text) (opens : IsOpened run (drop part plan.parts.items)) (d : is_directory (look_result c path) ≡ true) where
+  each : Text → Bool → List Mark
+  each name e = first_of c plan.options plan.directories run (drop part plan.parts.items) path (name, e) ++ second_of c plan.options plan.directories run (drop part plan.parts.items) path (name, e)
+
+  leading : List Mark
+  leading = before c plan.options plan.directories run (drop part plan.parts.items) path
+
+  lists : (a : ListAnswer) → list_result c path ≡ a → enter_from c plan part path true ≡ Work path ∷ after_listing path leading each a
+  unfolding leading each
+  lists a is = opened c w plan.options plan.directories run (drop part plan.parts.items) path opens d
+      ∙ ap (λ b. Work path ∷ after_listing path leading each b) is
+
+  -- what stands before the entries is told by the place
+  placed : (es : List DirEntry) → leading ++ flat_map (λ e. each e.0 e.1) es ≡ place_marks c plan run part path es (first_place run (drop part plan.parts.items))
+  unfolding leading each before second_of
+  placed es = by_run run (drop part plan.parts.items) refl
+    where
+      parts_marks : Bool → List Text → List Mark
+      parts_marks r ts = flat_map (λ e. first_of c plan.options plan.directories r ts path e ++ second_of c plan.options plan.directories r ts path e) es
+
+      by_test : (b : Bool) (xs ys zs : List Mark) (t : Text) (ts : List Text)
+          → special_name c plan.options (enter c plan.options plan.directories ts) t path parent_dir ≡ special_marks c plan part path parent_dir
+          → special_name c plan.options (enter c plan.options plan.directories ts) t path cur_dir ≡ special_marks c plan part path cur_dir
+          → zs ≡ entries_marks c plan false part path es
+          → cond b (special_name c plan.options (enter c plan.options plan.directories ts) t path parent_dir ++ special_name c plan.options (enter c plan.options plan.directories ts) t path cur_dir) [] ++ zs
+          ≡ place_marks c plan false part path es (cond b Parent (At 0))
+      by_test true xs ys zs t ts p q r =
+          append_assoc (special_name c plan.options (enter c plan.options plan.directories ts) t path parent_dir) (special_name c plan.options (enter c plan.options plan.directories ts) t path cur_dir) zs
+          ∙ (λ i. p i ++ (q i ++ r i))
+      by_test false xs ys zs t ts p q r = r
+
+      by_run : (r : Bool) (ts : List Text) → drop part plan.parts.items ≡ ts → before c plan.options plan.directories r ts path ++ parts_marks r ts ≡ place_marks c plan r part path es (first_place r ts)
+      by_run true [] q = ap (λ ts. parts_marks true ts) (sym q)
+      by_run true (t ∷ ts) q = ap (λ ts. parts_marks true ts) (sym q)
+      by_run false [] q = ap (λ ts. parts_marks false ts) (sym q)
+      by_run false (t ∷ ts) q = by_test (begins_with dot t) [] [] (parts_marks false (t ∷ ts)) t ts
+          (ap (λ us. special_after c plan.options plan.directories us path parent_dir) (sym q))
+          (ap (λ us. special_after c plan.options plan.directories us path cur_dir) (sym q))
+          (ap (λ us. parts_marks false us) (sym q))
+
+  -- a directory that is read, or one that is not
+  by_listing : {P : Type 0} → ((es : List DirEntry) → list_result c path ≡ Entries es → P) → ((kind : ErrorKind) → list_result c path ≡ Fails kind → P) → P
+  by_listing {P} read fails = let (k, at) = LeadsTo-from_looked c path d in of_answer k (ListsAs-from_leads c path k at)
+    where
+      of_answer : (k : Key) → ListsAs c path k → P
+      of_answer k (Read held is) = read (children c k) is
+      of_answer k (Unreadable kind held is) = fails kind is
+
+  pub opened_fault : (kind : ErrorKind) → IsListFault (list_result c path) kind → enter_from c plan part path true ≡ Work path ∷ Give (Unread path kind) ∷ []
+  opened_fault kind fault = by_listing
+      (λ es is. absurd (subst (λ a. IsListFault a kind) is fault))
+      (λ wanted is. lists (Fails wanted) is ∙ ap (λ x. Work path ∷ Give (Unread path x) ∷ []) (sym (subst (λ a. IsListFault a kind) is fault)))
+
+  -- the frame's marks, after the units of the listing
+  pub opened_entries : (answer : List DirEntry) → IsInOrder (list_result c path) answer
+      → enter_from c plan part path true ≡ works (replicate (suc (length answer)) path) ++ place_marks c plan run part path answer (first_place run (drop part plan.parts.items))
+  opened_entries answer order = by_listing
+      (λ es is.
+      let flat : List Mark = flat_map (λ e. each e.0 e.1) (sorted_entries es) in
+      lists (Entries es) is
+      ∙ ap (λ ms. Work path ∷ ms) (append_assoc (replicate (length es) (Work path)) leading flat)
+      ∙ ap (λ ms. Work path ∷ (ms ++ (leading ++ flat))) (works_replicate (length es) path)
+      ∙ ap (λ n. Work path ∷ (works (replicate n path) ++ (leading ++ flat))) (sym (length-sorted_entries es))
+      ∙ ap (λ ms. Work path ∷ (works (replicate (length (sorted_entries es)) path) ++ ms)) (placed (sorted_entries es))
+      ∙ ap (λ as'. works (replicate (suc (length as')) path) ++ place_marks c plan run part path as' (first_place run (drop part plan.parts.items))) (sym (subst (λ a. IsInOrder a answer) is order)))
+      (λ kind is. absurd (subst (λ a. IsInOrder a answer) is order))
+
+  pub opened_cut : (rest : List Mark) (spent limit : ℕ) → spent ≤ limit → IsCut (list_result c path) spent limit → StopsAt (enter_from c plan part path true ++ rest) spent path limit
+  opened_cut rest spent limit h cut = by_listing
+      (λ es is.
+      let after : List Mark = leading ++ flat_map (λ e. each e.0 e.1) (sorted_entries es) in
+      let few : limit < spent + 1 + length es = subst (λ a. IsCut a spent limit) is cut in
+      subst (λ ms. StopsAt ms spent path limit)
+      (sym (append_assoc (works (replicate (suc (length es)) path)) after rest)
+      ∙ ap (λ ms. ms ++ rest)
+      (ap (λ ms. Work path ∷ (ms ++ after)) (sym (works_replicate (length es) path))
+      ∙ sym (lists (Entries es) is ∙ ap (λ ms. Work path ∷ ms) (append_assoc (replicate (length es) (Work path)) leading (flat_map (λ e. each e.0 e.1) (sorted_entries es))))))
+      (stops_within (length es) path (after ++ rest) spent limit h (omega (arith, few))))
+      (λ kind is.
+      let few : limit < spent + 1 = subst (λ a. IsCut a spent limit) is cut in
+      subst (λ ms. StopsAt ms spent path limit)
+      (ap (λ ms. ms ++ rest) (sym (lists (Fails kind) is)))
+      (stops_within 0 path (Give (Unread path kind) ∷ rest) spent limit h (omega (arith, few))))
+
+  pub opened_sound : (answer : List DirEntry) → IsInOrder (list_result c path) answer → (e : DirEntry) → Contains answer e → IsEntrySound c path e
+  opened_sound answer order e in' directory =
+      let (k, at) = LeadsTo-from_looked c path d in
+      of_answer k at (ListsAs-from_leads c path k at)
+    where
+      of_answer : (k : Key) → LeadsTo c path k → ListsAs c path k → is_directory (look_result c (child path e.0)) ≡ true
+      of_answer k at (Read held is) =
+          let same : answer ≡ sorted_entries (children c k) = subst (λ a. IsInOrder a answer) is order in
+          is_directory-look_result c (child path e.0) (k ++ e.0 ∷ [])
+          (LeadsTo-list_result c w path k at e (Contains-sorted_entries (children c k) e (subst (λ es. Contains es e) same in')) directory)
+      of_answer k at (Unreadable wanted held is) = absurd (subst (λ a. IsInOrder a answer) is order)
+
+  pub opened_charges : (answer : List DirEntry) → IsInOrder (list_result c path) answer → (place : Place) (rest new : List Mark) (spent spent' : ℕ)
+      → place ≡ first_place run (drop part plan.parts.items) → new ≡ place_marks c plan run part path answer place ++ rest → spent' ≡ spent + 1 + length answer
+      → Charges (enter_from c plan part path true ++ rest) spent new spent'
+  opened_charges answer order place rest new spent spent' at is units = record {
+    paths = replicate (suc (length answer)) path;
+    front = ap (λ ms. ms ++ rest) (opened_entries answer order)
+        ∙ append_assoc (works (replicate (suc (length answer)) path)) (place_marks c plan run part path answer (first_place run (drop part plan.parts.items))) rest
+        ∙ ap (λ ms. works (replicate (suc (length answer)) path) ++ ms) (sym (is ∙ ap (λ p. place_marks c plan run part path answer p ++ rest) at));
+    units = omega (arith, units, length-replicate (length answer) path);
+  }

@@ -1,0 +1,7 @@
+pub mod Frames
+pub mod Meters
+pub mod Parts
+pub mod Stacks
+pub mod Tasks
+pub mod Turns
+pub mod Walking

@@ -1,0 +1,104 @@
+-- What the frames of a walk leave of the written listing.
+use Rattle.std.specs.Prelude.{◌≡◌, ℕ, ◌+◌, ◌-◌, ◌*◌, Bool, true, false, ◌&&◌, if◌then◌else◌, List, [], ◌∷◌, ◌++◌, length, drop, map, reverse, flat_map, Option, Some, None, string_bytes, sum_by, nat_le, Contains}
+use Rattle.std.specs.Path.{cur_dir, parent_dir}
+use Rattle.glob_text.specs.Text.{Text}
+use Rattle.glob_walk.specs.Marks.{Mark}
+use Rattle.glob_tree.specs.Content.{Content, DirEntry, look_result}
+use Rattle.glob_tree.specs.Answers.{entries_of}
+use Rattle.glob_tree.specs.Paths.{child}
+use Rattle.glob_walk.specs.Listing.{enter, meet, match_at, look_up, special_name, is_entered}
+use Rattle.glob_tree.specs.Looks.{is_there, is_directory}
+use Rattle.glob_pattern.specs.declared.options.MatchOptions.{MatchOptions}
+use Rattle.glob_walk.specs.declared.plan.Plan.{Plan}
+use Rattle.glob_walk.specs.declared.task.Task.{Task}
+use Rattle.glob_walk.specs.declared.frame.Frame.{Frame}
+use Rattle.glob_walk.specs.declared.frame.Place.{Place}
+use Rattle.glob_walk.specs.declared.frame.Place.TheVariants as place
+use Rattle.glob_walk.specs.Private.Tasks.{enter_from, next_marks, is_dotted}
+
+-- what is made of an entry that is met: the components from number `at` on follow
+abbrev pub met_marks : {A : Type 0} → Content → Plan A → Text → DirEntry → Option ℕ → List Mark
+met_marks c plan path e None = []
+met_marks c plan path e (Some at) = enter_from c plan at (child path e.0) e.1
+
+-- an entry is met: by the component, or in a run of `**` by what follows the run
+abbrev pub first_of : Content → MatchOptions → Bool → Bool → List Text → Text → DirEntry → List Mark
+first_of c o dirs run [] path e = []
+first_of c o dirs false (t ∷ ts) path e = match_at o (enter c o dirs ts) t (child path e.0) e.0 e.1
+first_of c o dirs true (t ∷ ts) path e = meet c o dirs ts (child path e.0) e.0 e.1
+
+abbrev pub first_part : {A : Type 0} → Content → Plan A → Bool → ℕ → Text → DirEntry → List Mark
+first_part c plan run part path e = first_of c plan.options plan.directories run (drop part plan.parts.items) path e
+
+-- and then a run of `**` enters it
+abbrev pub second_part : {A : Type 0} → Content → Plan A → Bool → ℕ → Text → DirEntry → List Mark
+second_part c plan false part path e = []
+second_part c plan true part path e = if is_entered plan.options e.0 e.1 then enter_from c plan part (child path e.0) true else []
+
+abbrev pub entry_marks : {A : Type 0} → Content → Plan A → Bool → ℕ → Text → DirEntry → List Mark
+entry_marks c plan run part path e = first_part c plan run part path e ++ second_part c plan run part path e
+
+abbrev pub special_after : Content → MatchOptions → Bool → List Text → Text → Text → List Mark
+special_after c o dirs [] path name = []
+special_after c o dirs (t ∷ ts) path name = special_name c o (enter c o dirs ts) t path name
+
+abbrev pub special_marks : {A : Type 0} → Content → Plan A → ℕ → Text → Text → List Mark
+special_marks c plan part path name = special_after c plan.options plan.directories (drop part plan.parts.items) path name
+
+abbrev pub entries_marks : {A : Type 0} → Content → Plan A → Bool → ℕ → Text → List DirEntry → List Mark
+entries_marks c plan run part path es = flat_map (entry_marks c plan run part path) es
+
+abbrev pub inside_marks : {A : Type 0} → Content → Plan A → Bool → ℕ → Text → List DirEntry → List Mark
+inside_marks c plan run part path [] = []
+inside_marks c plan run part path (e ∷ es) = second_part c plan run part path e ++ entries_marks c plan run part path es
+
+abbrev pub place_marks : {A : Type 0} → Content → Plan A → Bool → ℕ → Text → List DirEntry → Place → List Mark
+place_marks c plan run part path es place.Parent =
+    special_marks c plan part path parent_dir ++ (special_marks c plan part path cur_dir ++ entries_marks c plan run part path es)
+place_marks c plan run part path es place.Current = special_marks c plan part path cur_dir ++ entries_marks c plan run part path es
+place_marks c plan run part path es (place.At i) = entries_marks c plan run part path (drop i es)
+place_marks c plan run part path es (place.Inside i) = inside_marks c plan run part path (drop i es)
+
+-- what is left of a directory
+abbrev pub frame_marks : {A : Type 0} → Content → Plan A → Frame A → List Mark
+frame_marks c plan f = place_marks c plan f.run f.part (string_bytes f.path) (entries_of f.entries.items) f.place
+
+-- the steps that are left in a directory
+abbrev pub place_steps : ℕ → Place → ℕ
+place_steps n place.Parent = 2 * n + 2
+place_steps n place.Current = 2 * n + 1
+place_steps n (place.At i) = 2 * (n - i)
+place_steps n (place.Inside i) = 2 * (n - i) - 1
+
+abbrev pub steps_left : {A : Type 0} → Frame A → ℕ
+steps_left f = place_steps (length f.entries.items) f.place
+
+-- the entries that are not met
+abbrev pub place_unmet : ℕ → Place → ℕ
+place_unmet n place.Parent = n
+place_unmet n place.Current = n
+place_unmet n (place.At i) = n - i
+place_unmet n (place.Inside i) = n - i - 1
+
+abbrev pub unmet : {A : Type 0} → Frame A → ℕ
+unmet f = place_unmet (length f.entries.items) f.place
+
+abbrev pub is_done_at : ℕ → Place → Bool
+is_done_at n place.Parent = false
+is_done_at n place.Current = false
+is_done_at n (place.At i) = nat_le n i
+is_done_at n (place.Inside i) = nat_le n i
+
+abbrev pub is_done : {A : Type 0} → Frame A → Bool
+is_done f = is_done_at (length f.entries.items) f.place
+
+-- an entry that is said to be a directory is look_result at as one
+abbrev pub IsEntrySound : Content → Text → DirEntry → Type 0
+IsEntrySound c path e = e.1 ≡ true → is_directory (look_result c (child path e.0)) ≡ true
+
+pub record IsFrameSound {A : Type 0} (c : Content) (f : Frame A) : Type 0 where
+  pub entries : (e : DirEntry) → Contains (entries_of f.entries.items) e → IsEntrySound c (string_bytes f.path) e
+
+-- the place at which a directory begins
+abbrev pub first_place : Bool → List Text → Place
+first_place run ts = if run then place.At 0 else (if is_dotted ts then place.Parent else place.At 0)

@@ -1,0 +1,35 @@
+-- What is kept of a component.
+use Rattle.std.specs.Prelude.{◌≡◌, List, ℕ, Option, string_bytes, chars}
+use Rattle.std.specs.Result.{result_err}
+use Rattle.glob_text.specs.Text.{Text}
+use Rattle.glob_pattern.specs.Grammar.Faults.{Fault}
+use Rattle.glob_pattern.specs.Computing.Reading.{reading_of}
+use Rattle.glob_walk.specs.Components.{ComponentKind, Literal, Recursive, Wild, component_kind}
+use Rattle.glob_walk.specs.declared.part.Form.{Form}
+use Rattle.glob_walk.specs.declared.part.Form.TheVariants as form
+use Rattle.glob_walk.specs.declared.part.PartKind.{PartKind}
+use Rattle.glob_walk.specs.declared.part.PartKind.TheVariants as part
+
+abbrev pub kind_told : PartKind → ComponentKind
+kind_told part.Literal = Literal
+kind_told part.Recursive = Recursive
+kind_told part.Wild = Wild
+
+-- the component's text
+abbrev pub form_text : {A : Type 0} → Form A → Text
+form_text (form.Literal text) = string_bytes text
+form_text (form.Recursive pattern) = pattern
+form_text (form.Wild pattern) = pattern
+
+abbrev pub form_kind : {A : Type 0} → Form A → ComponentKind
+form_kind (form.Literal text) = Literal
+form_kind (form.Recursive pattern) = Recursive
+form_kind (form.Wild pattern) = Wild
+
+-- the kind that is kept is that of the text
+abbrev pub HasKind : {A : Type 0} → Form A → Type 0
+HasKind f = component_kind (form_text f) ≡ form_kind f
+
+-- the fault of a component
+abbrev pub component_fault : Text → Option Fault
+component_fault t = result_err (reading_of (chars t))

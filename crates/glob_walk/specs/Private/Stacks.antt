@@ -1,0 +1,49 @@
+-- What a walk has still to do, as a part of the written listing.
+use Rattle.std.specs.Prelude.{◌≡◌, ℕ, ◌+◌, ◌*◌, ◌<◌, List, [], ◌∷◌, ◌++◌, length, reverse, flat_map, Option, Some, None, sum_by}
+use Rattle.std.specs.List.{All}
+use Rattle.glob_walk.specs.Marks.{Mark}
+use Rattle.glob_tree.specs.Content.{Content}
+use Rattle.glob_walk.specs.declared.plan.Plan.{Plan}
+use Rattle.glob_walk.specs.declared.task.Task.{Task}
+use Rattle.glob_walk.specs.declared.task.Sight.{Sight}
+use Rattle.glob_walk.specs.declared.task.Sight.TheVariants as sight
+use Rattle.glob_walk.specs.declared.frame.Frame.{Frame}
+use Rattle.glob_walk.specs.declared.stack.Stack.{Stack}
+use Rattle.glob_walk.specs.Private.Tasks.{next_marks, next_ready, IsNextSound}
+use Rattle.glob_walk.specs.Private.Frames.{frame_marks, steps_left, unmet, IsFrameSound}
+
+-- the last directory first
+abbrev pub frames_marks : {A : Type 0} → Content → Plan A → List (Frame A) → List Mark
+frames_marks c plan frames = flat_map (frame_marks c plan) (reverse frames)
+
+-- what is left of the written listing
+abbrev pub left : {A : Type 0} → Content → Stack A → List Mark
+left c s = next_marks c s.plan s.next ++ frames_marks c s.plan s.frames.items
+
+abbrev pub sight_weight : Sight → ℕ
+sight_weight (sight.Unseen w) = 1
+sight_weight (sight.Seen d) = 2
+
+abbrev pub next_weight : {A : Type 0} → Option (Task A) → ℕ
+next_weight None = 0
+next_weight (Some t) = sight_weight t.sight
+
+abbrev pub frame_weight : {A : Type 0} → Frame A → ℕ
+frame_weight f = 3 * steps_left f + 1
+
+-- a bound on the turns before the next unit
+abbrev pub weight : {A : Type 0} → Stack A → ℕ
+weight s = next_weight s.next + sum_by frame_weight s.frames.items
+
+-- how many items may come before the next unit
+abbrev pub ready : {A : Type 0} → Stack A → ℕ
+ready s = next_ready s.plan s.next + sum_by unmet s.frames.items
+
+-- each directory is one of a component
+abbrev pub IsWithin : {A : Type 0} → Stack A → Type 0
+IsWithin s = All (λ f. f.part < length s.plan.parts.items) s.frames.items
+
+-- what is said to be a directory is look_result at as one
+pub record IsSound {A : Type 0} (c : Content) (s : Stack A) : Type 0 where
+  pub next : IsNextSound c s.next
+  pub frames : All (IsFrameSound c) s.frames.items

@@ -1,0 +1,73 @@
+-- What is left of the written listing.
+use Rattle.std.specs.Prelude.{◌≡◌, ℕ, ◌+◌, ◌-◌, ◌*◌, Bool, true, false, ◌&&◌, if◌then◌else◌, List, [], ◌∷◌, ◌++◌, length, drop, map, reverse, flat_map, Option, Some, None, string_bytes, nat_le}
+use Rattle.std.specs.Path.{cur_dir, parent_dir}
+use Rattle.glob_text.specs.Text.{Text}
+use Rattle.glob_walk.specs.Marks.{Mark}
+use Rattle.glob_tree.specs.Content.{Content, DirEntry, look_result}
+use Rattle.glob_tree.specs.Answers.{entries_of}
+use Rattle.glob_walk.specs.Components.{ComponentKind, Literal, Recursive, Wild, component_kind, begins_recursive}
+use Rattle.glob_tree.specs.Paths.{child}
+use Rattle.glob_text.specs.Pieces.{begins_with}
+use Rattle.glob_text.specs.Characters.{dot}
+use Rattle.glob_walk.specs.Listing.{enter, meet, match_at, look_up, special_name, is_entered}
+use Rattle.glob_tree.specs.Looks.{is_there, is_directory}
+use Rattle.glob_tree.specs.declared.tree.Look.{Look}
+use Rattle.glob_walk.specs.declared.plan.Plan.{Plan}
+use Rattle.glob_walk.specs.declared.task.Wanted.{Wanted}
+use Rattle.glob_walk.specs.declared.task.Wanted.TheVariants as wanted
+use Rattle.glob_walk.specs.declared.task.Sight.{Sight}
+use Rattle.glob_walk.specs.declared.task.Sight.TheVariants as sight
+use Rattle.glob_walk.specs.declared.task.Task.{Task}
+
+abbrev pub is_wanted : Wanted → Look → Bool
+is_wanted wanted.Any seen = true
+is_wanted wanted.Present seen = is_there seen
+is_wanted wanted.Nothing seen = false
+
+-- what comes of a path, with the components from a number on left
+abbrev pub enter_from : {A : Type 0} → Content → Plan A → ℕ → Text → Bool → List Mark
+enter_from c plan part = enter c plan.options plan.directories (drop part plan.parts.items)
+
+abbrev pub sight_marks : {A : Type 0} → Content → Plan A → ℕ → Text → Sight → List Mark
+sight_marks c plan part path (sight.Unseen w) = look_up c (is_wanted w) (enter_from c plan part) path
+sight_marks c plan part path (sight.Seen d) = enter_from c plan part path d
+
+abbrev pub task_marks : {A : Type 0} → Content → Plan A → Task A → List Mark
+task_marks c plan t = sight_marks c plan t.part (string_bytes t.path) t.sight
+
+abbrev pub next_marks : {A : Type 0} → Content → Plan A → Option (Task A) → List Mark
+next_marks c plan None = []
+next_marks c plan (Some t) = task_marks c plan t
+
+-- what is said to be a directory is look_result at as one
+abbrev pub IsSightSound : Content → Text → Sight → Type 0
+IsSightSound c path (sight.Unseen w) = Unit {0}
+IsSightSound c path (sight.Seen d) = d ≡ true → is_directory (look_result c path) ≡ true
+
+abbrev pub IsNextSound : {A : Type 0} → Content → Option (Task A) → Type 0
+IsNextSound c None = Unit {0}
+IsNextSound c (Some t) = IsSightSound c (string_bytes t.path) t.sight
+
+-- how many items may come before the next unit
+abbrev pub sight_ready : Bool → Sight → ℕ
+sight_ready last (sight.Unseen w) = 0
+sight_ready last (sight.Seen d) = if last then 1 else 0
+
+abbrev pub next_ready : {A : Type 0} → Plan A → Option (Task A) → ℕ
+next_ready plan None = 0
+next_ready plan (Some t) = sight_ready (nat_le (length plan.parts.items) t.part) t.sight
+
+-- the first component is `**`
+abbrev pub IsRun : List Text → Type 0
+IsRun [] = ⊥
+IsRun (t ∷ ts) = component_kind t ≡ Recursive
+
+-- a directory is listed for the first component: one that is matched, or the last `**` of a run
+abbrev pub IsOpened : Bool → List Text → Type 0
+IsOpened run [] = ⊥
+IsOpened false (t ∷ ts) = component_kind t ≡ Wild
+IsOpened true (t ∷ ts) = (component_kind t ≡ Recursive) × (begins_recursive ts ≡ false)
+
+abbrev pub is_dotted : List Text → Bool
+is_dotted [] = false
+is_dotted (t ∷ ts) = begins_with dot t

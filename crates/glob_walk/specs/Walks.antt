@@ -1,0 +1,143 @@
+-- A walk as contracts see it: what it holds, what its items say, and what its calls take from the written listing.
+use Rattle.std.specs.Prelude.{◌≡◌, ℕ, ◌+◌, ◌≤◌, ◌<◌, Bool, true, false, List, [], ◌∷◌, ◌++◌, length, map, Option, Some, None, option_map, Result, Ok, Err, ⊤}
+use Rattle.std.specs.IoError.{error_kind}
+use Rattle.std.specs.Path.{path_buf_bytes}
+use Rattle.std.specs.declared.path.buf.PathBuf.{PathBuf}
+use Rattle.glob_text.specs.Text.{Text}
+use Rattle.glob_pattern.specs.Grammar.Faults.{Fault}
+use Rattle.glob_pattern.specs.declared.error.PatternRefusal.{PatternRefusal}
+use Rattle.glob_pattern.specs.declared.error.PatternRefusal.TheVariants as refusal
+use Rattle.glob_tree.specs.Content.{Content}
+use Rattle.glob_tree.specs.Answers.{IsTold}
+use Rattle.glob_walk.specs.GlobErrors.{path_of, error_of, cause_of}
+use Rattle.glob_walk.specs.Marks.{Mark, Work, Give, Item, Found, Unread, items, cost, front, IsBeginning}
+use Rattle.glob_walk.specs.declared.error.GlobCause.{GlobCause}
+use Rattle.glob_walk.specs.declared.error.GlobCause.TheVariants as cause
+use Rattle.glob_walk.specs.declared.error.GlobError.{GlobError}
+use Rattle.glob_walk.specs.declared.walk.End.{End}
+use Rattle.glob_walk.specs.declared.walk.End.TheVariants as end
+
+-- a pattern with this fault, or with none, may be refused so
+abbrev pub RefusesWith : Option Fault → PatternRefusal → Type 0
+RefusesWith fault (refusal.Syntax e) = fault ≡ Some (record { place = e.pos; message = e.msg.now })
+RefusesWith fault refusal.Memory = ⊤
+
+-- What one answer of a walk says: an item of the listing, the path at which the limit was reached, or that memory was
+-- not found.
+pub data Outcome : Type 0 where
+  Gives : Item → Outcome
+  LimitAt : Text → Outcome
+  NoMemory : Outcome
+
+abbrev pub error_outcome : {A : Type 0} → GlobCause → GlobError A → Outcome
+error_outcome cause.Read e = Gives (Unread (path_of e) (error_kind (error_of e)))
+error_outcome cause.Memory e = NoMemory
+error_outcome cause.Limit e = LimitAt (path_of e)
+
+abbrev pub outcome : {A : Type 0} → Result (PathBuf A) (GlobError A) → Outcome
+outcome (Ok path) = Gives (Found (path_buf_bytes path))
+outcome (Err e) = error_outcome (cause_of e) e
+
+-- these are the items, one for one, and no refusal is among them
+abbrev pub AreItems : {A : Type 0} → List (Result (PathBuf A) (GlobError A)) → List Item → Type 0
+AreItems answers is = map outcome answers ≡ map Gives is
+
+-- what contracts see of a walk over a tree of the type X
+pub record Walking (X : Type 0) : Type 0 where
+  pub tree : X
+  pub limit : ℕ
+  -- the units of work that were charged
+  pub spent : ℕ
+  -- the items that `next` gave, a refusal too
+  pub given : ℕ
+  -- only `None` follows
+  pub over : Bool
+  -- what is left of the written listing, where the tree tells its content
+  pub left : Option (List Mark)
+
+-- a walk over the tree that has done nothing yet
+pub record IsFresh {X : Type 0} (tree : X) (limit : ℕ) (walk : Walking X) : Type 0 where
+  pub tree : walk.tree ≡ tree
+  pub limit : walk.limit ≡ limit
+  pub spent : walk.spent ≡ 0
+  pub given : walk.given ≡ 0
+  pub over : walk.over ≡ false
+
+-- a refusal, or `None`, is the last answer before `None` for good
+abbrev pub is_last : Option Outcome → Bool
+is_last None = true
+is_last (Some (Gives item)) = false
+is_last (Some (LimitAt path)) = true
+is_last (Some NoMemory) = true
+
+abbrev pub item_number : Option Outcome → ℕ
+item_number None = 0
+item_number (Some o) = 1
+
+-- the tree was asked what was charged; at a limit refusal at least that, and the limit is spent
+abbrev pub IsAsked : {X : Type 0} → (X → ℕ) → Walking X → Option Outcome → Walking X → Type 0
+IsAsked asks old (Some (LimitAt path)) new =
+    (new.spent ≡ new.limit) × (asks old.tree + new.spent ≤ asks new.tree + old.spent)
+IsAsked asks old _ new = asks new.tree + old.spent ≡ asks old.tree + new.spent
+
+-- over every tree: what one call of `next` does to the counts
+pub record Counts {X : Type 0} (asks : X → ℕ) (old : Walking X) (answer : Option Outcome) (new : Walking X) : Type 0 where
+  pub limit : new.limit ≡ old.limit
+  pub grows : old.spent ≤ new.spent
+  pub within : new.spent ≤ new.limit
+  pub given : new.given ≡ old.given + item_number answer
+  pub few : new.given ≤ new.spent + 1
+  pub asked : IsAsked asks old answer new
+  pub ends : new.over ≡ is_last answer
+  pub stays : old.over ≡ true → (answer ≡ None) × (new ≡ old)
+
+-- units of work at these paths
+abbrev pub works : List Text → List Mark
+works paths = map Work paths
+
+-- the units that were charged, and what comes after them
+pub record Charges (left : List Mark) (spent : ℕ) (after : List Mark) (spent' : ℕ) : Type 0 where
+  pub paths : List Text
+  pub front : left ≡ works paths ++ after
+  pub units : spent' ≡ spent + length paths
+
+-- the next unit is at the path, and the ones before it are charged
+pub record StopsAt (left : List Mark) (spent : ℕ) (path : Text) (spent' : ℕ) : Type 0 where
+  pub rest : List Mark
+  pub charges : Charges left spent (Work path ∷ rest) spent'
+
+-- what a call of `next` takes from the front of what was left
+abbrev pub TakesFront : (old : List Mark) → (spent : ℕ) → Option Outcome → (new : List Mark) → (spent' : ℕ) → Type 0
+TakesFront old spent None new spent' = Charges old spent [] spent'
+TakesFront old spent (Some (Gives item)) new spent' = Charges old spent (Give item ∷ new) spent'
+TakesFront old spent (Some (LimitAt path)) new spent' = StopsAt old spent path spent'
+TakesFront old spent (Some NoMemory) new spent' = ⊤
+
+-- Over a tree that tells its content: what one call of `next` takes from what is left of the written listing, as long as
+-- the walk is not over.
+pub record Takes {X : Type 0} (tells : X → Option Content) (old : Walking X) (answer : Option Outcome) (new : Walking X) (c : Content) : Type 0 where
+  pub told : IsTold (tells new.tree) c
+  pub old_left : List Mark
+  pub new_left : List Mark
+  pub had : old.left ≡ Some old_left
+  pub has : new.left ≡ Some new_left
+  pub takes : old.over ≡ false → TakesFront old_left old.spent answer new_left new.spent
+
+-- what one call of `next` does
+pub record Goes {X : Type 0} (asks : X → ℕ) (tells : X → Option Content) (old : Walking X) (answer : Option Outcome) (new : Walking X) : Type 0 where
+  pub counts : Counts asks old answer new
+  pub told : tells new.tree ≡ tells old.tree
+  pub takes : (c : Content) → IsTold (tells old.tree) c → Takes tells old answer new c
+
+-- A whole walk within a limit, over a tree that tells the listing: all of it, with its cost; or the items before the
+-- first unit that does not fit; or, without memory, a beginning of the items.
+abbrev pub IsWalk : {A : Type 0} → (listing : List Mark) → (limit : ℕ) → End → (spent : ℕ) → List (Result (PathBuf A) (GlobError A)) → Type 0
+IsWalk ms limit end.Done spent answers = (cost ms ≤ limit) × (spent ≡ cost ms) × AreItems answers (items ms)
+IsWalk ms limit end.Limit spent answers = (limit < cost ms) × (spent ≡ limit) × AreItems answers (items (front limit ms))
+IsWalk ms limit end.Memory spent answers = (is : List Item) × AreItems answers is × IsBeginning is (items ms)
+
+-- the tree was asked what the walk charged; where it ends at its limit at least that, and the limit is spent
+abbrev pub IsWalkAsked : (limit : ℕ) → (asks : ℕ) → End → (spent : ℕ) → (asks' : ℕ) → Type 0
+IsWalkAsked limit asks end.Limit spent asks' = (spent ≡ limit) × (asks + spent ≤ asks')
+IsWalkAsked limit asks end.Done spent asks' = asks' ≡ asks + spent
+IsWalkAsked limit asks end.Memory spent asks' = asks' ≡ asks + spent

@@ -1,0 +1,176 @@
+//! A directory that is gone through.
+ghost use Rattle.std.specs.Prelude.{◌≡◌, ◌+◌, ◌<◌, ◌≤◌, ◌++◌, false, IfOk, OnOk, string_bytes, if◌then◌else◌, vec_len};
+ghost use Rattle.glob_tree.specs.Content.{Content};
+ghost use Rattle.glob_text.specs.Text.{Text};
+ghost use Rattle.glob_walk.specs.Components.{matches_name as matches_text};
+ghost use Rattle.glob_walk.specs.Private.Tasks.{next_marks, next_ready, IsNextSound};
+ghost use Rattle.glob_walk.specs.Private.Frames.{first_part, second_part, met_marks, special_marks, frame_marks, is_done as is_done_frame, steps_left, unmet, IsFrameSound, IsEntrySound};
+
+use crate::part::Part;
+use crate::path_text::{child, join};
+use crate::plan::{Plan, is_entered};
+use crate::task::{Sight, Task, Wanted};
+use glob_tree::Entry;
+use std::alloc::{AllocError, Allocator};
+
+/// The place that is reached in a directory.
+#[derive(Clone, Copy, PartialEq, Eq)]
+pub enum Place {
+    Parent,
+    Current,
+    At(usize),
+    Inside(usize),
+}
+
+/// A directory whose entries are gone through in ascending order.
+#[derive(Drop)]
+pub struct Frame<A: Allocator> {
+    pub path: String<A>,
+    pub part: usize,
+    pub run: bool,
+    pub entries: Vec<Entry<A>, A>,
+    pub place: Place,
+}
+
+/// The number of the component from which the walk goes on at an entry that is met.
+#[tactic(auto, using(crate::proofs::WalkLemmas::Entering::first_match, crate::proofs::WalkLemmas::Entering::first_in_run, crate::proofs::WalkLemmas::Entering::first_at_end, crate::proofs::WalkLemmas::Entering::first_of_none))]
+fn meet<A: Allocator + Copy>(
+    plan: &Plan<A>,
+    run: bool,
+    part: usize,
+    name: &str,
+    is_dir: bool,
+) -> Result<Option<usize>, AllocError>
+    ensures { IfOk result (λ at. (c : Content) → (path : Text) → first_part c plan.now run part path (name.now, is_dir) ≡ met_marks c plan.now path (name.now, is_dir) at) }
+{
+    let Some(component) = plan.component(part) else {
+        return Ok(None);
+    };
+    if !run {
+        return match_at(plan, component, part + 1, name);
+    }
+    match plan.component(part + 1) {
+        Some(component) => match_at(plan, component, part + 2, name),
+        None if is_entered(plan.options, name, is_dir) => Ok(Some(part + 1)),
+        None => Ok(None),
+    }
+}
+
+/// The number, if the component matches the name.
+fn match_at<A: Allocator + Copy>(
+    plan: &Plan<A>,
+    component: &Part<A>,
+    next: usize,
+    name: &str,
+) -> Result<Option<usize>, AllocError>
+    ensures { IfOk result (λ at. at ≡ (if matches_text plan.now.options component.now name.now then Some next else None)) }
+{
+    if component.matches(name, plan.options)? {
+        Ok(Some(next))
+    } else {
+        Ok(None)
+    }
+}
+
+impl<A: Allocator + Copy> Frame<A> {
+    /// Whether all is done in it.
+    pub fn is_done(&self) -> bool
+        ensures { result ≡ is_done_frame self.now }
+    {
+        match self.place {
+            Place::Parent | Place::Current => false,
+            Place::At(i) | Place::Inside(i) => self.entries.len() <= i,
+        }
+    }
+
+    /// `..` or `.`, if the component matches it.
+    fn special(&self, plan: &Plan<A>, name: &str) -> Result<Option<Task<A>>, AllocError>
+        ensures marks { IfOk result (λ task. (c : Content) → special_marks c plan.now self.now.part (string_bytes self.now.path) name.now ≡ next_marks c plan.now task) }
+        ensures ready { IfOk result (λ task. next_ready plan.now task ≡ 0) }
+        ensures sound { IfOk result (λ task. (c : Content) → IsNextSound c task) }
+    {
+        let Some(component) = plan.component(self.part) else {
+            return Ok(None);
+        };
+        if !component.matches(name, plan.options)? {
+            return Ok(None);
+        }
+        Ok(Some(Task {
+            path: join(plan.alloc, self.path.as_str(), name)?,
+            part: self.part + 1,
+            sight: Sight::Unseen(Wanted::Any),
+        }))
+    }
+
+    /// What comes of an entry's name.
+    fn met(&self, plan: &Plan<A>, entry: &Entry<A>) -> Result<Option<Task<A>>, AllocError>
+        ensures marks { IfOk result (λ task. (c : Content) → first_part c plan.now self.now.run self.now.part (string_bytes self.now.path) (entry.now.name, entry.now.is_dir) ≡ next_marks c plan.now task) }
+        ensures sound { IfOk result (λ task. (c : Content) → IsEntrySound c (string_bytes self.now.path) (entry.now.name, entry.now.is_dir) → IsNextSound c task) }
+    {
+        let name = entry.name.as_str();
+        let Some(part) = meet(plan, self.run, self.part, name, entry.is_dir)? else {
+            return Ok(None);
+        };
+        Ok(Some(Task {
+            path: child(plan.alloc, self.path.as_str(), name)?,
+            part,
+            sight: Sight::Seen(entry.is_dir),
+        }))
+    }
+
+    /// A run of `**` goes on in an entry.
+    fn entered(&self, plan: &Plan<A>, entry: &Entry<A>) -> Result<Option<Task<A>>, AllocError>
+        requires { self.now.part < vec_len plan.now.parts }
+        ensures marks { IfOk result (λ task. (c : Content) → second_part c plan.now self.now.run self.now.part (string_bytes self.now.path) (entry.now.name, entry.now.is_dir) ≡ next_marks c plan.now task) }
+        ensures ready { IfOk result (λ task. next_ready plan.now task ≡ 0) }
+        ensures sound { IfOk result (λ task. (c : Content) → IsEntrySound c (string_bytes self.now.path) (entry.now.name, entry.now.is_dir) → IsNextSound c task) }
+    {
+        let name = entry.name.as_str();
+        if !self.run || !is_entered(plan.options, name, entry.is_dir) {
+            return Ok(None);
+        }
+        Ok(Some(Task {
+            path: child(plan.alloc, self.path.as_str(), name)?,
+            part: self.part,
+            sight: Sight::Seen(true),
+        }))
+    }
+
+    /// Goes to the next place, and tells what there is to do.
+    pub fn step(&mut self, plan: &Plan<A>) -> Result<Option<Task<A>>, AllocError>
+        requires going { is_done_frame self.old ≡ false }
+        requires within { self.old.part < vec_len plan.now.parts }
+        ensures marks { IfOk result (λ task. (c : Content) → frame_marks c plan.now self.old ≡ next_marks c plan.now task ++ frame_marks c plan.now self.new) }
+        ensures same { self.new ≡ record self.old { place = self.new.place } }
+        ensures falls { OnOk result (steps_left self.new < steps_left self.old) }
+        ensures ready { IfOk result (λ task. next_ready plan.now task + unmet self.new ≤ unmet self.old) }
+        ensures sound { IfOk result (λ task. (c : Content) → IsFrameSound c self.old → IsNextSound c task) }
+    {
+        match self.place {
+            Place::Parent => {
+                let task = self.special(plan, "..")?;
+                self.place = Place::Current;
+                Ok(task)
+            }
+            Place::Current => {
+                let task = self.special(plan, ".")?;
+                self.place = Place::At(0);
+                Ok(task)
+            }
+            Place::At(i) => {
+                let task = self.met(plan, &self.entries[i])?;
+                self.place = if self.run {
+                    Place::Inside(i)
+                } else {
+                    Place::At(i + 1)
+                };
+                Ok(task)
+            }
+            Place::Inside(i) => {
+                let task = self.entered(plan, &self.entries[i])?;
+                self.place = Place::At(i + 1);
+                Ok(task)
+            }
+        }
+    }
+}

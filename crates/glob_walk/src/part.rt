@@ -1,0 +1,141 @@
+//! The components of a pattern.
+ghost use Rattle.std.specs.Prelude.{◌≡◌, None, IfOk, IfErr, chars};
+ghost use Rattle.std.specs.List.{list_any};
+ghost use Rattle.glob_pattern.specs.Grammar.Characters.{is_wildcard};
+ghost use Rattle.glob_pattern.specs.Matching.Texts.{Matches};
+ghost use Rattle.glob_walk.specs.Components.{component_kind, is_special_name, is_literal as is_literal_text, is_recursive as is_recursive_text, matches_name};
+ghost use Rattle.glob_walk.specs.Private.Parts.{kind_told, component_fault};
+ghost use Rattle.glob_walk.specs.Walks.{RefusesWith};
+
+use crate::same_text::is_same_text;
+use glob_pattern::{MatchOptions, Pattern, PatternRefusal};
+use std::alloc::{AllocError, Allocator};
+use std::marker::Model;
+
+/// What is kept of a component: of a literal one its text alone.
+#[derive(Drop)]
+enum Form<A: Allocator> {
+    Literal(String<A>),
+    Recursive(Pattern<A>),
+    Wild(Pattern<A>),
+}
+
+/// How a component is met.
+#[derive(Clone, Copy, PartialEq, Eq)]
+pub enum PartKind {
+    /// It has no wildcard, and its text is looked up.
+    Literal,
+    /// It is `**`, the recursive wildcard.
+    Recursive,
+    /// It has wildcards, and the entries of a directory are matched.
+    Wild,
+}
+
+/// A component of a pattern. Contracts see its text.
+#[derive(Drop)]
+pub struct Part<A: Allocator> {
+    form: Form<A>,
+}
+
+impl<A: Allocator> Model for Part<A> {
+    ghost use Rattle.std.specs.Prelude.{List, ℕ};
+    ghost use Rattle.glob_walk.specs.Private.Parts.{form_text, HasKind};
+
+    ghost Value = { List ℕ };
+
+    ghost view = { λ p. form_text p.form };
+
+    ghost invariant = { λ p. HasKind p.form };
+}
+
+impl<A: Allocator> Part<A> {
+    /// How it is met.
+    pub fn kind(&self) -> PartKind
+        ensures { kind_told result ≡ component_kind self.now }
+    {
+        match &self.form {
+            Form::Literal(_) => PartKind::Literal,
+            Form::Recursive(_) => PartKind::Recursive,
+            Form::Wild(_) => PartKind::Wild,
+        }
+    }
+
+    /// Its text.
+    pub fn as_str(&self) -> &str
+        ensures { result.now ≡ self.now }
+    {
+        match &self.form {
+            Form::Literal(text) => text.as_str(),
+            Form::Recursive(pattern) | Form::Wild(pattern) => pattern.as_str(),
+        }
+    }
+
+    /// Whether it is `**`.
+    pub fn is_recursive(&self) -> bool
+        ensures { result ≡ is_recursive_text self.now }
+    {
+        match &self.form {
+            Form::Recursive(_) => true,
+            Form::Literal(_) | Form::Wild(_) => false,
+        }
+    }
+}
+
+impl<A: Allocator + Copy> Part<A> {
+    /// Reads a component. One with a fault is refused with it; and any may be refused with `Memory`.
+    pub fn read(alloc: A, text: &str) -> Result<Self, PatternRefusal>
+        ensures text { IfOk result (λ part. part ≡ text.now) }
+        ensures accepted { IfOk result (λ _. component_fault text.now ≡ None) }
+        ensures refused { IfErr result (RefusesWith (component_fault text.now)) }
+    {
+        let form = if is_literal(text) {
+            Form::Literal(String::from_str(alloc, text)?)
+        } else if is_recursive(text) {
+            Form::Recursive(Pattern::new(alloc, text)?)
+        } else {
+            Form::Wild(Pattern::new(alloc, text)?)
+        };
+        Ok(Part { form })
+    }
+
+    /// Whether it matches the name.
+    pub fn matches(&self, name: &str, options: MatchOptions) -> Result<bool, AllocError>
+        ensures { IfOk result (λ yes. yes ≡ matches_name options self.now name.now) }
+    {
+        match &self.form {
+            Form::Literal(text) => Ok(is_same_text(name, text.as_str(), options.case_sensitive)),
+            Form::Recursive(pattern) | Form::Wild(pattern) => pattern.matches_with(name, options),
+        }
+    }
+}
+
+/// Whether the component is `**`.
+fn is_recursive(component: &str) -> bool
+    ensures { result ≡ is_recursive_text component.now }
+{
+    component == "**"
+}
+
+/// Whether the component stands for itself alone.
+fn is_literal(component: &str) -> bool
+    ensures { result ≡ is_literal_text component.now }
+{
+    !has_wildcard(component)
+}
+
+/// Whether some character of the component is a wildcard.
+fn has_wildcard(component: &str) -> bool
+    ensures { result ≡ list_any is_wildcard component.now }
+{
+    component
+        .as_bytes()
+        .iter()
+        .any(|&byte| byte == b'?' || byte == b'*' || byte == b'[')
+}
+
+/// Whether the component is `.` or `..`.
+pub fn is_special(component: &str) -> bool
+    ensures { result ≡ is_special_name component.now }
+{
+    component == "." || component == ".."
+}

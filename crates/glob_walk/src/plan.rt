@@ -1,0 +1,135 @@
+//! What a walk looks for.
+ghost use Rattle.std.specs.Prelude.{◌≡◌, ◌+◌, ◌<◌, ◌≤◌, [], ◌∷◌, true, Bool, None, IfOk, IfErr, MatchOption, OnSome, IfNone, drop, vec_len};
+ghost use Rattle.glob_text.specs.Characters.{slash};
+ghost use Rattle.glob_text.specs.Pieces.{pieces};
+ghost use Rattle.glob_text.specs.Text.{Text};
+ghost use Rattle.glob_tree.specs.Content.{Content};
+ghost use Rattle.glob_walk.specs.Components.{components, first_fault, has_root as has_root_text, start as start_text, walk_fault, wants_directories, without_root, without_end_separator};
+ghost use Rattle.glob_walk.specs.Listing.{is_entered as is_entered_entry};
+ghost use Rattle.glob_walk.specs.Private.Parts.{component_fault};
+ghost use Rattle.glob_walk.specs.Private.Tasks.{is_dotted, enter_from, IsRun, IsOpened};
+ghost use Rattle.glob_walk.specs.Walks.{RefusesWith};
+
+use crate::part::Part;
+use crate::path_text::begins_with_dot;
+use glob_pattern::{MatchOptions, Pattern, PatternRefusal};
+use std::alloc::Allocator;
+
+/// What a walk looks for: the components of a pattern, in order.
+#[derive(Drop)]
+pub struct Plan<A: Allocator> {
+    pub parts: Vec<Part<A>, A>,
+    pub options: MatchOptions,
+    /// Whether directories alone are given.
+    pub directories: bool,
+    pub alloc: A,
+}
+
+impl<A: Allocator + Copy> Plan<A> {
+    /// Reads a pattern. One with a fault is refused with the fault of the whole text, or else with that of the first
+    /// component that has one; and any may be refused with `Memory`.
+    pub fn read(alloc: A, pattern: &str, options: MatchOptions) -> Result<Self, PatternRefusal>
+        ensures parts { IfOk result (λ plan. plan.parts.items ≡ components pattern.now) }
+        ensures options { IfOk result (λ plan. plan.options ≡ options) }
+        ensures directories { IfOk result (λ plan. plan.directories ≡ wants_directories pattern.now) }
+        ensures accepted { IfOk result (λ _. walk_fault pattern.now ≡ None) }
+        ensures refused { IfErr result (RefusesWith (walk_fault pattern.now)) }
+    {
+        check(alloc, pattern)?;
+        let parts = read_parts(alloc, past_root(pattern))?;
+        Ok(Plan {
+            parts,
+            options,
+            directories: pattern.ends_with('/'),
+            alloc,
+        })
+    }
+}
+
+impl<A: Allocator> Plan<A> {
+    /// The component with the number.
+    pub fn component(&self, part: usize) -> Option<&Part<A>>
+        ensures rest { MatchOption result (drop part self.now.parts.items ≡ []) (λ t. drop part self.now.parts.items ≡ t.now ∷ drop (part + 1) self.now.parts.items) }
+        ensures within { OnSome result (part < vec_len self.now.parts) }
+        ensures past { IfNone result (vec_len self.now.parts ≤ part) }
+    {
+        self.parts.get(part)
+    }
+
+    /// Whether the component with the number begins with a dot.
+    pub fn is_dotted(&self, part: usize) -> bool
+        ensures { result ≡ is_dotted (drop part self.now.parts.items) }
+    {
+        match self.component(part) {
+            Some(component) => begins_with_dot(component.as_str()),
+            None => false,
+        }
+    }
+
+    /// The number of the last `**` of a run, given that of one of them.
+    pub fn end_of_run(&self, part: usize) -> usize
+        requires { IsRun (drop part self.now.parts.items) }
+        ensures within { result < vec_len self.now.parts }
+        ensures last { IsOpened true (drop result self.now.parts.items) }
+        ensures same { (c : Content) → (path : Text) → (d : Bool) → enter_from c self.now part path d ≡ enter_from c self.now result path d }
+    {
+        let mut last = part;
+        while let Some(next) = self.component(last + 1) {
+            if !next.is_recursive() {
+                break;
+            }
+            last += 1;
+        }
+        last
+    }
+}
+
+/// Refuses a pattern whose text has a fault.
+fn check<A: Allocator + Copy>(alloc: A, pattern: &str) -> Result<(), PatternRefusal>
+    ensures accepted { IfOk result (λ _. component_fault pattern.now ≡ None) }
+    ensures refused { IfErr result (RefusesWith (component_fault pattern.now)) }
+{
+    Pattern::new(alloc, pattern)?;
+    Ok(())
+}
+
+/// The components of a text between separators.
+fn read_parts<A: Allocator + Copy>(alloc: A, text: &str) -> Result<Vec<Part<A>, A>, PatternRefusal>
+    ensures parts { IfOk result (λ parts. parts.items ≡ pieces text.now) }
+    ensures accepted { IfOk result (λ _. first_fault (pieces text.now) ≡ None) }
+    ensures refused { IfErr result (RefusesWith (first_fault (pieces text.now))) }
+{
+    let mut parts = Vec::new(alloc);
+    for piece in text.split('/') {
+        parts.push(Part::read(alloc, piece)?)?;
+    }
+    Ok(parts)
+}
+
+/// The path at which a walk starts.
+pub fn start(pattern: &str) -> &'static str
+    ensures { result.now ≡ start_text pattern.now }
+{
+    if pattern.starts_with('/') { "/" } else { "." }
+}
+
+/// The components' text: what follows the root, without one separator at its end.
+fn past_root(pattern: &str) -> &str
+    ensures { result.now ≡ without_end_separator (without_root pattern.now) }
+{
+    without_end(pattern.strip_prefix('/').unwrap_or(pattern))
+}
+
+/// The text without one separator at its end.
+fn without_end(text: &str) -> &str
+    ensures { result.now ≡ without_end_separator text.now }
+{
+    text.strip_suffix('/').unwrap_or(text)
+}
+
+/// Whether a run of `**` enters an entry: a directory, and under the dot rule no dotted one.
+pub fn is_entered(options: MatchOptions, name: &str, is_dir: bool) -> bool
+    ensures { result ≡ is_entered_entry options name.now is_dir }
+{
+    is_dir && !(options.require_literal_leading_dot && begins_with_dot(name))
+}

@@ -1,0 +1,103 @@
+//! A whole walk.
+ghost use Rattle.std.specs.Prelude.{◌≡◌, ◌≤◌, [], List, None, Some, IfOk, IfErr};
+ghost use Rattle.glob_tree.specs.Content.{Content};
+ghost use Rattle.glob_tree.specs.Answers.{IsTold};
+ghost use Rattle.glob_walk.specs.Components.{walk_fault};
+ghost use Rattle.glob_walk.specs.Listing.{listing};
+ghost use Rattle.glob_walk.specs.Marks.{Mark};
+ghost use Rattle.glob_walk.specs.Private.Walking.{refusal_end};
+ghost use Rattle.glob_walk.specs.Walks.{outcome, IsFresh, IsWalk, IsWalkAsked, RefusesWith};
+
+use crate::error::{GlobCause, GlobResult};
+use crate::paths::{Paths, glob_in};
+use glob_pattern::{MatchOptions, PatternRefusal};
+use glob_tree::Tree;
+use std::alloc::Allocator;
+
+/// How a walk ended.
+#[derive(Clone, Copy, Debug, PartialEq, Eq)]
+pub enum End {
+    /// All of it was done.
+    Done,
+    /// There was an allocation failure.
+    Memory,
+    /// The limit was reached.
+    Limit,
+}
+
+/// A whole walk.
+#[derive(Drop)]
+pub struct Walk<T: Tree> {
+    /// Its items, in order: a beginning of them where it did not end with `Done`.
+    pub items: Vec<GlobResult<T::Alloc>, T::Alloc>,
+    /// How it ended.
+    pub end: End,
+    /// How many units of work were charged.
+    pub spent: u64,
+    /// The tree, as the walk left it.
+    pub tree: T,
+}
+
+/// The whole walk of [`glob_in`](crate::glob_in), with its refusals of patterns. A limit that was reached, and an
+/// allocation failure later than that, stand in `end` and not in `items`.
+pub fn walk_in<T: Tree>(
+    alloc: T::Alloc,
+    tree: T,
+    pattern: &str,
+    options: MatchOptions,
+    limit: u64,
+) -> Result<Walk<T>, PatternRefusal>
+    ensures accepted { IfOk result (λ _. walk_fault pattern.now ≡ None) }
+    ensures refused { IfErr result (RefusesWith (walk_fault pattern.now)) }
+    ensures within { IfOk result (λ walk. walk.spent ≤ limit) }
+    ensures asked { IfOk result (λ walk. IsWalkAsked limit (T.asks tree) walk.end walk.spent (T.asks walk.tree)) }
+    ensures told { IfOk result (λ walk. T.tells walk.tree ≡ T.tells tree) }
+    ensures walk { (c : Content) → IsTold (T.tells tree) c → IfOk result (λ walk. IsWalk (listing c options pattern.now) limit walk.end walk.spent walk.items.items) }
+{
+    let mut paths = glob_in(alloc, tree, pattern, options, limit)?;
+    let mut items = Vec::new(alloc);
+    let end = gather(&mut paths, &mut items);
+    let spent = paths.spent();
+    Ok(Walk {
+        items,
+        end,
+        spent,
+        tree: paths.into_tree(),
+    })
+}
+
+/// Moves the items of a walk that has done nothing yet into a list, up to the end of the walk.
+fn gather<T: Tree>(paths: &mut Paths<T>, items: &mut Vec<GlobResult<T::Alloc>, T::Alloc>) -> End
+    requires fresh { IsFresh paths.old.tree paths.old.limit paths.old }
+    requires empty { items.old.items ≡ [] }
+    ensures within { paths.new.spent ≤ paths.old.limit }
+    ensures asked { IsWalkAsked paths.old.limit (T.asks paths.old.tree) result paths.new.spent (T.asks paths.new.tree) }
+    ensures told { T.tells paths.new.tree ≡ T.tells paths.old.tree }
+    ensures walk { (c : Content) → IsTold (T.tells paths.old.tree) c → (ms : List Mark) → paths.old.left ≡ Some ms → IsWalk ms paths.old.limit result paths.new.spent items.new.items }
+{
+    loop {
+        let Some(item) = paths.next() else {
+            return End::Done;
+        };
+        if let Some(end) = end_of(&item) {
+            return end;
+        }
+        if items.push(item).is_err() {
+            return End::Memory;
+        }
+    }
+}
+
+/// How a walk ended that gave the item, if that is a refusal.
+fn end_of<A: Allocator>(item: &GlobResult<A>) -> Option<End>
+    ensures { result ≡ refusal_end (outcome item.now) }
+{
+    match item {
+        Ok(_) => None,
+        Err(e) => match e.cause() {
+            GlobCause::Read => None,
+            GlobCause::Memory => Some(End::Memory),
+            GlobCause::Limit => Some(End::Limit),
+        },
+    }
+}
