@@ -34,6 +34,7 @@ pub fn run_find<R: Files + Drop, A: Allocator + Copy, W: Write + Drop, E: Write>
 }
 
 /// What became of the items of a walk so far.
+#[derive(Drop)]
 struct Report<'e, W: Write + Drop, E, A: Allocator> {
     /// The paths, a line each. Some of them are not yet written.
     paths: BufWriter<W, A>,
@@ -65,11 +66,10 @@ impl<'e, W: Write + Drop, E: Write, A: Allocator + Copy> Report<'e, W, E, A> {
 
     /// Reports the items of a walk.
     fn items<R: Files + Drop>(&mut self, items: &mut Paths<Disk<R, A>>) -> io::Result<()> {
-        for _ in 0..u64::MAX {
-            match items.next() {
-                None => break,
-                Some(Ok(path)) => self.path(path.as_str(), items.spent())?,
-                Some(Err(error)) => self.error(&error)?,
+        while let Some(item) = items.next() {
+            match item {
+                Ok(path) => self.path(path.as_str(), items.spent())?,
+                Err(error) => self.error(&error)?,
             }
         }
         self.paths.flush()
@@ -100,10 +100,12 @@ impl<'e, W: Write + Drop, E: Write, A: Allocator + Copy> Report<'e, W, E, A> {
     fn status(self) -> u8
         ensures { result ≤ 2 }
     {
-        match self.written_at {
-            _ if self.has_error => FAULT,
-            Some(_) => MATCHED,
-            None => UNMATCHED,
+        if self.has_error {
+            FAULT
+        } else if self.written_at.is_some() {
+            MATCHED
+        } else {
+            UNMATCHED
         }
     }
 
@@ -111,7 +113,8 @@ impl<'e, W: Write + Drop, E: Write, A: Allocator + Copy> Report<'e, W, E, A> {
     fn writing_failed(self) -> u8
         ensures { result ≤ 2 }
     {
-        let (_output, _unwritten) = self.paths.into_parts();
-        fault(self.errors, "writing failed")
+        let Report { paths, errors, .. } = self;
+        let (_output, _unwritten) = paths.into_parts();
+        fault(errors, "writing failed")
     }
 }

@@ -35,13 +35,7 @@ const FAULT: u8 = 2;
 /// nothing did, 2 at a fault or where a walk met an error. A fault is one line on `errors`; a fault of `errors` itself is
 /// dropped. A usage fault is found first, then a fault of the pattern, both before anything is read, looked up or
 /// written. The disk is the one that `rt` reaches.
-pub fn run_words<
-    F: Files + Drop,
-    A: Allocator + Copy,
-    R: Read + Drop,
-    W: Write + Drop,
-    E: Write,
->(
+pub fn run_words<F: Files + Drop, A: Allocator + Copy, R: Read + Drop, W: Write + Drop, E: Write>(
     rt: F,
     alloc: A,
     words: &[&str],
@@ -127,13 +121,7 @@ fn words_fault<E: Write>(errors: &mut E, error: &io::Error) -> u8
 }
 
 /// Runs the program on its arguments, without its name.
-fn run_arguments<
-    F: Files + Drop,
-    A: Allocator + Copy,
-    R: Read + Drop,
-    W: Write + Drop,
-    E: Write,
->(
+fn run_arguments<F: Files + Drop, A: Allocator + Copy, R: Read + Drop, W: Write + Drop, E: Write>(
     rt: F,
     alloc: A,
     arguments: &[String<A>],

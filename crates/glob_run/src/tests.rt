@@ -4,6 +4,7 @@ mod folder;
 
 use super::*;
 use std::io::ErrorKind;
+use std::process::Abort;
 
 const USAGE_LINE: &str =
     "usage: glob_run match [-i] [-s] [-d] PATTERN | escape TEXT | find [-i] [-s] [-d] [-n LIMIT] PATTERN\n";
@@ -66,11 +67,11 @@ const USAGE_FAULTS: [&[&str]; 12] = [
     &["--", "match", "*"],
 ];
 
-fn check(rt: &HostRuntime, rows: &[Row]) {
+fn check(rt: &(impl Abort + AllocGlobal + Files), rows: &[Row]) {
     for (words, input, output, faults, status) in rows {
         let mut written = Vec::new(rt.alloc());
         let mut errors = Vec::new(rt.alloc());
-        let answer = run_words(*rt, rt.alloc(), words, *input, &mut written, &mut errors);
+        let answer = run_words(rt, rt.alloc(), words, *input, &mut written, &mut errors);
         assert_eq!(rt; answer, *status, "{words:?}");
         assert_eq!(rt; written.as_slice(), output.as_bytes(), "{words:?}");
         assert_eq!(rt; errors.as_slice(), faults.as_bytes(), "{words:?}");
@@ -119,7 +120,14 @@ fn a_fault_of_the_pattern_comes_before_one_of_the_input(rt: HostRuntime) {
     ] {
         let mut written = Vec::new(rt.alloc());
         let mut errors = Vec::new(rt.alloc());
-        let answer = run_words(rt, rt.alloc(), &words, Unreadable, &mut written, &mut errors);
+        let answer = run_words(
+            rt,
+            rt.alloc(),
+            &words,
+            Unreadable,
+            &mut written,
+            &mut errors,
+        );
         assert_eq!(rt; answer, 2);
         assert!(rt; written.is_empty());
         assert_eq!(rt; errors.as_slice(), faults.as_bytes());

@@ -2,8 +2,11 @@
 //! of the original crate make, but for links.
 use super::folder::Folder;
 use crate::run_words;
-use glob::{Disk, GlobCause, MatchOptions, Paths, Pattern, glob, glob_with};
+use glob::{GlobCause, MatchOptions, Paths, Pattern, Tree, glob, glob_with};
+use std::alloc::Global;
+use std::fs::Files;
 use std::io::ErrorKind;
+use std::process::Abort;
 use std::test::Fail;
 
 const DIRS: [&str; 11] = [
@@ -118,10 +121,7 @@ const WALKS: [Row; 23] = [
         &["aaa/tomato/tomato.txt", "aaa/tomato/tomoto.txt"],
     ),
     (&["*"], &["aaa", "bbb", "ccc", "r", "xyz"]),
-    (
-        &["*/.."],
-        &["aaa/..", "bbb/..", "ccc/..", "r/..", "xyz/.."],
-    ),
+    (&["*/.."], &["aaa/..", "bbb/..", "ccc/..", "r/..", "xyz/.."]),
     (&["aaa/../bbb"], &["aaa/../bbb"]),
     (&["nonexistent/../bbb"], &[]),
     (&["aaa/tomato/tomato.txt/.."], &[]),
@@ -150,12 +150,12 @@ const SPECIALS: [Row; 10] = [
 ];
 
 /// What a walk gives, a line for each item. A line of an error begins with `!`.
-fn lines(rt: &HostRuntime, items: Paths<Disk<HostRuntime>>) -> Result<String, Fail> {
-    let mut text = String::new(rt.alloc());
+fn lines<T: Tree>(alloc: Global, items: Paths<T>) -> Result<String, Fail> {
+    let mut text = String::new(alloc);
     for item in items {
         match item {
             Ok(path) => text.push_str(path.as_str())?,
-            Err(error) => text.push_str(format!(in rt.alloc(); "!{error}")?.as_str())?,
+            Err(error) => text.push_str(format!(in alloc; "!{error}")?.as_str())?,
         }
         text.push('\n')?;
     }
@@ -163,7 +163,7 @@ fn lines(rt: &HostRuntime, items: Paths<Disk<HostRuntime>>) -> Result<String, Fa
 }
 
 /// Paths below a folder, a line for each.
-fn below(rt: &HostRuntime, folder: &str, names: &[&str]) -> Result<String, Fail> {
+fn below(rt: &impl AllocGlobal, folder: &str, names: &[&str]) -> Result<String, Fail> {
     let mut text = String::new(rt.alloc());
     for name in names {
         text.push_str(format!(in rt.alloc(); "{folder}/{name}\n")?.as_str())?;
@@ -172,43 +172,62 @@ fn below(rt: &HostRuntime, folder: &str, names: &[&str]) -> Result<String, Fail>
 }
 
 /// What `glob` gives for a pattern.
-fn by_glob(rt: &HostRuntime, pattern: &str) -> Result<String, Fail> {
-    match glob(*rt, rt.alloc(), pattern) {
-        Ok(items) => lines(rt, items),
+fn by_glob(rt: &(impl AllocGlobal + Files), pattern: &str) -> Result<String, Fail> {
+    match glob(rt, rt.alloc(), pattern) {
+        Ok(items) => lines(rt.alloc(), items),
         Err(refusal) => Ok(format!(in rt.alloc(); "{refusal}")?),
     }
 }
 
 /// What `glob_with` gives for a pattern.
-fn by_glob_with(rt: &HostRuntime, pattern: &str, options: MatchOptions) -> Result<String, Fail> {
-    match glob_with(*rt, rt.alloc(), pattern, options) {
-        Ok(items) => lines(rt, items),
+fn by_glob_with(
+    rt: &(impl AllocGlobal + Files),
+    pattern: &str,
+    options: MatchOptions,
+) -> Result<String, Fail> {
+    match glob_with(rt, rt.alloc(), pattern, options) {
+        Ok(items) => lines(rt.alloc(), items),
         Err(refusal) => Ok(format!(in rt.alloc(); "{refusal}")?),
     }
 }
 
 /// Whether `find` answers this status and writes these lines, and no error.
-fn check_find(rt: &HostRuntime, pattern: &str, wanted: &str) {
+fn check_find(rt: &(impl Abort + AllocGlobal + Files), pattern: &str, wanted: &str) {
     let mut written = Vec::new(rt.alloc());
     let mut errors = Vec::new(rt.alloc());
     let words = ["find", pattern];
-    let status = run_words(*rt, rt.alloc(), &words, b"".as_slice(), &mut written, &mut errors);
+    let status = run_words(
+        rt,
+        rt.alloc(),
+        &words,
+        b"".as_slice(),
+        &mut written,
+        &mut errors,
+    );
     assert_eq!(rt; status, u8::from(wanted.is_empty()), "{pattern}");
     assert_eq!(rt; written.as_slice(), wanted.as_bytes(), "{pattern}");
     assert!(rt; errors.is_empty(), "{pattern}");
 }
 
 /// Runs a row in each of the three ways.
-fn check_row(rt: &HostRuntime, folder: &str, row: &Row) -> Result<(), Fail> {
+fn check_row(rt: &(impl Abort + AllocGlobal + Files), folder: &str, row: &Row) -> Result<(), Fail> {
     let (patterns, names) = row;
     let escaped = Pattern::escape(rt.alloc(), folder)?;
     let wanted = below(rt, folder, names)?;
     for pattern in *patterns {
         let pattern = format!(in rt.alloc(); "{escaped}/{pattern}")?;
         let pattern = pattern.as_str();
-        assert_eq!(rt; by_glob(rt, pattern)?.as_str(), wanted.as_str(), "{pattern}");
+        assert_eq!(rt;
+            by_glob(rt, pattern)?.as_str(),
+            wanted.as_str(),
+            "{pattern}"
+        );
         let options = MatchOptions::new();
-        assert_eq!(rt; by_glob_with(rt, pattern, options)?.as_str(), wanted.as_str(), "{pattern}");
+        assert_eq!(rt;
+            by_glob_with(rt, pattern, options)?.as_str(),
+            wanted.as_str(),
+            "{pattern}"
+        );
         check_find(rt, pattern, wanted.as_str());
     }
     Ok(())
@@ -252,15 +271,22 @@ fn options_are_those_of_the_caller(rt: HostRuntime) -> Result<(), Fail> {
     };
     let wanted = below(&rt, folder.path(), &["AAA"])?;
     assert_eq!(rt; by_glob(&rt, pattern.as_str())?.as_str(), "");
-    assert_eq!(rt; by_glob_with(&rt, pattern.as_str(), options)?.as_str(), wanted.as_str());
+    assert_eq!(rt;
+        by_glob_with(&rt, pattern.as_str(), options)?.as_str(),
+        wanted.as_str()
+    );
     folder.remove(&rt)
 }
 
 #[test]
 fn a_fault_of_the_pattern_is_returned(rt: HostRuntime) -> Result<(), Fail> {
-    let wanted = "Pattern syntax error near position 4: recursive wildcards must form a single path component";
+    let wanted =
+        "Pattern syntax error near position 4: recursive wildcards must form a single path component";
     assert_eq!(rt; by_glob(&rt, "a/**b[")?.as_str(), wanted);
-    assert_eq!(rt; by_glob_with(&rt, "a/**b[", MatchOptions::new())?.as_str(), wanted);
+    assert_eq!(rt;
+        by_glob_with(&rt, "a/**b[", MatchOptions::new())?.as_str(),
+        wanted
+    );
     Ok(())
 }
 

@@ -3,32 +3,25 @@ use super::folder::Folder;
 use super::{FAULT_LINE, USAGE_LINE, Unwritable};
 use crate::run_words;
 use glob::Pattern;
+use std::fs::Files;
+use std::process::Abort;
 use std::test::Fail;
 
-/// What a run answers: the status, the output and the errors.
-struct Run {
+/// Runs the program, and compares its exit status and what it writes.
+fn check(
+    rt: &(impl Abort + AllocGlobal + Files),
+    words: &[&str],
     status: u8,
-    output: Vec<u8>,
-    errors: Vec<u8>,
-}
-
-fn run(rt: &HostRuntime, words: &[&str]) -> Run {
-    let mut output = Vec::new(rt.alloc());
-    let mut errors = Vec::new(rt.alloc());
+    output: &str,
+    errors: &str,
+) {
+    let mut written = Vec::new(rt.alloc());
+    let mut faults = Vec::new(rt.alloc());
     let input = b"".as_slice();
-    let status = run_words(*rt, rt.alloc(), words, input, &mut output, &mut errors);
-    Run {
-        status,
-        output,
-        errors,
-    }
-}
-
-fn check(rt: &HostRuntime, words: &[&str], status: u8, output: &str, errors: &str) {
-    let run = run(rt, words);
-    assert_eq!(rt; run.output.as_slice(), output.as_bytes(), "{words:?}");
-    assert_eq!(rt; run.errors.as_slice(), errors.as_bytes(), "{words:?}");
-    assert_eq!(rt; run.status, status, "{words:?}");
+    let answer = run_words(rt, rt.alloc(), words, input, &mut written, &mut faults);
+    assert_eq!(rt; written.as_slice(), output.as_bytes(), "{words:?}");
+    assert_eq!(rt; faults.as_slice(), errors.as_bytes(), "{words:?}");
+    assert_eq!(rt; answer, status, "{words:?}");
 }
 
 const USAGE_FAULTS: [&[&str]; 12] = [
@@ -64,7 +57,13 @@ fn the_last_limit_counts(rt: HostRuntime) {
     let refusal = "attempting to read `.` resulted in an error: walk limit reached\n";
     check(&rt, &["find", "-n", "0", "*"], 2, "", refusal);
     check(&rt, &["find", "-n", "5", "-n", "0", "*"], 2, "", refusal);
-    check(&rt, &["find", "-n", "00000000000000000000", "--", "*"], 2, "", refusal);
+    check(
+        &rt,
+        &["find", "-n", "00000000000000000000", "--", "*"],
+        2,
+        "",
+        refusal,
+    );
 }
 
 /// How many names an absolute path has.
@@ -83,10 +82,24 @@ fn two_files(rt: HostRuntime) -> Result<(), Fail> {
     let both = format!(in alloc; "{path}/a\n{path}/b\n")?;
     check(&rt, &["find", all.as_str()], 0, both.as_str(), "");
     let enough = format!(in alloc; "{}", names(path).saturating_add(4))?;
-    check(&rt, &["find", "-n", enough.as_str(), all.as_str()], 0, both.as_str(), "");
+    check(
+        &rt,
+        &["find", "-n", enough.as_str(), all.as_str()],
+        0,
+        both.as_str(),
+        "",
+    );
     let few = format!(in alloc; "{}", names(path).saturating_add(3))?;
-    let refusal = format!(in alloc; "attempting to read `{path}` resulted in an error: walk limit reached\n")?;
-    check(&rt, &["find", "-n", few.as_str(), all.as_str()], 2, "", refusal.as_str());
+    let refusal = format!(in alloc;
+        "attempting to read `{path}` resulted in an error: walk limit reached\n"
+    )?;
+    check(
+        &rt,
+        &["find", "-n", few.as_str(), all.as_str()],
+        2,
+        "",
+        refusal.as_str(),
+    );
     let none = format!(in alloc; "{}/zz*", Pattern::escape(alloc, path)?)?;
     check(&rt, &["find", none.as_str()], 1, "", "");
     let upper = format!(in alloc; "{}/A", Pattern::escape(alloc, path)?)?;
@@ -106,8 +119,20 @@ fn options(rt: HostRuntime) -> Result<(), Fail> {
     let both = format!(in alloc; "{path}/.a\n{path}/A\n")?;
     let upper = format!(in alloc; "{path}/A\n")?;
     check(&rt, &["find", "-s", some.as_str()], 0, dotted.as_str(), "");
-    check(&rt, &["find", "-i", "-n", "99", some.as_str()], 0, both.as_str(), "");
-    check(&rt, &["find", "-d", "-i", "--", some.as_str()], 0, upper.as_str(), "");
+    check(
+        &rt,
+        &["find", "-i", "-n", "99", some.as_str()],
+        0,
+        both.as_str(),
+        "",
+    );
+    check(
+        &rt,
+        &["find", "-d", "-i", "--", some.as_str()],
+        0,
+        upper.as_str(),
+        "",
+    );
     check(&rt, &["find", "-d", some.as_str()], 1, "", "");
     folder.remove(&rt)
 }
@@ -116,7 +141,14 @@ fn options(rt: HostRuntime) -> Result<(), Fail> {
 fn an_output_that_fails_ends_the_walk(rt: HostRuntime) {
     let mut errors = Vec::new(rt.alloc());
     let words = ["find", "/"];
-    let status = run_words(rt, rt.alloc(), &words, b"".as_slice(), Unwritable, &mut errors);
+    let status = run_words(
+        rt,
+        rt.alloc(),
+        &words,
+        b"".as_slice(),
+        Unwritable,
+        &mut errors,
+    );
     assert_eq!(rt; status, 2);
     assert_eq!(rt; errors.as_slice(), b"writing failed\n".as_slice());
 }

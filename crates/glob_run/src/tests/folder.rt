@@ -1,10 +1,9 @@
 //! Folders that a test makes on the disk for itself.
-use std::fs;
-use std::io;
 use std::test::Fail;
-use std::{env, process};
+use std::{env, fs, io, process};
 
 /// A folder of a test's own. The test removes it at its end.
+#[derive(Drop)]
 pub struct Folder {
     path: String,
 }
