@@ -6,3 +6,7 @@ pub mod Opening
 pub mod Running
 pub mod Stacking
 pub mod Stepping
+pub mod Taking
+pub mod Gathering
+pub mod Reading
+pub mod Literals

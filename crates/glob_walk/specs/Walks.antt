@@ -56,9 +56,9 @@ pub record Walking (X : Type 0) : Type 0 where
   pub left : Option (List Mark)
 
 -- a walk over the tree that has done nothing yet
-pub record IsFresh {X : Type 0} (tree : X) (limit : ℕ) (walk : Walking X) : Type 0 where
-  pub tree : walk.tree ≡ tree
-  pub limit : walk.limit ≡ limit
+pub record IsFresh {X : Type 0} (of : X) (most : ℕ) (walk : Walking X) : Type 0 where
+  pub tree : walk.tree ≡ of
+  pub limit : walk.limit ≡ most
   pub spent : walk.spent ≡ 0
   pub given : walk.given ≡ 0
   pub over : walk.over ≡ false

@@ -2,9 +2,8 @@
 ghost use Rattle.std.specs.Prelude.{◌≡◌, None, IfOk, IfErr, chars};
 ghost use Rattle.std.specs.List.{list_any};
 ghost use Rattle.glob_pattern.specs.Grammar.Characters.{is_wildcard};
-ghost use Rattle.glob_pattern.specs.Matching.Texts.{Matches};
-ghost use Rattle.glob_walk.specs.Components.{component_kind, is_special_name, is_literal as is_literal_text, is_recursive as is_recursive_text, matches_name};
-ghost use Rattle.glob_walk.specs.Private.Parts.{kind_told, component_fault};
+ghost use Rattle.glob_walk.specs.Components.{component_kind, is_special_name, is_literal as is_literal_text, is_recursive as is_recursive_text, matches_name as matches_text};
+ghost use Rattle.glob_walk.specs.Private.Parts.{kind_told, text_fault};
 ghost use Rattle.glob_walk.specs.Walks.{RefusesWith};
 
 use crate::same_text::is_same_text;
@@ -85,28 +84,49 @@ impl<A: Allocator + Copy> Part<A> {
     /// Reads a component. One with a fault is refused with it; and any may be refused with `Memory`.
     pub fn read(alloc: A, text: &str) -> Result<Self, PatternRefusal>
         ensures text { IfOk result (λ part. part ≡ text.now) }
-        ensures accepted { IfOk result (λ _. component_fault text.now ≡ None) }
-        ensures refused { IfErr result (RefusesWith (component_fault text.now)) }
+        ensures accepted { IfOk result (λ _. text_fault text.now ≡ None) }
+        ensures refused { IfErr result (RefusesWith (text_fault text.now)) }
     {
         let form = if is_literal(text) {
             Form::Literal(String::from_str(alloc, text)?)
         } else if is_recursive(text) {
-            Form::Recursive(Pattern::new(alloc, text)?)
+            Form::Recursive(compile(alloc, text)?)
         } else {
-            Form::Wild(Pattern::new(alloc, text)?)
+            Form::Wild(compile(alloc, text)?)
         };
         Ok(Part { form })
     }
 
     /// Whether it matches the name.
     pub fn matches(&self, name: &str, options: MatchOptions) -> Result<bool, AllocError>
-        ensures { IfOk result (λ yes. yes ≡ matches_name options self.now name.now) }
+        ensures { IfOk result (λ yes. yes ≡ matches_text options self.now name.now) }
     {
         match &self.form {
             Form::Literal(text) => Ok(is_same_text(name, text.as_str(), options.case_sensitive)),
-            Form::Recursive(pattern) | Form::Wild(pattern) => pattern.matches_with(name, options),
+            Form::Recursive(pattern) => matches_name(pattern, name, options),
+            Form::Wild(pattern) => matches_name(pattern, name, options),
         }
     }
+}
+
+/// Whether the pattern matches the name.
+fn matches_name<A: Allocator + Copy>(
+    pattern: &Pattern<A>,
+    name: &str,
+    options: MatchOptions,
+) -> Result<bool, AllocError>
+    ensures { IfOk result (λ yes. yes ≡ matches_text options pattern.now name.now) }
+{
+    pattern.matches_with(name, options)
+}
+
+/// Compiles a text. One with a fault is refused with it; and any may be refused with `Memory`.
+pub fn compile<A: Allocator + Copy>(alloc: A, text: &str) -> Result<Pattern<A>, PatternRefusal>
+    ensures text { IfOk result (λ pattern. pattern ≡ text.now) }
+    ensures accepted { IfOk result (λ _. text_fault text.now ≡ None) }
+    ensures refused { IfErr result (RefusesWith (text_fault text.now)) }
+{
+    Pattern::new(alloc, text)
 }
 
 /// Whether the component is `**`.

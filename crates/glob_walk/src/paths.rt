@@ -56,6 +56,7 @@ impl<T: Tree> Model for Paths<T> {
 ///
 /// A pattern with a fault is refused with `Syntax`: the fault of the whole text, or else that of the first component
 /// that has one, where a bracket holds `/`. Any pattern may be refused with `Memory`. The tree is then dropped.
+#[tactic(auto, unfolding(crate::specs::Listing::listing))]
 pub fn glob_in<T: Tree>(
     alloc: T::Alloc,
     tree: T,

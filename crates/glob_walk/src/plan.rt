@@ -6,13 +6,13 @@ ghost use Rattle.glob_text.specs.Text.{Text};
 ghost use Rattle.glob_tree.specs.Content.{Content};
 ghost use Rattle.glob_walk.specs.Components.{components, first_fault, has_root as has_root_text, start as start_text, walk_fault, wants_directories, without_root, without_end_separator};
 ghost use Rattle.glob_walk.specs.Listing.{is_entered as is_entered_entry};
-ghost use Rattle.glob_walk.specs.Private.Parts.{component_fault};
+ghost use Rattle.glob_walk.specs.Private.Parts.{text_fault};
 ghost use Rattle.glob_walk.specs.Private.Tasks.{is_dotted, enter_from, IsRun, IsOpened};
 ghost use Rattle.glob_walk.specs.Walks.{RefusesWith};
 
-use crate::part::Part;
+use crate::part::{Part, compile};
 use crate::path_text::begins_with_dot;
-use glob_pattern::{MatchOptions, Pattern, PatternRefusal};
+use glob_pattern::{MatchOptions, PatternRefusal};
 use std::alloc::Allocator;
 
 /// What a walk looks for: the components of a pattern, in order.
@@ -40,7 +40,7 @@ impl<A: Allocator + Copy> Plan<A> {
         Ok(Plan {
             parts,
             options,
-            directories: pattern.ends_with('/'),
+            directories: ends_in_separator(pattern),
             alloc,
         })
     }
@@ -86,10 +86,10 @@ impl<A: Allocator> Plan<A> {
 
 /// Refuses a pattern whose text has a fault.
 fn check<A: Allocator + Copy>(alloc: A, pattern: &str) -> Result<(), PatternRefusal>
-    ensures accepted { IfOk result (λ _. component_fault pattern.now ≡ None) }
-    ensures refused { IfErr result (RefusesWith (component_fault pattern.now)) }
+    ensures accepted { IfOk result (λ _. text_fault pattern.now ≡ None) }
+    ensures refused { IfErr result (RefusesWith (text_fault pattern.now)) }
 {
-    Pattern::new(alloc, pattern)?;
+    compile(alloc, pattern)?;
     Ok(())
 }
 
@@ -117,14 +117,27 @@ pub fn start(pattern: &str) -> &'static str
 fn past_root(pattern: &str) -> &str
     ensures { result.now ≡ without_end_separator (without_root pattern.now) }
 {
-    without_end(pattern.strip_prefix('/').unwrap_or(pattern))
+    match pattern.strip_prefix('/') {
+        Some(rest) => without_end(rest),
+        None => without_end(pattern),
+    }
+}
+
+/// Whether the last character is a separator.
+fn ends_in_separator(text: &str) -> bool
+    ensures { result ≡ wants_directories text.now }
+{
+    text.strip_suffix('/').is_some()
 }
 
 /// The text without one separator at its end.
 fn without_end(text: &str) -> &str
     ensures { result.now ≡ without_end_separator text.now }
 {
-    text.strip_suffix('/').unwrap_or(text)
+    match text.strip_suffix('/') {
+        Some(front) => front,
+        None => text,
+    }
 }
 
 /// Whether a run of `**` enters an entry: a directory, and under the dot rule no dotted one.

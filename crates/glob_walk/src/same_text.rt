@@ -1,20 +1,17 @@
 //! Texts that are the same, with or without case.
-ghost use Rattle.std.specs.Prelude.{◌≡◌, Bool, IsTrue, ◌↔◌, chars};
+ghost use Rattle.std.specs.Prelude.{◌≡◌, chars};
 ghost use Rattle.glob_pattern.specs.Grammar.Brackets.{same};
-ghost use Rattle.glob_pattern.specs.Laws.{SameTexts};
+ghost use Rattle.glob_walk.specs.Private.Parts.{same_texts};
 
 /// Whether the texts have equally many characters and at each place the same, with case or without.
 pub fn is_same_text(text: &str, other: &str, case_sensitive: bool) -> bool
-    ensures { IsTrue result ↔ SameTexts case_sensitive (chars text.now) (chars other.now) }
+    ensures { result ≡ same_texts case_sensitive (chars text.now) (chars other.now) }
 {
-    let mut rest = text.chars();
-    for wanted in other.chars() {
-        match rest.next() {
-            Some(c) if is_same(case_sensitive, c, wanted) => {}
-            _ => return false,
-        }
-    }
-    rest.next().is_none()
+    text.chars().count() == other.chars().count()
+        && text
+            .chars()
+            .zip(other.chars())
+            .all(move |(c, x)| is_same(case_sensitive, c, x))
 }
 
 /// Whether the characters are the same, with case or without.

@@ -10,7 +10,8 @@ use Rattle.glob_walk.specs.declared.meter.Meter.{Meter}
 use Rattle.glob_walk.specs.declared.walker.Turn.{Turn}
 use Rattle.glob_walk.specs.declared.walker.Turn.TheVariants as turn
 use Rattle.glob_walk.specs.Private.Meters.{IsExact}
-use Rattle.glob_walk.specs.Private.Turns.{Charges, works, TurnOf, TurnCounts, IfGoing}
+use Rattle.glob_walk.specs.Private.Turns.{TurnOf, TurnCounts, IfGoing}
+use Rattle.glob_walk.specs.Walks.{Charges, works}
 
 pub uncharged : (left new : List Mark) (spent : ℕ) → left ≡ new → Charges left spent new spent
 uncharged left new spent e = record { paths = []; front = e; units = omega arith }

@@ -24,7 +24,7 @@ use Rattle.glob_walk.specs.Private.Frames.{first_of, entry_marks, entries_marks,
 use Rattle.glob_walk.specs.Private.Meters.{IsInOrder, IsCut}
 use Rattle.glob_tree.specs.Answers.{IsListFault}
 use Rattle.glob_tree.proofs.ContentLemmas.Sorting.{Contains-sorted_entries}
-use Rattle.glob_walk.specs.Private.Turns.{works, Charges, StopsAt}
+use Rattle.glob_walk.specs.Walks.{works, Charges, StopsAt}
 use Rattle.glob_walk.proofs.WalkLemmas.Stepping.{append_none}
 
 works_replicate : (n : ℕ) (path : Text) → replicate n (Work path) ≡ works (replicate n path)

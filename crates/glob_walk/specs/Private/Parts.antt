@@ -1,7 +1,9 @@
 -- What is kept of a component.
-use Rattle.std.specs.Prelude.{◌≡◌, List, ℕ, Option, string_bytes, chars}
+use Rattle.std.specs.Prelude.{◌≡◌, ◌==◌, Bool, ◌&&◌, List, length, Option, string_bytes, chars}
+use Rattle.std.specs.List.{list_all, zip}
 use Rattle.std.specs.Result.{result_err}
 use Rattle.glob_text.specs.Text.{Text}
+use Rattle.glob_pattern.specs.Grammar.Brackets.{same}
 use Rattle.glob_pattern.specs.Grammar.Faults.{Fault}
 use Rattle.glob_pattern.specs.Computing.Reading.{reading_of}
 use Rattle.glob_walk.specs.Components.{ComponentKind, Literal, Recursive, Wild, component_kind}
@@ -30,6 +32,10 @@ form_kind (form.Wild pattern) = Wild
 abbrev pub HasKind : {A : Type 0} → Form A → Type 0
 HasKind f = component_kind (form_text f) ≡ form_kind f
 
--- the fault of a component
-abbrev pub component_fault : Text → Option Fault
-component_fault t = result_err (reading_of (chars t))
+-- the fault of a text by itself
+abbrev pub text_fault : Text → Option Fault
+text_fault t = result_err (reading_of (chars t))
+
+-- the texts have equally many characters, and at each place the same, with case or without
+abbrev pub same_texts : (case : Bool) → Text → Text → Bool
+same_texts case xs ys = (length xs == length ys) && list_all (λ p. same case p.0 p.1) (zip xs ys)

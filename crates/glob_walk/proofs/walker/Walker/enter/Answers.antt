@@ -10,7 +10,7 @@ use Rattle.glob_walk.proofs.walker.Walker.enter.Goals as goal
 
 pub returns-in-Ok-clause-turn : goal.returns-in-Ok-clause-turn
 returns-in-Ok-clause-turn g c = λ c' told s. uncharged _ _ _
-    (ap (λ ms. ms ++ left c' c.args.self.now.stack) (ap (λ p. enter_from c' c.args.self.now.stack.plan c.args.part p c.args.is_dir) (sym c.as_str-in-Literal.ensures.value) ∙ c.in-Ok.ensures.marks c')
+    (ap (λ ms. ms ++ left c' c.args.self.now.stack) (ap (λ p. enter_from c' c.args.self.now.stack.plan c.args.part p c.args.is_dir) (sym c.as_str.ensures.value) ∙ c.in-Ok.ensures.marks c')
     ∙ ap (λ n. next_marks c' c.args.self.now.stack.plan (Some c.in-Ok.task) ++ (next_marks c' c.args.self.now.stack.plan n ++ frames_marks c' c.args.self.now.stack.plan c.args.self.now.stack.frames.items)) c.requires.none)
 
 pub returns-then-not-is_dir-clause-turn : goal.returns-then-not-is_dir-clause-turn

@@ -5,7 +5,7 @@ use Rattle.glob_tree.specs.Content.{look_result, list_result}
 use Rattle.glob_tree.specs.Answers.{entries_of}
 use Rattle.glob_tree.proofs.ContentLemmas.Contents.{IsContent-from_test}
 use Rattle.glob_walk.specs.Private.Meters.{IsInOrder, IsCut, IsUnlisted}
-use Rattle.glob_walk.specs.Private.Turns.{StopsAt, works}
+use Rattle.glob_walk.specs.Walks.{StopsAt, works}
 use Rattle.glob_walk.specs.Private.Tasks.{enter_from}
 use Rattle.glob_walk.specs.Private.Stacks.{left, frames_marks}
 use Rattle.std.proofs.lemmas.Grind.{common_steps}

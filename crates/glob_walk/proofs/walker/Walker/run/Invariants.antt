@@ -3,7 +3,8 @@ use Rattle.glob_tree.specs.Content.{Content}
 use Rattle.glob_tree.specs.Answers.{IsTold}
 use Rattle.glob_walk.specs.Private.Meters.{IsExact}
 use Rattle.glob_walk.specs.Private.Stacks.{left, weight, ready, IsWithin, IsSound}
-use Rattle.glob_walk.specs.Private.Turns.{Charges, turns_left}
+use Rattle.glob_walk.specs.Private.Turns.{turns_left}
+use Rattle.glob_walk.specs.Walks.{Charges}
 use Rattle.glob_walk.proofs.walker.Walker.run.Given as goal
 
 abbrev pub invariant-loop-turn : goal.invariant-loop-turn

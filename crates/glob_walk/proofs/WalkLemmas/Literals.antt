@@ -1,0 +1,93 @@
+-- A literal component matches the names that are the same as it.
+use Rattle.std.proofs.Common.{◌≡◌, ℕ, zero, suc, ◌+◌, ◌<◌, ◌↔◌, Bool, true, false, cond, ◌&&◌, ◌==◌, List, [], ◌∷◌, length, Result, Ok, Err, slice_index, IsTrue, refl, ap, sym, ◌∙◌, arith, chars}
+use Rattle.std.specs.Prelude.{IfOk}
+use Rattle.std.specs.List.{list_all, zip}
+use Rattle.std.specs.Bool.{Decides, one_answer}
+use Rattle.std.specs.Str.{IsUtf8}
+use Rattle.std.proofs.lemmas.Bool.{and_parts, eqb-true, eq-eqb}
+use Rattle.glob_text.specs.Text.{Text}
+use Rattle.glob_pattern.specs.Grammar.Brackets.{same}
+use Rattle.glob_pattern.specs.Laws.{SameTexts}
+use Rattle.glob_pattern.specs.Matching.Texts.{Matches}
+use Rattle.glob_pattern.specs.Computing.Deciding.{is_match}
+use Rattle.glob_pattern.specs.declared.options.MatchOptions.{MatchOptions}
+use Rattle.glob_pattern.proofs.GrammarLemmas.Accepted.{reading_of-Ok, one_reading}
+use Rattle.glob_pattern.proofs.MatchingLemmas.Deciding.{Decides-Matches}
+use Rattle.glob_pattern.proofs.MatchingLemmas.PlainPatterns.{plain_matches_same}
+use Rattle.glob_walk.specs.Components.{component_kind, Literal, Recursive, Wild, is_literal, is_recursive, matches_name}
+use Rattle.glob_walk.specs.Private.Parts.{same_texts}
+use Rattle.glob_walk.proofs.WalkLemmas.Reading.{IsPlain-literal}
+
+and_both : (a b : Bool) → a ≡ true → b ≡ true → (a && b) ≡ true
+and_both true b h k = k
+and_both false b h k = h
+
+module _ (case : Bool) where
+  sound : (xs ys : Text) → length xs ≡ length ys → list_all (λ p. same case p.0 p.1) (zip xs ys) ≡ true → SameTexts case xs ys
+  sound [] [] l h = (refl, λ k b. absurd (omega (arith, b)))
+  sound [] (y ∷ ys) l h = absurd (omega (arith, l))
+  sound (x ∷ xs) [] l h = absurd (omega (arith, l))
+  sound (x ∷ xs) (y ∷ ys) l h =
+      let both = and_parts (same case x y) (list_all (λ p. same case p.0 p.1) (zip xs ys)) h in
+      let rest = sound xs ys (omega (arith, l)) both.1 in
+      (l, at both.0 rest.1)
+    where
+      at : same case x y ≡ true → ((k : ℕ) → k < length ys → IsTrue (same case (slice_index xs k) (slice_index ys k)))
+          → (k : ℕ) → k < length (y ∷ ys) → IsTrue (same case (slice_index (x ∷ xs) k) (slice_index (y ∷ ys) k))
+      at first later zero b = first
+      at first later (suc k) b = later k (omega (arith, b))
+
+  complete : (xs ys : Text) → SameTexts case xs ys → list_all (λ p. same case p.0 p.1) (zip xs ys) ≡ true
+  complete [] ys h = refl
+  complete (x ∷ xs) [] h = refl
+  complete (x ∷ xs) (y ∷ ys) (l, at) =
+      and_both (same case x y) (list_all (λ p. same case p.0 p.1) (zip xs ys)) (at 0 (omega arith)) (complete xs ys (omega (arith, l), λ k b. at (suc k) (omega (arith, b))))
+
+  Decides-SameTexts : (xs ys : Text) → Decides (same_texts case xs ys) (SameTexts case xs ys)
+  Decides-SameTexts xs ys = (
+    (λ h.
+        let both = and_parts (length xs == length ys) (list_all (λ p. same case p.0 p.1) (zip xs ys)) h in
+        sound xs ys (eqb-true (length xs) (length ys) both.0) both.1),
+    (λ h. and_both (length xs == length ys) (list_all (λ p. same case p.0 p.1) (zip xs ys)) (eq-eqb (length xs) (length ys) h.0) (complete xs ys h)),
+  )
+
+  -- texts of one length
+  pub counted_same : (xs ys : Text) → length xs ≡ length ys → list_all (λ p. same case p.0 p.1) (zip xs ys) ≡ same_texts case xs ys
+  counted_same xs ys e = sym (ap (λ b. b && list_all (λ p. same case p.0 p.1) (zip xs ys)) (eq-eqb (length xs) (length ys) e))
+
+  -- texts of two lengths
+  pub counted_apart : (xs ys : Text) (n m : ℕ) → n ≡ length xs → m ≡ length ys → (n ≡ m → ⊥) → (n == m) ≡ same_texts case xs ys
+  counted_apart xs ys n m e f apart = by_test (n == m) refl
+    where
+      by_test : (b : Bool) → (n == m) ≡ b → b ≡ same_texts case xs ys
+      by_test true h = absurd (apart (eqb-true n m h))
+      by_test false h = ap (λ b. b && list_all (λ p. same case p.0 p.1) (zip xs ys)) (sym h ∙ ap (λ k. k == m) e ∙ ap (λ k. length xs == k) f)
+
+-- the kind of a literal component
+pub literal_kind : (t : Text) → component_kind t ≡ Literal → is_literal t ≡ true
+literal_kind t h = by_test (is_literal t) (is_recursive t) refl h
+  where
+    by_test : (b r : Bool) → is_literal t ≡ b → cond b Literal (cond r Recursive Wild) ≡ Literal → b ≡ true
+    by_test true r e k = refl
+    by_test false true e k = absurd (cc)
+    by_test false false e k = absurd (cc)
+
+Decides-is_match : (o : MatchOptions) (pattern text : Text) → Decides (is_match o pattern text) (Matches o pattern text)
+Decides-is_match o pattern text = Decides-Matches o pattern text (λ tokens. ((reading_of-Ok pattern tokens).1, (reading_of-Ok pattern tokens).0))
+
+-- a pattern's answer is that of the decider
+same_answer : (o : MatchOptions) (pattern name : Text) (b : Bool) → (IsTrue b ↔ Matches o (chars pattern) (chars name)) → b ≡ matches_name o pattern name
+same_answer o pattern name b h = one_answer b (is_match o (chars pattern) (chars name)) (h.0, h.1) (Decides-is_match o (chars pattern) (chars name))
+
+pub matches_name-result : {E : Type 0} (o : MatchOptions) (pattern name : Text) (r : Result Bool E) → IfOk r (λ b. IsTrue b ↔ Matches o (chars pattern) (chars name))
+    → IfOk r (λ b. b ≡ matches_name o pattern name)
+matches_name-result o pattern name (Ok b) h = same_answer o pattern name b h
+matches_name-result o pattern name (Err e) h = h
+
+-- and so is that of the comparison with a literal component
+pub matches_name-literal : (o : MatchOptions) (component name : Text) → IsUtf8 component → is_literal component ≡ true
+    → same_texts o.case_sensitive (chars name) (chars component) ≡ matches_name o component name
+matches_name-literal o component name utf8 literal =
+    let decides = Decides-SameTexts o.case_sensitive (chars name) (chars component) in
+    let both = plain_matches_same one_reading o (chars component) (chars name) (IsPlain-literal component utf8 literal) in
+    same_answer o component name (same_texts o.case_sensitive (chars name) (chars component)) ((λ h. both.1 (decides.0 h)), (λ m. decides.1 (both.0 m)))

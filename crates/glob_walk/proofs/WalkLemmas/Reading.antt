@@ -1,0 +1,180 @@
+-- Reading a pattern's components.
+use Rattle.std.proofs.Common.{◌≡◌, ◌≢◌, ℕ, ◌+◌, ◌-◌, ◌<◌, Bool, true, false, cond, not, ◌||◌, ◌==◌, List, [], ◌∷◌, ◌++◌, length, take, drop, drop-cons, add-one, suc, get_or, slice_index, map, Option, Some, None, Result, Ok, Err, refl, ap, sym, subst, ◌∙◌, arith, chars, rules}
+use Rattle.std.specs.Prelude.{IfOk, IfErr, IsErrAnd, MatchOption, is_some}
+use Rattle.std.specs.Borrow.{Bor}
+use Rattle.std.proofs.lemmas.List.{length-append}
+use Rattle.std.specs.Result.{result_err}
+use Rattle.std.specs.List.{list_any}
+use Rattle.std.specs.Str.{IsUtf8}
+use Rattle.std.proofs.lemmas.Bool.{both_ways, or_parts, false≢true, eqb-true}
+use Rattle.std.proofs.lemmas.Str.{encode_ascii, encodes-chars}
+use lib.Utf8.{encode, encodes}
+use Rattle.glob_text.specs.Text.{Text}
+use Rattle.glob_text.specs.Characters.{slash}
+use Rattle.glob_text.specs.Pieces.{ends_with, begins_with}
+use Rattle.glob_pattern.specs.Grammar.Characters.{is_wildcard}
+use Rattle.glob_pattern.specs.Grammar.Tokens.{tokens_of_units}
+use Rattle.glob_pattern.specs.Grammar.Units.{IsAccepted}
+use Rattle.glob_pattern.specs.Grammar.Faults.{Refuses, Fault}
+use Rattle.glob_pattern.specs.Computing.Reading.{reading_of}
+use Rattle.glob_pattern.specs.declared.error.PatternRefusal.{PatternRefusal}
+use Rattle.glob_pattern.specs.declared.error.PatternRefusal.TheVariants as refusal
+use Rattle.glob_pattern.proofs.GrammarLemmas.Accepted.{reading_of-Ok, reading_of-Err}
+use Rattle.glob_pattern.proofs.MatchingLemmas.PlainPatterns.{plain_accepted}
+use Rattle.glob_tree.proofs.ContentLemmas.Resolving.{front_and_end}
+use Rattle.std.proofs.lemmas.Iterator.{YieldsList}
+use Rattle.std.proofs.lemmas.Iterator.Consumers.{YieldsList-turn, YieldsList-so_far}
+use Rattle.std.proofs.lemmas.List.{take-append-drop}
+use Rattle.std.specs.Iterator.{Yields}
+use Rattle.std.specs.Option.{option_or}
+use Rattle.glob_walk.specs.Components.{components, first_fault, walk_fault, without_end_separator, without_root, is_literal}
+use Rattle.glob_walk.specs.Private.Parts.{text_fault}
+use Rattle.glob_walk.specs.Walks.{RefusesWith}
+
+-- a text that does not end in a separator stays as it is
+pub without_end-plain : (text : Text) → ((front : List ℕ) → text ≢ front ++ slash ∷ []) → text ≡ without_end_separator text
+without_end-plain [] h = refl
+without_end-plain (b ∷ bs) h = by_test (ends_with slash (b ∷ bs)) refl
+  where
+    by_test : (e : Bool) → ends_with slash (b ∷ bs) ≡ e → b ∷ bs ≡ cond e (take (length (b ∷ bs) - 1) (b ∷ bs)) (b ∷ bs)
+    by_test true e = absurd (h (take (length (b ∷ bs) - 1) (b ∷ bs)) (front_and_end slash (b ∷ bs) e (omega arith)))
+    by_test false e = refl
+
+-- a text that does not begin with a separator stays as it is
+pub without_root-plain : (text : Text) → ((rest : List ℕ) → text ≢ slash ∷ rest) → text ≡ without_root text
+without_root-plain [] h = refl
+without_root-plain (b ∷ bs) h = by_test (b == slash) refl
+  where
+    by_test : (e : Bool) → (b == slash) ≡ e → b ∷ bs ≡ cond e (drop 1 (b ∷ bs)) (b ∷ bs)
+    by_test true e = absurd (h bs (ap (λ x. x ∷ bs) (eqb-true b slash e)))
+    by_test false e = refl
+
+-- an accepted text has no fault
+pub text_fault-accepted : (text : Text) → IsAccepted (chars text) → text_fault text ≡ None
+text_fault-accepted text (units, has) = ap result_err ((reading_of-Ok (chars text) (tokens_of_units units)).1 (units, has, refl))
+
+-- a refusal tells the fault
+pub RefusesWith-text_fault : (text : Text) (e : PatternRefusal) → Refuses (chars text) e → RefusesWith (text_fault text) e
+RefusesWith-text_fault text (refusal.Syntax e) h = ap result_err ((reading_of-Err (chars text) (record { place = e.pos; message = e.msg.now })).1 h)
+RefusesWith-text_fault text refusal.Memory h = tt
+
+pub accepted_result : {T E : Type 0} (text : Text) (r : Result T E) → IfOk r (λ _. IsAccepted (chars text)) → IfOk r (λ _. text_fault text ≡ None)
+accepted_result text (Ok x) h = text_fault-accepted text h
+accepted_result text (Err e) h = h
+
+pub refused_result : {T : Type 0} (text : Text) (r : Result T PatternRefusal) → IfErr r (Refuses (chars text)) → IfErr r (RefusesWith (text_fault text))
+refused_result text (Ok x) h = h
+refused_result text (Err e) h = RefusesWith-text_fault text e h
+
+or_none : (a b : Bool) → a ≡ false → b ≡ false → (a || b) ≡ false
+or_none true b h k = h
+or_none false b h k = k
+
+wildcard_ascii : (c : ℕ) → is_wildcard c ≡ true → c < 128
+wildcard_ascii c h = grind (arith, rules)
+
+any-parts : (xs ys : List ℕ) → list_any is_wildcard (xs ++ ys) ≡ false → (list_any is_wildcard xs ≡ false) × (list_any is_wildcard ys ≡ false)
+any-parts [] ys h = (refl, h)
+any-parts (x ∷ xs) ys h =
+    let both = or_parts (is_wildcard x) (list_any is_wildcard (xs ++ ys)) h in
+    let rest = any-parts xs ys both.1 in
+    (or_none (is_wildcard x) (list_any is_wildcard xs) both.0 rest.0, rest.1)
+
+-- a character is a wildcard only as its one byte
+no_wildcard : (c : ℕ) → list_any is_wildcard (encode c) ≡ false → is_wildcard c ≡ false
+no_wildcard c h = by_test (is_wildcard c) refl
+  where
+    by_test : (b : Bool) → is_wildcard c ≡ b → b ≡ false
+    by_test true e =
+        let one : list_any is_wildcard (c ∷ []) ≡ false = ap (list_any is_wildcard) (sym (encode_ascii c (wildcard_ascii c e))) ∙ h in
+        absurd (both_ways (is_wildcard c) (or_parts (is_wildcard c) false one).0 e)
+    by_test false e = refl
+
+no_wildcards : (cs : List ℕ) → list_any is_wildcard (encodes cs) ≡ false → list_any is_wildcard cs ≡ false
+no_wildcards [] h = refl
+no_wildcards (c ∷ cs) h =
+    let both = any-parts (encode c) (encodes cs) h in
+    or_none (is_wildcard c) (list_any is_wildcard cs) (no_wildcard c both.0) (no_wildcards cs both.1)
+
+not_true : (b : Bool) → not b ≡ true → b ≡ false
+not_true true h = absurd (false≢true h)
+not_true false h = refl
+
+-- the characters of a literal text are no wildcards
+pub IsPlain-literal : (text : Text) → IsUtf8 text → is_literal text ≡ true → list_any is_wildcard (chars text) ≡ false
+IsPlain-literal text utf8 h = no_wildcards (chars text) (ap (list_any is_wildcard) (encodes-chars text utf8) ∙ not_true (list_any is_wildcard text) h)
+
+-- so it has no fault
+pub text_fault-literal : (text : Text) → IsUtf8 text → is_literal text ≡ true → text_fault text ≡ None
+text_fault-literal text utf8 h = text_fault-accepted text (plain_accepted (chars text) (IsPlain-literal text utf8 h))
+
+-- what stands in a list from place n on
+drop_from : {X : Type 0} (xs : List X) (n : ℕ) (x : X) → n < length xs → x ≡ get_or xs n x → drop n xs ≡ x ∷ drop (n + 1) xs
+drop_from xs n x below is = rw add-one (drop-cons xs n x below ∙ ap (λ y. y ∷ drop (suc n) xs) (sym is))
+
+-- the texts, at one that is yielded
+pub split_at_turn : {S A : Type 0} {steps : S → Option A → S → Type 0} {shows : A → Text} {s : S} {texts : List Text} → YieldsList steps shows s texts
+    → (yielded : List A) (t : S) → Yields steps s yielded t → (next : Option A) (u : S) (x : A) → next ≡ Some x → steps t next u
+    → (others : List Text) × (texts ≡ map shows yielded ++ shows x ∷ others)
+split_at_turn {shows = shows} {texts = texts} reading yielded t read next u x is step =
+    let n : ℕ = length yielded in
+    let turn = YieldsList-turn reading yielded t read next u x is step in (
+      drop (n + 1) texts,
+      sym (take-append-drop n texts) ∙ ap (λ zs. take n texts ++ zs) (drop_from texts n (shows x) turn.0 turn.1)
+          ∙ ap (λ zs. zs ++ shows x ∷ drop (n + 1) texts) (sym (YieldsList-so_far reading yielded t read)),
+    )
+
+fault_past : (o a b r : Option Fault) → (a ≡ None → b ≡ r) → option_or o a ≡ None → option_or o b ≡ r
+fault_past None a b r f h = f h
+fault_past (Some x) a b r f h = absurd (cc)
+
+-- the first fault stands after texts without one
+pub first_fault-append : (front others : List Text) → first_fault front ≡ None → first_fault (front ++ others) ≡ first_fault others
+first_fault-append [] others h = refl
+first_fault-append (t ∷ ts) others h =
+    fault_past (text_fault t) (first_fault ts) (first_fault (ts ++ others)) (first_fault others) (first_fault-append ts others) h
+
+pub first_fault-push : (front : List Text) (t : Text) → first_fault front ≡ None → text_fault t ≡ None → first_fault (front ++ t ∷ []) ≡ None
+first_fault-push front t h k = first_fault-append front (t ∷ []) h ∙ ap (λ o. option_or o None) k
+
+-- a refusal of the first text with a fault
+pub RefusesWith-first : (texts front others : List Text) (t : Text) (e : PatternRefusal) → texts ≡ front ++ t ∷ others → first_fault front ≡ None → RefusesWith (text_fault t) e
+    → RefusesWith (first_fault texts) e
+RefusesWith-first texts front others t (refusal.Syntax e) is h k =
+    ap first_fault is ∙ first_fault-append front (t ∷ others) h ∙ ap (λ o. option_or o (first_fault others)) k
+RefusesWith-first texts front others t refusal.Memory is h k = tt
+
+-- what follows from what is known of an error holds of it
+pub IfErr-from_known : {T E : Type 0} (r : Result T E) (P Q : E → Type 0) → ((e : E) → P e → Q e) → IsErrAnd r P → IfErr r Q
+IfErr-from_known (Ok x) P Q follows known = tt
+IfErr-from_known (Err e) P Q follows known = follows e known
+
+-- the whole text is read first
+pub walk_fault-whole : (pattern : Text) (e : PatternRefusal) → RefusesWith (text_fault pattern) e → RefusesWith (walk_fault pattern) e
+unfolding walk_fault
+walk_fault-whole pattern (refusal.Syntax e) h = ap (λ o. option_or o (first_fault (components pattern))) h
+walk_fault-whole pattern refusal.Memory h = tt
+
+pub walk_fault-components : (pattern : Text) → text_fault pattern ≡ None → first_fault (components pattern) ≡ walk_fault pattern
+unfolding walk_fault
+walk_fault-components pattern h = ap (λ o. option_or o (first_fault (components pattern))) (sym h)
+
+last_of : (front : Text) → slice_index (front ++ slash ∷ []) (length front) ≡ slash
+last_of [] = refl
+last_of (b ∷ bs) = last_of bs
+
+ends_with-slash : (front : Text) → ends_with slash (front ++ slash ∷ []) ≡ true
+ends_with-slash front =
+    let at : length (front ++ slash ∷ []) - 1 ≡ length front = omega (arith, length-append front (slash ∷ [])) in
+    ap (λ n. slice_index (front ++ slash ∷ []) n == slash) at ∙ ap (λ b. b == slash) (last_of front)
+
+-- a separator at the end is found
+pub ends_with-found : (text : Text) (r : Option (Bor (List ℕ))) → MatchOption r ((front : List ℕ) → text ≢ front ++ slash ∷ []) (λ x. text ≡ x.now ++ slash ∷ [])
+    → is_some r ≡ ends_with slash text
+ends_with-found text (Some x) h = sym (ap (ends_with slash) h ∙ ends_with-slash x.now)
+ends_with-found [] None h = refl
+ends_with-found (b ∷ bs) None h = by_test (ends_with slash (b ∷ bs)) refl
+  where
+    by_test : (e : Bool) → ends_with slash (b ∷ bs) ≡ e → false ≡ e
+    by_test true e = absurd (h (take (length (b ∷ bs) - 1) (b ∷ bs)) (front_and_end slash (b ∷ bs) e (omega arith)))
+    by_test false e = refl

@@ -1,0 +1,11 @@
+use Rattle.std.proofs.Common.{rules, sym, ◌∙◌}
+use Rattle.glob_walk.proofs.WalkLemmas.Reading.{text_fault-literal}
+use Rattle.glob_walk.proofs.part.Part.read.Goals.{then-is_literal+in_ok-from_str, else-is_literal+then-is_recursive+in_ok-compile, else-is_literal+else-is_recursive+in_ok-compile-2}
+use Rattle.glob_walk.proofs.part.Part.read.Goals as goal
+
+pub returns-clause-accepted : goal.returns-clause-accepted
+returns-clause-accepted g c = elim c.if-is_literal.branch [
+  | then-is_literal+in_ok-from_str w ↦ text_fault-literal c.args.text.now c.utf8.text (sym c.is_literal.ensures ∙ w.if-is_literal.true)
+  | else-is_literal+then-is_recursive+in_ok-compile w ↦ w.in_ok-compile.ensures.accepted
+  | else-is_literal+else-is_recursive+in_ok-compile-2 w ↦ w.in_ok-compile-2.ensures.accepted
+]
