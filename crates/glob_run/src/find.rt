@@ -8,7 +8,7 @@ use std::alloc::Allocator;
 use std::fs::Files;
 use std::io::{self, BufWriter, Write};
 
-/// A path that is found within so many units of the walk after the last write may wait for others.
+/// Paths wait for others until one is found so many units of the walk after the last that was written at once.
 const PATIENCE: u64 = 1000;
 
 /// Walks the disk, writes each path and a line feed to `output` and each error to `errors`, and answers the exit status.

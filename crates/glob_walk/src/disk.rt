@@ -15,11 +15,14 @@ use std::marker::Model;
 /// How many bytes of a directory are read at once. Most directories fit.
 const BLOCK: usize = 32768;
 
-/// The real file system, as a tree that tells nothing of its content. Relative paths begin at the process's current
-/// directory, and links are followed.
+/// The real file system, as a tree with no known content: contracts know only how much was asked of it. Relative paths
+/// begin at the current directory of the process, and links are followed.
 ///
-/// A look makes one system call, and two where the path cannot be followed to its end. A listing makes one for each
-/// entry, and few for the directory.
+/// A look makes one system call, and two where the path cannot be followed to its end. A listing makes one for each entry,
+/// and a few for the directory. An I/O error of the kind `OutOfMemory` is an allocation failure.
+///
+/// In a directory with a file `a` and a link `b` to `a`, a look at `b` finds `Other`, and a listing of `.` the entries `a`
+/// and `b`, neither of them a directory.
 #[derive(Drop)]
 pub struct Disk<R: Files, A: Allocator = Global> {
     rt: R,
@@ -37,7 +40,7 @@ impl<R: Files, A: Allocator> Model for Disk<R, A> {
 }
 
 impl<R: Files, A: Allocator> Disk<R, A> {
-    /// The file system that `rt` reaches. The names of its listings are allocated from `alloc`.
+    /// The file system that `rt` reaches. Its listings are allocated from `alloc`. This call takes no memory.
     pub fn new(rt: R, alloc: A) -> Self
         ensures { result ≡ 0 }
     {
@@ -56,7 +59,7 @@ impl<R: Files + Drop, A: Allocator + Copy> Tree for Disk<R, A> {
 
     ghost asks = { λ disk. disk };
 
-    /// A path that is there and cannot be followed to its end, as a link whose target is missing, is `Other`.
+    /// `Other` is also a path that is there and cannot be followed to its end, as a link whose target is missing.
     fn look(&mut self, path: &str) -> Result<Look, AllocError>
         ensures asks { self.new ≡ self.old + 1 }
     {
@@ -68,7 +71,7 @@ impl<R: Files + Drop, A: Allocator + Copy> Tree for Disk<R, A> {
         }
     }
 
-    /// An entry whose kind cannot be learned is no directory. Where one name is not UTF-8, the listing fails with an
+    /// An entry whose kind cannot be learned is no directory. Where a name is not UTF-8, the whole listing fails with an
     /// error of the kind `InvalidFilename`.
     fn list(&mut self, path: &str) -> Result<Vec<Entry<A>, A>, ListError>
         ensures asks { self.new ≡ self.old + 1 + entry_count result }
