@@ -2,7 +2,8 @@
 # Runs the built program against what no contract can speak of: the streams of the system. Prints a line for each row
 # that fails, and last how many passed and failed.
 set -u
-program=$(cd "$(dirname "$(readlink -f "${BASH_SOURCE[0]}")")/.." && pwd)/bin/glob_run
+root=$(cd "$(dirname "$(readlink -f "${BASH_SOURCE[0]}")")/.." && pwd)
+program=$root/bin/glob_run
 work=$(mktemp -d)
 trap 'rm -rf "$work"' EXIT
 passed=0 failed=0
@@ -99,6 +100,139 @@ run match '*7' <"$work/in"
 lines=$(wc -l <"$work/out")
 echo "$lines" >"$work/out"
 check 'a million lines' 0 '100000\n' ''
+
+# The command find. All of it runs in a folder of its own.
+usage='usage: glob_run match [-i] [-s] [-d] PATTERN | escape TEXT | find [-i] [-s] [-d] [-n LIMIT] PATTERN\n'
+mkdir "$work/tree"
+cd "$work/tree" || exit 1
+
+# unread PATH: the beginning of the line for a path that cannot be read
+unread() {
+    echo "attempting to read \`$1\` resulted in an error: "
+}
+
+# begins NAME STATUS OUTPUT FAULT: as check, where the errors are one line that begins so
+begins() {
+    local lines
+    lines=$(wc -l <"$work/err")
+    head -c "$(printf '%b' "$4" | wc -c)" "$work/err" >"$work/front"
+    echo " of $lines" >>"$work/front"
+    cp "$work/front" "$work/err"
+    check "$1" "$2" "$3" "$4 of 1\n"
+}
+
+run find '*'
+check 'find in an empty folder' 1 '' ''
+
+run find -n 0 '*'
+check 'find with no unit to spend' 2 '' "$(unread .)walk limit reached\n"
+
+run find $'\xff'
+check 'find with a word that is not UTF-8' 2 '' "$usage"
+
+mkdir names && touch 'names/a b' $'names/a\nb' 'names/a*b' 'names/[x]' $'names/\xc3\xa9'
+run find 'names/*'
+check 'names with blanks, line feeds and wildcards' 0 'names/[x]\nnames/a\nb\nnames/a b\nnames/a*b\nnames/\xc3\xa9\n' ''
+run find 'names/a[*]b'
+check 'a wildcard in a bracket' 0 'names/a*b\n' ''
+run find "$("$program" escape 'names/[x]')"
+check 'an escaped name' 0 'names/[x]\n' ''
+
+mkdir -p paths/sub && touch paths/x1 paths/sub/x2
+run find 'paths/x*'
+check 'a relative pattern' 0 'paths/x1\n' ''
+run find "$PWD/paths/x*"
+check 'an absolute pattern' 0 "$PWD/paths/x1\n" ''
+run find //
+check 'the root' 0 '/\n' ''
+cd paths/sub || exit 1
+run find './x*'
+check 'a pattern from here' 0 'x2\n' ''
+run find '../x*'
+check 'a pattern from the parent' 0 '../x1\n' ''
+run find '.*/x*'
+check 'dots that match' 0 './../x1\nx2\n' ''
+cd ../..
+
+long=$(printf '%255s' '' | tr ' ' n)
+mkdir long && touch "long/$long"
+run find 'long/n*n'
+check 'a name of 255 bytes' 0 "long/$long\n" ''
+run find "long/$long"
+check 'a literal name of 255 bytes' 0 "long/$long\n" ''
+run find "long/n$long"
+check 'a literal name of 256 bytes' 1 '' ''
+
+mkdir -p latin/a latin/b latin/c && touch latin/a/x $'latin/b/\xff' latin/b/x latin/c/x
+run find 'latin/*/?'
+begins 'a name that is not UTF-8' 2 'latin/a/x\nlatin/c/x\n' "$(unread latin/b)"
+run find 'latin/*/x'
+check 'a literal name beside one that is not UTF-8' 0 'latin/a/x\nlatin/b/x\nlatin/c/x\n' ''
+"$program" find 'latin/*/?' >"$work/out" 2>&1
+status=$?
+sed -i 's/in an error: .*/in an error/' "$work/out" && : >"$work/err"
+check 'errors and paths in the order of the walk' 2 'latin/a/x\nattempting to read `latin/b` resulted in an error\nlatin/c/x\n' ''
+
+mkdir -p links/dir && touch links/dir/x && ln -s dir links/near && ln -s missing links/gone && ln -s ring links/ring
+run find 'links/*'
+check 'links are listed' 0 'links/dir\nlinks/gone\nlinks/near\nlinks/ring\n' ''
+run find 'links/*/'
+check 'links to directories are directories' 0 'links/dir\nlinks/near\n' ''
+run find 'links/near/*'
+check 'a link is followed' 0 'links/near/x\n' ''
+run find links/gone
+check 'a link whose target is missing' 0 'links/gone\n' ''
+run find links/gone/
+check 'a link whose target is missing is no directory' 1 '' ''
+run find links/ring
+check 'a link to itself' 0 'links/ring\n' ''
+
+# Two links to their own directory: twice as many paths at each level.
+mkdir cycle && ln -s . cycle/a && ln -s . cycle/b
+run find -n 1000 'cycle/**'
+head -2 "$work/out" >"$work/first" && cp "$work/first" "$work/out"
+sed -i 's/`.*`/`..`/' "$work/err"
+check 'a limit ends a cycle of links' 2 'cycle/a\ncycle/a/a\n' "$(unread ..)walk limit reached\n"
+(
+    timeout 60 "$program" find 'cycle/**' 2>"$work/err"
+    echo $? >"$work/status"
+) | head -1 >"$work/out"
+status=$(cat "$work/status")
+check 'the first path is written while the walk goes on' 2 'cycle/a\n' 'writing failed\n'
+
+# A directory that is not ours to read. Root can read it, and so gives its rights up.
+mkdir -p shut/a shut/b shut/c && touch shut/a/x shut/b/x shut/c/x && chmod 000 shut/b && chmod 755 "$work"
+as_user=() binary=$root/crates/glob_run/out/glob_run
+[ "$(id -u)" != 0 ] || as_user=(setpriv --reuid=65534 --regid=65534 --clear-groups)
+if "${as_user[@]}" "$binary" escape a >/dev/null 2>&1; then
+    "${as_user[@]}" "$binary" find 'shut/*/?' >"$work/out" 2>"$work/err"
+    status=$?
+    begins 'a directory that cannot be read' 2 'shut/a/x\nshut/c/x\n' "$(unread shut/b)"
+else
+    echo "skipped: a directory that cannot be read: root reads it, and no other user can run the program here"
+fi
+chmod 755 shut/b
+
+chain=chain$(printf '%999s' '' | sed 's| |/d|g')
+mkdir -p "$chain"
+run find 'chain/**'
+echo "$(wc -l <"$work/out") $(tail -n 1 "$work/out" | wc -c)" >"$work/count" && cp "$work/count" "$work/out"
+check 'a chain of a thousand directories' 0 '999 2004\n' ''
+
+mkdir many && seq -f 'many/%06.0f' 20000 | xargs touch
+run find 'many/*'
+seq -f 'many/%06.0f' 20000 | cmp -s - "$work/out" && : >"$work/out"
+check 'twenty thousand files' 0 '' ''
+(
+    "$program" find 'many/*' 2>"$work/err"
+    echo $? >"$work/status"
+) | head -1 >"$work/out"
+status=$(cat "$work/status")
+check 'find for a reader that goes away' 2 'many/000001\n' 'writing failed\n'
+: >"$work/out"
+"$program" find 'many/*' >/dev/full 2>"$work/err"
+status=$?
+check 'find to a full standard output' 2 '' 'writing failed\n'
 
 echo "$passed passed, $failed failed"
 [ "$failed" = 0 ]

@@ -28,4 +28,6 @@ pub use glob_pattern::{
     Judge, MatchOptions, Pattern, PatternError, PatternRefusal, Shape, run_positions,
 };
 pub use glob_tree::{Asks, Entry, ListError, Look, MemTree, Name, Tree, TreeRefusal};
-pub use glob_walk::{End, GlobCause, GlobError, GlobResult, Paths, Walk, glob_in, walk_in};
+pub use glob_walk::{
+    Disk, End, GlobCause, GlobError, GlobResult, Paths, Walk, glob, glob_in, glob_with, walk_in,
+};

@@ -1,6 +1,7 @@
+//! What the words of a command line ask for.
 use glob::MatchOptions;
 
-/// What the arguments of the program ask for.
+/// What a list of words asks of the program.
 pub enum Command<'a> {
     /// Copy the lines that the pattern matches.
     Match {
@@ -11,10 +12,21 @@ pub enum Command<'a> {
     Escape {
         text: &'a str,
     },
+    /// Write the paths that a walk of the disk finds.
+    Find(Search<'a>),
+}
+
+/// A walk of the disk.
+#[derive(Clone, Copy)]
+pub struct Search<'a> {
+    pub pattern: &'a str,
+    pub options: MatchOptions,
+    /// How many units the walk may spend.
+    pub limit: u64,
 }
 
 impl<'a> Command<'a> {
-    /// Parses the words after the program's name. `None` is a usage error.
+    /// Reads the words after the program's name. `None` is a usage fault.
     pub fn parse(words: &[&'a str]) -> Option<Self> {
         let (&name, words) = words.split_first()?;
         match name {
@@ -22,6 +34,7 @@ impl<'a> Command<'a> {
             "escape" => Some(Command::Escape {
                 text: only_operand(words)?,
             }),
+            "find" => Some(Command::Find(Search::parse(words)?)),
             _ => None,
         }
     }
@@ -30,6 +43,30 @@ impl<'a> Command<'a> {
         let (options, count) = leading_options(words);
         let pattern = only_operand(words.get(count..)?)?;
         Some(Command::Match { options, pattern })
+    }
+}
+
+impl<'a> Search<'a> {
+    /// Reads the words after `find`. Between match options, `-n LIMIT` can stand, and the last one counts.
+    fn parse(words: &[&'a str]) -> Option<Self> {
+        let mut options = MatchOptions::new();
+        let mut limit = u64::MAX;
+        let mut is_limit = false;
+        for (count, word) in words.iter().enumerate() {
+            if is_limit {
+                limit = parse_limit(word)?;
+                is_limit = false;
+            } else if *word == "-n" {
+                is_limit = true;
+            } else if !set_option(&mut options, word) {
+                return Some(Search {
+                    pattern: only_operand(words.get(count..)?)?,
+                    options,
+                    limit,
+                });
+            }
+        }
+        None
     }
 }
 
@@ -44,7 +81,7 @@ fn leading_options(words: &[&str]) -> (MatchOptions, usize) {
     (options, words.len())
 }
 
-/// Sets the match option that the word names, and returns false where it names none.
+/// Sets the match option that the word names. False where it names none.
 fn set_option(options: &mut MatchOptions, word: &str) -> bool {
     match word {
         "-i" => options.case_sensitive = false,
@@ -55,7 +92,16 @@ fn set_option(options: &mut MatchOptions, word: &str) -> bool {
     true
 }
 
-/// The one word after the options. If it begins with `-`, a `--` has to stand before it.
+/// A limit: one to twenty decimal digits, whose number is at most `u64::MAX`.
+fn parse_limit(digits: &str) -> Option<u64> {
+    let is_number = digits.bytes().all(|byte| byte.is_ascii_digit());
+    if !is_number || digits.len() > 20 {
+        return None;
+    }
+    digits.parse().ok()
+}
+
+/// The one word that is left after the options. A word that begins with `-` can stand there only after `--`.
 fn only_operand<'a>(words: &[&'a str]) -> Option<&'a str> {
     match words {
         [word] if !word.starts_with('-') => Some(word),

@@ -1,20 +1,24 @@
-//! Shell patterns at the command line. `glob_run match PATTERN` copies the matching lines of standard input, and
-//! `glob_run escape TEXT` writes the pattern that stands for the text alone.
+//! Shell patterns at the command line. `glob_run match PATTERN` copies the matching lines of standard input,
+//! `glob_run escape TEXT` writes the pattern that stands for the text alone, and `glob_run find PATTERN` writes the paths
+//! of the disk that the pattern matches.
 #![tactic(auto)]
 
 ghost use Rattle.std.specs.Prelude.{◌≤◌};
 
 mod command;
+mod find;
 
 use command::Command;
+use find::run_find;
 use glob::{MatchOptions, Pattern, Watch, filter_lines};
 use std::alloc::{AllocError, Allocator};
 use std::env;
 use std::fmt::Display;
+use std::fs::Files;
 use std::io::{self, Read, Write};
 use std::process::ExitCode;
 
-/// The line that is printed at a usage error.
+/// The line that a usage fault prints.
 const USAGE: &str =
     "usage: glob_run match [-i] [-s] [-d] PATTERN | escape TEXT | find [-i] [-s] [-d] [-n LIMIT] PATTERN";
 
@@ -24,13 +28,15 @@ const MATCHED: u8 = 0;
 /// Nothing matched.
 const UNMATCHED: u8 = 1;
 
-/// There was an error.
+/// There was a fault.
 const FAULT: u8 = 2;
 
 /// Runs the program on the words after its name, and returns its exit status: 0 where something matched, 1 where
-/// nothing did, 2 at an error. An error is one line on `errors`; one of `errors` itself is ignored. A usage error is
-/// found first, then an error in the pattern, both before anything is read or written.
-pub fn run_words<A: Allocator + Copy, R: Read + Drop, W: Write + Drop, E: Write>(
+/// nothing did, 2 at a fault or where a walk met an error. A fault is one line on `errors`; a fault of `errors` itself is
+/// dropped. A usage fault is found first, then a fault of the pattern, both before anything is read, looked up or
+/// written. The disk is the one that `rt` reaches.
+pub fn run_words<F: Files + Drop, A: Allocator + Copy, R: Read + Drop, W: Write + Drop, E: Write>(
+    rt: F,
     alloc: A,
     words: &[&str],
     input: R,
@@ -45,6 +51,7 @@ pub fn run_words<A: Allocator + Copy, R: Read + Drop, W: Write + Drop, E: Write>
             run_match(alloc, options, pattern, input, output, errors)
         }
         Some(Command::Escape { text }) => run_escape(alloc, text, output, errors),
+        Some(Command::Find(search)) => run_find(rt, alloc, search, output, errors),
     }
 }
 
@@ -88,14 +95,14 @@ fn run_escape<A: Allocator + Copy, W: Write + Drop, E: Write>(
     }
 }
 
-/// The escaped text, and a line feed. The error is an allocation failure.
+/// The escaped text and a line feed.
 fn escaped_line<A: Allocator + Copy>(alloc: A, text: &str) -> Result<String<A>, AllocError> {
     let mut line = Pattern::escape(alloc, text)?;
     line.push('\n')?;
     Ok(line)
 }
 
-/// Prints the line of an error, and returns its exit status.
+/// Writes the one line of a fault, and answers its status.
 fn fault<E: Write, D: Display + Drop>(errors: &mut E, message: D) -> u8
     ensures { result ≤ 2 }
 {
@@ -103,7 +110,7 @@ fn fault<E: Write, D: Display + Drop>(errors: &mut E, message: D) -> u8
     FAULT
 }
 
-/// Prints why the arguments could not be read: out of memory, or the usage where a word is not UTF-8.
+/// The line of words that could not be had: too little memory for them, or a word that is not UTF-8.
 fn words_fault<E: Write>(errors: &mut E, error: &io::Error) -> u8
     ensures { result ≤ 2 }
 {
@@ -113,8 +120,9 @@ fn words_fault<E: Write>(errors: &mut E, error: &io::Error) -> u8
     }
 }
 
-/// Runs the program on its arguments, which do not include its name.
-fn run_arguments<A: Allocator + Copy, R: Read + Drop, W: Write + Drop, E: Write>(
+/// Runs the program on its arguments, without its name.
+fn run_arguments<F: Files + Drop, A: Allocator + Copy, R: Read + Drop, W: Write + Drop, E: Write>(
+    rt: F,
     alloc: A,
     arguments: &[String<A>],
     input: R,
@@ -128,7 +136,7 @@ fn run_arguments<A: Allocator + Copy, R: Read + Drop, W: Write + Drop, E: Write>
         .map(|word| word.as_str())
         .collect::<Vec<&str, A>>(alloc)
     {
-        Ok(words) => run_words(alloc, words.as_slice(), input, output, errors),
+        Ok(words) => run_words(rt, alloc, words.as_slice(), input, output, errors),
         Err(_) => fault(errors, "out of memory"),
     }
 }
@@ -142,6 +150,7 @@ fn main(rt: HostRuntime) -> ExitCode {
     let mut errors = rt.stderr();
     ExitCode::from(match arguments(&rt) {
         Ok(words) => run_arguments(
+            rt,
             rt.alloc(),
             words.as_slice(),
             rt.stdin(),

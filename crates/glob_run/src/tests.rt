@@ -1,3 +1,7 @@
+mod disk;
+mod find;
+mod folder;
+
 use super::*;
 use std::io::ErrorKind;
 use std::process::Abort;
@@ -63,11 +67,11 @@ const USAGE_FAULTS: [&[&str]; 12] = [
     &["--", "match", "*"],
 ];
 
-fn check(rt: &(impl Abort + AllocGlobal), rows: &[Row]) {
+fn check(rt: &(impl Abort + AllocGlobal + Files), rows: &[Row]) {
     for (words, input, output, faults, status) in rows {
         let mut written = Vec::new(rt.alloc());
         let mut errors = Vec::new(rt.alloc());
-        let answer = run_words(rt.alloc(), words, *input, &mut written, &mut errors);
+        let answer = run_words(rt, rt.alloc(), words, *input, &mut written, &mut errors);
         assert_eq!(rt; answer, *status, "{words:?}");
         assert_eq!(rt; written.as_slice(), output.as_bytes(), "{words:?}");
         assert_eq!(rt; errors.as_slice(), faults.as_bytes(), "{words:?}");
@@ -116,7 +120,14 @@ fn a_fault_of_the_pattern_comes_before_one_of_the_input(rt: HostRuntime) {
     ] {
         let mut written = Vec::new(rt.alloc());
         let mut errors = Vec::new(rt.alloc());
-        let answer = run_words(rt.alloc(), &words, Unreadable, &mut written, &mut errors);
+        let answer = run_words(
+            rt,
+            rt.alloc(),
+            &words,
+            Unreadable,
+            &mut written,
+            &mut errors,
+        );
         assert_eq!(rt; answer, 2);
         assert!(rt; written.is_empty());
         assert_eq!(rt; errors.as_slice(), faults.as_bytes());
@@ -128,6 +139,7 @@ fn an_output_that_fails_is_told(rt: HostRuntime) {
     for words in [["match", "*"], ["escape", "a"]] {
         let mut errors = Vec::new(rt.alloc());
         let answer = run_words(
+            rt,
             rt.alloc(),
             &words,
             b"a\n".as_slice(),
@@ -143,6 +155,7 @@ fn an_output_that_fails_is_told(rt: HostRuntime) {
 fn a_fault_that_cannot_be_told_is_dropped(rt: HostRuntime) {
     let mut written = Vec::new(rt.alloc());
     let answer = run_words(
+        rt,
         rt.alloc(),
         &["match"],
         b"".as_slice(),
@@ -158,6 +171,7 @@ fn usage_faults(rt: HostRuntime) {
         let mut written = Vec::new(rt.alloc());
         let mut errors = Vec::new(rt.alloc());
         let answer = run_words(
+            rt,
             rt.alloc(),
             words,
             b"a\n".as_slice(),

@@ -1,3 +1,4 @@
+pub mod DiskLemmas
 pub mod Examples
 pub mod GoalLemmas
 pub mod ListingLemmas

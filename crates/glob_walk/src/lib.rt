@@ -1,6 +1,7 @@
 //! Walks over a tree, after the components of a pattern.
 #![tactic(auto)]
 
+mod disk;
 mod error;
 mod frame;
 pub mod laws;
@@ -17,6 +18,7 @@ mod tests;
 mod walk;
 mod walker;
 
+pub use disk::{Disk, glob, glob_with};
 pub use error::{GlobCause, GlobError, GlobResult};
 pub use paths::{Paths, glob_in};
 pub use walk::{End, Walk, walk_in};

@@ -1,0 +1,142 @@
+//! A file system that is written down.
+use std::fs::{File, Files, Metadata, OpenOptions};
+use std::io::{self, ErrorKind, Read};
+
+/// What stands at a path.
+#[derive(Clone, Copy, Debug)]
+pub enum Kind<'a> {
+    /// A file.
+    File,
+    /// A directory. These blocks are its names, with a NUL after each. A read gives one block.
+    Dir(&'a [&'a [u8]]),
+    /// A directory that cannot be opened, and why.
+    Shut(ErrorKind),
+    /// A directory whose first read fails, and why.
+    Torn(ErrorKind),
+    /// A link that cannot be followed, and why.
+    Link(ErrorKind),
+    /// Nothing that can be looked at, and why.
+    Lost(ErrorKind),
+    /// A path that cannot be followed, and that can then not be looked at by itself.
+    Fading(ErrorKind, ErrorKind),
+}
+
+/// A file system of some paths. All others are missing.
+#[derive(Clone, Copy, Debug)]
+pub struct Written<'a> {
+    paths: &'a [(&'a str, Kind<'a>)],
+}
+
+impl<'a> Written<'a> {
+    /// The file system of these paths. A directory's path ends in a separator where it is opened.
+    pub fn new(paths: &'a [(&'a str, Kind<'a>)]) -> Self {
+        Written { paths }
+    }
+
+    /// What stands at a path.
+    fn kind(&self, path: &str) -> Kind<'a> {
+        for (key, kind) in self.paths {
+            if *key == path {
+                return *kind;
+            }
+        }
+        Kind::Lost(ErrorKind::NotFound)
+    }
+}
+
+/// The names of a directory that are not yet read.
+#[derive(Drop)]
+pub struct Names<'a> {
+    blocks: &'a [&'a [u8]],
+    failure: Option<ErrorKind>,
+}
+
+impl Read for Names<'_> {
+    fn read(&mut self, buf: &mut [u8]) -> io::Result<usize> {
+        if let Some(kind) = self.failure {
+            return Err(io::Error::from(kind));
+        }
+        let blocks = self.blocks;
+        if blocks.is_empty() {
+            return Ok(0);
+        }
+        let block = blocks[0];
+        self.blocks = &blocks[1..];
+        let count = block.len().min(buf.len());
+        buf[..count].copy_from_slice(&block[..count]);
+        Ok(count)
+    }
+}
+
+impl<'a> Files for Written<'a> {
+    type File = File;
+
+    type Dir = Names<'a>;
+
+    fn open_file(&self, _how: &OpenOptions, _path: &str) -> io::Result<File> {
+        Err(unsupported())
+    }
+
+    fn open_dir(&self, path: &str) -> io::Result<Names<'a>> {
+        match self.kind(path) {
+            Kind::Dir(blocks) => Ok(Names {
+                blocks,
+                failure: None,
+            }),
+            Kind::Torn(kind) => Ok(Names {
+                blocks: &[],
+                failure: Some(kind),
+            }),
+            Kind::Shut(kind) | Kind::Link(kind) | Kind::Lost(kind) | Kind::Fading(kind, _) => {
+                Err(io::Error::from(kind))
+            }
+            Kind::File => Err(io::Error::from(ErrorKind::NotADirectory)),
+        }
+    }
+
+    fn metadata(&self, path: &str) -> io::Result<Metadata> {
+        match self.kind(path) {
+            Kind::File => Ok(Metadata::of_file(0)),
+            Kind::Dir(_) | Kind::Shut(_) | Kind::Torn(_) => Ok(Metadata::of_dir()),
+            Kind::Link(kind) | Kind::Lost(kind) | Kind::Fading(kind, _) => {
+                Err(io::Error::from(kind))
+            }
+        }
+    }
+
+    fn symlink_metadata(&self, path: &str) -> io::Result<Metadata> {
+        match self.kind(path) {
+            Kind::Link(_) => Ok(Metadata::of_symlink(0)),
+            Kind::Fading(_, kind) => Err(io::Error::from(kind)),
+            _ => self.metadata(path),
+        }
+    }
+
+    fn copy(&self, _from: &str, _to: &str) -> io::Result<u64> {
+        Err(unsupported())
+    }
+
+    fn rename(&self, _from: &str, _to: &str) -> io::Result<()> {
+        Err(unsupported())
+    }
+
+    fn remove_file(&self, _path: &str) -> io::Result<()> {
+        Err(unsupported())
+    }
+
+    fn create_dir(&self, _path: &str) -> io::Result<()> {
+        Err(unsupported())
+    }
+
+    fn remove_dir(&self, _path: &str) -> io::Result<()> {
+        Err(unsupported())
+    }
+
+    fn remove_dir_all<B: std::alloc::Allocator>(&self, _alloc: B, _path: &str) -> io::Result<()> {
+        Err(unsupported())
+    }
+}
+
+fn unsupported() -> io::Error {
+    io::Error::from(ErrorKind::Unsupported)
+}

@@ -1,0 +1,7 @@
+//! A file system that is written down, so that `Disk` meets what no test can make on a disk: names that are not UTF-8,
+//! links that lead nowhere, and system calls that fail.
+#![tactic(auto)]
+
+pub mod files;
+#[cfg(test)]
+mod tests;

@@ -1,0 +1,208 @@
+//! The real file system.
+ghost use Rattle.std.specs.Prelude.{◌≡◌, ℕ, ◌+◌, ◌-◌, ◌^◌, None, IfOk, IfErr};
+ghost use Rattle.glob_tree.specs.Answers.{entry_count};
+ghost use Rattle.glob_walk.specs.Components.{walk_fault};
+ghost use Rattle.glob_walk.specs.Walks.{IsFresh, RefusesWith};
+
+use crate::paths::{Paths, glob_in};
+use glob_pattern::{MatchOptions, PatternRefusal};
+use glob_tree::{Asks, Entry, ListError, Look, Name, Tree};
+use std::alloc::{AllocError, Allocator, Global};
+use std::fs::{Files, Metadata};
+use std::io::{self, ErrorKind, Read};
+use std::marker::Model;
+
+/// How many bytes of a directory are read at once. Most directories fit.
+const BLOCK: usize = 32768;
+
+/// The real file system, as a tree with no known content: contracts know only how much was asked of it. Relative paths
+/// begin at the current directory of the process, and links are followed.
+///
+/// A look makes one system call, and two where the path cannot be followed to its end. A listing makes one for each entry,
+/// and a few for the directory. An I/O error of the kind `OutOfMemory` is an allocation failure.
+///
+/// In a directory with a file `a` and a link `b` to `a`, a look at `b` finds `Other`, and a listing of `.` the entries `a`
+/// and `b`, neither of them a directory.
+#[derive(Drop)]
+pub struct Disk<R: Files, A: Allocator = Global> {
+    rt: R,
+    alloc: A,
+    asks: Asks,
+}
+
+/// How much was asked of it.
+impl<R: Files, A: Allocator> Model for Disk<R, A> {
+    ghost use Rattle.std.specs.Prelude.{ℕ};
+
+    ghost Value = { ℕ };
+
+    ghost view = { λ disk. disk.asks.count };
+}
+
+impl<R: Files, A: Allocator> Disk<R, A> {
+    /// The file system that `rt` reaches. Its listings are allocated from `alloc`. This call takes no memory.
+    pub fn new(rt: R, alloc: A) -> Self
+        ensures { result ≡ 0 }
+    {
+        Disk {
+            rt,
+            alloc,
+            asks: Asks::new(),
+        }
+    }
+}
+
+impl<R: Files + Drop, A: Allocator + Copy> Tree for Disk<R, A> {
+    type Alloc = A;
+
+    ghost tells = { λ disk. None };
+
+    ghost asks = { λ disk. disk };
+
+    /// `Other` is also a path that is there and cannot be followed to its end, as a link whose target is missing.
+    fn look(&mut self, path: &str) -> Result<Look, AllocError>
+        ensures asks { self.new ≡ self.old + 1 }
+    {
+        self.asks = self.asks.after(1);
+        match known(self.rt.metadata(path))? {
+            Some(metadata) if metadata.is_dir() => Ok(Look::Dir),
+            Some(_) => Ok(Look::Other),
+            None => self.unfollowed(path),
+        }
+    }
+
+    /// An entry whose kind cannot be learned is no directory. Where a name is not UTF-8, the whole listing fails with an
+    /// error of the kind `InvalidFilename`.
+    fn list(&mut self, path: &str) -> Result<Vec<Entry<A>, A>, ListError>
+        ensures asks { self.new ≡ self.old + 1 + entry_count result }
+    {
+        self.asks = self.asks.after(1);
+        match self.entries(path) {
+            Ok(entries) => {
+                self.asks = self.asks.after(entries.len());
+                Ok(entries)
+            }
+            Err(error) if error.kind() == ErrorKind::OutOfMemory => Err(ListError::Memory),
+            Err(error) => Err(ListError::Read(error)),
+        }
+    }
+}
+
+impl<R: Files, A: Allocator + Copy> Disk<R, A> {
+    /// What stands at a path that cannot be followed to its end.
+    fn unfollowed(&self, path: &str) -> Result<Look, AllocError> {
+        match known(self.rt.symlink_metadata(path))? {
+            Some(_) => Ok(Look::Other),
+            None => Ok(Look::Missing),
+        }
+    }
+
+    /// The entries of a directory.
+    fn entries(&self, path: &str) -> io::Result<Vec<Entry<A>, A>> {
+        let mut directory = directory_path(self.alloc, path)?;
+        let mut names = self.rt.open_dir(directory.as_str())?;
+        let mut entries = Vec::new(self.alloc);
+        let mut block = [0; BLOCK];
+        for _ in 0..u64::MAX {
+            let count = names.read(&mut block)?;
+            if count == 0 {
+                break;
+            }
+            self.add_entries(&mut entries, &mut directory, &block[..count])?;
+        }
+        Ok(entries)
+    }
+
+    /// Adds an entry for each of some names of a directory. A NUL stands after each name.
+    fn add_entries(
+        &self,
+        entries: &mut Vec<Entry<A>, A>,
+        directory: &mut String<A>,
+        names: &[u8],
+    ) -> io::Result<()> {
+        for name in names.split(|&byte| byte == 0) {
+            if is_listed(name) {
+                entries.push(self.entry(directory, name)?)?;
+            }
+        }
+        Ok(())
+    }
+
+    /// The entry of a name in a directory.
+    fn entry(&self, directory: &mut String<A>, name: &[u8]) -> io::Result<Entry<A>> {
+        let Ok(name) = std::str::from_utf8(name) else {
+            return Err(io::Error::from(ErrorKind::InvalidFilename));
+        };
+        let is_dir = self.is_dir(directory, name)?;
+        match Name::new(String::from_str(self.alloc, name)?) {
+            Ok(name) => Ok(Entry { name, is_dir }),
+            Err(_) => Err(io::Error::from(ErrorKind::InvalidFilename)),
+        }
+    }
+
+    /// Whether a name leads from a directory to another one.
+    fn is_dir(&self, directory: &mut String<A>, name: &str) -> Result<bool, AllocError> {
+        let length = directory.len();
+        directory.push_str(name)?;
+        let found = self.rt.metadata(directory.as_str());
+        directory.truncate(length);
+        match known(found)? {
+            Some(metadata) => Ok(metadata.is_dir()),
+            None => Ok(false),
+        }
+    }
+}
+
+/// Walks the file system that `rt` reaches after the components of a pattern, as [`glob_in`](crate::glob_in) does over a
+/// [`Disk`], with the options of `MatchOptions::new()` and no limit that a walk can reach.
+///
+/// `glob(rt, alloc, "src/*.rs")` gives `src/lib.rs` and `src/walk.rs`, in this order, where these files are there.
+pub fn glob<R: Files + Drop, A: Allocator + Copy>(
+    rt: R,
+    alloc: A,
+    pattern: &str,
+) -> Result<Paths<Disk<R, A>>, PatternRefusal>
+    ensures accepted { IfOk result (λ _. walk_fault pattern.now ≡ None) }
+    ensures refused { IfErr result (RefusesWith (walk_fault pattern.now)) }
+    ensures fresh { IfOk result (IsFresh 0 (2 ^ 64 - 1)) }
+{
+    glob_with(rt, alloc, pattern, MatchOptions::new())
+}
+
+/// As [`glob`], with these options.
+pub fn glob_with<R: Files + Drop, A: Allocator + Copy>(
+    rt: R,
+    alloc: A,
+    pattern: &str,
+    options: MatchOptions,
+) -> Result<Paths<Disk<R, A>>, PatternRefusal>
+    ensures accepted { IfOk result (λ _. walk_fault pattern.now ≡ None) }
+    ensures refused { IfErr result (RefusesWith (walk_fault pattern.now)) }
+    ensures fresh { IfOk result (IsFresh 0 (2 ^ 64 - 1)) }
+{
+    glob_in(alloc, Disk::new(rt, alloc), pattern, options, u64::MAX)
+}
+
+/// The metadata, or `None` where there is none to be had.
+fn known(answer: io::Result<Metadata>) -> Result<Option<Metadata>, AllocError> {
+    match answer {
+        Ok(metadata) => Ok(Some(metadata)),
+        Err(error) if error.kind() == ErrorKind::OutOfMemory => Err(AllocError),
+        Err(_) => Ok(None),
+    }
+}
+
+/// The path with a separator at its end, so that a link at its end is followed. The empty path, which leads nowhere,
+/// stays.
+fn directory_path<A: Allocator>(alloc: A, path: &str) -> Result<String<A>, AllocError> {
+    let mut directory = String::from_str(alloc, path)?;
+    if !path.is_empty() && !path.ends_with('/') {
+        directory.push('/')?;
+    }
+    Ok(directory)
+}
+
+/// Whether a listing has an entry of this name. A directory's names for itself and for its parent have none.
+fn is_listed(name: &[u8]) -> bool {
+    !name.is_empty() && name != b".".as_slice() && name != b"..".as_slice()
+}
