@@ -9,7 +9,7 @@ ghost use Rattle.glob_tree.specs.Answers.{IsTold};
 ghost use Rattle.glob_tree.specs.Looks.{is_there, is_directory as is_directory_look};
 ghost use Rattle.glob_walk.specs.Private.Tasks.{task_marks, IsSightSound, is_wanted as is_wanted_look, enter_from, IsOpened, sight_marks, next_marks, next_ready, IsNextSound};
 ghost use Rattle.glob_walk.specs.Private.Stacks.{left, weight, next_weight, ready, IsWithin, IsSound};
-ghost use Rattle.glob_walk.specs.Private.Turns.{IfGoing, TurnOf, TurnCounts, item_count, turns_left};
+ghost use Rattle.glob_walk.specs.Private.Turns.{IfGoing, TurnOf, TurnCounts, Falls, HasRoom, KeepsSound};
 
 use crate::frame::{Frame, Place};
 use crate::meter::{Meter, Stop, Unlisted};
@@ -79,9 +79,9 @@ impl<T: Tree> Walker<T> {
         ensures counts { TurnCounts T.asks self.old.meter result self.new.meter }
         ensures plan { self.new.stack.plan ≡ self.old.stack.plan }
         ensures within { IsWithin self.new.stack }
-        ensures falls { result ≡ Turn.Went → turns_left self.new.meter (weight self.new.stack) < turns_left self.old.meter (1 + weight self.old.stack) }
-        ensures ready { IfGoing result (ready self.new.stack + item_count result + self.old.meter.spent ≤ ready self.old.stack + self.new.meter.spent) }
-        ensures sound { IfGoing result ((c : Content) → IsTold (T.tells self.old.meter.tree) c → IsSound c self.old.stack → IsSound c self.new.stack) }
+        ensures falls { Falls (1 + weight self.old.stack) self.old.meter result (weight self.new.stack) self.new.meter }
+        ensures ready { HasRoom (ready self.old.stack) self.old.meter result (ready self.new.stack) self.new.meter }
+        ensures sound { KeepsSound (T.tells self.old.meter.tree) self.old.stack result self.new.stack }
         ensures turn { (c : Content) → IsTold (T.tells self.old.meter.tree) c → TurnOf (sight_marks c self.old.stack.plan part (string_bytes path) (Sight.Unseen wanted) ++ left c self.old.stack) self.old.meter.spent result (left c self.new.stack) self.new.meter.spent }
     {
         let seen = match self.meter.look(path.as_str()) {
@@ -104,8 +104,8 @@ impl<T: Tree> Walker<T> {
         ensures counts { TurnCounts T.asks self.old.meter result self.new.meter }
         ensures plan { self.new.stack.plan ≡ self.old.stack.plan }
         ensures within { IsWithin self.new.stack }
-        ensures falls { result ≡ Turn.Went → turns_left self.new.meter (weight self.new.stack) < turns_left self.old.meter (weight self.old.stack) }
-        ensures ready { IfGoing result (ready self.new.stack + item_count result + self.old.meter.spent ≤ ready self.old.stack + self.new.meter.spent) }
+        ensures falls { Falls (weight self.old.stack) self.old.meter result (weight self.new.stack) self.new.meter }
+        ensures ready { HasRoom (ready self.old.stack) self.old.meter result (ready self.new.stack) self.new.meter }
         ensures sound { IfGoing result ((c : Content) → IsTold (T.tells self.old.meter.tree) c → is_directory_look (look_result c (string_bytes path)) ≡ true → IsSound c self.old.stack → IsSound c self.new.stack) }
         ensures turn { (c : Content) → IsTold (T.tells self.old.meter.tree) c → is_directory_look (look_result c (string_bytes path)) ≡ true → TurnOf (enter_from c self.old.stack.plan part (string_bytes path) true ++ left c self.old.stack) self.old.meter.spent result (left c self.new.stack) self.new.meter.spent }
     {
@@ -137,8 +137,8 @@ impl<T: Tree> Walker<T> {
         ensures counts { TurnCounts T.asks self.old.meter result self.new.meter }
         ensures plan { self.new.stack.plan ≡ self.old.stack.plan }
         ensures within { IsWithin self.new.stack }
-        ensures falls { result ≡ Turn.Went → turns_left self.new.meter (weight self.new.stack) < turns_left self.old.meter (2 + weight self.old.stack) }
-        ensures ready { IfGoing result (ready self.new.stack + item_count result + self.old.meter.spent ≤ (if nat_le (vec_len self.old.stack.plan.parts) part then 1 else 0) + ready self.old.stack + self.new.meter.spent) }
+        ensures falls { Falls (2 + weight self.old.stack) self.old.meter result (weight self.new.stack) self.new.meter }
+        ensures ready { HasRoom ((if nat_le (vec_len self.old.stack.plan.parts) part then 1 else 0) + ready self.old.stack) self.old.meter result (ready self.new.stack) self.new.meter }
         ensures sound { IfGoing result ((c : Content) → IsTold (T.tells self.old.meter.tree) c → IsSightSound c (string_bytes path) (Sight.Seen is_dir) → IsSound c self.old.stack → IsSound c self.new.stack) }
         ensures turn { (c : Content) → IsTold (T.tells self.old.meter.tree) c → IsSightSound c (string_bytes path) (Sight.Seen is_dir) → TurnOf (enter_from c self.old.stack.plan part (string_bytes path) is_dir ++ left c self.old.stack) self.old.meter.spent result (left c self.new.stack) self.new.meter.spent }
     {
@@ -186,9 +186,9 @@ impl<T: Tree> Walker<T> {
         ensures counts { TurnCounts T.asks self.old.meter result self.new.meter }
         ensures plan { self.new.stack.plan ≡ self.old.stack.plan }
         ensures within { IsWithin self.new.stack }
-        ensures falls { result ≡ Turn.Went → turns_left self.new.meter (weight self.new.stack) < turns_left self.old.meter (weight self.old.stack) }
-        ensures ready { IfGoing result (ready self.new.stack + item_count result + self.old.meter.spent ≤ ready self.old.stack + self.new.meter.spent) }
-        ensures sound { IfGoing result ((c : Content) → IsTold (T.tells self.old.meter.tree) c → IsSound c self.old.stack → IsSound c self.new.stack) }
+        ensures falls { Falls (weight self.old.stack) self.old.meter result (weight self.new.stack) self.new.meter }
+        ensures ready { HasRoom (ready self.old.stack) self.old.meter result (ready self.new.stack) self.new.meter }
+        ensures sound { KeepsSound (T.tells self.old.meter.tree) self.old.stack result self.new.stack }
         ensures turn { (c : Content) → IsTold (T.tells self.old.meter.tree) c → IsSound c self.old.stack → TurnOf (left c self.old.stack) self.old.meter.spent result (left c self.new.stack) self.new.meter.spent }
     {
         let Some(task) = self.stack.next.take() else {
@@ -213,8 +213,8 @@ impl<T: Tree> Walker<T> {
         ensures counts { TurnCounts T.asks self.old.meter result self.new.meter }
         ensures stops { result ≢ Turn.Went }
         ensures within { IsWithin self.new.stack }
-        ensures ready { IfGoing result (ready self.new.stack + item_count result + self.old.meter.spent ≤ ready self.old.stack + self.new.meter.spent) }
-        ensures sound { IfGoing result ((c : Content) → IsTold (T.tells self.old.meter.tree) c → IsSound c self.old.stack → IsSound c self.new.stack) }
+        ensures ready { HasRoom (ready self.old.stack) self.old.meter result (ready self.new.stack) self.new.meter }
+        ensures sound { KeepsSound (T.tells self.old.meter.tree) self.old.stack result self.new.stack }
         ensures turn { (c : Content) → IsTold (T.tells self.old.meter.tree) c → IsSound c self.old.stack → TurnOf (left c self.old.stack) self.old.meter.spent result (left c self.new.stack) self.new.meter.spent }
     {
         loop {

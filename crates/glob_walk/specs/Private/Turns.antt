@@ -1,5 +1,5 @@
 -- One turn of a walk, against the written listing.
-use Rattle.std.specs.Prelude.{◌≡◌, ℕ, ◌+◌, ◌*◌, ◌-◌, ◌≤◌, List, [], ◌∷◌, ◌++◌, length, map, string_bytes, ⊤}
+use Rattle.std.specs.Prelude.{◌≡◌, ℕ, ◌+◌, ◌*◌, ◌-◌, ◌≤◌, ◌<◌, Option, List, [], ◌∷◌, ◌++◌, length, map, string_bytes, ⊤}
 use Rattle.std.specs.IoError.{error_kind}
 use Rattle.glob_text.specs.Text.{Text}
 use Rattle.glob_walk.specs.Marks.{Mark, Work, Give, Found, Unread}
@@ -7,6 +7,10 @@ use Rattle.glob_walk.specs.declared.meter.Meter.{Meter}
 use Rattle.glob_walk.specs.declared.walker.Turn.{Turn}
 use Rattle.glob_walk.specs.declared.walker.Turn.TheVariants as turn
 use Rattle.glob_walk.specs.Walks.{Charges, StopsAt}
+use Rattle.glob_tree.specs.Content.{Content}
+use Rattle.glob_tree.specs.Answers.{IsTold}
+use Rattle.glob_walk.specs.declared.stack.Stack.{Stack}
+use Rattle.glob_walk.specs.Private.Stacks.{IsSound}
 use Rattle.glob_walk.specs.Private.Meters.{IsExact, IsAtLimit}
 
 -- what a turn takes from the front of what was left
@@ -38,3 +42,15 @@ abbrev pub IfGoing : {A : Type 0} → Turn A → Type 0 → Type 0
 IfGoing (turn.Limit p) P = ⊤
 IfGoing turn.Memory P = ⊤
 IfGoing _ P = P
+
+-- a turn that goes on leaves fewer turns
+abbrev pub Falls : {X A : Type 0} → (bound : ℕ) → Meter X → Turn A → (bound' : ℕ) → Meter X → Type 0
+Falls bound old t bound' new = t ≡ turn.Went → turns_left new bound' < turns_left old bound
+
+-- the items that may come before the next unit are as many as before, and one more for each unit that was charged
+abbrev pub HasRoom : {X A : Type 0} → (ready : ℕ) → Meter X → Turn A → (ready' : ℕ) → Meter X → Type 0
+HasRoom ready old t ready' new = IfGoing t (ready' + item_count t + old.spent ≤ ready + new.spent)
+
+-- what is said to be a directory stays one
+abbrev pub KeepsSound : {A : Type 0} → Option Content → Stack A → Turn A → Stack A → Type 0
+KeepsSound told old t new = IfGoing t ((c : Content) → IsTold told c → IsSound c old → IsSound c new)
