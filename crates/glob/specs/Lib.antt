@@ -22,3 +22,4 @@ pub use Rattle.glob_walk.specs.Marks
 pub use Rattle.glob_walk.specs.Order
 pub use Rattle.glob_walk.specs.Laws as WalkLaws
 pub use Rattle.glob_walk.specs.Walks
+pub use Rattle.glob_walk.specs.WalkGoals
