@@ -26,7 +26,7 @@ item_of NoMemory = None
 abbrev pub given_items : {A : Type 0} → Answers A → List Item
 given_items answers = filter_map item_of (map outcome answers)
 
--- the tree tells c, the pattern is plain, and the options keep case
+-- c is the known content of the tree, the pattern is plain, and the options keep case
 abbrev pub WalksPlainly : (told : Option Content) → Content → MatchOptions → (pattern : Text) → Type 0
 WalksPlainly told c o pattern = IsTold told c × IsTrue (is_plain pattern) × IsTrue o.case_sensitive
 

@@ -15,7 +15,7 @@ use Rattle.glob_walk.proofs.ListingLemmas.Marks.{IsBeginning-front}
 use Rattle.glob_walk.proofs.GoalLemmas.ReachedGoals.{plain_walk_reaches, plain_walk_gives}
 use Rattle.glob_walk.proofs.GoalLemmas.OnceInOrder.{plain_walk_orderly}
 
--- over a tree that tells its content
+-- the premises of a plain walk, over a tree with a known content
 pub plain_walk : (told : Option Content) (c : Content) (o : MatchOptions) (pattern : Text) → IsTold told c → IsUtf8 pattern → IsTrue (is_plain pattern) → IsTrue o.case_sensitive → IsPlainWalk c o pattern
 plain_walk told c o pattern tells utf8 plain case = record { content = tells.1; text = utf8; plain = plain; case = case }
 
