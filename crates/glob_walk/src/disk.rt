@@ -36,7 +36,7 @@ impl<R: Files, A: Allocator> Model for Disk<R, A> {
 
     ghost Value = { ℕ };
 
-    ghost view = { λ disk. disk.asks.count };
+    ghost view = { λ disk. disk.asks };
 }
 
 impl<R: Files, A: Allocator> Disk<R, A> {

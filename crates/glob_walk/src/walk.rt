@@ -41,6 +41,10 @@ pub struct Walk<T: Tree> {
 
 /// The whole walk of [`glob_in`](crate::glob_in), with its refusals of patterns. A limit that was reached, and an
 /// allocation failure later than that, stand in `end` and not in `items`.
+///
+/// Over a tree with a known content, after a plain pattern and with case, the paths are those that the whole pattern
+/// matches: each once if the pattern has at most one run of `**`, and in order if at most one component follows the run.
+/// What lies below a directory that cannot be listed is not found; the error stands in its place.
 pub fn walk_in<T: Tree>(
     alloc: T::Alloc,
     tree: T,

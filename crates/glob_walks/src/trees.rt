@@ -43,7 +43,7 @@ impl<L: Liar> Tree for LyingTree<L> {
 
     ghost tells = { λ _. None };
 
-    ghost asks = { λ tree. tree.asks.count };
+    ghost asks = { λ tree. tree.asks };
 
     fn look(&mut self, path: &str) -> Result<Look, AllocError> {
         self.asks = self.asks.after(1);

@@ -1,13 +1,12 @@
 -- What the laws of a plain walk say of the items that a walk gave: the clauses of a whole walk.
 use Rattle.std.proofs.Common.{◌≡◌, ◌⊎◌, ℕ, true, List, [], ◌∷◌, ◌++◌, map, refl, sym, ap, ap₂, subst, ◌∙◌}
-use Rattle.std.specs.Prelude.{Contains, ◌↔◌, IsTrue, Option}
+use Rattle.std.specs.Prelude.{Contains, IsTrue, Option}
 use Rattle.std.specs.Str.{IsUtf8}
-use Rattle.std.specs.declared.io.ErrorKind.{ErrorKind}
 use Rattle.std.proofs.lemmas.List.{append-nil}
 use Rattle.glob_text.specs.Text.{Text}
 use Rattle.glob_tree.specs.Content.{Content}
 use Rattle.glob_tree.specs.Answers.{IsTold}
-use Rattle.glob_walk.specs.Marks.{Item, Unread, items, front, paths, IsBeginning}
+use Rattle.glob_walk.specs.Marks.{Item, items, front, paths, IsBeginning}
 use Rattle.glob_walk.specs.Listing.{listing}
 use Rattle.glob_walk.specs.Goal.{is_plain, is_readable, goal, IsPlainWalk, IsHidden, ReachesGoal, GivesGoal}
 use Rattle.glob_walk.specs.Order.{IsOrderly}
@@ -16,7 +15,7 @@ use Rattle.glob_walk.proofs.ListingLemmas.Marks.{IsBeginning-front}
 use Rattle.glob_walk.proofs.GoalLemmas.ReachedGoals.{plain_walk_reaches, plain_walk_gives}
 use Rattle.glob_walk.proofs.GoalLemmas.OnceInOrder.{plain_walk_orderly}
 
--- over a tree that tells its content
+-- the premises of a plain walk, over a tree with a known content
 pub plain_walk : (told : Option Content) (c : Content) (o : MatchOptions) (pattern : Text) → IsTold told c → IsUtf8 pattern → IsTrue (is_plain pattern) → IsTrue o.case_sensitive → IsPlainWalk c o pattern
 plain_walk told c o pattern tells utf8 plain case = record { content = tells.1; text = utf8; plain = plain; case = case }
 

@@ -1,27 +1,25 @@
 -- The names that are found at a key are those of the keys below it that the components take.
-use Rattle.std.proofs.Common.{◌≡◌, ℕ, zero, suc, ◌⊎◌, inl, inr, ⊎_elim, Bool, true, false, cond, not, ◌||◌, List, [], ◌∷◌, ◌++◌, map, flat_map, Option, Some, None, refl, sym, ap, subst, ◌∙◌}
+use Rattle.std.proofs.Common.{◌≡◌, ℕ, zero, suc, ◌⊎◌, inl, inr, Bool, true, false, not, ◌||◌, List, [], ◌∷◌, ◌++◌, Option, Some, None, refl, sym, ap, subst, ◌∙◌}
 use Rattle.std.specs.Prelude.{Contains}
 use Rattle.std.specs.List.{list_all}
 use Rattle.std.specs.Str.{is_utf8}
 use Rattle.std.proofs.lemmas.Bool.{false≢true, and_parts, and_from, or_left}
 use Rattle.std.proofs.lemmas.List.{append-nil}
-use Rattle.std.proofs.lemmas.List.Elements.{Contains-append_left, Contains-append_right, Contains-append_cases}
+use Rattle.std.proofs.lemmas.List.Elements.{Contains-append_cases}
 use Rattle.glob_text.specs.Text.{Text}
-use Rattle.glob_tree.specs.Content.{Content, Key, DirEntry, kind_at, is_dir, children, sorted_entries}
+use Rattle.glob_tree.specs.Content.{Content, Key, DirEntry, kind_at, is_dir, children}
 use Rattle.glob_walk.specs.Components.{Literal, Recursive, Wild, component_kind, ComponentKind, begins_recursive, is_recursive, is_literal, matches_name}
 use Rattle.glob_walk.specs.Listing.{is_entered, levels}
 use Rattle.glob_walk.specs.Goal.{ends_recursive}
 use Rattle.glob_pattern.specs.declared.options.MatchOptions.{MatchOptions}
 use Rattle.glob_tree.specs.declared.kind.Kind.{Kind}
-use Rattle.glob_tree.specs.declared.kind.Kind.TheVariants.{Dir, Shut, Other}
-use Rattle.glob_tree.proofs.ContentLemmas.Membership.{Contains-head, Contains-tail, Contains-cases, Contains-nil}
+use Rattle.glob_tree.proofs.ContentLemmas.Membership.{Contains-nil}
 use Rattle.glob_tree.proofs.ContentLemmas.Contents.{IsContent}
-use Rattle.glob_tree.proofs.ContentLemmas.Sorting.{Contains-sorted_entries}
 use Rattle.glob_walk.proofs.GoalLemmas.KeysBelow.{Here, Here-entry, held-deeper}
 use Rattle.glob_walk.proofs.GoalLemmas.FoundParts.{hit-below, hit-cond, hit-one, hit-listed}
 use Rattle.glob_walk.proofs.GoalLemmas.TakenNames.{takes, takes-one, MetBy, run-met, run-enter, run-from_run}
 use Rattle.glob_pattern.specs.Matching.Components.{is_open}
-use Rattle.glob_walk.proofs.GoalLemmas.Finds.{at_entry, at_name, past_entry, run_entry, Find, Hit, Miss, deepen, below, list_kind, list_names, found_names, descent_names, enter_names, meet_names}
+use Rattle.glob_walk.proofs.GoalLemmas.Finds.{at_entry, at_name, past_entry, run_entry, Hit, below, found_names, descent_names, enter_names, meet_names}
 use Rattle.glob_walk.proofs.GoalLemmas.ListingFinds.{kind-Literal, kind-Recursive, kind-Wild, literal_not_recursive, names-literal, names-wild, names-wild_none, names-run, names-recursive_none, names-levels}
 
 -- the kind that the components want

@@ -1,5 +1,5 @@
 -- The items of a plain walk: what is found below its start, and so the keys that the components take.
-use Rattle.std.proofs.Common.{◌≡◌, ⊎_elim, true, false, List, [], ◌∷◌, map, refl, sym, ap, subst, ◌∙◌}
+use Rattle.std.proofs.Common.{◌≡◌, true, false, List, [], ◌∷◌, map, refl, sym, ap, ◌∙◌}
 use Rattle.std.specs.Prelude.{Contains, option_map, unwrap_or}
 use Rattle.std.specs.List.{list_all}
 use Rattle.std.specs.Str.{is_utf8}
@@ -7,11 +7,10 @@ use Rattle.std.proofs.lemmas.Str.{is_utf8-from_IsUtf8}
 use Rattle.std.proofs.lemmas.Bool.{and_parts, and_from}
 use Rattle.glob_text.specs.Text.{Text}
 use Rattle.glob_tree.specs.Content.{Content, Key, is_dir}
-use Rattle.glob_tree.proofs.ContentLemmas.Membership.{Contains-head, Contains-tail, Contains-cases, Contains-nil}
 use Rattle.glob_tree.proofs.ContentLemmas.Contents.{IsContent, IsContent-from_test}
 use Rattle.glob_tree.proofs.ContentLemmas.Directories.{is_directory-look_result}
 use Rattle.glob_tree.proofs.MemoryLemmas.Keys.{directory_kind}
-use Rattle.glob_walk.specs.Marks.{items, paths}
+use Rattle.glob_walk.specs.Marks.{items}
 use Rattle.glob_walk.specs.Components.{start, components, wants_directories}
 use Rattle.glob_walk.specs.Listing.{enter, listing}
 use Rattle.glob_walk.specs.Goal.{are_plain, is_plain, start_key, IsPlainWalk}
@@ -21,7 +20,7 @@ use Rattle.glob_walk.proofs.GoalLemmas.LiteralComponents.{own_only, own_name}
 use Rattle.glob_walk.proofs.GoalLemmas.PatternParts.{components-utf8, components-flat}
 use Rattle.glob_walk.proofs.GoalLemmas.KeysBelow.{Here}
 use Rattle.glob_walk.proofs.GoalLemmas.NamedPaths.{LeadsTo-start}
-use Rattle.glob_walk.proofs.GoalLemmas.Finds.{Find, Hit, Miss, item_under, under, finds}
+use Rattle.glob_walk.proofs.GoalLemmas.Finds.{Hit, item_under, finds}
 use Rattle.glob_walk.proofs.GoalLemmas.ListingFinds.{same_enter}
 use Rattle.glob_walk.proofs.GoalLemmas.FoundIsTaken.{hits_are_taken}
 use Rattle.glob_walk.proofs.GoalLemmas.TakenIsFound.{FoundOrCovered, taken_are_found}

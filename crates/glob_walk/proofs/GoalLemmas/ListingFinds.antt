@@ -29,7 +29,7 @@ use Rattle.glob_tree.proofs.ContentLemmas.Sorting.{Contains-sorted_entries}
 use Rattle.glob_walk.proofs.ListingLemmas.Marks.{items-append, items-replicate}
 use Rattle.glob_walk.proofs.ListingLemmas.Descending.{enter-literal, enter-wild, enter_none, enter-run, enter-recursive_none, enter-levels, is_entered-directory}
 use Rattle.glob_walk.proofs.GoalLemmas.KeysBelow.{held_above}
-use Rattle.glob_walk.proofs.GoalLemmas.Finds.{at_entry, at_name, Find, Hit, Miss, deepen, item_under, below, list_kind, list_names, found_names, descent_names, enter_names, meet_names}
+use Rattle.glob_walk.proofs.GoalLemmas.Finds.{at_entry, at_name, Find, Hit, Miss, deepen, item_under, below, list_kind, list_names, descent_names, enter_names, meet_names}
 
 -- the paths that marks give
 abbrev pub given : List Mark → List Item

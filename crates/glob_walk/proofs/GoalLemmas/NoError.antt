@@ -1,5 +1,5 @@
 -- Each directory that is found but cannot be listed is shut; so over a readable content a walk gives no error.
-use Rattle.std.proofs.Common.{◌≡◌, ℕ, zero, suc, ⊎_elim, Bool, true, false, cond, not, ◌||◌, List, [], ◌∷◌, ◌++◌, map, Option, Some, None, refl, sym, ap, subst, ◌∙◌, arith}
+use Rattle.std.proofs.Common.{◌≡◌, ℕ, zero, suc, ⊎_elim, Bool, true, false, cond, not, ◌||◌, List, [], ◌∷◌, ◌++◌, Option, Some, None, refl, sym, ap, subst, ◌∙◌}
 use Rattle.std.specs.Prelude.{Contains, is_none}
 use Rattle.std.specs.declared.io.ErrorKind.{ErrorKind}
 use Rattle.std.proofs.lemmas.Bool.{false≢true}
@@ -14,9 +14,9 @@ use Rattle.glob_walk.specs.Goal.{IsPlainWalk, is_readable, is_shut, start_key}
 use Rattle.glob_pattern.specs.declared.options.MatchOptions.{MatchOptions}
 use Rattle.glob_tree.specs.declared.kind.Kind.{Kind}
 use Rattle.glob_tree.specs.declared.kind.Kind.TheVariants.{Dir, Shut, Other}
-use Rattle.glob_tree.proofs.ContentLemmas.Membership.{Contains-tail, Contains-cases, Contains-nil, list_all-contains}
+use Rattle.glob_tree.proofs.ContentLemmas.Membership.{Contains-cases, Contains-nil, list_all-contains}
 use Rattle.glob_tree.proofs.ContentLemmas.Contents.{IsContent, IsContent-from_test, contains_kind_at, names_past-append}
-use Rattle.glob_walk.proofs.GoalLemmas.Finds.{at_entry, at_name, past_entry, run_entry, finds, Find, Hit, Miss, deepen, item_under, below, list_kind, list_names, found_names, descent_names, enter_names, meet_names}
+use Rattle.glob_walk.proofs.GoalLemmas.Finds.{at_entry, at_name, run_entry, finds, Find, Miss, below, list_kind, list_names, found_names, descent_names, enter_names, meet_names}
 use Rattle.glob_walk.proofs.GoalLemmas.ListingFinds.{names-literal, names-wild, names-wild_none, names-run, names-recursive_none, names-levels}
 use Rattle.glob_walk.proofs.GoalLemmas.FoundParts.{Contains-flat_map}
 use Rattle.glob_walk.proofs.GoalLemmas.FoundParts.{hit-cond, miss-below, no_miss, miss_of_error}
