@@ -178,24 +178,29 @@ fn five_thousand_runs_over_nothing(rt: HostRuntime) -> Result<(), Fail> {
     Ok(())
 }
 
-#[test]
-fn a_hundred_thousand_components(rt: HostRuntime) -> Result<(), Fail> {
-    let text = joined(&rt, ".", 100_000)?;
-    let endless = Endless { alloc: rt.alloc() };
-    check_over(
-        &rt,
-        LyingTree::new(endless),
-        Job::of(text.as_str()),
-        &[Path(".")],
-        100_001,
-    )?;
+const MANY: usize = 100_000;
 
-    let text = joined(&rt, "**", 100_000)?;
-    let empty = Chain {
+#[test]
+fn a_hundred_thousand_dots(rt: HostRuntime) -> Result<(), Fail> {
+    let text = joined(&rt, ".", MANY)?;
+    let endless = LyingTree::new(Endless { alloc: rt.alloc() });
+    let walk = at_once(&rt, endless, Job::of(text.as_str()))?;
+    check_given(&rt, walk.items.as_slice(), &[Path(".")], ".")?;
+    assert_eq!(rt; walk.spent, 100_001);
+    Ok(())
+}
+
+#[test]
+fn a_hundred_thousand_runs(rt: HostRuntime) -> Result<(), Fail> {
+    let text = joined(&rt, "**", MANY)?;
+    let empty = LyingTree::new(Chain {
         alloc: rt.alloc(),
         depth: 0,
-    };
-    check_over(&rt, LyingTree::new(empty), Job::of(text.as_str()), &[], 2)
+    });
+    let given = one_by_one(&rt, empty, Job::of(text.as_str()))?;
+    assert!(rt; given.items.is_empty());
+    assert_eq!(rt; given.spent, 2);
+    Ok(())
 }
 
 /// A directory in each of five thousand others: each is looked at by its listing alone, which costs two units, and the
