@@ -16,18 +16,26 @@ use std::alloc::{AllocError, Allocator};
 /// The place that is reached in a directory.
 #[derive(Clone, Copy, PartialEq, Eq)]
 pub enum Place {
+    /// Before `..`, which a component that begins with a dot may match.
     Parent,
+    /// Before `.`, after `..`.
     Current,
+    /// Before the entry with the number.
     At(usize),
+    /// In the entry with the number: it was met, and a run of `**` is still to enter it.
     Inside(usize),
 }
 
-/// A directory whose entries are gone through in ascending order.
+/// A directory that was listed, and the place that is reached in it.
 #[derive(Drop)]
 pub struct Frame<A: Allocator> {
+    /// Its path.
     pub path: String<A>,
+    /// The number of the component that its entries meet: of a run of `**` the last one.
     pub part: usize,
+    /// Whether that component is `**`.
     pub run: bool,
+    /// Its entries, in ascending order of names.
     pub entries: Vec<Entry<A>, A>,
     pub place: Place,
 }

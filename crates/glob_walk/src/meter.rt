@@ -26,7 +26,7 @@ pub enum Stop {
     Memory,
 }
 
-/// Why a directory was not list_result.
+/// Why a directory was not listed.
 #[derive(Drop)]
 pub enum Unlisted {
     Read(io::Error),

@@ -29,16 +29,17 @@ pub enum Turn<A: Allocator> {
     Went,
     /// It gives a path.
     Path(String<A>),
-    /// A directory could not be list_result.
+    /// A directory could not be listed.
     Unread(String<A>, io::Error),
     /// The limit is reached before the path.
     Limit(String<A>),
-    /// There was no memory.
+    /// There was an allocation failure.
     Memory,
     /// Nothing is left.
     Done,
 }
 
+/// A tree that is asked within a limit, and what a walk over it has still to do.
 #[derive(Drop)]
 pub struct Walker<T: Tree> {
     pub meter: Meter<T>,
@@ -92,7 +93,7 @@ impl<T: Tree> Walker<T> {
         Turn::Went
     }
 
-    /// A directory is list_result.
+    /// A directory is listed.
     fn list(&mut self, path: String<T::Alloc>, part: usize, run: bool) -> Turn<T::Alloc>
         requires limit { self.old.meter.spent ≤ self.old.meter.limit }
         requires none { self.old.stack.next ≡ None }

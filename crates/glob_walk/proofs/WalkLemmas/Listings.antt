@@ -16,7 +16,7 @@ use Rattle.glob_tree.proofs.ContentLemmas.Contents.{IsContent}
 use Rattle.glob_tree.proofs.ContentLemmas.Sorting.{AreApart, children_apart, sorted_is_ascending}
 use Rattle.glob_walk.specs.Private.Meters.{IsInOrder, IsCut}
 
--- no name stands twice in what is list_result
+-- no name stands twice in what is listed
 pub AreApart-list_result : (c : Content) → IsContent c → (path : Text) (es : List DirEntry) → list_result c path ≡ Entries es → AreApart es
 unfolding list_result
 AreApart-list_result c w path es h = of_key (resolve c path) h

@@ -1,4 +1,4 @@
--- What comes of a directory that is list_result.
+-- What comes of a directory that is listed.
 use Rattle.std.proofs.Common.{◌≡◌, ℕ, zero, suc, ◌+◌, ◌-◌, ◌<◌, ◌≤◌, Bool, true, false, cond, List, [], ◌∷◌, ◌++◌, length, drop, replicate, refl, ap, sym, subst, ◌∙◌, arith, append_assoc}
 use Rattle.std.specs.Prelude.{map, flat_map, Contains}
 use Rattle.std.specs.Path.{cur_dir, parent_dir}

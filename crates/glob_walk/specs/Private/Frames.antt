@@ -92,7 +92,7 @@ is_done_at n (place.Inside i) = nat_le n i
 abbrev pub is_done : {A : Type 0} → Frame A → Bool
 is_done f = is_done_at (length f.entries.items) f.place
 
--- an entry that is said to be a directory is look_result at as one
+-- an entry that is said to be a directory is looked at as one
 abbrev pub IsEntrySound : Content → Text → DirEntry → Type 0
 IsEntrySound c path e = e.1 ≡ true → is_directory (look_result c (child path e.0)) ≡ true
 

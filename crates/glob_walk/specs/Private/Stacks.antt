@@ -43,7 +43,7 @@ ready s = next_ready s.plan s.next + sum_by unmet s.frames.items
 abbrev pub IsWithin : {A : Type 0} → Stack A → Type 0
 IsWithin s = All (λ f. f.part < length s.plan.parts.items) s.frames.items
 
--- what is said to be a directory is look_result at as one
+-- what is said to be a directory is looked at as one
 pub record IsSound {A : Type 0} (c : Content) (s : Stack A) : Type 0 where
   pub next : IsNextSound c s.next
   pub frames : All (IsFrameSound c) s.frames.items

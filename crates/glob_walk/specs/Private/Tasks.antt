@@ -39,7 +39,7 @@ abbrev pub next_marks : {A : Type 0} → Content → Plan A → Option (Task A) 
 next_marks c plan None = []
 next_marks c plan (Some t) = task_marks c plan t
 
--- what is said to be a directory is look_result at as one
+-- what is said to be a directory is looked at as one
 abbrev pub IsSightSound : Content → Text → Sight → Type 0
 IsSightSound c path (sight.Unseen w) = Unit {0}
 IsSightSound c path (sight.Seen d) = d ≡ true → is_directory (look_result c path) ≡ true
