@@ -11,7 +11,7 @@ use std::io::{self, BufWriter, Write};
 /// Paths wait for others until one is found so many units of the walk after the last that was written at once.
 const PATIENCE: u64 = 1000;
 
-/// Walks the disk, writes each path and a line feed to `output` and each error to `errors`, and answers the exit status.
+/// Walks the disk, writes each path and a line feed to `output` and each error to `errors`, and returns the exit status.
 pub fn run_find<R: Files + Drop, A: Allocator + Copy, W: Write + Drop, E: Write>(
     rt: R,
     alloc: A,
@@ -54,7 +54,7 @@ impl<'e, W: Write + Drop, E: Write, A: Allocator + Copy> Report<'e, W, E, A> {
         }
     }
 
-    /// Reports the items of a walk, and answers the exit status.
+    /// Reports the items of a walk, and returns the exit status.
     fn run<R: Files + Drop>(mut self, mut items: Paths<Disk<R, A>>) -> u8
         ensures { result ≤ 2 }
     {
