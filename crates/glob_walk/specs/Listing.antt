@@ -11,7 +11,6 @@ use Rattle.glob_tree.specs.Content.{Content, ListAnswer, Entries, Fails, NoDirec
 use Rattle.glob_walk.specs.Components.{start, components, wants_directories, Literal, Recursive, Wild, component_kind, is_special_name, begins_recursive, matches_name}
 use Rattle.glob_pattern.specs.declared.options.MatchOptions.{MatchOptions}
 use Rattle.glob_tree.specs.declared.tree.Look.{Look}
-use Rattle.glob_tree.specs.declared.tree.Look.TheVariants as look
 
 -- what comes of a path or of an entry's name, by whether it is a directory's
 abbrev pub Next : Type 0

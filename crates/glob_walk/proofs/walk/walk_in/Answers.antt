@@ -1,4 +1,4 @@
-use Rattle.std.proofs.Common.{◌≡◌, ap, sym, subst, ◌∙◌}
+use Rattle.std.proofs.Common.{ap, sym, subst, ◌∙◌}
 use Rattle.glob_walk.specs.Listing.{listing}
 use Rattle.glob_walk.specs.Walks.{IsWalk}
 use Rattle.glob_walk.proofs.walk.walk_in.Goals as goal
