@@ -1,5 +1,5 @@
 -- A walk as contracts see it: what it holds, what its items say, and what its calls take from the written listing.
-use Rattle.std.specs.Prelude.{◌≡◌, ℕ, ◌+◌, ◌≤◌, ◌<◌, Bool, true, false, List, [], ◌∷◌, ◌++◌, length, map, Option, Some, None, option_map, Result, Ok, Err, ⊤}
+use Rattle.std.specs.Prelude.{◌≡◌, ℕ, ◌+◌, ◌≤◌, ◌<◌, Bool, true, false, List, [], ◌∷◌, ◌++◌, length, map, Option, Some, None, Result, Ok, Err, ⊤}
 use Rattle.std.specs.IoError.{error_kind}
 use Rattle.std.specs.Path.{path_buf_bytes}
 use Rattle.std.specs.declared.path.buf.PathBuf.{PathBuf}

@@ -1,12 +1,12 @@
 -- What is made of an entry that is met.
-use Rattle.std.proofs.Common.{◌≡◌, ℕ, ◌+◌, Bool, true, false, cond, not, ◌&&◌, ◌||◌, List, [], ◌∷◌, ◌++◌, drop, Option, Some, None, refl, ap, sym, ◌∙◌, arith}
-use Rattle.std.proofs.lemmas.Bool.{and_parts, cond-true, cond-false}
+use Rattle.std.proofs.Common.{◌≡◌, ℕ, ◌+◌, Bool, true, false, cond, not, ◌&&◌, ◌||◌, List, [], ◌∷◌, drop, Some, None, refl, ap, sym, ◌∙◌, arith}
+use Rattle.std.proofs.lemmas.Bool.{and_parts, cond-true}
 use Rattle.glob_text.specs.Text.{Text}
 use Rattle.glob_text.specs.Characters.{dot}
 use Rattle.glob_tree.specs.Paths.{child}
 use Rattle.glob_text.specs.Pieces.{begins_with}
-use Rattle.glob_walk.specs.Marks.{Mark, Give, Found}
-use Rattle.glob_tree.specs.Content.{Content, DirEntry}
+use Rattle.glob_walk.specs.Marks.{Give, Found}
+use Rattle.glob_tree.specs.Content.{Content}
 use Rattle.glob_walk.specs.Components.{matches_name}
 use Rattle.glob_walk.specs.Listing.{enter, meet, match_at, is_entered}
 use Rattle.glob_pattern.specs.declared.options.MatchOptions.{MatchOptions}

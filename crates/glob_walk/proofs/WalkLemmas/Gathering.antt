@@ -1,11 +1,10 @@
 -- A walk whose items are gathered.
-use Rattle.std.proofs.Common.{◌≡◌, ℕ, ◌+◌, ◌-◌, ◌≤◌, ◌<◌, suc, Bool, false, Option, Some, None, List, [], ◌∷◌, ◌++◌, length, map, Result, refl, ap, sym, subst, ◌∙◌, arith, append_assoc}
+use Rattle.std.proofs.Common.{◌≡◌, ℕ, ◌+◌, ◌-◌, ◌≤◌, suc, false, Option, Some, None, List, [], ◌∷◌, ◌++◌, length, map, Result, refl, ap, sym, subst, ◌∙◌, arith, append_assoc}
 use Rattle.std.proofs.lemmas.List.{map-append}
 use Rattle.std.specs.declared.path.buf.PathBuf.{PathBuf}
 use Rattle.glob_text.specs.Text.{Text}
-use Rattle.glob_walk.specs.Marks.{Mark, Work, Give, Item, items, cost, front, IsBeginning}
+use Rattle.glob_walk.specs.Marks.{Mark, Work, Give, Item, items, cost, front}
 use Rattle.std.proofs.lemmas.Option.{same_Some}
-use Rattle.std.proofs.lemmas.Bool.{false≢true}
 use Rattle.glob_tree.specs.Content.{Content}
 use Rattle.glob_tree.specs.Answers.{IsTold}
 use Rattle.glob_walk.specs.Private.Walking.{refusal_end}

@@ -1,5 +1,5 @@
 -- A literal component matches the names that are the same as it.
-use Rattle.std.proofs.Common.{◌≡◌, ℕ, zero, suc, ◌+◌, ◌<◌, ◌↔◌, Bool, true, false, cond, ◌&&◌, ◌==◌, List, [], ◌∷◌, length, Result, Ok, Err, slice_index, IsTrue, refl, ap, sym, ◌∙◌, arith, chars}
+use Rattle.std.proofs.Common.{◌≡◌, ℕ, zero, suc, ◌<◌, ◌↔◌, Bool, true, false, cond, ◌&&◌, ◌==◌, [], ◌∷◌, length, Result, Ok, Err, slice_index, IsTrue, refl, ap, sym, ◌∙◌, arith, chars}
 use Rattle.std.specs.Prelude.{IfOk}
 use Rattle.std.specs.List.{list_all, zip}
 use Rattle.std.specs.Bool.{Decides, one_answer}

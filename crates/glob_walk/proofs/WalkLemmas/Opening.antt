@@ -1,6 +1,6 @@
 -- What comes of a directory that is listed.
 use Rattle.std.proofs.Common.{◌≡◌, ℕ, zero, suc, ◌+◌, ◌-◌, ◌<◌, ◌≤◌, Bool, true, false, cond, List, [], ◌∷◌, ◌++◌, length, drop, replicate, refl, ap, sym, subst, ◌∙◌, arith, append_assoc}
-use Rattle.std.specs.Prelude.{map, flat_map, Contains}
+use Rattle.std.specs.Prelude.{flat_map, Contains}
 use Rattle.std.specs.Path.{cur_dir, parent_dir}
 use Rattle.std.specs.declared.io.ErrorKind.{ErrorKind}
 use Rattle.glob_text.specs.Text.{Text}
@@ -8,9 +8,8 @@ use Rattle.glob_text.specs.Characters.{dot}
 use Rattle.glob_tree.specs.Paths.{child}
 use Rattle.glob_text.specs.Pieces.{begins_with}
 use Rattle.glob_walk.specs.Marks.{Mark, Work, Give, Unread}
-use Rattle.glob_tree.specs.Content.{Content, Key, DirEntry, ListAnswer, Entries, Fails, NoDirectory, list_result, look_result, sorted_entries, insert_entry, is_before, children}
-use Rattle.glob_walk.specs.Components.{Recursive, Wild, component_kind}
-use Rattle.glob_walk.specs.Listing.{enter, meet, match_at, is_entered, list_directory, after_listing, special_names, special_name}
+use Rattle.glob_tree.specs.Content.{Content, Key, DirEntry, ListAnswer, Entries, Fails, list_result, look_result, sorted_entries, insert_entry, is_before, children}
+use Rattle.glob_walk.specs.Listing.{enter, match_at, is_entered, list_directory, after_listing, special_names, special_name}
 use Rattle.glob_tree.specs.Looks.{is_directory}
 use Rattle.glob_pattern.specs.declared.options.MatchOptions.{MatchOptions}
 use Rattle.glob_tree.proofs.ContentLemmas.Contents.{IsContent}
@@ -20,7 +19,7 @@ use Rattle.glob_walk.specs.declared.plan.Plan.{Plan}
 use Rattle.glob_walk.specs.declared.frame.Place.{Place}
 use Rattle.glob_walk.specs.declared.frame.Place.TheVariants.{Parent, At}
 use Rattle.glob_walk.specs.Private.Tasks.{enter_from, IsOpened}
-use Rattle.glob_walk.specs.Private.Frames.{first_of, entry_marks, entries_marks, special_marks, special_after, place_marks, first_place, IsEntrySound}
+use Rattle.glob_walk.specs.Private.Frames.{first_of, entries_marks, special_marks, special_after, place_marks, first_place, IsEntrySound}
 use Rattle.glob_walk.specs.Private.Meters.{IsInOrder, IsCut}
 use Rattle.glob_tree.specs.Answers.{IsListFault}
 use Rattle.glob_tree.proofs.ContentLemmas.Sorting.{Contains-sorted_entries}

@@ -1,5 +1,5 @@
 -- Reading a pattern's components.
-use Rattle.std.proofs.Common.{◌≡◌, ◌≢◌, ℕ, ◌+◌, ◌-◌, ◌<◌, Bool, true, false, cond, not, ◌||◌, ◌==◌, List, [], ◌∷◌, ◌++◌, length, take, drop, drop-cons, add-one, suc, get_or, slice_index, map, Option, Some, None, Result, Ok, Err, refl, ap, sym, subst, ◌∙◌, arith, chars, rules}
+use Rattle.std.proofs.Common.{◌≡◌, ◌≢◌, ℕ, ◌+◌, ◌-◌, ◌<◌, Bool, true, false, cond, not, ◌||◌, ◌==◌, List, [], ◌∷◌, ◌++◌, length, take, drop, drop-cons, add-one, suc, get_or, slice_index, map, Option, Some, None, Result, Ok, Err, refl, ap, sym, ◌∙◌, arith, chars, rules}
 use Rattle.std.specs.Prelude.{IfOk, IfErr, IsErrAnd, MatchOption, is_some}
 use Rattle.std.specs.Borrow.{Bor}
 use Rattle.std.proofs.lemmas.List.{length-append}
@@ -11,12 +11,11 @@ use Rattle.std.proofs.lemmas.Str.{encode_ascii, encodes-chars}
 use lib.Utf8.{encode, encodes}
 use Rattle.glob_text.specs.Text.{Text}
 use Rattle.glob_text.specs.Characters.{slash}
-use Rattle.glob_text.specs.Pieces.{ends_with, begins_with}
+use Rattle.glob_text.specs.Pieces.{ends_with}
 use Rattle.glob_pattern.specs.Grammar.Characters.{is_wildcard}
 use Rattle.glob_pattern.specs.Grammar.Tokens.{tokens_of_units}
 use Rattle.glob_pattern.specs.Grammar.Units.{IsAccepted}
 use Rattle.glob_pattern.specs.Grammar.Faults.{Refuses, Fault}
-use Rattle.glob_pattern.specs.Computing.Reading.{reading_of}
 use Rattle.glob_pattern.specs.declared.error.PatternRefusal.{PatternRefusal}
 use Rattle.glob_pattern.specs.declared.error.PatternRefusal.TheVariants as refusal
 use Rattle.glob_pattern.proofs.GrammarLemmas.Accepted.{reading_of-Ok, reading_of-Err}

@@ -1,14 +1,13 @@
 -- What `next` takes.
-use Rattle.std.proofs.Common.{◌≡◌, ◌≢◌, ℕ, ◌+◌, ◌-◌, ◌≤◌, ◌<◌, ◌^◌, length, Bool, true, false, List, [], ◌∷◌, ◌++◌, Option, Some, None, refl, ap, sym, subst, ◌∙◌, arith}
+use Rattle.std.proofs.Common.{◌≡◌, ◌≢◌, ℕ, ◌+◌, ◌≤◌, ◌<◌, ◌^◌, length, Bool, true, false, List, [], Option, Some, None, refl, ap, sym, subst, ◌∙◌, arith}
 use Rattle.std.specs.Prelude.{option_map, string_bytes, sum_by, nat_le}
 use Rattle.std.specs.List.{All}
 use Rattle.std.proofs.lemmas.List.Elements.{All-from_recursion}
-use Rattle.std.proofs.lemmas.Bool.{both_ways, false≢true}
-use Rattle.glob_text.specs.Text.{Text}
+use Rattle.std.proofs.lemmas.Bool.{both_ways}
 use Rattle.glob_walk.specs.Marks.{Mark}
 use Rattle.glob_tree.specs.Content.{Content}
 use Rattle.glob_tree.specs.Answers.{IsTold}
-use Rattle.glob_walk.specs.Walks.{Outcome, Walking, Charges, StopsAt, Counts, IsAsked, TakesFront, Takes, Goes, is_last, item_number}
+use Rattle.glob_walk.specs.Walks.{Outcome, Walking, Charges, Counts, IsAsked, TakesFront, Takes, Goes, is_last, item_number}
 use Rattle.glob_walk.specs.declared.meter.Meter.{Meter}
 use Rattle.glob_walk.specs.declared.stack.Stack.{Stack}
 use Rattle.glob_walk.specs.declared.walker.Turn.{Turn}

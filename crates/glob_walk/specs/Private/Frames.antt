@@ -1,20 +1,19 @@
 -- What the frames of a walk leave of the written listing.
-use Rattle.std.specs.Prelude.{◌≡◌, ℕ, ◌+◌, ◌-◌, ◌*◌, Bool, true, false, ◌&&◌, if◌then◌else◌, List, [], ◌∷◌, ◌++◌, length, drop, map, reverse, flat_map, Option, Some, None, string_bytes, sum_by, nat_le, Contains}
+use Rattle.std.specs.Prelude.{◌≡◌, ℕ, ◌+◌, ◌-◌, ◌*◌, Bool, true, false, if◌then◌else◌, List, [], ◌∷◌, ◌++◌, length, drop, flat_map, Option, Some, None, string_bytes, nat_le, Contains}
 use Rattle.std.specs.Path.{cur_dir, parent_dir}
 use Rattle.glob_text.specs.Text.{Text}
 use Rattle.glob_walk.specs.Marks.{Mark}
 use Rattle.glob_tree.specs.Content.{Content, DirEntry, look_result}
 use Rattle.glob_tree.specs.Answers.{entries_of}
 use Rattle.glob_tree.specs.Paths.{child}
-use Rattle.glob_walk.specs.Listing.{enter, meet, match_at, look_up, special_name, is_entered}
-use Rattle.glob_tree.specs.Looks.{is_there, is_directory}
+use Rattle.glob_walk.specs.Listing.{enter, meet, match_at, special_name, is_entered}
+use Rattle.glob_tree.specs.Looks.{is_directory}
 use Rattle.glob_pattern.specs.declared.options.MatchOptions.{MatchOptions}
 use Rattle.glob_walk.specs.declared.plan.Plan.{Plan}
-use Rattle.glob_walk.specs.declared.task.Task.{Task}
 use Rattle.glob_walk.specs.declared.frame.Frame.{Frame}
 use Rattle.glob_walk.specs.declared.frame.Place.{Place}
 use Rattle.glob_walk.specs.declared.frame.Place.TheVariants as place
-use Rattle.glob_walk.specs.Private.Tasks.{enter_from, next_marks, is_dotted}
+use Rattle.glob_walk.specs.Private.Tasks.{enter_from, is_dotted}
 
 -- what is made of an entry that is met: the components from number `at` on follow
 abbrev pub met_marks : {A : Type 0} → Content → Plan A → Text → DirEntry → Option ℕ → List Mark

@@ -1,6 +1,5 @@
 -- What a tree is asked within a limit.
 use Rattle.std.specs.Prelude.{◌≡◌, ℕ, ◌+◌, ◌≤◌, ◌<◌, List, length, ⊤}
-use Rattle.std.specs.declared.io.ErrorKind.{ErrorKind}
 use Rattle.std.specs.IoError.{error_kind}
 use Rattle.glob_tree.specs.Content.{ListAnswer, Entries, Fails, NoDirectory, DirEntry, sorted_entries}
 use Rattle.glob_tree.specs.Answers.{IsListFault}

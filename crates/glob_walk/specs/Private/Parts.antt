@@ -1,5 +1,5 @@
 -- What is kept of a component.
-use Rattle.std.specs.Prelude.{◌≡◌, ◌==◌, Bool, ◌&&◌, List, length, Option, string_bytes, chars}
+use Rattle.std.specs.Prelude.{◌≡◌, ◌==◌, Bool, ◌&&◌, length, Option, string_bytes, chars}
 use Rattle.std.specs.List.{list_all, zip}
 use Rattle.std.specs.Result.{result_err}
 use Rattle.glob_text.specs.Text.{Text}

@@ -1,5 +1,5 @@
 -- What a walk has still to do, as a part of the written listing.
-use Rattle.std.specs.Prelude.{◌≡◌, ℕ, ◌+◌, ◌*◌, ◌<◌, List, [], ◌∷◌, ◌++◌, length, reverse, flat_map, Option, Some, None, sum_by}
+use Rattle.std.specs.Prelude.{ℕ, ◌+◌, ◌*◌, ◌<◌, List, ◌++◌, length, reverse, flat_map, Option, Some, None, sum_by}
 use Rattle.std.specs.List.{All}
 use Rattle.glob_walk.specs.Marks.{Mark}
 use Rattle.glob_tree.specs.Content.{Content}

@@ -1,15 +1,12 @@
 -- What is left of the written listing.
-use Rattle.std.specs.Prelude.{◌≡◌, ℕ, ◌+◌, ◌-◌, ◌*◌, Bool, true, false, ◌&&◌, if◌then◌else◌, List, [], ◌∷◌, ◌++◌, length, drop, map, reverse, flat_map, Option, Some, None, string_bytes, nat_le}
-use Rattle.std.specs.Path.{cur_dir, parent_dir}
+use Rattle.std.specs.Prelude.{◌≡◌, ℕ, Bool, true, false, if◌then◌else◌, List, [], ◌∷◌, length, drop, Option, Some, None, string_bytes, nat_le}
 use Rattle.glob_text.specs.Text.{Text}
 use Rattle.glob_walk.specs.Marks.{Mark}
-use Rattle.glob_tree.specs.Content.{Content, DirEntry, look_result}
-use Rattle.glob_tree.specs.Answers.{entries_of}
-use Rattle.glob_walk.specs.Components.{ComponentKind, Literal, Recursive, Wild, component_kind, begins_recursive}
-use Rattle.glob_tree.specs.Paths.{child}
+use Rattle.glob_tree.specs.Content.{Content, look_result}
+use Rattle.glob_walk.specs.Components.{Recursive, Wild, component_kind, begins_recursive}
 use Rattle.glob_text.specs.Pieces.{begins_with}
 use Rattle.glob_text.specs.Characters.{dot}
-use Rattle.glob_walk.specs.Listing.{enter, meet, match_at, look_up, special_name, is_entered}
+use Rattle.glob_walk.specs.Listing.{enter, look_up}
 use Rattle.glob_tree.specs.Looks.{is_there, is_directory}
 use Rattle.glob_tree.specs.declared.tree.Look.{Look}
 use Rattle.glob_walk.specs.declared.plan.Plan.{Plan}

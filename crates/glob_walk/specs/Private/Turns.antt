@@ -1,8 +1,7 @@
 -- One turn of a walk, against the written listing.
-use Rattle.std.specs.Prelude.{◌≡◌, ℕ, ◌+◌, ◌*◌, ◌-◌, ◌≤◌, ◌<◌, Option, List, [], ◌∷◌, ◌++◌, length, map, string_bytes, ⊤}
+use Rattle.std.specs.Prelude.{◌≡◌, ℕ, ◌+◌, ◌*◌, ◌-◌, ◌≤◌, ◌<◌, Option, List, [], ◌∷◌, string_bytes, ⊤}
 use Rattle.std.specs.IoError.{error_kind}
-use Rattle.glob_text.specs.Text.{Text}
-use Rattle.glob_walk.specs.Marks.{Mark, Work, Give, Found, Unread}
+use Rattle.glob_walk.specs.Marks.{Mark, Give, Found, Unread}
 use Rattle.glob_walk.specs.declared.meter.Meter.{Meter}
 use Rattle.glob_walk.specs.declared.walker.Turn.{Turn}
 use Rattle.glob_walk.specs.declared.walker.Turn.TheVariants as turn

@@ -1,7 +1,7 @@
-use Rattle.std.proofs.Common.{rules, ◌≡◌, ◌∙◌, ◌++◌, ◌∷◌, [], Some, None, Option, sym, ap, subst}
+use Rattle.std.proofs.Common.{rules, ◌≡◌, ◌∙◌, ◌++◌, ◌∷◌, [], Some, None, sym, subst}
 use Rattle.std.specs.Prelude.{option_map}
 use Rattle.glob_walk.specs.Private.Walking.{refusal_end}
-use Rattle.glob_walk.specs.Walks.{Goes, Outcome, outcome}
+use Rattle.glob_walk.specs.Walks.{Goes, outcome}
 use Rattle.glob_walk.specs.declared.walk.End.TheVariants as end
 use Rattle.glob_walk.proofs.WalkLemmas.Gathering.{Gathers, Ends, Gathers-none, Gathers-item, Ends-done, Ends-refusal, Ends-memory, item_from_no_end}
 use Rattle.glob_walk.proofs.walk.gather.Goals as goal

@@ -1,10 +1,8 @@
-use Rattle.std.proofs.Common.{cond, ◌+◌, ◌≡◌, ◌<◌, length, get_or, rules, ap, ◌∙◌, sym, refl, arith, tests}
+use Rattle.std.proofs.Common.{cond, ◌+◌, rules, ap, ◌∙◌, sym}
 use Rattle.std.specs.Prelude.{string_bytes}
-use Rattle.glob_tree.specs.Answers.{entries_of}
 use Rattle.glob_walk.specs.declared.frame.Place.TheVariants.{At, Inside}
 use Rattle.glob_walk.specs.Private.Tasks.{next_marks}
-use Rattle.glob_walk.specs.Private.Frames.{frame_marks, place_marks}
-use Rattle.glob_walk.proofs.WalkLemmas.Stepping.{listed_at, contained_at, at_step, inside_step}
+use Rattle.glob_walk.proofs.WalkLemmas.Stepping.{contained_at, at_step, inside_step}
 use Rattle.glob_walk.proofs.frame.Frame.step.Goals.{then-self, else-self}
 use Rattle.glob_walk.proofs.frame.Frame.step.Goals as goal
 

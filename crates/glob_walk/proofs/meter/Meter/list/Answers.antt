@@ -1,4 +1,4 @@
-use Rattle.std.proofs.Common.{rules, ◌<◌, ◌-◌, ◌+◌, length, arith, refl}
+use Rattle.std.proofs.Common.{rules}
 use Rattle.glob_tree.proofs.ContentLemmas.Contents.{IsContent-from_test}
 use Rattle.glob_walk.proofs.WalkLemmas.Listings.{in_order, is_cut}
 use Rattle.glob_walk.proofs.meter.Meter.list.Goals as goal

@@ -1,4 +1,4 @@
-use Rattle.std.proofs.Common.{rules, sym, ◌∙◌}
+use Rattle.std.proofs.Common.{sym, ◌∙◌}
 use Rattle.glob_walk.proofs.WalkLemmas.Reading.{text_fault-literal}
 use Rattle.glob_walk.proofs.part.Part.read.Goals.{then-is_literal+in_ok-from_str, else-is_literal+then-is_recursive+in_ok-compile, else-is_literal+else-is_recursive+in_ok-compile-2}
 use Rattle.glob_walk.proofs.part.Part.read.Goals as goal

@@ -1,6 +1,6 @@
-use Rattle.std.proofs.Common.{rules, ◌≡◌, ◌+◌, ◌≤◌, ◌^◌, sym, ap, ◌∙◌, arith, subst, false, true}
+use Rattle.std.proofs.Common.{rules, ◌+◌, ◌≤◌, ◌^◌, sym, arith, subst}
 use Rattle.glob_walk.specs.Private.Walking.{IsGood, turn_outcome}
-use Rattle.glob_walk.specs.Walks.{is_last, item_number}
+use Rattle.glob_walk.specs.Walks.{item_number}
 use Rattle.glob_walk.proofs.WalkLemmas.Taking.{Runs, IsGood-after, goes_at, goes_over, one_item}
 use Rattle.glob_walk.proofs.paths.PathsIterator.next.Goals as goal
 

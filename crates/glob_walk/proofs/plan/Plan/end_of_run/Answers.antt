@@ -1,4 +1,4 @@
-use Rattle.std.proofs.Common.{rules, ◌≡◌, ◌+◌, ◌<◌, true, false, drop, length, refl, ap, sym, ◌∙◌, arith}
+use Rattle.std.proofs.Common.{rules, ◌≡◌, true, false, ap, ◌∙◌}
 use Rattle.glob_walk.specs.Components.{is_recursive, begins_recursive}
 use Rattle.glob_walk.proofs.WalkLemmas.Running.{run_more, run_same, opened_end}
 use Rattle.glob_walk.proofs.plan.Plan.end_of_run.Goals as goal

@@ -1,4 +1,4 @@
-use Rattle.std.proofs.Common.{◌≡◌, sym, ap, subst, ◌∙◌}
+use Rattle.std.proofs.Common.{sym, ap, subst, ◌∙◌}
 use Rattle.glob_text.specs.Pieces.{pieces}
 use Rattle.glob_walk.specs.Components.{first_fault}
 use Rattle.glob_walk.specs.Private.Parts.{text_fault}

@@ -1,10 +1,8 @@
-use Rattle.std.proofs.Common.{rules, ◌≡◌, ◌+◌, ◌-◌, ◌<◌, length, arith, refl, ap, sym, ◌∙◌, ◌++◌, subst}
-use Rattle.std.specs.List.{All}
+use Rattle.std.proofs.Common.{rules, ◌-◌, ◌<◌, length, ap, sym, ◌∙◌, ◌++◌}
 use Rattle.std.specs.Prelude.{vec_len}
-use Rattle.std.proofs.lemmas.List.Elements.{All-take}
 use Rattle.glob_walk.specs.Private.Tasks.{next_marks}
 use Rattle.glob_walk.specs.Private.Frames.{IsFrameSound}
-use Rattle.glob_walk.specs.Private.Stacks.{left, frames_marks}
+use Rattle.glob_walk.specs.Private.Stacks.{frames_marks}
 use Rattle.glob_walk.proofs.WalkLemmas.Stacking.{pop_left, step_left, All-front}
 use Rattle.glob_walk.proofs.stack.Stack.go_on.Goals as goal
 

@@ -1,7 +1,6 @@
-use Rattle.std.proofs.Common.{cond, rules, ◌≡◌, ◌+◌, ◌∷◌, [], ◌++◌, Bool, true, false, not, ◌||◌, drop, Some, None, refl, ap, sym, ◌∙◌, arith, subst}
+use Rattle.std.proofs.Common.{cond, rules, ◌≡◌, ◌∷◌, [], ◌++◌, true, false, drop, Some, ap, sym, ◌∙◌}
 use Rattle.std.specs.Prelude.{string_bytes}
 use Rattle.glob_walk.specs.Marks.{Give, Found}
-use Rattle.glob_walk.specs.Listing.{enter}
 use Rattle.glob_walk.specs.Private.Tasks.{enter_from, next_marks, IsOpened}
 use Rattle.glob_walk.specs.Private.Stacks.{left, frames_marks}
 use Rattle.glob_walk.proofs.WalkLemmas.Charging.{uncharged, if_given, if_not_given}

@@ -1,13 +1,13 @@
-use Rattle.std.proofs.Common.{cond, true, suc, rules, ◌≡◌, ◌+◌, ◌≤◌, ◌∷◌, [], ◌++◌, length, refl, ap, sym, ◌∙◌, arith, replicate, append_assoc, subst}
+use Rattle.std.proofs.Common.{cond, true, rules, ◌≡◌, ◌∷◌, [], ◌++◌, ap, sym, ◌∙◌, arith, subst}
 use Rattle.std.specs.Prelude.{string_bytes}
 use Rattle.std.specs.IoError.{error_kind}
-use Rattle.glob_tree.specs.Content.{look_result, list_result}
+use Rattle.glob_tree.specs.Content.{list_result}
 use Rattle.glob_tree.specs.Answers.{entries_of}
 use Rattle.glob_tree.proofs.ContentLemmas.Contents.{IsContent-from_test}
-use Rattle.glob_walk.specs.Private.Meters.{IsInOrder, IsCut, IsUnlisted}
-use Rattle.glob_walk.specs.Walks.{StopsAt, works}
+use Rattle.glob_walk.specs.Private.Meters.{IsInOrder, IsUnlisted}
+use Rattle.glob_walk.specs.Walks.{StopsAt}
 use Rattle.glob_walk.specs.Private.Tasks.{enter_from}
-use Rattle.glob_walk.specs.Private.Stacks.{left, frames_marks}
+use Rattle.glob_walk.specs.Private.Stacks.{left}
 use Rattle.std.proofs.lemmas.Grind.{common_steps}
 use Rattle.glob_walk.specs.declared.frame.Place.TheVariants.{At, Parent}
 use Rattle.glob_walk.proofs.WalkLemmas.Opening.{opened_fault, opened_charges, opened_cut, opened_sound}

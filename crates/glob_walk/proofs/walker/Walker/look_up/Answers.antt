@@ -1,8 +1,8 @@
-use Rattle.std.proofs.Common.{rules, ◌≡◌, ◌+◌, ◌∷◌, [], ◌++◌, refl, ap, sym, ◌∙◌, arith}
+use Rattle.std.proofs.Common.{rules, ◌∷◌, [], ◌++◌, refl, ap, ◌∙◌}
 use Rattle.std.specs.Prelude.{string_bytes}
 use Rattle.glob_walk.specs.Marks.{Work}
 use Rattle.glob_tree.specs.Content.{look_result}
-use Rattle.glob_walk.specs.Private.Tasks.{next_marks, enter_from}
+use Rattle.glob_walk.specs.Private.Tasks.{next_marks}
 use Rattle.glob_walk.specs.Private.Stacks.{left, frames_marks}
 use Rattle.glob_walk.proofs.walker.Walker.look_up.Goals as goal
 

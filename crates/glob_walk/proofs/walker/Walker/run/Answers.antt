@@ -1,4 +1,4 @@
-use Rattle.std.proofs.Common.{rules, ◌≡◌, ◌∙◌, ◌+◌, ◌≤◌, sym, ap, arith}
+use Rattle.std.proofs.Common.{◌∙◌, ◌+◌, ◌≤◌, arith}
 use Rattle.glob_walk.specs.Private.Stacks.{left, ready}
 use Rattle.glob_walk.specs.Private.Turns.{item_count}
 use Rattle.glob_walk.proofs.WalkLemmas.Charging.{Charges-trans, TurnOf-after, TurnCounts-after, IsExact-trans, IfGoing-map}

@@ -1,4 +1,4 @@
-use Rattle.std.proofs.Common.{rules, ◌≡◌, subst, sym}
+use Rattle.std.proofs.Common.{subst, sym}
 use Rattle.glob_walk.specs.Private.Tasks.{IsNextSound}
 use Rattle.glob_walk.proofs.walker.Walker.turn.Goals as goal
 
