@@ -134,32 +134,3 @@ impl<A: Allocator> fmt::Display for GlobError<A> {
 }
 
 impl<A: Allocator> Error for GlobError<A> {}
-
-#[cfg(test)]
-mod tests {
-    use super::*;
-    use std::test::Fail;
-
-    #[test]
-    fn a_limit_is_written(rt: HostRuntime) -> Result<(), Fail> {
-        let error = GlobError::limit(PathBuf::from_str(rt.alloc(), "a/b")?);
-        let line = format!(in rt.alloc(); "{error}")?;
-        assert_eq!(rt;
-            line.as_str(),
-            "attempting to read `a/b` resulted in an error: walk limit reached"
-        );
-        Ok(())
-    }
-
-    #[test]
-    fn a_failed_read_is_written(rt: HostRuntime) -> Result<(), Fail> {
-        let path = PathBuf::from_str(rt.alloc(), "a")?;
-        let error = GlobError::read(path, io::Error::from(io::ErrorKind::NotFound));
-        let line = format!(in rt.alloc(); "{error}")?;
-        assert!(rt;
-            line.as_str()
-                .starts_with("attempting to read `a` resulted in an error:")
-        );
-        Ok(())
-    }
-}

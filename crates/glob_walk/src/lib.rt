@@ -13,8 +13,6 @@ mod plan;
 mod same_text;
 mod stack;
 mod task;
-#[cfg(test)]
-mod tests;
 mod walk;
 mod walker;
 

@@ -1,8 +1,8 @@
 //! Patterns that no walk accepts, and how a walk's refusal is printed.
-use super::contents::Key::Other;
+use super::contents::Key::{Dir, Other, Shut};
 use super::contents::{at_root, tree_of};
 use crate::trees::{Counting, LyingTree};
-use glob::{GlobCause, MatchOptions, PatternRefusal, glob_in, walk_in};
+use glob::{GlobCause, MatchOptions, Paths, PatternRefusal, Tree, glob_in, walk_in};
 use std::cell::Cell;
 use std::process::Abort;
 use std::test::Fail;
@@ -61,20 +61,40 @@ fn nothing_is_asked_before_the_first_item_is_wanted(rt: HostRuntime) -> Result<(
     Ok(())
 }
 
+/// The first item is an error of this cause, and what is printed of it begins so.
+fn check_printed<T: Tree>(
+    rt: &(impl AllocGlobal + Abort),
+    mut paths: Paths<T>,
+    cause: GlobCause,
+    beginning: &str,
+) -> Result<(), Fail> {
+    match paths.next() {
+        Some(Err(error)) => {
+            assert!(rt; error.cause() == cause);
+            let line = format!(in rt.alloc(); "{error}")?;
+            assert!(rt; line.as_str().starts_with(beginning), "{line}");
+        }
+        _ => panic!(rt; "no error"),
+    }
+    Ok(())
+}
+
 #[test]
 fn a_limit_is_printed(rt: HostRuntime) -> Result<(), Fail> {
     let tree = tree_of(&rt, &at_root(&[Other("x"), Other("y")]))?;
-    let mut paths = glob_in(rt.alloc(), tree, "*", MatchOptions::new(), 3)?;
-    match paths.next() {
-        Some(Err(error)) => {
-            assert!(rt; error.cause() == GlobCause::Limit);
-            let line = format!(in rt.alloc(); "{error}")?;
-            assert_eq!(rt;
-                line.as_str(),
-                "attempting to read `.` resulted in an error: walk limit reached"
-            );
-        }
-        _ => panic!(rt; "no refusal"),
-    }
-    Ok(())
+    let paths = glob_in(rt.alloc(), tree, "*", MatchOptions::new(), 3)?;
+    let line = "attempting to read `.` resulted in an error: walk limit reached";
+    check_printed(&rt, paths, GlobCause::Limit, line)?;
+    let tree = tree_of(&rt, &at_root(&[Dir("a"), Dir("a/b")]))?;
+    let paths = glob_in(rt.alloc(), tree, "a/b", MatchOptions::new(), 2)?;
+    let line = "attempting to read `a/b` resulted in an error: walk limit reached";
+    check_printed(&rt, paths, GlobCause::Limit, line)
+}
+
+#[test]
+fn an_unreadable_directory_is_printed(rt: HostRuntime) -> Result<(), Fail> {
+    let tree = tree_of(&rt, &at_root(&[Shut("a")]))?;
+    let paths = glob_in(rt.alloc(), tree, "a/*", MatchOptions::new(), u64::MAX)?;
+    let line = "attempting to read `a` resulted in an error: ";
+    check_printed(&rt, paths, GlobCause::Read, line)
 }
