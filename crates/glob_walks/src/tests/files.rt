@@ -124,8 +124,8 @@ pub(super) const SPECIALS: [(&str, &[&str]); 10] = [
 
 #[test]
 fn files(rt: HostRuntime) -> Result<(), Fail> {
-    for (patterns, paths) in ROWS {
-        for pattern in patterns {
+    for (patterns, paths) in ROWS.as_slice() {
+        for pattern in *patterns {
             check_paths(&rt, &FILES, Job::of(pattern), paths)?;
         }
     }
@@ -134,10 +134,10 @@ fn files(rt: HostRuntime) -> Result<(), Fail> {
 
 #[test]
 fn special_characters(rt: HostRuntime) -> Result<(), Fail> {
-    for (pattern, names) in SPECIALS {
+    for (pattern, names) in SPECIALS.as_slice() {
         let pattern = format!(in rt.alloc(); "bbb/specials/{pattern}")?;
         let mut paths = Vec::new(rt.alloc());
-        for name in names {
+        for name in *names {
             paths.push(format!(in rt.alloc(); "bbb/specials/{name}")?)?;
         }
         let texts: Vec<&str> = paths.iter().map(|path| path.as_str()).collect(rt.alloc())?;

@@ -22,8 +22,8 @@ const ROWS: [Row; 7] = [
 #[test]
 fn each_limit(rt: HostRuntime) -> Result<(), Fail> {
     let tree = at_root(&[Dir("a"), Dir("a/a"), Other("a/a/b")]);
-    for (limits, items) in ROWS {
-        for limit in limits {
+    for (limits, items) in ROWS.as_slice() {
+        for limit in *limits {
             let spent = check(&rt, &tree, Job::of("**/a/**/b").within(*limit), items)?;
             assert_eq!(rt; spent, (*limit).min(13));
         }
