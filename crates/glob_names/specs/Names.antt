@@ -34,7 +34,7 @@ NamesSplit (component ∷ components) names =
 abbrev pub IsComponent : List ℕ → Type 0
 IsComponent component = IsAccepted (chars component)
 
--- what a refusal says: the fault of the first component that is no pattern, or want of memory
+-- what a refusal says: the fault of the first component that is no pattern, or out of memory
 abbrev pub RefusesComponent : (components : List (List ℕ)) → PatternRefusal → Type 0
 RefusesComponent components refusal =
     (front others : List (List ℕ)) × (component : List ℕ)

@@ -33,7 +33,7 @@ impl<A: Allocator> Model for PathPattern<A> {
 
 impl<A: Allocator + Copy> PathPattern<A> {
     /// Reads a path pattern. It is refused with the fault of the first component that is no pattern, whose place counts
-    /// from the start of that component; and any text may be refused for want of memory.
+    /// from the start of that component; and any text may be refused if allocation fails.
     pub fn new(alloc: A, text: &str) -> Result<Self, PatternRefusal>
         ensures components { IfOk result (λ pattern. pattern ≡ names.names_of text.now) }
         ensures accepted { IfOk result (All names.IsComponent) }
@@ -53,11 +53,12 @@ impl<A: Allocator + Copy> PathPattern<A> {
     }
 
     /// Whether the path's names, what stands between its `/`, are groups in a row, one a component: of `**` any number
-    /// of names, of another component one name that it matches, with case. It fails only for want of memory.
+    /// of names, of another component one name that it matches, with case. Fails only if allocation fails.
     ///
     /// So `a/**/b` matches `a/b` and `a/x/y/b`. And `a/**` matches `a`, with no names for `**`.
     pub fn matches(&self, path: &str) -> Result<bool, AllocError>
-        ensures { IfOk result (λ yes. IsTrue yes ↔ names.NamesSplit self.now (names.names_of path.now)) }
+        ensures { IfOk result
+            (λ yes. IsTrue yes ↔ names.NamesSplit self.now (names.names_of path.now)) }
     {
         let rows = self.rows(path)?;
         let mut judge = NameJudge::new(&rows, self.components.len());
@@ -66,7 +67,10 @@ impl<A: Allocator + Copy> PathPattern<A> {
 
     /// For each name of the path, whether each component takes it.
     fn rows(&self, path: &str) -> Result<Vec<Vec<bool, A>, A>, AllocError>
-        ensures { IfOk result (λ rows. table.AreAligned (λ name row. table.IsRow self.now name row.items) (names.names_of path.now) rows.items) }
+        ensures { IfOk result
+            (λ rows. table.AreAligned
+            (λ name row. table.IsRow self.now name row.items)
+            (names.names_of path.now) rows.items) }
     {
         let mut rows = Vec::new(self.alloc);
         for name in path.split('/') {

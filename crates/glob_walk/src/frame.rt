@@ -49,7 +49,10 @@ fn meet<A: Allocator + Copy>(
     name: &str,
     is_dir: bool,
 ) -> Result<Option<usize>, AllocError>
-    ensures { IfOk result (λ at. (c : Content) → (path : Text) → first_part c plan.now run part path (name.now, is_dir) ≡ met_marks c plan.now path (name.now, is_dir) at) }
+    ensures { IfOk result
+        (λ at. (c : Content) → (path : Text)
+        → first_part c plan.now run part path (name.now, is_dir)
+        ≡ met_marks c plan.now path (name.now, is_dir) at) }
 {
     let Some(component) = plan.component(part) else {
         return Ok(None);
@@ -71,7 +74,9 @@ fn match_at<A: Allocator + Copy>(
     next: usize,
     name: &str,
 ) -> Result<Option<usize>, AllocError>
-    ensures { IfOk result (λ at. at ≡ (if matches_text plan.now.options component.now name.now then Some next else None)) }
+    ensures { IfOk result
+        (λ at. at
+        ≡ (if matches_text plan.now.options component.now name.now then Some next else None)) }
 {
     if component.matches(name, plan.options)? {
         Ok(Some(next))
@@ -93,7 +98,10 @@ impl<A: Allocator + Copy> Frame<A> {
 
     /// `..` or `.`, if the component matches it.
     fn special(&self, plan: &Plan<A>, name: &str) -> Result<Option<Task<A>>, AllocError>
-        ensures marks { IfOk result (λ task. (c : Content) → special_marks c plan.now self.now.part (string_bytes self.now.path) name.now ≡ next_marks c plan.now task) }
+        ensures marks { IfOk result
+            (λ task. (c : Content)
+            → special_marks c plan.now self.now.part (string_bytes self.now.path) name.now
+            ≡ next_marks c plan.now task) }
         ensures ready { IfOk result (λ task. next_ready plan.now task ≡ 0) }
         ensures sound { IfOk result (λ task. (c : Content) → IsNextSound c task) }
     {
@@ -112,8 +120,14 @@ impl<A: Allocator + Copy> Frame<A> {
 
     /// What comes of an entry's name.
     fn met(&self, plan: &Plan<A>, entry: &Entry<A>) -> Result<Option<Task<A>>, AllocError>
-        ensures marks { IfOk result (λ task. (c : Content) → first_part c plan.now self.now.run self.now.part (string_bytes self.now.path) (entry.now.name, entry.now.is_dir) ≡ next_marks c plan.now task) }
-        ensures sound { IfOk result (λ task. (c : Content) → IsEntrySound c (string_bytes self.now.path) (entry.now.name, entry.now.is_dir) → IsNextSound c task) }
+        ensures marks { IfOk result
+            (λ task. (c : Content)
+            → first_part c plan.now self.now.run self.now.part (string_bytes self.now.path)
+            (entry.now.name, entry.now.is_dir) ≡ next_marks c plan.now task) }
+        ensures sound { IfOk result
+            (λ task. (c : Content)
+            → IsEntrySound c (string_bytes self.now.path) (entry.now.name, entry.now.is_dir)
+            → IsNextSound c task) }
     {
         let name = entry.name.as_str();
         let Some(part) = meet(plan, self.run, self.part, name, entry.is_dir)? else {
@@ -129,9 +143,15 @@ impl<A: Allocator + Copy> Frame<A> {
     /// A run of `**` goes on in an entry.
     fn entered(&self, plan: &Plan<A>, entry: &Entry<A>) -> Result<Option<Task<A>>, AllocError>
         requires { self.now.part < vec_len plan.now.parts }
-        ensures marks { IfOk result (λ task. (c : Content) → second_part c plan.now self.now.run self.now.part (string_bytes self.now.path) (entry.now.name, entry.now.is_dir) ≡ next_marks c plan.now task) }
+        ensures marks { IfOk result
+            (λ task. (c : Content)
+            → second_part c plan.now self.now.run self.now.part (string_bytes self.now.path)
+            (entry.now.name, entry.now.is_dir) ≡ next_marks c plan.now task) }
         ensures ready { IfOk result (λ task. next_ready plan.now task ≡ 0) }
-        ensures sound { IfOk result (λ task. (c : Content) → IsEntrySound c (string_bytes self.now.path) (entry.now.name, entry.now.is_dir) → IsNextSound c task) }
+        ensures sound { IfOk result
+            (λ task. (c : Content)
+            → IsEntrySound c (string_bytes self.now.path) (entry.now.name, entry.now.is_dir)
+            → IsNextSound c task) }
     {
         let name = entry.name.as_str();
         if !self.run || !is_entered(plan.options, name, entry.is_dir) {
@@ -148,11 +168,16 @@ impl<A: Allocator + Copy> Frame<A> {
     pub fn step(&mut self, plan: &Plan<A>) -> Result<Option<Task<A>>, AllocError>
         requires going { is_done_frame self.old ≡ false }
         requires within { self.old.part < vec_len plan.now.parts }
-        ensures marks { IfOk result (λ task. (c : Content) → frame_marks c plan.now self.old ≡ next_marks c plan.now task ++ frame_marks c plan.now self.new) }
+        ensures marks { IfOk result
+            (λ task. (c : Content)
+            → frame_marks c plan.now self.old
+            ≡ next_marks c plan.now task ++ frame_marks c plan.now self.new) }
         ensures same { self.new ≡ record self.old { place = self.new.place } }
         ensures falls { OnOk result (steps_left self.new < steps_left self.old) }
-        ensures ready { IfOk result (λ task. next_ready plan.now task + unmet self.new ≤ unmet self.old) }
-        ensures sound { IfOk result (λ task. (c : Content) → IsFrameSound c self.old → IsNextSound c task) }
+        ensures ready { IfOk result
+            (λ task. next_ready plan.now task + unmet self.new ≤ unmet self.old) }
+        ensures sound { IfOk result
+            (λ task. (c : Content) → IsFrameSound c self.old → IsNextSound c task) }
     {
         match self.place {
             Place::Parent => {

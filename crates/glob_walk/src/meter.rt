@@ -40,7 +40,9 @@ impl<T: Tree> Meter<T> {
         ensures told { T.tells self.new.tree ≡ T.tells self.old.tree }
         ensures counts { IsExact T.asks self.old self.new }
         ensures one { IfOk result (λ _. self.new.spent ≡ self.old.spent + 1) }
-        ensures seen { IfOk result (λ seen. (c : Content) → IsTold (T.tells self.old.tree) c → seen ≡ look_result c path.now) }
+        ensures seen { IfOk result
+            (λ seen. (c : Content) → IsTold (T.tells self.old.tree) c
+            → seen ≡ look_result c path.now) }
         ensures stop { IfErr result (IsStopped self.old self.new) }
     {
         if self.spent >= self.limit {
@@ -55,10 +57,15 @@ impl<T: Tree> Meter<T> {
         requires { self.old.spent ≤ self.old.limit }
         ensures told { T.tells self.new.tree ≡ T.tells self.old.tree }
         ensures counts { IfOk result (λ _. IsExact T.asks self.old self.new) }
-        ensures units { IfOk result (λ entries. self.new.spent ≡ self.old.spent + 1 + vec_len entries) }
+        ensures units { IfOk result
+            (λ entries. self.new.spent ≡ self.old.spent + 1 + vec_len entries) }
         ensures failed { IfErr result (λ e. ListCounts T.asks self.old e self.new) }
-        ensures entries { IfOk result (λ v. (c : Content) → IsTold (T.tells self.old.tree) c → IsInOrder (list_result c path.now) (entries_of v.items)) }
-        ensures fault { IfErr result (λ e. (c : Content) → IsTold (T.tells self.old.tree) c → IsUnlisted (list_result c path.now) self.old.spent self.old.limit e) }
+        ensures entries { IfOk result
+            (λ v. (c : Content) → IsTold (T.tells self.old.tree) c
+            → IsInOrder (list_result c path.now) (entries_of v.items)) }
+        ensures fault { IfErr result
+            (λ e. (c : Content) → IsTold (T.tells self.old.tree) c
+            → IsUnlisted (list_result c path.now) self.old.spent self.old.limit e) }
     {
         if self.spent >= self.limit {
             return Err(Unlisted::Limit);

@@ -67,7 +67,8 @@ pub fn glob_in<T: Tree>(
     ensures accepted { IfOk result (λ _. walk_fault pattern.now ≡ None) }
     ensures refused { IfErr result (RefusesWith (walk_fault pattern.now)) }
     ensures fresh { IfOk result (IsFresh tree limit) }
-    ensures listing { (c : Content) → IsTold (T.tells tree) c → IfOk result (λ p. p.left ≡ Some (listing c options pattern.now)) }
+    ensures listing { (c : Content) → IsTold (T.tells tree) c
+        → IfOk result (λ p. p.left ≡ Some (listing c options pattern.now)) }
 {
     let plan = Plan::read(alloc, pattern, options)?;
     let start = String::from_str(alloc, plan::start(pattern))?;
@@ -78,7 +79,10 @@ impl<T: Tree> Paths<T> {
     /// A walk from a path, which is looked up first.
     fn new(tree: T, plan: Plan<T::Alloc>, start: String<T::Alloc>, limit: u64) -> Self
         ensures fresh { IsFresh tree limit result }
-        ensures left { (c : Content) → IsTold (T.tells tree) c → result.left ≡ Some (look_up c (λ seen. true) (enter c plan.options plan.directories plan.parts.items) (string_bytes start)) }
+        ensures left { (c : Content) → IsTold (T.tells tree) c
+            → result.left ≡ Some (look_up c
+            (λ seen. true) (enter c plan.options plan.directories plan.parts.items)
+            (string_bytes start)) }
     {
         let frames = Vec::new(plan.alloc);
         let next = Some(Task {

@@ -31,7 +31,8 @@ impl<A: Allocator + Copy> Plan<A> {
     pub fn read(alloc: A, pattern: &str, options: MatchOptions) -> Result<Self, PatternRefusal>
         ensures parts { IfOk result (λ plan. plan.parts.items ≡ components pattern.now) }
         ensures options { IfOk result (λ plan. plan.options ≡ options) }
-        ensures directories { IfOk result (λ plan. plan.directories ≡ wants_directories pattern.now) }
+        ensures directories { IfOk result
+            (λ plan. plan.directories ≡ wants_directories pattern.now) }
         ensures accepted { IfOk result (λ _. walk_fault pattern.now ≡ None) }
         ensures refused { IfErr result (RefusesWith (walk_fault pattern.now)) }
     {
@@ -49,7 +50,8 @@ impl<A: Allocator + Copy> Plan<A> {
 impl<A: Allocator> Plan<A> {
     /// The component with the number.
     pub fn component(&self, part: usize) -> Option<&Part<A>>
-        ensures rest { MatchOption result (drop part self.now.parts.items ≡ []) (λ t. drop part self.now.parts.items ≡ t.now ∷ drop (part + 1) self.now.parts.items) }
+        ensures rest { MatchOption result (drop part self.now.parts.items ≡ [])
+            (λ t. drop part self.now.parts.items ≡ t.now ∷ drop (part + 1) self.now.parts.items) }
         ensures within { OnSome result (part < vec_len self.now.parts) }
         ensures past { IfNone result (vec_len self.now.parts ≤ part) }
     {
@@ -71,7 +73,8 @@ impl<A: Allocator> Plan<A> {
         requires { IsRun (drop part self.now.parts.items) }
         ensures within { result < vec_len self.now.parts }
         ensures last { IsOpened true (drop result self.now.parts.items) }
-        ensures same { (c : Content) → (path : Text) → (d : Bool) → enter_from c self.now part path d ≡ enter_from c self.now result path d }
+        ensures same { (c : Content) → (path : Text) → (d : Bool)
+            → enter_from c self.now part path d ≡ enter_from c self.now result path d }
     {
         let mut last = part;
         while let Some(next) = self.component(last + 1) {

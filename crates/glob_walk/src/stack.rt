@@ -48,11 +48,13 @@ impl<A: Allocator + Copy> Stack<A> {
         requires within { IsWithin self.old }
         requires part { frame.part < vec_len self.old.plan.parts }
         ensures plan { self.new.plan ≡ self.old.plan }
-        ensures left { OnOk result ((c : Content) → left c self.new ≡ frame_marks c self.old.plan frame ++ left c self.old) }
+        ensures left { OnOk result ((c : Content)
+            → left c self.new ≡ frame_marks c self.old.plan frame ++ left c self.old) }
         ensures weight { OnOk result (weight self.new ≡ weight self.old + frame_weight frame) }
         ensures ready { OnOk result (ready self.new ≡ ready self.old + unmet frame) }
         ensures within { IsWithin self.new }
-        ensures sound { OnOk result ((c : Content) → IsFrameSound c frame → IsSound c self.old → IsSound c self.new) }
+        ensures sound { OnOk result ((c : Content) → IsFrameSound c frame → IsSound c self.old
+            → IsSound c self.new) }
     {
         self.frames.push(frame)?;
         Ok(())

@@ -55,12 +55,18 @@ pub fn walk_in<T: Tree>(
     ensures accepted { IfOk result (λ _. walk_fault pattern.now ≡ None) }
     ensures refused { IfErr result (RefusesWith (walk_fault pattern.now)) }
     ensures within { IfOk result (λ walk. walk.spent ≤ limit) }
-    ensures asked { IfOk result (λ walk. IsWalkAsked limit (T.asks tree) walk.end walk.spent (T.asks walk.tree)) }
+    ensures asked { IfOk result
+        (λ walk. IsWalkAsked limit (T.asks tree) walk.end walk.spent (T.asks walk.tree)) }
     ensures told { IfOk result (λ walk. T.tells walk.tree ≡ T.tells tree) }
-    ensures walk { (c : Content) → IsTold (T.tells tree) c → IfOk result (λ walk. IsWalk (listing c options pattern.now) limit walk.end walk.spent walk.items.items) }
-    ensures goal { IfOk result (λ walk. FindsGoal (T.tells tree) options pattern.now walk.end walk.items.items) }
-    ensures exact { IfOk result (λ walk. FindsExactly (T.tells tree) options pattern.now walk.end walk.items.items) }
-    ensures orderly { IfOk result (λ walk. FindsInOrder (T.tells tree) options pattern.now walk.items.items) }
+    ensures walk { (c : Content) → IsTold (T.tells tree) c
+        → IfOk result
+        (λ walk. IsWalk (listing c options pattern.now) limit walk.end walk.spent walk.items.items) }
+    ensures goal { IfOk result
+        (λ walk. FindsGoal (T.tells tree) options pattern.now walk.end walk.items.items) }
+    ensures exact { IfOk result
+        (λ walk. FindsExactly (T.tells tree) options pattern.now walk.end walk.items.items) }
+    ensures orderly { IfOk result
+        (λ walk. FindsInOrder (T.tells tree) options pattern.now walk.items.items) }
 {
     let mut paths = glob_in(alloc, tree, pattern, options, limit)?;
     let mut items = Vec::new(alloc);
@@ -79,9 +85,12 @@ fn gather<T: Tree>(paths: &mut Paths<T>, items: &mut Vec<GlobResult<T::Alloc>, T
     requires fresh { IsFresh paths.old.tree paths.old.limit paths.old }
     requires empty { items.old.items ≡ [] }
     ensures within { paths.new.spent ≤ paths.old.limit }
-    ensures asked { IsWalkAsked paths.old.limit (T.asks paths.old.tree) result paths.new.spent (T.asks paths.new.tree) }
+    ensures asked { IsWalkAsked paths.old.limit (T.asks paths.old.tree) result paths.new.spent
+        (T.asks paths.new.tree) }
     ensures told { T.tells paths.new.tree ≡ T.tells paths.old.tree }
-    ensures walk { (c : Content) → IsTold (T.tells paths.old.tree) c → (ms : List Mark) → paths.old.left ≡ Some ms → IsWalk ms paths.old.limit result paths.new.spent items.new.items }
+    ensures walk { (c : Content) → IsTold (T.tells paths.old.tree) c → (ms : List Mark)
+        → paths.old.left ≡ Some ms
+        → IsWalk ms paths.old.limit result paths.new.spent items.new.items }
 {
     loop {
         let Some(item) = paths.next() else {

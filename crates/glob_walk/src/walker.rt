@@ -57,8 +57,11 @@ fn is_directory(seen: Look) -> bool
 
 /// What follows a look.
 fn found<A: Allocator>(path: String<A>, part: usize, wanted: Wanted, seen: Look) -> Option<Task<A>>
-    ensures marks { (c : Content) → (plan : PlanOf A) → seen ≡ look_result c (string_bytes path) → sight_marks c plan part (string_bytes path) (Sight.Unseen wanted) ≡ Work (string_bytes path) ∷ next_marks c plan result }
-    ensures sound { (c : Content) → seen ≡ look_result c (string_bytes path) → IsNextSound c result }
+    ensures marks { (c : Content) → (plan : PlanOf A) → seen ≡ look_result c (string_bytes path)
+        → sight_marks c plan part (string_bytes path) (Sight.Unseen wanted)
+        ≡ Work (string_bytes path) ∷ next_marks c plan result }
+    ensures sound { (c : Content) → seen ≡ look_result c (string_bytes path)
+        → IsNextSound c result }
     ensures weight { next_weight result ≤ 2 }
     ensures ready { (plan : PlanOf A) → next_ready plan result ≤ 1 }
 {
@@ -79,10 +82,17 @@ impl<T: Tree> Walker<T> {
         ensures counts { TurnCounts T.asks self.old.meter result self.new.meter }
         ensures plan { self.new.stack.plan ≡ self.old.stack.plan }
         ensures within { IsWithin self.new.stack }
-        ensures falls { Falls (1 + weight self.old.stack) self.old.meter result (weight self.new.stack) self.new.meter }
-        ensures ready { HasRoom (ready self.old.stack) self.old.meter result (ready self.new.stack) self.new.meter }
-        ensures sound { KeepsSound (T.tells self.old.meter.tree) self.old.stack result self.new.stack }
-        ensures turn { (c : Content) → IsTold (T.tells self.old.meter.tree) c → TurnOf (sight_marks c self.old.stack.plan part (string_bytes path) (Sight.Unseen wanted) ++ left c self.old.stack) self.old.meter.spent result (left c self.new.stack) self.new.meter.spent }
+        ensures falls { Falls (1 + weight self.old.stack) self.old.meter result
+            (weight self.new.stack) self.new.meter }
+        ensures ready { HasRoom (ready self.old.stack) self.old.meter result
+            (ready self.new.stack) self.new.meter }
+        ensures sound { KeepsSound
+            (T.tells self.old.meter.tree) self.old.stack result self.new.stack }
+        ensures turn { (c : Content) → IsTold (T.tells self.old.meter.tree) c
+            → TurnOf (sight_marks c self.old.stack.plan part (string_bytes path)
+            (Sight.Unseen wanted)
+            ++ left c self.old.stack) self.old.meter.spent result
+            (left c self.new.stack) self.new.meter.spent }
     {
         let seen = match self.meter.look(path.as_str()) {
             Ok(seen) => seen,
@@ -104,10 +114,18 @@ impl<T: Tree> Walker<T> {
         ensures counts { TurnCounts T.asks self.old.meter result self.new.meter }
         ensures plan { self.new.stack.plan ≡ self.old.stack.plan }
         ensures within { IsWithin self.new.stack }
-        ensures falls { Falls (weight self.old.stack) self.old.meter result (weight self.new.stack) self.new.meter }
-        ensures ready { HasRoom (ready self.old.stack) self.old.meter result (ready self.new.stack) self.new.meter }
-        ensures sound { IfGoing result ((c : Content) → IsTold (T.tells self.old.meter.tree) c → is_directory_look (look_result c (string_bytes path)) ≡ true → IsSound c self.old.stack → IsSound c self.new.stack) }
-        ensures turn { (c : Content) → IsTold (T.tells self.old.meter.tree) c → is_directory_look (look_result c (string_bytes path)) ≡ true → TurnOf (enter_from c self.old.stack.plan part (string_bytes path) true ++ left c self.old.stack) self.old.meter.spent result (left c self.new.stack) self.new.meter.spent }
+        ensures falls { Falls (weight self.old.stack) self.old.meter result
+            (weight self.new.stack) self.new.meter }
+        ensures ready { HasRoom (ready self.old.stack) self.old.meter result
+            (ready self.new.stack) self.new.meter }
+        ensures sound { IfGoing result ((c : Content) → IsTold (T.tells self.old.meter.tree) c
+            → is_directory_look (look_result c (string_bytes path)) ≡ true
+            → IsSound c self.old.stack → IsSound c self.new.stack) }
+        ensures turn { (c : Content) → IsTold (T.tells self.old.meter.tree) c
+            → is_directory_look (look_result c (string_bytes path)) ≡ true
+            → TurnOf (enter_from c self.old.stack.plan part (string_bytes path) true
+            ++ left c self.old.stack) self.old.meter.spent result
+            (left c self.new.stack) self.new.meter.spent }
     {
         let entries = match self.meter.list(path.as_str()) {
             Ok(entries) => entries,
@@ -137,10 +155,19 @@ impl<T: Tree> Walker<T> {
         ensures counts { TurnCounts T.asks self.old.meter result self.new.meter }
         ensures plan { self.new.stack.plan ≡ self.old.stack.plan }
         ensures within { IsWithin self.new.stack }
-        ensures falls { Falls (2 + weight self.old.stack) self.old.meter result (weight self.new.stack) self.new.meter }
-        ensures ready { HasRoom ((if nat_le (vec_len self.old.stack.plan.parts) part then 1 else 0) + ready self.old.stack) self.old.meter result (ready self.new.stack) self.new.meter }
-        ensures sound { IfGoing result ((c : Content) → IsTold (T.tells self.old.meter.tree) c → IsSightSound c (string_bytes path) (Sight.Seen is_dir) → IsSound c self.old.stack → IsSound c self.new.stack) }
-        ensures turn { (c : Content) → IsTold (T.tells self.old.meter.tree) c → IsSightSound c (string_bytes path) (Sight.Seen is_dir) → TurnOf (enter_from c self.old.stack.plan part (string_bytes path) is_dir ++ left c self.old.stack) self.old.meter.spent result (left c self.new.stack) self.new.meter.spent }
+        ensures falls { Falls (2 + weight self.old.stack) self.old.meter result
+            (weight self.new.stack) self.new.meter }
+        ensures ready { HasRoom
+            ((if nat_le (vec_len self.old.stack.plan.parts) part then 1 else 0) + ready
+            self.old.stack) self.old.meter result (ready self.new.stack) self.new.meter }
+        ensures sound { IfGoing result ((c : Content) → IsTold (T.tells self.old.meter.tree) c
+            → IsSightSound c (string_bytes path) (Sight.Seen is_dir) → IsSound c self.old.stack
+            → IsSound c self.new.stack) }
+        ensures turn { (c : Content) → IsTold (T.tells self.old.meter.tree) c
+            → IsSightSound c (string_bytes path) (Sight.Seen is_dir)
+            → TurnOf (enter_from c self.old.stack.plan part (string_bytes path) is_dir
+            ++ left c self.old.stack) self.old.meter.spent result
+            (left c self.new.stack) self.new.meter.spent }
     {
         let Some(component) = self.stack.plan.component(part) else {
             if gives(self.stack.plan.directories, is_dir) {
@@ -186,10 +213,16 @@ impl<T: Tree> Walker<T> {
         ensures counts { TurnCounts T.asks self.old.meter result self.new.meter }
         ensures plan { self.new.stack.plan ≡ self.old.stack.plan }
         ensures within { IsWithin self.new.stack }
-        ensures falls { Falls (weight self.old.stack) self.old.meter result (weight self.new.stack) self.new.meter }
-        ensures ready { HasRoom (ready self.old.stack) self.old.meter result (ready self.new.stack) self.new.meter }
-        ensures sound { KeepsSound (T.tells self.old.meter.tree) self.old.stack result self.new.stack }
-        ensures turn { (c : Content) → IsTold (T.tells self.old.meter.tree) c → IsSound c self.old.stack → TurnOf (left c self.old.stack) self.old.meter.spent result (left c self.new.stack) self.new.meter.spent }
+        ensures falls { Falls (weight self.old.stack) self.old.meter result
+            (weight self.new.stack) self.new.meter }
+        ensures ready { HasRoom (ready self.old.stack) self.old.meter result
+            (ready self.new.stack) self.new.meter }
+        ensures sound { KeepsSound
+            (T.tells self.old.meter.tree) self.old.stack result self.new.stack }
+        ensures turn { (c : Content) → IsTold (T.tells self.old.meter.tree) c
+            → IsSound c self.old.stack
+            → TurnOf (left c self.old.stack) self.old.meter.spent result
+            (left c self.new.stack) self.new.meter.spent }
     {
         let Some(task) = self.stack.next.take() else {
             return match self.stack.go_on() {
@@ -213,9 +246,14 @@ impl<T: Tree> Walker<T> {
         ensures counts { TurnCounts T.asks self.old.meter result self.new.meter }
         ensures stops { result ≢ Turn.Went }
         ensures within { IsWithin self.new.stack }
-        ensures ready { HasRoom (ready self.old.stack) self.old.meter result (ready self.new.stack) self.new.meter }
-        ensures sound { KeepsSound (T.tells self.old.meter.tree) self.old.stack result self.new.stack }
-        ensures turn { (c : Content) → IsTold (T.tells self.old.meter.tree) c → IsSound c self.old.stack → TurnOf (left c self.old.stack) self.old.meter.spent result (left c self.new.stack) self.new.meter.spent }
+        ensures ready { HasRoom (ready self.old.stack) self.old.meter result
+            (ready self.new.stack) self.new.meter }
+        ensures sound { KeepsSound
+            (T.tells self.old.meter.tree) self.old.stack result self.new.stack }
+        ensures turn { (c : Content) → IsTold (T.tells self.old.meter.tree) c
+            → IsSound c self.old.stack
+            → TurnOf (left c self.old.stack) self.old.meter.spent result
+            (left c self.new.stack) self.new.meter.spent }
     {
         loop {
             match self.turn() {
@@ -235,10 +273,13 @@ fn named<A: Allocator + Copy>(
     part: usize,
     is_dir: bool,
 ) -> Result<Task<A>, AllocError>
-    requires at { drop part plan.now.parts.items ≡ component.now ∷ drop (part + 1) plan.now.parts.items }
+    requires at { drop part plan.now.parts.items
+        ≡ component.now ∷ drop (part + 1) plan.now.parts.items }
     requires within { part < vec_len plan.now.parts }
     requires kind { component_kind component.now ≡ Literal }
-    ensures marks { IfOk result (λ task. (c : Content) → enter_from c plan.now part path.now is_dir ≡ task_marks c plan.now task) }
+    ensures marks { IfOk result
+        (λ task. (c : Content)
+        → enter_from c plan.now part path.now is_dir ≡ task_marks c plan.now task) }
     ensures weight { IfOk result (λ task. next_weight (Some task) ≡ 1) }
     ensures ready { IfOk result (λ task. next_ready plan.now (Some task) ≡ 0) }
     ensures sound { IfOk result (λ task. (c : Content) → IsNextSound c (Some task)) }
@@ -260,7 +301,8 @@ fn gives(directories: bool, is_dir: bool) -> bool
 }
 
 fn first_place(run: bool, is_dotted: bool) -> Place
-    ensures { result ≡ (if run then Place.At 0 else (if is_dotted then Place.Parent else Place.At 0)) }
+    ensures { result
+        ≡ (if run then Place.At 0 else (if is_dotted then Place.Parent else Place.At 0)) }
 {
     if is_dotted && !run {
         Place::Parent
