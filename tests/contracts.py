@@ -17,7 +17,7 @@ HEAD = "## Contracts\n"
 
 def public_names(crate):
     """What the crate glob re-exports of a crate."""
-    text = (ROOT / "crates/glob/src/lib.rt").read_text()
+    text = (ROOT / "crates/glob/src/lib.rt").read_text(encoding="utf-8")
     return set(re.findall(r"\w+", " ".join(re.findall(rf"pub use {crate}::([^;]*);", text))))
 
 
@@ -52,7 +52,7 @@ def contract(lines, start):
 
 def quotes(path, names):
     """The contracts of the public calls of a file."""
-    lines = path.read_text().split("\n")
+    lines = path.read_text(encoding="utf-8").split("\n")
     found = []
     for number, (line, (owner, in_trait)) in enumerate(zip(lines, owners(lines))):
         if line.startswith("#[cfg(test)]"):
@@ -91,12 +91,12 @@ def page():
 
 
 def main():
-    text = PAGE.read_text()
+    text = PAGE.read_text(encoding="utf-8")
     before = text.split(HEAD)[0] + HEAD
     intro = text.split(HEAD)[1].split("###")[0]
     wanted = before + intro + page()
     if "--check" not in sys.argv:
-        PAGE.write_text(wanted)
+        PAGE.write_text(wanted, encoding="utf-8")
     elif wanted != text:
         sys.exit("crates/glob/CALLING.md: the contracts are not those of src/. Run tests/contracts.py.")
 

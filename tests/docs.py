@@ -27,21 +27,21 @@ def lines_of(text):
 
 def quotes(page, source):
     """Whether the first block of Rust on the page stands in the source, line after line."""
-    block = re.search(r"```rust\n(.*?)```", (ROOT / page).read_text(), re.S)
-    wanted, lines = lines_of(block[1]), lines_of((ROOT / source).read_text())
+    block = re.search(r"```rust\n(.*?)```", (ROOT / page).read_text(encoding="utf-8"), re.S)
+    wanted, lines = lines_of(block[1]), lines_of((ROOT / source).read_text(encoding="utf-8"))
     starts = range(len(lines) - len(wanted) + 1)
     return any(lines[start : start + len(wanted)] == wanted for start in starts)
 
 
 def broken_links(page):
     """The links of a page to files that are not there."""
-    links = re.findall(r"\]\(([^):#]+)\)", (ROOT / page).read_text())
+    links = re.findall(r"\]\(([^):#]+)\)", (ROOT / page).read_text(encoding="utf-8"))
     return [link for link in links if not (ROOT / page).parent.joinpath(link).exists()]
 
 
 def unknown_files(page):
     """The names of sources on a page that end no path of the repository. One with NAME in it stands for many."""
-    text = re.sub(r"```.*?```", "", (ROOT / page).read_text(), flags=re.S)
+    text = re.sub(r"```.*?```", "", (ROOT / page).read_text(encoding="utf-8"), flags=re.S)
     names = re.findall(r"`([\w/.]+\.(?:rt|antt|md|py|sh|tsv))`", text)
     return [name for name in names if "NAME" not in name and not any(f"/{file}".endswith(f"/{name}") for file in FILES)]
 
@@ -49,8 +49,8 @@ def unknown_files(page):
 def unknown_definitions(page):
     """What a page says that a file of definitions has, as `File.antt`: `Name`, and that the file has not."""
     found = []
-    for file, names in re.findall(r"`([\w/]+\.antt)`: ((?:`\w+`(?:, )?)+)", (ROOT / page).read_text()):
-        texts = [(ROOT / name).read_text() for name in FILES if f"/{name}".endswith(f"/{file}")]
+    for file, names in re.findall(r"`([\w/]+\.antt)`: ((?:`\w+`(?:, )?)+)", (ROOT / page).read_text(encoding="utf-8")):
+        texts = [(ROOT / name).read_text(encoding="utf-8") for name in FILES if f"/{name}".endswith(f"/{file}")]
         for name in re.findall(r"\w+", names):
             if not any(re.search(rf"\bpub (record |data )?{name}\b", text) for text in texts):
                 found.append(f"{file}: {name}")
@@ -59,7 +59,7 @@ def unknown_definitions(page):
 
 def unknown_edits():
     """The edits that the tables of docs/PROOFS.md name and that are not there."""
-    rows = re.findall(r"^\|[^|]*\|((?: `\w+`,?)+) \|", (ROOT / "docs/PROOFS.md").read_text(), re.M)
+    rows = re.findall(r"^\|[^|]*\|((?: `\w+`,?)+) \|", (ROOT / "docs/PROOFS.md").read_text(encoding="utf-8"), re.M)
     edits = {Path(name).stem for name in FILES if name.endswith(".edit")}
     return [name for row in rows for name in re.findall(r"\w+", row) if name not in edits]
 

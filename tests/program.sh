@@ -2,6 +2,7 @@
 # Runs the built program against what no contract can speak of: the streams of the system. Prints a line for each row
 # that fails, and last how many passed and failed.
 set -u
+umask 022
 root=$(cd "$(dirname "$(readlink -f "${BASH_SOURCE[0]}")")/.." && pwd)
 program=$root/bin/glob_run
 work=$(mktemp -d)

@@ -16,7 +16,11 @@
 //!
 //! [`MatchOptions`] set case, the separator rule and the dot rule. [`filter_lines`] copies the lines of a reader that a
 //! pattern matches. [`run_positions`] decides for any [`Judge`], of any alphabet, whether its characters split into
-//! pieces. A [`Tree`] answers what a walk asks, and [`MemTree`] is one in memory.
+//! pieces.
+//!
+//! [`glob`] walks the file system and gives each path that a pattern leads to; [`glob_with`] takes options. [`glob_in`]
+//! walks any [`Tree`] within a limit, item by item, and [`walk_in`] gathers a whole walk. [`MemTree`] is a tree in memory,
+//! and [`Disk`] the file system.
 //!
 //! A call that makes or grows something takes its allocator, and reports an allocation failure as an error.
 #![tactic(auto)]
