@@ -42,6 +42,10 @@ outcome (Err e) = error_outcome (cause_of e) e
 abbrev pub AreItems : {A : Type 0} → List (Result (PathBuf A) (GlobError A)) → List Item → Type 0
 AreItems answers is = map outcome answers ≡ map Gives is
 
+-- no refusal is among the answers
+abbrev pub HasNoRefusal : {A : Type 0} → List (Result (PathBuf A) (GlobError A)) → Type 0
+HasNoRefusal answers = (is : List Item) × AreItems answers is
+
 -- what contracts see of a walk over a tree of the type X
 pub record Walking (X : Type 0) : Type 0 where
   pub tree : X
@@ -108,7 +112,7 @@ pub record StopsAt (left : List Mark) (spent : ℕ) (path : Text) (spent' : ℕ)
 
 -- what a call of `next` takes from the front of what was left
 abbrev pub TakesFront : (old : List Mark) → (spent : ℕ) → Option Outcome → (new : List Mark) → (spent' : ℕ) → Type 0
-TakesFront old spent None new spent' = Charges old spent [] spent'
+TakesFront old spent None new spent' = Charges old spent [] spent' × (new ≡ [])
 TakesFront old spent (Some (Gives item)) new spent' = Charges old spent (Give item ∷ new) spent'
 TakesFront old spent (Some (LimitAt path)) new spent' = StopsAt old spent path spent'
 TakesFront old spent (Some NoMemory) new spent' = ⊤

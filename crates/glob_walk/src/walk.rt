@@ -1,5 +1,5 @@
 //! A whole walk.
-ghost use Rattle.std.specs.Prelude.{◌≡◌, ◌≤◌, [], List, None, Some, IfOk, IfErr};
+ghost use Rattle.std.specs.Prelude.{◌≡◌, ◌+◌, ◌≤◌, [], length, List, None, Some, IfOk, IfErr};
 ghost use Rattle.glob_tree.specs.Content.{Content};
 ghost use Rattle.glob_tree.specs.Answers.{IsTold};
 ghost use Rattle.glob_walk.specs.Components.{walk_fault};
@@ -7,7 +7,7 @@ ghost use Rattle.glob_walk.specs.Listing.{listing};
 ghost use Rattle.glob_walk.specs.Marks.{Mark};
 ghost use Rattle.glob_walk.specs.Private.Walking.{refusal_end};
 ghost use Rattle.glob_walk.specs.WalkGoals.{FindsGoal, FindsExactly, FindsInOrder};
-ghost use Rattle.glob_walk.specs.Walks.{outcome, IsFresh, IsWalk, IsWalkAsked, RefusesWith};
+ghost use Rattle.glob_walk.specs.Walks.{outcome, HasNoRefusal, IsFresh, IsWalk, IsWalkAsked, RefusesWith};
 
 use crate::error::{GlobCause, GlobResult};
 use crate::paths::{Paths, glob_in};
@@ -58,6 +58,8 @@ pub fn walk_in<T: Tree>(
     ensures asked { IfOk result
         (λ walk. IsWalkAsked limit (T.asks tree) walk.end walk.spent (T.asks walk.tree)) }
     ensures told { IfOk result (λ walk. T.tells walk.tree ≡ T.tells tree) }
+    ensures items { IfOk result (λ walk. HasNoRefusal walk.items.items) }
+    ensures few { IfOk result (λ walk. length walk.items.items ≤ walk.spent + 1) }
     ensures walk { (c : Content) → IsTold (T.tells tree) c
         → IfOk result
         (λ walk. IsWalk (listing c options pattern.now) limit walk.end walk.spent walk.items.items) }
@@ -88,6 +90,8 @@ fn gather<T: Tree>(paths: &mut Paths<T>, items: &mut Vec<GlobResult<T::Alloc>, T
     ensures asked { IsWalkAsked paths.old.limit (T.asks paths.old.tree) result paths.new.spent
         (T.asks paths.new.tree) }
     ensures told { T.tells paths.new.tree ≡ T.tells paths.old.tree }
+    ensures items { HasNoRefusal items.new.items }
+    ensures few { length items.new.items ≤ paths.new.spent + 1 }
     ensures walk { (c : Content) → IsTold (T.tells paths.old.tree) c → (ms : List Mark)
         → paths.old.left ≡ Some ms
         → IsWalk ms paths.old.limit result paths.new.spent items.new.items }

@@ -1,5 +1,5 @@
 -- A walk whose items are gathered.
-use Rattle.std.proofs.Common.{◌≡◌, ℕ, ◌+◌, ◌-◌, ◌≤◌, suc, false, Option, Some, None, List, [], ◌∷◌, ◌++◌, length, map, Result, refl, ap, sym, subst, ◌∙◌, arith, append_assoc}
+use Rattle.std.proofs.Common.{◌≡◌, ℕ, ◌+◌, ◌-◌, ◌≤◌, suc, false, Option, Some, None, List, [], ◌∷◌, ◌++◌, length, map, Result, refl, ap, sym, subst, ◌∙◌, arith, append_assoc, length-append}
 use Rattle.std.proofs.lemmas.List.{map-append}
 use Rattle.std.specs.declared.path.buf.PathBuf.{PathBuf}
 use Rattle.glob_text.specs.Text.{Text}
@@ -8,7 +8,7 @@ use Rattle.std.proofs.lemmas.Option.{same_Some}
 use Rattle.glob_tree.specs.Content.{Content}
 use Rattle.glob_tree.specs.Answers.{IsTold}
 use Rattle.glob_walk.specs.Private.Walking.{refusal_end}
-use Rattle.glob_walk.specs.Walks.{Outcome, Gives, LimitAt, NoMemory, outcome, AreItems, Charges, StopsAt, works, IsWalk, IsWalkAsked, Walking, IsFresh, Goes, TakesFront}
+use Rattle.glob_walk.specs.Walks.{Outcome, Gives, LimitAt, NoMemory, outcome, AreItems, Charges, StopsAt, works, IsWalk, IsWalkAsked, HasNoRefusal, Walking, IsFresh, Goes, TakesFront}
 use Rattle.glob_walk.specs.declared.walk.End.{End}
 use Rattle.glob_walk.specs.declared.error.GlobError.{GlobError}
 use Rattle.glob_walk.specs.declared.walk.End.TheVariants as end
@@ -86,6 +86,9 @@ pub record Gathers {X A : Type 0} (asks : X → ℕ) (tells : X → Option Conte
   pub asked : asks now.tree ≡ asks first.tree + now.spent
   pub going : now.over ≡ false
   pub told : tells now.tree ≡ tells first.tree
+  pub plain : HasNoRefusal answers
+  pub count : now.given ≡ length answers
+  pub few : length answers ≤ now.spent + 1
   pub walk : (c : Content) → IsTold (tells first.tree) c → (ms : List Mark) → first.left ≡ Some ms
       → (rest : List Mark) × (now.left ≡ Some rest) × Gathered ms now.spent answers rest
 
@@ -94,6 +97,8 @@ pub record Ends {X A : Type 0} (asks : X → ℕ) (tells : X → Option Content)
   pub within : last.spent ≤ first.limit
   pub asked : IsWalkAsked first.limit (asks first.tree) e last.spent (asks last.tree)
   pub told : tells last.tree ≡ tells first.tree
+  pub plain : HasNoRefusal answers
+  pub few : length answers ≤ last.spent + 1
   pub walk : (c : Content) → IsTold (tells first.tree) c → (ms : List Mark) → first.left ≡ Some ms → IsWalk ms first.limit e last.spent answers
 
 pub Gathers-none : {X A : Type 0} (asks : X → ℕ) (tells : X → Option Content) (first : Walking X) → IsFresh first.tree first.limit first → Gathers {A = A} asks tells first [] first
@@ -103,6 +108,9 @@ Gathers-none {A = A} asks tells first fresh = record {
   asked = omega (arith, fresh.spent);
   going = fresh.over;
   told = refl;
+  plain = ([], refl);
+  count = fresh.given;
+  few = omega arith;
   walk = λ c h ms is. (ms, is, subst (λ n. Gathered {A = A} ms n [] ms) (sym fresh.spent) (Gathered-none ms));
 }
 
@@ -122,21 +130,33 @@ module _ {X A : Type 0} (asks : X → ℕ) (tells : X → Option Content) (first
     asked = omega (arith, goes.counts.asked, g.asked);
     going = goes.counts.ends;
     told = goes.told ∙ g.told;
+    plain = with_item;
+    count = omega (arith, goes.counts.given, g.count, length-append answers (answer ∷ []));
+    few = omega (arith, goes.counts.given, goes.counts.few, g.count, length-append answers (answer ∷ []));
     walk = λ c h ms is.
         let (rest, had, got) = g.walk c h ms is in
         let (next, has, takes) = taken (Some (Gives item)) goes c h rest had in
         (next, has, Gathered-item ms now.spent new.spent answers rest got answer item next says takes);
   }
+    where
+      with_item : HasNoRefusal (answers ++ answer ∷ [])
+      with_item = (
+        g.plain.0 ++ item ∷ [],
+        map-append outcome answers (answer ∷ []) ∙ ap (λ xs. xs ++ outcome answer ∷ []) g.plain.1 ∙ ap (λ o. map Gives g.plain.0 ++ o ∷ []) says
+        ∙ sym (map-append Gives g.plain.0 (item ∷ [])),
+      )
 
   pub Ends-done : Goes asks tells now None new → Ends asks tells first end.Done answers new
   Ends-done goes = record {
     within = omega (arith, goes.counts.within, goes.counts.limit, g.same);
     asked = omega (arith, goes.counts.asked, g.asked);
     told = goes.told ∙ g.told;
+    plain = g.plain;
+    few = omega (arith, g.few, goes.counts.grows);
     walk = λ c h ms is.
         let (rest, had, got) = g.walk c h ms is in
         let (next, has, takes) = taken None goes c h rest had in
-        IsWalk-done ms now.spent new.spent answers rest got first.limit (omega (arith, goes.counts.within, goes.counts.limit, g.same)) takes;
+        IsWalk-done ms now.spent new.spent answers rest got first.limit (omega (arith, goes.counts.within, goes.counts.limit, g.same)) takes.0;
   }
 
   -- an item that was not kept
@@ -145,6 +165,8 @@ module _ {X A : Type 0} (asks : X → ℕ) (tells : X → Option Content) (first
     within = omega (arith, goes.counts.within, goes.counts.limit, g.same);
     asked = omega (arith, asked, g.asked);
     told = goes.told ∙ g.told;
+    plain = g.plain;
+    few = omega (arith, g.few, goes.counts.grows);
     walk = λ c h ms is.
         let (rest, had, got) = g.walk c h ms is in
         IsWalk-memory ms now.spent new.spent answers rest got first.limit;
@@ -155,6 +177,8 @@ module _ {X A : Type 0} (asks : X → ℕ) (tells : X → Option Content) (first
     within = omega (arith, goes.counts.within, goes.counts.limit, g.same);
     asked = (goes.counts.asked.0 ∙ goes.counts.limit ∙ g.same, omega (arith, goes.counts.asked.1, g.asked));
     told = goes.told ∙ g.told;
+    plain = g.plain;
+    few = omega (arith, g.few, goes.counts.grows);
     walk = λ c h ms is.
         let (rest, had, got) = g.walk c h ms is in
         let (next, has, takes) = taken (Some (LimitAt path)) goes c h rest had in

@@ -103,7 +103,7 @@ module _ {X A : Type 0} (asks : X → ℕ) (tells : X → Option Content) (m m' 
   taken (turn.Unread p e) old new spent spent' stops h = h
   taken (turn.Limit p) old new spent spent' stops h = h
   taken turn.Memory old new spent spent' stops h = h
-  taken turn.Done old new spent spent' stops h = subst (λ ms. Charges old spent ms spent') h.1 h.0
+  taken turn.Done old new spent spent' stops h = (subst (λ ms. Charges old spent ms spent') h.1 h.0, h.1)
 
   -- what is taken from what was left
   pub Takes-after : (t : Turn A) (n : ℕ) (last : Bool) → Runs asks tells m s t m' s' → (c : Content) → IsTold (tells m.tree) c

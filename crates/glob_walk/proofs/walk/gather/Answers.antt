@@ -13,14 +13,14 @@ pub returns-in_default : goal.returns-in_default
 returns-in_default g c =
     let goes : Goes g.T.Tree.asks g.T.Tree.tells c.loop-item.paths None c.next.new.self = subst (λ r. Goes g.T.Tree.asks g.T.Tree.tells c.loop-item.paths (option_map outcome r) c.next.new.self) c.in_default.is c.next.ensures.steps in
     let e = Ends-done g.T.Tree.asks g.T.Tree.tells c.args.paths.now c.loop-item.paths c.next.new.self c.loop-item.items.items c.loop-item.invariant goes in
-    record { within = e.within; asked = e.asked; told = e.told; walk = e.walk }
+    record { within = e.within; asked = e.asked; told = e.told; items = e.plain; few = e.few; walk = e.walk }
 
 pub returns-in-Some-end_of : goal.returns-in-Some-end_of
 returns-in-Some-end_of g c =
     let goes : Goes g.T.Tree.asks g.T.Tree.tells c.loop-item.paths (Some (outcome c.in-Some.item)) c.next.new.self = subst (λ r. Goes g.T.Tree.asks g.T.Tree.tells c.loop-item.paths (option_map outcome r) c.next.new.self) c.in-Some.is c.next.ensures.steps in
     let e = Ends-refusal g.T.Tree.asks g.T.Tree.tells c.args.paths.now c.loop-item.paths c.next.new.self c.loop-item.items.items c.loop-item.invariant
     (outcome c.in-Some.item) c.in-Some-end_of.end (sym c.end_of.ensures ∙ c.in-Some-end_of.is) goes in
-    record { within = e.within; asked = e.asked; told = e.told; walk = e.walk }
+    record { within = e.within; asked = e.asked; told = e.told; items = e.plain; few = e.few; walk = e.walk }
 
 pub returns-then-is_err : goal.returns-then-is_err
 returns-then-is_err g c =
@@ -31,7 +31,7 @@ returns-then-is_err g c =
     let kept : c.loop-item.items.items ≡ c.push.new.self.items = search rules in
     let e = subst (λ xs. Ends g.T.Tree.asks g.T.Tree.tells c.args.paths.now end.Memory xs c.next.new.self) kept
     (Ends-memory g.T.Tree.asks g.T.Tree.tells c.args.paths.now c.loop-item.paths c.next.new.self c.loop-item.items.items c.loop-item.invariant _ goes'.counts.asked goes') in
-    record { within = e.within; asked = e.asked; told = e.told; walk = e.walk }
+    record { within = e.within; asked = e.asked; told = e.told; items = e.plain; few = e.few; walk = e.walk }
 
 pub loop-item-preserved : goal.loop-item-preserved
 loop-item-preserved g c =
