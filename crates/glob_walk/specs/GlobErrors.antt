@@ -1,4 +1,4 @@
--- What is told of a path that a walk could not read.
+-- What is known of a path that a walk could not read.
 use Rattle.std.specs.Prelude.{ℕ, List}
 use Rattle.std.specs.Path.{path_buf_bytes}
 use Rattle.std.specs.declared.io.Error.{Error}

@@ -56,7 +56,7 @@ pub record Walking (X : Type 0) : Type 0 where
   pub given : ℕ
   -- only `None` follows
   pub over : Bool
-  -- what is left of the written listing, where the tree tells its content
+  -- what is left of the written listing, where the tree's content is known
   pub left : Option (List Mark)
 
 -- a walk over the tree that has done nothing yet
@@ -117,7 +117,7 @@ TakesFront old spent (Some (Gives item)) new spent' = Charges old spent (Give it
 TakesFront old spent (Some (LimitAt path)) new spent' = StopsAt old spent path spent'
 TakesFront old spent (Some NoMemory) new spent' = ⊤
 
--- Over a tree that tells its content: what one call of `next` takes from what is left of the written listing, as long as
+-- Over a tree with a known content: what one call of `next` takes from what is left of the written listing, as long as
 -- the walk is not over.
 pub record Takes {X : Type 0} (tells : X → Option Content) (old : Walking X) (answer : Option Outcome) (new : Walking X) (c : Content) : Type 0 where
   pub told : IsTold (tells new.tree) c
@@ -133,7 +133,7 @@ pub record Goes {X : Type 0} (asks : X → ℕ) (tells : X → Option Content) (
   pub told : tells new.tree ≡ tells old.tree
   pub takes : (c : Content) → IsTold (tells old.tree) c → Takes tells old answer new c
 
--- A whole walk within a limit, over a tree that tells the listing: all of it, with its cost; or the items before the
+-- A whole walk within a limit, over a tree with a known content and this listing: all of it, with its cost; or the items before the
 -- first unit that does not fit; or, without memory, a beginning of the items.
 abbrev pub IsWalk : {A : Type 0} → (listing : List Mark) → (limit : ℕ) → End → (spent : ℕ) → List (Result (PathBuf A) (GlobError A)) → Type 0
 IsWalk ms limit end.Done spent answers = (cost ms ≤ limit) × (spent ≡ cost ms) × AreItems answers (items ms)

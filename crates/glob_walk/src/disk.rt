@@ -157,6 +157,7 @@ impl<R: Files, A: Allocator + Copy> Disk<R, A> {
 /// [`Disk`], with the options of `MatchOptions::new()` and no limit that a walk can reach.
 ///
 /// `glob(rt, alloc, "src/*.rs")` gives `src/lib.rs` and `src/walk.rs`, in this order, where these files are there.
+/// The errors are those of [`glob_in`](crate::glob_in).
 pub fn glob<R: Files + Drop, A: Allocator + Copy>(
     rt: R,
     alloc: A,
@@ -169,7 +170,8 @@ pub fn glob<R: Files + Drop, A: Allocator + Copy>(
     glob_with(rt, alloc, pattern, MatchOptions::new())
 }
 
-/// As [`glob`], with these options.
+/// As [`glob`], with these options. So with the dot rule `*` gives no dotted name. The errors are those of
+/// [`glob_in`](crate::glob_in).
 pub fn glob_with<R: Files + Drop, A: Allocator + Copy>(
     rt: R,
     alloc: A,

@@ -164,7 +164,7 @@ impl<A: Allocator + Copy> Frame<A> {
         }))
     }
 
-    /// Goes to the next place, and tells what there is to do.
+    /// Goes to the next place, and returns what there is to do.
     pub fn step(&mut self, plan: &Plan<A>) -> Result<Option<Task<A>>, AllocError>
         requires going { is_done_frame self.old ≡ false }
         requires within { self.old.part < vec_len plan.now.parts }

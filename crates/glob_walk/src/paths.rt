@@ -54,6 +54,9 @@ impl<T: Tree> Model for Paths<T> {
 /// Walks `tree` after the components of a pattern, with at most `limit` units of work: one for each lookup, one for each
 /// listing, and one for each entry of a listing. Nothing is looked up before the first call of `next`.
 ///
+/// So `a/*` gives `a/b` if `b` is the only entry of `a`, for 4 units: the lookup of the start, that of `a`, the listing
+/// of `a`, and its entry.
+///
 /// A pattern with a fault is refused with `Syntax`: the fault of the whole text, or else that of the first component
 /// that has one, where a bracket holds `/`. Any pattern may be refused with `Memory`. The tree is then dropped.
 #[tactic(auto, unfolding(crate::specs::Listing::listing))]
