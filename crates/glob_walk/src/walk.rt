@@ -46,8 +46,8 @@ pub struct Walk<T: Tree> {
 /// matches: each once if the pattern has at most one run of `**`, and in order if at most one component follows the run.
 /// What lies below a directory that cannot be listed is not found; the error stands in its place.
 ///
-/// `limit` is in units of work: lookups, listings and entries. So `walk_in(alloc, tree, "*", options, 4)` over files `x` and
-/// `y` gives both and `End::Done`; with the limit 3 it gives none, and `End::Limit`.
+/// `limit` is in units of work: lookups, listings and entries. Over files `x` and `y`, `walk_in(alloc, tree, "*", options,
+/// 4)` gives both and `End::Done`; with the limit 3 it gives none, and `End::Limit`.
 pub fn walk_in<T: Tree>(
     alloc: T::Alloc,
     tree: T,
