@@ -5,3 +5,4 @@
 #[cfg(test)]
 mod tests;
 pub mod trees;
+pub mod uses;
