@@ -143,7 +143,7 @@ module _ {X A : Type 0} (asks : X → ℕ) (tells : X → Option Content) (first
       with_item = (
         g.plain.0 ++ item ∷ [],
         map-append outcome answers (answer ∷ []) ∙ ap (λ xs. xs ++ outcome answer ∷ []) g.plain.1 ∙ ap (λ o. map Gives g.plain.0 ++ o ∷ []) says
-        ∙ sym (map-append Gives g.plain.0 (item ∷ [])),
+            ∙ sym (map-append Gives g.plain.0 (item ∷ [])),
       )
 
   pub Ends-done : Goes asks tells now None new → Ends asks tells first end.Done answers new
