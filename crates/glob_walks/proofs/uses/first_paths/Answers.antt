@@ -1,4 +1,4 @@
-use Rattle.std.proofs.Common.{◌∷◌, ◌++◌, [], Ok, Err, Some, map, sym, subst, arith, ◌∙◌, ap}
+use Rattle.std.proofs.Common.{◌∷◌, ◌++◌, [], Some, map, sym, subst, arith, ◌∙◌, ap}
 use Rattle.std.specs.Prelude.{option_map}
 use Rattle.std.specs.Path.{path_buf_bytes}
 use Rattle.glob.specs.Walks.{Goes, Gives, error_outcome, outcome}
@@ -19,8 +19,7 @@ pub loop-paths-preserved-in_default-item : goal.loop-paths-preserved-in_default-
 loop-paths-preserved-in_default-item g c =
     let e = c.in_default-item.field-0 in
     let goes : Goes g.T.Tree.asks g.T.Tree.tells c.loop-paths.paths (Some (error_outcome (cause_of e) e)) c.next.new.self =
-    subst (λ r. Goes g.T.Tree.asks g.T.Tree.tells c.loop-paths.paths (option_map outcome r) c.next.new.self) (c.in-Some.is ∙ ap Some c.in_default-item.is) c.next.ensures.steps in
-    (
+    subst (λ r. Goes g.T.Tree.asks g.T.Tree.tells c.loop-paths.paths (option_map outcome r) c.next.new.self) (c.in-Some.is ∙ ap Some c.in_default-item.is) c.next.ensures.steps in (
       c.loop-paths.invariant.0,
       Finds-error g.T.Tree.asks g.T.Tree.tells c.args.paths.now c.loop-paths.paths c.next.new.self (map path_buf_bytes c.loop-paths.found.items) c.loop-paths.invariant.1 e goes,
     )
@@ -29,9 +28,8 @@ loop-paths-preserved-in_default-item g c =
 pub loop-paths-preserved : goal.loop-paths-preserved
 loop-paths-preserved g c =
     let goes : Goes g.T.Tree.asks g.T.Tree.tells c.loop-paths.paths (Some (Gives (Found (path_buf_bytes c.in-Ok.path)))) c.next.new.self =
-    subst (λ r. Goes g.T.Tree.asks g.T.Tree.tells c.loop-paths.paths (option_map outcome r) c.next.new.self) (c.in-Some.is ∙ ap Some c.in-Ok.is) c.next.ensures.steps in
-    (
+    subst (λ r. Goes g.T.Tree.asks g.T.Tree.tells c.loop-paths.paths (option_map outcome r) c.next.new.self) (c.in-Some.is ∙ ap Some c.in-Ok.is) c.next.ensures.steps in (
       omega (arith, c.in_ok-push.ensures.len, c.len.ensures, c.loop-paths-test.true),
       subst (λ xs. Finds g.T.Tree.tells c.args.paths.now (map path_buf_bytes xs) c.next.new.self) (sym c.in_ok-push.ensures.items)
-      (Finds-path g.T.Tree.asks g.T.Tree.tells c.args.paths.now c.loop-paths.paths c.next.new.self c.loop-paths.found.items c.loop-paths.invariant.1 c.in-Ok.path goes),
+          (Finds-path g.T.Tree.asks g.T.Tree.tells c.args.paths.now c.loop-paths.paths c.next.new.self c.loop-paths.found.items c.loop-paths.invariant.1 c.in-Ok.path goes),
     )
