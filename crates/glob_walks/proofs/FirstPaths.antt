@@ -7,7 +7,7 @@ use Rattle.std.specs.declared.path.buf.PathBuf.{PathBuf}
 use Rattle.glob.specs.Answers.{IsTold}
 use Rattle.glob.specs.Content.{Content}
 use Rattle.glob.specs.GlobErrors.{cause_of}
-use Rattle.glob.specs.Marks.{Mark, Work, Give, Item, Found, Unread, items, paths}
+use Rattle.glob.specs.Marks.{Mark, Give, Item, Found, Unread, items, paths}
 use Rattle.glob.specs.Text.{Text}
 use Rattle.glob.specs.Walks.{Outcome, Gives, LimitAt, NoMemory, error_outcome, works, Walking, Goes, Charges}
 use Rattle.glob_walk.specs.declared.error.GlobCause.{GlobCause}

@@ -1,4 +1,4 @@
-use Rattle.std.proofs.Common.{◌∷◌, ◌++◌, [], Ok, Err, Some, map, sym, subst, arith, ◌∙◌, ap}
+use Rattle.std.proofs.Common.{Some, map, sym, subst, arith, ◌∙◌, ap}
 use Rattle.std.specs.Prelude.{option_map}
 use Rattle.std.specs.Path.{path_buf_bytes}
 use Rattle.glob.specs.Walks.{Goes, Gives, error_outcome, outcome}
