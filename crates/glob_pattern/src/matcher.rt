@@ -77,7 +77,8 @@ pub trait Judge {
         ensures count { count self.new ≡ count self.old + count_ones asked }
         ensures took { (j : ℕ) → j < 64
             → IsBitSet result j
-            ↔ (IsBitSet asked j × IsTrue ((table self.old).takes (64 * word + j) (place self.old - 1))) }
+            ↔ (IsBitSet asked j
+            × IsTrue ((table self.old).takes (64 * word + j) (place self.old - 1))) }
     {
         let mut left = asked;
         let mut took = 0u64;

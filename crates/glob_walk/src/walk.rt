@@ -65,7 +65,8 @@ pub fn walk_in<T: Tree>(
     ensures few { IfOk result (λ walk. length walk.items.items ≤ walk.spent + 1) }
     ensures walk { (c : Content) → IsTold (T.tells tree) c
         → IfOk result
-        (λ walk. IsWalk (listing c options pattern.now) limit walk.end walk.spent walk.items.items) }
+        (λ walk. IsWalk (listing c options pattern.now)
+        limit walk.end walk.spent walk.items.items) }
     ensures goal { IfOk result
         (λ walk. FindsGoal (T.tells tree) options pattern.now walk.end walk.items.items) }
     ensures exact { IfOk result

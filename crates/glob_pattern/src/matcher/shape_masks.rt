@@ -40,7 +40,8 @@ impl ShapeMasks {
         ensures tokens { (j : ℕ)
             → IsBitSet result.tokens j ↔ (IsBitSet self.tokens j ⊎ (j ≡ bit)) }
         ensures growing { (j : ℕ)
-            → IsBitSet result.growing j ↔ (IsBitSet self.growing j ⊎ ((j ≡ bit) × (shape ≢ Shape.One))) }
+            → IsBitSet result.growing j
+            ↔ (IsBitSet self.growing j ⊎ ((j ≡ bit) × (shape ≢ Shape.One))) }
         ensures bound { (j : ℕ) → IsBitSet result.bound j
             ↔ (IsBitSet self.bound j ⊎ ((j ≡ bit) × (shape ≡ Shape.Deep) × IsTrue followed)) }
     {

@@ -62,7 +62,8 @@ pub fn take_left<A: Allocator>(
     requires tokens { (j : ℕ)
         → IsBitSet asked j → 64 * word + j < length tokens.now }
     ensures { (j : ℕ) → j < 64
-        → IsBitSet result j ↔ (IsBitSet asked j × TakesBit options opening c tokens.now (64 * word) j) }
+        → IsBitSet result j
+        ↔ (IsBitSet asked j × TakesBit options opening c tokens.now (64 * word) j) }
 {
     let mut judge = CharacterJudge {
         tokens,
