@@ -6,12 +6,12 @@ use std::{fmt, io};
 
 /// Why [`filter_lines`](crate::filter_lines) failed.
 ///
-/// It prints as `reading failed`, `out of memory` or `writing failed`.
+/// It prints as `reading failed`, `out of memory` or `writing failed`. A full disk under the output is a `Write`.
 #[derive(Debug, Drop)]
 pub enum LineFault {
     /// A read failed with this error of the reader.
     Read(io::Error),
-    /// Out of memory.
+    /// Out of memory: the input, the output buffer or a match of more than 63 tokens could not be allocated.
     Memory,
     /// A write failed with this error of the writer.
     Write(io::Error),

@@ -22,9 +22,9 @@ const WRITE_LEN: usize = 64 * 1024;
 /// Copies the lines of `reader` that `pattern` matches to `writer`, in order, each with a line feed, and returns their
 /// number, which stays at `u64::MAX` once it is there.
 ///
-/// A line ends before a line feed, and what follows the last line feed is a line if it is not empty. A carriage return is
-/// part of its line. A line that is not UTF-8 never matches. So with the pattern `a*` the input `"ab\nb\nac"` gives the
-/// output `"ab\nac\n"`, and 2 is returned.
+/// A line ends before a line feed, and what follows the last line feed is a line if it is not empty. A carriage return
+/// is part of its line. A line that is not UTF-8 never matches. So with the pattern `a*` the input `"ab\nb\nac"` gives
+/// the output `"ab\nac\n"`, and 2 is returned.
 ///
 /// The input is read to its end before anything is written, into memory of `alloc`. Neither the reader nor the writer
 /// may have failed before. The errors are:

@@ -15,6 +15,7 @@ use std::marker::Model;
 /// reader.failed()        // false
 /// reader.read(buf)       // Err(..)
 /// reader.failed()        // true
+/// let stdin = reader.into_inner();
 /// ```
 #[derive(Drop)]
 pub struct Watch<S> {
@@ -58,8 +59,8 @@ impl<S> Watch<S> {
 }
 
 impl<S: Read> Watch<S> {
-    /// One read of the inner reader, to the start of `buf`. It returns how many bytes were read: 0 only at the end of the
-    /// input, or where `buf` is empty.
+    /// One read of the inner reader, to the start of `buf`. It returns how many bytes were read: 0 only at the end of
+    /// the input, or where `buf` is empty.
     ///
     /// The error is the inner reader's, also `Interrupted`. No byte was read then.
     pub fn read(&mut self, buf: &mut [u8]) -> io::Result<usize>
@@ -75,11 +76,12 @@ impl<S: Read> Watch<S> {
 }
 
 impl<S: Write> Watch<S> {
-    /// One write to the inner writer, from the start of `buf`. It returns how many bytes were written: 0 only where `buf`
-    /// is empty.
+    /// One write to the inner writer, from the start of `buf`. It returns how many bytes were written: 0 only where
+    /// `buf` is empty.
     ///
-    /// The error is the inner writer's, also `Interrupted`, or of the kind `WriteZero` where the inner writer took none of
-    /// some bytes. No byte was written then.
+    /// The error is the inner writer's, also `Interrupted`, or of the kind `WriteZero` where the inner writer took none
+    /// of some bytes. No byte was written then. So where the inner writer takes two bytes a call, `write(b"abc")`
+    /// returns 2.
     pub fn write(&mut self, buf: &[u8]) -> io::Result<usize>
         ensures bound { WritesAtMost result buf.now }
         ensures bytes { WriteAppends (S.contents self.old.inner) (S.contents self.new.inner)

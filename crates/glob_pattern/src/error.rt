@@ -27,7 +27,8 @@ impl fmt::Display for PatternError {
 
 impl Error for PatternError {}
 
-/// Why [`Pattern::new`](crate::Pattern::new) made no pattern.
+/// Why a text was refused as a pattern, by [`Pattern::new`](crate::Pattern::new) or by a walk. So `[a` is refused with
+/// `Syntax`, at the place 0, and it prints as `Pattern syntax error near position 0: invalid range pattern`.
 #[derive(Debug, Drop)]
 pub enum PatternRefusal {
     /// The text is not accepted, and this is its first fault from the left.

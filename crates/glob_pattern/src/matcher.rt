@@ -12,7 +12,7 @@ use one_word::run_one_word;
 use prefix::take_prefix;
 use std::alloc::{AllocError, Allocator};
 
-/// Which pieces of a text a token may match.
+/// Which pieces of a text a token may match. The shapes of `**/*a` are `Deep`, `Run` and `One`.
 #[derive(Clone, Copy, Debug, PartialEq, Eq)]
 pub enum Shape {
     /// One character.
@@ -25,6 +25,10 @@ pub enum Shape {
 
 /// Answers questions about a list of characters and a list of tokens, both numbered from 0: which token takes which
 /// character. A judge stands at a place: the number of characters that it has stepped over. It counts the questions.
+///
+/// For the text `ab` and the tokens of `a*`, a judge returns true for `step()`, then for `takes(0)` and `takes(1)`.
+/// After another `step()` it returns false for `takes(0)` and true for `takes(1)`; then `asked()` is 4, and `step()`
+/// returns false.
 pub trait Judge {
     ghost table: { Self → Table };
 
@@ -43,7 +47,7 @@ pub trait Judge {
             → (place self.new ≡ place self.old)
             × ((table self.new).characters ≡ place self.old) };
 
-    /// Whether a component begins at the place of the judge.
+    /// Whether a component begins at the place of the judge: for the text `a/b` at the places 0 and 2.
     fn opens(&self) -> bool
         ensures { result ≡ (table self.now).opens (place self.now) };
 

@@ -16,7 +16,7 @@ pub struct MatchOptions {
 }
 
 impl MatchOptions {
-    /// With case, and without the separator rule and the dot rule.
+    /// With case, and without the separator rule and the dot rule: so `A*` does not match `a/b`, and `*` does.
     pub const fn new() -> Self
         ensures { result ≡ new_options }
     {
@@ -31,7 +31,7 @@ impl MatchOptions {
 impl Default for MatchOptions {
     ghost is_default = { λ options. options ≡ default_options };
 
-    /// Without case, the separator rule and the dot rule.
+    /// Without case, the separator rule and the dot rule: so `A*` matches `a/b`.
     fn default() -> Self {
         MatchOptions {
             case_sensitive: false,

@@ -59,7 +59,7 @@ impl<A: Allocator> Model for Pattern<A> {
 }
 
 impl<A: Allocator> Pattern<A> {
-    /// The text that the pattern was parsed from. It is accepted: parsed again it gives an equal pattern.
+    /// The text that the pattern was parsed from, as `a/*.rs`. It is accepted: parsed again it gives an equal pattern.
     pub fn as_str(&self) -> &str
         ensures text { result.now ≡ self.now }
         ensures accepted { IsAccepted (chars self.now) }
@@ -91,7 +91,8 @@ impl<A: Allocator + Copy> Pattern<A> {
         })
     }
 
-    /// [`new`](Self::new), under the name of the trait `FromStr`, with its errors.
+    /// [`new`](Self::new), under the name of the trait `FromStr`, with its errors. So `from_str(alloc, "*.rs")` is the
+    /// pattern of `new(alloc, "*.rs")`.
     pub fn from_str(alloc: A, s: &str) -> Result<Self, PatternRefusal>
         ensures accepted { IfOk result (λ _. IsAccepted (chars s.now)) }
         ensures text { IfOk result (λ p. p ≡ s.now) }
@@ -100,7 +101,7 @@ impl<A: Allocator + Copy> Pattern<A> {
         Self::new(alloc, s)
     }
 
-    /// The empty pattern, which matches the empty text alone. It allocates nothing.
+    /// The empty pattern, which matches the empty text alone: `""` and not `"a"`. It allocates nothing.
     pub fn default(alloc: A) -> Self
         ensures { result ≡ [] }
     {
@@ -113,7 +114,8 @@ impl<A: Allocator + Copy> Pattern<A> {
         }
     }
 
-    /// An equal pattern on the same allocator. Fails only if allocation fails.
+    /// An equal pattern on the same allocator: that of `*.rs` is again `*.rs`, and matches the same texts. Fails only
+    /// if allocation fails.
     pub fn clone(&self) -> Result<Self, AllocError>
         ensures { IfOk result (λ p. p ≡ self.now) }
     {
@@ -129,7 +131,8 @@ impl<A: Allocator + Copy> Pattern<A> {
     /// Whether the pattern matches the whole text, with case and without the separator rule and the dot rule:
     /// [`matches_with`](Self::matches_with) under `MatchOptions::new()`. So `*.rs` matches `main.rs` and `src/main.rs`.
     ///
-    /// The error is a failed allocation. A pattern of at most 63 tokens allocates nothing.
+    /// The error is a failed allocation. A pattern of at most 63 tokens (characters, wildcards and brackets) allocates
+    /// nothing.
     pub fn matches(&self, str: &str) -> Result<bool, AllocError>
         ensures answer { IfOk result
             (λ yes. IsTrue yes ↔ Matches new_options (chars self.now) (chars str.now)) }
@@ -141,7 +144,8 @@ impl<A: Allocator + Copy> Pattern<A> {
     /// Whether the pattern matches the whole text: whether the text splits into one allowed piece for each token. So
     /// `*.rs` matches `src/main.rs`, and with the separator rule it does not.
     ///
-    /// The error is a failed allocation. A pattern of at most 63 tokens allocates nothing.
+    /// The error is a failed allocation. A pattern of at most 63 tokens (characters, wildcards and brackets) allocates
+    /// nothing.
     pub fn matches_with(&self, str: &str, options: MatchOptions) -> Result<bool, AllocError>
         ensures answer { IfOk result
             (λ yes. IsTrue yes ↔ Matches options (chars self.now) (chars str.now)) }
@@ -167,7 +171,8 @@ impl<A: Allocator + Copy> Pattern<A> {
 
     /// The answer of [`matches_with`](Self::matches_with), and how many questions it took: how often it was asked
     /// whether a token takes a character. Their number is at most the pattern's characters times the text's, and for a
-    /// match at least the text's characters. The error is that of [`matches_with`](Self::matches_with).
+    /// match at least the text's characters. So `a` and the text `a` take one question, and the answer is `(true, 1)`.
+    /// The error is that of [`matches_with`](Self::matches_with).
     #[inline(always)]
     pub fn matches_counted(
         &self,
@@ -187,7 +192,7 @@ impl<A: Allocator + Copy> Pattern<A> {
         Ok((answer, judge.asked()))
     }
 
-    /// [`matches`](Self::matches) on the path's text, with its error.
+    /// [`matches`](Self::matches) on the path's text, with its error. So `src/*` matches the path `src/a.rs`.
     pub fn matches_path(&self, path: Path<'_>) -> Result<bool, AllocError>
         ensures answer { IfOk result (λ yes. IsTrue yes
             ↔ Matches new_options (chars self.now) (chars (path_bytes path.entry))) }
@@ -196,7 +201,8 @@ impl<A: Allocator + Copy> Pattern<A> {
         self.matches(path.as_str())
     }
 
-    /// [`matches_with`](Self::matches_with) on the path's text, with its error.
+    /// [`matches_with`](Self::matches_with) on the path's text, with its error. So under the dot rule `src/*` does not
+    /// match the path `src/.git`.
     pub fn matches_path_with(
         &self,
         path: Path<'_>,

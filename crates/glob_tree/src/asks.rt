@@ -4,11 +4,11 @@ ghost use Rattle.std.specs.Borrow.{ftrue};
 
 use std::marker::Model;
 
-/// How much was asked of a tree: a number that contracts alone see. It costs nothing: it has no bytes, and its methods do
-/// nothing at run time.
+/// How much was asked of a tree: a number that contracts alone see. It costs nothing: it has no bytes, and its methods
+/// do nothing at run time.
 ///
-/// A [`Tree`](crate::Tree) of your own keeps one in a field and names it in its `ghost asks`. Each `look` is one ask, and
-/// each `list` one, and one for each entry that it returns:
+/// A [`Tree`](crate::Tree) of your own keeps one in a field and names it in its `ghost asks`. Each `look` is one ask,
+/// and each `list` one, and one for each entry that it returns:
 ///
 /// ```text
 /// struct NoTree {
@@ -44,7 +44,7 @@ impl Model for Asks {
 }
 
 impl Asks {
-    /// Nothing was asked yet.
+    /// Nothing was asked yet: the count is 0.
     pub fn new() -> Self
         ensures { result ≡ 0 }
     {
@@ -53,7 +53,7 @@ impl Asks {
         }
     }
 
-    /// The count after `more` further asks. It has no upper bound.
+    /// The count after `more` further asks: after two of them, 2. It has no upper bound.
     pub fn after(&self, more: usize) -> Self
         ensures { result ≡ self.now + more }
     {

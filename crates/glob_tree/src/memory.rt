@@ -55,6 +55,8 @@ impl<A: Allocator> Model for MemTree<A> {
 
 impl<A: Allocator + Copy> MemTree<A> {
     /// A tree of the root alone, which is the current directory. `alloc` serves all that the tree holds and lists.
+    ///
+    /// The error would be an allocation failure. This version allocates nothing here, and does not fail.
     pub fn new(alloc: A) -> Result<Self, AllocError>
         ensures empty { IfOk result (λ tree. tree.content ≡ empty_content) }
         ensures content { IfOk result (λ tree. is_content tree.content ≡ true) }
@@ -86,7 +88,8 @@ impl<A: Allocator + Copy> MemTree<A> {
         self.add(path, Kind::Dir)
     }
 
-    /// Adds a directory that cannot be listed: a listing of it fails with an error of this kind.
+    /// Adds a directory that cannot be listed: a listing of it fails with an error of this kind. So after
+    /// `add_shut("/a", ErrorKind::PermissionDenied)` a look at `/a` returns `Look::Dir`, and `list("/a")` fails.
     ///
     /// The errors are those of [`add_dir`](MemTree::add_dir).
     pub fn add_shut(&mut self, path: &str, kind: io::ErrorKind) -> Result<(), TreeRefusal>
@@ -100,7 +103,8 @@ impl<A: Allocator + Copy> MemTree<A> {
         self.add(path, Kind::Shut(kind))
     }
 
-    /// Adds something that is no directory, as a file.
+    /// Adds something that is no directory, as a file. So after `add_other("/a.rs")` a look at `/a.rs` returns
+    /// `Look::Other`.
     ///
     /// The errors are those of [`add_dir`](MemTree::add_dir).
     pub fn add_other(&mut self, path: &str) -> Result<(), TreeRefusal>
@@ -115,6 +119,7 @@ impl<A: Allocator + Copy> MemTree<A> {
     }
 
     /// Makes the directory at `path` the current one. `path` is `/`, or one that [`add_dir`](MemTree::add_dir) takes.
+    /// So after `set_current("/a")` the path `b` leads where `/a/b` leads.
     ///
     /// The errors, after which the current directory is what it was:
     ///
@@ -160,6 +165,7 @@ impl<A: Allocator + Copy> Tree for MemTree<A> {
 
     ghost asks = { λ tree. tree.asks };
 
+    /// It never fails: a path that leads nowhere is `Look::Missing`.
     fn look(&mut self, path: &str) -> Result<Look, AllocError>
         ensures asks { self.new.asks ≡ self.old.asks + 1 }
         ensures content { self.new.content ≡ self.old.content }
@@ -169,8 +175,9 @@ impl<A: Allocator + Copy> Tree for MemTree<A> {
         Ok(self.seen(path))
     }
 
-    /// Where `path` leads to no directory, the error's kind is `NotADirectory`; where it leads nowhere, `NotFound`; where
-    /// it leads to a directory of [`add_shut`](MemTree::add_shut), the kind given there.
+    /// Where `path` leads to no directory, the error's kind is `NotADirectory`; where it leads nowhere, `NotFound`;
+    /// where it leads to a directory of [`add_shut`](MemTree::add_shut), the kind given there. [`ListError::Memory`]
+    /// comes where the entries cannot be allocated.
     fn list(&mut self, path: &str) -> Result<Vec<Entry<A>, A>, ListError>
         ensures asks { self.new.asks ≡ self.old.asks + 1 + entry_count result }
         ensures content { self.new.content ≡ self.old.content }

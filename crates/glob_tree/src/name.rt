@@ -57,7 +57,7 @@ impl<A: Allocator> Name<A> {
         Ok(Name { text })
     }
 
-    /// The text of the name.
+    /// The text of the name, as `a.rs`.
     pub fn as_str(&self) -> &str
         ensures { result.now ≡ self.now }
     {

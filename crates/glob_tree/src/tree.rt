@@ -6,7 +6,8 @@ use crate::name::Name;
 use std::alloc::{AllocError, Allocator, Global};
 use std::io;
 
-/// What a path leads to.
+/// What a path leads to. Where `a` is a directory with the file `b`, `a` leads to `Dir`, `a/b` to `Other`, and `a/c` to
+/// `Missing`.
 #[derive(Clone, Copy, PartialEq, Eq, Debug)]
 pub enum Look {
     /// A directory.
@@ -17,7 +18,7 @@ pub enum Look {
     Missing,
 }
 
-/// An entry of a directory, as a listing returns it.
+/// An entry of a directory, as a listing returns it. The file `b` in it has the name `b`, and is no directory.
 #[derive(Drop)]
 pub struct Entry<A: Allocator = Global> {
     /// Its name in the directory.
@@ -26,7 +27,7 @@ pub struct Entry<A: Allocator = Global> {
     pub is_dir: bool,
 }
 
-/// Why a listing failed.
+/// Why a listing failed. That of a file has `Read`, with an I/O error of the kind `NotADirectory`.
 #[derive(Debug, Drop)]
 pub enum ListError {
     /// The directory cannot be read, or there is none, for this reason.
@@ -40,11 +41,13 @@ pub enum ListError {
 /// Contracts see two things of a tree:
 ///
 /// - `tells` is its content, where that is known: what stands at each key, and the current directory. Each answer is then
-///   the content's, allocation failures aside, and no call changes the content. Where it is `None`, any answer may come.
+///   the content's, allocation failures aside, and no call changes the content. Where it is `None`, any answer may
+/// come.
 /// - `asks` counts what was asked: one for each `look`, and for each `list` one and one for each entry that it returns. A
 ///   tree keeps the count in a field of type [`Asks`](crate::Asks).
 ///
-/// [`MemTree`](crate::MemTree) is a tree with a known content.
+/// [`MemTree`](crate::MemTree) is a tree with a known content: `tree.look("/")` returns `Look::Dir`, and raises its
+/// `asks` by one.
 pub trait Tree: Drop {
     /// The allocator of the entries that it lists.
     type Alloc: Allocator + Copy;

@@ -1,4 +1,5 @@
-/// Why a tree in memory refused a change. Where several reasons hold, the first of them is reported.
+/// Why a tree in memory refused a change. Where several reasons hold, the first of them is reported. So in an empty
+/// tree `add_dir("/a/..")` is `Improper`, and `add_dir("/a/b")` is `NoParent`.
 #[derive(Clone, Copy, PartialEq, Eq, Debug)]
 pub enum TreeRefusal {
     /// The path is not `/` and one or more proper names joined by `/`.
