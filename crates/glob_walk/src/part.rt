@@ -1,4 +1,4 @@
-//! The components of a pattern.
+//! The components of a pattern, each read once.
 ghost use Rattle.std.specs.Prelude.{◌≡◌, None, IfOk, IfErr, chars};
 ghost use Rattle.std.specs.List.{list_any};
 ghost use Rattle.glob_pattern.specs.Grammar.Characters.{is_wildcard};
@@ -38,13 +38,13 @@ pub struct Part<A: Allocator> {
 
 impl<A: Allocator> Model for Part<A> {
     ghost use Rattle.std.specs.Prelude.{List, ℕ};
-    ghost use Rattle.glob_walk.specs.Private.Parts.{form_text, HasKind};
+    ghost use Rattle.glob_walk.specs.Private.Parts.{form_text, KeepsKind};
 
     ghost Value = { List ℕ };
 
     ghost view = { λ p. form_text p.form };
 
-    ghost invariant = { λ p. HasKind p.form };
+    ghost invariant = { λ p. KeepsKind p.form };
 }
 
 impl<A: Allocator> Part<A> {
@@ -103,21 +103,9 @@ impl<A: Allocator + Copy> Part<A> {
     {
         match &self.form {
             Form::Literal(text) => Ok(is_same_text(name, text.as_str(), options.case_sensitive)),
-            Form::Recursive(pattern) => matches_name(pattern, name, options),
-            Form::Wild(pattern) => matches_name(pattern, name, options),
+            Form::Recursive(pattern) | Form::Wild(pattern) => pattern.matches_with(name, options),
         }
     }
-}
-
-/// Whether the pattern matches the name.
-fn matches_name<A: Allocator + Copy>(
-    pattern: &Pattern<A>,
-    name: &str,
-    options: MatchOptions,
-) -> Result<bool, AllocError>
-    ensures { IfOk result (λ yes. yes ≡ matches_text options pattern.now name.now) }
-{
-    pattern.matches_with(name, options)
 }
 
 /// Compiles a text. One with a fault is refused with it; and any may be refused with `Memory`.

@@ -29,8 +29,8 @@ form_kind (form.Recursive pattern) = Recursive
 form_kind (form.Wild pattern) = Wild
 
 -- the kind that is kept is that of the text
-abbrev pub HasKind : {A : Type 0} → Form A → Type 0
-HasKind f = component_kind (form_text f) ≡ form_kind f
+abbrev pub KeepsKind : {A : Type 0} → Form A → Type 0
+KeepsKind f = component_kind (form_text f) ≡ form_kind f
 
 -- the fault of a text by itself
 abbrev pub text_fault : Text → Option Fault
