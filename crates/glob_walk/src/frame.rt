@@ -1,4 +1,11 @@
 //! A directory that is gone through.
+//!
+//! A frame is what `walkdir` would call an open directory: its path, its entries, and how far the walk came. It is read
+//! from the tree once, as a whole. Each step moves the place on by one, and makes at most one task, so that a child's
+//! path is made only where the child is met or entered.
+//!
+//! In a run of `**` each entry has two steps. First it is met by the component after the run, or given at the pattern's
+//! end; then, if it is a directory, the run goes on in it.
 ghost use Rattle.std.specs.Prelude.{◌≡◌, ◌+◌, ◌<◌, ◌≤◌, ◌++◌, false, IfOk, OnOk, string_bytes, if◌then◌else◌, vec_len};
 ghost use Rattle.glob_tree.specs.Content.{Content};
 ghost use Rattle.glob_text.specs.Text.{Text};
@@ -37,10 +44,12 @@ pub struct Frame<A: Allocator> {
     pub run: bool,
     /// Its entries, in ascending order of names.
     pub entries: Vec<Entry<A>, A>,
+    /// The place that is reached.
     pub place: Place,
 }
 
-/// The number of the component from which the walk goes on at an entry that is met.
+/// The number of the component from which the walk goes on at an entry, if the entry is met: by component `part`, or in a
+/// run of `**` by the one after it. A run at the pattern's end meets each entry that it enters.
 #[tactic(auto, using(crate::proofs::WalkLemmas::Entering::first_match, crate::proofs::WalkLemmas::Entering::first_in_run, crate::proofs::WalkLemmas::Entering::first_at_end, crate::proofs::WalkLemmas::Entering::first_of_none))]
 fn meet<A: Allocator + Copy>(
     plan: &Plan<A>,
@@ -67,7 +76,7 @@ fn meet<A: Allocator + Copy>(
     }
 }
 
-/// The number, if the component matches the name.
+/// The number `next`, if the component matches the name.
 fn match_at<A: Allocator + Copy>(
     plan: &Plan<A>,
     component: &Part<A>,
@@ -86,7 +95,7 @@ fn match_at<A: Allocator + Copy>(
 }
 
 impl<A: Allocator + Copy> Frame<A> {
-    /// Whether all is done in it.
+    /// Whether nothing is left in it: the place is past the last entry.
     pub fn is_done(&self) -> bool
         ensures { result ≡ is_done_frame self.now }
     {
@@ -96,7 +105,7 @@ impl<A: Allocator + Copy> Frame<A> {
         }
     }
 
-    /// `..` or `.`, if the component matches it.
+    /// The look at `..` or `.` in the directory, if the component matches that name.
     fn special(&self, plan: &Plan<A>, name: &str) -> Result<Option<Task<A>>, AllocError>
         ensures marks { IfOk result
             (λ task. (c : Content)
@@ -118,7 +127,7 @@ impl<A: Allocator + Copy> Frame<A> {
         }))
     }
 
-    /// What comes of an entry's name.
+    /// The task to go on at an entry, if its name is met. It makes the child's path only then.
     fn met(&self, plan: &Plan<A>, entry: &Entry<A>) -> Result<Option<Task<A>>, AllocError>
         ensures marks { IfOk result
             (λ task. (c : Content)
@@ -140,7 +149,7 @@ impl<A: Allocator + Copy> Frame<A> {
         }))
     }
 
-    /// A run of `**` goes on in an entry.
+    /// The task to go on with the same run of `**` in an entry, if the run enters it.
     fn entered(&self, plan: &Plan<A>, entry: &Entry<A>) -> Result<Option<Task<A>>, AllocError>
         requires { self.now.part < vec_len plan.now.parts }
         ensures marks { IfOk result
@@ -164,7 +173,8 @@ impl<A: Allocator + Copy> Frame<A> {
         }))
     }
 
-    /// Goes to the next place, and returns what there is to do.
+    /// Goes to the next place, and returns the task that comes of the one before it, if any. Each step leaves one step
+    /// fewer: two for each entry, and one for each of `..` and `.`.
     pub fn step(&mut self, plan: &Plan<A>) -> Result<Option<Task<A>>, AllocError>
         requires going { is_done_frame self.old ≡ false }
         requires within { self.old.part < vec_len plan.now.parts }

@@ -1,4 +1,8 @@
 //! A tree that is asked within a limit.
+//!
+//! Each unit is charged before the question that it pays for, and a question that the limit does not allow is not asked.
+//! Only the entries of a listing are charged after it, since they cannot be counted before. All that a walk asks of its
+//! tree is asked here.
 ghost use Rattle.std.specs.Prelude.{◌≡◌, ◌+◌, ◌≤◌, IfOk, IfErr, vec_len, IsPermutation};
 ghost use Rattle.std.specs.List.Sorted.{IsSortedByKey};
 ghost use Rattle.std.specs.Cmp.Lexicographic.{slice_cmp};
@@ -11,7 +15,7 @@ use glob_tree::{Entry, ListError, Look, Tree};
 use std::alloc::Allocator;
 use std::io;
 
-/// A tree, and how much of a limit was spent on it.
+/// A tree, and how many units of a limit were spent on it: never more than the limit.
 #[derive(Drop)]
 pub struct Meter<T> {
     pub tree: T,
@@ -19,14 +23,15 @@ pub struct Meter<T> {
     pub spent: u64,
 }
 
-/// Why a path was not looked up.
+/// Why a path was not looked up: no unit was left, or there was an allocation failure.
 #[derive(Clone, Copy, PartialEq, Eq)]
 pub enum Stop {
     Limit,
     Memory,
 }
 
-/// Why a directory was not listed.
+/// Why a directory was not listed: the tree refused, the units that were left do not pay for it, or there was an
+/// allocation failure.
 #[derive(Drop)]
 pub enum Unlisted {
     Read(io::Error),
@@ -35,6 +40,7 @@ pub enum Unlisted {
 }
 
 impl<T: Tree> Meter<T> {
+    /// Looks a path up, for one unit. With no unit left the tree is not asked.
     pub fn look(&mut self, path: &str) -> Result<Look, Stop>
         requires { self.old.spent ≤ self.old.limit }
         ensures told { T.tells self.new.tree ≡ T.tells self.old.tree }
@@ -52,7 +58,8 @@ impl<T: Tree> Meter<T> {
         self.tree.look(path).map_err(|_| Stop::Memory)
     }
 
-    /// The entries, in ascending order of names.
+    /// Lists a directory, for one unit and one for each entry: its entries, in ascending byte order of names. With no unit
+    /// left the tree is not asked; where the entries pass the limit, all of it is spent and they are dropped.
     pub fn list(&mut self, path: &str) -> Result<Vec<Entry<T::Alloc>, T::Alloc>, Unlisted>
         requires { self.old.spent ≤ self.old.limit }
         ensures told { T.tells self.new.tree ≡ T.tells self.old.tree }
@@ -87,6 +94,7 @@ impl<T: Tree> Meter<T> {
     }
 }
 
+/// Sorts entries by the bytes of their names, in place.
 fn sort_entries<A: Allocator>(entries: &mut Vec<Entry<A>, A>)
     ensures permutation { IsPermutation entries.old.items entries.new.items }
     ensures len { vec_len entries.new ≡ vec_len entries.old }

@@ -1,4 +1,7 @@
 //! What a walk looks for.
+//!
+//! A plan is a pattern that was read once, before the walk: its components in order, each with its kind, the options, and
+//! whether directories alone are given. Nothing of it changes while the walk goes on.
 ghost use Rattle.std.specs.Prelude.{◌≡◌, ◌+◌, ◌<◌, ◌≤◌, [], ◌∷◌, true, Bool, None, IfOk, IfErr, MatchOption, OnSome, IfNone, drop, vec_len};
 ghost use Rattle.glob_text.specs.Characters.{slash};
 ghost use Rattle.glob_text.specs.Pieces.{pieces};
@@ -18,10 +21,13 @@ use std::alloc::Allocator;
 /// What a walk looks for: the components of a pattern, in order.
 #[derive(Drop)]
 pub struct Plan<A: Allocator> {
+    /// The components.
     pub parts: Vec<Part<A>, A>,
+    /// How names are matched.
     pub options: MatchOptions,
     /// Whether directories alone are given.
     pub directories: bool,
+    /// Where the walk takes its memory from.
     pub alloc: A,
 }
 
@@ -48,7 +54,7 @@ impl<A: Allocator + Copy> Plan<A> {
 }
 
 impl<A: Allocator> Plan<A> {
-    /// The component with the number.
+    /// The component with the number, counted from 0; `None` past the last.
     pub fn component(&self, part: usize) -> Option<&Part<A>>
         ensures rest { MatchOption result (drop part self.now.parts.items ≡ [])
             (λ t. drop part self.now.parts.items ≡ t.now ∷ drop (part + 1) self.now.parts.items) }
@@ -68,7 +74,8 @@ impl<A: Allocator> Plan<A> {
         }
     }
 
-    /// The number of the last `**` of a run, given that of one of them.
+    /// The number of the last `**` of a run, given that of one of them. Neighbouring `**` mean what one of them means, so
+    /// the walk goes on from the last. The search ends at the pattern's end.
     pub fn end_of_run(&self, part: usize) -> usize
         requires { IsRun (drop part self.now.parts.items) }
         ensures within { result < vec_len self.now.parts }
@@ -96,7 +103,7 @@ fn check<A: Allocator + Copy>(alloc: A, pattern: &str) -> Result<(), PatternRefu
     Ok(())
 }
 
-/// The components of a text between separators.
+/// Reads the components of a text, which stand between separators.
 fn read_parts<A: Allocator + Copy>(alloc: A, text: &str) -> Result<Vec<Part<A>, A>, PatternRefusal>
     ensures parts { IfOk result (λ parts. parts.items ≡ pieces text.now) }
     ensures accepted { IfOk result (λ _. first_fault (pieces text.now) ≡ None) }
@@ -109,14 +116,14 @@ fn read_parts<A: Allocator + Copy>(alloc: A, text: &str) -> Result<Vec<Part<A>, 
     Ok(parts)
 }
 
-/// The path at which a walk starts.
+/// The path at which a walk starts: the root, or the current directory.
 pub fn start(pattern: &str) -> &'static str
     ensures { result.now ≡ start_text pattern.now }
 {
     if pattern.starts_with('/') { "/" } else { "." }
 }
 
-/// The components' text: what follows the root, without one separator at its end.
+/// The text of the components: what follows the root, without one separator at its end.
 fn past_root(pattern: &str) -> &str
     ensures { result.now ≡ without_end_separator (without_root pattern.now) }
 {

@@ -1,4 +1,9 @@
 //! What a walk has still to do.
+//!
+//! The stack of `walkdir` holds a directory for each level, and so does this one, with two differences. What comes next is
+//! a task of its own, on top of the directories. And a directory in which nothing is left is not on the stack: it goes,
+//! with its names, in the very step that takes the last of them, before anything below it is listed. So down a chain of
+//! directories with one entry each, the stack holds one directory at a time and not the chain.
 ghost use Rattle.std.specs.Prelude.{◌≡◌, ◌+◌, ◌<◌, ◌≤◌, ◌++◌, true, false, [], None, IfOk, OnOk, vec_len};
 ghost use Rattle.glob_tree.specs.Content.{Content};
 ghost use Rattle.glob_walk.specs.Private.Frames.{frame_marks, unmet, IsFrameSound};
@@ -9,17 +14,21 @@ use crate::plan::Plan;
 use crate::task::Task;
 use std::alloc::{AllocError, Allocator};
 
-/// What a walk looks for, and what it has still to do: a task, and then what is left in the directories that it is in,
-/// the last first.
+/// What a walk looks for, and what it has still to do: a task, if there is one, and then what is left in the directories
+/// that it is in, the last first.
 #[derive(Drop)]
 pub struct Stack<A: Allocator> {
+    /// What it looks for.
     pub plan: Plan<A>,
+    /// What is done before the directories go on.
     pub next: Option<Task<A>>,
+    /// The directories, each found in the one before it. Something is left in each of them.
     pub frames: Vec<Frame<A>, A>,
 }
 
 impl<A: Allocator + Copy> Stack<A> {
-    /// Goes on in the last directory, if there is one.
+    /// Takes one step in the last directory, which may leave a task, and lets the directory go if that was its last step.
+    /// The answer is `false` where there is no directory. The weight falls by the step, so steps come to an end.
     pub fn go_on(&mut self) -> Result<bool, AllocError>
         requires none { self.old.next ≡ None }
         requires within { IsWithin self.old }
@@ -28,21 +37,21 @@ impl<A: Allocator + Copy> Stack<A> {
         ensures over { IfOk result (λ more. more ≡ false → (c : Content) → left c self.old ≡ []) }
         ensures falls { IfOk result (λ more. more ≡ true → weight self.new < weight self.old) }
         ensures ready { OnOk result (ready self.new ≤ ready self.old) }
-        ensures within { IsWithin self.new }
+        ensures within { OnOk result (IsWithin self.new) }
         ensures sound { OnOk result ((c : Content) → IsSound c self.old → IsSound c self.new) }
     {
         let Some(frame) = self.frames.last_mut() else {
             return Ok(false);
         };
-        if frame.is_done() {
-            self.frames.pop();
+        self.next = frame.step(&self.plan)?;
+        if !frame.is_done() {
             return Ok(true);
         }
-        self.next = frame.step(&self.plan)?;
+        self.frames.pop();
         Ok(true)
     }
 
-    /// Goes into a directory.
+    /// Puts a directory on top, unless nothing is in it.
     pub fn open(&mut self, frame: Frame<A>) -> Result<(), AllocError>
         requires none { self.old.next ≡ None }
         requires within { IsWithin self.old }
@@ -50,12 +59,15 @@ impl<A: Allocator + Copy> Stack<A> {
         ensures plan { self.new.plan ≡ self.old.plan }
         ensures left { OnOk result ((c : Content)
             → left c self.new ≡ frame_marks c self.old.plan frame ++ left c self.old) }
-        ensures weight { OnOk result (weight self.new ≡ weight self.old + frame_weight frame) }
-        ensures ready { OnOk result (ready self.new ≡ ready self.old + unmet frame) }
+        ensures weight { OnOk result (weight self.new ≤ weight self.old + frame_weight frame) }
+        ensures ready { OnOk result (ready self.new ≤ ready self.old + unmet frame) }
         ensures within { IsWithin self.new }
         ensures sound { OnOk result ((c : Content) → IsFrameSound c frame → IsSound c self.old
             → IsSound c self.new) }
     {
+        if frame.is_done() {
+            return Ok(());
+        }
         self.frames.push(frame)?;
         Ok(())
     }

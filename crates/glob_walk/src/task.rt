@@ -1,4 +1,4 @@
-//! What a walk does next.
+//! What a walk does next: at one path, with the components from a number on.
 
 ghost use Rattle.std.specs.Prelude.{◌≡◌, if◌then◌else◌};
 ghost use Rattle.glob_tree.specs.Looks.{is_there};
@@ -8,31 +8,35 @@ ghost use Rattle.glob_walk.specs.Private.Tasks.{is_wanted as is_wanted_look};
 use glob_tree::Look;
 use std::alloc::Allocator;
 
-/// Which answers to a look let the walk go on.
+/// Which answers to a look let the walk go on at the path.
 #[derive(Clone, Copy, PartialEq, Eq)]
 pub enum Wanted {
     /// Any of them.
     Any,
-    /// That something is there.
+    /// Those that say that something is there.
     Present,
     /// None of them.
     Nothing,
 }
 
-/// What is known of a path.
+/// What is known of a task's path, and so what the task is.
 #[derive(Clone, Copy, PartialEq, Eq)]
 pub enum Sight {
-    /// It is still to be looked up.
+    /// Nothing: it is to be looked up.
     Unseen(Wanted),
-    /// It is there, and this says whether it is a directory.
+    /// It is there, and this says whether it is a directory: it is to be entered, or given.
     Seen(bool),
 }
 
-/// A path, and the number of the component that is met at it: the number of all of them where the path is to be given.
+/// One thing to do: a path, and the number of the component that is met at it. Where that is the number of all components,
+/// none is left, and the path is to be given.
 #[derive(Drop)]
 pub struct Task<A: Allocator> {
+    /// The path, as the walk gives it.
     pub path: String<A>,
+    /// The number of the component.
     pub part: usize,
+    /// What is known of the path.
     pub sight: Sight,
 }
 

@@ -1,4 +1,15 @@
 //! The turns of a walk.
+//!
+//! A walk has one [`Task`] or none, and below it a [`Stack`] of the directories that it is in, one [`Frame`] for each. A
+//! turn does the task: it looks up one path, lists one directory, or gives one path. Where there is no task, a turn takes
+//! one step in the directory on top, and that step may make the next task. What a turn asks of the tree, its [`Meter`]
+//! charges first.
+//!
+//! So nothing calls itself: a walk is a loop of turns. It ends because a turn that gives nothing leaves fewer turns, by
+//! what is left of the limit and by the steps that are left in the directories.
+//!
+//! The written listing is what a walk does, mark by mark. Each function here has the same contract, `TurnsTo`: what was
+//! left of the listing begins with what the turn charged and gave, and what the stack then stands for is the rest.
 ghost use Rattle.std.specs.Prelude.{◌≡◌, ◌≢◌, ◌+◌, ◌<◌, ◌≤◌, ◌++◌, ◌∷◌, [], true, false, None, string_bytes, vec_len, drop, nat_le, not, ◌||◌, IfOk, Some, if◌then◌else◌};
 ghost use Rattle.glob_tree.specs.Content.{Content, look_result};
 ghost use Rattle.glob_walk.specs.Marks.{Work};
@@ -8,8 +19,8 @@ ghost use Rattle.glob_walk.specs.declared.plan.Plan.{Plan as PlanOf};
 ghost use Rattle.glob_tree.specs.Answers.{IsTold};
 ghost use Rattle.glob_tree.specs.Looks.{is_there, is_directory as is_directory_look};
 ghost use Rattle.glob_walk.specs.Private.Tasks.{task_marks, IsSightSound, is_wanted as is_wanted_look, enter_from, IsOpened, sight_marks, next_marks, next_ready, IsNextSound};
-ghost use Rattle.glob_walk.specs.Private.Stacks.{left, weight, next_weight, ready, IsWithin, IsSound};
-ghost use Rattle.glob_walk.specs.Private.Turns.{IfGoing, TurnOf, TurnCounts, Falls, HasRoom, KeepsSound};
+ghost use Rattle.glob_walk.specs.Private.Stacks.{next_weight, IsWithin};
+ghost use Rattle.glob_walk.specs.Private.Turns.{TurnsTo, with_task};
 
 use crate::frame::{Frame, Place};
 use crate::meter::{Meter, Stop, Unlisted};
@@ -22,20 +33,20 @@ use glob_tree::{Look, Tree};
 use std::alloc::{AllocError, Allocator};
 use std::io;
 
-/// What a turn comes to.
+/// What a turn comes to. After each of them but `Went` the loop of turns stops, and hands it out.
 #[derive(Drop)]
 pub enum Turn<A: Allocator> {
-    /// The walk goes on.
+    /// Neither a path nor an error: the walk goes on.
     Went,
-    /// It gives a path.
+    /// A path that the pattern leads to.
     Path(String<A>),
-    /// A directory could not be listed.
+    /// The path of a directory that could not be listed, and why. The walk goes on after it.
     Unread(String<A>, io::Error),
-    /// The limit is reached before the path.
+    /// The path at which the limit was reached. The walk is over.
     Limit(String<A>),
-    /// There was an allocation failure.
+    /// There was an allocation failure. The walk is over.
     Memory,
-    /// Nothing is left.
+    /// Nothing is left: there is no task, and no directory.
     Done,
 }
 
@@ -46,6 +57,7 @@ pub struct Walker<T: Tree> {
     pub stack: Stack<T::Alloc>,
 }
 
+/// Whether the answer to a look is that of a directory.
 fn is_directory(seen: Look) -> bool
     ensures { result ≡ is_directory_look seen }
 {
@@ -55,7 +67,8 @@ fn is_directory(seen: Look) -> bool
     }
 }
 
-/// What follows a look.
+/// The task that follows a look: to go on at the path with the same component, or nothing where the answer is not the
+/// one that is wanted.
 fn found<A: Allocator>(path: String<A>, part: usize, wanted: Wanted, seen: Look) -> Option<Task<A>>
     ensures marks { (c : Content) → (plan : PlanOf A) → seen ≡ look_result c (string_bytes path)
         → sight_marks c plan part (string_bytes path) (Sight.Unseen wanted)
@@ -73,26 +86,14 @@ fn found<A: Allocator>(path: String<A>, part: usize, wanted: Wanted, seen: Look)
 }
 
 impl<T: Tree> Walker<T> {
-    /// A path is looked up.
+    /// Looks a path up, for one unit, and leaves the task that follows, if any. It is one question to the tree.
     fn look_up(&mut self, path: String<T::Alloc>, part: usize, wanted: Wanted) -> Turn<T::Alloc>
         requires limit { self.old.meter.spent ≤ self.old.meter.limit }
         requires none { self.old.stack.next ≡ None }
         requires within { IsWithin self.old.stack }
-        ensures told { T.tells self.new.meter.tree ≡ T.tells self.old.meter.tree }
-        ensures counts { TurnCounts T.asks self.old.meter result self.new.meter }
-        ensures plan { self.new.stack.plan ≡ self.old.stack.plan }
-        ensures within { IsWithin self.new.stack }
-        ensures falls { Falls (1 + weight self.old.stack) self.old.meter result
-            (weight self.new.stack) self.new.meter }
-        ensures ready { HasRoom (ready self.old.stack) self.old.meter result
-            (ready self.new.stack) self.new.meter }
-        ensures sound { KeepsSound
-            (T.tells self.old.meter.tree) self.old.stack result self.new.stack }
-        ensures turn { (c : Content) → IsTold (T.tells self.old.meter.tree) c
-            → TurnOf (sight_marks c self.old.stack.plan part (string_bytes path)
-            (Sight.Unseen wanted)
-            ++ left c self.old.stack) self.old.meter.spent result
-            (left c self.new.stack) self.new.meter.spent }
+        ensures { TurnsTo T.asks T.tells
+            self.old.meter (with_task path part (Sight.Unseen wanted) self.old.stack) result
+            self.new.meter self.new.stack }
     {
         let seen = match self.meter.look(path.as_str()) {
             Ok(seen) => seen,
@@ -103,29 +104,18 @@ impl<T: Tree> Walker<T> {
         Turn::Went
     }
 
-    /// A directory is listed.
+    /// Lists a directory, for one unit and one for each entry, and puts it on the stack with its first place. Component
+    /// `part` meets its names; `run` says whether it is `**`. It is one question to the tree. A listing pays for the steps
+    /// that it brings: eight turns for each unit are more than three for each step and one for the directory.
     fn list(&mut self, path: String<T::Alloc>, part: usize, run: bool) -> Turn<T::Alloc>
         requires limit { self.old.meter.spent ≤ self.old.meter.limit }
         requires none { self.old.stack.next ≡ None }
         requires within { IsWithin self.old.stack }
         requires part { part < vec_len self.old.stack.plan.parts }
         requires opens { IsOpened run (drop part self.old.stack.plan.parts.items) }
-        ensures told { T.tells self.new.meter.tree ≡ T.tells self.old.meter.tree }
-        ensures counts { TurnCounts T.asks self.old.meter result self.new.meter }
-        ensures plan { self.new.stack.plan ≡ self.old.stack.plan }
-        ensures within { IsWithin self.new.stack }
-        ensures falls { Falls (weight self.old.stack) self.old.meter result
-            (weight self.new.stack) self.new.meter }
-        ensures ready { HasRoom (ready self.old.stack) self.old.meter result
-            (ready self.new.stack) self.new.meter }
-        ensures sound { IfGoing result ((c : Content) → IsTold (T.tells self.old.meter.tree) c
-            → is_directory_look (look_result c (string_bytes path)) ≡ true
-            → IsSound c self.old.stack → IsSound c self.new.stack) }
-        ensures turn { (c : Content) → IsTold (T.tells self.old.meter.tree) c
-            → is_directory_look (look_result c (string_bytes path)) ≡ true
-            → TurnOf (enter_from c self.old.stack.plan part (string_bytes path) true
-            ++ left c self.old.stack) self.old.meter.spent result
-            (left c self.new.stack) self.new.meter.spent }
+        ensures { TurnsTo T.asks T.tells
+            self.old.meter (with_task path part (Sight.Seen true) self.old.stack) result
+            self.new.meter self.new.stack }
     {
         let entries = match self.meter.list(path.as_str()) {
             Ok(entries) => entries,
@@ -146,28 +136,16 @@ impl<T: Tree> Walker<T> {
         }
     }
 
-    /// The components from a number on are met at a path.
+    /// Meets the components from number `part` on at a path that is there. If none is left, the path is given. A literal
+    /// one is joined to the path, and to look that up is the next task. For `**` and for a component with wildcards the
+    /// directory is listed; nothing comes of what is no directory.
     fn enter(&mut self, path: String<T::Alloc>, part: usize, is_dir: bool) -> Turn<T::Alloc>
         requires limit { self.old.meter.spent ≤ self.old.meter.limit }
         requires none { self.old.stack.next ≡ None }
         requires within { IsWithin self.old.stack }
-        ensures told { T.tells self.new.meter.tree ≡ T.tells self.old.meter.tree }
-        ensures counts { TurnCounts T.asks self.old.meter result self.new.meter }
-        ensures plan { self.new.stack.plan ≡ self.old.stack.plan }
-        ensures within { IsWithin self.new.stack }
-        ensures falls { Falls (2 + weight self.old.stack) self.old.meter result
-            (weight self.new.stack) self.new.meter }
-        ensures ready { HasRoom
-            ((if nat_le (vec_len self.old.stack.plan.parts) part then 1 else 0) + ready
-            self.old.stack) self.old.meter result (ready self.new.stack) self.new.meter }
-        ensures sound { IfGoing result ((c : Content) → IsTold (T.tells self.old.meter.tree) c
-            → IsSightSound c (string_bytes path) (Sight.Seen is_dir) → IsSound c self.old.stack
-            → IsSound c self.new.stack) }
-        ensures turn { (c : Content) → IsTold (T.tells self.old.meter.tree) c
-            → IsSightSound c (string_bytes path) (Sight.Seen is_dir)
-            → TurnOf (enter_from c self.old.stack.plan part (string_bytes path) is_dir
-            ++ left c self.old.stack) self.old.meter.spent result
-            (left c self.new.stack) self.new.meter.spent }
+        ensures { TurnsTo T.asks T.tells
+            self.old.meter (with_task path part (Sight.Seen is_dir) self.old.stack) result
+            self.new.meter self.new.stack }
     {
         let Some(component) = self.stack.plan.component(part) else {
             if gives(self.stack.plan.directories, is_dir) {
@@ -190,10 +168,10 @@ impl<T: Tree> Walker<T> {
                 Err(_) => Turn::Memory,
             },
             PartKind::Recursive => {
-                let last = self.stack.plan.end_of_run(part);
                 if !is_dir {
                     return Turn::Went;
                 }
+                let last = self.stack.plan.end_of_run(part);
                 self.list(path, last, true)
             }
             PartKind::Wild => {
@@ -205,24 +183,14 @@ impl<T: Tree> Walker<T> {
         }
     }
 
-    /// One turn.
+    /// One turn: does the task if there is one, and else takes one step in the directory on top. It calls nothing that
+    /// calls it.
     pub fn turn(&mut self) -> Turn<T::Alloc>
         requires limit { self.old.meter.spent ≤ self.old.meter.limit }
         requires within { IsWithin self.old.stack }
-        ensures told { T.tells self.new.meter.tree ≡ T.tells self.old.meter.tree }
-        ensures counts { TurnCounts T.asks self.old.meter result self.new.meter }
-        ensures plan { self.new.stack.plan ≡ self.old.stack.plan }
-        ensures within { IsWithin self.new.stack }
-        ensures falls { Falls (weight self.old.stack) self.old.meter result
-            (weight self.new.stack) self.new.meter }
-        ensures ready { HasRoom (ready self.old.stack) self.old.meter result
-            (ready self.new.stack) self.new.meter }
-        ensures sound { KeepsSound
-            (T.tells self.old.meter.tree) self.old.stack result self.new.stack }
-        ensures turn { (c : Content) → IsTold (T.tells self.old.meter.tree) c
-            → IsSound c self.old.stack
-            → TurnOf (left c self.old.stack) self.old.meter.spent result
-            (left c self.new.stack) self.new.meter.spent }
+        ensures { TurnsTo T.asks T.tells
+            self.old.meter self.old.stack result
+            self.new.meter self.new.stack }
     {
         let Some(task) = self.stack.next.take() else {
             return match self.stack.go_on() {
@@ -238,22 +206,15 @@ impl<T: Tree> Walker<T> {
         }
     }
 
-    /// Turns until there is an item, or none is left.
+    /// Turns until there is an item, or none is left. It ends because each turn that goes on lowers `turns_left`: eight
+    /// for each unit of the limit that is not spent, and the weight of the stack.
     pub fn run(&mut self) -> Turn<T::Alloc>
         requires limit { self.old.meter.spent ≤ self.old.meter.limit }
         requires within { IsWithin self.old.stack }
-        ensures told { T.tells self.new.meter.tree ≡ T.tells self.old.meter.tree }
-        ensures counts { TurnCounts T.asks self.old.meter result self.new.meter }
         ensures stops { result ≢ Turn.Went }
-        ensures within { IsWithin self.new.stack }
-        ensures ready { HasRoom (ready self.old.stack) self.old.meter result
-            (ready self.new.stack) self.new.meter }
-        ensures sound { KeepsSound
-            (T.tells self.old.meter.tree) self.old.stack result self.new.stack }
-        ensures turn { (c : Content) → IsTold (T.tells self.old.meter.tree) c
-            → IsSound c self.old.stack
-            → TurnOf (left c self.old.stack) self.old.meter.spent result
-            (left c self.new.stack) self.new.meter.spent }
+        ensures turn { TurnsTo T.asks T.tells
+            self.old.meter self.old.stack result
+            self.new.meter self.new.stack }
     {
         loop {
             match self.turn() {
@@ -264,7 +225,8 @@ impl<T: Tree> Walker<T> {
     }
 }
 
-/// The look at a component that stands for itself.
+/// The task of a literal component at a path: the look at the two joined. `.` and `..` are wanted in a directory alone,
+/// and any other name where something is there.
 #[tactic(auto, using(crate::proofs::WalkLemmas::Naming::named_marks))]
 fn named<A: Allocator + Copy>(
     plan: &Plan<A>,
@@ -293,13 +255,16 @@ fn named<A: Allocator + Copy>(
     })
 }
 
-/// Whether a path that all components have led to is given.
+/// Whether a path that all components have led to is given: a directory always, and anything else unless the pattern
+/// ends in a separator.
 fn gives(directories: bool, is_dir: bool) -> bool
     ensures { result ≡ (not directories || is_dir) }
 {
     !directories || is_dir
 }
 
+/// Where a directory begins: before `..` if a component that begins with a dot meets its names, and else before its
+/// first entry.
 fn first_place(run: bool, is_dotted: bool) -> Place
     ensures { result
         ≡ (if run then Place.At 0 else (if is_dotted then Place.Parent else Place.At 0)) }

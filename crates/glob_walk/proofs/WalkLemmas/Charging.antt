@@ -1,5 +1,5 @@
 -- What is left where nothing was charged.
-use Rattle.std.proofs.Common.{◌≡◌, ℕ, Bool, true, false, cond, List, [], ◌∷◌, ◌++◌, refl, ap, ◌∙◌, arith}
+use Rattle.std.proofs.Common.{◌≡◌, ℕ, ◌+◌, ◌≤◌, Bool, true, false, cond, List, [], ◌∷◌, ◌++◌, Option, refl, ap, sym, subst, ◌∙◌, arith}
 use Rattle.std.proofs.lemmas.Bool.{cond-true, cond-false}
 use Rattle.std.specs.Prelude.{string_bytes}
 use Rattle.std.specs.IoError.{error_kind}
@@ -10,7 +10,10 @@ use Rattle.glob_walk.specs.declared.meter.Meter.{Meter}
 use Rattle.glob_walk.specs.declared.walker.Turn.{Turn}
 use Rattle.glob_walk.specs.declared.walker.Turn.TheVariants as turn
 use Rattle.glob_walk.specs.Private.Meters.{IsExact}
-use Rattle.glob_walk.specs.Private.Turns.{TurnOf, TurnCounts, IfGoing}
+use Rattle.glob_tree.specs.Content.{Content}
+use Rattle.glob_walk.specs.declared.stack.Stack.{Stack}
+use Rattle.glob_walk.specs.Private.Stacks.{left, weight, ready, IsSound}
+use Rattle.glob_walk.specs.Private.Turns.{TurnOf, TurnCounts, IfGoing, TurnsTo, item_count}
 use Rattle.glob_walk.specs.Walks.{Charges, works}
 
 pub uncharged : (left new : List Mark) (spent : ℕ) → left ≡ new → Charges left spent new spent
@@ -61,3 +64,18 @@ IfGoing-map (turn.Unread p e) f h = f h
 IfGoing-map (turn.Limit p) f h = tt
 IfGoing-map turn.Memory f h = tt
 IfGoing-map turn.Done f h = f h
+
+-- a turn of a stack is one of each stack that stands for the same
+pub TurnsTo-same : {X A : Type 0} (asks : X → ℕ) (tells : X → Option Content) (old new : Meter X) (s s0 s' : Stack A) (t : Turn A)
+    → s0.plan ≡ s.plan → weight s0 ≤ weight s → ready s0 ≤ ready s → ((c : Content) → IsSound c s → IsSound c s0) → ((c : Content) → left c s ≡ left c s0)
+    → TurnsTo asks tells old s0 t new s' → TurnsTo asks tells old s t new s'
+TurnsTo-same asks tells old new s s0 s' t plan weighs waits sound same h = record {
+  told = h.told;
+  counts = h.counts;
+  plan = h.plan ∙ plan;
+  within = h.within;
+  falls = λ went. let less = h.falls went in omega (arith, less, weighs);
+  ready = IfGoing-map t (λ (r : ready s' + item_count t + old.spent ≤ ready s0 + new.spent). omega (arith, r, waits)) h.ready;
+  sound = IfGoing-map t (λ f c told k. f c told (sound c k)) h.sound;
+  takes = λ c told k. subst (λ ms. TurnOf ms old.spent t (left c s') new.spent) (sym (same c)) (h.takes c told (sound c k));
+}

@@ -1,5 +1,5 @@
 -- What comes of a directory that is listed.
-use Rattle.std.proofs.Common.{◌≡◌, ℕ, zero, suc, ◌+◌, ◌-◌, ◌<◌, ◌≤◌, Bool, true, false, cond, List, [], ◌∷◌, ◌++◌, length, drop, replicate, refl, ap, sym, subst, ◌∙◌, arith, append_assoc}
+use Rattle.std.proofs.Common.{◌≡◌, ℕ, zero, suc, ◌+◌, ◌-◌, ◌*◌, ◌<◌, ◌≤◌, Bool, true, false, cond, List, [], ◌∷◌, ◌++◌, length, drop, replicate, refl, ap, sym, subst, ◌∙◌, arith, append_assoc}
 use Rattle.std.specs.Prelude.{flat_map, Contains}
 use Rattle.std.specs.Path.{cur_dir, parent_dir}
 use Rattle.std.specs.declared.io.ErrorKind.{ErrorKind}
@@ -19,7 +19,7 @@ use Rattle.glob_walk.specs.declared.plan.Plan.{Plan}
 use Rattle.glob_walk.specs.declared.frame.Place.{Place}
 use Rattle.glob_walk.specs.declared.frame.Place.TheVariants.{Parent, At}
 use Rattle.glob_walk.specs.Private.Tasks.{enter_from, IsOpened}
-use Rattle.glob_walk.specs.Private.Frames.{first_of, entries_marks, special_marks, special_after, place_marks, first_place, IsEntrySound}
+use Rattle.glob_walk.specs.Private.Frames.{first_of, entries_marks, special_marks, special_after, place_marks, place_steps, place_unmet, first_place, IsEntrySound}
 use Rattle.glob_walk.specs.Private.Meters.{IsInOrder, IsCut}
 use Rattle.glob_tree.specs.Answers.{IsListFault}
 use Rattle.glob_tree.proofs.ContentLemmas.Sorting.{Contains-sorted_entries}
@@ -202,3 +202,9 @@ module _ {A : Type 0} (c : Content) (w : IsContent c) (plan : Plan A) (run : Boo
         ∙ ap (λ ms. works (replicate (suc (length answer)) path) ++ ms) (sym (is ∙ ap (λ p. place_marks c plan run part path answer p ++ rest) at));
     units = omega (arith, units, length-replicate (length answer) path);
   }
+
+-- a directory begins with two steps for each entry, and one for each of the special names
+pub first_steps : (n : ℕ) (run dotted : Bool) (p : Place) → p ≡ cond run (At 0) (cond dotted Parent (At 0)) → (place_steps n p ≤ 2 * n + 2) × (place_unmet n p ≤ n)
+first_steps n true dotted p is = subst (λ q. (place_steps n q ≤ 2 * n + 2) × (place_unmet n q ≤ n)) (sym is) (omega arith, omega arith)
+first_steps n false true p is = subst (λ q. (place_steps n q ≤ 2 * n + 2) × (place_unmet n q ≤ n)) (sym is) (omega arith, omega arith)
+first_steps n false false p is = subst (λ q. (place_steps n q ≤ 2 * n + 2) × (place_unmet n q ≤ n)) (sym is) (omega arith, omega arith)

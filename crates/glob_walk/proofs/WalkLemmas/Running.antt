@@ -1,5 +1,7 @@
 -- Runs of `**`.
-use Rattle.std.proofs.Common.{◌≡◌, ℕ, zero, suc, ◌+◌, ◌<◌, Bool, true, false, List, [], ◌∷◌, length, drop, get_or, ap, sym, subst, ◌∙◌, arith}
+use Rattle.std.proofs.Common.{◌≡◌, ℕ, zero, suc, ◌+◌, ◌<◌, Bool, true, false, List, [], ◌∷◌, length, drop, get_or, refl, ap, sym, subst, ◌∙◌, arith}
+use Rattle.std.proofs.lemmas.Bool.{both_ways}
+use Rattle.glob_pattern.specs.declared.options.MatchOptions.{MatchOptions}
 use Rattle.std.proofs.lemmas.Slice.Eq.{bytes_eq-Decides}
 use Rattle.std.proofs.Math.ListN.{drop_of_length-le}
 use Rattle.glob_text.specs.Text.{Text}
@@ -8,12 +10,25 @@ use Rattle.glob_tree.specs.Content.{Content}
 use Rattle.glob_walk.specs.Components.{component_kind, is_recursive, begins_recursive, Recursive}
 use Rattle.std.proofs.lemmas.List.{drop_more}
 use Rattle.glob_walk.specs.Listing.{enter}
-use Rattle.glob_walk.proofs.ListingLemmas.Descending.{enter-run}
+use Rattle.glob_walk.proofs.ListingLemmas.Descending.{enter-run, enter-recursive_none}
 use Rattle.glob_walk.specs.declared.plan.Plan.{Plan}
 use Rattle.glob_walk.specs.Private.Tasks.{enter_from, IsRun, IsOpened}
 
 pub recursive_kind : (t : Text) → is_recursive t ≡ true → component_kind t ≡ Recursive
 recursive_kind t h = ap component_kind ((bytes_eq-Decides t (star ∷ star ∷ [])).0 h)
+
+begins_run : (ts : List Text) → begins_recursive ts ≡ true → IsRun ts
+begins_run [] h = absurd (both_ways false refl h)
+begins_run (t ∷ ts) h = recursive_kind t h
+
+-- a run gives nothing at what is no directory
+pub run_none : (c : Content) (o : MatchOptions) (dirs : Bool) (ts : List Text) (path : Text) → IsRun ts → enter c o dirs ts path false ≡ []
+run_none c o dirs [] path h = absurd h
+run_none c o dirs (t ∷ ts) path h = by_test (begins_recursive ts) refl (λ run. run_none c o dirs ts path run)
+  where
+    by_test : (b : Bool) → begins_recursive ts ≡ b → (IsRun ts → enter c o dirs ts path false ≡ []) → enter c o dirs (t ∷ ts) path false ≡ []
+    by_test true more rest = enter-run c o dirs t ts path false h more ∙ rest (begins_run ts more)
+    by_test false last rest = enter-recursive_none c o dirs t ts path h last
 
 -- it has a component
 pub IsRun-within : (ts : List Text) (n : ℕ) → IsRun (drop n ts) → n < length ts

@@ -1,5 +1,5 @@
 -- The last directory of a walk.
-use Rattle.std.proofs.Common.{◌≡◌, ℕ, suc, ◌+◌, ◌≤◌, true, false, List, [], ◌∷◌, ◌++◌, length, drop, take, get_or, set, subst, refl, ap, sym, ◌∙◌, arith, append_assoc}
+use Rattle.std.proofs.Common.{◌≡◌, ℕ, suc, ◌+◌, ◌≤◌, true, false, None, List, [], ◌∷◌, ◌++◌, length, drop, take, get_or, set, subst, refl, ap, sym, ◌∙◌, arith, append_assoc}
 use Rattle.std.specs.Prelude.{flat_map, nat_le, string_bytes}
 use Rattle.std.specs.List.{All}
 use Rattle.std.proofs.lemmas.List.{take-append-drop, drop_more, set_split, take-set, reverse-append}
@@ -16,7 +16,9 @@ use Rattle.glob_walk.specs.declared.frame.Frame.{Frame}
 use Rattle.glob_walk.specs.declared.frame.Place.{Place}
 use Rattle.glob_walk.specs.declared.frame.Place.TheVariants.{Parent, Current, At, Inside}
 use Rattle.glob_walk.specs.Private.Frames.{frame_marks, place_marks, entries_marks, inside_marks, is_done, is_done_at}
-use Rattle.glob_walk.specs.Private.Stacks.{frames_marks}
+use Rattle.glob_walk.specs.declared.stack.Stack.{Stack}
+use Rattle.glob_walk.specs.Private.Tasks.{next_marks}
+use Rattle.glob_walk.specs.Private.Stacks.{left, frames_marks}
 
 nothing_past : {X : Type 0} (xs : List X) (n : ℕ) → length xs ≤ n → drop n xs ≡ []
 nothing_past xs n h = drop_of_length-le xs {i = n} h
@@ -54,6 +56,10 @@ done_marks {A} c plan f h = of_place f.place h
     of_place (At i) t = ap (entries_marks c plan f.run f.part (string_bytes f.path)) (past i t)
     of_place (Inside i) t = ap (inside_marks c plan f.run f.part (string_bytes f.path)) (past i t)
 
+-- with no task, what is left is that of the directories
+pub left_none : {A : Type 0} (c : Content) (s : Stack A) → s.next ≡ None → frames_marks c s.plan s.frames.items ≡ left c s
+left_none c s none = ap (λ n. next_marks c s.plan n ++ frames_marks c s.plan s.frames.items) (sym none)
+
 module _ {A : Type 0} (c : Content) (plan : Plan A) where
   pub frames_last : (fs : List (Frame A)) (f : Frame A) → frames_marks c plan (fs ++ f ∷ []) ≡ frame_marks c plan f ++ frames_marks c plan fs
   frames_last fs f = ap (flat_map (frame_marks c plan)) (reverse-append fs (f ∷ []))
@@ -74,3 +80,14 @@ module _ {A : Type 0} (c : Content) (plan : Plan A) where
       ∙ ap (λ ms. ms ++ frames_marks c plan (take n fs)) went
       ∙ append_assoc next (frame_marks c plan g) (frames_marks c plan (take n fs))
       ∙ ap (λ ms. next ++ ms) (sym (ap (frames_marks c plan) (set_last fs n g h) ∙ frames_last (take n fs) g))
+
+  -- the last directory takes its last step
+  pub last_step_left : (fs rest : List (Frame A)) (n : ℕ) (f g : Frame A) (next : List Mark) → n + 1 ≡ length fs → f ≡ get_or fs n f
+      → frame_marks c plan f ≡ next ++ frame_marks c plan g → is_done g ≡ true → rest ≡ take n (set fs n g) → frames_marks c plan fs ≡ next ++ frames_marks c plan rest
+  last_step_left fs rest n f g next h is went done popped =
+      step_left fs n f g next h is went
+      ∙ ap (λ ms. next ++ ms)
+      (ap (frames_marks c plan) (set_last fs n g h)
+      ∙ frames_last (take n fs) g
+      ∙ ap (λ ms. ms ++ frames_marks c plan (take n fs)) (done_marks c plan g done)
+      ∙ ap (frames_marks c plan) (sym (popped ∙ front_last fs n g h)))

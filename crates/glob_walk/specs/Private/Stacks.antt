@@ -1,5 +1,5 @@
 -- What a walk has still to do, as a part of the written listing.
-use Rattle.std.specs.Prelude.{ℕ, ◌+◌, ◌*◌, ◌<◌, List, ◌++◌, length, reverse, flat_map, Option, Some, None, sum_by}
+use Rattle.std.specs.Prelude.{◌≡◌, false, ℕ, ◌+◌, ◌*◌, ◌<◌, List, ◌++◌, length, reverse, flat_map, Option, Some, None, sum_by}
 use Rattle.std.specs.List.{All}
 use Rattle.glob_walk.specs.Marks.{Mark}
 use Rattle.glob_tree.specs.Content.{Content}
@@ -10,7 +10,7 @@ use Rattle.glob_walk.specs.declared.task.Sight.TheVariants as sight
 use Rattle.glob_walk.specs.declared.frame.Frame.{Frame}
 use Rattle.glob_walk.specs.declared.stack.Stack.{Stack}
 use Rattle.glob_walk.specs.Private.Tasks.{next_marks, next_ready, IsNextSound}
-use Rattle.glob_walk.specs.Private.Frames.{frame_marks, steps_left, unmet, IsFrameSound}
+use Rattle.glob_walk.specs.Private.Frames.{frame_marks, is_done, steps_left, unmet, IsFrameSound}
 
 -- the last directory first
 abbrev pub frames_marks : {A : Type 0} → Content → Plan A → List (Frame A) → List Mark
@@ -39,9 +39,10 @@ weight s = next_weight s.next + sum_by frame_weight s.frames.items
 abbrev pub ready : {A : Type 0} → Stack A → ℕ
 ready s = next_ready s.plan s.next + sum_by unmet s.frames.items
 
--- each directory is one of a component
-abbrev pub IsWithin : {A : Type 0} → Stack A → Type 0
-IsWithin s = All (λ f. f.part < length s.plan.parts.items) s.frames.items
+-- each directory is one of a component, and something is left in it
+pub record IsWithin {A : Type 0} (s : Stack A) : Type 0 where
+  pub parts : All (λ f. f.part < length s.plan.parts.items) s.frames.items
+  pub going : All (λ f. is_done f ≡ false) s.frames.items
 
 -- what is said to be a directory is looked at as one
 pub record IsSound {A : Type 0} (c : Content) (s : Stack A) : Type 0 where

@@ -1,7 +1,7 @@
 use Rattle.std.proofs.Common.{rules, ◌+◌, ◌≤◌, ◌^◌, sym, arith, subst}
 use Rattle.glob_walk.specs.Private.Walking.{IsGood, turn_outcome}
 use Rattle.glob_walk.specs.Walks.{item_number}
-use Rattle.glob_walk.proofs.WalkLemmas.Taking.{Runs, IsGood-after, goes_at, goes_over, one_item}
+use Rattle.glob_walk.proofs.WalkLemmas.Taking.{IsGood-after, goes_at, goes_over, one_item}
 use Rattle.glob_walk.proofs.paths.PathsIterator.next.Goals as goal
 
 pub overflow_add-self : goal.overflow_add-self
@@ -15,33 +15,15 @@ overflow_add-self g c =
 
 pub invariant_of-self : goal.invariant_of-self
 invariant_of-self g c =
-    let r : Runs g.T.Tree.asks g.T.Tree.tells c.self.inside.walker.meter c.self.inside.walker.stack c.run-turn.result c.run-turn.new.self.meter c.run-turn.new.self.stack = record {
-      told = c.run-turn.ensures.told;
-      counts = c.run-turn.ensures.counts;
-      stops = c.run-turn.ensures.stops;
-      within = c.run-turn.ensures.within;
-      ready = c.run-turn.ensures.ready;
-      sound = c.run-turn.ensures.sound;
-      turn = c.run-turn.ensures.turn;
-    } in
     subst (λ n. IsGood g.T.Tree.tells c.run-turn.new.self.meter c.run-turn.new.self.stack (c.self.inside.given + n) c.is_end-self-inside.result) (sym c.item_count.ensures)
     (subst (λ b. IsGood g.T.Tree.tells c.run-turn.new.self.meter c.run-turn.new.self.stack (c.self.inside.given + item_number (turn_outcome c.run-turn.result)) b) (sym c.is_end-self-inside.ensures)
-    (IsGood-after g.T.Tree.asks g.T.Tree.tells c.self.inside.walker.meter c.run-turn.new.self.meter c.self.inside.walker.stack c.run-turn.new.self.stack c.self.inside.given c.self.invariant.fits (c.self.invariant.going c.if-self.false) c.run-turn.result r))
+    (IsGood-after g.T.Tree.asks g.T.Tree.tells c.self.inside.walker.meter c.run-turn.new.self.meter c.self.inside.walker.stack c.run-turn.new.self.stack c.self.inside.given c.self.invariant.fits (c.self.invariant.going c.if-self.false) c.run-turn.result c.run-turn.ensures.stops c.run-turn.ensures.turn))
 
 pub returns-clause-steps : goal.returns-clause-steps
 returns-clause-steps g c =
-    let r : Runs g.T.Tree.asks g.T.Tree.tells c.self.inside.walker.meter c.self.inside.walker.stack c.run-turn.result c.run-turn.new.self.meter c.run-turn.new.self.stack = record {
-      told = c.run-turn.ensures.told;
-      counts = c.run-turn.ensures.counts;
-      stops = c.run-turn.ensures.stops;
-      within = c.run-turn.ensures.within;
-      ready = c.run-turn.ensures.ready;
-      sound = c.run-turn.ensures.sound;
-      turn = c.run-turn.ensures.turn;
-    } in
     goes_at g.T.Tree.asks g.T.Tree.tells c.self.inside.walker.meter c.run-turn.new.self.meter c.self.inside.walker.stack c.run-turn.new.self.stack c.self.inside.given c.self.inside.over c.if-self.false
     c.self.invariant.fits (c.self.invariant.going c.if-self.false) c.run-turn.result c.args.self.now _ c.item_count.result c.is_end-self-inside.result
-    c.self.view_is c.item_of.ensures c.item_count.ensures c.is_end-self-inside.ensures r
+    c.self.view_is c.item_of.ensures c.item_count.ensures c.is_end-self-inside.ensures c.run-turn.ensures.stops c.run-turn.ensures.turn
 
 pub returns-then-self-clause-steps : goal.returns-then-self-clause-steps
 returns-then-self-clause-steps g c =
