@@ -18,11 +18,11 @@ const BLOCK: usize = 32768;
 /// The real file system, as a tree with no known content: contracts know only how much was asked of it. Relative paths
 /// begin at the current directory of the process, and links are followed.
 ///
-/// A look makes one system call, and two where the path cannot be followed to its end. A listing makes one for each entry,
-/// and a few for the directory. An I/O error of the kind `OutOfMemory` is an allocation failure.
+/// A look makes one system call, and two where the path cannot be followed to its end. A listing makes one for each
+/// entry, and a few for the directory. An I/O error of the kind `OutOfMemory` is an allocation failure.
 ///
-/// In a directory with a file `a` and a link `b` to `a`, a look at `b` finds `Other`, and a listing of `.` the entries `a`
-/// and `b`, neither of them a directory.
+/// In a directory with a file `a` and a link `b` to `a`, a look at `b` finds `Other`, and a listing of `.` the entries
+/// `a` and `b`, neither of them a directory.
 #[derive(Drop)]
 pub struct Disk<R: Files, A: Allocator = Global> {
     rt: R,
@@ -40,7 +40,8 @@ impl<R: Files, A: Allocator> Model for Disk<R, A> {
 }
 
 impl<R: Files, A: Allocator> Disk<R, A> {
-    /// The file system that `rt` reaches. Its listings are allocated from `alloc`. This call takes no memory.
+    /// The file system that `rt` reaches, as `Disk::new(rt, alloc)`. Its listings are allocated from `alloc`. This call
+    /// takes no memory.
     pub fn new(rt: R, alloc: A) -> Self
         ensures { result ≡ 0 }
     {
@@ -59,7 +60,9 @@ impl<R: Files + Drop, A: Allocator + Copy> Tree for Disk<R, A> {
 
     ghost asks = { λ disk. disk };
 
-    /// `Other` is also a path that is there and cannot be followed to its end, as a link whose target is missing.
+    /// `Other` is also a path that is there and cannot be followed to its end, as a link whose target is missing. A path
+    /// that cannot be looked up is `Missing`, as one below a directory that may not be searched. The error comes only
+    /// where the I/O error's kind is `OutOfMemory`.
     fn look(&mut self, path: &str) -> Result<Look, AllocError>
         ensures asks { self.new ≡ self.old + 1 }
     {
@@ -71,8 +74,9 @@ impl<R: Files + Drop, A: Allocator + Copy> Tree for Disk<R, A> {
         }
     }
 
-    /// An entry whose kind cannot be learned is no directory. Where a name is not UTF-8, the whole listing fails with an
-    /// error of the kind `InvalidFilename`.
+    /// An entry whose kind cannot be learned is no directory. The error is `Memory` at an allocation failure, and else
+    /// `Read` with the I/O error of the system, as `PermissionDenied` or `NotFound`. Where a name is not UTF-8, the
+    /// whole listing fails with an error of the kind `InvalidFilename`.
     fn list(&mut self, path: &str) -> Result<Vec<Entry<A>, A>, ListError>
         ensures asks { self.new ≡ self.old + 1 + entry_count result }
     {
@@ -153,8 +157,8 @@ impl<R: Files, A: Allocator + Copy> Disk<R, A> {
     }
 }
 
-/// Walks the file system that `rt` reaches after the components of a pattern, as [`glob_in`](crate::glob_in) does over a
-/// [`Disk`], with the options of `MatchOptions::new()` and no limit that a walk can reach.
+/// Walks the file system that `rt` reaches after the components of a pattern, as [`glob_in`](crate::glob_in) does over
+/// a [`Disk`], with the options of `MatchOptions::new()` and no limit that a walk can reach.
 ///
 /// `glob(rt, alloc, "src/*.rs")` gives `src/lib.rs` and `src/walk.rs`, in this order, where these files are there.
 /// The errors are those of [`glob_in`](crate::glob_in).

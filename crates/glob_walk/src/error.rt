@@ -9,18 +9,22 @@ use std::error::Error;
 use std::path::{Path, PathBuf};
 use std::{fmt, io};
 
-/// Why a walk could not read a path.
+/// Why a walk reports a path as an error. A directory that may not be listed is a `Read`.
 #[derive(Clone, Copy, Debug, PartialEq, Eq)]
 pub enum GlobCause {
-    /// The file system refused to list or to look.
+    /// The directory at the path could not be listed.
     Read,
-    /// There was no memory for it.
+    /// Out of memory: an allocation failed, and the walk has ended.
     Memory,
-    /// The walk's limit was reached before it.
+    /// The next unit of work, which is at the path, does not fit the walk's limit. The walk has ended.
     Limit,
 }
 
 /// A path that a walk could not read, and why. No call on it takes memory.
+///
+/// That of `a`, which may not be listed, has the path `a`, the cause `Read`, and an I/O error of the kind
+/// `PermissionDenied`. At a limit of 0 the first item has the path `.` and the cause `Limit`, and it prints as
+/// ``attempting to read `.` resulted in an error: walk limit reached``.
 #[derive(Drop)]
 #[derive_where(Debug)]
 pub struct GlobError<A: Allocator = Global> {
@@ -30,7 +34,7 @@ pub struct GlobError<A: Allocator = Global> {
     ghost kind: { ∥ HasKind cause (error_kind error) ∥₁ },
 }
 
-/// What a walk gives for each path that it reaches: the path, or why it could not be read.
+/// An item of a walk: a path that the pattern leads to, as `Ok` of `src/a.rs`, or an error.
 pub type GlobResult<A = Global> = Result<PathBuf<A>, GlobError<A>>;
 
 impl<A: Allocator> GlobError<A> {
@@ -73,14 +77,15 @@ impl<A: Allocator> GlobError<A> {
         }
     }
 
-    /// The path that could not be read.
+    /// The path that could not be read: `a` for the directory `a`. It is empty where the cause is `Memory`.
     pub fn path(&self) -> Path<'_>
         ensures { path_bytes result ≡ path_of self.now }
     {
         self.path.as_path()
     }
 
-    /// The I/O error. Its kind is `OutOfMemory` where the cause is `Memory`, and `Other` where it is `Limit`.
+    /// The I/O error, as of the kind `PermissionDenied` for a directory that may not be listed. Its kind is
+    /// `OutOfMemory` where the cause is `Memory`, and `Other` where it is `Limit`.
     pub fn error(&self) -> &io::Error
         ensures error { result.now ≡ error_of self.now }
         ensures kind { HasKind (cause_of self.now) (error_kind result.now) }
@@ -96,7 +101,7 @@ impl<A: Allocator> GlobError<A> {
         *self.error()
     }
 
-    /// Why the path could not be read.
+    /// Why the path could not be read: `Read` for a directory that may not be listed.
     pub fn cause(&self) -> GlobCause
         ensures { result ≡ cause_of self.now }
     {

@@ -1,23 +1,26 @@
 //! Laws of walks: each is the contract of a function that does nothing.
 ghost use Rattle.glob_walk.specs.Laws.{PlainMatchesLevels, PlainWalkReaches, PlainWalkGives, PlainWalkOrderly};
 
-/// A plain pattern matches the path of a key below the start exactly where its components take the key's names.
+/// A plain pattern matches the path of a key below the start exactly where its components take the key's names:
+/// `a/**/c` that of `a/b/c`, since `a` takes `a`, `**` takes `b` and `c` takes `c`.
 pub fn plain_pattern_matches_level_by_level()
     ensures { PlainMatchesLevels }
 {}
 
-/// A plain walk finds what the undivided pattern matches, as far as it came and as far as it could read.
+/// A plain walk finds what the undivided pattern matches, as far as it came and as far as it could read. Where `d`
+/// cannot be listed, `*/*` has an error for `d` in the place of `d/x`.
 pub fn plain_walk_reaches_the_goal()
     ensures { PlainWalkReaches }
 {}
 
-/// Over a readable content a plain walk has no error, and its paths are exactly what the undivided pattern matches.
+/// Over a readable content a plain walk has no error, and its paths are exactly what the undivided pattern matches: by
+/// `**/x` over files `x`, `y` and `d/x` they are `d/x` and `x`.
 pub fn plain_walk_gives_the_goal()
     ensures { PlainWalkGives }
 {}
 
 /// A plain walk gives each path once where the pattern has at most one run of `**`, and in order where at most one
-/// component follows the run.
+/// component follows the run. So `**/*` gives `d` before `d/x`, and each once.
 pub fn plain_walk_is_orderly()
     ensures { PlainWalkOrderly }
 {}

@@ -20,7 +20,7 @@ use std::marker::Model;
 use std::path::PathBuf;
 
 /// The items of a walk: the paths that a pattern leads to in a tree, in order, and an error for each directory that
-/// could not be listed.
+/// could not be listed. Over files `x` and `y`, `*` gives `x` and then `y`.
 ///
 /// An item may also be a refusal, which is the last one: that the limit was reached at its path, or that there was an
 /// allocation failure. After a refusal, and after the first `None`, only `None` follows.
@@ -51,14 +51,15 @@ impl<T: Tree> Model for Paths<T> {
     ghost invariant = { λ p. IsGood T.tells p.walker.meter p.walker.stack p.given p.over };
 }
 
-/// Walks `tree` after the components of a pattern, with at most `limit` units of work: one for each lookup, one for each
-/// listing, and one for each entry of a listing. Nothing is looked up before the first call of `next`.
+/// Walks `tree` after the components of a pattern, with at most `limit` units of work: one for each lookup, one for
+/// each listing, and one for each entry of a listing. Nothing is looked up before the first call of `next`.
 ///
 /// So `a/*` gives `a/b` if `b` is the only entry of `a`, for 4 units: the lookup of the start, that of `a`, the listing
 /// of `a`, and its entry.
 ///
 /// A pattern with a fault is refused with `Syntax`: the fault of the whole text, or else that of the first component
-/// that has one, where a bracket holds `/`. Any pattern may be refused with `Memory`. The tree is then dropped.
+/// that has one, as where a bracket holds `/`. Its place counts characters, from the start of the text or of that
+/// component: for `x/a[/]b` it is 1. Any pattern may be refused with `Memory`. The tree is then dropped.
 #[tactic(auto, unfolding(crate::specs::Listing::listing))]
 pub fn glob_in<T: Tree>(
     alloc: T::Alloc,
@@ -106,7 +107,7 @@ impl<T: Tree> Paths<T> {
         }
     }
 
-    /// How many units of work were charged: never more than the limit.
+    /// How many units of work were charged: never more than the limit. It is 0 before the first call of `next`.
     pub fn spent(&self) -> u64
         ensures spent { result ≡ self.now.spent }
         ensures within { result ≤ self.now.limit }
@@ -114,7 +115,7 @@ impl<T: Tree> Paths<T> {
         self.walker.meter.spent
     }
 
-    /// How many items `next` gave, a refusal too: at most one more than `spent`.
+    /// How many items `next` gave, a refusal too: at most one more than `spent`. After two paths it is 2.
     pub fn given(&self) -> u128
         ensures given { result ≡ self.now.given }
         ensures few { result ≤ self.now.spent + 1 }
@@ -141,7 +142,12 @@ impl<T: Tree> Iterator for Paths<T> {
 
     ghost remaining = { λ p. at_most (p.limit + 1 - p.given) };
 
-    /// The next item, a path or an error; or `None` where none is left.
+    /// The next item, or `None` where none is left. So a walk by `*` over a file `x` gives `Ok` of `x`, and then
+    /// `None`.
+    ///
+    /// An error's cause is `Read` where a directory could not be listed, and the walk goes on; `Limit` where the next
+    /// unit of work does not fit the limit; and `Memory` at an allocation failure. After the last two only `None`
+    /// follows.
     fn next(&mut self) -> Option<GlobResult<T::Alloc>> {
         if self.over {
             return None;

@@ -15,18 +15,19 @@ use glob_pattern::{MatchOptions, PatternRefusal};
 use glob_tree::Tree;
 use std::alloc::Allocator;
 
-/// How a walk ended.
+/// How a walk ended. Over a file `x`, `*` needs 3 units: with the limit 3 it ends with `Done`, and with 2 with `Limit`.
 #[derive(Clone, Copy, Debug, PartialEq, Eq)]
 pub enum End {
     /// All of it was done.
     Done,
-    /// There was an allocation failure.
+    /// Out of memory: an allocation failed.
     Memory,
-    /// The limit was reached.
+    /// A further unit of work did not fit the limit.
     Limit,
 }
 
-/// A whole walk.
+/// A whole walk. That of `*` over a file `x` has the item `x`, the end `Done`, and 3 units spent: for the lookup of the
+/// start, its listing, and the entry.
 #[derive(Drop)]
 pub struct Walk<T: Tree> {
     /// Its items, in order: a beginning of them where it did not end with `Done`.
@@ -39,12 +40,14 @@ pub struct Walk<T: Tree> {
     pub tree: T,
 }
 
-/// The whole walk of [`glob_in`](crate::glob_in), with its refusals of patterns. A limit that was reached, and an
-/// allocation failure later than that, stand in `end` and not in `items`.
+/// The whole walk of [`glob_in`](crate::glob_in), with its refusals of patterns. A limit that does not suffice, and an
+/// allocation failure during the walk, stand in `end` and not in `items`.
 ///
-/// Over a tree with a known content, after a plain pattern and with case, the paths are those that the whole pattern
-/// matches: each once if the pattern has at most one run of `**`, and in order if at most one component follows the run.
-/// What lies below a directory that cannot be listed is not found; the error stands in its place.
+/// Over a tree with a known content, with case, and where `end` is `Done`, the paths are those that the whole pattern
+/// matches, apart from what lies below a directory that cannot be listed: there the error is the item. This is so for a
+/// plain pattern: no component is empty, `.` or `..`, or has a wildcard and begins with a dot, unless `**` is right
+/// before it. Each path comes once if `**` stands in at most one place, and in order if at most one component follows
+/// it.
 ///
 /// `limit` is in units of work: lookups, listings and entries. Over files `x` and `y`, `walk_in(alloc, tree, "*", options,
 /// 4)` gives both and `End::Done`; with the limit 3 it gives none, and `End::Limit`.
