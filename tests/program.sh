@@ -201,6 +201,49 @@ check 'a limit ends a cycle of links' 2 'cycle/a\ncycle/a/a\n' "$(unread ..)walk
 status=$(cat "$work/status")
 check 'the first path is written while the walk goes on' 2 'cycle/a\n' 'writing failed\n'
 
+# Two paths early in the walk, and after them a cycle of links in which there are no more.
+mkdir -p late/a late/b && touch late/a/hit1 late/a/hit2 && ln -s . late/b/1 && ln -s . late/b/2
+mkfifo "$work/fifo"
+"$program" find 'late/**/hit*' >"$work/fifo" 2>"$work/err" &
+walk=$!
+status='the walk ended, or wrote no second path'
+exec 3<"$work/fifo"
+if read -r -t 60 first <&3 && read -r -t 60 second <&3 && kill "$walk" 2>/dev/null; then
+    status='the walk goes on'
+fi
+wait "$walk" 2>/dev/null
+exec 3<&-
+printf '%s\n' "$first" "$second" >"$work/out"
+check 'a path does not wait for the next one' 'the walk goes on' 'late/a/hit1\nlate/a/hit2\n' ''
+
+# Where a file takes 1,024 bytes, the first path can be written, and those that wait cannot.
+long=$(printf '%250s' '' | tr ' ' h)
+mkdir late/c && for i in 1 2 3 4 5; do touch "late/c/$i$long"; done && rm late/a/hit2 && mv late/b late/d
+(
+    trap '' XFSZ
+    ulimit -f 1
+    timeout 60 "$program" find 'late/**/*h*' >"$work/out" 2>"$work/err"
+)
+status=$?
+head -1 "$work/out" >"$work/first" && cp "$work/first" "$work/out"
+check 'an output that fails while the walk goes on ends it' 2 'late/a/hit1\n' 'writing failed\n'
+
+# needed: how much memory the program needs where it does little, in kilobytes, to a power of two
+needed() {
+    local kilobytes=1024
+    until (ulimit -v $kilobytes && "$program" escape a) >/dev/null 2>&1; do
+        kilobytes=$((2 * kilobytes))
+    done
+    echo $kilobytes
+}
+(
+    ulimit -v $(($(needed) + 200000))
+    "$program" find -n 1000000 'late/**/hit*' >"$work/out" 2>"$work/err"
+)
+status=$?
+sed -i 's/`.*`/`..`/' "$work/err"
+check 'a long walk in a cycle of links takes little memory' 2 'late/a/hit1\n' "$(unread ..)walk limit reached\n"
+
 # A directory that is not ours to read. Root can read it, and so gives its rights up.
 mkdir -p shut/a shut/b shut/c && touch shut/a/x shut/b/x shut/c/x && chmod 000 shut/b && chmod 755 "$work"
 as_user=() binary=$root/crates/glob_run/out/glob_run

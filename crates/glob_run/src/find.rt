@@ -1,17 +1,22 @@
 //! The command `find`: what a walk of the disk finds, a line for each path.
-ghost use Rattle.std.specs.Prelude.{◌≤◌};
+ghost use Rattle.std.specs.Prelude.{◌≤◌, IfOk};
+
+mod flushing_disk;
+mod lines;
 
 use crate::command::Search;
 use crate::{FAULT, MATCHED, UNMATCHED, fault};
-use glob::{Disk, GlobError, Paths, glob_in};
+use flushing_disk::FlushingDisk;
+use glob::{Disk, PatternRefusal, Tree, glob_in};
+use lines::Lines;
 use std::alloc::Allocator;
+use std::cell::RefCell;
+use std::fmt::{self, Display, Formatter};
 use std::fs::Files;
 use std::io::{self, BufWriter, Write};
 
-/// Paths wait for others until one is found so many units of the walk after the last that was written at once.
-const PATIENCE: u64 = 1000;
-
 /// Walks the disk, writes each path and a line feed to `output` and each error to `errors`, and returns the exit status.
+/// A path waits for others before it is written, but not for long: see [`Lines`].
 pub fn run_find<R: Files + Drop, A: Allocator + Copy, W: Write + Drop, E: Write>(
     rt: R,
     alloc: A,
@@ -21,100 +26,90 @@ pub fn run_find<R: Files + Drop, A: Allocator + Copy, W: Write + Drop, E: Write>
 ) -> u8
     ensures { result ≤ 2 }
 {
-    let disk = Disk::new(rt, alloc);
-    let walk = glob_in(alloc, disk, search.pattern, search.options, search.limit);
-    let paths = match walk {
-        Ok(paths) => paths,
-        Err(refusal) => return fault(errors, refusal),
-    };
     let Ok(buffer) = BufWriter::new(alloc, output) else {
         return fault(errors, "out of memory");
     };
-    Report::new(buffer, errors).run(paths)
+    let paths = RefCell::new(Lines::new(buffer));
+    let disk = FlushingDisk::new(Disk::new(rt, alloc), &paths);
+    let status = run(alloc, disk, search, &paths, errors);
+    paths.into_inner().abandon();
+    status
 }
 
-/// What became of the items of a walk so far.
+/// Walks a tree, and returns the exit status.
+fn run<T: Tree, W: Write + Drop, A: Allocator, E: Write>(
+    alloc: T::Alloc,
+    tree: T,
+    search: Search<'_>,
+    paths: &RefCell<Lines<W, A>>,
+    errors: &mut E,
+) -> u8
+    ensures { result ≤ 2 }
+{
+    match walk(alloc, tree, search, paths, errors) {
+        Ok(status) => status,
+        Err(failure) => fault(errors, failure),
+    }
+}
+
+/// Why a search cannot go on.
 #[derive(Drop)]
-struct Report<'e, W: Write + Drop, E, A: Allocator> {
-    /// The paths, a line each. Some of them are not yet written.
-    paths: BufWriter<W, A>,
-    /// What the walk had spent when paths were last written, or `None` where none was.
-    written_at: Option<u64>,
-    errors: &'e mut E,
-    has_error: bool,
+enum Failure {
+    Refused(PatternRefusal),
+    Writing,
 }
 
-impl<'e, W: Write + Drop, E: Write, A: Allocator + Copy> Report<'e, W, E, A> {
-    fn new(paths: BufWriter<W, A>, errors: &'e mut E) -> Self {
-        Report {
-            paths,
-            written_at: None,
-            errors,
-            has_error: false,
+impl From<PatternRefusal> for Failure {
+    fn from(refusal: PatternRefusal) -> Self {
+        Failure::Refused(refusal)
+    }
+}
+
+impl From<io::Error> for Failure {
+    fn from(_error: io::Error) -> Self {
+        Failure::Writing
+    }
+}
+
+impl Display for Failure {
+    fn fmt<W: fmt::Write>(&self, f: &mut Formatter<W>) -> fmt::Result {
+        match self {
+            Failure::Refused(refusal) => write!(f, "{refusal}"),
+            Failure::Writing => f.write_str("writing failed"),
         }
     }
+}
 
-    /// Reports the items of a walk, and returns the exit status.
-    fn run<R: Files + Drop>(mut self, mut items: Paths<Disk<R, A>>) -> u8
-        ensures { result ≤ 2 }
-    {
-        match self.items(&mut items) {
-            Ok(()) => self.status(),
-            Err(_) => self.writing_failed(),
-        }
-    }
-
-    /// Reports the items of a walk.
-    fn items<R: Files + Drop>(&mut self, items: &mut Paths<Disk<R, A>>) -> io::Result<()> {
-        while let Some(item) = items.next() {
-            match item {
-                Ok(path) => self.path(path.as_str(), items.spent())?,
-                Err(error) => self.error(&error)?,
+/// Walks a tree: a path is a line of `paths`, and an error a line on `errors`, after the paths before it. Returns the exit
+/// status.
+fn walk<T: Tree, W: Write + Drop, A: Allocator, E: Write>(
+    alloc: T::Alloc,
+    tree: T,
+    search: Search<'_>,
+    paths: &RefCell<Lines<W, A>>,
+    errors: &mut E,
+) -> Result<u8, Failure>
+    ensures { IfOk result (λ status. status ≤ 2) }
+{
+    let mut has_error = false;
+    for item in glob_in(alloc, tree, search.pattern, search.options, search.limit)? {
+        let mut paths = lines::lend(paths)?;
+        match item {
+            Ok(path) => paths.add(path.as_str())?,
+            Err(error) => {
+                paths.flush()?;
+                has_error = true;
+                let _ = writeln!(errors, "{error}");
             }
         }
-        self.paths.flush()
     }
-
-    /// Reports a path.
-    fn path(&mut self, path: &str, spent: u64) -> io::Result<()> {
-        self.paths.write_all(path.as_bytes())?;
-        self.paths.write_all(b"\n")?;
-        match self.written_at {
-            Some(written_at) if spent.saturating_sub(written_at) < PATIENCE => Ok(()),
-            _ => {
-                self.written_at = Some(spent);
-                self.paths.flush()
-            }
-        }
-    }
-
-    /// Reports an error, after the paths that were found before it.
-    fn error(&mut self, error: &GlobError<A>) -> io::Result<()> {
-        self.has_error = true;
-        self.paths.flush()?;
-        let _ = writeln!(self.errors, "{error}");
-        Ok(())
-    }
-
-    /// The exit status.
-    fn status(self) -> u8
-        ensures { result ≤ 2 }
-    {
-        if self.has_error {
-            FAULT
-        } else if self.written_at.is_some() {
-            MATCHED
-        } else {
-            UNMATCHED
-        }
-    }
-
-    /// Reports that the paths cannot be written. Those that wait are dropped.
-    fn writing_failed(self) -> u8
-        ensures { result ≤ 2 }
-    {
-        let Report { paths, errors, .. } = self;
-        let (_output, _unwritten) = paths.into_parts();
-        fault(errors, "writing failed")
-    }
+    let mut paths = lines::lend(paths)?;
+    paths.flush()?;
+    Ok(if has_error {
+        FAULT
+    } else if paths.has_line() {
+        MATCHED
+    } else {
+        UNMATCHED
+    })
 }

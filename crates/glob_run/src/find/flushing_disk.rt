@@ -1,0 +1,59 @@
+//! The disk, on which a walk waits.
+ghost use Rattle.std.specs.Prelude.{None};
+
+use super::lines::{self, Lines};
+use glob::{Asks, Disk, Entry, ListError, Look, Tree};
+use std::alloc::{AllocError, Allocator};
+use std::cell::RefCell;
+use std::fs::Files;
+use std::io::{self, Write};
+
+/// The disk as a tree. Each lookup and listing may first write lines that wait. Where they cannot be written, it fails as
+/// if there were an allocation failure, which ends the walk; the lines know better.
+#[derive(Drop)]
+pub struct FlushingDisk<'l, R: Files, W: Write + Drop, A: Allocator> {
+    disk: Disk<R, A>,
+    lines: &'l RefCell<Lines<W, A>>,
+    asks: Asks,
+}
+
+impl<'l, R: Files, W: Write + Drop, A: Allocator> FlushingDisk<'l, R, W, A> {
+    pub fn new(disk: Disk<R, A>, lines: &'l RefCell<Lines<W, A>>) -> Self {
+        FlushingDisk {
+            disk,
+            lines,
+            asks: Asks::new(),
+        }
+    }
+
+    /// Counts a lookup or listing, before the disk is asked.
+    fn begin(&self) -> io::Result<()> {
+        lines::lend(self.lines)?.ask()
+    }
+}
+
+impl<R: Files + Drop, W: Write + Drop, A: Allocator + Copy> Tree for FlushingDisk<'_, R, W, A> {
+    type Alloc = A;
+
+    ghost tells = { λ _. None };
+
+    ghost asks = { λ tree. tree.asks };
+
+    fn look(&mut self, path: &str) -> Result<Look, AllocError> {
+        self.asks = self.asks.after(1);
+        match self.begin() {
+            Ok(()) => self.disk.look(path),
+            Err(_) => Err(AllocError),
+        }
+    }
+
+    fn list(&mut self, path: &str) -> Result<Vec<Entry<A>, A>, ListError> {
+        self.asks = self.asks.after(1);
+        if self.begin().is_err() {
+            return Err(ListError::Memory);
+        }
+        let entries = self.disk.list(path)?;
+        self.asks = self.asks.after(entries.len());
+        Ok(entries)
+    }
+}
