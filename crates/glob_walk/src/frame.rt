@@ -9,7 +9,7 @@
 ghost use Rattle.std.specs.Prelude.{◌≡◌, ◌+◌, ◌<◌, ◌≤◌, ◌++◌, false, IfOk, OnOk, string_bytes, if◌then◌else◌, vec_len};
 ghost use Rattle.glob_tree.specs.Content.{Content};
 ghost use Rattle.glob_text.specs.Text.{Text};
-ghost use Rattle.glob_walk.specs.Components.{matches_name as matches_text};
+ghost use Rattle.glob_walk.specs.Private.Parts.{takes_name};
 ghost use Rattle.glob_walk.specs.Private.Tasks.{next_marks, next_ready, IsNextSound};
 ghost use Rattle.glob_walk.specs.Private.Frames.{first_part, second_part, met_marks, special_marks, frame_marks, is_done as is_done_frame, steps_left, unmet, IsFrameSound, IsEntrySound};
 
@@ -85,7 +85,7 @@ fn match_at<A: Allocator + Copy>(
 ) -> Result<Option<usize>, AllocError>
     ensures { IfOk result
         (λ at. at
-        ≡ (if matches_text plan.now.options component.now name.now then Some next else None)) }
+        ≡ (if takes_name plan.now.options component.now name.now then Some next else None)) }
 {
     if component.matches(name, plan.options)? {
         Ok(Some(next))

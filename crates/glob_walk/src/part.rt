@@ -2,8 +2,8 @@
 ghost use Rattle.std.specs.Prelude.{◌≡◌, None, IfOk, IfErr, chars};
 ghost use Rattle.std.specs.List.{list_any};
 ghost use Rattle.glob_pattern.specs.Grammar.Characters.{is_wildcard};
-ghost use Rattle.glob_walk.specs.Components.{component_kind, is_special_name, is_literal as is_literal_text, is_recursive as is_recursive_text, matches_name as matches_text};
-ghost use Rattle.glob_walk.specs.Private.Parts.{kind_told, text_fault};
+ghost use Rattle.glob_walk.specs.Components.{component_kind, is_special_name, is_literal as is_literal_text, is_recursive as is_recursive_text};
+ghost use Rattle.glob_walk.specs.Private.Parts.{kind_told, takes_name, text_fault};
 ghost use Rattle.glob_walk.specs.Walks.{RefusesWith};
 
 use crate::same_text::is_same_text;
@@ -11,11 +11,12 @@ use glob_pattern::{MatchOptions, Pattern, PatternRefusal};
 use std::alloc::{AllocError, Allocator};
 use std::marker::Model;
 
-/// What is kept of a component: of a literal one its text alone.
+/// What is kept of a component: of a literal one its text, of one with wildcards its pattern, and of `**` nothing more,
+/// since no name is matched with it.
 #[derive(Drop)]
 enum Form<A: Allocator> {
     Literal(String<A>),
-    Recursive(Pattern<A>),
+    Recursive,
     Wild(Pattern<A>),
 }
 
@@ -54,7 +55,7 @@ impl<A: Allocator> Part<A> {
     {
         match &self.form {
             Form::Literal(_) => PartKind::Literal,
-            Form::Recursive(_) => PartKind::Recursive,
+            Form::Recursive => PartKind::Recursive,
             Form::Wild(_) => PartKind::Wild,
         }
     }
@@ -65,7 +66,8 @@ impl<A: Allocator> Part<A> {
     {
         match &self.form {
             Form::Literal(text) => text.as_str(),
-            Form::Recursive(pattern) | Form::Wild(pattern) => pattern.as_str(),
+            Form::Recursive => "**",
+            Form::Wild(pattern) => pattern.as_str(),
         }
     }
 
@@ -74,7 +76,7 @@ impl<A: Allocator> Part<A> {
         ensures { result ≡ is_recursive_text self.now }
     {
         match &self.form {
-            Form::Recursive(_) => true,
+            Form::Recursive => true,
             Form::Literal(_) | Form::Wild(_) => false,
         }
     }
@@ -90,20 +92,21 @@ impl<A: Allocator + Copy> Part<A> {
         let form = if is_literal(text) {
             Form::Literal(String::from_str(alloc, text)?)
         } else if is_recursive(text) {
-            Form::Recursive(compile(alloc, text)?)
+            Form::Recursive
         } else {
             Form::Wild(compile(alloc, text)?)
         };
         Ok(Part { form })
     }
 
-    /// Whether it matches the name.
+    /// Whether it is no `**` and matches the name.
     pub fn matches(&self, name: &str, options: MatchOptions) -> Result<bool, AllocError>
-        ensures { IfOk result (λ yes. yes ≡ matches_text options self.now name.now) }
+        ensures { IfOk result (λ yes. yes ≡ takes_name options self.now name.now) }
     {
         match &self.form {
             Form::Literal(text) => Ok(is_same_text(name, text.as_str(), options.case_sensitive)),
-            Form::Recursive(pattern) | Form::Wild(pattern) => pattern.matches_with(name, options),
+            Form::Recursive => Ok(false),
+            Form::Wild(pattern) => pattern.matches_with(name, options),
         }
     }
 }

@@ -7,10 +7,10 @@ use Rattle.glob_tree.specs.Paths.{child}
 use Rattle.glob_text.specs.Pieces.{begins_with}
 use Rattle.glob_walk.specs.Marks.{Give, Found}
 use Rattle.glob_tree.specs.Content.{Content}
-use Rattle.glob_walk.specs.Components.{matches_name}
 use Rattle.glob_walk.specs.Listing.{enter, meet, match_at, is_entered}
 use Rattle.glob_pattern.specs.declared.options.MatchOptions.{MatchOptions}
 use Rattle.glob_walk.specs.declared.plan.Plan.{Plan}
+use Rattle.glob_walk.specs.Private.Parts.{takes_name}
 use Rattle.glob_walk.specs.Private.Tasks.{enter_from}
 use Rattle.glob_walk.specs.Private.Frames.{first_of, first_part, met_marks}
 
@@ -42,22 +42,21 @@ matched c plan t next path name d false = refl
 -- the component is asked
 pub first_match : {A : Type 0} (c : Content) (plan : Plan A) (part : ℕ) (path name : Text) (d : Bool) (t : Text)
     → drop part plan.parts.items ≡ t ∷ drop (part + 1) plan.parts.items
-    → first_part c plan false part path (name, d) ≡ met_marks c plan path (name, d) (cond (matches_name plan.options t name) (Some (part + 1)) None)
+    → first_part c plan false part path (name, d) ≡ met_marks c plan path (name, d) (cond (takes_name plan.options t name) (Some (part + 1)) None)
 first_match c plan part path name d t e =
-    ap (λ ts. first_of c plan.options plan.directories false ts path (name, d)) e ∙ matched c plan t (part + 1) path name d (matches_name plan.options t name)
+    ap (λ ts. first_of c plan.options plan.directories false ts path (name, d)) e ∙ matched c plan t (part + 1) path name d (takes_name plan.options t name)
 
 -- the component after the run is asked
 pub first_in_run : {A : Type 0} (c : Content) (plan : Plan A) (part : ℕ) (path name : Text) (d : Bool) (r t : Text)
     → drop part plan.parts.items ≡ r ∷ drop (part + 1) plan.parts.items
     → drop (part + 1) plan.parts.items ≡ t ∷ drop (part + 1 + 1) plan.parts.items
-    → first_part c plan true part path (name, d) ≡ met_marks c plan path (name, d) (cond (matches_name plan.options t name) (Some (part + 2)) None)
+    → first_part c plan true part path (name, d) ≡ met_marks c plan path (name, d) (cond (takes_name plan.options t name) (Some (part + 2)) None)
 first_in_run c plan part path name d r t e f =
     let two : part + 1 + 1 ≡ part + 2 = omega arith in
     ap (λ ts. first_of c plan.options plan.directories true ts path (name, d)) e
-    ∙ ap (λ ts. meet c plan.options plan.directories ts (child path name) name d) f
-    ∙ meet-next c plan.options plan.directories t (drop (part + 1 + 1) plan.parts.items) (child path name) name d
-    ∙ matched c plan t (part + 1 + 1) path name d (matches_name plan.options t name)
-    ∙ ap (λ n. met_marks c plan path (name, d) (cond (matches_name plan.options t name) (Some n) None)) two
+    ∙ ap (λ ts. first_of c plan.options plan.directories true (r ∷ ts) path (name, d)) f
+    ∙ matched c plan t (part + 1 + 1) path name d (takes_name plan.options t name)
+    ∙ ap (λ n. met_marks c plan path (name, d) (cond (takes_name plan.options t name) (Some n) None)) two
 
 -- the run is the last component
 pub first_at_end : {A : Type 0} (c : Content) (plan : Plan A) (part : ℕ) (path name : Text) (d : Bool) (r : Text)
@@ -66,7 +65,7 @@ pub first_at_end : {A : Type 0} (c : Content) (plan : Plan A) (part : ℕ) (path
     → first_part c plan true part path (name, d) ≡ met_marks c plan path (name, d) (cond (is_entered plan.options name d) (Some (part + 1)) None)
 first_at_end c plan part path name d r e f =
     ap (λ ts. first_of c plan.options plan.directories true ts path (name, d)) e
-    ∙ ap (λ ts. meet c plan.options plan.directories ts (child path name) name d) f
+    ∙ ap (λ ts. first_of c plan.options plan.directories true (r ∷ ts) path (name, d)) f
     ∙ meet-end c plan.options plan.directories (child path name) name d
     ∙ by_test (is_entered plan.options name d) refl
   where

@@ -1,21 +1,24 @@
 -- A literal component matches the names that are the same as it.
-use Rattle.std.proofs.Common.{◌≡◌, ℕ, zero, suc, ◌<◌, ◌↔◌, Bool, true, false, cond, ◌&&◌, ◌==◌, [], ◌∷◌, length, Result, Ok, Err, slice_index, IsTrue, refl, ap, sym, ◌∙◌, arith, chars}
+use Rattle.std.proofs.Common.{◌≡◌, ℕ, zero, suc, ◌<◌, ◌↔◌, Bool, true, false, cond, not, ◌&&◌, ◌==◌, [], ◌∷◌, length, None, Result, Ok, Err, slice_index, IsTrue, refl, ap, sym, ◌∙◌, arith}
 use Rattle.std.specs.Prelude.{IfOk}
 use Rattle.std.specs.List.{list_all, zip}
 use Rattle.std.specs.Bool.{Decides, one_answer}
-use Rattle.std.specs.Str.{IsUtf8}
-use Rattle.std.proofs.lemmas.Bool.{and_parts, eqb-true, eq-eqb}
+use Rattle.std.specs.Str.{chars, IsUtf8}
+use Rattle.std.proofs.lemmas.Bool.{and_parts, both_ways, eqb-true, eq-eqb}
+use Rattle.std.proofs.lemmas.Slice.Eq.{bytes_eq-Decides}
+use Rattle.glob_pattern.specs.Grammar.Characters.{star}
 use Rattle.glob_text.specs.Text.{Text}
 use Rattle.glob_pattern.specs.Grammar.Brackets.{is_same}
 use Rattle.glob_pattern.specs.Laws.{SameTexts}
 use Rattle.glob_pattern.specs.Matching.Texts.{Matches}
 use Rattle.glob_pattern.specs.Computing.Deciding.{is_match}
+use Rattle.glob_pattern.specs.Computing.Reading.{units_from}
 use Rattle.glob_pattern.specs.declared.options.MatchOptions.{MatchOptions}
 use Rattle.glob_pattern.proofs.GrammarLemmas.Accepted.{reading_of-Ok, one_reading}
 use Rattle.glob_pattern.proofs.MatchingLemmas.Deciding.{Decides-Matches}
 use Rattle.glob_pattern.proofs.MatchingLemmas.PlainPatterns.{plain_matches_same}
 use Rattle.glob_walk.specs.Components.{component_kind, Literal, Recursive, Wild, is_literal, is_recursive, matches_name}
-use Rattle.glob_walk.specs.Private.Parts.{same_texts}
+use Rattle.glob_walk.specs.Private.Parts.{same_texts, takes_name, text_fault}
 use Rattle.glob_walk.proofs.WalkLemmas.Reading.{IsPlain-literal}
 
 and_both : (a b : Bool) → a ≡ true → b ≡ true → (a && b) ≡ true
@@ -71,6 +74,35 @@ literal_kind t h = by_test (is_literal t) (is_recursive t) refl h
     by_test true r e k = refl
     by_test false true e k = absurd (cc)
     by_test false false e k = absurd (cc)
+
+-- one with wildcards is no `**`
+pub wild_kind : (t : Text) → component_kind t ≡ Wild → is_recursive t ≡ false
+wild_kind t h = by_test (is_literal t) (is_recursive t) refl h
+  where
+    by_test : (b r : Bool) → is_recursive t ≡ r → cond b Literal (cond r Recursive Wild) ≡ Wild → r ≡ false
+    by_test true r e k = absurd (cc)
+    by_test false true e k = absurd (cc)
+    by_test false false e k = refl
+
+-- nor is a literal one
+pub literal_recursive : (t : Text) → is_literal t ≡ true → is_recursive t ≡ false
+literal_recursive t h = by_test (is_recursive t) refl
+  where
+    by_test : (r : Bool) → is_recursive t ≡ r → r ≡ false
+    by_test true e = absurd (both_ways (is_literal t) (ap is_literal ((bytes_eq-Decides t (star ∷ star ∷ [])).0 e)) h)
+    by_test false e = refl
+
+-- what is no `**` takes the names that it matches
+pub takes_same : (o : MatchOptions) (t name : Text) → is_recursive t ≡ false → matches_name o t name ≡ takes_name o t name
+takes_same o t name other = ap (λ b. not b && matches_name o t name) (sym other)
+
+-- and has no fault
+stars_fault : text_fault (star ∷ star ∷ []) ≡ None
+unfolding chars units_from
+stars_fault = refl
+
+pub text_fault-recursive : (t : Text) → is_recursive t ≡ true → text_fault t ≡ None
+text_fault-recursive t h = ap text_fault ((bytes_eq-Decides t (star ∷ star ∷ [])).0 h) ∙ stars_fault
 
 Decides-is_match : (o : MatchOptions) (pattern text : Text) → Decides (is_match o pattern text) (Matches o pattern text)
 Decides-is_match o pattern text = Decides-Matches o pattern text (λ tokens. ((reading_of-Ok pattern tokens).1, (reading_of-Ok pattern tokens).0))

@@ -5,11 +5,11 @@ use Rattle.std.specs.Path.{cur_dir, parent_dir}
 use Rattle.std.specs.declared.io.ErrorKind.{ErrorKind}
 use Rattle.glob_text.specs.Text.{Text}
 use Rattle.glob_text.specs.Characters.{dot}
-use Rattle.glob_tree.specs.Paths.{child}
+use Rattle.glob_tree.specs.Paths.{child, join}
 use Rattle.glob_text.specs.Pieces.{begins_with}
 use Rattle.glob_walk.specs.Marks.{Mark, Work, Give, Unread}
 use Rattle.glob_tree.specs.Content.{Content, Key, DirEntry, ListAnswer, Entries, Fails, list_result, look_result, sorted_entries, insert_entry, is_before, children}
-use Rattle.glob_walk.specs.Listing.{enter, match_at, is_entered, list_directory, after_listing, special_names, special_name}
+use Rattle.glob_walk.specs.Listing.{enter, meet, is_entered, list_directory, after_listing, look_up, special_names, special_name}
 use Rattle.glob_tree.specs.Looks.{is_directory}
 use Rattle.glob_pattern.specs.declared.options.MatchOptions.{MatchOptions}
 use Rattle.glob_tree.proofs.ContentLemmas.Contents.{IsContent}
@@ -19,12 +19,15 @@ use Rattle.glob_walk.specs.declared.plan.Plan.{Plan}
 use Rattle.glob_walk.specs.declared.frame.Place.{Place}
 use Rattle.glob_walk.specs.declared.frame.Place.TheVariants.{Parent, At}
 use Rattle.glob_walk.specs.Private.Tasks.{enter_from, IsOpened}
-use Rattle.glob_walk.specs.Private.Frames.{first_of, entries_marks, special_marks, special_after, place_marks, place_steps, place_unmet, first_place, IsEntrySound}
+use Rattle.glob_walk.specs.Private.Frames.{take_at, first_of, entries_marks, special_marks, special_after, place_marks, place_steps, place_unmet, first_place, IsEntrySound}
 use Rattle.glob_walk.specs.Private.Meters.{IsInOrder, IsCut}
 use Rattle.glob_tree.specs.Answers.{IsListFault}
 use Rattle.glob_tree.proofs.ContentLemmas.Sorting.{Contains-sorted_entries}
 use Rattle.glob_walk.specs.Walks.{works, Charges, StopsAt}
 use Rattle.glob_walk.proofs.WalkLemmas.Stepping.{append_none}
+use Rattle.glob_walk.proofs.WalkLemmas.Entering.{meet-next}
+use Rattle.glob_walk.specs.Components.{is_recursive, begins_recursive}
+use Rattle.glob_walk.proofs.WalkLemmas.Literals.{wild_kind, takes_same}
 
 works_replicate : (n : ℕ) (path : Text) → replicate n (Work path) ≡ works (replicate n path)
 works_replicate zero path = refl
@@ -40,6 +43,13 @@ before c o dirs run [] path = []
 before c o dirs false (t ∷ ts) path = special_names c o (enter c o dirs ts) t path
 before c o dirs true (t ∷ ts) path = []
 
+-- what comes of an entry, under a run of `**`
+met_same : (c : Content) (o : MatchOptions) (dirs : Bool) (t : Text) (ts : List Text) (path name : Text) (d : Bool) → begins_recursive ts ≡ false
+    → meet c o dirs ts (child path name) name d ≡ first_of c o dirs true (t ∷ ts) path (name, d)
+met_same c o dirs t [] path name d last = refl
+met_same c o dirs t (u ∷ us) path name d last =
+    meet-next c o dirs u us (child path name) name d ∙ ap (λ b. cond b (enter c o dirs us (child path name) d) []) (takes_same o u name last)
+
 module _ (c : Content) (w : IsContent c) (o : MatchOptions) (dirs : Bool) where
   -- the directory is list_result, and each entry has its two parts
   opened : (run : Bool) (ts : List Text) (path : Text) → IsOpened run ts → is_directory (look_result c path) ≡ true
@@ -50,10 +60,12 @@ module _ (c : Content) (w : IsContent c) (o : MatchOptions) (dirs : Bool) where
   opened false (t ∷ ts) path h d =
       enter-wild c o dirs t ts path h
       ∙ ap (λ each. list_directory c path (special_names c o (enter c o dirs ts) t path) each)
-      (λ i name d. sym (append_none (match_at o (enter c o dirs ts) t (child path name) name d)) i)
+      (λ i name d. (ap (λ b. cond b (enter c o dirs ts (child path name) d) []) (takes_same o t name (wild_kind t h)) ∙ sym (append_none (take_at o (enter c o dirs ts) t (child path name) name d))) i)
   opened true (t ∷ ts) path h d =
       let (k, at) = LeadsTo-from_looked c path d in
       enter-recursive c o dirs w t ts path k h.0 h.1 at
+      ∙ ap (λ each. list_directory c path [] each)
+      (λ i name d. met_same c o dirs t ts path name d h.1 i ++ cond (is_entered o name d) (enter c o dirs (t ∷ ts) (child path name) true) [])
 
 length-insert_entry : (e : DirEntry) (es : List DirEntry) → length (insert_entry e es) ≡ suc (length es)
 length-insert_entry e [] = refl
@@ -111,7 +123,7 @@ module _ {A : Type 0} (c : Content) (w : IsContent c) (plan : Plan A) (run : Boo
   -- what stands before the entries is told by the place
   placed : (es : List DirEntry) → leading ++ flat_map (λ e. each e.0 e.1) es ≡ place_marks c plan run part path es (first_place run (drop part plan.parts.items))
   unfolding leading each before second_of
-  placed es = by_run run (drop part plan.parts.items) refl
+  placed es = by_run run (drop part plan.parts.items) opens refl
     where
       parts_marks : Bool → List Text → List Mark
       parts_marks r ts = flat_map (λ e. first_of c plan.options plan.directories r ts path e ++ second_of c plan.options plan.directories r ts path e) es
@@ -127,13 +139,19 @@ module _ {A : Type 0} (c : Content) (w : IsContent c) (plan : Plan A) (run : Boo
           ∙ (λ i. p i ++ (q i ++ r i))
       by_test false xs ys zs t ts p q r = r
 
-      by_run : (r : Bool) (ts : List Text) → drop part plan.parts.items ≡ ts → before c plan.options plan.directories r ts path ++ parts_marks r ts ≡ place_marks c plan r part path es (first_place r ts)
-      by_run true [] q = ap (λ ts. parts_marks true ts) (sym q)
-      by_run true (t ∷ ts) q = ap (λ ts. parts_marks true ts) (sym q)
-      by_run false [] q = ap (λ ts. parts_marks false ts) (sym q)
-      by_run false (t ∷ ts) q = by_test (begins_with dot t) [] [] (parts_marks false (t ∷ ts)) t ts
-          (ap (λ us. special_after c plan.options plan.directories us path parent_dir) (sym q))
-          (ap (λ us. special_after c plan.options plan.directories us path cur_dir) (sym q))
+      special_same : (t : Text) (ts : List Text) (name : Text) → is_recursive t ≡ false → drop part plan.parts.items ≡ t ∷ ts
+          → special_name c plan.options (enter c plan.options plan.directories ts) t path name ≡ special_marks c plan part path name
+      special_same t ts name wild q =
+          ap (λ b. cond b (look_up c (λ seen. true) (enter c plan.options plan.directories ts) (join path name)) []) (takes_same plan.options t name wild)
+          ∙ ap (λ us. special_after c plan.options plan.directories us path name) (sym q)
+
+      by_run : (r : Bool) (ts : List Text) → IsOpened r ts → drop part plan.parts.items ≡ ts → before c plan.options plan.directories r ts path ++ parts_marks r ts ≡ place_marks c plan r part path es (first_place r ts)
+      by_run true [] h q = ap (λ ts. parts_marks true ts) (sym q)
+      by_run true (t ∷ ts) h q = ap (λ ts. parts_marks true ts) (sym q)
+      by_run false [] h q = ap (λ ts. parts_marks false ts) (sym q)
+      by_run false (t ∷ ts) h q = by_test (begins_with dot t) [] [] (parts_marks false (t ∷ ts)) t ts
+          (special_same t ts parent_dir (wild_kind t h) q)
+          (special_same t ts cur_dir (wild_kind t h) q)
           (ap (λ us. parts_marks false us) (sym q))
 
   -- a directory that is read, or one that is not

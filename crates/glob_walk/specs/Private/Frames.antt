@@ -5,14 +5,15 @@ use Rattle.glob_text.specs.Text.{Text}
 use Rattle.glob_walk.specs.Marks.{Mark}
 use Rattle.glob_tree.specs.Content.{Content, DirEntry, look_result}
 use Rattle.glob_tree.specs.Answers.{entries_of}
-use Rattle.glob_tree.specs.Paths.{child}
-use Rattle.glob_walk.specs.Listing.{enter, meet, match_at, special_name, is_entered}
+use Rattle.glob_tree.specs.Paths.{child, join}
+use Rattle.glob_walk.specs.Listing.{Next, enter, meet, look_up, is_entered}
 use Rattle.glob_tree.specs.Looks.{is_directory}
 use Rattle.glob_pattern.specs.declared.options.MatchOptions.{MatchOptions}
 use Rattle.glob_walk.specs.declared.plan.Plan.{Plan}
 use Rattle.glob_walk.specs.declared.frame.Frame.{Frame}
 use Rattle.glob_walk.specs.declared.frame.Place.{Place}
 use Rattle.glob_walk.specs.declared.frame.Place.TheVariants as place
+use Rattle.glob_walk.specs.Private.Parts.{takes_name}
 use Rattle.glob_walk.specs.Private.Tasks.{enter_from, is_dotted}
 
 -- what is made of an entry that is met: the components from number `at` on follow
@@ -20,11 +21,16 @@ abbrev pub met_marks : {A : Type 0} → Content → Plan A → Text → DirEntry
 met_marks c plan path e None = []
 met_marks c plan path e (Some at) = enter_from c plan at (child path e.0) e.1
 
+-- what comes of an entry that the component takes
+abbrev pub take_at : MatchOptions → (next : Next) → (component path name : Text) → Bool → List Mark
+take_at o next component path name d = if takes_name o component name then next path d else []
+
 -- an entry is met: by the component, or in a run of `**` by what follows the run
 abbrev pub first_of : Content → MatchOptions → Bool → Bool → List Text → Text → DirEntry → List Mark
 first_of c o dirs run [] path e = []
-first_of c o dirs false (t ∷ ts) path e = match_at o (enter c o dirs ts) t (child path e.0) e.0 e.1
-first_of c o dirs true (t ∷ ts) path e = meet c o dirs ts (child path e.0) e.0 e.1
+first_of c o dirs false (t ∷ ts) path e = take_at o (enter c o dirs ts) t (child path e.0) e.0 e.1
+first_of c o dirs true (t ∷ []) path e = meet c o dirs [] (child path e.0) e.0 e.1
+first_of c o dirs true (t ∷ u ∷ us) path e = take_at o (enter c o dirs us) u (child path e.0) e.0 e.1
 
 abbrev pub first_part : {A : Type 0} → Content → Plan A → Bool → ℕ → Text → DirEntry → List Mark
 first_part c plan run part path e = first_of c plan.options plan.directories run (drop part plan.parts.items) path e
@@ -39,7 +45,8 @@ entry_marks c plan run part path e = first_part c plan run part path e ++ second
 
 abbrev pub special_after : Content → MatchOptions → Bool → List Text → Text → Text → List Mark
 special_after c o dirs [] path name = []
-special_after c o dirs (t ∷ ts) path name = special_name c o (enter c o dirs ts) t path name
+special_after c o dirs (t ∷ ts) path name =
+    if takes_name o t name then look_up c (λ seen. true) (enter c o dirs ts) (join path name) else []
 
 abbrev pub special_marks : {A : Type 0} → Content → Plan A → ℕ → Text → Text → List Mark
 special_marks c plan part path name = special_after c plan.options plan.directories (drop part plan.parts.items) path name

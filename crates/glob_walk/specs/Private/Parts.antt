@@ -1,12 +1,14 @@
 -- What is kept of a component.
-use Rattle.std.specs.Prelude.{◌≡◌, ◌==◌, Bool, ◌&&◌, length, Option, string_bytes, chars}
+use Rattle.std.specs.Prelude.{◌≡◌, ◌==◌, Bool, ◌&&◌, not, [], ◌∷◌, length, Option, string_bytes, chars}
 use Rattle.std.specs.List.{list_all, zip}
 use Rattle.std.specs.Result.{result_err}
 use Rattle.glob_text.specs.Text.{Text}
 use Rattle.glob_pattern.specs.Grammar.Brackets.{is_same}
+use Rattle.glob_pattern.specs.Grammar.Characters.{star}
+use Rattle.glob_pattern.specs.declared.options.MatchOptions.{MatchOptions}
 use Rattle.glob_pattern.specs.Grammar.Faults.{Fault}
 use Rattle.glob_pattern.specs.Computing.Reading.{reading_of}
-use Rattle.glob_walk.specs.Components.{ComponentKind, Literal, Recursive, Wild, component_kind}
+use Rattle.glob_walk.specs.Components.{ComponentKind, Literal, Recursive, Wild, component_kind, is_recursive, matches_name}
 use Rattle.glob_walk.specs.declared.part.Form.{Form}
 use Rattle.glob_walk.specs.declared.part.Form.TheVariants as form
 use Rattle.glob_walk.specs.declared.part.PartKind.{PartKind}
@@ -20,17 +22,21 @@ kind_told part.Wild = Wild
 -- the component's text
 abbrev pub form_text : {A : Type 0} → Form A → Text
 form_text (form.Literal text) = string_bytes text
-form_text (form.Recursive pattern) = pattern
+form_text form.Recursive = star ∷ star ∷ []
 form_text (form.Wild pattern) = pattern
 
 abbrev pub form_kind : {A : Type 0} → Form A → ComponentKind
 form_kind (form.Literal text) = Literal
-form_kind (form.Recursive pattern) = Recursive
+form_kind form.Recursive = Recursive
 form_kind (form.Wild pattern) = Wild
 
 -- the kind that is kept is that of the text
 abbrev pub KeepsKind : {A : Type 0} → Form A → Type 0
 KeepsKind f = component_kind (form_text f) ≡ form_kind f
+
+-- a component that is no `**` matches the name
+abbrev pub takes_name : MatchOptions → (component name : Text) → Bool
+takes_name o component name = not (is_recursive component) && matches_name o component name
 
 -- the fault of a text by itself
 abbrev pub text_fault : Text → Option Fault
