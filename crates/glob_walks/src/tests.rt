@@ -1,3 +1,4 @@
+mod chance;
 mod checks;
 mod contents;
 mod failing;
@@ -8,7 +9,9 @@ mod limits;
 mod lying;
 mod memory;
 mod random;
+mod random_goals;
 mod reference;
 mod refusals;
 mod rows;
+mod tables;
 mod uses;

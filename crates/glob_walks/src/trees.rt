@@ -5,7 +5,7 @@ mod liars;
 
 use glob::{Asks, Entry, ListError, Look, Tree};
 pub use liars::{
-    Chain, Counting, Descending, Endless, FalseDirectory, Fickle, NoMemory, Ready, Unreadable,
+    Chain, Counting, Descending, Endless, FalseDirectory, Fickle, NoMemory, Ready, Unlisted,
 };
 use std::alloc::{AllocError, Allocator};
 

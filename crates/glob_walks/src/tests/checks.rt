@@ -1,9 +1,9 @@
 //! Walks tried in each way, beside what they are to give.
 use super::contents::{Content, tree_of};
-use super::items::{Item, are, items_of, paths};
+use super::items::{Item, are, items_of};
 use super::reference::{self, Job};
-use glob::{End, GlobResult, MatchOptions, Tree, Walk, glob_in, walk_in};
-use std::alloc::Global;
+use glob::{End, GlobResult, MatchOptions, Paths, Tree, Walk, glob_in, walk_in};
+use std::alloc::{AllocError, Global};
 use std::process::Abort;
 use std::test::Fail;
 
@@ -62,6 +62,35 @@ pub(super) struct Given {
     pub(super) spent: u64,
 }
 
+/// The items that a walk has left.
+fn rest_of<T: Tree<Alloc = Global>>(
+    alloc: Global,
+    paths: &mut Paths<T>,
+) -> Result<Vec<GlobResult>, AllocError> {
+    let mut items = Vec::new(alloc);
+    for item in paths.by_ref() {
+        items.push(item)?;
+    }
+    Ok(items)
+}
+
+/// The walk gave so many items within the limit, and stays ended.
+pub(super) fn check_ended<T: Tree>(
+    rt: &impl Abort,
+    paths: &mut Paths<T>,
+    limit: u64,
+    count: usize,
+) {
+    let spent = paths.spent();
+    for _ in 0..3 {
+        assert!(rt; paths.next().is_none());
+    }
+    assert_eq!(rt; paths.spent(), spent);
+    assert!(rt; spent <= limit);
+    assert_eq!(rt; paths.given(), count as u128);
+    assert!(rt; paths.given() <= u128::from(spent) + 1);
+}
+
 /// Takes the items of a walk one by one until none is given. It then stays ended.
 pub(super) fn one_by_one<T: Tree<Alloc = Global>>(
     rt: &(impl Abort + AllocGlobal),
@@ -69,18 +98,9 @@ pub(super) fn one_by_one<T: Tree<Alloc = Global>>(
     job: Job<'_>,
 ) -> Result<Given, Fail> {
     let mut paths = glob_in(rt.alloc(), tree, job.pattern, job.options, job.limit)?;
-    let mut items = Vec::new(rt.alloc());
-    for item in paths.by_ref() {
-        items.push(item)?;
-    }
+    let items = rest_of(rt.alloc(), &mut paths)?;
+    check_ended(rt, &mut paths, job.limit, items.len());
     let spent = paths.spent();
-    assert!(rt; spent <= job.limit);
-    for _ in 0..3 {
-        assert!(rt; paths.next().is_none());
-    }
-    assert_eq!(rt; paths.spent(), spent);
-    assert_eq!(rt; paths.given(), items.len() as u128);
-    assert!(rt; paths.given() <= u128::from(spent) + 1);
     Ok(Given { items, spent })
 }
 
@@ -102,6 +122,36 @@ pub(super) fn ended<'i, 'a>(items: &'i [Item<'a>]) -> (&'i [Item<'a>], End) {
     }
 }
 
+/// The walk gives these items over the tree and spends so much, by `walk_in`. Gives the tree back.
+pub(super) fn check_gathered<T: Tree<Alloc = Global>>(
+    rt: &(impl Abort + AllocGlobal),
+    tree: T,
+    job: Job<'_>,
+    items: &[Item<'_>],
+    spent: u64,
+) -> Result<T, Fail> {
+    let (others, end) = ended(items);
+    let walk = at_once(rt, tree, job)?;
+    assert!(rt; walk.end == end, "{}", job.pattern);
+    assert_eq!(rt; walk.spent, spent, "{}", job.pattern);
+    assert!(rt; end != End::Limit || spent == job.limit, "{}", job.pattern);
+    check_given(rt, walk.items.as_slice(), others, job.pattern)?;
+    Ok(walk.tree)
+}
+
+/// The walk gives these items over the tree and spends so much, by `next`.
+pub(super) fn check_stepped<T: Tree<Alloc = Global>>(
+    rt: &(impl Abort + AllocGlobal),
+    tree: T,
+    job: Job<'_>,
+    items: &[Item<'_>],
+    spent: u64,
+) -> Result<(), Fail> {
+    let given = one_by_one(rt, tree, job)?;
+    assert_eq!(rt; given.spent, spent, "{}", job.pattern);
+    check_given(rt, given.items.as_slice(), items, job.pattern)
+}
+
 /// The walk gives these items over the tree and spends so much, by `walk_in`, and then by `next` over the same tree.
 pub(super) fn check_over<T: Tree<Alloc = Global>>(
     rt: &(impl Abort + AllocGlobal),
@@ -110,17 +160,8 @@ pub(super) fn check_over<T: Tree<Alloc = Global>>(
     items: &[Item<'_>],
     spent: u64,
 ) -> Result<(), Fail> {
-    let pattern = job.pattern;
-    let (others, end) = ended(items);
-    let walk = at_once(rt, tree, job)?;
-    assert_eq!(rt; walk.end, end, "{pattern}");
-    assert_eq!(rt; walk.spent, spent, "{pattern}");
-    check_given(rt, walk.items.as_slice(), others, pattern)?;
-
-    let given = one_by_one(rt, walk.tree, job)?;
-    assert_eq!(rt; given.spent, spent, "{pattern}");
-    assert!(rt; end != End::Limit || spent == job.limit, "{pattern}");
-    check_given(rt, given.items.as_slice(), items, pattern)
+    let tree = check_gathered(rt, tree, job, items, spent)?;
+    check_stepped(rt, tree, job, items, spent)
 }
 
 /// A walk after the pattern gave these items.
@@ -154,15 +195,4 @@ pub(super) fn check(
     );
     check_over(rt, tree, job, items, known.spent)?;
     Ok(known.spent)
-}
-
-/// The walk gives these paths and nothing else. Gives what it spends.
-pub(super) fn check_paths(
-    rt: &(impl Abort + AllocGlobal),
-    content: &Content,
-    job: Job<'_>,
-    texts: &[&str],
-) -> Result<u64, Fail> {
-    let items = paths(rt.alloc(), texts)?;
-    check(rt, content, job, items.as_slice())
 }

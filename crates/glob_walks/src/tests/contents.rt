@@ -1,158 +1,137 @@
-//! Trees in memory, as tables write them.
-use glob::MemTree;
+//! Trees in memory, as texts write them.
+use glob::{MemTree, TreeRefusal};
+use std::alloc::{AllocError, Allocator, Global};
 use std::io::ErrorKind;
 use std::process::Abort;
 use std::test::Fail;
 
-/// A key of a tree: its names from the current directory on, and what stands there.
-#[derive(Clone, Copy)]
-pub(super) enum Key {
-    Dir(&'static str),
-    Shut(&'static str),
-    Other(&'static str),
+/// What stands at a key.
+#[derive(Clone, Copy, PartialEq, Eq)]
+pub(super) enum Kind {
+    Dir,
+    /// A directory that cannot be listed.
+    Shut,
+    Other,
 }
 
-use Key::{Dir, Other, Shut};
+/// A key of a tree: its path from the root on, and what stands there.
+#[derive(Drop)]
+pub(super) struct Key {
+    pub(super) path: String,
+    pub(super) kind: Kind,
+}
 
 impl Key {
-    pub(super) fn names(self) -> &'static str {
-        match self {
-            Dir(names) | Shut(names) | Other(names) => names,
-        }
-    }
-
-    pub(super) fn is_dir(self) -> bool {
-        matches!(self, Dir(_) | Shut(_))
-    }
-
-    /// The same key, which cannot be listed if it has these names.
-    fn shut_at(self, names: Option<&str>) -> Key {
-        if names == Some(self.names()) {
-            Shut(self.names())
+    /// The key that a word writes by its names below a directory: after `#` one that is shut, before `/` a directory.
+    fn read(alloc: Global, below: &str, word: &str) -> Result<Key, AllocError> {
+        let (names, kind) = if let Some(names) = word.strip_prefix('#') {
+            (names, Kind::Shut)
+        } else if let Some(names) = word.strip_suffix('/') {
+            (names, Kind::Dir)
         } else {
-            self
-        }
+            (word, Kind::Other)
+        };
+        let path = format!(in alloc; "{below}/{names}")?;
+        Ok(Key { path, kind })
+    }
+
+    pub(super) fn is_dir(&self) -> bool {
+        self.kind != Kind::Other
+    }
+
+    /// Its names from the directory at `start` on, joined by `/`, if it stands below that.
+    pub(super) fn names_below(&self, start: &str) -> Option<&str> {
+        let start = start.strip_suffix('/').unwrap_or(start);
+        self.path.as_str().strip_prefix(start)?.strip_prefix('/')
+    }
+
+    /// Adds it to a tree.
+    pub(super) fn add_to(&self, tree: &mut MemTree) -> Result<(), TreeRefusal> {
+        plant(tree, self.path.as_str(), self.kind)
     }
 }
 
-/// What a tree holds below its current directory.
-#[derive(Clone, Copy)]
+/// Adds a key to a tree.
+pub(super) fn plant<A: Allocator + Copy>(
+    tree: &mut MemTree<A>,
+    path: &str,
+    kind: Kind,
+) -> Result<(), TreeRefusal> {
+    match kind {
+        Kind::Dir => tree.add_dir(path),
+        Kind::Shut => tree.add_shut(path, ErrorKind::PermissionDenied),
+        Kind::Other => tree.add_other(path),
+    }
+}
+
+/// What a tree holds.
+#[derive(Drop)]
 pub(super) struct Content {
-    /// The root, or a directory in it.
-    pub(super) current: &'static str,
+    /// The path of the current directory.
+    pub(super) current: String,
     /// The keys, each after the one that it stands in.
-    pub(super) keys: &'static [Key],
-    /// More keys, as of `keys`.
-    pub(super) more: &'static [Key],
-    /// The names of a directory among them that cannot be listed.
-    pub(super) shut: Option<&'static str>,
+    pub(super) keys: Vec<Key>,
 }
 
-/// A content whose root is the current directory.
-pub(super) fn at_root(keys: &'static [Key]) -> Content {
-    Content {
-        current: "/",
-        keys,
-        more: &[],
-        shut: None,
+impl Content {
+    /// Adds the keys that words write by their names below a directory.
+    fn add(&mut self, alloc: Global, below: &str, words: &str) -> Result<(), AllocError> {
+        for word in words.split_whitespace() {
+            self.keys.push(Key::read(alloc, below, word)?)?;
+        }
+        Ok(())
     }
+
+    /// Shuts the directory of this path, and says whether there is one.
+    pub(super) fn shut(&mut self, path: &str) -> bool {
+        for key in &mut self.keys {
+            if key.path.as_str() == path && key.is_dir() {
+                key.kind = Kind::Shut;
+                return true;
+            }
+        }
+        false
+    }
+}
+
+/// The content of these keys, whose root is the current directory.
+pub(super) fn at_root(alloc: Global, keys: &str) -> Result<Content, AllocError> {
+    let mut content = Content {
+        current: String::from_str(alloc, "/")?,
+        keys: Vec::new(alloc),
+    };
+    content.add(alloc, "", keys)?;
+    Ok(content)
+}
+
+/// Files and directories of all kinds, and more below the current directory, which is `/w`.
+pub(super) fn files(alloc: Global, more: &str) -> Result<Content, AllocError> {
+    let mut content = at_root(alloc, "w/")?;
+    content.current.push('w')?;
+    content.add(alloc, "/w", FILES)?;
+    content.add(alloc, "/w", more)?;
+    Ok(content)
 }
 
 /// A tree of this content.
 pub(super) fn tree_of(rt: &(impl Abort + AllocGlobal), content: &Content) -> Result<MemTree, Fail> {
     let mut tree = MemTree::new(rt.alloc())?;
-    let mut below = "";
-    if content.current != "/" {
-        below = content.current;
-        assert!(rt; tree.add_dir(below).is_ok());
+    for key in &content.keys {
+        assert!(rt; key.add_to(&mut tree).is_ok());
     }
-    for key in content.keys.iter().chain(content.more) {
-        let key = key.shut_at(content.shut);
-        let names = key.names();
-        let path = format!(in rt.alloc(); "{below}/{names}")?;
-        let added = match key {
-            Dir(_) => tree.add_dir(path.as_str()),
-            Shut(_) => tree.add_shut(path.as_str(), ErrorKind::PermissionDenied),
-            Other(_) => tree.add_other(path.as_str()),
-        };
-        assert!(rt; added.is_ok(), "{path}");
-    }
-    assert!(rt; tree.set_current(content.current).is_ok());
+    assert!(rt; tree.set_current(content.current.as_str()).is_ok());
     Ok(tree)
 }
 
-/// Files and directories of all kinds.
-pub(super) const FILES: Content = Content {
-    current: "/w",
-    keys: &FILE_KEYS,
-    more: &[],
-    shut: None,
-};
-
-/// The same with a directory in which names begin with a dot.
-pub(super) const DOTTED_FILES: Content = Content {
-    current: "/w",
-    keys: &FILE_KEYS,
-    more: &[
-        Dir("i"),
-        Dir("i/qwe"),
-        Dir("i/qwe/.bbb"),
-        Other("i/qwe/.aaa"),
-        Other("i/qwe/.bbb/ccc"),
-        Other("i/qwe/.bbb/.ddd"),
-        Other("i/qwe/eee"),
-    ],
-    shut: None,
-};
+const FILES: &str = "
+    aaa/ aaa/apple/ aaa/orange/ aaa/tomato/ bbb/ bbb/specials/ ccc/ xyz/
+    r/ r/one/ r/one/another/ r/one/another/deep/ r/another/ r/two/ r/three/
+    aaa/tomato/tomato.txt aaa/tomato/tomoto.txt xyz/x xyz/y xyz/z
+    r/current_dir.md r/one/a.md r/one/another/a.md r/one/another/deep/spelunking.md
+    r/another/a.md r/two/b.md r/three/c.md
+    bbb/specials/! bbb/specials/* bbb/specials/? bbb/specials/[ bbb/specials/]
+    aaa/green_apple aaa/kazusa
+";
 
 /// Directories and files whose names begin with a dot, beside others.
-pub(super) const DOTTED: Content = Content {
-    current: "/",
-    keys: &[
-        Dir(".d"),
-        Dir("s"),
-        Other(".d/x"),
-        Other(".f"),
-        Other("s/.e"),
-        Other("s/y"),
-    ],
-    more: &[],
-    shut: None,
-};
-
-const FILE_KEYS: [Key; 34] = [
-    Dir("aaa"),
-    Dir("aaa/apple"),
-    Dir("aaa/orange"),
-    Dir("aaa/tomato"),
-    Dir("bbb"),
-    Dir("bbb/specials"),
-    Dir("ccc"),
-    Dir("xyz"),
-    Dir("r"),
-    Dir("r/one"),
-    Dir("r/one/another"),
-    Dir("r/one/another/deep"),
-    Dir("r/another"),
-    Dir("r/two"),
-    Dir("r/three"),
-    Other("aaa/tomato/tomato.txt"),
-    Other("aaa/tomato/tomoto.txt"),
-    Other("xyz/x"),
-    Other("xyz/y"),
-    Other("xyz/z"),
-    Other("r/current_dir.md"),
-    Other("r/one/a.md"),
-    Other("r/one/another/a.md"),
-    Other("r/one/another/deep/spelunking.md"),
-    Other("r/another/a.md"),
-    Other("r/two/b.md"),
-    Other("r/three/c.md"),
-    Other("bbb/specials/!"),
-    Other("bbb/specials/*"),
-    Other("bbb/specials/?"),
-    Other("bbb/specials/["),
-    Other("bbb/specials/]"),
-    Other("aaa/green_apple"),
-    Other("aaa/kazusa"),
-];
+pub(super) const DOTTED: &str = ".d/ s/ .d/x .f s/.e s/y";

@@ -1,79 +1,62 @@
 //! Directories that cannot be listed.
-use super::checks::{at_once, check, check_given, one_by_one};
-use super::contents::{Content, FILES, tree_of};
-use super::items::Item::{self, Path, Unread};
+use super::checks::check_over;
+use super::contents::{files, tree_of};
+use super::items::Item::{Memory, Path};
+use super::items::read_items;
 use super::reference::Job;
-use crate::trees::{LyingTree, Unreadable};
-use glob::{End, GlobResult};
+use super::tables::{Row, check_row, rows_of};
+use crate::trees::{LyingTree, Unlisted};
 use std::io::ErrorKind;
 use std::process::Abort;
 use std::test::Fail;
 
-pub(super) const PATTERN: &str = "r/**/*.md";
+const PATTERN: &str = "r/**/*.md";
 
-/// A directory that cannot be listed, and the items of a walk after the pattern.
-pub(super) const ROWS: [(&str, &[Item<'static>]); 3] = [
-    ("r", &[Unread("r")]),
-    (
-        "r/one",
-        &[
-            Path("r/another/a.md"),
-            Path("r/current_dir.md"),
-            Unread("r/one"),
-            Path("r/three/c.md"),
-            Path("r/two/b.md"),
-        ],
-    ),
-    (
-        "r/one/another",
-        &[
-            Path("r/another/a.md"),
-            Path("r/current_dir.md"),
-            Path("r/one/a.md"),
-            Unread("r/one/another"),
-            Path("r/three/c.md"),
-            Path("r/two/b.md"),
-        ],
-    ),
-];
+/// Directories that cannot be listed, in the place of patterns, and the items of a walk.
+const ROWS: &str = "
+    r => !r ; 3
+    r/one => r/another/a.md r/current_dir.md !r/one r/three/c.md r/two/b.md ; 15
+    r/one/another => r/another/a.md r/current_dir.md r/one/a.md !r/one/another r/three/c.md r/two/b.md ; 18
+";
 
-/// Each error among the items is of this kind.
-fn check_kinds(rt: &impl Abort, items: &[GlobResult], kind: ErrorKind) {
-    for item in items {
-        if let Err(error) = item {
-            assert!(rt; error.error().kind() == kind);
-        }
-    }
+/// The walk goes as the row says over a tree in which the directory is shut.
+fn check_shut(rt: &(impl Abort + AllocGlobal), row: Row<'_>) -> Result<(), Fail> {
+    let mut content = files(rt.alloc(), "")?;
+    let path = format!(in rt.alloc(); "/w/{}", row.pattern)?;
+    assert!(rt; content.shut(path.as_str()));
+    check_row(rt, &content, Job::of(PATTERN), row)
 }
 
 #[test]
 fn shut_directories(rt: HostRuntime) -> Result<(), Fail> {
-    let job = Job::of(PATTERN);
-    for (shut, items) in ROWS {
-        let content = Content {
-            shut: Some(shut),
-            ..FILES
-        };
-        check(&rt, &content, job, items)?;
-        let walk = at_once(&rt, tree_of(&rt, &content)?, job)?;
-        check_kinds(&rt, walk.items.as_slice(), ErrorKind::PermissionDenied);
+    for row in rows_of(rt.alloc(), ROWS)? {
+        check_shut(&rt, row)?;
+    }
+    Ok(())
+}
+
+/// The walk goes as the row says over a tree that fails to list the directory with the kind `InvalidData`.
+fn check_unlisted(rt: &(impl Abort + AllocGlobal), row: Row<'static>) -> Result<(), Fail> {
+    let kind = ErrorKind::InvalidData;
+    let tree = tree_of(rt, &files(rt.alloc(), "")?)?;
+    let tree = LyingTree::new(Unlisted::at(tree, row.pattern, Some(kind)));
+    let items = read_items(rt.alloc(), row.items, kind)?;
+    let spent = row.spent.ok_or("nothing is said of what is spent")?;
+    check_over(rt, tree, Job::of(PATTERN), items.as_slice(), spent)
+}
+
+#[test]
+fn a_listing_that_fails_is_one_error(rt: HostRuntime) -> Result<(), Fail> {
+    for row in rows_of(rt.alloc(), ROWS)? {
+        check_unlisted(&rt, row)?;
     }
     Ok(())
 }
 
 #[test]
-fn a_listing_that_fails_is_one_error(rt: HostRuntime) -> Result<(), Fail> {
-    let job = Job::of(PATTERN);
-    for (path, items) in ROWS {
-        let tree = tree_of(&rt, &FILES)?;
-        let tree = LyingTree::new(Unreadable { tree, path });
-        let walk = at_once(&rt, tree, job)?;
-        assert_eq!(rt; walk.end, End::Done);
-        check_given(&rt, walk.items.as_slice(), items, PATTERN)?;
-        check_kinds(&rt, walk.items.as_slice(), ErrorKind::InvalidData);
-
-        let given = one_by_one(&rt, walk.tree, job)?;
-        check_given(&rt, given.items.as_slice(), items, PATTERN)?;
-    }
-    Ok(())
+fn a_listing_without_memory_ends_the_walk(rt: HostRuntime) -> Result<(), Fail> {
+    let tree = tree_of(&rt, &files(rt.alloc(), "")?)?;
+    let tree = LyingTree::new(Unlisted::at(tree, "r/one", None));
+    let items = [Path("r/another/a.md"), Path("r/current_dir.md"), Memory];
+    check_over(&rt, tree, Job::of(PATTERN), items.as_slice(), 11)
 }

@@ -1,14 +1,15 @@
 //! What a walk gives, as tables write it.
 use glob::{GlobCause, GlobResult};
 use std::alloc::{AllocError, Allocator, Global};
+use std::io::ErrorKind;
 
 /// An item of a walk.
 #[derive(Clone, Copy, Debug, PartialEq, Eq)]
 pub(super) enum Item<'a> {
     /// The path was found.
     Path(&'a str),
-    /// The directory at this path could not be read.
-    Unread(&'a str),
+    /// The directory at this path could not be read, for this reason.
+    Unread(&'a str, ErrorKind),
     /// The limit was reached at this path.
     Limit(&'a str),
     /// Memory ran out.
@@ -21,11 +22,14 @@ use Item::{Limit, Memory, Path, Unread};
 pub(super) fn item_of<A: Allocator>(given: &GlobResult<A>) -> Item<'_> {
     match given {
         Ok(path) => Path(path.as_str()),
-        Err(error) => match error.cause() {
-            GlobCause::Read => Unread(error.path().as_str()),
-            GlobCause::Limit => Limit(error.path().as_str()),
-            GlobCause::Memory => Memory,
-        },
+        Err(error) => {
+            let path = error.path().as_str();
+            match error.cause() {
+                GlobCause::Read => Unread(path, error.error().kind()),
+                GlobCause::Limit => Limit(path),
+                GlobCause::Memory => Memory,
+            }
+        }
     }
 }
 
@@ -37,9 +41,29 @@ pub(super) fn items_of<A: Allocator>(
     given.iter().map(|item| item_of(item)).collect(alloc)
 }
 
-/// The items of these paths.
-pub(super) fn paths<'a>(alloc: Global, texts: &[&'a str]) -> Result<Vec<Item<'a>>, AllocError> {
-    texts.iter().map(|text| Path(text)).collect(alloc)
+/// The item that a word writes: after `!` a directory that could not be read for this reason, after `^` where the limit
+/// was reached, and else a path.
+fn read_item(word: &str, kind: ErrorKind) -> Item<'_> {
+    if let Some(path) = word.strip_prefix('!') {
+        Unread(path, kind)
+    } else if let Some(path) = word.strip_prefix('^') {
+        Limit(path)
+    } else {
+        Path(word)
+    }
+}
+
+/// The items that words write. Those that could not be read were not for this reason.
+pub(super) fn read_items(
+    alloc: Global,
+    words: &str,
+    kind: ErrorKind,
+) -> Result<Vec<Item<'_>>, AllocError> {
+    let mut items = Vec::new(alloc);
+    for word in words.split_whitespace() {
+        items.push(read_item(word, kind))?;
+    }
+    Ok(items)
 }
 
 /// Whether the items are these.

@@ -1,12 +1,14 @@
 //! Trees whose answers belong to no content, and patterns of many components.
-use super::checks::{at_once, check_given, check_over, check_paths, ended, one_by_one};
-use super::contents::Key::Dir;
+use super::checks::{
+    at_once, check, check_gathered, check_given, check_over, check_stepped, ended, one_by_one,
+};
 use super::contents::at_root;
-use super::items::Item::{Limit, Memory, Path};
-use super::items::items_of;
+use super::items::Item::{Memory, Path};
+use super::items::{item_of, items_of, read_items};
 use super::reference::Job;
 use crate::trees::{Chain, Descending, Endless, FalseDirectory, Fickle, LyingTree, NoMemory};
 use glob::End;
+use std::io::ErrorKind;
 use std::process::Abort;
 use std::test::Fail;
 
@@ -20,24 +22,27 @@ fn joined(rt: &impl AllocGlobal, part: &str, times: usize) -> Result<String, Fai
     Ok(text)
 }
 
+/// The words of the paths `d`, `d/d` and so on down to a depth.
+fn nested(rt: &impl AllocGlobal, depth: usize) -> Result<String, Fail> {
+    let mut words = String::new(rt.alloc());
+    for depth in 1..=depth {
+        words.push_str(joined(rt, "d", depth)?.as_str())?;
+        words.push(' ')?;
+    }
+    Ok(words)
+}
+
 #[test]
 fn a_tree_without_end(rt: HostRuntime) -> Result<(), Fail> {
-    let endless = Endless { alloc: rt.alloc() };
-    let mut texts = Vec::new(rt.alloc());
-    for depth in 1..=24 {
-        texts.push(joined(&rt, "d", depth)?)?;
-    }
-    let mut items = Vec::new(rt.alloc());
-    for text in &texts {
-        items.push(Path(text.as_str()))?;
-    }
-    if let Some(last) = texts.last() {
-        items.push(Limit(last.as_str()))?;
-    }
+    let paths = nested(&rt, 24)?;
+    let last = joined(&rt, "d", 24)?;
+    let words = format!(in rt.alloc(); "{paths} ^{last}")?;
+    let items = read_items(rt.alloc(), words.as_str(), ErrorKind::Other)?;
     assert_eq!(rt; items.len(), 25);
+    let endless = LyingTree::new(Endless { alloc: rt.alloc() });
     check_over(
         &rt,
-        LyingTree::new(endless),
+        endless,
         Job::of("**/*").within(50),
         items.as_slice(),
         50,
@@ -59,31 +64,42 @@ fn a_listing_in_descending_order(rt: HostRuntime) -> Result<(), Fail> {
 #[test]
 fn a_tree_without_memory(rt: HostRuntime) -> Result<(), Fail> {
     for pattern in ["*", "a", "**", "/"] {
-        let job = Job::of(pattern);
-        let walk = at_once(&rt, LyingTree::new(NoMemory), job)?;
-        assert_eq!(rt; walk.end, End::Memory);
-        assert!(rt; walk.items.is_empty());
-        let given = one_by_one(&rt, walk.tree, job)?;
-        let found = items_of(rt.alloc(), given.items.as_slice())?;
-        assert_eq!(rt; found.as_slice(), [Memory].as_slice(), "{pattern}");
+        check_over(
+            &rt,
+            LyingTree::new(NoMemory),
+            Job::of(pattern),
+            &[Memory],
+            1,
+        )?;
     }
     Ok(())
 }
 
+/// A walk after the pattern over a false directory gives these paths, and spends so much.
+fn check_false(
+    rt: &(impl Abort + AllocGlobal),
+    pattern: &str,
+    words: &str,
+    spent: u64,
+) -> Result<(), Fail> {
+    let tree = LyingTree::new(FalseDirectory { alloc: rt.alloc() });
+    let items = read_items(rt.alloc(), words, ErrorKind::Other)?;
+    check_over(rt, tree, Job::of(pattern), items.as_slice(), spent)
+}
+
 #[test]
 fn a_directory_that_is_missing_when_it_is_looked_at(rt: HostRuntime) -> Result<(), Fail> {
-    let tree = || FalseDirectory { alloc: rt.alloc() };
-    check_over(&rt, LyingTree::new(tree()), Job::of("*"), &[Path("d")], 3)?;
-    check_over(&rt, LyingTree::new(tree()), Job::of("*/"), &[Path("d")], 3)?;
-    check_over(&rt, LyingTree::new(tree()), Job::of("d"), &[], 2)?;
-    check_over(&rt, LyingTree::new(tree()), Job::of("*/d"), &[], 4)?;
-    check_over(
-        &rt,
-        LyingTree::new(tree()),
-        Job::of("*/*"),
-        &[Path("d/d")],
-        5,
-    )
+    let rows = [
+        ("*", "d", 3),
+        ("*/", "d", 3),
+        ("d", "", 2),
+        ("*/d", "", 4),
+        ("*/*", "d/d", 5),
+    ];
+    for (pattern, words, spent) in rows {
+        check_false(&rt, pattern, words, spent)?;
+    }
+    Ok(())
 }
 
 /// What a walk gives over a tree whose answers change with each call, and how it ends, by `walk_in` and by `next`.
@@ -123,59 +139,58 @@ fn answers_that_change_with_each_call(rt: HostRuntime) -> Result<(), Fail> {
 
 const COMPONENTS: usize = 5_000;
 
-#[test]
-fn five_thousand_names_over_one_directory(rt: HostRuntime) -> Result<(), Fail> {
-    let text = joined(&rt, "a", COMPONENTS)?;
+/// A walk after five thousand such components over a small tree gives nothing and spends so much.
+fn check_nothing(
+    rt: &(impl Abort + AllocGlobal),
+    component: &str,
+    keys: &str,
+    spent: u64,
+) -> Result<(), Fail> {
+    let text = joined(rt, component, COMPONENTS)?;
     let job = Job::of(text.as_str()).within(20_000);
-    let spent = check_paths(&rt, &at_root(&[Dir("a")]), job, &[])?;
-    assert_eq!(rt; spent, 3);
+    let found = check(rt, &at_root(rt.alloc(), keys)?, job, &[])?;
+    assert_eq!(rt; found, spent);
     Ok(())
 }
 
 #[test]
-fn five_thousand_names_without_end(rt: HostRuntime) -> Result<(), Fail> {
-    let text = joined(&rt, "a", COMPONENTS)?;
-    let job = Job::of(text.as_str()).within(20_000);
-    let endless = Endless { alloc: rt.alloc() };
-    check_over(
-        &rt,
-        LyingTree::new(endless),
-        job,
-        &[Path(text.as_str())],
-        5_001,
-    )
-}
-
-#[test]
-fn five_thousand_dots(rt: HostRuntime) -> Result<(), Fail> {
-    let text = joined(&rt, ".", COMPONENTS)?;
-    let job = Job::of(text.as_str()).within(20_000);
-    let endless = Endless { alloc: rt.alloc() };
-    check_over(&rt, LyingTree::new(endless), job, &[Path(".")], 5_001)
-}
-
-#[test]
-fn five_thousand_stars(rt: HostRuntime) -> Result<(), Fail> {
-    let text = joined(&rt, "*", COMPONENTS)?;
-    let path = joined(&rt, "d", COMPONENTS)?;
-    let job = Job::of(text.as_str()).within(20_000);
-    let endless = Endless { alloc: rt.alloc() };
-    check_over(
-        &rt,
-        LyingTree::new(endless),
-        job,
-        &[Path(path.as_str())],
-        10_001,
-    )
+fn five_thousand_names_over_one_directory(rt: HostRuntime) -> Result<(), Fail> {
+    check_nothing(&rt, "a", "a/", 3)
 }
 
 #[test]
 fn five_thousand_runs_over_nothing(rt: HostRuntime) -> Result<(), Fail> {
-    let text = joined(&rt, "**", COMPONENTS)?;
+    check_nothing(&rt, "**", "", 2)
+}
+
+/// A walk after five thousand such components over a tree without end gives this path and spends so much.
+fn check_endless(
+    rt: &(impl Abort + AllocGlobal),
+    component: &str,
+    path: &str,
+    spent: u64,
+) -> Result<(), Fail> {
+    let text = joined(rt, component, COMPONENTS)?;
     let job = Job::of(text.as_str()).within(20_000);
-    let spent = check_paths(&rt, &at_root(&[]), job, &[])?;
-    assert_eq!(rt; spent, 2);
-    Ok(())
+    let endless = LyingTree::new(Endless { alloc: rt.alloc() });
+    check_over(rt, endless, job, &[Path(path)], spent)
+}
+
+#[test]
+fn five_thousand_names_without_end(rt: HostRuntime) -> Result<(), Fail> {
+    let path = joined(&rt, "a", COMPONENTS)?;
+    check_endless(&rt, "a", path.as_str(), 5_001)
+}
+
+#[test]
+fn five_thousand_dots(rt: HostRuntime) -> Result<(), Fail> {
+    check_endless(&rt, ".", ".", 5_001)
+}
+
+#[test]
+fn five_thousand_stars(rt: HostRuntime) -> Result<(), Fail> {
+    let path = joined(&rt, "d", COMPONENTS)?;
+    check_endless(&rt, "*", path.as_str(), 10_001)
 }
 
 const MANY: usize = 100_000;
@@ -184,23 +199,19 @@ const MANY: usize = 100_000;
 fn a_hundred_thousand_dots(rt: HostRuntime) -> Result<(), Fail> {
     let text = joined(&rt, ".", MANY)?;
     let endless = LyingTree::new(Endless { alloc: rt.alloc() });
-    let walk = at_once(&rt, endless, Job::of(text.as_str()))?;
-    check_given(&rt, walk.items.as_slice(), &[Path(".")], ".")?;
-    assert_eq!(rt; walk.spent, 100_001);
+    check_gathered(&rt, endless, Job::of(text.as_str()), &[Path(".")], 100_001)?;
     Ok(())
 }
 
 #[test]
 fn a_hundred_thousand_runs(rt: HostRuntime) -> Result<(), Fail> {
     let text = joined(&rt, "**", MANY)?;
+    let depth = 0;
     let empty = LyingTree::new(Chain {
         alloc: rt.alloc(),
-        depth: 0,
+        depth,
     });
-    let given = one_by_one(&rt, empty, Job::of(text.as_str()))?;
-    assert!(rt; given.items.is_empty());
-    assert_eq!(rt; given.spent, 2);
-    Ok(())
+    check_stepped(&rt, empty, Job::of(text.as_str()), &[], 2)
 }
 
 /// A directory in each of five thousand others: each is looked at by its listing alone, which costs two units, and the
@@ -208,16 +219,16 @@ fn a_hundred_thousand_runs(rt: HostRuntime) -> Result<(), Fail> {
 #[test]
 fn a_deep_tree(rt: HostRuntime) -> Result<(), Fail> {
     let depth = 5_000;
-    let chain = Chain {
+    let chain = LyingTree::new(Chain {
         alloc: rt.alloc(),
         depth,
-    };
-    let deepest = joined(&rt, "d", depth)?;
-    let walk = at_once(&rt, LyingTree::new(chain), Job::of("**"))?;
-    assert_eq!(rt; walk.end, End::Done);
+    });
+    let walk = at_once(&rt, chain, Job::of("**"))?;
+    assert!(rt; walk.end == End::Done);
     assert_eq!(rt; walk.spent, 10_002);
     assert_eq!(rt; walk.items.len(), depth);
-    let found = items_of(rt.alloc(), walk.items.as_slice())?;
-    assert!(rt; found.last() == Some(&Path(deepest.as_str())));
+    let deepest = joined(&rt, "d", depth)?;
+    let last = walk.items.last().ok_or("no item")?;
+    assert!(rt; item_of(last) == Path(deepest.as_str()));
     Ok(())
 }

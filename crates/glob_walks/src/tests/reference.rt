@@ -5,8 +5,11 @@
 ghost use Rattle.std.specs.Prelude.{◌<◌, IfOk};
 
 use super::items::Item;
-use glob::{Entry, ListError, Look, MatchOptions, MemTree, Pattern, Tree};
+use glob::{
+    Entry, ListError, Look, MatchOptions, MemTree, Pattern, PatternError, PatternRefusal, Tree,
+};
 use std::alloc::{AllocError, Global};
+use std::io::ErrorKind;
 
 /// A pattern, with what a walk after it needs to know.
 #[derive(Clone, Copy)]
@@ -20,7 +23,7 @@ pub(super) struct Job<'a> {
 #[derive(Drop)]
 enum Given {
     Path(String),
-    Unread(String),
+    Unread(String, ErrorKind),
     Limit(String),
 }
 
@@ -29,8 +32,8 @@ enum Given {
 pub(super) enum Stop {
     /// The limit was reached.
     Limit,
-    /// The pattern is refused.
-    Refused,
+    /// The pattern is refused for this fault.
+    Refused(PatternError),
     /// Memory ran out.
     Memory,
     /// The recursion is deeper than was foreseen.
@@ -40,6 +43,15 @@ pub(super) enum Stop {
 impl From<AllocError> for Stop {
     fn from(_: AllocError) -> Stop {
         Stop::Memory
+    }
+}
+
+impl From<PatternRefusal> for Stop {
+    fn from(refusal: PatternRefusal) -> Stop {
+        match refusal {
+            PatternRefusal::Syntax(fault) => Stop::Refused(fault),
+            PatternRefusal::Memory => Stop::Memory,
+        }
     }
 }
 
@@ -57,7 +69,7 @@ impl Walked {
         for given in &self.given {
             items.push(match given {
                 Given::Path(path) => Item::Path(path.as_str()),
-                Given::Unread(path) => Item::Unread(path.as_str()),
+                Given::Unread(path, kind) => Item::Unread(path.as_str(), *kind),
                 Given::Limit(path) => Item::Limit(path.as_str()),
             })?;
         }
@@ -122,16 +134,12 @@ fn child(alloc: Global, path: &str, name: &str) -> Result<String, AllocError> {
 
 /// The components of the pattern, the whole of which is read first.
 fn components_of(alloc: Global, text: &str) -> Result<Vec<Component>, Stop> {
-    if Pattern::new(alloc, text).is_err() {
-        return Err(Stop::Refused);
-    }
+    Pattern::new(alloc, text)?;
     let rest = text.strip_prefix('/').unwrap_or(text);
     let rest = rest.strip_suffix('/').unwrap_or(rest);
     let mut components = Vec::new(alloc);
     for piece in rest.split('/') {
-        let Ok(pattern) = Pattern::new(alloc, piece) else {
-            return Err(Stop::Refused);
-        };
+        let pattern = Pattern::new(alloc, piece)?;
         let text = String::from_str(alloc, piece)?;
         if components.push(Component { text, pattern }).is_err() {
             return Err(Stop::Memory);
@@ -188,8 +196,9 @@ impl Walking {
                 entries.sort_unstable_by(|a, b| a.name.as_str().cmp(b.name.as_str()));
                 Ok(Some(entries))
             }
-            Err(ListError::Read(_)) => {
-                self.give(Given::Unread(String::from_str(rules.alloc, path)?))?;
+            Err(ListError::Read(error)) => {
+                let path = String::from_str(rules.alloc, path)?;
+                self.give(Given::Unread(path, error.kind()))?;
                 Ok(None)
             }
             Err(ListError::Memory) => Err(Stop::Memory),
@@ -335,13 +344,16 @@ impl Walking {
 impl Rules {
     /// The last of the consecutive `**` from the component of this number on, if it is one.
     fn last_of_run(&self, i: usize) -> Option<usize> {
-        let run = self
-            .components
-            .iter()
-            .skip(i)
-            .take_while(|component| component.is_recursive())
-            .count();
-        i.saturating_add(run).checked_sub(1).filter(|_| run > 0)
+        let mut last = None;
+        let mut place = i;
+        for component in self.components.iter().skip(i) {
+            if !component.is_recursive() {
+                return last;
+            }
+            last = Some(place);
+            place = place.saturating_add(1);
+        }
+        last
     }
 }
 

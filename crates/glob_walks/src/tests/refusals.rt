@@ -1,9 +1,14 @@
 //! Patterns that no walk accepts, and how a walk's refusal is printed.
-use super::contents::Key::{Dir, Other, Shut};
+use super::checks::{CASE, one_by_one};
 use super::contents::{at_root, tree_of};
+use super::items::Item::{Limit, Unread};
+use super::items::item_of;
+use super::reference::Job;
 use crate::trees::{Counting, LyingTree};
-use glob::{GlobCause, MatchOptions, Paths, PatternRefusal, Tree, glob_in, walk_in};
+use glob::{GlobError, PatternRefusal, glob_in, walk_in};
+use std::alloc::Global;
 use std::cell::Cell;
+use std::io::ErrorKind;
 use std::process::Abort;
 use std::test::Fail;
 
@@ -11,49 +16,47 @@ const RECURSIVE: &str = "recursive wildcards must form a single path component";
 
 const RANGE: &str = "invalid range pattern";
 
-/// The refusal is this fault.
-fn check_fault(rt: &impl Abort, refusal: &PatternRefusal, pos: usize, msg: &str) {
-    match refusal {
-        PatternRefusal::Syntax(error) => {
+/// The call is refused for this fault.
+fn check_fault<T: Drop>(rt: &impl Abort, answer: Result<T, PatternRefusal>, pos: usize, msg: &str) {
+    match answer {
+        Err(PatternRefusal::Syntax(error)) => {
             assert_eq!(rt; error.pos, pos);
             assert_eq!(rt; error.msg, msg);
         }
-        PatternRefusal::Memory => panic!(rt; "out of memory"),
+        Err(PatternRefusal::Memory) => panic!(rt; "out of memory"),
+        Ok(_) => panic!(rt; "the pattern is accepted"),
     }
+}
+
+/// A tree that counts its calls there.
+fn counting(alloc: Global, calls: &Cell<u64>) -> LyingTree<Counting<'_>> {
+    LyingTree::new(Counting { alloc, calls })
+}
+
+/// The pattern is refused for this fault by both calls, which ask nothing.
+pub(super) fn check_refused(rt: &(impl Abort + AllocGlobal), job: Job<'_>, pos: usize, msg: &str) {
+    let alloc = rt.alloc();
+    let calls = Cell::new(0);
+    let tree = counting(alloc, &calls);
+    let paths = glob_in(alloc, tree, job.pattern, job.options, job.limit);
+    check_fault(rt, paths, pos, msg);
+    let tree = counting(alloc, &calls);
+    let walk = walk_in(alloc, tree, job.pattern, job.options, job.limit);
+    check_fault(rt, walk, pos, msg);
+    assert_eq!(rt; calls.get(), 0);
 }
 
 #[test]
 fn a_refused_pattern_asks_nothing(rt: HostRuntime) {
-    let rows = [("a/**b[", 4, RECURSIVE), ("x/a[/]b", 1, RANGE)];
-    for (pattern, pos, msg) in rows {
-        let calls = Cell::new(0);
-        let tree = || {
-            LyingTree::new(Counting {
-                alloc: rt.alloc(),
-                calls: &calls,
-            })
-        };
-        let options = MatchOptions::new();
-        match glob_in(rt.alloc(), tree(), pattern, options, u64::MAX) {
-            Err(refusal) => check_fault(&rt, &refusal, pos, msg),
-            Ok(_) => panic!(rt; "{pattern} is accepted"),
-        }
-        match walk_in(rt.alloc(), tree(), pattern, options, u64::MAX) {
-            Err(refusal) => check_fault(&rt, &refusal, pos, msg),
-            Ok(_) => panic!(rt; "{pattern} is accepted"),
-        }
-        assert_eq!(rt; calls.get(), 0, "{pattern}");
-    }
+    check_refused(&rt, Job::of("a/**b["), 4, RECURSIVE);
+    check_refused(&rt, Job::of("x/a[/]b"), 1, RANGE);
 }
 
 #[test]
 fn nothing_is_asked_before_the_first_item_is_wanted(rt: HostRuntime) -> Result<(), Fail> {
     let calls = Cell::new(0);
-    let tree = LyingTree::new(Counting {
-        alloc: rt.alloc(),
-        calls: &calls,
-    });
-    let mut paths = glob_in(rt.alloc(), tree, "a", MatchOptions::new(), u64::MAX)?;
+    let tree = counting(rt.alloc(), &calls);
+    let mut paths = glob_in(rt.alloc(), tree, "a", CASE, u64::MAX)?;
     assert_eq!(rt; calls.get(), 0);
     assert!(rt; paths.next().is_none());
     assert_eq!(rt; calls.get(), 2);
@@ -61,40 +64,51 @@ fn nothing_is_asked_before_the_first_item_is_wanted(rt: HostRuntime) -> Result<(
     Ok(())
 }
 
-/// The first item is an error of this cause, and what is printed of it begins so.
-fn check_printed<T: Tree>(
+/// The error that is the one item of a walk over a tree of these keys.
+fn only_error(
     rt: &(impl AllocGlobal + Abort),
-    mut paths: Paths<T>,
-    cause: GlobCause,
-    beginning: &str,
-) -> Result<(), Fail> {
-    match paths.next() {
-        Some(Err(error)) => {
-            assert!(rt; error.cause() == cause);
-            let line = format!(in rt.alloc(); "{error}")?;
-            assert!(rt; line.as_str().starts_with(beginning), "{line}");
-        }
+    keys: &str,
+    job: Job<'_>,
+) -> Result<GlobError, Fail> {
+    let content = at_root(rt.alloc(), keys)?;
+    let mut given = one_by_one(rt, tree_of(rt, &content)?, job)?;
+    assert_eq!(rt; given.items.len(), 1);
+    match given.items.pop() {
+        Some(Err(error)) => Ok(error),
         _ => panic!(rt; "no error"),
     }
+}
+
+/// The error is the refusal at the limit at this path, and is printed so.
+fn check_limit(
+    rt: &(impl AllocGlobal + Abort),
+    error: GlobError,
+    path: &str,
+    line: &str,
+) -> Result<(), Fail> {
+    let printed = format!(in rt.alloc(); "{error}")?;
+    assert_eq!(rt; printed.as_str(), line);
+    assert!(rt; error.error().kind() == ErrorKind::Other);
+    assert!(rt; item_of(&Err(error)) == Limit(path));
     Ok(())
 }
 
 #[test]
 fn a_limit_is_printed(rt: HostRuntime) -> Result<(), Fail> {
-    let tree = tree_of(&rt, &at_root(&[Other("x"), Other("y")]))?;
-    let paths = glob_in(rt.alloc(), tree, "*", MatchOptions::new(), 3)?;
+    let error = only_error(&rt, "x y", Job::of("*").within(3))?;
     let line = "attempting to read `.` resulted in an error: walk limit reached";
-    check_printed(&rt, paths, GlobCause::Limit, line)?;
-    let tree = tree_of(&rt, &at_root(&[Dir("a"), Dir("a/b")]))?;
-    let paths = glob_in(rt.alloc(), tree, "a/b", MatchOptions::new(), 2)?;
+    check_limit(&rt, error, ".", line)?;
+    let error = only_error(&rt, "a/ a/b", Job::of("a/b").within(2))?;
     let line = "attempting to read `a/b` resulted in an error: walk limit reached";
-    check_printed(&rt, paths, GlobCause::Limit, line)
+    check_limit(&rt, error, "a/b", line)
 }
 
 #[test]
 fn an_unreadable_directory_is_printed(rt: HostRuntime) -> Result<(), Fail> {
-    let tree = tree_of(&rt, &at_root(&[Shut("a")]))?;
-    let paths = glob_in(rt.alloc(), tree, "a/*", MatchOptions::new(), u64::MAX)?;
-    let line = "attempting to read `a` resulted in an error: ";
-    check_printed(&rt, paths, GlobCause::Read, line)
+    let error = only_error(&rt, "#a", Job::of("a/*"))?;
+    let printed = format!(in rt.alloc(); "{error}")?;
+    let beginning = "attempting to read `a` resulted in an error: ";
+    assert!(rt; printed.as_str().starts_with(beginning), "{printed}");
+    assert!(rt; item_of(&Err(error)) == Unread("a", ErrorKind::PermissionDenied));
+    Ok(())
 }

@@ -1,5 +1,4 @@
 //! The caller of the walk.
-use super::contents::Key::{Dir, Other};
 use super::contents::{at_root, tree_of};
 use crate::uses::first_paths;
 use glob::{MatchOptions, glob_in};
@@ -8,7 +7,7 @@ use std::test::Fail;
 
 #[test]
 fn the_first_paths(rt: HostRuntime) -> Result<(), Fail> {
-    let tree = tree_of(&rt, &at_root(&[Dir("d"), Other("d/q"), Other("d/a")]))?;
+    let tree = tree_of(&rt, &at_root(rt.alloc(), "d/ d/q d/a")?)?;
     let mut paths = glob_in(rt.alloc(), tree, "**/*", MatchOptions::new(), 100)?;
     let found = first_paths(rt.alloc(), &mut paths, 2)?;
     assert_eq!(rt; found.len(), 2);

@@ -242,17 +242,23 @@ impl<A: Allocator + Copy> Liar for Ready<A> {
     }
 }
 
-/// A tree in memory whose listing of one path fails with the kind `InvalidData`, as a directory does on a disk where a
-/// name in it is no text.
+/// A tree in memory of which one path cannot be listed.
 #[derive(Drop)]
-pub struct Unreadable {
-    /// The tree that answers all else.
-    pub tree: MemTree,
-    /// The path that cannot be listed.
-    pub path: &'static str,
+pub struct Unlisted {
+    tree: MemTree,
+    path: &'static str,
+    kind: Option<ErrorKind>,
 }
 
-impl Liar for Unreadable {
+impl Unlisted {
+    /// A listing of the path fails with this kind, as on a disk where a name is no text. Where there is none, it is out
+    /// of memory.
+    pub fn at(tree: MemTree, path: &'static str, kind: Option<ErrorKind>) -> Unlisted {
+        Unlisted { tree, path, kind }
+    }
+}
+
+impl Liar for Unlisted {
     type Alloc = Global;
 
     fn look(&mut self, path: &str) -> Result<Look, AllocError> {
@@ -260,9 +266,12 @@ impl Liar for Unreadable {
     }
 
     fn list(&mut self, path: &str) -> Result<Vec<Entry>, ListError> {
-        if path == self.path {
-            return Err(ListError::Read(io::Error::from(ErrorKind::InvalidData)));
+        if path != self.path {
+            return self.tree.list(path);
         }
-        self.tree.list(path)
+        match self.kind {
+            Some(kind) => Err(ListError::Read(io::Error::from(kind))),
+            None => Err(ListError::Memory),
+        }
     }
 }
