@@ -2,7 +2,7 @@
 use super::contents::{Content, tree_of};
 use super::items::{Item, are, items_of};
 use super::reference::{self, Job};
-use glob::{End, GlobResult, MatchOptions, Paths, Tree, Walk, glob_in, walk_in};
+use glob::{End, GlobResult, MatchOptions, Paths, PatternRefusal, Tree, Walk, glob_in, walk_in};
 use std::alloc::{AllocError, Global};
 use std::process::Abort;
 use std::test::Fail;
@@ -62,14 +62,41 @@ pub(super) struct Given {
     pub(super) spent: u64,
 }
 
+/// A walk that has given nothing yet. As of the two calls below, no contract is handed on, since each caller's proof would
+/// carry it.
+pub(super) fn start<T: Tree>(
+    alloc: T::Alloc,
+    tree: T,
+    job: Job<'_>,
+) -> Result<Paths<T>, PatternRefusal> {
+    glob_in(alloc, tree, job.pattern, job.options, job.limit)
+}
+
+/// The next item of a walk.
+pub(super) fn next_of<T: Tree>(paths: &mut Paths<T>) -> Option<GlobResult<T::Alloc>> {
+    paths.next()
+}
+
+/// All items of a walk.
+pub(super) fn gather<T: Tree>(
+    alloc: T::Alloc,
+    tree: T,
+    job: Job<'_>,
+) -> Result<Walk<T>, PatternRefusal> {
+    walk_in(alloc, tree, job.pattern, job.options, job.limit)
+}
+
 /// The items that a walk has left.
 fn rest_of<T: Tree<Alloc = Global>>(
     alloc: Global,
     paths: &mut Paths<T>,
 ) -> Result<Vec<GlobResult>, AllocError> {
     let mut items = Vec::new(alloc);
-    for item in paths.by_ref() {
-        items.push(item)?;
+    for _ in 0..u64::MAX {
+        match next_of(paths) {
+            Some(item) => items.push(item)?,
+            None => return Ok(items),
+        }
     }
     Ok(items)
 }
@@ -83,7 +110,7 @@ pub(super) fn check_ended<T: Tree>(
 ) {
     let spent = paths.spent();
     for _ in 0..3 {
-        assert!(rt; paths.next().is_none());
+        assert!(rt; next_of(paths).is_none());
     }
     assert_eq!(rt; paths.spent(), spent);
     assert!(rt; spent <= limit);
@@ -97,7 +124,7 @@ pub(super) fn one_by_one<T: Tree<Alloc = Global>>(
     tree: T,
     job: Job<'_>,
 ) -> Result<Given, Fail> {
-    let mut paths = glob_in(rt.alloc(), tree, job.pattern, job.options, job.limit)?;
+    let mut paths = start(rt.alloc(), tree, job)?;
     let items = rest_of(rt.alloc(), &mut paths)?;
     check_ended(rt, &mut paths, job.limit, items.len());
     let spent = paths.spent();
@@ -110,7 +137,7 @@ pub(super) fn at_once<T: Tree<Alloc = Global>>(
     tree: T,
     job: Job<'_>,
 ) -> Result<Walk<T>, Fail> {
-    Ok(walk_in(rt.alloc(), tree, job.pattern, job.options, job.limit)?)
+    Ok(gather(rt.alloc(), tree, job)?)
 }
 
 /// The end of a walk that gives these items, and those of them that are no refusal.

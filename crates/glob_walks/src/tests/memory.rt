@@ -1,12 +1,11 @@
 //! Each request for memory refused in turn: the answer is out of memory, or the one with ample memory.
-use super::checks::{CASE, check_ended};
+use super::checks::{check_ended, gather, next_of, start};
 use super::contents::{Kind, plant};
 use super::items::Item::{self, Memory};
 use super::items::{item_of, read_items};
+use super::reference::Job;
 use crate::trees::{LyingTree, Ready};
-use glob::{
-    End, GlobResult, Look, MemTree, Paths, PatternRefusal, Tree, TreeRefusal, glob_in, walk_in,
-};
+use glob::{End, GlobResult, Look, MemTree, Paths, PatternRefusal, Tree, TreeRefusal};
 use glob_testing::rationing::{Ration, Rationed};
 use std::alloc::{AllocError, Allocator, Global};
 use std::io::ErrorKind;
@@ -33,8 +32,8 @@ fn check_first<A: Allocator + Copy>(
         return Err(PatternRefusal::Memory);
     };
     let before = ration.asked();
-    let mut paths = glob_in(alloc, LyingTree::new(ready), "*", CASE, u64::MAX)?;
-    match paths.next() {
+    let mut paths = start(alloc, LyingTree::new(ready), Job::of("*"))?;
+    match next_of(&mut paths) {
         Some(Ok(path)) => assert_eq!(rt; path.as_str(), "00000"),
         _ => panic!(rt; "no path is given"),
     }
@@ -100,7 +99,7 @@ fn gathers<A: Allocator + Copy>(rt: &impl Abort, alloc: A, known: &[Item<'_>]) -
     let Ok(tree) = small_tree(alloc) else {
         return false;
     };
-    match walk_in(alloc, tree, PATTERN, CASE, u64::MAX) {
+    match gather(alloc, tree, Job::of(PATTERN)) {
         Err(refusal) => {
             assert!(rt; matches!(refusal, PatternRefusal::Memory));
             false
@@ -122,7 +121,10 @@ fn gathers<A: Allocator + Copy>(rt: &impl Abort, alloc: A, known: &[Item<'_>]) -
 fn check_steps<T: Tree>(rt: &impl Abort, paths: &mut Paths<T>, known: &[Item<'_>]) -> bool {
     let mut sufficed = true;
     let mut place = 0usize;
-    for given in paths.by_ref() {
+    for _ in 0..u64::MAX {
+        let Some(given) = next_of(paths) else {
+            break;
+        };
         assert!(rt; sufficed);
         match item_of(&given) {
             Memory => sufficed = false,
@@ -140,7 +142,7 @@ fn steps<A: Allocator + Copy>(rt: &impl Abort, alloc: A, known: &[Item<'_>]) -> 
     let Ok(tree) = small_tree(alloc) else {
         return false;
     };
-    match glob_in(alloc, tree, PATTERN, CASE, u64::MAX) {
+    match start(alloc, tree, Job::of(PATTERN)) {
         Ok(mut paths) => check_steps(rt, &mut paths, known),
         Err(refusal) => {
             assert!(rt; matches!(refusal, PatternRefusal::Memory));

@@ -1,11 +1,11 @@
 //! Patterns that no walk accepts, and how a walk's refusal is printed.
-use super::checks::{CASE, one_by_one};
+use super::checks::{gather, next_of, one_by_one, start};
 use super::contents::{at_root, tree_of};
 use super::items::Item::{Limit, Unread};
 use super::items::item_of;
 use super::reference::Job;
 use crate::trees::{Counting, LyingTree};
-use glob::{GlobError, PatternRefusal, glob_in, walk_in};
+use glob::{GlobError, PatternRefusal};
 use std::alloc::Global;
 use std::cell::Cell;
 use std::io::ErrorKind;
@@ -38,11 +38,9 @@ pub(super) fn check_refused(rt: &(impl Abort + AllocGlobal), job: Job<'_>, pos: 
     let alloc = rt.alloc();
     let calls = Cell::new(0);
     let tree = counting(alloc, &calls);
-    let paths = glob_in(alloc, tree, job.pattern, job.options, job.limit);
-    check_fault(rt, paths, pos, msg);
+    check_fault(rt, start(alloc, tree, job), pos, msg);
     let tree = counting(alloc, &calls);
-    let walk = walk_in(alloc, tree, job.pattern, job.options, job.limit);
-    check_fault(rt, walk, pos, msg);
+    check_fault(rt, gather(alloc, tree, job), pos, msg);
     assert_eq!(rt; calls.get(), 0);
 }
 
@@ -56,9 +54,9 @@ fn a_refused_pattern_asks_nothing(rt: HostRuntime) {
 fn nothing_is_asked_before_the_first_item_is_wanted(rt: HostRuntime) -> Result<(), Fail> {
     let calls = Cell::new(0);
     let tree = counting(rt.alloc(), &calls);
-    let mut paths = glob_in(rt.alloc(), tree, "a", CASE, u64::MAX)?;
+    let mut paths = start(rt.alloc(), tree, Job::of("a"))?;
     assert_eq!(rt; calls.get(), 0);
-    assert!(rt; paths.next().is_none());
+    assert!(rt; next_of(&mut paths).is_none());
     assert_eq!(rt; calls.get(), 2);
     assert_eq!(rt; paths.spent(), 2);
     Ok(())
