@@ -12,23 +12,26 @@ PATHS = (path.relative_to(ROOT) for path in ROOT.rglob("*.*") if path.is_file())
 FILES = [str(path) for path in PATHS if not {"out", ".git"} & set(path.parts)]
 PAGES = [name for name in FILES if name.endswith(".md")]
 
-# A page, and the file that holds its first block of Rust word for word.
+# A page, which of its blocks of Rust or of proofs, and the file that holds the block word for word.
 EXAMPLES = [
-    ("README.md", "crates/glob_vectors/src/tests/readme.rt"),
-    ("crates/glob/CALLING.md", "crates/glob_vectors/src/uses.rt"),
+    ("README.md", 0, "crates/glob_vectors/src/tests/readme.rt"),
+    ("crates/glob/CALLING.md", 0, "crates/glob_vectors/src/uses.rt"),
+    ("crates/glob/CALLING.md", 1, "crates/glob_vectors/proofs/uses/reread/Answers.antt"),
+    ("crates/glob/CALLING.md", 2, "crates/glob_walks/src/uses.rt"),
+    ("crates/glob/CALLING.md", 3, "crates/glob_walks/specs/FirstPaths.antt"),
 ]
 
 
 def lines_of(text):
-    """The lines without blanks around them, and without those that are empty or documentation."""
+    """The lines without blanks around them, and without those that are empty, documentation or comments of proofs."""
     lines = (line.strip() for line in text.split("\n"))
-    return [line for line in lines if line and not line.startswith("//!") and not line.startswith("///")]
+    return [line for line in lines if line and not line.startswith(("//!", "///", "--"))]
 
 
-def quotes(page, source):
-    """Whether the first block of Rust on the page stands in the source, line after line."""
-    block = re.search(r"```rust\n(.*?)```", (ROOT / page).read_text(encoding="utf-8"), re.S)
-    wanted, lines = lines_of(block[1]), lines_of((ROOT / source).read_text(encoding="utf-8"))
+def quotes(page, number, source):
+    """Whether the block on the page stands in the source, line after line."""
+    blocks = re.findall(r"```(?:rust|antt)\n(.*?)```", (ROOT / page).read_text(encoding="utf-8"), re.S)
+    wanted, lines = lines_of(blocks[number]), lines_of((ROOT / source).read_text(encoding="utf-8"))
     starts = range(len(lines) - len(wanted) + 1)
     return any(lines[start : start + len(wanted)] == wanted for start in starts)
 
@@ -65,7 +68,7 @@ def unknown_edits():
 
 
 def main():
-    faults = [f"{page}: the example is not that of {source}" for page, source in EXAMPLES if not quotes(page, source)]
+    faults = [f"{example[0]}: the example is not that of {example[2]}" for example in EXAMPLES if not quotes(*example)]
     for page in PAGES:
         faults += [f"{page}: no file {name}" for name in broken_links(page) + unknown_files(page)]
         faults += [f"{page}: no definition {name}" for name in unknown_definitions(page)]
