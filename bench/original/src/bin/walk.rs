@@ -9,10 +9,10 @@ use std::os::unix::ffi::OsStrExt;
 use std::process::ExitCode;
 
 /// Writes each path and a line feed, and returns how many paths and how many errors there are.
-fn write_paths(pattern: &str) -> Result<(u64, u64), Box<dyn Error>> {
+fn write_paths(pattern: &str, options: MatchOptions) -> Result<(u64, u64), Box<dyn Error>> {
     let mut writer = BufWriter::new(io::stdout().lock());
     let (mut paths, mut errors) = (0, 0);
-    for item in glob_with(pattern, MatchOptions::new())? {
+    for item in glob_with(pattern, options)? {
         match item {
             Ok(path) => {
                 writer.write_all(path.as_os_str().as_bytes())?;
@@ -29,12 +29,26 @@ fn write_paths(pattern: &str) -> Result<(u64, u64), Box<dyn Error>> {
     Ok((paths, errors))
 }
 
+/// The options that the leading words set, and the pattern after them.
+fn parse(words: impl Iterator<Item = String>) -> Option<(MatchOptions, String)> {
+    let mut options = MatchOptions::new();
+    for word in words {
+        match word.as_str() {
+            "-i" => options.case_sensitive = false,
+            "-s" => options.require_literal_separator = true,
+            "-d" => options.require_literal_leading_dot = true,
+            _ => return Some((options, word)),
+        }
+    }
+    None
+}
+
 fn main() -> ExitCode {
-    let Some(pattern) = env::args().nth(1) else {
-        eprintln!("usage: walk PATTERN");
+    let Some((options, pattern)) = parse(env::args().skip(1)) else {
+        eprintln!("usage: walk [-i] [-s] [-d] PATTERN");
         return ExitCode::from(2);
     };
-    match write_paths(&pattern) {
+    match write_paths(&pattern, options) {
         Ok((0, 0)) => ExitCode::from(1),
         Ok((_, 0)) => ExitCode::SUCCESS,
         Ok(_) => ExitCode::from(2),
