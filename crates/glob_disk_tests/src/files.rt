@@ -11,8 +11,8 @@ pub enum Kind<'a> {
     Dir(&'a [&'a [u8]]),
     /// A directory that cannot be opened, and why.
     Shut(ErrorKind),
-    /// A directory whose first read fails, and why.
-    Torn(ErrorKind),
+    /// A directory of which these blocks are read, and then a read fails, and why.
+    Torn(&'a [&'a [u8]], ErrorKind),
     /// A link that cannot be followed, and why.
     Link(ErrorKind),
     /// Nothing that can be looked at, and why.
@@ -44,7 +44,7 @@ impl<'a> Written<'a> {
     }
 }
 
-/// The names of a directory that are not yet read.
+/// The names of a directory that are not yet read, and why no more can be read after them, if so.
 #[derive(Drop)]
 pub struct Names<'a> {
     blocks: &'a [&'a [u8]],
@@ -53,12 +53,12 @@ pub struct Names<'a> {
 
 impl Read for Names<'_> {
     fn read(&mut self, buf: &mut [u8]) -> io::Result<usize> {
-        if let Some(kind) = self.failure {
-            return Err(io::Error::from(kind));
-        }
         let blocks = self.blocks;
         if blocks.is_empty() {
-            return Ok(0);
+            return match self.failure {
+                Some(kind) => Err(io::Error::from(kind)),
+                None => Ok(0),
+            };
         }
         let block = blocks[0];
         self.blocks = &blocks[1..];
@@ -83,8 +83,8 @@ impl<'a> Files for Written<'a> {
                 blocks,
                 failure: None,
             }),
-            Kind::Torn(kind) => Ok(Names {
-                blocks: &[],
+            Kind::Torn(blocks, kind) => Ok(Names {
+                blocks,
                 failure: Some(kind),
             }),
             Kind::Shut(kind) | Kind::Link(kind) | Kind::Lost(kind) | Kind::Fading(kind, _) => {
@@ -97,7 +97,7 @@ impl<'a> Files for Written<'a> {
     fn metadata(&self, path: &str) -> io::Result<Metadata> {
         match self.kind(path) {
             Kind::File => Ok(Metadata::of_file(0)),
-            Kind::Dir(_) | Kind::Shut(_) | Kind::Torn(_) => Ok(Metadata::of_dir()),
+            Kind::Dir(_) | Kind::Shut(_) | Kind::Torn(..) => Ok(Metadata::of_dir()),
             Kind::Link(kind) | Kind::Lost(kind) | Kind::Fading(kind, _) => {
                 Err(io::Error::from(kind))
             }

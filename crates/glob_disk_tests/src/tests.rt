@@ -2,7 +2,7 @@ use crate::files::{Kind, Written};
 use glob::{Disk, ListError, Look, Tree};
 use std::io::ErrorKind;
 
-const PATHS: [(&str, Kind); 22] = [
+const PATHS: &[(&str, Kind)] = &[
     ("d", Kind::Dir(&[])),
     ("d/", Kind::Dir(&[b"f\0.\0s\0", b"..\0gone\0ring\0"])),
     ("d/f", Kind::File),
@@ -11,7 +11,12 @@ const PATHS: [(&str, Kind); 22] = [
     ("d/ring", Kind::Link(ErrorKind::FilesystemLoop)),
     ("empty/", Kind::Dir(&[])),
     ("shut/", Kind::Shut(ErrorKind::PermissionDenied)),
-    ("torn/", Kind::Torn(ErrorKind::StaleNetworkFileHandle)),
+    ("torn/", Kind::Torn(&[], ErrorKind::StaleNetworkFileHandle)),
+    (
+        "tears/",
+        Kind::Torn(&[b"a\0b\0"], ErrorKind::StaleNetworkFileHandle),
+    ),
+    ("tears/a", Kind::File),
     ("latin/", Kind::Dir(&[b"a\0\xff\0"])),
     ("odd/", Kind::Dir(&[b"a\0b/c\0"])),
     ("unseen/", Kind::Dir(&[b"a\0"])),
@@ -21,7 +26,8 @@ const PATHS: [(&str, Kind); 22] = [
     ),
     ("full", Kind::Lost(ErrorKind::OutOfMemory)),
     ("full/", Kind::Shut(ErrorKind::OutOfMemory)),
-    ("filling/", Kind::Torn(ErrorKind::OutOfMemory)),
+    ("filling/", Kind::Torn(&[], ErrorKind::OutOfMemory)),
+    ("overflows/", Kind::Torn(&[b"a\0"], ErrorKind::OutOfMemory)),
     ("fills/", Kind::Dir(&[b"a\0"])),
     ("fills/a", Kind::Lost(ErrorKind::OutOfMemory)),
     (
@@ -33,7 +39,7 @@ const PATHS: [(&str, Kind); 22] = [
     ("barred", Kind::Lost(ErrorKind::PermissionDenied)),
 ];
 
-const LOOKS: [(&str, Option<Look>); 10] = [
+const LOOKS: &[(&str, Option<Look>)] = &[
     ("d", Some(Look::Dir)),
     ("d/f", Some(Look::Other)),
     ("d/s", Some(Look::Dir)),
@@ -48,13 +54,13 @@ const LOOKS: [(&str, Option<Look>); 10] = [
 
 #[test]
 fn looks(rt: HostRuntime) {
-    let mut disk = Disk::new(Written::new(&PATHS), rt.alloc());
+    let mut disk = Disk::new(Written::new(PATHS), rt.alloc());
     for (path, wanted) in LOOKS {
-        assert!(rt; disk.look(path).ok() == wanted, "{path}");
+        assert!(rt; disk.look(path).ok() == *wanted, "{path}");
     }
 }
 
-const LISTINGS: [(&str, &[(&str, bool)]); 4] = [
+const LISTINGS: &[(&str, &[(&str, bool)])] = &[
     (
         "d",
         &[("f", false), ("s", true), ("gone", false), ("ring", false)],
@@ -66,13 +72,13 @@ const LISTINGS: [(&str, &[(&str, bool)]); 4] = [
 
 #[test]
 fn listings(rt: HostRuntime) {
-    let mut disk = Disk::new(Written::new(&PATHS), rt.alloc());
+    let mut disk = Disk::new(Written::new(PATHS), rt.alloc());
     for (path, wanted) in LISTINGS {
         let Ok(entries) = disk.list(path) else {
             panic!(rt; "{path}");
         };
         assert_eq!(rt; entries.len(), wanted.len(), "{path}");
-        for (entry, (name, is_dir)) in entries.iter().zip(wanted) {
+        for (entry, (name, is_dir)) in entries.iter().zip(*wanted) {
             assert_eq!(rt; entry.name.as_str(), *name, "{path}");
             assert_eq!(rt; entry.is_dir, *is_dir, "{path}");
         }
@@ -80,25 +86,27 @@ fn listings(rt: HostRuntime) {
 }
 
 /// The kind of the error that a listing fails with, and `None` where memory was missing.
-const FAILURES: [(&str, Option<ErrorKind>); 9] = [
+const FAILURES: &[(&str, Option<ErrorKind>)] = &[
     ("", Some(ErrorKind::NotFound)),
     ("nothing", Some(ErrorKind::NotFound)),
     ("shut", Some(ErrorKind::PermissionDenied)),
     ("torn", Some(ErrorKind::StaleNetworkFileHandle)),
+    ("tears", Some(ErrorKind::StaleNetworkFileHandle)),
     ("latin", Some(ErrorKind::InvalidFilename)),
     ("odd", Some(ErrorKind::InvalidFilename)),
     ("full", None),
     ("filling", None),
+    ("overflows", None),
     ("fills", None),
 ];
 
 #[test]
 fn failing_listings(rt: HostRuntime) {
-    let mut disk = Disk::new(Written::new(&PATHS), rt.alloc());
+    let mut disk = Disk::new(Written::new(PATHS), rt.alloc());
     for (path, wanted) in FAILURES {
         match disk.list(path) {
             Ok(_) => panic!(rt; "{path}"),
-            Err(ListError::Read(error)) => assert!(rt; Some(error.kind()) == wanted, "{path}"),
+            Err(ListError::Read(error)) => assert!(rt; Some(error.kind()) == *wanted, "{path}"),
             Err(ListError::Memory) => assert!(rt; wanted.is_none(), "{path}"),
         }
     }
