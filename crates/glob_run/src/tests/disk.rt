@@ -1,15 +1,15 @@
 //! Walks over a folder on the disk, by `glob`, by `glob_with` and by the command `find`. The folder holds what the tests
 //! of the original crate make, but for links.
+use super::check;
 use super::folder::Folder;
-use crate::run_words;
 use glob::{GlobCause, MatchOptions, Paths, Pattern, Tree, glob, glob_with};
-use std::alloc::Global;
+use std::alloc::{AllocError, Global};
 use std::fs::Files;
 use std::io::ErrorKind;
 use std::process::Abort;
 use std::test::Fail;
 
-const DIRS: [&str; 11] = [
+const DIRS: &[&str] = &[
     "aaa/apple",
     "aaa/orange",
     "aaa/tomato",
@@ -23,7 +23,7 @@ const DIRS: [&str; 11] = [
     "r",
 ];
 
-const FILES: [&str; 17] = [
+const FILES: &[&str] = &[
     "aaa/tomato/tomato.txt",
     "aaa/tomato/tomoto.txt",
     "xyz/x",
@@ -43,12 +43,12 @@ const FILES: [&str; 17] = [
     "bbb/specials/]",
 ];
 
-/// Patterns, and the paths that a walk gives for each of them.
-type Row = (&'static [&'static str], &'static [&'static str]);
+/// Patterns with a blank between each two, and the paths that a walk gives for each of them.
+type Row<'a> = (&'a str, &'a [&'a str]);
 
-const WALKS: [Row; 23] = [
+const WALKS: &[Row] = &[
     (
-        &["r/**", "r/**/**"],
+        "r/** r/**/**",
         &[
             "r/another",
             "r/one",
@@ -59,7 +59,7 @@ const WALKS: [Row; 23] = [
         ],
     ),
     (
-        &["r/**/*"],
+        "r/**/*",
         &[
             "r/another",
             "r/another/a.md",
@@ -77,7 +77,7 @@ const WALKS: [Row; 23] = [
         ],
     ),
     (
-        &["r/**/*.md"],
+        "r/**/*.md",
         &[
             "r/another/a.md",
             "r/current_dir.md",
@@ -89,93 +89,86 @@ const WALKS: [Row; 23] = [
         ],
     ),
     (
-        &["r/one/**/a.md", "r/one/**/**/a.md"],
+        "r/one/**/a.md r/one/**/**/a.md",
         &["r/one/a.md", "r/one/another/a.md"],
     ),
     (
-        &["r/**/another/a.md"],
+        "r/**/another/a.md",
         &["r/another/a.md", "r/one/another/a.md"],
     ),
-    (&["aaa", "aaa/"], &["aaa"]),
-    (&["a", "aa", "aaaa"], &[]),
-    (&["aaa/apple"], &["aaa/apple"]),
-    (&["aaa/apple/nope"], &[]),
-    (&["???/"], &["aaa", "bbb", "ccc", "xyz"]),
+    ("aaa aaa/", &["aaa"]),
+    ("a aa aaaa", &[]),
+    ("aaa/apple", &["aaa/apple"]),
+    ("aaa/apple/nope", &[]),
+    ("???/", &["aaa", "bbb", "ccc", "xyz"]),
     (
-        &["aaa/tomato/tom?to.txt"],
+        "aaa/tomato/tom?to.txt",
         &["aaa/tomato/tomato.txt", "aaa/tomato/tomoto.txt"],
     ),
-    (&["xyz/?"], &["xyz/x", "xyz/y", "xyz/z"]),
+    ("xyz/?", &["xyz/x", "xyz/y", "xyz/z"]),
+    ("a* *a* a*a aaa* *aaa *aaa* *a*a*a* aaa*/", &["aaa"]),
+    ("aaa/* aaa/*a*", &["aaa/apple", "aaa/orange", "aaa/tomato"]),
     (
-        &[
-            "a*", "*a*", "a*a", "aaa*", "*aaa", "*aaa*", "*a*a*a*", "aaa*/",
-        ],
-        &["aaa"],
-    ),
-    (
-        &["aaa/*", "aaa/*a*"],
-        &["aaa/apple", "aaa/orange", "aaa/tomato"],
-    ),
-    (
-        &["*/*/*.txt", "*/*/t[aob]m?to[.]t[!y]t"],
+        "*/*/*.txt */*/t[aob]m?to[.]t[!y]t",
         &["aaa/tomato/tomato.txt", "aaa/tomato/tomoto.txt"],
     ),
-    (&["*"], &["aaa", "bbb", "ccc", "r", "xyz"]),
-    (&["*/.."], &["aaa/..", "bbb/..", "ccc/..", "r/..", "xyz/.."]),
-    (&["aaa/../bbb"], &["aaa/../bbb"]),
-    (&["nonexistent/../bbb"], &[]),
-    (&["aaa/tomato/tomato.txt/.."], &[]),
-    (&["aaa/tomato/tomato.txt/"], &[]),
-    (
-        &[
-            "aa[a]", "aa[abc]", "a[bca]a", "aa[!b]", "aa[!bcd]", "a[!bcd]a",
-        ],
-        &["aaa"],
-    ),
-    (&["aa[b]", "aa[xyz]", "aa[]]", "aa[!a]", "aa[!abc]"], &[]),
+    ("*", &["aaa", "bbb", "ccc", "r", "xyz"]),
+    ("*/..", &["aaa/..", "bbb/..", "ccc/..", "r/..", "xyz/.."]),
+    ("aaa/../bbb", &["aaa/../bbb"]),
+    ("nonexistent/../bbb", &[]),
+    ("aaa/tomato/tomato.txt/..", &[]),
+    ("aaa/tomato/tomato.txt/", &[]),
+    ("aa[a] aa[abc] a[bca]a aa[!b] aa[!bcd] a[!bcd]a", &["aaa"]),
+    ("aa[b] aa[xyz] aa[]] aa[!a] aa[!abc]", &[]),
 ];
 
 /// The same, where `bbb/specials/` stands before each pattern and each path.
-const SPECIALS: [Row; 10] = [
-    (&["[[]"], &["["]),
-    (&["!"], &["!"]),
-    (&["[]]"], &["]"]),
-    (&["[*]"], &["*"]),
-    (&["[?]"], &["?"]),
-    (&["[![]"], &["!", "*", "?", "]"]),
-    (&["[!]]"], &["!", "*", "?", "["]),
-    (&["[!!]"], &["*", "?", "[", "]"]),
-    (&["[!*]"], &["!", "?", "[", "]"]),
-    (&["[!?]"], &["!", "*", "[", "]"]),
+const SPECIALS: &[Row] = &[
+    ("[[]", &["["]),
+    ("!", &["!"]),
+    ("[]]", &["]"]),
+    ("[*]", &["*"]),
+    ("[?]", &["?"]),
+    ("[![]", &["!", "*", "?", "]"]),
+    ("[!]]", &["!", "*", "?", "["]),
+    ("[!!]", &["*", "?", "[", "]"]),
+    ("[!*]", &["!", "?", "[", "]"]),
+    ("[!?]", &["!", "*", "[", "]"]),
 ];
 
-/// What a walk gives, a line for each item. A line of an error begins with `!`.
-fn lines<T: Tree>(alloc: Global, items: Paths<T>) -> Result<String, Fail> {
+fn add_line(text: &mut String, line: &str) -> Result<(), AllocError> {
+    text.push_str(line)?;
+    text.push('\n')
+}
+
+/// What a walk gives, a line for each item. That of an error is `!`.
+fn lines<T: Tree>(alloc: Global, items: Paths<T>) -> Result<String, AllocError> {
     let mut text = String::new(alloc);
     for item in items {
         match item {
-            Ok(path) => text.push_str(path.as_str())?,
-            Err(error) => text.push_str(format!(in alloc; "!{error}")?.as_str())?,
+            Ok(path) => add_line(&mut text, path.as_str())?,
+            Err(_) => add_line(&mut text, "!")?,
         }
-        text.push('\n')?;
     }
     Ok(text)
 }
 
 /// Paths below a folder, a line for each.
-fn below(rt: &impl AllocGlobal, folder: &str, names: &[&str]) -> Result<String, Fail> {
+fn below(rt: &impl AllocGlobal, folder: &str, names: &[&str]) -> Result<String, AllocError> {
     let mut text = String::new(rt.alloc());
     for name in names {
-        text.push_str(format!(in rt.alloc(); "{folder}/{name}\n")?.as_str())?;
+        text.push_str(folder)?;
+        text.push('/')?;
+        add_line(&mut text, name)?;
     }
     Ok(text)
 }
 
 /// What `glob` gives for a pattern.
-fn by_glob(rt: &(impl AllocGlobal + Files), pattern: &str) -> Result<String, Fail> {
+fn by_glob(rt: &(impl AllocGlobal + Files), pattern: &str) -> Result<String, AllocError> {
     match glob(rt, rt.alloc(), pattern) {
         Ok(items) => lines(rt.alloc(), items),
-        Err(refusal) => Ok(format!(in rt.alloc(); "{refusal}")?),
+        Err(refusal) => format!(in rt.alloc(); "{refusal}"),
     }
 }
 
@@ -184,77 +177,69 @@ fn by_glob_with(
     rt: &(impl AllocGlobal + Files),
     pattern: &str,
     options: MatchOptions,
-) -> Result<String, Fail> {
+) -> Result<String, AllocError> {
     match glob_with(rt, rt.alloc(), pattern, options) {
         Ok(items) => lines(rt.alloc(), items),
-        Err(refusal) => Ok(format!(in rt.alloc(); "{refusal}")?),
+        Err(refusal) => format!(in rt.alloc(); "{refusal}"),
     }
 }
 
-/// Whether `find` answers this status and writes these lines, and no error.
-fn check_find(rt: &(impl Abort + AllocGlobal + Files), pattern: &str, wanted: &str) {
-    let mut written = Vec::new(rt.alloc());
-    let mut errors = Vec::new(rt.alloc());
-    let words = ["find", pattern];
-    let status = run_words(
-        rt,
-        rt.alloc(),
-        &words,
-        b"".as_slice(),
-        &mut written,
-        &mut errors,
-    );
-    assert_eq!(rt; status, u8::from(wanted.is_empty()), "{pattern}");
-    assert_eq!(rt; written.as_slice(), wanted.as_bytes(), "{pattern}");
-    assert!(rt; errors.is_empty(), "{pattern}");
+/// Whether these lines, and no error, come of a pattern in each of the three ways.
+fn check_pattern(
+    rt: &(impl Abort + AllocGlobal + Files),
+    pattern: &str,
+    wanted: &str,
+) -> Result<(), Fail> {
+    let by_glob = by_glob(rt, pattern)?;
+    assert!(rt; by_glob.as_str() == wanted, "{pattern}");
+    let by_glob_with = by_glob_with(rt, pattern, MatchOptions::new())?;
+    assert!(rt; by_glob_with.as_str() == wanted, "{pattern}");
+    let status = u8::from(wanted.is_empty());
+    check(rt, &["find", pattern], b"".as_slice(), (status, wanted, ""));
+    Ok(())
 }
 
-/// Runs a row in each of the three ways.
+/// Checks each pattern of a row, below a folder.
 fn check_row(rt: &(impl Abort + AllocGlobal + Files), folder: &str, row: &Row) -> Result<(), Fail> {
     let (patterns, names) = row;
     let escaped = Pattern::escape(rt.alloc(), folder)?;
     let wanted = below(rt, folder, names)?;
-    for pattern in *patterns {
+    for pattern in patterns.split(' ') {
         let pattern = format!(in rt.alloc(); "{escaped}/{pattern}")?;
-        let pattern = pattern.as_str();
-        assert_eq!(rt;
-            by_glob(rt, pattern)?.as_str(),
-            wanted.as_str(),
-            "{pattern}"
-        );
-        let options = MatchOptions::new();
-        assert_eq!(rt;
-            by_glob_with(rt, pattern, options)?.as_str(),
-            wanted.as_str(),
-            "{pattern}"
-        );
-        check_find(rt, pattern, wanted.as_str());
+        check_pattern(rt, pattern.as_str(), wanted.as_str())?;
     }
     Ok(())
 }
 
-/// A folder with all that the rows speak of.
-fn filled(rt: &HostRuntime, name: &str) -> Result<Folder, Fail> {
-    let folder = Folder::new(rt, name)?;
+fn check_rows(
+    rt: &(impl Abort + AllocGlobal + Files),
+    folder: &str,
+    rows: &[Row],
+) -> Result<(), Fail> {
+    for row in rows {
+        check_row(rt, folder, row)?;
+    }
+    Ok(())
+}
+
+/// Makes all that the rows speak of.
+fn fill(rt: &HostRuntime, folder: &Folder) -> Result<(), Fail> {
     for dir in DIRS {
         folder.add_dir(rt, dir)?;
     }
     for file in FILES {
         folder.add_file(rt, file)?;
     }
-    Ok(folder)
+    Ok(())
 }
 
 #[test]
 fn walks(rt: HostRuntime) -> Result<(), Fail> {
-    let folder = filled(&rt, "walks")?;
-    for row in &WALKS {
-        check_row(&rt, folder.path(), row)?;
-    }
+    let folder = Folder::new(&rt, "walks")?;
+    fill(&rt, &folder)?;
+    check_rows(&rt, folder.path(), WALKS)?;
     let specials = format!(in rt.alloc(); "{}/bbb/specials", folder.path())?;
-    for row in &SPECIALS {
-        check_row(&rt, specials.as_str(), row)?;
-    }
+    check_rows(&rt, specials.as_str(), SPECIALS)?;
     folder.remove(&rt)
 }
 
@@ -270,11 +255,8 @@ fn options_are_those_of_the_caller(rt: HostRuntime) -> Result<(), Fail> {
         ..MatchOptions::new()
     };
     let wanted = below(&rt, folder.path(), &["AAA"])?;
-    assert_eq!(rt; by_glob(&rt, pattern.as_str())?.as_str(), "");
-    assert_eq!(rt;
-        by_glob_with(&rt, pattern.as_str(), options)?.as_str(),
-        wanted.as_str()
-    );
+    assert!(rt; by_glob(&rt, pattern.as_str())?.is_empty());
+    assert!(rt; by_glob_with(&rt, pattern.as_str(), options)? == wanted);
     folder.remove(&rt)
 }
 
@@ -282,11 +264,8 @@ fn options_are_those_of_the_caller(rt: HostRuntime) -> Result<(), Fail> {
 fn a_fault_of_the_pattern_is_returned(rt: HostRuntime) -> Result<(), Fail> {
     let wanted =
         "Pattern syntax error near position 4: recursive wildcards must form a single path component";
-    assert_eq!(rt; by_glob(&rt, "a/**b[")?.as_str(), wanted);
-    assert_eq!(rt;
-        by_glob_with(&rt, "a/**b[", MatchOptions::new())?.as_str(),
-        wanted
-    );
+    assert!(rt; by_glob(&rt, "a/**b[")?.as_str() == wanted);
+    assert!(rt; by_glob_with(&rt, "a/**b[", MatchOptions::new())?.as_str() == wanted);
     Ok(())
 }
 

@@ -1,6 +1,7 @@
 //! Folders that a test makes on the disk for itself.
+use std::io::ErrorKind;
 use std::test::Fail;
-use std::{env, fs, io, process};
+use std::{env, fs, process};
 
 /// A folder of a test's own. The test removes it at its end.
 #[derive(Drop)]
@@ -9,12 +10,27 @@ pub struct Folder {
 }
 
 impl Folder {
-    /// An empty folder. No other test takes the same name.
+    /// An empty folder below the system's place for such folders. What an earlier run left there is not touched.
     pub fn new(rt: &HostRuntime, name: &str) -> Result<Folder, Fail> {
         let place = env::temp_dir(rt)?;
         let process = process::id(rt.process());
-        let path = format!(in rt.alloc(); "{}/glob_run_{process}_{name}", place.as_str())?;
-        fs::create_dir_all(rt, path.as_str())?;
+        for number in 0..1000 {
+            let path = format!(in rt.alloc();
+                "{}/glob_run_{process}_{name}_{number}",
+                place.as_str()
+            )?;
+            match fs::create_dir(rt, path.as_str()) {
+                Ok(()) => return Folder::at(rt, path.as_str()),
+                Err(error) if error.kind() == ErrorKind::AlreadyExists => (),
+                Err(error) => return Err(Fail::from(error)),
+            }
+        }
+        Err(Fail::new("each name of the folder is taken"))
+    }
+
+    /// A folder that is there, by an absolute path without links, dots and doubled separators.
+    fn at(rt: &HostRuntime, path: &str) -> Result<Folder, Fail> {
+        let path = fs::canonicalize(rt, path)?.into_string();
         Ok(Folder { path })
     }
 
