@@ -1,7 +1,7 @@
 //! Folders that a test makes on the disk for itself.
 use std::io::ErrorKind;
 use std::test::Fail;
-use std::{env, fs, process};
+use std::{env, fs, io, process};
 
 /// A folder of a test's own. The test removes it at its end.
 #[derive(Drop)]
@@ -12,17 +12,10 @@ pub struct Folder {
 impl Folder {
     /// An empty folder below the system's place for such folders. What an earlier run left there is not touched.
     pub fn new(rt: &HostRuntime, name: &str) -> Result<Folder, Fail> {
-        let place = env::temp_dir(rt)?;
-        let process = process::id(rt.process());
         for number in 0..1000 {
-            let path = format!(in rt.alloc();
-                "{}/glob_run_{process}_{name}_{number}",
-                place.as_str()
-            )?;
-            match fs::create_dir(rt, path.as_str()) {
-                Ok(()) => return Folder::at(rt, path.as_str()),
-                Err(error) if error.kind() == ErrorKind::AlreadyExists => (),
-                Err(error) => return Err(Fail::from(error)),
+            let path = candidate(rt, name, number)?;
+            if make(rt, path.as_str())? {
+                return Folder::at(rt, path.as_str());
             }
         }
         Err(Fail::new("each name of the folder is taken"))
@@ -64,5 +57,22 @@ impl Folder {
     pub fn remove(self, rt: &HostRuntime) -> Result<(), Fail> {
         fs::remove_dir_all(rt, self.path.as_str())?;
         Ok(())
+    }
+}
+
+/// A path for a folder of this name. Each number gives another one.
+fn candidate(rt: &HostRuntime, name: &str, number: u32) -> io::Result<String> {
+    let place = env::temp_dir(rt)?;
+    let process = process::id(rt.process());
+    let place = place.as_str();
+    Ok(format!(in rt.alloc(); "{place}/glob_run_{process}_{name}_{number}")?)
+}
+
+/// Makes a folder, and says whether it is new.
+fn make(rt: &HostRuntime, path: &str) -> io::Result<bool> {
+    match fs::create_dir(rt, path) {
+        Ok(()) => Ok(true),
+        Err(error) if error.kind() == ErrorKind::AlreadyExists => Ok(false),
+        Err(error) => Err(error),
     }
 }
