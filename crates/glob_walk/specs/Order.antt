@@ -28,7 +28,7 @@ keeps_order pattern = has_one_run pattern && nat_le (length (after_run (componen
 abbrev pub names_of : (path : Text) → List Text
 names_of path = filter (λ piece. not (is_empty piece)) (pieces path)
 
--- name by name in the order of bytes, a list of names before a longer one
+-- name by name in the order of bytes, a list of names before one that extends it
 abbrev pub path_cmp : Text → Text → Ordering
 path_cmp path other = slice_cmp (slice_cmp nat_cmp) (names_of path) (names_of other)
 

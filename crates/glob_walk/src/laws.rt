@@ -13,8 +13,9 @@ pub fn plain_walk_reaches_the_goal()
     ensures { PlainWalkReaches }
 {}
 
-/// Over a readable content a plain walk has no error, and its paths are exactly what the undivided pattern matches: by
-/// `**/x` over files `x`, `y` and `d/x` they are `d/x` and `x`.
+/// Over a readable content a plain walk has no error, and its paths are exactly what the undivided pattern matches
+/// under the separator rule, or the directories among those if it ends in `/` or `**`: by `**/x` over files `x`, `y`
+/// and `d/x` they are `d/x` and `x`.
 pub fn plain_walk_gives_the_goal()
     ensures { PlainWalkGives }
 {}

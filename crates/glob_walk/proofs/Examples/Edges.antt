@@ -37,7 +37,7 @@ readable_and_not :
 unfolding computed is_readable
 readable_and_not = (refl, refl)
 
--- the entries are met in the order of bytes, whatever the order of the keys; é is two bytes and one character
+-- the entries are met in the order of bytes, whatever the order of the keys
 order_of_bytes :
     Gives (at_root (file "z" ∷ file "b" ∷ file "a" ∷ file "B" ∷ [])) new "?" ("B" ∷ "a" ∷ "b" ∷ "z" ∷ [])
 unfolding computed

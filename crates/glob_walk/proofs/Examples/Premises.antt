@@ -27,17 +27,46 @@ nested = at_root (dir "a" ∷ dir "a/a" ∷ file "a/a/b" ∷ [])
 abbrev crossed : Content
 crossed = at_root (dir "a" ∷ dir "a/c" ∷ file "a/c/d" ∷ file "a/x" ∷ [])
 
--- without case a walk finds more than the pattern with case matches
-case_counts : IsGiven one_file (options false false false) "[A]" ("a" ∷ []) × IsGoal one_file (options false false false) "[A]" []
-unfolding computed
-case_counts = (refl, refl)
+abbrev no_case : MatchOptions
+no_case = options false false false
 
--- a dotted wildcard finds the special names, `.` is walked through, and an empty component too
+-- without case a walk finds more than the pattern with case matches, and less
+case_counts :
+    IsGiven one_file no_case "[A]" ("a" ∷ []) × IsGoal one_file no_case "[A]" []
+    × IsGiven (at_root (file "A" ∷ [])) no_case "[!a]" [] × IsGoal (at_root (file "A" ∷ [])) no_case "[!a]" ("A" ∷ [])
+unfolding computed
+case_counts = (refl, refl, refl, refl)
+
+-- a dotted wildcard finds the special names; a walk goes through `.`, `..` and an empty component
 plain_counts :
     (is_plain (codes ".*") ≡ false) × IsGiven one_file new ".*" ("./.." ∷ "./." ∷ []) × IsGoal one_file new ".*" []
-    × (is_plain (codes "./a") ≡ false) × IsGoal one_file new "./a" []
+    × (is_plain (codes "./a") ≡ false) × IsGiven one_file new "./a" ("a" ∷ []) × IsGoal one_file new "./a" []
+    × (is_plain (codes "a//a") ≡ false) × IsGiven nested new "a//a" ("a/a" ∷ []) × IsGoal nested new "a//a" []
+    × (is_plain (codes "a/../a") ≡ false) × IsGiven nested new "a/../a" ("a/../a" ∷ []) × IsGoal nested new "a/../a" []
+    × (is_plain (codes "**//") ≡ false) × IsGiven nested new "**//" [] × IsGoal nested new "**//" ("a" ∷ "a/a" ∷ [])
 unfolding computed
-plain_counts = (refl, refl, refl, refl, refl)
+plain_counts = (refl, refl, refl, refl, refl, refl, refl, refl, refl, refl, refl, refl, refl, refl, refl)
+
+-- the goal asks the dot rule as the options set it
+dots_count :
+    IsGoal (at_root (file ".a" ∷ [])) (options true false true) "*" []
+    × IsGoal (at_root (file ".a" ∷ [])) (options true false false) "*" (".a" ∷ [])
+unfolding computed
+dots_count = (refl, refl)
+
+-- directories alone are the goal of a pattern that ends in a separator or in `**`
+kinds_count :
+    IsGoal (at_root (dir "a" ∷ file "b" ∷ [])) new "*/" ("a" ∷ [])
+    × IsGoal (at_root (dir "a" ∷ file "b" ∷ [])) new "**" ("a" ∷ [])
+unfolding computed
+kinds_count = (refl, refl)
+
+-- a pattern that begins with a separator has the texts from the root as its goal
+rooted_counts :
+    IsGiven crossed new "/a/*" ("/a/c" ∷ "/a/x" ∷ []) × IsGoal crossed new "/a/*" ("/a/c" ∷ "/a/x" ∷ [])
+    × IsGiven crossed new "/**" ("/a" ∷ "/a/c" ∷ []) × IsGoal crossed new "/**" ("/a" ∷ "/a/c" ∷ [])
+unfolding computed
+rooted_counts = (refl, refl, refl, refl)
 
 -- two runs give a path twice, and two components after a run break the order
 runs_count :
@@ -56,6 +85,16 @@ readable_counts :
     × IsGoal closed new "*/*" ("a/x" ∷ "b/x" ∷ [])
 unfolding computed is_readable
 readable_counts = (refl, refl, refl)
+
+-- a literal leads below a shut directory, with no error
+literal_counts : items (listing closed new (codes "b/x")) ≡ Found (codes "b/x") ∷ []
+unfolding computed
+literal_counts = refl
+
+-- a run may give the error of one directory twice
+repeated_error : items (listing (at_root (shut PermissionDenied "d" ∷ [])) new (codes "**/*/*")) ≡ Unread (codes "d") PermissionDenied ∷ Unread (codes "d") PermissionDenied ∷ []
+unfolding computed
+repeated_error = refl
 
 -- within a limit the walk finds goals alone, though not each of them
 whole_counts :
