@@ -23,8 +23,8 @@ abbrev pub are_plain : (after_recursive : Bool) → List Text → Bool
 are_plain after_recursive [] = true
 are_plain after_recursive (t ∷ ts) = is_plain_component after_recursive t && are_plain (is_recursive t) ts
 
--- The pattern has no fault, and no component whose meaning is not that of the undivided text: an empty one, `.`, `..`, or
--- one that may find the special names `.` and `..` of a directory.
+-- The pattern has no fault, and no component whose meaning is not that of the undivided text: an empty one, `.`, `..`,
+-- or one that may find the special names `.` and `..` of a directory.
 unfoldable pub is_plain : (pattern : Text) → Bool
 is_plain pattern = is_none (walk_fault pattern) && are_plain false (components pattern)
 
@@ -100,9 +100,11 @@ pub record IsHidden (c : Content) (pattern : Text) (given : List Item) (text : T
   pub same : text ≡ text_below pattern names
 
 -- each path is a goal, and if the walk is whole, each goal is a path or hidden
-pub record ReachesGoal (c : Content) (o : MatchOptions) (pattern : Text) (IsWhole : Type 0) (given : List Item) : Type 0 where
+pub record ReachesGoal (c : Content) (o : MatchOptions) (pattern : Text) (IsWhole : Type 0)
+    (given : List Item) : Type 0 where
   pub sound : (text : Text) → Contains (paths given) text → Contains (goal c o pattern) text
-  pub complete : IsWhole → (text : Text) → Contains (goal c o pattern) text → Contains (paths given) text ⊎ IsHidden c pattern given text
+  pub complete : IsWhole → (text : Text) → Contains (goal c o pattern) text
+      → Contains (paths given) text ⊎ IsHidden c pattern given text
 
 -- no item is an error, and the paths are exactly the goal
 pub record GivesGoal (c : Content) (o : MatchOptions) (pattern : Text) (given : List Item) : Type 0 where

@@ -1,5 +1,5 @@
 -- What a walk does: units of work and items, which are counted and cut at a limit.
-use Rattle.std.specs.Prelude.{◌≡◌, ℕ, zero, suc, List, [], ◌∷◌, ◌++◌, Option, Some, None}
+use Rattle.std.specs.Prelude.{◌≡◌, ℕ, zero, suc, List, [], ◌∷◌, ◌++◌}
 use Rattle.std.specs.declared.io.ErrorKind.{ErrorKind}
 use Rattle.glob_text.specs.Text.{Text}
 
@@ -31,13 +31,6 @@ front n [] = []
 front n (Give item ∷ ms) = Give item ∷ front n ms
 front zero (Work path ∷ ms) = []
 front (suc n) (Work path ∷ ms) = Work path ∷ front n ms
-
--- the path of unit n + 1
-abbrev pub path_past : ℕ → List Mark → Option Text
-path_past n [] = None
-path_past n (Give item ∷ ms) = path_past n ms
-path_past zero (Work path ∷ ms) = Some path
-path_past (suc n) (Work path ∷ ms) = path_past n ms
 
 -- the items are a beginning of all of them
 abbrev pub IsBeginning : (some all : List Item) → Type 0

@@ -85,7 +85,8 @@ IsAsked asks old (Some (LimitAt path)) new =
 IsAsked asks old _ new = asks new.tree + old.spent ≡ asks old.tree + new.spent
 
 -- over every tree: what one call of `next` does to the counts
-pub record Counts {X : Type 0} (asks : X → ℕ) (old : Walking X) (answer : Option Outcome) (new : Walking X) : Type 0 where
+pub record Counts {X : Type 0} (asks : X → ℕ) (old : Walking X) (answer : Option Outcome)
+    (new : Walking X) : Type 0 where
   pub limit : new.limit ≡ old.limit
   pub grows : old.spent ≤ new.spent
   pub within : new.spent ≤ new.limit
@@ -111,7 +112,8 @@ pub record StopsAt (left : List Mark) (spent : ℕ) (path : Text) (spent' : ℕ)
   pub charges : Charges left spent (Work path ∷ rest) spent'
 
 -- what a call of `next` takes from the front of what was left
-abbrev pub TakesFront : (old : List Mark) → (spent : ℕ) → Option Outcome → (new : List Mark) → (spent' : ℕ) → Type 0
+abbrev pub TakesFront : (old : List Mark) → (spent : ℕ) → Option Outcome → (new : List Mark) → (spent' : ℕ)
+    → Type 0
 TakesFront old spent None new spent' = Charges old spent [] spent' × (new ≡ [])
 TakesFront old spent (Some (Gives item)) new spent' = Charges old spent (Give item ∷ new) spent'
 TakesFront old spent (Some (LimitAt path)) new spent' = StopsAt old spent path spent'
@@ -119,7 +121,8 @@ TakesFront old spent (Some NoMemory) new spent' = ⊤
 
 -- Over a tree with a known content: what one call of `next` takes from what is left of the written listing, as long as
 -- the walk is not over.
-pub record Takes {X : Type 0} (tells : X → Option Content) (old : Walking X) (answer : Option Outcome) (new : Walking X) (c : Content) : Type 0 where
+pub record Takes {X : Type 0} (tells : X → Option Content) (old : Walking X) (answer : Option Outcome)
+    (new : Walking X) (c : Content) : Type 0 where
   pub told : IsTold (tells new.tree) c
   pub old_left : List Mark
   pub new_left : List Mark
@@ -128,16 +131,19 @@ pub record Takes {X : Type 0} (tells : X → Option Content) (old : Walking X) (
   pub takes : old.over ≡ false → TakesFront old_left old.spent answer new_left new.spent
 
 -- what one call of `next` does
-pub record Goes {X : Type 0} (asks : X → ℕ) (tells : X → Option Content) (old : Walking X) (answer : Option Outcome) (new : Walking X) : Type 0 where
+pub record Goes {X : Type 0} (asks : X → ℕ) (tells : X → Option Content) (old : Walking X)
+    (answer : Option Outcome) (new : Walking X) : Type 0 where
   pub counts : Counts asks old answer new
   pub told : tells new.tree ≡ tells old.tree
   pub takes : (c : Content) → IsTold (tells old.tree) c → Takes tells old answer new c
 
--- A whole walk within a limit, over a tree with a known content and this listing: all of it, with its cost; or the items before the
--- first unit that does not fit; or, without memory, a beginning of the items.
-abbrev pub IsWalk : {A : Type 0} → (listing : List Mark) → (limit : ℕ) → End → (spent : ℕ) → List (Result (PathBuf A) (GlobError A)) → Type 0
+-- A whole walk within a limit, over a tree with a known content and this listing: all of it, with its cost; or the items
+-- before the first unit that does not fit; or, without memory, a beginning of the items.
+abbrev pub IsWalk : {A : Type 0} → (listing : List Mark) → (limit : ℕ) → End → (spent : ℕ)
+    → List (Result (PathBuf A) (GlobError A)) → Type 0
 IsWalk ms limit end.Done spent answers = (cost ms ≤ limit) × (spent ≡ cost ms) × AreItems answers (items ms)
-IsWalk ms limit end.Limit spent answers = (limit < cost ms) × (spent ≡ limit) × AreItems answers (items (front limit ms))
+IsWalk ms limit end.Limit spent answers =
+    (limit < cost ms) × (spent ≡ limit) × AreItems answers (items (front limit ms))
 IsWalk ms limit end.Memory spent answers = (is : List Item) × AreItems answers is × IsBeginning is (items ms)
 
 -- the tree was asked what the walk charged; where it ends at its limit at least that, and the limit is spent

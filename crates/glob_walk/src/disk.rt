@@ -1,5 +1,5 @@
 //! The real file system.
-ghost use Rattle.std.specs.Prelude.{◌≡◌, ℕ, ◌+◌, ◌-◌, ◌^◌, None, IfOk, IfErr};
+ghost use Rattle.std.specs.Prelude.{◌≡◌, ◌+◌, ◌-◌, ◌^◌, None, IfOk, IfErr};
 ghost use Rattle.glob_tree.specs.Answers.{entry_count};
 ghost use Rattle.glob_walk.specs.Components.{walk_fault};
 ghost use Rattle.glob_walk.specs.Walks.{IsFresh, RefusesWith};
@@ -67,7 +67,7 @@ impl<R: Files + Drop, A: Allocator + Copy> Tree for Disk<R, A> {
         ensures asks { self.new ≡ self.old + 1 }
     {
         self.asks = self.asks.after(1);
-        match known(self.rt.metadata(path))? {
+        match metadata_of(self.rt.metadata(path))? {
             Some(metadata) if metadata.is_dir() => Ok(Look::Dir),
             Some(_) => Ok(Look::Other),
             None => self.unfollowed(path),
@@ -95,13 +95,14 @@ impl<R: Files + Drop, A: Allocator + Copy> Tree for Disk<R, A> {
 impl<R: Files, A: Allocator + Copy> Disk<R, A> {
     /// What stands at a path that cannot be followed to its end.
     fn unfollowed(&self, path: &str) -> Result<Look, AllocError> {
-        match known(self.rt.symlink_metadata(path))? {
+        match metadata_of(self.rt.symlink_metadata(path))? {
             Some(_) => Ok(Look::Other),
             None => Ok(Look::Missing),
         }
     }
 
-    /// The entries of a directory.
+    /// The entries of a directory. It ends at the first empty read; the bound is there because nothing says that a reader
+    /// has an end, and is never reached.
     fn entries(&self, path: &str) -> io::Result<Vec<Entry<A>, A>> {
         let mut directory = directory_path(self.alloc, path)?;
         let mut names = self.rt.open_dir(directory.as_str())?;
@@ -117,7 +118,7 @@ impl<R: Files, A: Allocator + Copy> Disk<R, A> {
         Ok(entries)
     }
 
-    /// Adds an entry for each of some names of a directory. A NUL stands after each name.
+    /// Adds an entry for each of some names of a directory. A NUL stands after each name, and no read ends inside one.
     fn add_entries(
         &self,
         entries: &mut Vec<Entry<A>, A>,
@@ -150,7 +151,7 @@ impl<R: Files, A: Allocator + Copy> Disk<R, A> {
         directory.push_str(name)?;
         let found = self.rt.metadata(directory.as_str());
         directory.truncate(length);
-        match known(found)? {
+        match metadata_of(found)? {
             Some(metadata) => Ok(metadata.is_dir()),
             None => Ok(false),
         }
@@ -158,7 +159,7 @@ impl<R: Files, A: Allocator + Copy> Disk<R, A> {
 }
 
 /// Walks the file system that `rt` reaches after the components of a pattern, as [`glob_in`](crate::glob_in) does over
-/// a [`Disk`], with the options of `MatchOptions::new()` and no limit that a walk can reach.
+/// a [`Disk`], with the options of `MatchOptions::new()` and the limit `u64::MAX`, which no walk reaches.
 ///
 /// `glob(rt, alloc, "src/*.rs")` gives `src/lib.rs` and `src/walk.rs`, in this order, where these files are there.
 /// The errors are those of [`glob_in`](crate::glob_in).
@@ -190,7 +191,7 @@ pub fn glob_with<R: Files + Drop, A: Allocator + Copy>(
 }
 
 /// The metadata, or `None` where there is none to be had.
-fn known(answer: io::Result<Metadata>) -> Result<Option<Metadata>, AllocError> {
+fn metadata_of(answer: io::Result<Metadata>) -> Result<Option<Metadata>, AllocError> {
     match answer {
         Ok(metadata) => Ok(Some(metadata)),
         Err(error) if error.kind() == ErrorKind::OutOfMemory => Err(AllocError),
@@ -208,7 +209,7 @@ fn directory_path<A: Allocator>(alloc: A, path: &str) -> Result<String<A>, Alloc
     Ok(directory)
 }
 
-/// Whether a listing has an entry of this name. A directory's names for itself and for its parent have none.
+/// Whether an entry comes of this piece: not of the empty one after the last NUL, nor of `.` and `..`.
 fn is_listed(name: &[u8]) -> bool {
     !name.is_empty() && name != b".".as_slice() && name != b"..".as_slice()
 }

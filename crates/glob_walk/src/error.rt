@@ -120,8 +120,8 @@ impl<A: Allocator> From<GlobError<A>> for io::Error {
     }
 }
 
-/// The path, and why it could not be read. Where the cause is `Read`, the words of the I/O error stand at the end, of
-/// which nothing is promised.
+/// The path, and why it could not be read. Where the cause is `Read`, the words of the I/O error stand at the end, and
+/// nothing is promised of the whole text.
 impl<A: Allocator> fmt::Display for GlobError<A> {
     ghost use Rattle.glob_walk.specs.Words.{glob_error_words};
 

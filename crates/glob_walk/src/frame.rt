@@ -8,20 +8,22 @@
 //! end; then, if it is a directory, the run goes on in it.
 ghost use Rattle.std.specs.Prelude.{◌≡◌, ◌+◌, ◌<◌, ◌≤◌, ◌++◌, false, IfOk, OnOk, string_bytes, if◌then◌else◌, vec_len};
 ghost use Rattle.glob_tree.specs.Content.{Content};
+ghost use Rattle.glob_walk.specs.Listing.{is_entered as is_entered_entry};
 ghost use Rattle.glob_text.specs.Text.{Text};
 ghost use Rattle.glob_walk.specs.Private.Parts.{takes_name};
 ghost use Rattle.glob_walk.specs.Private.Tasks.{next_marks, next_ready, IsNextSound};
-ghost use Rattle.glob_walk.specs.Private.Frames.{first_part, second_part, met_marks, special_marks, frame_marks, is_done as is_done_frame, steps_left, unmet, IsFrameSound, IsEntrySound};
+ghost use Rattle.glob_walk.specs.Private.Frames.{first_part, first_marks, second_marks, met_marks, special_marks, frame_marks, is_done as is_done_frame, steps_left, unmet, IsFrameSound, IsEntrySound};
 
 use crate::part::Part;
-use crate::path_text::{child, join};
-use crate::plan::{Plan, is_entered};
+use crate::path_text::{begins_with_dot, child, join};
+use crate::plan::Plan;
 use crate::task::{Sight, Task, Wanted};
+use glob_pattern::MatchOptions;
 use glob_tree::Entry;
 use std::alloc::{AllocError, Allocator};
 
 /// The place that is reached in a directory.
-#[derive(Clone, Copy, PartialEq, Eq)]
+#[derive(Clone, Copy)]
 pub enum Place {
     /// Before `..`, which a component that begins with a dot may match.
     Parent,
@@ -38,7 +40,8 @@ pub enum Place {
 pub struct Frame<A: Allocator> {
     /// Its path.
     pub path: String<A>,
-    /// The number of the component that its entries meet: of a run of `**` the last one.
+    /// The number of the component for which it was listed: one with wildcards, or the last `**` of a run, whose entries
+    /// the component after it meets.
     pub part: usize,
     /// Whether that component is `**`.
     pub run: bool,
@@ -94,6 +97,13 @@ fn match_at<A: Allocator + Copy>(
     }
 }
 
+/// Whether a run of `**` enters an entry: a directory, and under the dot rule no dotted one.
+fn is_entered(options: MatchOptions, name: &str, is_dir: bool) -> bool
+    ensures { result ≡ is_entered_entry options name.now is_dir }
+{
+    is_dir && !(options.require_literal_leading_dot && begins_with_dot(name))
+}
+
 impl<A: Allocator + Copy> Frame<A> {
     /// Whether nothing is left in it: the place is past the last entry.
     pub fn is_done(&self) -> bool
@@ -105,8 +115,8 @@ impl<A: Allocator + Copy> Frame<A> {
         }
     }
 
-    /// The look at `..` or `.` in the directory, if the component matches that name.
-    fn special(&self, plan: &Plan<A>, name: &str) -> Result<Option<Task<A>>, AllocError>
+    /// The look at `..` or `.` in the directory (joined also to `.`: `./..`), if the component matches that name.
+    fn special_task(&self, plan: &Plan<A>, name: &str) -> Result<Option<Task<A>>, AllocError>
         ensures marks { IfOk result
             (λ task. (c : Content)
             → special_marks c plan.now self.now.part (string_bytes self.now.path) name.now
@@ -128,11 +138,11 @@ impl<A: Allocator + Copy> Frame<A> {
     }
 
     /// The task to go on at an entry, if its name is met. It makes the child's path only then.
-    fn met(&self, plan: &Plan<A>, entry: &Entry<A>) -> Result<Option<Task<A>>, AllocError>
+    fn met_task(&self, plan: &Plan<A>, entry: &Entry<A>) -> Result<Option<Task<A>>, AllocError>
         ensures marks { IfOk result
             (λ task. (c : Content)
-            → first_part c plan.now self.now.run self.now.part (string_bytes self.now.path)
-            (entry.now.name, entry.now.is_dir) ≡ next_marks c plan.now task) }
+            → first_marks c plan.now self.now (entry.now.name, entry.now.is_dir)
+            ≡ next_marks c plan.now task) }
         ensures sound { IfOk result
             (λ task. (c : Content)
             → IsEntrySound c (string_bytes self.now.path) (entry.now.name, entry.now.is_dir)
@@ -150,12 +160,12 @@ impl<A: Allocator + Copy> Frame<A> {
     }
 
     /// The task to go on with the same run of `**` in an entry, if the run enters it.
-    fn entered(&self, plan: &Plan<A>, entry: &Entry<A>) -> Result<Option<Task<A>>, AllocError>
+    fn entered_task(&self, plan: &Plan<A>, entry: &Entry<A>) -> Result<Option<Task<A>>, AllocError>
         requires { self.now.part < vec_len plan.now.parts }
         ensures marks { IfOk result
             (λ task. (c : Content)
-            → second_part c plan.now self.now.run self.now.part (string_bytes self.now.path)
-            (entry.now.name, entry.now.is_dir) ≡ next_marks c plan.now task) }
+            → second_marks c plan.now self.now (entry.now.name, entry.now.is_dir)
+            ≡ next_marks c plan.now task) }
         ensures ready { IfOk result (λ task. next_ready plan.now task ≡ 0) }
         ensures sound { IfOk result
             (λ task. (c : Content)
@@ -173,8 +183,8 @@ impl<A: Allocator + Copy> Frame<A> {
         }))
     }
 
-    /// Goes to the next place, and returns the task that comes of the one before it, if any. Each step leaves one step
-    /// fewer: two for each entry, and one for each of `..` and `.`.
+    /// Goes to the next place, and returns the task that comes of the one before it, if any. Each step leaves fewer steps:
+    /// at most two are left for each entry, and one for each of `..` and `.`.
     pub fn step(&mut self, plan: &Plan<A>) -> Result<Option<Task<A>>, AllocError>
         requires going { is_done_frame self.old ≡ false }
         requires within { self.old.part < vec_len plan.now.parts }
@@ -191,17 +201,17 @@ impl<A: Allocator + Copy> Frame<A> {
     {
         match self.place {
             Place::Parent => {
-                let task = self.special(plan, "..")?;
+                let task = self.special_task(plan, "..")?;
                 self.place = Place::Current;
                 Ok(task)
             }
             Place::Current => {
-                let task = self.special(plan, ".")?;
+                let task = self.special_task(plan, ".")?;
                 self.place = Place::At(0);
                 Ok(task)
             }
             Place::At(i) => {
-                let task = self.met(plan, &self.entries[i])?;
+                let task = self.met_task(plan, &self.entries[i])?;
                 self.place = if self.run {
                     Place::Inside(i)
                 } else {
@@ -210,7 +220,7 @@ impl<A: Allocator + Copy> Frame<A> {
                 Ok(task)
             }
             Place::Inside(i) => {
-                let task = self.entered(plan, &self.entries[i])?;
+                let task = self.entered_task(plan, &self.entries[i])?;
                 self.place = Place::At(i + 1);
                 Ok(task)
             }

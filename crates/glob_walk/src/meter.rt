@@ -24,7 +24,7 @@ pub struct Meter<T> {
 }
 
 /// Why a path was not looked up: no unit was left, or there was an allocation failure.
-#[derive(Clone, Copy, PartialEq, Eq)]
+#[derive(Drop)]
 pub enum Stop {
     Limit,
     Memory,

@@ -1,5 +1,5 @@
 //! The components of a pattern, each read once.
-ghost use Rattle.std.specs.Prelude.{◌≡◌, None, IfOk, IfErr, chars};
+ghost use Rattle.std.specs.Prelude.{◌≡◌, None, IfOk, IfErr};
 ghost use Rattle.std.specs.List.{list_any};
 ghost use Rattle.glob_pattern.specs.Grammar.Characters.{is_wildcard};
 ghost use Rattle.glob_walk.specs.Components.{component_kind, is_special_name, is_literal as is_literal_text, is_recursive as is_recursive_text};
@@ -21,7 +21,7 @@ enum Form<A: Allocator> {
 }
 
 /// How a component is met.
-#[derive(Clone, Copy, PartialEq, Eq)]
+#[derive(Clone, Copy)]
 pub enum PartKind {
     /// It has no wildcard, and its text is looked up.
     Literal,

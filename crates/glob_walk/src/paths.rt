@@ -5,7 +5,7 @@ ghost use Rattle.glob_tree.specs.Answers.{IsTold};
 ghost use Rattle.glob_walk.specs.Components.{walk_fault};
 ghost use Rattle.glob_walk.specs.Listing.{listing, look_up, enter};
 ghost use Rattle.glob_walk.specs.Private.Walking.{turn_outcome};
-ghost use Rattle.glob_walk.specs.Walks.{outcome, is_last, item_number, IsFresh, RefusesWith};
+ghost use Rattle.glob_walk.specs.Walks.{outcome, is_last as is_last_answer, item_number, IsFresh, RefusesWith};
 
 use crate::error::{GlobError, GlobResult};
 use crate::meter::Meter;
@@ -27,12 +27,13 @@ use std::path::PathBuf;
 #[derive(Drop)]
 pub struct Paths<T: Tree> {
     walker: Walker<T>,
+    /// How many items were given: up to one more than the limit, so it may be 2^64.
     given: u128,
     over: bool,
 }
 
 impl<T: Tree> Model for Paths<T> {
-    ghost use Rattle.std.specs.Prelude.{◌≡◌, ℕ, ◌+◌, ◌≤◌, true, false, option_map};
+    ghost use Rattle.std.specs.Prelude.{option_map};
     ghost use Rattle.glob_walk.specs.Private.Walking.{IsGood};
     ghost use Rattle.glob_walk.specs.Walks.{Walking};
     ghost use Rattle.glob_walk.specs.Private.Stacks.{left};
@@ -152,10 +153,10 @@ impl<T: Tree> Iterator for Paths<T> {
         if self.over {
             return None;
         }
-        let turn = self.walker.run();
+        let turn = self.walker.turn_to_item();
         self.given += item_count(&turn);
-        self.over = is_end(&turn);
-        item_of(self.walker.stack.plan.alloc, turn)
+        self.over = is_last(&turn);
+        answer_of(self.walker.stack.plan.alloc, turn)
     }
 }
 
@@ -169,9 +170,9 @@ fn item_count<A: Allocator>(turn: &Turn<A>) -> u128
     }
 }
 
-/// Whether no item follows the turn.
-fn is_end<A: Allocator>(turn: &Turn<A>) -> bool
-    ensures { result ≡ is_last (turn_outcome turn.now) }
+/// Whether no item follows a turn that ended the loop. `Went` never does.
+fn is_last<A: Allocator>(turn: &Turn<A>) -> bool
+    ensures { result ≡ is_last_answer (turn_outcome turn.now) }
 {
     match turn {
         Turn::Path(_) | Turn::Unread(..) => false,
@@ -180,7 +181,7 @@ fn is_end<A: Allocator>(turn: &Turn<A>) -> bool
 }
 
 /// The item that a turn comes to.
-fn item_of<A: Allocator>(alloc: A, turn: Turn<A>) -> Option<GlobResult<A>>
+fn answer_of<A: Allocator>(alloc: A, turn: Turn<A>) -> Option<GlobResult<A>>
     ensures { option_map outcome result ≡ turn_outcome turn }
 {
     match turn {

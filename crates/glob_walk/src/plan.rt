@@ -3,12 +3,10 @@
 //! A plan is a pattern that was read once, before the walk: its components in order, each with its kind, the options, and
 //! whether directories alone are given. Nothing of it changes while the walk goes on.
 ghost use Rattle.std.specs.Prelude.{◌≡◌, ◌+◌, ◌<◌, ◌≤◌, [], ◌∷◌, true, Bool, None, IfOk, IfErr, MatchOption, OnSome, IfNone, drop, vec_len};
-ghost use Rattle.glob_text.specs.Characters.{slash};
 ghost use Rattle.glob_text.specs.Pieces.{pieces};
 ghost use Rattle.glob_text.specs.Text.{Text};
 ghost use Rattle.glob_tree.specs.Content.{Content};
-ghost use Rattle.glob_walk.specs.Components.{components, first_fault, has_root as has_root_text, start as start_text, walk_fault, wants_directories, without_root, without_end_separator};
-ghost use Rattle.glob_walk.specs.Listing.{is_entered as is_entered_entry};
+ghost use Rattle.glob_walk.specs.Components.{components, first_fault, start as start_text, walk_fault, wants_directories, without_root, without_end_separator};
 ghost use Rattle.glob_walk.specs.Private.Parts.{text_fault};
 ghost use Rattle.glob_walk.specs.Private.Tasks.{is_dotted, enter_from, IsRun, IsOpened};
 ghost use Rattle.glob_walk.specs.Walks.{RefusesWith};
@@ -148,11 +146,4 @@ fn without_end(text: &str) -> &str
         Some(front) => front,
         None => text,
     }
-}
-
-/// Whether a run of `**` enters an entry: a directory, and under the dot rule no dotted one.
-pub fn is_entered(options: MatchOptions, name: &str, is_dir: bool) -> bool
-    ensures { result ≡ is_entered_entry options name.now is_dir }
-{
-    is_dir && !(options.require_literal_leading_dot && begins_with_dot(name))
 }

@@ -2,8 +2,9 @@
 //!
 //! The stack of `walkdir` holds a directory for each level, and so does this one, with two differences. What comes next is
 //! a task of its own, on top of the directories. And a directory in which nothing is left is not on the stack: it goes,
-//! with its names, in the very step that takes the last of them, before anything below it is listed. So down a chain of
-//! directories with one entry each, the stack holds one directory at a time and not the chain.
+//! with its names, in its last step. Of a run's last entry that is the step that enters it, so the run's directory stays
+//! while the components after the run go on in the entry. Down a chain of directories with one entry each, the stack holds
+//! at most one directory for each run and one more, and not the chain.
 ghost use Rattle.std.specs.Prelude.{◌≡◌, ◌+◌, ◌<◌, ◌≤◌, ◌++◌, true, false, [], None, IfOk, OnOk, vec_len};
 ghost use Rattle.glob_tree.specs.Content.{Content};
 ghost use Rattle.glob_walk.specs.Private.Frames.{frame_marks, unmet, IsFrameSound};
@@ -22,7 +23,7 @@ pub struct Stack<A: Allocator> {
     pub plan: Plan<A>,
     /// What is done before the directories go on.
     pub next: Option<Task<A>>,
-    /// The directories, each found in the one before it. Something is left in each of them.
+    /// The directories, each reached by way of the one before it. Something is left in each of them.
     pub frames: Vec<Frame<A>, A>,
 }
 
@@ -44,14 +45,13 @@ impl<A: Allocator + Copy> Stack<A> {
             return Ok(false);
         };
         self.next = frame.step(&self.plan)?;
-        if !frame.is_done() {
-            return Ok(true);
+        if frame.is_done() {
+            self.frames.pop();
         }
-        self.frames.pop();
         Ok(true)
     }
 
-    /// Puts a directory on top, unless nothing is in it.
+    /// Puts a directory on top, unless nothing is left in it.
     pub fn open(&mut self, frame: Frame<A>) -> Result<(), AllocError>
         requires none { self.old.next ≡ None }
         requires within { IsWithin self.old }

@@ -9,7 +9,7 @@ use glob_tree::Look;
 use std::alloc::Allocator;
 
 /// Which answers to a look let the walk go on at the path.
-#[derive(Clone, Copy, PartialEq, Eq)]
+#[derive(Clone, Copy)]
 pub enum Wanted {
     /// Any of them.
     Any,
@@ -20,7 +20,7 @@ pub enum Wanted {
 }
 
 /// What is known of a task's path, and so what the task is.
-#[derive(Clone, Copy, PartialEq, Eq)]
+#[derive(Clone, Copy)]
 pub enum Sight {
     /// Nothing: it is to be looked up.
     Unseen(Wanted),

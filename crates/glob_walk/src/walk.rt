@@ -90,7 +90,8 @@ pub fn walk_in<T: Tree>(
     })
 }
 
-/// Moves the items of a walk that has done nothing yet into a list, up to the end of the walk.
+/// Moves the items of a walk that has done nothing yet into a list, up to the end of the walk. It ends because `next`
+/// gives at most one item more than the limit has units.
 fn gather<T: Tree>(paths: &mut Paths<T>, items: &mut Vec<GlobResult<T::Alloc>, T::Alloc>) -> End
     requires fresh { IsFresh paths.old.tree paths.old.limit paths.old }
     requires empty { items.old.items ≡ [] }

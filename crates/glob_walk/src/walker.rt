@@ -8,17 +8,15 @@
 //! So nothing calls itself: a walk is a loop of turns. It ends because a turn that gives nothing leaves fewer turns, by
 //! what is left of the limit and by the steps that are left in the directories.
 //!
-//! The written listing is what a walk does, mark by mark. Each function here has the same contract, `TurnsTo`: what was
-//! left of the listing begins with what the turn charged and gave, and what the stack then stands for is the rest.
-ghost use Rattle.std.specs.Prelude.{◌≡◌, ◌≢◌, ◌+◌, ◌<◌, ◌≤◌, ◌++◌, ◌∷◌, [], true, false, None, string_bytes, vec_len, drop, nat_le, not, ◌||◌, IfOk, Some, if◌then◌else◌};
+//! The written listing is what a walk does, mark by mark. Each method of [`Walker`] has the same contract, `TurnsTo`: what
+//! was left of the listing begins with what the turn charged and gave, and what the stack then stands for is the rest.
+ghost use Rattle.std.specs.Prelude.{◌≡◌, ◌≢◌, ◌+◌, ◌<◌, ◌≤◌, ◌∷◌, true, false, None, string_bytes, vec_len, drop, not, ◌||◌, IfOk, Some, if◌then◌else◌};
 ghost use Rattle.glob_tree.specs.Content.{Content, look_result};
 ghost use Rattle.glob_walk.specs.Marks.{Work};
 ghost use Rattle.glob_walk.specs.Components.{component_kind, Literal};
-ghost use Rattle.glob_tree.specs.declared.tree.Look.{Look as LookOf};
 ghost use Rattle.glob_walk.specs.declared.plan.Plan.{Plan as PlanOf};
-ghost use Rattle.glob_tree.specs.Answers.{IsTold};
-ghost use Rattle.glob_tree.specs.Looks.{is_there, is_directory as is_directory_look};
-ghost use Rattle.glob_walk.specs.Private.Tasks.{task_marks, IsSightSound, is_wanted as is_wanted_look, enter_from, IsOpened, sight_marks, next_marks, next_ready, IsNextSound};
+ghost use Rattle.glob_tree.specs.Looks.{is_directory as is_directory_look};
+ghost use Rattle.glob_walk.specs.Private.Tasks.{task_marks, enter_from, IsOpened, sight_marks, next_marks, next_ready, IsNextSound};
 ghost use Rattle.glob_walk.specs.Private.Stacks.{next_weight, IsWithin};
 ghost use Rattle.glob_walk.specs.Private.Turns.{TurnsTo, with_task};
 
@@ -69,7 +67,12 @@ fn is_directory(seen: Look) -> bool
 
 /// The task that follows a look: to go on at the path with the same component, or nothing where the answer is not the
 /// one that is wanted.
-fn found<A: Allocator>(path: String<A>, part: usize, wanted: Wanted, seen: Look) -> Option<Task<A>>
+fn task_after_look<A: Allocator>(
+    path: String<A>,
+    part: usize,
+    wanted: Wanted,
+    seen: Look,
+) -> Option<Task<A>>
     ensures marks { (c : Content) → (plan : PlanOf A) → seen ≡ look_result c (string_bytes path)
         → sight_marks c plan part (string_bytes path) (Sight.Unseen wanted)
         ≡ Work (string_bytes path) ∷ next_marks c plan result }
@@ -100,13 +103,14 @@ impl<T: Tree> Walker<T> {
             Err(Stop::Limit) => return Turn::Limit(path),
             Err(Stop::Memory) => return Turn::Memory,
         };
-        self.stack.next = found(path, part, wanted, seen);
+        self.stack.next = task_after_look(path, part, wanted, seen);
         Turn::Went
     }
 
-    /// Lists a directory, for one unit and one for each entry, and puts it on the stack with its first place. Component
-    /// `part` meets its names; `run` says whether it is `**`. It is one question to the tree. A listing pays for the steps
-    /// that it brings: eight turns for each unit are more than three for each step and one for the directory.
+    /// Lists a directory for component `part`, for one unit and one for each entry, and puts it on the stack with its first
+    /// place; `run` says whether that component is `**`. It is one question to the tree. A listing of n entries pays for
+    /// 8 * (n + 1) turns, and brings at most 3 * (2n + 2) + 1: three for each step, since a step may make a task of weight
+    /// 2, and one for the directory.
     fn list(&mut self, path: String<T::Alloc>, part: usize, run: bool) -> Turn<T::Alloc>
         requires limit { self.old.meter.spent ≤ self.old.meter.limit }
         requires none { self.old.stack.next ≡ None }
@@ -154,7 +158,7 @@ impl<T: Tree> Walker<T> {
             return Turn::Went;
         };
         match component.kind() {
-            PartKind::Literal => match named(
+            PartKind::Literal => match literal_task(
                 &self.stack.plan,
                 component,
                 path.as_str(),
@@ -208,7 +212,7 @@ impl<T: Tree> Walker<T> {
 
     /// Turns until there is an item, or none is left. It ends because each turn that goes on lowers `turns_left`: eight
     /// for each unit of the limit that is not spent, and the weight of the stack.
-    pub fn run(&mut self) -> Turn<T::Alloc>
+    pub fn turn_to_item(&mut self) -> Turn<T::Alloc>
         requires limit { self.old.meter.spent ≤ self.old.meter.limit }
         requires within { IsWithin self.old.stack }
         ensures stops { result ≢ Turn.Went }
@@ -227,8 +231,8 @@ impl<T: Tree> Walker<T> {
 
 /// The task of a literal component at a path: the look at the two joined. `.` and `..` are wanted in a directory alone,
 /// and any other name where something is there.
-#[tactic(auto, using(crate::proofs::WalkLemmas::Naming::named_marks))]
-fn named<A: Allocator + Copy>(
+#[tactic(auto, using(crate::proofs::WalkLemmas::Naming::literal_marks))]
+fn literal_task<A: Allocator + Copy>(
     plan: &Plan<A>,
     component: &Part<A>,
     path: &str,

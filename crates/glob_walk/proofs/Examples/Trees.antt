@@ -1,5 +1,5 @@
 -- A short way to write contents down, and what walks over them give.
-use Rattle.std.specs.Prelude.{◌≡◌, ℕ, Bool, true, ◌&&◌, List, [], ◌∷◌, map, codes, bytes_eq, Some}
+use Rattle.std.specs.Prelude.{◌≡◌, ℕ, zero, suc, Bool, true, ◌&&◌, List, [], ◌∷◌, map, codes, bytes_eq, Option, Some, None}
 use Prim.Native.String.{String}
 use Rattle.std.specs.Ordering.{is_lt}
 use Rattle.std.specs.List.{list_any, list_all}
@@ -10,7 +10,7 @@ use Rattle.glob_text.specs.Text.{Text}
 use Rattle.glob_text.specs.Pieces.{pieces}
 use Rattle.glob_tree.specs.Paths.{join, child}
 use Rattle.glob_tree.specs.Content.{Content, Key, is_content, kind_at, children, resolve, look_result, list_result}
-use Rattle.glob_walk.specs.Marks.{Item, Found, items, cost, front, path_past, paths}
+use Rattle.glob_walk.specs.Marks.{Item, Found, items, cost, front, Mark, Work, Give, paths}
 use Rattle.glob_walk.specs.Listing.{listing, descent, enter, meet}
 use Rattle.glob_walk.specs.Components.{walk_fault}
 use Rattle.glob_pattern.specs.Computing.Reading.{units_from}
@@ -60,6 +60,13 @@ Gives c o pattern wanted = items (listing c o (codes pattern)) ≡ found wanted
 -- the same, and so many units of work are done
 abbrev pub Spends : Content → MatchOptions → (pattern : String) → List String → ℕ → Type 0
 Spends c o pattern wanted units = Gives c o pattern wanted × (cost (listing c o (codes pattern)) ≡ units)
+
+-- the path of unit n + 1
+abbrev pub path_past : ℕ → List Mark → Option Text
+path_past n [] = None
+path_past n (Give item ∷ ms) = path_past n ms
+path_past zero (Work path ∷ ms) = Some path
+path_past (suc n) (Work path ∷ ms) = path_past n ms
 
 -- within the limit the walk gives these paths, and then it refuses with the last one
 abbrev pub Stops : Content → MatchOptions → (pattern : String) → (limit : ℕ) → List String → String → Type 0

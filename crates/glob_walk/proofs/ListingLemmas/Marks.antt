@@ -1,7 +1,7 @@
 -- What a limit leaves of what a walk does.
-use Rattle.std.proofs.Common.{◌≡◌, ℕ, zero, suc, ◌+◌, ◌-◌, ◌<◌, ◌≤◌, List, [], ◌∷◌, ◌++◌, replicate, Some, None, refl, ap, arith}
+use Rattle.std.proofs.Common.{◌≡◌, ℕ, zero, suc, ◌+◌, ◌-◌, ◌≤◌, List, [], ◌∷◌, ◌++◌, replicate, refl, ap, arith}
 use Rattle.glob_text.specs.Text.{Text}
-use Rattle.glob_walk.specs.Marks.{Item, Found, Unread, Mark, Work, Give, items, cost, front, path_past, paths, IsBeginning}
+use Rattle.glob_walk.specs.Marks.{Item, Found, Unread, Mark, Work, Give, items, cost, front, paths, IsBeginning}
 
 pub items-append : (ms ns : List Mark) → items (ms ++ ns) ≡ items ms ++ items ns
 items-append [] ns = refl
@@ -54,28 +54,6 @@ front-append zero (Work path ∷ ms) ns h = absurd (omega (arith, h))
 front-append (suc n) (Work path ∷ ms) ns h =
     let e : suc n - suc (cost ms) ≡ n - cost ms = omega arith in
     rw e (ap (λ os. Work path ∷ os) (front-append n ms ns (omega (arith, h))))
-
-pub path_past-append : (n : ℕ) (ms ns : List Mark) → cost ms ≤ n → path_past n (ms ++ ns) ≡ path_past (n - cost ms) ns
-path_past-append n [] ns h = let e : n - 0 ≡ n = omega arith in rw e refl
-path_past-append n (Give item ∷ ms) ns h = path_past-append n ms ns h
-path_past-append zero (Work path ∷ ms) ns h = absurd (omega (arith, h))
-path_past-append (suc n) (Work path ∷ ms) ns h =
-    let e : suc n - suc (cost ms) ≡ n - cost ms = omega arith in
-    rw e (path_past-append n ms ns (omega (arith, h)))
-
--- no unit is past a limit that is not reached
-pub path_past_none : (n : ℕ) (ms : List Mark) → cost ms ≤ n → path_past n ms ≡ None
-path_past_none n [] h = refl
-path_past_none n (Give item ∷ ms) h = path_past_none n ms h
-path_past_none zero (Work path ∷ ms) h = absurd (omega (arith, h))
-path_past_none (suc n) (Work path ∷ ms) h = path_past_none n ms (omega (arith, h))
-
--- a unit is past a limit that is reached
-pub path_past_some : (n : ℕ) (ms : List Mark) → n < cost ms → (path : Text) × (path_past n ms ≡ Some path)
-path_past_some n [] h = absurd (omega (arith, h))
-path_past_some n (Give item ∷ ms) h = path_past_some n ms h
-path_past_some zero (Work path ∷ ms) h = (path, refl)
-path_past_some (suc n) (Work path ∷ ms) h = path_past_some n ms (omega (arith, h))
 
 pub paths-append : (is js : List Item) → paths (is ++ js) ≡ paths is ++ paths js
 paths-append [] js = refl

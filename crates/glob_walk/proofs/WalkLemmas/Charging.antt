@@ -13,7 +13,7 @@ use Rattle.glob_walk.specs.Private.Meters.{IsExact}
 use Rattle.glob_tree.specs.Content.{Content}
 use Rattle.glob_walk.specs.declared.stack.Stack.{Stack}
 use Rattle.glob_walk.specs.Private.Stacks.{left, weight, ready, IsSound}
-use Rattle.glob_walk.specs.Private.Turns.{TurnOf, TurnCounts, IfGoing, TurnsTo, item_count}
+use Rattle.glob_walk.specs.Private.Turns.{TurnOf, TurnCounts, IfGoing, TurnsTo, listed_items}
 use Rattle.glob_walk.specs.Walks.{Charges, works}
 
 pub uncharged : (left new : List Mark) (spent : ℕ) → left ≡ new → Charges left spent new spent
@@ -75,7 +75,7 @@ TurnsTo-same asks tells old new s s0 s' t plan weighs waits sound same h = recor
   plan = h.plan ∙ plan;
   within = h.within;
   falls = λ went. let less = h.falls went in omega (arith, less, weighs);
-  ready = IfGoing-map t (λ (r : ready s' + item_count t + old.spent ≤ ready s0 + new.spent). omega (arith, r, waits)) h.ready;
+  ready = IfGoing-map t (λ (r : ready s' + listed_items t + old.spent ≤ ready s0 + new.spent). omega (arith, r, waits)) h.ready;
   sound = IfGoing-map t (λ f c told k. f c told (sound c k)) h.sound;
   takes = λ c told k. subst (λ ms. TurnOf ms old.spent t (left c s') new.spent) (sym (same c)) (h.takes c told (sound c k));
 }

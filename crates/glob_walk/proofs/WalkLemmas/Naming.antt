@@ -15,11 +15,11 @@ use Rattle.glob_walk.specs.declared.task.Wanted.{Wanted}
 use Rattle.glob_walk.specs.Private.Tasks.{enter_from, is_wanted, IsOpened}
 use Rattle.glob_walk.proofs.WalkLemmas.Entering.{enter-end}
 
-pub named_marks : {A : Type 0} (c : Content) (plan : Plan A) (part : ℕ) (path : Text) (d : Bool) (t : Text) (w : Wanted)
+pub literal_marks : {A : Type 0} (c : Content) (plan : Plan A) (part : ℕ) (path : Text) (d : Bool) (t : Text) (w : Wanted)
     → drop part plan.parts.items ≡ t ∷ drop (part + 1) plan.parts.items → component_kind t ≡ Literal
     → ((seen : Look) → is_wanted w seen ≡ cond (is_special_name t) d (is_there seen))
     → enter_from c plan part path d ≡ look_up c (is_wanted w) (enter_from c plan (part + 1)) (child path t)
-named_marks c plan part path d t w at kind same =
+literal_marks c plan part path d t w at kind same =
     ap (λ ts. enter c plan.options plan.directories ts path d) at
     ∙ enter-literal c plan.options plan.directories t (drop (part + 1) plan.parts.items) path d kind
     ∙ ap (λ f. look_up c f (enter_from c plan (part + 1)) (child path t)) (λ i seen. sym (same seen) i)

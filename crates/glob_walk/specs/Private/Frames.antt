@@ -38,8 +38,17 @@ first_part c plan run part path e = first_of c plan.options plan.directories run
 -- and then a run of `**` enters it
 abbrev pub second_part : {A : Type 0} → Content → Plan A → Bool → ℕ → Text → DirEntry → List Mark
 second_part c plan false part path e = []
-second_part c plan true part path e = if is_entered plan.options e.0 e.1 then enter_from c plan part (child path e.0) true else []
+second_part c plan true part path e =
+    if is_entered plan.options e.0 e.1 then enter_from c plan part (child path e.0) true else []
 
+-- the two parts, of an entry of a directory
+abbrev pub first_marks : {A : Type 0} → Content → Plan A → Frame A → DirEntry → List Mark
+first_marks c plan f e = first_part c plan f.run f.part (string_bytes f.path) e
+
+abbrev pub second_marks : {A : Type 0} → Content → Plan A → Frame A → DirEntry → List Mark
+second_marks c plan f e = second_part c plan f.run f.part (string_bytes f.path) e
+
+-- all that comes of an entry
 abbrev pub entry_marks : {A : Type 0} → Content → Plan A → Bool → ℕ → Text → DirEntry → List Mark
 entry_marks c plan run part path e = first_part c plan run part path e ++ second_part c plan run part path e
 
@@ -49,19 +58,25 @@ special_after c o dirs (t ∷ ts) path name =
     if takes_name o t name then look_up c (λ seen. true) (enter c o dirs ts) (join path name) else []
 
 abbrev pub special_marks : {A : Type 0} → Content → Plan A → ℕ → Text → Text → List Mark
-special_marks c plan part path name = special_after c plan.options plan.directories (drop part plan.parts.items) path name
+special_marks c plan part path name =
+    special_after c plan.options plan.directories (drop part plan.parts.items) path name
 
 abbrev pub entries_marks : {A : Type 0} → Content → Plan A → Bool → ℕ → Text → List DirEntry → List Mark
 entries_marks c plan run part path es = flat_map (entry_marks c plan run part path) es
 
+-- what is left after an entry was met: the run enters it, and the entries after it follow
 abbrev pub inside_marks : {A : Type 0} → Content → Plan A → Bool → ℕ → Text → List DirEntry → List Mark
 inside_marks c plan run part path [] = []
-inside_marks c plan run part path (e ∷ es) = second_part c plan run part path e ++ entries_marks c plan run part path es
+inside_marks c plan run part path (e ∷ es) =
+    second_part c plan run part path e ++ entries_marks c plan run part path es
 
+-- what is left from a place on
 abbrev pub place_marks : {A : Type 0} → Content → Plan A → Bool → ℕ → Text → List DirEntry → Place → List Mark
 place_marks c plan run part path es place.Parent =
-    special_marks c plan part path parent_dir ++ (special_marks c plan part path cur_dir ++ entries_marks c plan run part path es)
-place_marks c plan run part path es place.Current = special_marks c plan part path cur_dir ++ entries_marks c plan run part path es
+    special_marks c plan part path parent_dir
+    ++ (special_marks c plan part path cur_dir ++ entries_marks c plan run part path es)
+place_marks c plan run part path es place.Current =
+    special_marks c plan part path cur_dir ++ entries_marks c plan run part path es
 place_marks c plan run part path es (place.At i) = entries_marks c plan run part path (drop i es)
 place_marks c plan run part path es (place.Inside i) = inside_marks c plan run part path (drop i es)
 
@@ -69,7 +84,7 @@ place_marks c plan run part path es (place.Inside i) = inside_marks c plan run p
 abbrev pub frame_marks : {A : Type 0} → Content → Plan A → Frame A → List Mark
 frame_marks c plan f = place_marks c plan f.run f.part (string_bytes f.path) (entries_of f.entries.items) f.place
 
--- the steps that are left in a directory
+-- the steps that are left in a directory: at most two for each entry, and one for each of `..` and `.`
 abbrev pub place_steps : ℕ → Place → ℕ
 place_steps n place.Parent = 2 * n + 2
 place_steps n place.Current = 2 * n + 1
@@ -89,12 +104,14 @@ place_unmet n (place.Inside i) = n - i - 1
 abbrev pub unmet : {A : Type 0} → Frame A → ℕ
 unmet f = place_unmet (length f.entries.items) f.place
 
+-- the place is past the last entry
 abbrev pub is_done_at : ℕ → Place → Bool
 is_done_at n place.Parent = false
 is_done_at n place.Current = false
 is_done_at n (place.At i) = nat_le n i
 is_done_at n (place.Inside i) = nat_le n i
 
+-- nothing is left of a directory
 abbrev pub is_done : {A : Type 0} → Frame A → Bool
 is_done f = is_done_at (length f.entries.items) f.place
 

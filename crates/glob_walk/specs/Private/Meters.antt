@@ -23,10 +23,12 @@ pub record IsAtLimit {X : Type 0} (asks : X → ℕ) (old new : Meter X) : Type 
   pub at : new.spent ≡ new.limit
   pub asked : asks old.tree + new.spent ≤ asks new.tree + old.spent
 
+-- a path was not looked up: every unit was spent before, or memory was not found
 abbrev pub IsStopped : {X : Type 0} → Meter X → Meter X → Stop → Type 0
 IsStopped old new stop.Limit = (old.spent ≡ old.limit) × (new.spent ≡ old.spent)
 IsStopped old new stop.Memory = ⊤
 
+-- what a listing that failed does to the counts
 abbrev pub ListCounts : {X : Type 0} → (X → ℕ) → Meter X → Unlisted → Meter X → Type 0
 ListCounts asks old (unlisted.Read e) new = IsExact asks old new × (new.spent ≡ old.spent + 1)
 ListCounts asks old unlisted.Limit new = IsAtLimit asks old new
@@ -44,6 +46,7 @@ IsCut (Entries es) spent limit = limit < spent + 1 + length es
 IsCut (Fails kind) spent limit = limit < spent + 1
 IsCut NoDirectory spent limit = ⊤
 
+-- why a directory was not listed
 abbrev pub IsUnlisted : ListAnswer → ℕ → ℕ → Unlisted → Type 0
 IsUnlisted answer spent limit (unlisted.Read e) = IsListFault answer (error_kind e)
 IsUnlisted answer spent limit unlisted.Limit = IsCut answer spent limit

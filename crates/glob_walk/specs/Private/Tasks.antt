@@ -1,4 +1,4 @@
--- What is left of the written listing.
+-- What a task stands for in the written listing.
 use Rattle.std.specs.Prelude.{◌≡◌, ℕ, Bool, true, false, if◌then◌else◌, List, [], ◌∷◌, length, drop, Option, Some, None, string_bytes, nat_le}
 use Rattle.glob_text.specs.Text.{Text}
 use Rattle.glob_walk.specs.Marks.{Mark}
@@ -16,6 +16,7 @@ use Rattle.glob_walk.specs.declared.task.Sight.{Sight}
 use Rattle.glob_walk.specs.declared.task.Sight.TheVariants as sight
 use Rattle.glob_walk.specs.declared.task.Task.{Task}
 
+-- the walk goes on after this answer to a look
 abbrev pub is_wanted : Wanted → Look → Bool
 is_wanted wanted.Any seen = true
 is_wanted wanted.Present seen = is_there seen
@@ -25,6 +26,7 @@ is_wanted wanted.Nothing seen = false
 abbrev pub enter_from : {A : Type 0} → Content → Plan A → ℕ → Text → Bool → List Mark
 enter_from c plan part = enter c plan.options plan.directories (drop part plan.parts.items)
 
+-- what comes of a path that is looked up, or that is known to be there
 abbrev pub sight_marks : {A : Type 0} → Content → Plan A → ℕ → Text → Sight → List Mark
 sight_marks c plan part path (sight.Unseen w) = look_up c (is_wanted w) (enter_from c plan part) path
 sight_marks c plan part path (sight.Seen d) = enter_from c plan part path d
@@ -65,6 +67,7 @@ IsOpened run [] = ⊥
 IsOpened false (t ∷ ts) = component_kind t ≡ Wild
 IsOpened true (t ∷ ts) = (component_kind t ≡ Recursive) × (begins_recursive ts ≡ false)
 
+-- the first component begins with a dot
 abbrev pub is_dotted : List Text → Bool
 is_dotted [] = false
 is_dotted (t ∷ ts) = begins_with dot t

@@ -14,12 +14,15 @@ use Rattle.glob_walk.specs.declared.walk.End.TheVariants as end
 use Rattle.glob_walk.specs.Private.Stacks.{ready, IsWithin, IsSound}
 
 -- what is true of a walk that is not over
-pub record IsUnderWay {X A : Type 0} (tells : X → Option Content) (meter : Meter X) (stack : Stack A) (given : ℕ) : Type 0 where
+pub record IsUnderWay {X A : Type 0} (tells : X → Option Content) (meter : Meter X) (stack : Stack A)
+    (given : ℕ) : Type 0 where
   pub within : IsWithin stack
   pub ready : given + ready stack ≤ meter.spent
   pub sound : (c : Content) → IsTold (tells meter.tree) c → IsSound c stack
 
-pub record IsGood {X A : Type 0} (tells : X → Option Content) (meter : Meter X) (stack : Stack A) (given : ℕ) (over : Bool) : Type 0 where
+-- what is true of a walk between two items, over or not
+pub record IsGood {X A : Type 0} (tells : X → Option Content) (meter : Meter X) (stack : Stack A)
+    (given : ℕ) (over : Bool) : Type 0 where
   pub limit : meter.spent ≤ meter.limit
   pub fits : meter.limit < 2 ^ 64
   pub few : given ≤ meter.spent + 1

@@ -24,10 +24,10 @@ returns g c = record {
   within = record { parts = c.requires.within.parts; going = c.requires.within.going };
   falls = search rules;
   ready = search rules;
-  sound = λ c' told h. record { next = c.found.ensures.sound c' (c.in-Ok.ensures.seen c' told ∙ ap (look_result c') c.as_str.ensures.value); frames = h.frames };
+  sound = λ c' told h. record { next = c.task_after_look.ensures.sound c' (c.in-Ok.ensures.seen c' told ∙ ap (look_result c') c.as_str.ensures.value); frames = h.frames };
   takes = λ c' told h. record {
     paths = string_bytes c.args.path ∷ [];
-    front = ap (λ ms. ms ++ frames_marks c' c.args.self.now.stack.plan c.args.self.now.stack.frames.items) (c.found.ensures.marks c' c.args.self.now.stack.plan (c.in-Ok.ensures.seen c' told ∙ ap (look_result c') c.as_str.ensures.value));
+    front = ap (λ ms. ms ++ frames_marks c' c.args.self.now.stack.plan c.args.self.now.stack.frames.items) (c.task_after_look.ensures.marks c' c.args.self.now.stack.plan (c.in-Ok.ensures.seen c' told ∙ ap (look_result c') c.as_str.ensures.value));
     units = search rules;
   };
 }

@@ -5,7 +5,7 @@ use Rattle.glob_walk.specs.Private.Meters.{IsExact}
 use Rattle.glob_walk.specs.Private.Stacks.{left, ready, IsWithin, IsSound}
 use Rattle.glob_walk.specs.Private.Turns.{turns_left}
 use Rattle.glob_walk.specs.Walks.{Charges}
-use Rattle.glob_walk.proofs.walker.Walker.run.Given as goal
+use Rattle.glob_walk.proofs.walker.Walker.turn_to_item.Given as goal
 
 abbrev pub invariant-loop-turn : goal.invariant-loop-turn
 invariant-loop-turn g l = record {

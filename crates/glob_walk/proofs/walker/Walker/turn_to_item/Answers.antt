@@ -1,8 +1,8 @@
 use Rattle.std.proofs.Common.{◌∙◌, ◌+◌, ◌≤◌, arith, refl}
 use Rattle.glob_walk.specs.Private.Stacks.{left, ready}
-use Rattle.glob_walk.specs.Private.Turns.{item_count}
+use Rattle.glob_walk.specs.Private.Turns.{listed_items}
 use Rattle.glob_walk.proofs.WalkLemmas.Charging.{Charges-trans, TurnOf-after, TurnCounts-after, IsExact-trans, IfGoing-map}
-use Rattle.glob_walk.proofs.walker.Walker.run.Goals as goal
+use Rattle.glob_walk.proofs.walker.Walker.turn_to_item.Goals as goal
 
 pub loop-turn-preserved : goal.loop-turn-preserved
 loop-turn-preserved g c =
@@ -32,7 +32,7 @@ returns-in_default-clause-turn g c =
       plan = e.plan ∙ i.plan;
       within = e.within;
       falls = λ went. absurd (c.in_default.not-Went went);
-      ready = IfGoing-map c.turn.result (λ (h : ready c.turn.new.self.stack + item_count c.turn.result + c.loop-turn.self.meter.spent ≤ ready c.loop-turn.self.stack + c.turn.new.self.meter.spent). omega (arith, h, i.room)) e.ready;
+      ready = IfGoing-map c.turn.result (λ (h : ready c.turn.new.self.stack + listed_items c.turn.result + c.loop-turn.self.meter.spent ≤ ready c.loop-turn.self.stack + c.turn.new.self.meter.spent). omega (arith, h, i.room)) e.ready;
       sound = IfGoing-map c.turn.result (λ s c' told h. s c' (i.told ∙ told.0, told.1) (i.sound c' told h)) e.sound;
       takes = λ c' told h. TurnOf-after (left c' c.args.self.now.stack) (left c' c.loop-turn.self.stack) (left c' c.turn.new.self.stack)
           c.args.self.now.meter.spent c.loop-turn.self.meter.spent c.turn.new.self.meter.spent c.turn.result (i.charges c' told h) (e.takes c' (i.told ∙ told.0, told.1) (i.sound c' told h));
