@@ -4,6 +4,7 @@ ghost use Rattle.glob_tree.specs.Answers.{entry_count};
 ghost use Rattle.glob_walk.specs.Components.{walk_fault};
 ghost use Rattle.glob_walk.specs.Walks.{IsFresh, RefusesWith};
 
+use crate::path_text::join;
 use crate::paths::{Paths, glob_in};
 use glob_pattern::{MatchOptions, PatternRefusal};
 use glob_tree::{Asks, Entry, ListError, Look, Name, Tree};
@@ -104,7 +105,8 @@ impl<R: Files, A: Allocator + Copy> Disk<R, A> {
     /// The entries of a directory. It ends at the first empty read; the bound is there because nothing says that a reader
     /// has an end, and is never reached.
     fn entries(&self, path: &str) -> io::Result<Vec<Entry<A>, A>> {
-        let mut directory = directory_path(self.alloc, path)?;
+        // The separator at its end, so that a link there is followed.
+        let mut directory = join(self.alloc, path, "")?;
         let mut names = self.rt.open_dir(directory.as_str())?;
         let mut entries = Vec::new(self.alloc);
         let mut block = [0; BLOCK];
@@ -197,16 +199,6 @@ fn metadata_of(answer: io::Result<Metadata>) -> Result<Option<Metadata>, AllocEr
         Err(error) if error.kind() == ErrorKind::OutOfMemory => Err(AllocError),
         Err(_) => Ok(None),
     }
-}
-
-/// The path with a separator at its end, so that a link at its end is followed. The empty path, which leads nowhere,
-/// stays.
-fn directory_path<A: Allocator>(alloc: A, path: &str) -> Result<String<A>, AllocError> {
-    let mut directory = String::from_str(alloc, path)?;
-    if !path.is_empty() && !path.ends_with('/') {
-        directory.push('/')?;
-    }
-    Ok(directory)
 }
 
 /// Whether an entry comes of this piece: not of the empty one after the last NUL, nor of `.` and `..`.
