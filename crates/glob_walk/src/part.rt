@@ -112,7 +112,7 @@ impl<A: Allocator + Copy> Part<A> {
 }
 
 /// Compiles a text. One with a fault is refused with it; and any may be refused with `Memory`.
-pub fn compile<A: Allocator + Copy>(alloc: A, text: &str) -> Result<Pattern<A>, PatternRefusal>
+fn compile<A: Allocator + Copy>(alloc: A, text: &str) -> Result<Pattern<A>, PatternRefusal>
     ensures text { IfOk result (λ pattern. pattern ≡ text.now) }
     ensures accepted { IfOk result (λ _. text_fault text.now ≡ None) }
     ensures refused { IfErr result (RefusesWith (text_fault text.now)) }

@@ -7,11 +7,10 @@ ghost use Rattle.glob_text.specs.Pieces.{pieces};
 ghost use Rattle.glob_text.specs.Text.{Text};
 ghost use Rattle.glob_tree.specs.Content.{Content};
 ghost use Rattle.glob_walk.specs.Components.{components, first_fault, start as start_text, walk_fault, wants_directories, without_root, without_end_separator};
-ghost use Rattle.glob_walk.specs.Private.Parts.{text_fault};
 ghost use Rattle.glob_walk.specs.Private.Tasks.{is_dotted, enter_from, IsRun, IsOpened};
 ghost use Rattle.glob_walk.specs.Walks.{RefusesWith};
 
-use crate::part::{Part, compile};
+use crate::part::Part;
 use crate::path_text::begins_with_dot;
 use glob_pattern::{MatchOptions, PatternRefusal};
 use std::alloc::Allocator;
@@ -40,7 +39,7 @@ impl<A: Allocator + Copy> Plan<A> {
         ensures accepted { IfOk result (λ _. walk_fault pattern.now ≡ None) }
         ensures refused { IfErr result (RefusesWith (walk_fault pattern.now)) }
     {
-        check(alloc, pattern)?;
+        Part::read(alloc, pattern)?;
         let parts = read_parts(alloc, past_root(pattern))?;
         Ok(Plan {
             parts,
@@ -90,15 +89,6 @@ impl<A: Allocator> Plan<A> {
         }
         last
     }
-}
-
-/// Refuses a pattern whose text has a fault.
-fn check<A: Allocator + Copy>(alloc: A, pattern: &str) -> Result<(), PatternRefusal>
-    ensures accepted { IfOk result (λ _. text_fault pattern.now ≡ None) }
-    ensures refused { IfErr result (RefusesWith (text_fault pattern.now)) }
-{
-    compile(alloc, pattern)?;
-    Ok(())
 }
 
 /// Reads the components of a text, which stand between separators.
