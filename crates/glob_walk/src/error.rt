@@ -1,5 +1,5 @@
 //! What stops a walk from reading a path.
-ghost use Rattle.std.specs.Prelude.{◌≡◌};
+ghost use Rattle.std.specs.Prelude.{◌≡◌, []};
 ghost use Rattle.std.specs.IoError.{error_kind};
 ghost use Rattle.std.specs.Path.{path_bytes, path_buf_bytes};
 ghost use Rattle.glob_walk.specs.GlobCauses.{HasKind};
@@ -14,7 +14,7 @@ use std::{fmt, io};
 pub enum GlobCause {
     /// The directory at the path could not be listed.
     Read,
-    /// Out of memory: an allocation failed, and the walk has ended.
+    /// Out of memory: an allocation failed, and the walk has ended. In this version the error's path is then empty.
     Memory,
     /// The next unit of work, which is at the path, does not fit the walk's limit. The walk has ended.
     Limit,
@@ -53,13 +53,13 @@ impl<A: Allocator> GlobError<A> {
         }
     }
 
-    /// There was no memory to go on at the path.
-    pub(crate) fn memory(path: PathBuf<A>) -> Self
-        ensures path { path_of result ≡ path_buf_bytes path }
+    /// There was no memory to go on. It tells no path.
+    pub(crate) fn memory(alloc: A) -> Self
+        ensures path { path_of result ≡ [] }
         ensures cause { cause_of result ≡ GlobCause.Memory }
     {
         GlobError {
-            path,
+            path: PathBuf::new(alloc),
             error: io::Error::from(io::ErrorKind::OutOfMemory),
             cause: GlobCause::Memory,
         }
@@ -77,7 +77,7 @@ impl<A: Allocator> GlobError<A> {
         }
     }
 
-    /// The path that could not be read: `a` for the directory `a`. It is empty where the cause is `Memory`.
+    /// The path that could not be read: `a` for the directory `a`.
     pub fn path(&self) -> Path<'_>
         ensures { path_bytes result ≡ path_of self.now }
     {

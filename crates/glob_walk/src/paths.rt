@@ -189,6 +189,6 @@ fn answer_of<A: Allocator>(alloc: A, turn: Turn<A>) -> Option<GlobResult<A>>
         Turn::Path(path) => Some(Ok(PathBuf::from(path))),
         Turn::Unread(path, e) => Some(Err(GlobError::read(PathBuf::from(path), e))),
         Turn::Limit(path) => Some(Err(GlobError::limit(PathBuf::from(path)))),
-        Turn::Memory => Some(Err(GlobError::memory(PathBuf::new(alloc)))),
+        Turn::Memory => Some(Err(GlobError::memory(alloc))),
     }
 }
