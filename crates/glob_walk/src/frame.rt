@@ -53,7 +53,6 @@ pub struct Frame<A: Allocator> {
 
 /// The number of the component from which the walk goes on at an entry, if the entry is met: by component `part`, or in a
 /// run of `**` by the one after it. A run at the pattern's end meets each entry that it enters.
-#[tactic(auto, using(crate::proofs::WalkLemmas::Entering::first_match, crate::proofs::WalkLemmas::Entering::first_in_run, crate::proofs::WalkLemmas::Entering::first_at_end, crate::proofs::WalkLemmas::Entering::first_of_none))]
 fn meet<A: Allocator + Copy>(
     plan: &Plan<A>,
     run: bool,
@@ -61,20 +60,16 @@ fn meet<A: Allocator + Copy>(
     name: &str,
     is_dir: bool,
 ) -> Result<Option<usize>, AllocError>
+    requires within { part < vec_len plan.now.parts }
     ensures { IfOk result
         (λ at. (c : Content) → (path : Text)
         → first_part c plan.now run part path (name.now, is_dir)
         ≡ met_marks c plan.now path (name.now, is_dir) at) }
 {
-    let Some(component) = plan.component(part) else {
-        return Ok(None);
-    };
-    if !run {
-        return match_at(plan, component, part + 1, name);
-    }
-    match plan.component(part + 1) {
-        Some(component) => match_at(plan, component, part + 2, name),
-        None if is_entered(plan.options, name, is_dir) => Ok(Some(part + 1)),
+    let next = if run { part + 1 } else { part };
+    match plan.component(next) {
+        Some(component) => match_at(plan, component, next + 1, name),
+        None if is_entered(plan.options, name, is_dir) => Ok(Some(next)),
         None => Ok(None),
     }
 }
@@ -139,6 +134,7 @@ impl<A: Allocator + Copy> Frame<A> {
 
     /// The task to go on at an entry, if its name is met. It makes the child's path only then.
     fn met_task(&self, plan: &Plan<A>, entry: &Entry<A>) -> Result<Option<Task<A>>, AllocError>
+        requires { self.now.part < vec_len plan.now.parts }
         ensures marks { IfOk result
             (λ task. (c : Content)
             → first_marks c plan.now self.now (entry.now.name, entry.now.is_dir)

@@ -1,5 +1,7 @@
 -- What is made of an entry that is met.
-use Rattle.std.proofs.Common.{◌≡◌, ℕ, ◌+◌, Bool, true, false, cond, not, ◌&&◌, ◌||◌, List, [], ◌∷◌, drop, Some, None, refl, ap, sym, ◌∙◌, arith}
+use Rattle.std.proofs.Common.{◌≡◌, ℕ, ◌+◌, Bool, true, false, cond, not, ◌&&◌, ◌||◌, List, [], ◌∷◌, drop, length, get_or, Some, None, Result, Ok, Err, refl, ap, sym, subst, ◌∙◌, arith, ◌<◌}
+use Rattle.std.specs.Prelude.{IfOk, ⊤}
+use Rattle.std.proofs.lemmas.List.{drop_more}
 use Rattle.std.proofs.lemmas.Bool.{and_parts, cond-true}
 use Rattle.glob_text.specs.Text.{Text}
 use Rattle.glob_text.specs.Characters.{dot}
@@ -40,14 +42,14 @@ matched c plan t next path name d true = refl
 matched c plan t next path name d false = refl
 
 -- the component is asked
-pub first_match : {A : Type 0} (c : Content) (plan : Plan A) (part : ℕ) (path name : Text) (d : Bool) (t : Text)
+first_match : {A : Type 0} (c : Content) (plan : Plan A) (part : ℕ) (path name : Text) (d : Bool) (t : Text)
     → drop part plan.parts.items ≡ t ∷ drop (part + 1) plan.parts.items
     → first_part c plan false part path (name, d) ≡ met_marks c plan path (name, d) (cond (takes_name plan.options t name) (Some (part + 1)) None)
 first_match c plan part path name d t e =
     ap (λ ts. first_of c plan.options plan.directories false ts path (name, d)) e ∙ matched c plan t (part + 1) path name d (takes_name plan.options t name)
 
 -- the component after the run is asked
-pub first_in_run : {A : Type 0} (c : Content) (plan : Plan A) (part : ℕ) (path name : Text) (d : Bool) (r t : Text)
+first_in_run : {A : Type 0} (c : Content) (plan : Plan A) (part : ℕ) (path name : Text) (d : Bool) (r t : Text)
     → drop part plan.parts.items ≡ r ∷ drop (part + 1) plan.parts.items
     → drop (part + 1) plan.parts.items ≡ t ∷ drop (part + 1 + 1) plan.parts.items
     → first_part c plan true part path (name, d) ≡ met_marks c plan path (name, d) (cond (takes_name plan.options t name) (Some (part + 2)) None)
@@ -59,7 +61,7 @@ first_in_run c plan part path name d r t e f =
     ∙ ap (λ n. met_marks c plan path (name, d) (cond (takes_name plan.options t name) (Some n) None)) two
 
 -- the run is the last component
-pub first_at_end : {A : Type 0} (c : Content) (plan : Plan A) (part : ℕ) (path name : Text) (d : Bool) (r : Text)
+first_at_end : {A : Type 0} (c : Content) (plan : Plan A) (part : ℕ) (path name : Text) (d : Bool) (r : Text)
     → drop part plan.parts.items ≡ r ∷ drop (part + 1) plan.parts.items
     → drop (part + 1) plan.parts.items ≡ []
     → first_part c plan true part path (name, d) ≡ met_marks c plan path (name, d) (cond (is_entered plan.options name d) (Some (part + 1)) None)
@@ -77,6 +79,34 @@ first_at_end c plan part path name d r e f =
         (ap (λ x. not plan.directories || x) (is_entered-directory plan.options name d h) ∙ or_true (not plan.directories)))
     by_test false h = refl
 
-pub first_of_none : {A : Type 0} (c : Content) (plan : Plan A) (run : Bool) (part : ℕ) (path name : Text) (d : Bool)
-    → drop part plan.parts.items ≡ [] → first_part c plan run part path (name, d) ≡ []
-first_of_none c plan run part path name d e = ap (λ ts. first_of c plan.options plan.directories run ts path (name, d)) e
+-- what follows of an answer
+pub IfOk-each : {T E : Type 0} {P Q : T → Type 0} (r : Result T E) → ((x : T) → P x → Q x) → IfOk r P → IfOk r Q
+IfOk-each (Ok x) f h = f x h
+IfOk-each (Err e) f h = h
+
+-- an entry is met by the component, or in a run by the one after it, if there is one
+module _ {A : Type 0} (c : Content) (plan : Plan A) (part : ℕ) (path name : Text) (d : Bool) (here : part < length plan.parts.items) where
+  at_part : drop part plan.parts.items ≡ get_or plan.parts.items part [] ∷ drop (part + 1) plan.parts.items
+  at_part = drop_more plan.parts.items part [] here
+
+  pub met_some : (run : Bool) (next : ℕ) (t : Text) → next ≡ cond run (part + 1) part
+      → drop next plan.parts.items ≡ t ∷ drop (next + 1) plan.parts.items
+      → first_part c plan run part path (name, d) ≡ met_marks c plan path (name, d) (cond (takes_name plan.options t name) (Some (next + 1)) None)
+  met_some true next t is at =
+      let two : part + 2 ≡ next + 1 = omega (arith, is) in
+      first_in_run c plan part path name d (get_or plan.parts.items part []) t at_part (subst (λ n. drop n plan.parts.items ≡ t ∷ drop (n + 1) plan.parts.items) is at)
+      ∙ ap (λ n. met_marks c plan path (name, d) (cond (takes_name plan.options t name) (Some n) None)) two
+  met_some false next t is at =
+      first_match c plan part path name d t (subst (λ n. drop n plan.parts.items ≡ t ∷ drop (n + 1) plan.parts.items) is at)
+      ∙ ap (λ n. met_marks c plan path (name, d) (cond (takes_name plan.options t name) (Some (n + 1)) None)) (sym is)
+
+  pub met_none : (run : Bool) (next : ℕ) → next ≡ cond run (part + 1) part → drop next plan.parts.items ≡ []
+      → first_part c plan run part path (name, d) ≡ met_marks c plan path (name, d) (cond (is_entered plan.options name d) (Some next) None)
+  met_none true next is at =
+      first_at_end c plan part path name d (get_or plan.parts.items part []) at_part (subst (λ n. drop n plan.parts.items ≡ []) is at)
+      ∙ ap (λ n. met_marks c plan path (name, d) (cond (is_entered plan.options name d) (Some n) None)) (sym is)
+  met_none false next is at = absurd (subst is_held (sym at_part ∙ subst (λ n. drop n plan.parts.items ≡ []) is at) tt)
+    where
+      is_held : List Text → Type 0
+      is_held [] = ⊥
+      is_held (t ∷ ts) = ⊤
