@@ -127,7 +127,12 @@ impl<T: Tree> Walker<T> {
             Err(Unlisted::Limit) => return Turn::Limit(path),
             Err(Unlisted::Memory) => return Turn::Memory,
         };
-        let place = first_place(run, self.stack.plan.is_dotted(part));
+        // Before `..` if the component begins with a dot, as `**` never does.
+        let place = if self.stack.plan.is_dotted(part) {
+            Place::Parent
+        } else {
+            Place::At(0)
+        };
         match self.stack.open(Frame {
             path,
             part,
@@ -265,17 +270,4 @@ fn gives(directories: bool, is_dir: bool) -> bool
     ensures { result ≡ (not directories || is_dir) }
 {
     !directories || is_dir
-}
-
-/// Where a directory begins: before `..` if a component that begins with a dot meets its names, and else before its
-/// first entry.
-fn first_place(run: bool, is_dotted: bool) -> Place
-    ensures { result
-        ≡ (if run then Place.At 0 else (if is_dotted then Place.Parent else Place.At 0)) }
-{
-    if is_dotted && !run {
-        Place::Parent
-    } else {
-        Place::At(0)
-    }
 }

@@ -8,6 +8,8 @@ use Rattle.std.proofs.lemmas.Bool.{and_parts, both_ways, eqb-true, eq-eqb}
 use Rattle.std.proofs.lemmas.Slice.Eq.{bytes_eq-Decides}
 use Rattle.glob_pattern.specs.Grammar.Characters.{star}
 use Rattle.glob_text.specs.Text.{Text}
+use Rattle.glob_text.specs.Characters.{dot}
+use Rattle.glob_text.specs.Pieces.{begins_with}
 use Rattle.glob_pattern.specs.Grammar.Brackets.{is_same}
 use Rattle.glob_pattern.specs.Laws.{SameTexts}
 use Rattle.glob_pattern.specs.Matching.Texts.{Matches}
@@ -85,6 +87,18 @@ wild_kind t h = by_test (is_literal t) (is_recursive t) refl h
     by_test false false e k = refl
 
 -- nor is a literal one
+-- and `**` begins with no dot
+pub undotted_kind : (t : Text) → component_kind t ≡ Recursive → begins_with dot t ≡ false
+undotted_kind t h = by_test (is_literal t) (is_recursive t) refl h
+  where
+    stars : is_recursive t ≡ true → begins_with dot t ≡ false
+    stars r = ap (begins_with dot) ((bytes_eq-Decides t (star ∷ star ∷ [])).0 r)
+
+    by_test : (b r : Bool) → is_recursive t ≡ r → cond b Literal (cond r Recursive Wild) ≡ Recursive → begins_with dot t ≡ false
+    by_test true r k e = absurd (cc)
+    by_test false true k e = stars k
+    by_test false false k e = absurd (cc)
+
 pub literal_recursive : (t : Text) → is_literal t ≡ true → is_recursive t ≡ false
 literal_recursive t h = by_test (is_recursive t) refl
   where

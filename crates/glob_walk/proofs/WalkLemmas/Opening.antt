@@ -27,7 +27,7 @@ use Rattle.glob_walk.specs.Walks.{works, Charges, StopsAt}
 use Rattle.glob_walk.proofs.WalkLemmas.Stepping.{append_none}
 use Rattle.glob_walk.proofs.WalkLemmas.Entering.{meet-next}
 use Rattle.glob_walk.specs.Components.{is_recursive, begins_recursive}
-use Rattle.glob_walk.proofs.WalkLemmas.Literals.{wild_kind, takes_same}
+use Rattle.glob_walk.proofs.WalkLemmas.Literals.{wild_kind, undotted_kind, takes_same}
 
 works_replicate : (n : ℕ) (path : Text) → replicate n (Work path) ≡ works (replicate n path)
 works_replicate zero path = refl
@@ -121,7 +121,7 @@ module _ {A : Type 0} (c : Content) (w : IsContent c) (plan : Plan A) (run : Boo
       ∙ ap (λ b. Work path ∷ after_listing path leading each b) is
 
   -- what stands before the entries is told by the place
-  placed : (es : List DirEntry) → leading ++ flat_map (λ e. each e.0 e.1) es ≡ place_marks c plan run part path es (first_place run (drop part plan.parts.items))
+  placed : (es : List DirEntry) → leading ++ flat_map (λ e. each e.0 e.1) es ≡ place_marks c plan run part path es (first_place (drop part plan.parts.items))
   unfolding leading each before second_of
   placed es = by_run run (drop part plan.parts.items) opens refl
     where
@@ -145,9 +145,11 @@ module _ {A : Type 0} (c : Content) (w : IsContent c) (plan : Plan A) (run : Boo
           ap (λ b. cond b (look_up c (λ seen. true) (enter c plan.options plan.directories ts) (join path name)) []) (takes_same plan.options t name wild)
           ∙ ap (λ us. special_after c plan.options plan.directories us path name) (sym q)
 
-      by_run : (r : Bool) (ts : List Text) → IsOpened r ts → drop part plan.parts.items ≡ ts → before c plan.options plan.directories r ts path ++ parts_marks r ts ≡ place_marks c plan r part path es (first_place r ts)
+      by_run : (r : Bool) (ts : List Text) → IsOpened r ts → drop part plan.parts.items ≡ ts → before c plan.options plan.directories r ts path ++ parts_marks r ts ≡ place_marks c plan r part path es (first_place ts)
       by_run true [] h q = ap (λ ts. parts_marks true ts) (sym q)
-      by_run true (t ∷ ts) h q = ap (λ ts. parts_marks true ts) (sym q)
+      by_run true (t ∷ ts) h q =
+          ap (λ ts. parts_marks true ts) (sym q)
+          ∙ ap (λ b. place_marks c plan true part path es (cond b Parent (At 0))) (sym (undotted_kind t h.0))
       by_run false [] h q = ap (λ ts. parts_marks false ts) (sym q)
       by_run false (t ∷ ts) h q = by_test (begins_with dot t) [] [] (parts_marks false (t ∷ ts)) t ts
           (special_same t ts parent_dir (wild_kind t h) q)
@@ -169,7 +171,7 @@ module _ {A : Type 0} (c : Content) (w : IsContent c) (plan : Plan A) (run : Boo
 
   -- the frame's marks, after the units of the listing
   pub opened_entries : (answer : List DirEntry) → IsInOrder (list_result c path) answer
-      → enter_from c plan part path true ≡ works (replicate (suc (length answer)) path) ++ place_marks c plan run part path answer (first_place run (drop part plan.parts.items))
+      → enter_from c plan part path true ≡ works (replicate (suc (length answer)) path) ++ place_marks c plan run part path answer (first_place (drop part plan.parts.items))
   opened_entries answer order = by_listing
       (λ es is.
       let flat : List Mark = flat_map (λ e. each e.0 e.1) (sorted_entries es) in
@@ -178,7 +180,7 @@ module _ {A : Type 0} (c : Content) (w : IsContent c) (plan : Plan A) (run : Boo
       ∙ ap (λ ms. Work path ∷ (ms ++ (leading ++ flat))) (works_replicate (length es) path)
       ∙ ap (λ n. Work path ∷ (works (replicate n path) ++ (leading ++ flat))) (sym (length-sorted_entries es))
       ∙ ap (λ ms. Work path ∷ (works (replicate (length (sorted_entries es)) path) ++ ms)) (placed (sorted_entries es))
-      ∙ ap (λ as'. works (replicate (suc (length as')) path) ++ place_marks c plan run part path as' (first_place run (drop part plan.parts.items))) (sym (subst (λ a. IsInOrder a answer) is order)))
+      ∙ ap (λ as'. works (replicate (suc (length as')) path) ++ place_marks c plan run part path as' (first_place (drop part plan.parts.items))) (sym (subst (λ a. IsInOrder a answer) is order)))
       (λ kind is. absurd (subst (λ a. IsInOrder a answer) is order))
 
   pub opened_cut : (rest : List Mark) (spent limit : ℕ) → spent ≤ limit → IsCut (list_result c path) spent limit → StopsAt (enter_from c plan part path true ++ rest) spent path limit
@@ -211,18 +213,17 @@ module _ {A : Type 0} (c : Content) (w : IsContent c) (plan : Plan A) (run : Boo
       of_answer k at (Unreadable wanted held is) = absurd (subst (λ a. IsInOrder a answer) is order)
 
   pub opened_charges : (answer : List DirEntry) → IsInOrder (list_result c path) answer → (place : Place) (rest new : List Mark) (spent spent' : ℕ)
-      → place ≡ first_place run (drop part plan.parts.items) → new ≡ place_marks c plan run part path answer place ++ rest → spent' ≡ spent + 1 + length answer
+      → place ≡ first_place (drop part plan.parts.items) → new ≡ place_marks c plan run part path answer place ++ rest → spent' ≡ spent + 1 + length answer
       → Charges (enter_from c plan part path true ++ rest) spent new spent'
   opened_charges answer order place rest new spent spent' at is units = record {
     paths = replicate (suc (length answer)) path;
     front = ap (λ ms. ms ++ rest) (opened_entries answer order)
-        ∙ append_assoc (works (replicate (suc (length answer)) path)) (place_marks c plan run part path answer (first_place run (drop part plan.parts.items))) rest
+        ∙ append_assoc (works (replicate (suc (length answer)) path)) (place_marks c plan run part path answer (first_place (drop part plan.parts.items))) rest
         ∙ ap (λ ms. works (replicate (suc (length answer)) path) ++ ms) (sym (is ∙ ap (λ p. place_marks c plan run part path answer p ++ rest) at));
     units = omega (arith, units, length-replicate (length answer) path);
   }
 
 -- a directory begins with two steps for each entry, and one for each of the special names
-pub first_steps : (n : ℕ) (run dotted : Bool) (p : Place) → p ≡ cond run (At 0) (cond dotted Parent (At 0)) → (place_steps n p ≤ 2 * n + 2) × (place_unmet n p ≤ n)
-first_steps n true dotted p is = subst (λ q. (place_steps n q ≤ 2 * n + 2) × (place_unmet n q ≤ n)) (sym is) (omega arith, omega arith)
-first_steps n false true p is = subst (λ q. (place_steps n q ≤ 2 * n + 2) × (place_unmet n q ≤ n)) (sym is) (omega arith, omega arith)
-first_steps n false false p is = subst (λ q. (place_steps n q ≤ 2 * n + 2) × (place_unmet n q ≤ n)) (sym is) (omega arith, omega arith)
+pub first_steps : (n : ℕ) (dotted : Bool) (p : Place) → p ≡ cond dotted Parent (At 0) → (place_steps n p ≤ 2 * n + 2) × (place_unmet n p ≤ n)
+first_steps n true p is = subst (λ q. (place_steps n q ≤ 2 * n + 2) × (place_unmet n q ≤ n)) (sym is) (omega arith, omega arith)
+first_steps n false p is = subst (λ q. (place_steps n q ≤ 2 * n + 2) × (place_unmet n q ≤ n)) (sym is) (omega arith, omega arith)

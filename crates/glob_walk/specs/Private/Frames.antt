@@ -122,6 +122,6 @@ IsEntrySound c path e = e.1 ≡ true → is_directory (look_result c (child path
 pub record IsFrameSound {A : Type 0} (c : Content) (f : Frame A) : Type 0 where
   pub entries : (e : DirEntry) → Contains (entries_of f.entries.items) e → IsEntrySound c (string_bytes f.path) e
 
--- the place at which a directory begins
-abbrev pub first_place : Bool → List Text → Place
-first_place run ts = if run then place.At 0 else (if is_dotted ts then place.Parent else place.At 0)
+-- the place at which a directory begins: before `..` for a component that begins with a dot, as `**` never does
+abbrev pub first_place : List Text → Place
+first_place ts = if is_dotted ts then place.Parent else place.At 0

@@ -14,6 +14,7 @@ use Rattle.glob_walk.specs.declared.frame.Place.TheVariants.{At, Parent}
 use Rattle.glob_walk.proofs.WalkLemmas.Opening.{opened_fault, opened_charges, opened_cut, opened_sound, first_steps}
 use Rattle.glob_walk.proofs.WalkLemmas.Stacking.{left_none}
 use Rattle.glob_walk.specs.Marks.{Work, Give, Unread}
+use Rattle.glob_walk.proofs.walker.Walker.list.Goals.{then-is_dotted, else-is_dotted}
 use Rattle.glob_walk.proofs.walker.Walker.list.Goals as goal
 
 pub returns-in-Err-Read : goal.returns-in-Err-Read
@@ -58,27 +59,29 @@ returns-in-Err-Limit g c =
     }
 
 pub returns-in-Ok-open : goal.returns-in-Ok-open
-returns-in-Ok-open g c = record {
-  told = search rules;
-  counts = search rules;
-  plan = search rules;
-  within = c.in-Ok-open.ensures.within;
-  falls = λ went. let w = c.in-Ok-open.ensures.weight in let n = c.in-Ok.ensures.units in let e = c.in-Ok.ensures.counts in let f = first_steps (vec_len c.in-Ok.entries) c.args.run c.is_dotted.result c.first_place-place.result c.first_place-place.ensures in
-      let none : next_weight c.args.self.now.stack.next ≡ 0 = ap next_weight c.requires.none in
-      grind (arith, common_steps, w, n, e.limit, e.within, f.0, none);
-  ready = let r = c.in-Ok-open.ensures.ready in let n = c.in-Ok.ensures.units in let f = first_steps (vec_len c.in-Ok.entries) c.args.run c.is_dotted.result c.first_place-place.result c.first_place-place.ensures in
-      let none : next_ready c.args.self.now.stack.plan c.args.self.now.stack.next ≡ 0 = ap (next_ready c.args.self.now.stack.plan) c.requires.none in
-      grind (arith, common_steps, r, n, f.1, none);
-  sound = λ c' told h. c.in-Ok-open.ensures.sound c' (record {
-    entries = opened_sound c' (IsContent-from_test c' told.1) c.args.self.now.stack.plan c.args.run c.args.part (string_bytes c.args.path) c.requires.opens (h.next refl)
-        (entries_of c.in-Ok.entries.items) (subst (λ p. IsInOrder (list_result c' p) (entries_of c.in-Ok.entries.items)) c.as_str.ensures.value (c.in-Ok.ensures.entries c' told));
-  }) (record { next = subst (IsNextSound c') (sym c.requires.none) tt; frames = h.frames });
-  takes = λ c' told h.
-      let rest = frames_marks c' c.args.self.now.stack.plan c.args.self.now.stack.frames.items in
-      opened_charges c' (IsContent-from_test c' told.1) c.args.self.now.stack.plan c.args.run c.args.part (string_bytes c.args.path) c.requires.opens (h.next refl)
-      (entries_of c.in-Ok.entries.items) (subst (λ p. IsInOrder (list_result c' p) (entries_of c.in-Ok.entries.items)) c.as_str.ensures.value (c.in-Ok.ensures.entries c' told))
-      c.first_place-place.result rest (left c' c.open.new.self) c.args.self.now.meter.spent c.list.new.self.spent
-      (c.first_place-place.ensures ∙ ap (λ b. cond c.args.run (At 0) (cond b Parent (At 0))) c.is_dotted.ensures)
-      (c.in-Ok-open.ensures.left c' ∙ ap (λ ms. frame_marks c' c.args.self.now.stack.plan (record { path = c.args.path; part = c.args.part; run = c.args.run; entries = c.in-Ok.entries; place = c.first_place-place.result }) ++ ms) (sym (left_none c' c.args.self.now.stack c.requires.none)))
-      (grind (arith, common_steps));
-}
+returns-in-Ok-open g c =
+    let place : c.if-is_dotted.place ≡ cond c.is_dotted.result Parent (At 0) = elim c.if-is_dotted.branch [ then-is_dotted w ↦ w.place-is ∙ sym (ap (λ b. cond b Parent (At 0)) w.if-is_dotted.true) | else-is_dotted w ↦ w.place-is ∙ sym (ap (λ b. cond b Parent (At 0)) w.if-is_dotted.false) ] in
+    record {
+      told = search rules;
+      counts = search rules;
+      plan = search rules;
+      within = c.in-Ok-open.ensures.within;
+      falls = λ went. let w = c.in-Ok-open.ensures.weight in let n = c.in-Ok.ensures.units in let e = c.in-Ok.ensures.counts in let f = first_steps (vec_len c.in-Ok.entries) c.is_dotted.result c.if-is_dotted.place place in
+          let none : next_weight c.args.self.now.stack.next ≡ 0 = ap next_weight c.requires.none in
+          grind (arith, common_steps, w, n, e.limit, e.within, f.0, none);
+      ready = let r = c.in-Ok-open.ensures.ready in let n = c.in-Ok.ensures.units in let f = first_steps (vec_len c.in-Ok.entries) c.is_dotted.result c.if-is_dotted.place place in
+          let none : next_ready c.args.self.now.stack.plan c.args.self.now.stack.next ≡ 0 = ap (next_ready c.args.self.now.stack.plan) c.requires.none in
+          grind (arith, common_steps, r, n, f.1, none);
+      sound = λ c' told h. c.in-Ok-open.ensures.sound c' (record {
+        entries = opened_sound c' (IsContent-from_test c' told.1) c.args.self.now.stack.plan c.args.run c.args.part (string_bytes c.args.path) c.requires.opens (h.next refl)
+            (entries_of c.in-Ok.entries.items) (subst (λ p. IsInOrder (list_result c' p) (entries_of c.in-Ok.entries.items)) c.as_str.ensures.value (c.in-Ok.ensures.entries c' told));
+      }) (record { next = subst (IsNextSound c') (sym c.requires.none) tt; frames = h.frames });
+      takes = λ c' told h.
+          let rest = frames_marks c' c.args.self.now.stack.plan c.args.self.now.stack.frames.items in
+          opened_charges c' (IsContent-from_test c' told.1) c.args.self.now.stack.plan c.args.run c.args.part (string_bytes c.args.path) c.requires.opens (h.next refl)
+          (entries_of c.in-Ok.entries.items) (subst (λ p. IsInOrder (list_result c' p) (entries_of c.in-Ok.entries.items)) c.as_str.ensures.value (c.in-Ok.ensures.entries c' told))
+          c.if-is_dotted.place rest (left c' c.open.new.self) c.args.self.now.meter.spent c.list.new.self.spent
+          (place ∙ ap (λ b. cond b Parent (At 0)) c.is_dotted.ensures)
+          (c.in-Ok-open.ensures.left c' ∙ ap (λ ms. frame_marks c' c.args.self.now.stack.plan (record { path = c.args.path; part = c.args.part; run = c.args.run; entries = c.in-Ok.entries; place = c.if-is_dotted.place }) ++ ms) (sym (left_none c' c.args.self.now.stack c.requires.none)))
+          (grind (arith, common_steps));
+    }
