@@ -13,8 +13,12 @@ use std::fs::{Files, Metadata};
 use std::io::{self, ErrorKind, Read};
 use std::marker::Model;
 
-/// How many bytes of a directory are read at once. Most directories fit.
-const BLOCK: usize = 32768;
+/// How many bytes of a directory are read at once by its first two reads. The names of some hundred entries fit. A block
+/// is cleared at each listing, so a larger one would cost a small directory more than its system calls spare.
+const BLOCK: usize = 4096;
+
+/// How many bytes of a directory are read at once by further reads.
+const LARGE_BLOCK: usize = 32768;
 
 /// The real file system, as a tree with no known content: contracts know only how much was asked of it. Relative paths
 /// begin at the current directory of the process, and links are followed.
@@ -102,22 +106,50 @@ impl<R: Files, A: Allocator + Copy> Disk<R, A> {
         }
     }
 
-    /// The entries of a directory. It ends at the first empty read; the bound is there because nothing says that a reader
-    /// has an end, and is never reached.
+    /// The entries of a directory. Most directories end within two reads of a small block: one of all names, and one of
+    /// none.
     fn entries(&self, path: &str) -> io::Result<Vec<Entry<A>, A>> {
         // The separator at its end, so that a link there is followed.
         let mut directory = join(self.alloc, path, "")?;
         let mut names = self.rt.open_dir(directory.as_str())?;
         let mut entries = Vec::new(self.alloc);
         let mut block = [0; BLOCK];
-        for _ in 0..u64::MAX {
-            let count = names.read(&mut block)?;
-            if count == 0 {
-                break;
-            }
-            self.add_entries(&mut entries, &mut directory, &block[..count])?;
+        if !self.read_entries(&mut names, &mut block, 2, &mut directory, &mut entries)? {
+            self.read_further_entries(&mut names, &mut directory, &mut entries)?;
         }
         Ok(entries)
+    }
+
+    /// Adds the entries that two reads of a large directory have left.
+    fn read_further_entries(
+        &self,
+        names: &mut R::Dir,
+        directory: &mut String<A>,
+        entries: &mut Vec<Entry<A>, A>,
+    ) -> io::Result<()> {
+        let mut block = [0; LARGE_BLOCK];
+        self.read_entries(names, &mut block, u64::MAX, directory, entries)?;
+        Ok(())
+    }
+
+    /// Adds the entries of at most so many reads of a directory. Returns whether the directory has ended, which it has at
+    /// the first empty read. There is a bound because nothing says that a reader has an end.
+    fn read_entries(
+        &self,
+        names: &mut R::Dir,
+        block: &mut [u8],
+        reads: u64,
+        directory: &mut String<A>,
+        entries: &mut Vec<Entry<A>, A>,
+    ) -> io::Result<bool> {
+        for _ in 0..reads {
+            let count = names.read(block)?;
+            if count == 0 {
+                return Ok(true);
+            }
+            self.add_entries(entries, directory, &block[..count])?;
+        }
+        Ok(false)
     }
 
     /// Adds an entry for each of some names of a directory. A NUL stands after each name, and no read ends inside one.
