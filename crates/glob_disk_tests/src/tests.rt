@@ -10,6 +10,8 @@ const PATHS: &[(&str, Kind)] = &[
     ("d/gone", Kind::Link(ErrorKind::NotFound)),
     ("d/ring", Kind::Link(ErrorKind::FilesystemLoop)),
     ("empty/", Kind::Dir(&[])),
+    ("large/", Kind::Dir(&[b"a\0", b"b\0", b"c\0d\0", b"e\0"])),
+    ("large/d", Kind::Dir(&[])),
     ("shut/", Kind::Shut(ErrorKind::PermissionDenied)),
     ("torn/", Kind::Torn(&[], ErrorKind::StaleNetworkFileHandle)),
     (
@@ -28,6 +30,10 @@ const PATHS: &[(&str, Kind)] = &[
     ("full/", Kind::Shut(ErrorKind::OutOfMemory)),
     ("filling/", Kind::Torn(&[], ErrorKind::OutOfMemory)),
     ("overflows/", Kind::Torn(&[b"a\0"], ErrorKind::OutOfMemory)),
+    (
+        "tears_late/",
+        Kind::Torn(&[b"a\0", b"b\0", b"c\0"], ErrorKind::StaleNetworkFileHandle),
+    ),
     ("fills/", Kind::Dir(&[b"a\0"])),
     ("fills/a", Kind::Lost(ErrorKind::OutOfMemory)),
     (
@@ -66,6 +72,16 @@ const LISTINGS: &[(&str, &[(&str, bool)])] = &[
         &[("f", false), ("s", true), ("gone", false), ("ring", false)],
     ),
     ("empty/", &[]),
+    (
+        "large",
+        &[
+            ("a", false),
+            ("b", false),
+            ("c", false),
+            ("d", true),
+            ("e", false),
+        ],
+    ),
     ("unseen", &[("a", false)]),
     ("/", &[("f", true)]),
 ];
@@ -92,6 +108,7 @@ const FAILURES: &[(&str, Option<ErrorKind>)] = &[
     ("shut", Some(ErrorKind::PermissionDenied)),
     ("torn", Some(ErrorKind::StaleNetworkFileHandle)),
     ("tears", Some(ErrorKind::StaleNetworkFileHandle)),
+    ("tears_late", Some(ErrorKind::StaleNetworkFileHandle)),
     ("latin", Some(ErrorKind::InvalidFilename)),
     ("odd", Some(ErrorKind::InvalidFilename)),
     ("full", None),
