@@ -125,7 +125,7 @@ fn past_root(pattern: &str) -> &str
 fn ends_in_separator(text: &str) -> bool
     ensures { result ≡ wants_directories text.now }
 {
-    text.strip_suffix('/').is_some()
+    text.ends_with('/')
 }
 
 /// The text without one separator at its end.

@@ -1,8 +1,6 @@
 -- Reading a pattern's components.
-use Rattle.std.proofs.Common.{◌≡◌, ◌≢◌, ℕ, ◌+◌, ◌-◌, ◌<◌, Bool, true, false, cond, not, ◌||◌, ◌==◌, List, [], ◌∷◌, ◌++◌, length, take, drop, drop-cons, add-one, suc, get_or, slice_index, map, Option, Some, None, Result, Ok, Err, refl, ap, sym, ◌∙◌, arith, chars, rules}
-use Rattle.std.specs.Prelude.{IfOk, IfErr, IsErrAnd, MatchOption, is_some}
-use Rattle.std.specs.Borrow.{Bor}
-use Rattle.std.proofs.lemmas.List.{length-append}
+use Rattle.std.proofs.Common.{◌≡◌, ◌≢◌, ℕ, ◌+◌, ◌-◌, ◌<◌, Bool, true, false, cond, not, ◌||◌, ◌==◌, List, [], ◌∷◌, ◌++◌, length, take, drop, drop-cons, add-one, suc, get_or, map, Option, Some, None, Result, Ok, Err, refl, ap, sym, ◌∙◌, arith, chars, rules}
+use Rattle.std.specs.Prelude.{IfOk, IfErr, IsErrAnd}
 use Rattle.std.specs.Result.{result_err}
 use Rattle.std.specs.List.{list_any}
 use Rattle.std.specs.Str.{IsUtf8}
@@ -157,23 +155,3 @@ walk_fault-whole pattern refusal.Memory h = tt
 pub walk_fault-components : (pattern : Text) → text_fault pattern ≡ None → first_fault (components pattern) ≡ walk_fault pattern
 unfolding walk_fault
 walk_fault-components pattern h = ap (λ o. option_or o (first_fault (components pattern))) (sym h)
-
-last_of : (front : Text) → slice_index (front ++ slash ∷ []) (length front) ≡ slash
-last_of [] = refl
-last_of (b ∷ bs) = last_of bs
-
-ends_with-slash : (front : Text) → ends_with slash (front ++ slash ∷ []) ≡ true
-ends_with-slash front =
-    let at : length (front ++ slash ∷ []) - 1 ≡ length front = omega (arith, length-append front (slash ∷ [])) in
-    ap (λ n. slice_index (front ++ slash ∷ []) n == slash) at ∙ ap (λ b. b == slash) (last_of front)
-
--- a separator at the end is found
-pub ends_with-found : (text : Text) (r : Option (Bor (List ℕ))) → MatchOption r ((front : List ℕ) → text ≢ front ++ slash ∷ []) (λ x. text ≡ x.now ++ slash ∷ [])
-    → is_some r ≡ ends_with slash text
-ends_with-found text (Some x) h = sym (ap (ends_with slash) h ∙ ends_with-slash x.now)
-ends_with-found [] None h = refl
-ends_with-found (b ∷ bs) None h = by_test (ends_with slash (b ∷ bs)) refl
-  where
-    by_test : (e : Bool) → ends_with slash (b ∷ bs) ≡ e → false ≡ e
-    by_test true e = absurd (h (take (length (b ∷ bs) - 1) (b ∷ bs)) (front_and_end slash (b ∷ bs) e (omega arith)))
-    by_test false e = refl
