@@ -142,8 +142,10 @@ check 'an escaped name' 0 'names/[x]\n' ''
 mkdir -p paths/sub && touch paths/x1 paths/sub/x2
 run find 'paths/x*'
 check 'a relative pattern' 0 'paths/x1\n' ''
-run find "$PWD/paths/x*"
-check 'an absolute pattern' 0 "$PWD/paths/x1\n" ''
+here=$(pwd -P)
+run find "$("$program" escape "$here")/paths/x*"
+printf '%s\n' "$here/paths/x1" | cmp -s - "$work/out" && : >"$work/out"
+check 'an absolute pattern' 0 '' ''
 run find //
 check 'the root' 0 '/\n' ''
 cd paths/sub || exit 1
@@ -204,13 +206,13 @@ check 'the first path is written while the walk goes on' 2 'cycle/a\n' 'writing 
 # Two paths early in the walk, and after them a cycle of links in which there are no more.
 mkdir -p late/a late/b && touch late/a/hit1 late/a/hit2 && ln -s . late/b/1 && ln -s . late/b/2
 mkfifo "$work/fifo"
-"$program" find 'late/**/hit*' >"$work/fifo" 2>"$work/err" &
+first='' second=''
+timeout 180 "$program" find 'late/**/hit*' >"$work/fifo" 2>"$work/err" &
 walk=$!
 status='the walk ended, or wrote no second path'
 exec 3<"$work/fifo"
-if read -r -t 60 first <&3 && read -r -t 60 second <&3 && kill "$walk" 2>/dev/null; then
-    status='the walk goes on'
-fi
+read -r -t 60 first <&3 && read -r -t 60 second <&3 && kill -0 "$walk" && status='the walk goes on'
+kill "$walk" 2>/dev/null
 wait "$walk" 2>/dev/null
 exec 3<&-
 printf '%s\n' "$first" "$second" >"$work/out"
@@ -228,16 +230,20 @@ status=$?
 head -1 "$work/out" >"$work/first" && cp "$work/first" "$work/out"
 check 'an output that fails while the walk goes on ends it' 2 'late/a/hit1\n' 'writing failed\n'
 
-# needed: how much memory the program needs where it does little, in kilobytes, to a power of two
+# needed: with how much memory, in kilobytes and to a megabyte, the program can do little
 needed() {
-    local kilobytes=1024
-    until (ulimit -v $kilobytes && "$program" escape a) >/dev/null 2>&1; do
-        kilobytes=$((2 * kilobytes))
+    local least=0 most=1024
+    while ! (ulimit -v $((most * 1024)) && "$program" escape a) >/dev/null 2>&1 && [ "$most" -lt 8388608 ]; do
+        least=$most most=$((2 * most))
     done
-    echo $kilobytes
+    while [ $((most - least)) -gt 1 ]; do
+        local middle=$(((least + most) / 2))
+        if (ulimit -v $((middle * 1024)) && "$program" escape a) >/dev/null 2>&1; then most=$middle; else least=$middle; fi
+    done
+    echo $((most * 1024))
 }
 (
-    ulimit -v $(($(needed) + 200000))
+    ulimit -v $(($(needed) + 16000))
     "$program" find -n 1000000 'late/**/hit*' >"$work/out" 2>"$work/err"
 )
 status=$?
@@ -245,7 +251,7 @@ sed -i 's/`.*`/`..`/' "$work/err"
 check 'a long walk in a cycle of links takes little memory' 2 'late/a/hit1\n' "$(unread ..)walk limit reached\n"
 
 # A directory that is not ours to read. Root can read it, and so gives its rights up.
-mkdir -p shut/a shut/b shut/c && touch shut/a/x shut/b/x shut/c/x && chmod 000 shut/b && chmod 755 "$work"
+mkdir -p shut/a shut/b/sub shut/c && touch shut/a/x shut/b/x shut/b/sub/x shut/c/x && chmod 000 shut/b && chmod 755 "$work"
 as_user=() binary=$root/crates/glob_run/out/glob_run
 [ "$(id -u)" != 0 ] || as_user=(setpriv --reuid=65534 --regid=65534 --clear-groups)
 if "${as_user[@]}" "$binary" escape a >/dev/null 2>&1; then
@@ -254,6 +260,12 @@ if "${as_user[@]}" "$binary" escape a >/dev/null 2>&1; then
     begins 'a directory that cannot be read' 2 'shut/a/x\nshut/c/x\n' "$(unread shut/b)"
 else
     echo "skipped: a directory that cannot be read: root reads it, and no other user can run the program here"
+fi
+chmod 444 shut/b
+if "${as_user[@]}" "$binary" escape a >/dev/null 2>&1; then
+    "${as_user[@]}" "$binary" find 'shut/**/x' >"$work/out" 2>"$work/err"
+    status=$?
+    check 'what a directory that may not be searched has is no directory' 0 'shut/a/x\nshut/b/x\nshut/c/x\n' ''
 fi
 chmod 755 shut/b
 
@@ -277,6 +289,13 @@ check 'find for a reader that goes away' 2 'many/000001\n' 'writing failed\n'
 "$program" find 'many/*' >/dev/full 2>"$work/err"
 status=$?
 check 'find to a full standard output' 2 '' 'writing failed\n'
+"$program" find 'latin/*/?' >"$work/out" 2>/dev/full
+status=$? && : >"$work/err"
+check 'a fault that find cannot report' 2 'latin/a/x\nlatin/c/x\n' ''
+
+cd "$root" || exit 1
+run find 'docs/A*.md'
+check 'the example of the README, from A on' 0 'docs/ARCHITECTURE.md\ndocs/ARGUMENT.md\n' ''
 
 echo "$passed passed, $failed failed"
 [ "$failed" = 0 ]

@@ -9,7 +9,7 @@ use std::fs::Files;
 use std::io::{self, Write};
 
 /// The disk as a tree. Each lookup and listing may first write lines that wait. Where they cannot be written, it fails as
-/// if there were an allocation failure, which ends the walk; the lines know better.
+/// if there were an allocation failure, which ends the walk. `Lines` then fails at each flush, so `find` reports the write.
 #[derive(Drop)]
 pub struct FlushingDisk<'l, R: Files, W: Write + Drop, A: Allocator> {
     disk: Disk<R, A>,
@@ -26,9 +26,19 @@ impl<'l, R: Files, W: Write + Drop, A: Allocator> FlushingDisk<'l, R, W, A> {
         }
     }
 
-    /// Counts a lookup or listing, before the disk is asked.
+    /// Writes lines that have waited long, before the disk is asked, and counts the lookup or listing.
     fn begin(&self) -> io::Result<()> {
-        lines::lend(self.lines)?.ask()
+        let mut lines = lines::lend(self.lines)?;
+        lines.flush_late()?;
+        lines.count(1);
+        Ok(())
+    }
+
+    /// Counts the entries of a listing.
+    fn count_entries(&self, entries: usize) {
+        if let Ok(mut lines) = lines::lend(self.lines) {
+            lines.count(entries);
+        }
     }
 }
 
@@ -53,6 +63,7 @@ impl<R: Files + Drop, W: Write + Drop, A: Allocator + Copy> Tree for FlushingDis
             return Err(ListError::Memory);
         }
         let entries = self.disk.list(path)?;
+        self.count_entries(entries.len());
         self.asks = self.asks.after(entries.len());
         Ok(entries)
     }

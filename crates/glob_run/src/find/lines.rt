@@ -3,17 +3,17 @@ use std::alloc::Allocator;
 use std::cell::{RefCell, RefMut};
 use std::io::{self, BufWriter, ErrorKind, Write};
 
-/// For how many lookups and listings of the walk a line waits at most.
-const PATIENCE: u8 = 100;
+/// For how many asks of the walk a line waits: lookups, listings and entries of listings.
+const PATIENCE: u64 = 100;
 
-/// Lines on their way to a writer. The first is written at once. Later ones are written together: when the buffer is full,
-/// when the first of them has waited for `PATIENCE` asks of the walk, and when they are flushed.
+/// Lines on their way to a writer. The first is written at once. Later ones are written together: when the buffer is
+/// full, before a lookup or listing if the first of them has waited for `PATIENCE` asks, and when they are flushed.
 #[derive(Drop)]
 pub struct Lines<W: Write + Drop, A: Allocator> {
     buffer: BufWriter<W, A>,
     has_line: bool,
     /// For how many asks a line has waited, or `None` where none waits.
-    waited: Option<u8>,
+    waited: Option<u64>,
     has_failed: bool,
 }
 
@@ -45,15 +45,18 @@ impl<W: Write + Drop, A: Allocator> Lines<W, A> {
         Ok(())
     }
 
-    /// Counts an ask of the walk, which is about to begin.
-    pub fn ask(&mut self) -> io::Result<()> {
+    /// Writes the lines that wait, if the first of them has waited long.
+    pub fn flush_late(&mut self) -> io::Result<()> {
         match self.waited {
-            None => Ok(()),
-            Some(PATIENCE) => self.flush(),
-            Some(asks) => {
-                self.waited = Some(asks.saturating_add(1));
-                Ok(())
-            }
+            Some(asks) if asks >= PATIENCE => self.flush(),
+            _ => Ok(()),
+        }
+    }
+
+    /// Counts asks of the walk, for which a line that waits has waited longer.
+    pub fn count(&mut self, asks: usize) {
+        if let Some(waited) = self.waited {
+            self.waited = Some(waited.saturating_add(asks as u64));
         }
     }
 

@@ -247,16 +247,18 @@ fn walks(rt: HostRuntime) -> Result<(), Fail> {
 fn options_are_those_of_the_caller(rt: HostRuntime) -> Result<(), Fail> {
     let folder = Folder::new(&rt, "options")?;
     folder.add_dir(&rt, "AAA")?;
-    folder.add_file(&rt, ".x")?;
+    folder.add_file(&rt, ".a")?;
     let escaped = Pattern::escape(rt.alloc(), folder.path())?;
     let pattern = format!(in rt.alloc(); "{escaped}/*a*")?;
     let options = MatchOptions {
         case_sensitive: false,
+        require_literal_leading_dot: true,
         ..MatchOptions::new()
     };
-    let wanted = below(&rt, folder.path(), &["AAA"])?;
-    assert!(rt; by_glob(&rt, pattern.as_str())?.is_empty());
-    assert!(rt; by_glob_with(&rt, pattern.as_str(), options)? == wanted);
+    let dotted = below(&rt, folder.path(), &[".a"])?;
+    let upper = below(&rt, folder.path(), &["AAA"])?;
+    assert!(rt; by_glob(&rt, pattern.as_str())? == dotted);
+    assert!(rt; by_glob_with(&rt, pattern.as_str(), options)? == upper);
     folder.remove(&rt)
 }
 

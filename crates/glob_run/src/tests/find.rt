@@ -29,6 +29,7 @@ const USAGE_FAULTS: &[&str] = &[
     "find -n -5 *",
     "find -n5 *",
     "find -n 18446744073709551616 *",
+    "find -n 99999999999999999999 *",
     "find -n 000000000000000000005 *",
     "find -*",
     "find a b",
@@ -60,6 +61,8 @@ fn check_two_files(rt: &(impl Abort + AllocGlobal + Files)) {
     check(rt, &["find", "d/*"], 0, "d/a\nd/b\n", "");
     check(rt, &["find", "-n", "5", "d/*"], 0, "d/a\nd/b\n", "");
     check(rt, &["find", "-n", "4", "d/*"], 2, "", refusal);
+    let most = "18446744073709551615";
+    check(rt, &["find", "-n", most, "d/*"], 0, "d/a\nd/b\n", "");
     check(rt, &["find", "d/zz*"], 1, "", "");
     check(rt, &["find", "d/A"], 1, "", "");
 }
@@ -74,6 +77,56 @@ fn two_files(rt: HostRuntime) -> Result<(), Fail> {
     env::set_current_dir(&rt, folder.path())?;
     check_two_files(&rt);
     env::set_current_dir(&rt, before.as_path())?;
+    folder.remove(&rt)
+}
+
+/// The limits of a walk by an absolute path: a unit for the start, one for each name of the path, and three for the
+/// listing and its two entries. Where the path has wildcards, its directories are listed, and cost more.
+fn check_limits(
+    rt: &(impl Abort + AllocGlobal + Files),
+    path: &str,
+    pattern: &str,
+    both: &str,
+) -> Result<(), Fail> {
+    if path.contains(['?', '*', '[', ']'].as_slice()) {
+        return Ok(());
+    }
+    let mut names = 0u64;
+    for name in path.split('/') {
+        if !name.is_empty() {
+            names = names.saturating_add(1);
+        }
+    }
+    let alloc = rt.alloc();
+    let enough = format!(in alloc; "{}", names.saturating_add(4))?;
+    let few = format!(in alloc; "{}", names.saturating_add(3))?;
+    let refusal = format!(in alloc;
+        "attempting to read `{path}` resulted in an error: walk limit reached\n"
+    )?;
+    check(rt, &["find", "-n", enough.as_str(), pattern], 0, both, "");
+    check(
+        rt,
+        &["find", "-n", few.as_str(), pattern],
+        2,
+        "",
+        refusal.as_str(),
+    );
+    Ok(())
+}
+
+#[test]
+fn two_files_by_an_absolute_path(rt: HostRuntime) -> Result<(), Fail> {
+    let folder = Folder::new(&rt, "absolute")?;
+    folder.add_file(&rt, "a")?;
+    folder.add_file(&rt, "b")?;
+    let path = folder.path();
+    let escaped = Pattern::escape(rt.alloc(), path)?;
+    let all = format!(in rt.alloc(); "{escaped}/*")?;
+    let none = format!(in rt.alloc(); "{escaped}/zz*")?;
+    let both = format!(in rt.alloc(); "{path}/a\n{path}/b\n")?;
+    check(&rt, &["find", all.as_str()], 0, both.as_str(), "");
+    check(&rt, &["find", none.as_str()], 1, "", "");
+    check_limits(&rt, path, all.as_str(), both.as_str())?;
     folder.remove(&rt)
 }
 
