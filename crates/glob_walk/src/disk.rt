@@ -14,7 +14,7 @@ use std::io::{self, ErrorKind, Read};
 use std::marker::Model;
 
 /// How many bytes of a directory are read at once by its first two reads. The names of some hundred entries fit. A block
-/// is cleared at each listing, so a larger one would cost a small directory more than its system calls spare.
+/// is cleared at each listing, so a larger one would cost a small directory more than it saves in system calls.
 const BLOCK: usize = 4096;
 
 /// How many bytes of a directory are read at once by further reads.
@@ -24,7 +24,8 @@ const LARGE_BLOCK: usize = 32768;
 /// begin at the current directory of the process, and links are followed.
 ///
 /// A look makes one system call, and two where the path cannot be followed to its end. A listing makes one for each
-/// entry, and a few for the directory. An I/O error of the kind `OutOfMemory` is an allocation failure.
+/// entry, four for the directory, and one for each further 32 KiB of names. An I/O error of the kind `OutOfMemory` is an
+/// allocation failure.
 ///
 /// In a directory with a file `a` and a link `b` to `a`, a look at `b` finds `Other`, and a listing of `.` the entries
 /// `a` and `b`, neither of them a directory.
