@@ -3,6 +3,7 @@ pub mod Changes
 pub mod Components
 pub mod Dotted
 pub mod Edges
+pub mod FalseNeighbours
 pub mod Goals
 pub mod Held
 pub mod Joined

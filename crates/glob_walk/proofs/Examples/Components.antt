@@ -1,7 +1,7 @@
 -- Walks over many names, by components of each kind.
 use Rattle.std.specs.Prelude.{List, [], ◌∷◌, refl}
 use Prim.Native.String.{String}
-use Rattle.glob_pattern.proofs.Examples.{new}
+use Rattle.glob_pattern.proofs.Examples.Options.{new}
 use Rattle.glob_walk.proofs.Examples.Trees.{computed, Gives}
 use Rattle.glob_walk.proofs.Examples.Held.{entries_of_nodes}
 

@@ -3,7 +3,7 @@ use Rattle.std.specs.Prelude.{◌≡◌, true, false, [], ◌∷◌, codes, refl
 use Rattle.glob_tree.specs.Content.{Content, is_content}
 use Rattle.glob_walk.specs.Goal.{is_plain}
 use Rattle.glob_pattern.specs.declared.options.MatchOptions.{MatchOptions}
-use Rattle.glob_pattern.proofs.Examples.{options, new}
+use Rattle.glob_pattern.proofs.Examples.Options.{options, new}
 use Rattle.glob_walk.proofs.Examples.Trees.{computed, dir, file, at_root, Gives, Spends, IsGoal}
 
 abbrev dot_rule : MatchOptions

@@ -4,7 +4,7 @@ use Rattle.std.specs.declared.io.ErrorKind.TheVariants.{PermissionDenied}
 use Rattle.glob_tree.specs.Paths.{is_proper}
 use Rattle.glob_tree.specs.Content.{Content, is_content}
 use Rattle.glob_walk.specs.Goal.{is_plain, is_readable}
-use Rattle.glob_pattern.proofs.Examples.{new}
+use Rattle.glob_pattern.proofs.Examples.Options.{new}
 use Rattle.glob_walk.proofs.Examples.Trees.{computed, dir, file, shut, at_root, Gives, Spends}
 
 proper_names : map (λ name. is_proper (codes name)) ("a" ∷ "..." ∷ ".x" ∷ "a b" ∷ "" ∷ "." ∷ ".." ∷ "a/b" ∷ "/" ∷ [])

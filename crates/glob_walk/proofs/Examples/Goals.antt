@@ -3,7 +3,7 @@ use Rattle.std.specs.Prelude.{◌≡◌, Bool, true, false, List, [], ◌∷◌,
 use Prim.Native.String.{String}
 use Rattle.std.specs.List.{list_all}
 use Rattle.glob_pattern.specs.declared.options.MatchOptions.{MatchOptions}
-use Rattle.glob_pattern.proofs.Examples.{options, new}
+use Rattle.glob_pattern.proofs.Examples.Options.{options, new}
 use Rattle.glob_walk.proofs.Examples.Trees.{computed, finds_goal, finds_in_order}
 use Rattle.glob_walk.proofs.Examples.Dotted.{dotted}
 use Rattle.glob_walk.proofs.Examples.Held.{entries_of_nodes}

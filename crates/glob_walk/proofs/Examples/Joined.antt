@@ -9,7 +9,7 @@ use Rattle.glob_walk.specs.Goal.{is_plain, matches_undivided, text_below}
 use Rattle.glob_pattern.specs.Computing.Deciding.{is_match}
 use Rattle.glob_pattern.specs.Matching.Components.{takes_names, with_separator_rule}
 use Rattle.glob_pattern.specs.declared.options.MatchOptions.{MatchOptions}
-use Rattle.glob_pattern.proofs.Examples.{options, new}
+use Rattle.glob_pattern.proofs.Examples.Options.{options, new}
 use Rattle.glob_walk.proofs.Examples.Trees.{computed}
 
 abbrev dot_rule : MatchOptions

@@ -1,7 +1,7 @@
 -- Walks within a limit, and the paths of their refusals.
 use Rattle.std.specs.Prelude.{[], ◌∷◌, refl}
 use Rattle.glob_tree.specs.Content.{Content}
-use Rattle.glob_pattern.proofs.Examples.{new}
+use Rattle.glob_pattern.proofs.Examples.Options.{new}
 use Rattle.glob_walk.proofs.Examples.Trees.{computed, dir, file, at_root, Spends, Stops}
 
 abbrev two_files : Content

@@ -3,7 +3,7 @@ use Rattle.std.specs.Prelude.{◌≡◌, true, false, [], ◌∷◌, codes, refl
 use Rattle.glob_tree.specs.Content.{Content}
 use Rattle.glob_walk.specs.Order.{has_one_run, keeps_order, path_cmp}
 use Rattle.std.specs.declared.cmp.Ordering.TheVariants.{Less}
-use Rattle.glob_pattern.proofs.Examples.{new}
+use Rattle.glob_pattern.proofs.Examples.Options.{new}
 use Rattle.glob_walk.proofs.Examples.Trees.{computed, dir, file, at_root, Gives}
 
 abbrev dot_before_slash : Content

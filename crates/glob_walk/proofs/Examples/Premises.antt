@@ -8,7 +8,7 @@ use Rattle.glob_walk.specs.Listing.{listing}
 use Rattle.glob_walk.specs.Goal.{goal, is_plain, is_readable}
 use Rattle.glob_walk.specs.Order.{has_one_run, keeps_order}
 use Rattle.glob_pattern.specs.declared.options.MatchOptions.{MatchOptions}
-use Rattle.glob_pattern.proofs.Examples.{options, new}
+use Rattle.glob_pattern.proofs.Examples.Options.{options, new}
 use Rattle.glob_walk.proofs.Examples.Trees.{computed, at_root, dir, file, shut}
 
 -- the paths that the walk gives, and the goal

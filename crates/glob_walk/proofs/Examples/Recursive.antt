@@ -1,7 +1,7 @@
 -- Walks with `**` over many names.
 use Rattle.std.specs.Prelude.{true, false, List, [], ◌∷◌, refl}
 use Prim.Native.String.{String}
-use Rattle.glob_pattern.proofs.Examples.{options, new}
+use Rattle.glob_pattern.proofs.Examples.Options.{options, new}
 use Rattle.glob_walk.proofs.Examples.Trees.{computed, Gives}
 use Rattle.glob_walk.proofs.Examples.Held.{entries_of_nodes, held_with_dotted}
 

@@ -6,7 +6,7 @@ use Rattle.glob_tree.specs.Content.{Content, same_key}
 use Rattle.glob_walk.specs.Marks.{Item, Unread, items}
 use Rattle.glob_walk.specs.Listing.{listing}
 use Rattle.glob_tree.specs.declared.kind.Kind.TheVariants.{Shut}
-use Rattle.glob_pattern.proofs.Examples.{new}
+use Rattle.glob_pattern.proofs.Examples.Options.{new}
 use Rattle.glob_walk.proofs.Examples.Trees.{computed, key, in_directory, found}
 use Rattle.glob_walk.proofs.Examples.Held.{letters, specials, texts}
 

@@ -6,7 +6,7 @@ use Rattle.glob_tree.specs.Content.{Content, is_content}
 use Rattle.glob_walk.specs.Components.{walk_fault}
 use Rattle.glob_walk.specs.Marks.{Found, Unread, items}
 use Rattle.glob_walk.specs.Listing.{listing}
-use Rattle.glob_pattern.proofs.Examples.{options, new}
+use Rattle.glob_pattern.proofs.Examples.Options.{options, new}
 use Rattle.glob_walk.proofs.Examples.Trees.{computed, dir, file, shut, at_root, Gives, Spends}
 
 -- a directory, met without case

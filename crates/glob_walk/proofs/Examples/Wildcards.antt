@@ -1,6 +1,6 @@
 -- Walks over many names, by wildcards of each kind.
 use Rattle.std.specs.Prelude.{[], ◌∷◌, refl}
-use Rattle.glob_pattern.proofs.Examples.{new}
+use Rattle.glob_pattern.proofs.Examples.Options.{new}
 use Rattle.glob_walk.proofs.Examples.Trees.{computed, Gives}
 use Rattle.glob_walk.proofs.Examples.Held.{entries_of_nodes}
 
