@@ -61,7 +61,9 @@ def quotes(path, names):
         if member and owner in names:
             head = f"impl Iterator for {owner}\n"
             again = bool(found) and found[-1].startswith(head)
-            found.append((found.pop() + "\n" if again else head) + line)
+            end = next(n for n in range(number, len(lines)) if lines[n].endswith("};"))
+            clause = "\n".join(lines[number : end + 1])
+            found.append((found.pop() + "\n" if again else head) + clause)
         call = re.match(r"(    )?(pub )?(const )?fn (\w+)", line)
         if not call or not (call[2] or in_trait):
             continue

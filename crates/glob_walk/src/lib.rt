@@ -1,6 +1,7 @@
 //! Walks over a tree, after the components of a pattern.
 #![tactic(auto)]
 
+mod begin;
 mod disk;
 mod error;
 mod frame;
@@ -13,10 +14,12 @@ mod plan;
 mod same_text;
 mod stack;
 mod task;
+mod turn;
 mod walk;
 mod walker;
 
+pub use begin::glob_in;
 pub use disk::{Disk, glob, glob_with};
 pub use error::{GlobCause, GlobError, GlobResult};
-pub use paths::{Paths, glob_in};
+pub use paths::Paths;
 pub use walk::{End, Walk, walk_in};

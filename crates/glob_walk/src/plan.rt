@@ -6,7 +6,7 @@ ghost use Rattle.std.specs.Prelude.{◌≡◌, ◌+◌, ◌<◌, ◌≤◌, [], 
 ghost use Rattle.glob_text.specs.Pieces.{pieces};
 ghost use Rattle.glob_text.specs.Text.{Text};
 ghost use Rattle.glob_tree.specs.Content.{Content};
-ghost use Rattle.glob_walk.specs.Components.{components, first_fault, start as start_text, walk_fault, wants_directories, without_root, without_end_separator};
+ghost use Rattle.glob_walk.specs.Components.{components, first_fault, walk_fault, wants_directories, without_root, without_end_separator};
 ghost use Rattle.glob_walk.specs.Private.Tasks.{is_dotted, enter_from, IsRun, IsOpened};
 ghost use Rattle.glob_walk.specs.Walks.{RefusesWith};
 
@@ -102,13 +102,6 @@ fn read_parts<A: Allocator + Copy>(alloc: A, text: &str) -> Result<Vec<Part<A>, 
         parts.push(Part::read(alloc, piece)?)?;
     }
     Ok(parts)
-}
-
-/// The path at which a walk starts: the root, or the current directory.
-pub fn start(pattern: &str) -> &'static str
-    ensures { result.now ≡ start_text pattern.now }
-{
-    if pattern.starts_with('/') { "/" } else { "." }
 }
 
 /// The text of the components: what follows the root, without one separator at its end.

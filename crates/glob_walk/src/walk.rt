@@ -9,8 +9,9 @@ ghost use Rattle.glob_walk.specs.Private.Walking.{refusal_end};
 ghost use Rattle.glob_walk.specs.WalkGoals.{FindsGoal, FindsExactly, FindsInOrder};
 ghost use Rattle.glob_walk.specs.Walks.{outcome, HasNoRefusal, IsFresh, IsWalk, IsWalkAsked, RefusesWith};
 
+use crate::begin::glob_in;
 use crate::error::{GlobCause, GlobResult};
-use crate::paths::{Paths, glob_in};
+use crate::paths::Paths;
 use glob_pattern::{MatchOptions, PatternRefusal};
 use glob_tree::Tree;
 use std::alloc::Allocator;

@@ -27,26 +27,9 @@ use crate::path_text::child;
 use crate::plan::Plan;
 use crate::stack::Stack;
 use crate::task::{Sight, Task, Wanted};
+use crate::turn::Turn;
 use glob_tree::{Look, Tree};
 use std::alloc::{AllocError, Allocator};
-use std::io;
-
-/// What a turn comes to. After each of them but `Went` the loop of turns stops, and hands it out.
-#[derive(Drop)]
-pub enum Turn<A: Allocator> {
-    /// Neither a path nor an error: the walk goes on.
-    Went,
-    /// A path that the pattern leads to.
-    Path(String<A>),
-    /// The path of a directory that could not be listed, and why. The walk goes on after it.
-    Unread(String<A>, io::Error),
-    /// The path at which the limit was reached. The walk is over.
-    Limit(String<A>),
-    /// There was an allocation failure. The walk is over.
-    Memory,
-    /// Nothing is left: there is no task, and no directory.
-    Done,
-}
 
 /// A tree that is asked within a limit, and what a walk over it has still to do.
 #[derive(Drop)]

@@ -7,8 +7,8 @@ use Rattle.std.proofs.lemmas.List.{length-append}
 use Rattle.glob_text.specs.Text.{Text}
 use Rattle.glob_walk.specs.Marks.{Mark, Work, Give, Found, Unread}
 use Rattle.glob_walk.specs.declared.meter.Meter.{Meter}
-use Rattle.glob_walk.specs.declared.walker.Turn.{Turn}
-use Rattle.glob_walk.specs.declared.walker.Turn.TheVariants as turn
+use Rattle.glob_walk.specs.declared.turn.Turn.{Turn}
+use Rattle.glob_walk.specs.declared.turn.Turn.TheVariants as turn
 use Rattle.glob_walk.specs.Private.Meters.{IsExact}
 use Rattle.glob_tree.specs.Content.{Content}
 use Rattle.glob_walk.specs.declared.stack.Stack.{Stack}

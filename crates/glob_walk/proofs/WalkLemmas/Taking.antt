@@ -10,8 +10,8 @@ use Rattle.glob_tree.specs.Answers.{IsTold}
 use Rattle.glob_walk.specs.Walks.{Outcome, Walking, Charges, Counts, IsAsked, TakesFront, Takes, Goes, is_last, item_number}
 use Rattle.glob_walk.specs.declared.meter.Meter.{Meter}
 use Rattle.glob_walk.specs.declared.stack.Stack.{Stack}
-use Rattle.glob_walk.specs.declared.walker.Turn.{Turn}
-use Rattle.glob_walk.specs.declared.walker.Turn.TheVariants as turn
+use Rattle.glob_walk.specs.declared.turn.Turn.{Turn}
+use Rattle.glob_walk.specs.declared.turn.Turn.TheVariants as turn
 use Rattle.glob_walk.specs.Private.Meters.{IsExact}
 use Rattle.glob_walk.specs.Private.Stacks.{left, ready, IsWithin, IsSound}
 use Rattle.glob_walk.specs.Private.Tasks.{next_ready, sight_ready, IsNextSound, IsSightSound}

@@ -3,8 +3,8 @@ use Rattle.std.specs.Prelude.{◌≡◌, ℕ, ◌+◌, ◌*◌, ◌-◌, ◌≤�
 use Rattle.std.specs.IoError.{error_kind}
 use Rattle.glob_walk.specs.Marks.{Mark, Give, Found, Unread}
 use Rattle.glob_walk.specs.declared.meter.Meter.{Meter}
-use Rattle.glob_walk.specs.declared.walker.Turn.{Turn}
-use Rattle.glob_walk.specs.declared.walker.Turn.TheVariants as turn
+use Rattle.glob_walk.specs.declared.turn.Turn.{Turn}
+use Rattle.glob_walk.specs.declared.turn.Turn.TheVariants as turn
 use Rattle.glob_walk.specs.Walks.{Charges, StopsAt}
 use Rattle.glob_tree.specs.Content.{Content}
 use Rattle.glob_tree.specs.Answers.{IsTold}

@@ -7,8 +7,8 @@ use Rattle.glob_walk.specs.Marks.{Found, Unread}
 use Rattle.glob_walk.specs.Walks.{Outcome, Gives, LimitAt, NoMemory}
 use Rattle.glob_walk.specs.declared.meter.Meter.{Meter}
 use Rattle.glob_walk.specs.declared.stack.Stack.{Stack}
-use Rattle.glob_walk.specs.declared.walker.Turn.{Turn}
-use Rattle.glob_walk.specs.declared.walker.Turn.TheVariants as turn
+use Rattle.glob_walk.specs.declared.turn.Turn.{Turn}
+use Rattle.glob_walk.specs.declared.turn.Turn.TheVariants as turn
 use Rattle.glob_walk.specs.declared.walk.End.{End}
 use Rattle.glob_walk.specs.declared.walk.End.TheVariants as end
 use Rattle.glob_walk.specs.Private.Stacks.{ready, IsWithin, IsSound}

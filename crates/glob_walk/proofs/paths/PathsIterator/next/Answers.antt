@@ -23,7 +23,7 @@ pub returns-clause-steps : goal.returns-clause-steps
 returns-clause-steps g c =
     goes_at g.T.Tree.asks g.T.Tree.tells c.self.inside.walker.meter c.turn_to_item-turn.new.self.meter c.self.inside.walker.stack c.turn_to_item-turn.new.self.stack c.self.inside.given c.self.inside.over c.if-self.false
     c.self.invariant.fits (c.self.invariant.going c.if-self.false) c.turn_to_item-turn.result c.args.self.now _ c.item_count.result c.is_last-self-inside.result
-    c.self.view_is c.answer_of.ensures c.item_count.ensures c.is_last-self-inside.ensures c.turn_to_item-turn.ensures.stops c.turn_to_item-turn.ensures.turn
+    c.self.view_is c.into_item.ensures c.item_count.ensures c.is_last-self-inside.ensures c.turn_to_item-turn.ensures.stops c.turn_to_item-turn.ensures.turn
 
 pub returns-then-self-clause-steps : goal.returns-then-self-clause-steps
 returns-then-self-clause-steps g c =

@@ -1,8 +1,8 @@
 use Rattle.std.proofs.Common.{rules, ◌≡◌, ◌+◌, ◌<◌, length, cond, None, Some, ap, sym, ◌∙◌}
 use Rattle.glob_walk.specs.Private.Frames.{met_marks}
 use Rattle.glob_walk.proofs.WalkLemmas.Entering.{IfOk-each, met_some, met_none}
-use Rattle.glob_walk.proofs.frame.meet.Goals.{then-run, else-run}
-use Rattle.glob_walk.proofs.frame.meet.Goals as goal
+use Rattle.glob_walk.proofs.frame.tasks.meet.Goals.{then-run, else-run}
+use Rattle.glob_walk.proofs.frame.tasks.meet.Goals as goal
 
 pub returns-in-Some : goal.returns-in-Some
 returns-in-Some g c =

@@ -1,0 +1,150 @@
+//! The tasks that come of the places in a directory.
+//!
+//! Each place leaves at most one task, and a child's path is made only with its task.
+ghost use Rattle.std.specs.Prelude.{◌≡◌, ◌+◌, ◌<◌, IfOk, string_bytes, if◌then◌else◌, vec_len};
+ghost use Rattle.glob_tree.specs.Content.{Content};
+ghost use Rattle.glob_walk.specs.Listing.{is_entered as is_entered_entry};
+ghost use Rattle.glob_text.specs.Text.{Text};
+ghost use Rattle.glob_walk.specs.Private.Parts.{takes_name};
+ghost use Rattle.glob_walk.specs.Private.Tasks.{next_marks, next_ready, IsNextSound};
+ghost use Rattle.glob_walk.specs.Private.Frames.{first_part, first_marks, second_marks, met_marks, special_marks, IsEntrySound};
+
+use crate::frame::Frame;
+use crate::part::Part;
+use crate::path_text::{begins_with_dot, child, join};
+use crate::plan::Plan;
+use crate::task::{Sight, Task, Wanted};
+use glob_pattern::MatchOptions;
+use glob_tree::Entry;
+use std::alloc::{AllocError, Allocator};
+
+impl<A: Allocator + Copy> Frame<A> {
+    /// The look at `..` or `.` in the directory (joined also to `.`: `./..`), if the component matches that name.
+    pub(super) fn special_task(
+        &self,
+        plan: &Plan<A>,
+        name: &str,
+    ) -> Result<Option<Task<A>>, AllocError>
+        ensures marks { IfOk result
+            (λ task. (c : Content)
+            → special_marks c plan.now self.now.part (string_bytes self.now.path) name.now
+            ≡ next_marks c plan.now task) }
+        ensures ready { IfOk result (λ task. next_ready plan.now task ≡ 0) }
+        ensures sound { IfOk result (λ task. (c : Content) → IsNextSound c task) }
+    {
+        let Some(component) = plan.component(self.part) else {
+            return Ok(None);
+        };
+        if !component.matches(name, plan.options)? {
+            return Ok(None);
+        }
+        Ok(Some(Task {
+            path: join(plan.alloc, self.path.as_str(), name)?,
+            part: self.part + 1,
+            sight: Sight::Unseen(Wanted::Any),
+        }))
+    }
+
+    /// The task to go on at an entry, if its name is met. It makes the child's path only then.
+    pub(super) fn met_task(
+        &self,
+        plan: &Plan<A>,
+        entry: &Entry<A>,
+    ) -> Result<Option<Task<A>>, AllocError>
+        requires { self.now.part < vec_len plan.now.parts }
+        ensures marks { IfOk result
+            (λ task. (c : Content)
+            → first_marks c plan.now self.now (entry.now.name, entry.now.is_dir)
+            ≡ next_marks c plan.now task) }
+        ensures sound { IfOk result
+            (λ task. (c : Content)
+            → IsEntrySound c (string_bytes self.now.path) (entry.now.name, entry.now.is_dir)
+            → IsNextSound c task) }
+    {
+        let name = entry.name.as_str();
+        let Some(part) = meet(plan, self.run, self.part, name, entry.is_dir)? else {
+            return Ok(None);
+        };
+        Ok(Some(Task {
+            path: child(plan.alloc, self.path.as_str(), name)?,
+            part,
+            sight: Sight::Seen(entry.is_dir),
+        }))
+    }
+
+    /// The task to go on with the same run of `**` in an entry, if the run enters it.
+    pub(super) fn entered_task(
+        &self,
+        plan: &Plan<A>,
+        entry: &Entry<A>,
+    ) -> Result<Option<Task<A>>, AllocError>
+        requires { self.now.part < vec_len plan.now.parts }
+        ensures marks { IfOk result
+            (λ task. (c : Content)
+            → second_marks c plan.now self.now (entry.now.name, entry.now.is_dir)
+            ≡ next_marks c plan.now task) }
+        ensures ready { IfOk result (λ task. next_ready plan.now task ≡ 0) }
+        ensures sound { IfOk result
+            (λ task. (c : Content)
+            → IsEntrySound c (string_bytes self.now.path) (entry.now.name, entry.now.is_dir)
+            → IsNextSound c task) }
+    {
+        let name = entry.name.as_str();
+        if !self.run || !is_entered(plan.options, name, entry.is_dir) {
+            return Ok(None);
+        }
+        Ok(Some(Task {
+            path: child(plan.alloc, self.path.as_str(), name)?,
+            part: self.part,
+            sight: Sight::Seen(true),
+        }))
+    }
+}
+
+/// The number of the component from which the walk goes on at an entry, if the entry is met: by component `part`, or in a
+/// run of `**` by the one after it. A run at the pattern's end meets each entry that it enters.
+fn meet<A: Allocator + Copy>(
+    plan: &Plan<A>,
+    run: bool,
+    part: usize,
+    name: &str,
+    is_dir: bool,
+) -> Result<Option<usize>, AllocError>
+    requires within { part < vec_len plan.now.parts }
+    ensures { IfOk result
+        (λ at. (c : Content) → (path : Text)
+        → first_part c plan.now run part path (name.now, is_dir)
+        ≡ met_marks c plan.now path (name.now, is_dir) at) }
+{
+    let next = if run { part + 1 } else { part };
+    match plan.component(next) {
+        Some(component) => match_at(plan, component, next + 1, name),
+        None if is_entered(plan.options, name, is_dir) => Ok(Some(next)),
+        None => Ok(None),
+    }
+}
+
+/// The number `next`, if the component matches the name.
+fn match_at<A: Allocator + Copy>(
+    plan: &Plan<A>,
+    component: &Part<A>,
+    next: usize,
+    name: &str,
+) -> Result<Option<usize>, AllocError>
+    ensures { IfOk result
+        (λ at. at
+        ≡ (if takes_name plan.now.options component.now name.now then Some next else None)) }
+{
+    if component.matches(name, plan.options)? {
+        Ok(Some(next))
+    } else {
+        Ok(None)
+    }
+}
+
+/// Whether a run of `**` enters an entry: a directory, and under the dot rule no dotted one.
+fn is_entered(options: MatchOptions, name: &str, is_dir: bool) -> bool
+    ensures { result ≡ is_entered_entry options name.now is_dir }
+{
+    is_dir && !(options.require_literal_leading_dot && begins_with_dot(name))
+}
