@@ -10,3 +10,4 @@ pub mod Taking
 pub mod Gathering
 pub mod Reading
 pub mod Literals
+pub mod SameTexts

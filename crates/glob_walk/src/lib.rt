@@ -11,7 +11,6 @@ mod part;
 mod path_text;
 mod paths;
 mod plan;
-mod same_text;
 mod stack;
 mod task;
 mod turn;

@@ -3,10 +3,9 @@ ghost use Rattle.std.specs.Prelude.{◌≡◌, None, IfOk, IfErr};
 ghost use Rattle.std.specs.List.{list_any};
 ghost use Rattle.glob_pattern.specs.Grammar.Characters.{is_wildcard};
 ghost use Rattle.glob_walk.specs.Components.{component_kind, is_special_name, is_literal as is_literal_text, is_recursive as is_recursive_text};
-ghost use Rattle.glob_walk.specs.Private.Parts.{kind_told, takes_name, text_fault};
+ghost use Rattle.glob_walk.specs.Private.Parts.{kind_told, same_texts, takes_name, text_fault};
 ghost use Rattle.glob_walk.specs.Walks.{RefusesWith};
 
-use crate::same_text::is_same_text;
 use glob_pattern::{MatchOptions, Pattern, PatternRefusal};
 use std::alloc::{AllocError, Allocator};
 use std::marker::Model;
@@ -108,6 +107,17 @@ impl<A: Allocator + Copy> Part<A> {
             Form::Recursive => Ok(false),
             Form::Wild(pattern) => pattern.matches_with(name, options),
         }
+    }
+}
+
+/// Whether the texts are the same, with case or without.
+fn is_same_text(text: &str, other: &str, case_sensitive: bool) -> bool
+    ensures { result ≡ same_texts case_sensitive text.now other.now }
+{
+    if case_sensitive {
+        text == other
+    } else {
+        text.eq_ignore_ascii_case(other)
     }
 }
 

@@ -1,17 +1,14 @@
 -- A literal component matches the names that are the same as it.
-use Rattle.std.proofs.Common.{◌≡◌, ℕ, zero, suc, ◌<◌, ◌↔◌, Bool, true, false, cond, not, ◌&&◌, ◌==◌, [], ◌∷◌, length, None, Result, Ok, Err, slice_index, IsTrue, refl, ap, sym, ◌∙◌, arith}
+use Rattle.std.proofs.Common.{◌≡◌, ◌↔◌, Bool, true, false, cond, not, ◌&&◌, [], ◌∷◌, None, Result, Ok, Err, IsTrue, refl, ap, sym, ◌∙◌}
 use Rattle.std.specs.Prelude.{IfOk}
-use Rattle.std.specs.List.{list_all, zip}
 use Rattle.std.specs.Bool.{Decides, one_answer}
 use Rattle.std.specs.Str.{chars, IsUtf8}
-use Rattle.std.proofs.lemmas.Bool.{and_parts, both_ways, eqb-true, eq-eqb}
+use Rattle.std.proofs.lemmas.Bool.{both_ways}
 use Rattle.std.proofs.lemmas.Slice.Eq.{bytes_eq-Decides}
 use Rattle.glob_pattern.specs.Grammar.Characters.{star}
 use Rattle.glob_text.specs.Text.{Text}
 use Rattle.glob_text.specs.Characters.{dot}
 use Rattle.glob_text.specs.Pieces.{begins_with}
-use Rattle.glob_pattern.specs.Grammar.Brackets.{is_same}
-use Rattle.glob_pattern.specs.Laws.{SameTexts}
 use Rattle.glob_pattern.specs.Matching.Texts.{Matches}
 use Rattle.glob_pattern.specs.Computing.Deciding.{is_match}
 use Rattle.glob_pattern.specs.Computing.Reading.{units_from}
@@ -22,51 +19,7 @@ use Rattle.glob_pattern.proofs.MatchingLemmas.PlainPatterns.{plain_matches_same}
 use Rattle.glob_walk.specs.Components.{component_kind, Literal, Recursive, Wild, is_literal, is_recursive, matches_name}
 use Rattle.glob_walk.specs.Private.Parts.{same_texts, takes_name, text_fault}
 use Rattle.glob_walk.proofs.WalkLemmas.Reading.{IsPlain-literal}
-
-and_both : (a b : Bool) → a ≡ true → b ≡ true → (a && b) ≡ true
-and_both true b h k = k
-and_both false b h k = h
-
-module _ (case : Bool) where
-  sound : (xs ys : Text) → length xs ≡ length ys → list_all (λ p. is_same case p.0 p.1) (zip xs ys) ≡ true → SameTexts case xs ys
-  sound [] [] l h = (refl, λ k b. absurd (omega (arith, b)))
-  sound [] (y ∷ ys) l h = absurd (omega (arith, l))
-  sound (x ∷ xs) [] l h = absurd (omega (arith, l))
-  sound (x ∷ xs) (y ∷ ys) l h =
-      let both = and_parts (is_same case x y) (list_all (λ p. is_same case p.0 p.1) (zip xs ys)) h in
-      let rest = sound xs ys (omega (arith, l)) both.1 in
-      (l, at both.0 rest.1)
-    where
-      at : is_same case x y ≡ true → ((k : ℕ) → k < length ys → IsTrue (is_same case (slice_index xs k) (slice_index ys k)))
-          → (k : ℕ) → k < length (y ∷ ys) → IsTrue (is_same case (slice_index (x ∷ xs) k) (slice_index (y ∷ ys) k))
-      at first later zero b = first
-      at first later (suc k) b = later k (omega (arith, b))
-
-  complete : (xs ys : Text) → SameTexts case xs ys → list_all (λ p. is_same case p.0 p.1) (zip xs ys) ≡ true
-  complete [] ys h = refl
-  complete (x ∷ xs) [] h = refl
-  complete (x ∷ xs) (y ∷ ys) (l, at) =
-      and_both (is_same case x y) (list_all (λ p. is_same case p.0 p.1) (zip xs ys)) (at 0 (omega arith)) (complete xs ys (omega (arith, l), λ k b. at (suc k) (omega (arith, b))))
-
-  Decides-SameTexts : (xs ys : Text) → Decides (same_texts case xs ys) (SameTexts case xs ys)
-  Decides-SameTexts xs ys = (
-    (λ h.
-        let both = and_parts (length xs == length ys) (list_all (λ p. is_same case p.0 p.1) (zip xs ys)) h in
-        sound xs ys (eqb-true (length xs) (length ys) both.0) both.1),
-    (λ h. and_both (length xs == length ys) (list_all (λ p. is_same case p.0 p.1) (zip xs ys)) (eq-eqb (length xs) (length ys) h.0) (complete xs ys h)),
-  )
-
-  -- texts of one length
-  pub counted_same : (xs ys : Text) → length xs ≡ length ys → list_all (λ p. is_same case p.0 p.1) (zip xs ys) ≡ same_texts case xs ys
-  counted_same xs ys e = sym (ap (λ b. b && list_all (λ p. is_same case p.0 p.1) (zip xs ys)) (eq-eqb (length xs) (length ys) e))
-
-  -- texts of two lengths
-  pub counted_apart : (xs ys : Text) (n m : ℕ) → n ≡ length xs → m ≡ length ys → (n ≡ m → ⊥) → (n == m) ≡ same_texts case xs ys
-  counted_apart xs ys n m e f apart = by_test (n == m) refl
-    where
-      by_test : (b : Bool) → (n == m) ≡ b → b ≡ same_texts case xs ys
-      by_test true h = absurd (apart (eqb-true n m h))
-      by_test false h = ap (λ b. b && list_all (λ p. is_same case p.0 p.1) (zip xs ys)) (sym h ∙ ap (λ k. k == m) e ∙ ap (λ k. length xs == k) f)
+use Rattle.glob_walk.proofs.WalkLemmas.SameTexts.{Decides-same_texts}
 
 -- the kind of a literal component
 pub literal_kind : (t : Text) → component_kind t ≡ Literal → is_literal t ≡ true
@@ -86,7 +39,6 @@ wild_kind t h = by_test (is_literal t) (is_recursive t) refl h
     by_test false true e k = absurd (cc)
     by_test false false e k = refl
 
--- nor is a literal one
 -- and `**` begins with no dot
 pub undotted_kind : (t : Text) → component_kind t ≡ Recursive → begins_with dot t ≡ false
 undotted_kind t h = by_test (is_literal t) (is_recursive t) refl h
@@ -99,6 +51,7 @@ undotted_kind t h = by_test (is_literal t) (is_recursive t) refl h
     by_test false true k e = stars k
     by_test false false k e = absurd (cc)
 
+-- a literal one is no `**`
 pub literal_recursive : (t : Text) → is_literal t ≡ true → is_recursive t ≡ false
 literal_recursive t h = by_test (is_recursive t) refl
   where
@@ -131,9 +84,9 @@ matches_name-result o pattern name (Ok b) h = same_answer o pattern name b h
 matches_name-result o pattern name (Err e) h = h
 
 -- and so is that of the comparison with a literal component
-pub matches_name-literal : (o : MatchOptions) (component name : Text) → IsUtf8 component → is_literal component ≡ true
-    → same_texts o.case_sensitive (chars name) (chars component) ≡ matches_name o component name
-matches_name-literal o component name utf8 literal =
-    let decides = Decides-SameTexts o.case_sensitive (chars name) (chars component) in
+pub matches_name-literal : (o : MatchOptions) (component name : Text) → IsUtf8 component → IsUtf8 name → is_literal component ≡ true
+    → same_texts o.case_sensitive name component ≡ matches_name o component name
+matches_name-literal o component name utf8 named literal =
+    let decides = Decides-same_texts o.case_sensitive name component named utf8 in
     let both = plain_matches_same one_reading o (chars component) (chars name) (IsPlain-literal component utf8 literal) in
-    same_answer o component name (same_texts o.case_sensitive (chars name) (chars component)) ((λ h. both.1 (decides.0 h)), (λ m. decides.1 (both.0 m)))
+    same_answer o component name (same_texts o.case_sensitive name component) ((λ h. both.1 (decides.0 h)), (λ m. decides.1 (both.0 m)))

@@ -1,9 +1,8 @@
 -- What is kept of a component.
-use Rattle.std.specs.Prelude.{◌≡◌, ◌==◌, Bool, ◌&&◌, not, [], ◌∷◌, length, Option, string_bytes, chars}
-use Rattle.std.specs.List.{list_all, zip}
+use Rattle.std.specs.Prelude.{◌≡◌, Bool, ◌&&◌, not, if◌then◌else◌, [], ◌∷◌, Option, string_bytes, chars, bytes_eq}
+use Rattle.std.specs.Str.{str_eq_ignore_ascii_case}
 use Rattle.std.specs.Result.{result_err}
 use Rattle.glob_text.specs.Text.{Text}
-use Rattle.glob_pattern.specs.Grammar.Brackets.{is_same}
 use Rattle.glob_pattern.specs.Grammar.Characters.{star}
 use Rattle.glob_pattern.specs.declared.options.MatchOptions.{MatchOptions}
 use Rattle.glob_pattern.specs.Grammar.Faults.{Fault}
@@ -42,6 +41,6 @@ takes_name o component name = not (is_recursive component) && matches_name o com
 abbrev pub text_fault : Text → Option Fault
 text_fault t = result_err (reading_of (chars t))
 
--- the texts have equally many characters, and at each place the same, with case or without
+-- the texts are the same, with case or without
 abbrev pub same_texts : (case : Bool) → Text → Text → Bool
-same_texts case xs ys = (length xs == length ys) && list_all (λ p. is_same case p.0 p.1) (zip xs ys)
+same_texts case text other = if case then bytes_eq text other else str_eq_ignore_ascii_case text other

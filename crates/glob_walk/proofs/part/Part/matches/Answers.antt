@@ -10,7 +10,7 @@ returns-in-Literal g c =
     let is : c.as_str.result.now ≡ c.args.self.now = search rules in
     let literal : is_literal c.as_str.result.now ≡ true = literal_kind c.as_str.result.now (search rules) in
     c.is_same_text.ensures
-    ∙ matches_name-literal c.args.options c.as_str.result.now c.args.name.now c.as_str.utf8 literal
+    ∙ matches_name-literal c.args.options c.as_str.result.now c.args.name.now c.as_str.utf8 c.utf8.name literal
     ∙ takes_same c.args.options c.as_str.result.now c.args.name.now (literal_recursive c.as_str.result.now literal)
     ∙ ap (λ text. takes_name c.args.options text c.args.name.now) is
 
