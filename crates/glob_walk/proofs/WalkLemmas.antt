@@ -3,7 +3,6 @@ pub mod Entering
 pub mod Listings
 pub mod Naming
 pub mod Opening
-pub mod Running
 pub mod Stacking
 pub mod Stepping
 pub mod Taking
@@ -11,3 +10,4 @@ pub mod Gathering
 pub mod Reading
 pub mod Literals
 pub mod SameTexts
+pub mod Merging

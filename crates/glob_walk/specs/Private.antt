@@ -1,4 +1,5 @@
 pub mod Frames
+pub mod Merging
 pub mod Meters
 pub mod Parts
 pub mod Stacks

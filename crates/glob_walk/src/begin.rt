@@ -20,7 +20,7 @@ use glob_tree::Tree;
 /// A pattern with a fault is refused with `Syntax`: the fault of the whole text, or else that of the first component
 /// that has one, as where a bracket holds `/`. Its place counts characters, from the start of the text or of that
 /// component: for `x/a[/]b` it is 1. Any pattern may be refused with `Memory`. The tree is then dropped.
-#[tactic(auto, unfolding(crate::specs::Listing::listing))]
+#[tactic(auto, using(crate::proofs::WalkLemmas::Merging::merged_listing))]
 pub fn glob_in<T: Tree>(
     alloc: T::Alloc,
     tree: T,

@@ -36,8 +36,8 @@ pub enum Place {
 pub struct Frame<A: Allocator> {
     /// Its path.
     pub path: String<A>,
-    /// The number of the component for which it was listed: one with wildcards, or the last `**` of a run, whose entries
-    /// the component after it meets.
+    /// The number of the component for which it was listed: one with wildcards, or `**`, whose entries the component after
+    /// it meets.
     pub part: usize,
     /// Whether that component is `**`.
     pub run: bool,

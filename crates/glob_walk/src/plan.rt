@@ -1,13 +1,12 @@
 //! What a walk looks for.
 //!
 //! A plan is a pattern that was read once, before the walk: its components in order, each with its kind, the options, and
-//! whether directories alone are given. Nothing of it changes while the walk goes on.
-ghost use Rattle.std.specs.Prelude.{◌≡◌, ◌+◌, ◌<◌, ◌≤◌, [], ◌∷◌, true, Bool, None, IfOk, IfErr, MatchOption, OnSome, IfNone, drop, vec_len};
+//! whether directories alone are given. Neighbouring `**` mean what one of them means, and are read as one. Nothing of it
+//! changes while the walk goes on.
+ghost use Rattle.std.specs.Prelude.{◌≡◌, ◌+◌, ◌<◌, ◌≤◌, [], ◌∷◌, true, None, IfOk, IfErr, MatchOption, OnSome, IfNone, drop, vec_len};
 ghost use Rattle.glob_text.specs.Pieces.{pieces};
-ghost use Rattle.glob_text.specs.Text.{Text};
-ghost use Rattle.glob_tree.specs.Content.{Content};
 ghost use Rattle.glob_walk.specs.Components.{components, first_fault, walk_fault, wants_directories, without_root, without_end_separator};
-ghost use Rattle.glob_walk.specs.Private.Tasks.{is_dotted, enter_from, IsRun, IsOpened};
+ghost use Rattle.glob_walk.specs.Private.Merging.{merged, are_merged};
 ghost use Rattle.glob_walk.specs.Walks.{RefusesWith};
 
 use crate::part::Part;
@@ -18,7 +17,7 @@ use std::alloc::Allocator;
 /// What a walk looks for: the components of a pattern, in order.
 #[derive(Drop)]
 pub struct Plan<A: Allocator> {
-    /// The components.
+    /// The components. No two neighbours are `**`.
     pub parts: Vec<Part<A>, A>,
     /// How names are matched.
     pub options: MatchOptions,
@@ -26,13 +25,14 @@ pub struct Plan<A: Allocator> {
     pub directories: bool,
     /// Where the walk takes its memory from.
     pub alloc: A,
+    ghost merged: { are_merged parts.items ≡ true },
 }
 
 impl<A: Allocator + Copy> Plan<A> {
     /// Reads a pattern. One with a fault is refused with the fault of the whole text, or else with that of the first
     /// component that has one; and any may be refused with `Memory`.
     pub fn read(alloc: A, pattern: &str, options: MatchOptions) -> Result<Self, PatternRefusal>
-        ensures parts { IfOk result (λ plan. plan.parts.items ≡ components pattern.now) }
+        ensures parts { IfOk result (λ plan. plan.parts.items ≡ merged (components pattern.now)) }
         ensures options { IfOk result (λ plan. plan.options ≡ options) }
         ensures directories { IfOk result
             (λ plan. plan.directories ≡ wants_directories pattern.now) }
@@ -51,6 +51,8 @@ impl<A: Allocator + Copy> Plan<A> {
 }
 
 impl<A: Allocator> Plan<A> {
+    ghost use Rattle.glob_walk.specs.Private.Tasks.{is_dotted};
+
     /// The component with the number, counted from 0; `None` past the last.
     pub fn component(&self, part: usize) -> Option<&Part<A>>
         ensures rest { MatchOption result (drop part self.now.parts.items ≡ [])
@@ -70,36 +72,23 @@ impl<A: Allocator> Plan<A> {
             None => false,
         }
     }
-
-    /// The number of the last `**` of a run, given that of one of them. Neighbouring `**` mean what one of them means, so
-    /// the walk goes on from the last. The search ends at the pattern's end.
-    pub fn end_of_run(&self, part: usize) -> usize
-        requires { IsRun (drop part self.now.parts.items) }
-        ensures within { result < vec_len self.now.parts }
-        ensures last { IsOpened true (drop result self.now.parts.items) }
-        ensures same { (c : Content) → (path : Text) → (d : Bool)
-            → enter_from c self.now part path d ≡ enter_from c self.now result path d }
-    {
-        let mut last = part;
-        while let Some(next) = self.component(last + 1) {
-            if !next.is_recursive() {
-                break;
-            }
-            last += 1;
-        }
-        last
-    }
 }
 
 /// Reads the components of a text, which stand between separators.
 fn read_parts<A: Allocator + Copy>(alloc: A, text: &str) -> Result<Vec<Part<A>, A>, PatternRefusal>
-    ensures parts { IfOk result (λ parts. parts.items ≡ pieces text.now) }
+    ensures parts { IfOk result (λ parts. parts.items ≡ merged (pieces text.now)) }
     ensures accepted { IfOk result (λ _. first_fault (pieces text.now) ≡ None) }
     ensures refused { IfErr result (RefusesWith (first_fault (pieces text.now))) }
 {
     let mut parts = Vec::new(alloc);
+    let mut after_run = false;
     for piece in text.split('/') {
-        parts.push(Part::read(alloc, piece)?)?;
+        let part = Part::read(alloc, piece)?;
+        let is_run = part.is_recursive();
+        if !(after_run && is_run) {
+            parts.push(part)?;
+        }
+        after_run = is_run;
     }
     Ok(parts)
 }

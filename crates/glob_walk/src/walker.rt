@@ -163,8 +163,7 @@ impl<T: Tree> Walker<T> {
                 if !is_dir {
                     return Turn::Went;
                 }
-                let last = self.stack.plan.end_of_run(part);
-                self.list(path, last, true)
+                self.list(path, part, true)
             }
             PartKind::Wild => {
                 if !is_dir {

@@ -56,12 +56,7 @@ abbrev pub next_ready : {A : Type 0} → Plan A → Option (Task A) → ℕ
 next_ready plan None = 0
 next_ready plan (Some t) = sight_ready (nat_le (length plan.parts.items) t.part) t.sight
 
--- the first component is `**`
-abbrev pub IsRun : List Text → Type 0
-IsRun [] = ⊥
-IsRun (t ∷ ts) = component_kind t ≡ Recursive
-
--- a directory is listed for the first component: one that is matched, or the last `**` of a run
+-- a directory is listed for the first component: one that is matched, or a `**` with none right after it
 abbrev pub IsOpened : Bool → List Text → Type 0
 IsOpened run [] = ⊥
 IsOpened false (t ∷ ts) = component_kind t ≡ Wild

@@ -1,12 +1,14 @@
-use Rattle.std.proofs.Common.{◌∙◌, [], ◌∷◌, ◌++◌, sym, ap, subst, lit<}
+use Rattle.std.proofs.Common.{rules, ◌≡◌, true, false, ◌&&◌, ◌∙◌, [], ◌∷◌, ◌++◌, map, sym, ap, subst, lit<}
 use Rattle.std.proofs.lemmas.Iterator.Consumers.{YieldsList-end}
 use Rattle.std.proofs.lemmas.Iterator.Splits.{YieldsList-from_str_split}
-use Rattle.std.proofs.lemmas.List.{map-append}
+use Rattle.std.proofs.lemmas.List.{map-append, append-nil}
 use Rattle.glob_text.specs.Characters.{slash}
 use Rattle.glob_text.specs.Pieces.{pieces}
-use Rattle.glob_walk.specs.Components.{first_fault}
+use Rattle.glob_walk.specs.Components.{first_fault, is_recursive}
+use Rattle.glob_walk.specs.Private.Merging.{merged, merged_after}
 use Rattle.glob_walk.specs.Private.Parts.{text_fault}
 use Rattle.glob_walk.specs.Walks.{RefusesWith}
+use Rattle.glob_walk.proofs.WalkLemmas.Merging.{merged-skip, merged-push}
 use Rattle.glob_walk.proofs.WalkLemmas.Reading.{split_at_turn, first_fault-push, RefusesWith-first, IfErr-from_known}
 use Rattle.glob_walk.proofs.plan.read_parts.Goals as goal
 
@@ -14,30 +16,52 @@ pub loop-piece-preserved : goal.loop-piece-preserved
 loop-piece-preserved g c =
     let i = c.loop-piece.invariant in
     let piece = c.in-Some.piece in
-    let items = rw c.in_ok-read.ensures.text at c.in_ok-push.ensures.items in
+    let before = map (λ x. x.now) c.loop-piece.yielded in
+    let yielded = map-append (λ x. x.now) c.loop-piece.yielded (piece ∷ []) in
+    let is : is_recursive piece.now ≡ c.is_recursive-is_run.result = search rules in
+    let skipped : (c.loop-piece.after_run && is_recursive piece.now) ≡ true = search rules in
     record {
-      read = rw (items, map-append (λ x. x.now) c.loop-piece.yielded (piece ∷ [])) (ap (λ xs. xs ++ piece.now ∷ []) i.read);
-      accepted = ap first_fault items ∙ first_fault-push c.loop-piece.parts.items piece.now i.accepted c.in_ok-read.ensures.accepted;
+      read = λ rest. ap (λ ts. merged (ts ++ rest)) yielded
+          ∙ merged-skip before c.loop-piece.parts.items rest c.loop-piece.after_run piece.now i.read skipped
+          ∙ ap (λ run. c.loop-piece.parts.items ++ merged_after run rest) is;
+      accepted = ap first_fault yielded ∙ first_fault-push before piece.now i.accepted c.in_ok-part.ensures.accepted;
     }
 
-pub returns-in_err-read-clause-refused : goal.returns-in_err-read-clause-refused
-returns-in_err-read-clause-refused g c =
+pub loop-piece-preserved-in_ok-push : goal.loop-piece-preserved-in_ok-push
+loop-piece-preserved-in_ok-push g c =
+    let i = c.loop-piece.invariant in
+    let piece = c.in-Some.piece in
+    let before = map (λ x. x.now) c.loop-piece.yielded in
+    let yielded = map-append (λ x. x.now) c.loop-piece.yielded (piece ∷ []) in
+    let items = rw c.in_ok-part.ensures.text at c.in_ok-push.ensures.items in
+    let is : is_recursive piece.now ≡ c.is_recursive-is_run.result = search rules in
+    let kept : (c.loop-piece.after_run && is_recursive piece.now) ≡ false = search rules in
+    record {
+      read = λ rest. ap (λ ts. merged (ts ++ rest)) yielded
+          ∙ merged-push before c.loop-piece.parts.items rest c.loop-piece.after_run piece.now i.read kept
+          ∙ ap (λ ts. ts ++ merged_after (is_recursive piece.now) rest) (sym items)
+          ∙ ap (λ run. c.push.new.self.items ++ merged_after run rest) is;
+      accepted = ap first_fault yielded ∙ first_fault-push before piece.now i.accepted c.in_ok-part.ensures.accepted;
+    }
+
+pub returns-in_err-part-clause-refused : goal.returns-in_err-part-clause-refused
+returns-in_err-part-clause-refused g c =
     let parts = YieldsList-from_str_split slash c.args.text.now (lit< tt) (cc) (cc) (cc) in
     let i = c.loop-piece.invariant in
     let (others, whole) = split_at_turn parts c.loop-piece.yielded _ c.loop-piece.yielded_by _ _ c.in-Some.piece c.in-Some.is c.next.ensures.steps in
     IfErr-from_known _ _ _
-    (λ e is. RefusesWith-first (pieces c.args.text.now) c.loop-piece.parts.items others c.in-Some.piece.now e
-    (whole ∙ ap (λ xs. xs ++ c.in-Some.piece.now ∷ others) (sym i.read)) i.accepted (subst (RefusesWith (text_fault c.in-Some.piece.now)) (sym is) c.in_err-read.ensures.refused))
+    (λ e is. RefusesWith-first (pieces c.args.text.now) (map (λ x. x.now) c.loop-piece.yielded) others c.in-Some.piece.now e
+    whole i.accepted (subst (RefusesWith (text_fault c.in-Some.piece.now)) (sym is) c.in_err-part.ensures.refused))
     c.from_residual.ensures.1
 
 pub returns-clause-parts : goal.returns-clause-parts
 returns-clause-parts g c =
     let parts = YieldsList-from_str_split slash c.args.text.now (lit< tt) (cc) (cc) (cc) in
     let all = YieldsList-end parts c.loop-piece.yielded _ c.loop-piece.yielded_by _ _ c.in-None.is c.next.ensures.steps in
-    c.loop-piece.invariant.read ∙ all.0
+    sym (append-nil c.loop-piece.parts.items) ∙ sym (c.loop-piece.invariant.read []) ∙ ap merged (append-nil (map (λ x. x.now) c.loop-piece.yielded) ∙ all.0)
 
 pub returns-clause-accepted : goal.returns-clause-accepted
 returns-clause-accepted g c =
     let parts = YieldsList-from_str_split slash c.args.text.now (lit< tt) (cc) (cc) (cc) in
     let all = YieldsList-end parts c.loop-piece.yielded _ c.loop-piece.yielded_by _ _ c.in-None.is c.next.ensures.steps in
-    ap first_fault (sym (c.loop-piece.invariant.read ∙ all.0)) ∙ c.loop-piece.invariant.accepted
+    ap first_fault (sym all.0) ∙ c.loop-piece.invariant.accepted

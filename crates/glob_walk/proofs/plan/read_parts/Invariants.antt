@@ -1,9 +1,11 @@
-use Rattle.std.proofs.Common.{◌≡◌, map, None}
+use Rattle.std.proofs.Common.{◌≡◌, ◌++◌, List, map, None}
+use Rattle.glob_text.specs.Text.{Text}
 use Rattle.glob_walk.specs.Components.{first_fault}
+use Rattle.glob_walk.specs.Private.Merging.{merged, merged_after}
 use Rattle.glob_walk.proofs.plan.read_parts.Given as goal
 
 abbrev pub invariant-loop-piece : goal.invariant-loop-piece
 invariant-loop-piece g l = record {
-  read : l.parts.items ≡ map (λ piece. piece.now) l.yielded;
-  accepted : first_fault l.parts.items ≡ None;
+  read : (rest : List Text) → merged (map (λ piece. piece.now) l.yielded ++ rest) ≡ l.parts.items ++ merged_after l.after_run rest;
+  accepted : first_fault (map (λ piece. piece.now) l.yielded) ≡ None;
 }

@@ -1,10 +1,15 @@
-use Rattle.std.proofs.Common.{sym, ap, subst, ◌∙◌}
+use Rattle.std.proofs.Common.{false, sym, ap, subst, ◌∙◌}
 use Rattle.glob_text.specs.Pieces.{pieces}
 use Rattle.glob_walk.specs.Components.{first_fault}
 use Rattle.glob_walk.specs.Private.Parts.{text_fault}
 use Rattle.glob_walk.specs.Walks.{RefusesWith}
 use Rattle.glob_walk.proofs.WalkLemmas.Reading.{walk_fault-whole, walk_fault-components, IfErr-from_known}
+use Rattle.glob_walk.specs.Private.Merging.{are_merged}
+use Rattle.glob_walk.proofs.WalkLemmas.Merging.{are_merged-merged}
 use Rattle.glob_walk.proofs.plan.Plan.read.Goals as goal
+
+pub invariant_of-result : goal.invariant_of-result
+invariant_of-result g c = record { merged = ap are_merged c.in_ok-parts.ensures.parts ∙ are_merged-merged false (pieces c.past_root.result.now) }
 
 pub returns-in_err-read-clause-refused : goal.returns-in_err-read-clause-refused
 returns-in_err-read-clause-refused g c = IfErr-from_known _ _ _

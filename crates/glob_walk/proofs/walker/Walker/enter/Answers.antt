@@ -1,11 +1,12 @@
-use Rattle.std.proofs.Common.{cond, rules, ◌≡◌, ◌∷◌, [], ◌++◌, false, drop, ap, sym, subst, ◌∙◌}
+use Rattle.std.proofs.Common.{cond, rules, ◌≡◌, ◌∷◌, [], ◌++◌, true, false, drop, ap, sym, subst, ◌∙◌}
 use Rattle.std.specs.Prelude.{string_bytes}
 use Rattle.glob_walk.specs.Marks.{Give, Found}
-use Rattle.glob_walk.specs.Private.Tasks.{enter_from, IsRun, IsOpened, IsNextSound}
+use Rattle.glob_walk.specs.Components.{component_kind, Recursive}
+use Rattle.glob_walk.specs.Private.Tasks.{enter_from, IsOpened, IsNextSound}
 use Rattle.glob_walk.specs.Private.Stacks.{frames_marks}
 use Rattle.glob_walk.proofs.WalkLemmas.Charging.{uncharged, if_given, if_not_given}
 use Rattle.glob_walk.proofs.WalkLemmas.Naming.{ended, opened_none}
-use Rattle.glob_walk.proofs.WalkLemmas.Running.{run_none}
+use Rattle.glob_walk.proofs.WalkLemmas.Merging.{opened_run}
 use Rattle.glob_walk.proofs.WalkLemmas.Stacking.{left_none}
 use Rattle.glob_walk.proofs.walker.Walker.enter.Goals as goal
 
@@ -22,10 +23,17 @@ returns-in-Ok g c = record {
       (ap (λ ms. ms ++ frames_marks c' c.args.self.now.stack.plan c.args.self.now.stack.frames.items) (ap (λ p. enter_from c' c.args.self.now.stack.plan c.args.part p c.args.is_dir) (sym c.as_str.ensures.value) ∙ c.in-Ok.ensures.marks c'));
 }
 
+pub list-requires-clause-opens : goal.list-requires-clause-opens
+list-requires-clause-opens g c =
+    let kind : component_kind c.in-Some.component.now ≡ Recursive = search rules in
+    opened_run c.args.self.now.stack.plan.parts.items c.args.part c.in-Some.component.now c.args.self.now.stack.plan.merged c.in-Some.ensures.rest kind
+
 pub returns-then-not-is_dir : goal.returns-then-not-is_dir
 returns-then-not-is_dir g c =
     let no : c.args.is_dir ≡ false = search rules in
-    let run : IsRun (drop c.args.part c.args.self.now.stack.plan.parts.items) = search rules in
+    let kind : component_kind c.in-Some.component.now ≡ Recursive = search rules in
+    let plan = c.args.self.now.stack.plan in
+    let opens : IsOpened true (drop c.args.part plan.parts.items) = opened_run plan.parts.items c.args.part c.in-Some.component.now plan.merged c.in-Some.ensures.rest kind in
     record {
       told = search rules;
       counts = search rules;
@@ -35,7 +43,7 @@ returns-then-not-is_dir g c =
       ready = search rules;
       sound = λ c' told h. record { next = subst (IsNextSound c') (sym c.requires.none) tt; frames = h.frames };
       takes = λ c' told h. uncharged _ _ _ (ap (λ ms. ms ++ frames_marks c' c.args.self.now.stack.plan c.args.self.now.stack.frames.items) (ap (λ d. enter_from c' c.args.self.now.stack.plan c.args.part (string_bytes c.args.path) d) no
-          ∙ run_none c' c.args.self.now.stack.plan.options c.args.self.now.stack.plan.directories (drop c.args.part c.args.self.now.stack.plan.parts.items) (string_bytes c.args.path) run) ∙ left_none c' c.args.self.now.stack c.requires.none);
+          ∙ opened_none c' c.args.self.now.stack.plan.options c.args.self.now.stack.plan.directories true (drop c.args.part c.args.self.now.stack.plan.parts.items) (string_bytes c.args.path) opens) ∙ left_none c' c.args.self.now.stack c.requires.none);
     }
 
 pub returns-then-not-is_dir-2 : goal.returns-then-not-is_dir-2

@@ -1,0 +1,149 @@
+-- Neighbouring `**` are read as one, which changes nothing of the written listing.
+use Rattle.std.proofs.Common.{◌≡◌, ℕ, zero, suc, ◌+◌, Bool, true, false, cond, not, ◌&&◌, List, [], ◌∷◌, ◌++◌, drop, refl, ap, sym, subst, ◌∙◌, arith}
+use Rattle.std.proofs.lemmas.Bool.{and_parts, both_ways}
+use Rattle.std.proofs.lemmas.List.{append_assoc}
+use Rattle.std.proofs.lemmas.Slice.Eq.{bytes_eq-Decides}
+use Rattle.std.proofs.Math.ListN.{drop_of_length-le}
+use Rattle.glob_text.specs.Text.{Text}
+use Rattle.glob_pattern.specs.Grammar.Characters.{star}
+use Rattle.glob_pattern.specs.declared.options.MatchOptions.{MatchOptions}
+use Rattle.glob_tree.specs.Content.{Content}
+use Rattle.glob_walk.specs.Components.{ComponentKind, Literal, Recursive, Wild, component_kind, components, is_literal, is_recursive, begins_recursive, start, wants_directories}
+use Rattle.glob_walk.specs.Listing.{by_name, by_match, descent, levels, enter, meet, match_at, look_up, listing}
+use Rattle.glob_walk.specs.Private.Merging.{merged, merged_after, are_merged}
+use Rattle.glob_walk.specs.Private.Tasks.{IsOpened}
+use Rattle.glob_walk.proofs.ListingLemmas.Descending.{enter-literal, enter-wild, enter_none, enter-run, enter-recursive_none, enter-levels}
+
+stars : (t : Text) → is_recursive t ≡ true → t ≡ star ∷ star ∷ []
+stars t h = (bytes_eq-Decides t (star ∷ star ∷ [])).0 h
+
+recursive_kind : (t : Text) → is_recursive t ≡ true → component_kind t ≡ Recursive
+recursive_kind t h = ap component_kind (stars t h)
+
+kind_recursive : (t : Text) → component_kind t ≡ Recursive → is_recursive t ≡ true
+kind_recursive t h = by_test (is_literal t) (is_recursive t) refl h
+  where
+    by_test : (b r : Bool) → is_recursive t ≡ r → cond b Literal (cond r Recursive Wild) ≡ Recursive → r ≡ true
+    by_test true r k e = absurd (cc)
+    by_test false true k e = refl
+    by_test false false k e = absurd (cc)
+
+-- after a `**` no other is left
+merged_begins : (ts : List Text) → begins_recursive (merged_after true ts) ≡ false
+merged_begins [] = refl
+merged_begins (t ∷ ts) = by_test (is_recursive t) refl (merged_begins ts)
+  where
+    by_test : (r : Bool) → is_recursive t ≡ r → begins_recursive (merged_after true ts) ≡ false
+        → begins_recursive (cond r (merged_after true ts) (t ∷ merged_after r ts)) ≡ false
+    by_test true h later = later
+    by_test false h later = h
+
+pub are_merged-merged : (run : Bool) (ts : List Text) → are_merged (merged_after run ts) ≡ true
+are_merged-merged run [] = refl
+are_merged-merged run (t ∷ ts) = by_test run (is_recursive t) refl (λ r. are_merged-merged r ts)
+  where
+    alone : (r : Bool) → is_recursive t ≡ r → not (is_recursive t && begins_recursive (merged_after r ts)) ≡ true
+    alone true h = ap (λ b. not (b && begins_recursive (merged_after true ts))) h ∙ ap not (merged_begins ts)
+    alone false h = ap (λ b. not (b && begins_recursive (merged_after false ts))) h
+
+    pushed : (r : Bool) → is_recursive t ≡ r → are_merged (merged_after r ts) ≡ true → are_merged (t ∷ merged_after r ts) ≡ true
+    pushed r h later = ap (λ b. b && are_merged (merged_after r ts)) (alone r h) ∙ later
+
+    by_test : (b r : Bool) → is_recursive t ≡ r → ((r : Bool) → are_merged (merged_after r ts) ≡ true)
+        → are_merged (cond (b && r) (merged_after true ts) (t ∷ merged_after r ts)) ≡ true
+    by_test true true h later = later true
+    by_test true false h later = pushed false h (later false)
+    by_test false r h later = pushed r h (later r)
+
+are_merged-drop : (n : ℕ) (ts : List Text) → are_merged ts ≡ true → are_merged (drop n ts) ≡ true
+are_merged-drop zero ts h = h
+are_merged-drop (suc n) [] h = ap are_merged (drop_of_length-le [] {i = suc n} (omega arith))
+are_merged-drop (suc n) (t ∷ ts) h = are_merged-drop n ts (and_parts (not (is_recursive t && begins_recursive ts)) (are_merged ts) h).1
+
+-- so a `**` is the last of its run
+pub opened_run : (ts : List Text) (n : ℕ) (t : Text) → are_merged ts ≡ true → drop n ts ≡ t ∷ drop (n + 1) ts → component_kind t ≡ Recursive → IsOpened true (drop n ts)
+opened_run ts n t merged at kind = subst (IsOpened true) (sym at) (kind, last (begins_recursive (drop (n + 1) ts)) refl)
+  where
+    rest : are_merged (t ∷ drop (n + 1) ts) ≡ true
+    rest = ap are_merged (sym at) ∙ are_merged-drop n ts merged
+
+    apart : not (is_recursive t && begins_recursive (drop (n + 1) ts)) ≡ true
+    apart = (and_parts (not (is_recursive t && begins_recursive (drop (n + 1) ts))) (are_merged (drop (n + 1) ts)) rest).0
+
+    last : (b : Bool) → begins_recursive (drop (n + 1) ts) ≡ b → b ≡ false
+    last true h = absurd (both_ways false refl (sym (ap (λ r. not (r && begins_recursive (drop (n + 1) ts))) (kind_recursive t kind) ∙ ap not h) ∙ apart))
+    last false h = refl
+
+-- one more component
+pub merged-skip : (before : List Text) (parts rest : List Text) (run : Bool) (t : Text) → ((others : List Text) → merged (before ++ others) ≡ parts ++ merged_after run others)
+    → (run && is_recursive t) ≡ true → merged ((before ++ t ∷ []) ++ rest) ≡ parts ++ merged_after (is_recursive t) rest
+merged-skip before parts rest run t so_far h =
+    ap merged (append_assoc before (t ∷ []) rest) ∙ so_far (t ∷ rest)
+    ∙ ap (λ ts. parts ++ ts) (ap (λ b. cond b (merged_after true rest) (t ∷ merged_after (is_recursive t) rest)) h ∙ ap (λ b. merged_after b rest) (sym (and_parts run (is_recursive t) h).1))
+
+pub merged-push : (before : List Text) (parts rest : List Text) (run : Bool) (t : Text) → ((others : List Text) → merged (before ++ others) ≡ parts ++ merged_after run others)
+    → (run && is_recursive t) ≡ false → merged ((before ++ t ∷ []) ++ rest) ≡ (parts ++ t ∷ []) ++ merged_after (is_recursive t) rest
+merged-push before parts rest run t so_far h =
+    ap merged (append_assoc before (t ∷ []) rest) ∙ so_far (t ∷ rest)
+    ∙ ap (λ ts. parts ++ ts) (ap (λ b. cond b (merged_after true rest) (t ∷ merged_after (is_recursive t) rest)) h)
+    ∙ sym (append_assoc parts (t ∷ []) (merged_after (is_recursive t) rest))
+
+module _ (c : Content) (o : MatchOptions) (directories : Bool) where
+  -- what comes after a component counts by what comes of it alone
+  after_other : (t : Text) (xs ys : List Text) → is_recursive t ≡ false → enter c o directories xs ≡ enter c o directories ys
+      → enter c o directories (t ∷ xs) ≡ enter c o directories (t ∷ ys)
+  after_other t xs ys other e = λ i path d. by_kind (component_kind t) refl path d i
+    where
+      by_kind : (k : ComponentKind) → component_kind t ≡ k → (path : Text) (d : Bool) → enter c o directories (t ∷ xs) path d ≡ enter c o directories (t ∷ ys) path d
+      by_kind Literal k path d = enter-literal c o directories t xs path d k ∙ ap (λ f. by_name c f t path d) e ∙ sym (enter-literal c o directories t ys path d k)
+      by_kind Wild k path true = enter-wild c o directories t xs path k ∙ ap (λ f. by_match c o f t path) e ∙ sym (enter-wild c o directories t ys path k)
+      by_kind Wild k path false = enter_none c o directories t xs path k ∙ sym (enter_none c o directories t ys path k)
+      by_kind Recursive k path d = absurd (both_ways (is_recursive t) other (kind_recursive t k))
+
+  after_run : (t u : Text) (xs ys : List Text) → is_recursive t ≡ true → is_recursive u ≡ false → enter c o directories xs ≡ enter c o directories ys
+      → enter c o directories (t ∷ u ∷ xs) ≡ enter c o directories (t ∷ u ∷ ys)
+  unfolding meet
+  after_run t u xs ys h other e = λ i path d. by_directory path d i
+    where
+      same : meet c o directories (u ∷ xs) ≡ meet c o directories (u ∷ ys)
+      same = ap (λ f path name d. match_at o f u path name d) e
+
+      by_directory : (path : Text) (d : Bool) → enter c o directories (t ∷ u ∷ xs) path d ≡ enter c o directories (t ∷ u ∷ ys) path d
+      by_directory path true =
+          enter-levels c o directories t (u ∷ xs) path (recursive_kind t h) other
+          ∙ ap (λ f. descent c o f (levels c) path) same
+          ∙ sym (enter-levels c o directories t (u ∷ ys) path (recursive_kind t h) other)
+      by_directory path false =
+          enter-recursive_none c o directories t (u ∷ xs) path (recursive_kind t h) other
+          ∙ sym (enter-recursive_none c o directories t (u ∷ ys) path (recursive_kind t h) other)
+
+  -- merged components are entered in the same way, by themselves and after a `**`
+  abbrev AreAsMerged : List Text → Type 0
+  AreAsMerged ts =
+      (enter c o directories (merged ts) ≡ enter c o directories ts)
+      × ((t : Text) → is_recursive t ≡ true → enter c o directories (t ∷ merged_after true ts) ≡ enter c o directories (t ∷ ts))
+
+  as_merged : (ts : List Text) → AreAsMerged ts
+  as_merged [] = (refl, λ t h. refl)
+  as_merged (u ∷ us) = let later = as_merged us in (alone later (is_recursive u) refl, λ t h. after later t h (is_recursive u) refl)
+    where
+      alone : AreAsMerged us → (r : Bool) → is_recursive u ≡ r → enter c o directories (u ∷ merged_after r us) ≡ enter c o directories (u ∷ us)
+      alone later true h = later.1 u h
+      alone later false h = after_other u (merged us) us h later.0
+
+      after : AreAsMerged us → (t : Text) → is_recursive t ≡ true → (r : Bool) → is_recursive u ≡ r
+          → enter c o directories (t ∷ (cond r (merged_after true us) (u ∷ merged_after r us))) ≡ enter c o directories (t ∷ u ∷ us)
+      after later t h true more =
+          ap (λ s. enter c o directories (s ∷ merged_after true us)) (stars t h ∙ sym (stars u more))
+          ∙ later.1 u more
+          ∙ (λ i path d. sym (enter-run c o directories t (u ∷ us) path d (recursive_kind t h) more) i)
+      after later t h false other = after_run t u (merged us) us h other later.0
+
+  pub enter-merged : (ts : List Text) → enter c o directories (merged ts) ≡ enter c o directories ts
+  enter-merged ts = (as_merged ts).0
+
+-- entering the components that are read is what the listing does
+pub merged_listing : (c : Content) (o : MatchOptions) (pattern : Text)
+    → look_up c (λ seen. true) (enter c o (wants_directories pattern) (merged (components pattern))) (start pattern) ≡ listing c o pattern
+unfolding listing
+merged_listing c o pattern = ap (λ next. look_up c (λ seen. true) next (start pattern)) (enter-merged c o (wants_directories pattern) (components pattern))

@@ -1,0 +1,19 @@
+-- Neighbouring `**`, which are read as one.
+use Rattle.std.specs.Prelude.{Bool, true, false, ◌&&◌, not, if◌then◌else◌, List, [], ◌∷◌}
+use Rattle.glob_text.specs.Text.{Text}
+use Rattle.glob_walk.specs.Components.{is_recursive, begins_recursive}
+
+-- the components with one `**` for neighbouring ones, where `run` says whether a `**` stands before them
+abbrev pub merged_after : (run : Bool) → List Text → List Text
+merged_after run [] = []
+merged_after run (t ∷ ts) =
+    if run && is_recursive t then merged_after true ts else t ∷ merged_after (is_recursive t) ts
+
+-- the components with one `**` for neighbouring ones
+abbrev pub merged : List Text → List Text
+merged ts = merged_after false ts
+
+-- no two neighbours are `**`
+abbrev pub are_merged : List Text → Bool
+are_merged [] = true
+are_merged (t ∷ ts) = not (is_recursive t && begins_recursive ts) && are_merged ts
