@@ -14,7 +14,8 @@ use std::{fmt, io};
 pub enum GlobCause {
     /// The directory at the path could not be listed.
     Read,
-    /// Out of memory: an allocation failed, and the walk has ended. In this version the error's path is then empty.
+    /// Out of memory: an allocation failed, and the walk has ended. Nothing is promised of the error's path; in this version
+    /// it is empty.
     Memory,
     /// The next unit of work, which is at the path, does not fit the walk's limit. The walk has ended.
     Limit,
@@ -53,7 +54,7 @@ impl<A: Allocator> GlobError<A> {
         }
     }
 
-    /// There was no memory to go on. It tells no path.
+    /// There was no memory to go on. The path is empty.
     pub(crate) fn memory(alloc: A) -> Self
         ensures path { path_of result ≡ [] }
         ensures cause { cause_of result ≡ GlobCause.Memory }
@@ -77,7 +78,7 @@ impl<A: Allocator> GlobError<A> {
         }
     }
 
-    /// The path that could not be read: `a` for the directory `a`.
+    /// The path that could not be read: `a` for the directory `a`. Where the cause is `Memory`, nothing is promised of it.
     pub fn path(&self) -> Path<'_>
         ensures { path_bytes result ≡ path_of self.now }
     {

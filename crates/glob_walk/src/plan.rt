@@ -74,7 +74,7 @@ impl<A: Allocator> Plan<A> {
     }
 }
 
-/// Reads the components of a text, which stand between separators.
+/// Reads the components of a text, which stand between separators. A `**` right after a `**` is left out.
 fn read_parts<A: Allocator + Copy>(alloc: A, text: &str) -> Result<Vec<Part<A>, A>, PatternRefusal>
     ensures parts { IfOk result (λ parts. parts.items ≡ merged (pieces text.now)) }
     ensures accepted { IfOk result (λ _. first_fault (pieces text.now) ≡ None) }
