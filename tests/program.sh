@@ -266,6 +266,13 @@ if "${as_user[@]}" "$binary" escape a >/dev/null 2>&1; then
     "${as_user[@]}" "$binary" find 'shut/**/x' >"$work/out" 2>"$work/err"
     status=$?
     check 'what a directory that may not be searched has is no directory' 0 'shut/a/x\nshut/b/x\nshut/c/x\n' ''
+    "${as_user[@]}" "$binary" find 'shut/b/x' >"$work/out" 2>"$work/err"
+    status=$?
+    check 'a literal path below a directory that may not be searched' 1 '' ''
+    ln -s b/x shut/link
+    "${as_user[@]}" "$binary" find 'shut/link' >"$work/out" 2>"$work/err"
+    status=$?
+    check 'a link into a directory that may not be searched' 0 'shut/link\n' ''
 fi
 chmod 755 shut/b
 

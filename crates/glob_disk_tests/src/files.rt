@@ -1,4 +1,5 @@
 //! A file system that is written down.
+use std::cell::Cell;
 use std::fs::{File, Files, Metadata, OpenOptions};
 use std::io::{self, ErrorKind, Read};
 
@@ -13,24 +14,41 @@ pub enum Kind<'a> {
     Shut(ErrorKind),
     /// A directory of which these blocks are read, and then a read fails, and why.
     Torn(&'a [&'a [u8]], ErrorKind),
+    /// A link to a file.
+    LinkToFile,
+    /// A link to a directory.
+    LinkToDir,
     /// A link that cannot be followed, and why.
     Link(ErrorKind),
     /// Nothing that can be looked at, and why.
     Lost(ErrorKind),
-    /// A path that cannot be followed, and that can then not be looked at by itself.
-    Fading(ErrorKind, ErrorKind),
 }
 
 /// A file system of some paths. All others are missing.
-#[derive(Clone, Copy, Debug)]
+#[derive(Drop)]
 pub struct Written<'a> {
     paths: &'a [(&'a str, Kind<'a>)],
+    /// How often metadata was asked for.
+    lookups: Cell<u64>,
 }
 
 impl<'a> Written<'a> {
     /// The file system of these paths. A directory's path ends in a separator where it is opened.
     pub fn new(paths: &'a [(&'a str, Kind<'a>)]) -> Self {
-        Written { paths }
+        Written {
+            paths,
+            lookups: Cell::new(0),
+        }
+    }
+
+    /// How often metadata was asked for.
+    pub fn lookups(&self) -> u64 {
+        self.lookups.get()
+    }
+
+    /// Counts that metadata is asked for.
+    fn count_lookup(&self) {
+        self.lookups.set(self.lookups.get().saturating_add(1));
     }
 
     /// What stands at a path.
@@ -87,27 +105,29 @@ impl<'a> Files for Written<'a> {
                 blocks,
                 failure: Some(kind),
             }),
-            Kind::Shut(kind) | Kind::Link(kind) | Kind::Lost(kind) | Kind::Fading(kind, _) => {
-                Err(io::Error::from(kind))
-            }
-            Kind::File => Err(io::Error::from(ErrorKind::NotADirectory)),
+            Kind::Shut(kind) | Kind::Link(kind) | Kind::Lost(kind) => Err(io::Error::from(kind)),
+            Kind::File | Kind::LinkToFile => Err(io::Error::from(ErrorKind::NotADirectory)),
+            Kind::LinkToDir => Err(unsupported()),
         }
     }
 
     fn metadata(&self, path: &str) -> io::Result<Metadata> {
+        self.count_lookup();
         match self.kind(path) {
-            Kind::File => Ok(Metadata::of_file(0)),
-            Kind::Dir(_) | Kind::Shut(_) | Kind::Torn(..) => Ok(Metadata::of_dir()),
-            Kind::Link(kind) | Kind::Lost(kind) | Kind::Fading(kind, _) => {
-                Err(io::Error::from(kind))
+            Kind::File | Kind::LinkToFile => Ok(Metadata::of_file(0)),
+            Kind::Dir(_) | Kind::Shut(_) | Kind::Torn(..) | Kind::LinkToDir => {
+                Ok(Metadata::of_dir())
             }
+            Kind::Link(kind) | Kind::Lost(kind) => Err(io::Error::from(kind)),
         }
     }
 
     fn symlink_metadata(&self, path: &str) -> io::Result<Metadata> {
         match self.kind(path) {
-            Kind::Link(_) => Ok(Metadata::of_symlink(0)),
-            Kind::Fading(_, kind) => Err(io::Error::from(kind)),
+            Kind::LinkToFile | Kind::LinkToDir | Kind::Link(_) => {
+                self.count_lookup();
+                Ok(Metadata::of_symlink(0))
+            }
             _ => self.metadata(path),
         }
     }

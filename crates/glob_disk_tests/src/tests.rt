@@ -4,11 +4,21 @@ use std::io::ErrorKind;
 
 const PATHS: &[(&str, Kind)] = &[
     ("d", Kind::Dir(&[])),
-    ("d/", Kind::Dir(&[b"f\0.\0s\0", b"..\0gone\0ring\0"])),
+    (
+        "d/",
+        Kind::Dir(&[b"f\0.\0s\0", b"..\0gone\0ring\0", b"near\0same\0"]),
+    ),
     ("d/f", Kind::File),
     ("d/s", Kind::Shut(ErrorKind::PermissionDenied)),
     ("d/gone", Kind::Link(ErrorKind::NotFound)),
     ("d/ring", Kind::Link(ErrorKind::FilesystemLoop)),
+    ("d/near", Kind::LinkToDir),
+    ("d/same", Kind::LinkToFile),
+    ("d/near/", Kind::Dir(&[])),
+    ("d/f/", Kind::Lost(ErrorKind::NotADirectory)),
+    ("d/f/.", Kind::Lost(ErrorKind::NotADirectory)),
+    ("d/ring/", Kind::Lost(ErrorKind::FilesystemLoop)),
+    ("d/hidden", Kind::Link(ErrorKind::PermissionDenied)),
     ("empty/", Kind::Dir(&[])),
     ("large/", Kind::Dir(&[b"a\0", b"b\0", b"c\0d\0", b"e\0"])),
     ("large/d", Kind::Dir(&[])),
@@ -22,10 +32,7 @@ const PATHS: &[(&str, Kind)] = &[
     ("latin/", Kind::Dir(&[b"a\0\xff\0"])),
     ("odd/", Kind::Dir(&[b"a\0b/c\0"])),
     ("unseen/", Kind::Dir(&[b"a\0"])),
-    (
-        "unseen/a",
-        Kind::Fading(ErrorKind::PermissionDenied, ErrorKind::PermissionDenied),
-    ),
+    ("unseen/a", Kind::Lost(ErrorKind::PermissionDenied)),
     ("full", Kind::Lost(ErrorKind::OutOfMemory)),
     ("full/", Kind::Shut(ErrorKind::OutOfMemory)),
     ("filling/", Kind::Torn(&[], ErrorKind::OutOfMemory)),
@@ -36,40 +43,56 @@ const PATHS: &[(&str, Kind)] = &[
     ),
     ("fills/", Kind::Dir(&[b"a\0"])),
     ("fills/a", Kind::Lost(ErrorKind::OutOfMemory)),
-    (
-        "fades",
-        Kind::Fading(ErrorKind::NotFound, ErrorKind::OutOfMemory),
-    ),
+    ("fades", Kind::Link(ErrorKind::OutOfMemory)),
     ("/", Kind::Dir(&[b"f\0"])),
     ("/f", Kind::Shut(ErrorKind::PermissionDenied)),
     ("barred", Kind::Lost(ErrorKind::PermissionDenied)),
 ];
 
-const LOOKS: &[(&str, Option<Look>)] = &[
-    ("d", Some(Look::Dir)),
-    ("d/f", Some(Look::Other)),
-    ("d/s", Some(Look::Dir)),
-    ("d/gone", Some(Look::Other)),
-    ("d/ring", Some(Look::Other)),
-    ("nothing", Some(Look::Missing)),
-    ("", Some(Look::Missing)),
-    ("barred", Some(Look::Missing)),
-    ("full", None),
-    ("fades", None),
+/// A path, what a look at it finds, or `None` where memory is missing, and how many lookups of the system it takes.
+const LOOKS: &[(&str, Option<Look>, u64)] = &[
+    ("d", Some(Look::Dir), 1),
+    ("d/", Some(Look::Dir), 1),
+    ("d/f", Some(Look::Other), 1),
+    ("d/s", Some(Look::Dir), 1),
+    ("d/f/", Some(Look::Missing), 1),
+    ("d/f/.", Some(Look::Missing), 1),
+    ("d/near", Some(Look::Dir), 2),
+    ("d/near/", Some(Look::Dir), 1),
+    ("d/same", Some(Look::Other), 2),
+    ("d/gone", Some(Look::Other), 2),
+    ("d/gone/", Some(Look::Missing), 1),
+    ("d/ring", Some(Look::Other), 2),
+    ("d/ring/", Some(Look::Missing), 1),
+    ("d/hidden", Some(Look::Other), 2),
+    ("nothing", Some(Look::Missing), 1),
+    ("", Some(Look::Missing), 1),
+    ("barred", Some(Look::Missing), 1),
+    ("full", None, 1),
+    ("fades", None, 2),
 ];
 
 #[test]
 fn looks(rt: HostRuntime) {
-    let mut disk = Disk::new(Written::new(PATHS), rt.alloc());
-    for (path, wanted) in LOOKS {
+    for (path, wanted, lookups) in LOOKS {
+        let files = Written::new(PATHS);
+        let mut disk = Disk::new(&files, rt.alloc());
         assert!(rt; disk.look(path).ok() == *wanted, "{path}");
+        assert_eq!(rt; files.lookups(), *lookups, "{path}");
     }
 }
 
 const LISTINGS: &[(&str, &[(&str, bool)])] = &[
     (
         "d",
-        &[("f", false), ("s", true), ("gone", false), ("ring", false)],
+        &[
+            ("f", false),
+            ("s", true),
+            ("gone", false),
+            ("ring", false),
+            ("near", true),
+            ("same", false),
+        ],
     ),
     ("empty/", &[]),
     (
@@ -88,12 +111,14 @@ const LISTINGS: &[(&str, &[(&str, bool)])] = &[
 
 #[test]
 fn listings(rt: HostRuntime) {
-    let mut disk = Disk::new(Written::new(PATHS), rt.alloc());
     for (path, wanted) in LISTINGS {
+        let files = Written::new(PATHS);
+        let mut disk = Disk::new(&files, rt.alloc());
         let Ok(entries) = disk.list(path) else {
             panic!(rt; "{path}");
         };
         assert_eq!(rt; entries.len(), wanted.len(), "{path}");
+        assert_eq!(rt; files.lookups(), wanted.len() as u64, "{path}");
         for (entry, (name, is_dir)) in entries.iter().zip(*wanted) {
             assert_eq!(rt; entry.name.as_str(), *name, "{path}");
             assert_eq!(rt; entry.is_dir, *is_dir, "{path}");

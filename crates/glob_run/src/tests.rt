@@ -1,6 +1,7 @@
 mod disk;
 mod find;
 mod folder;
+mod looks;
 mod runs;
 
 use super::*;

@@ -24,9 +24,8 @@ const LARGE_BLOCK: usize = 32768;
 /// The real file system, as a tree with no known content: contracts know only how much was asked of it. Relative paths
 /// begin at the current directory of the process, and links are followed.
 ///
-/// A look makes one system call, and two where the path cannot be followed to its end. A listing makes one for each
-/// entry, four for the directory, and one for each further 32 KiB of names. An I/O error of the kind `OutOfMemory` is an
-/// allocation failure.
+/// A look makes one system call, and two at a link. A listing makes one for each entry, also for a link, four for the
+/// directory, and one for each further 32 KiB of names. An I/O error of the kind `OutOfMemory` is an allocation failure.
 ///
 /// In a directory with a file `a` and a link `b` to `a`, a look at `b` finds `Other`, and a listing of `.` the entries
 /// `a` and `b`, neither of them a directory.
@@ -74,10 +73,10 @@ impl<R: Files + Drop, A: Allocator + Copy> Tree for Disk<R, A> {
         ensures asks { self.new ≡ self.old + 1 }
     {
         self.asks = self.asks.after(1);
-        match metadata_of(self.rt.metadata(path))? {
-            Some(metadata) if metadata.is_dir() => Ok(Look::Dir),
-            Some(_) => Ok(Look::Other),
-            None => self.unfollowed(path),
+        match metadata_of(self.rt.symlink_metadata(path))? {
+            Some(metadata) if metadata.is_symlink() => self.followed(path),
+            Some(metadata) => Ok(look_of(&metadata)),
+            None => Ok(Look::Missing),
         }
     }
 
@@ -100,11 +99,11 @@ impl<R: Files + Drop, A: Allocator + Copy> Tree for Disk<R, A> {
 }
 
 impl<R: Files, A: Allocator + Copy> Disk<R, A> {
-    /// What stands at a path that cannot be followed to its end.
-    fn unfollowed(&self, path: &str) -> Result<Look, AllocError> {
-        match metadata_of(self.rt.symlink_metadata(path))? {
-            Some(_) => Ok(Look::Other),
-            None => Ok(Look::Missing),
+    /// What a link leads to, and `Other` where it cannot be followed to its end.
+    fn followed(&self, path: &str) -> Result<Look, AllocError> {
+        match metadata_of(self.rt.metadata(path))? {
+            Some(metadata) => Ok(look_of(&metadata)),
+            None => Ok(Look::Other),
         }
     }
 
@@ -232,6 +231,15 @@ fn metadata_of(answer: io::Result<Metadata>) -> Result<Option<Metadata>, AllocEr
         Ok(metadata) => Ok(Some(metadata)),
         Err(error) if error.kind() == ErrorKind::OutOfMemory => Err(AllocError),
         Err(_) => Ok(None),
+    }
+}
+
+/// What has this metadata, where it is no link.
+fn look_of(metadata: &Metadata) -> Look {
+    if metadata.is_dir() {
+        Look::Dir
+    } else {
+        Look::Other
     }
 }
 
