@@ -5,7 +5,7 @@ mod flushing_disk;
 mod lines;
 
 use crate::command::Search;
-use crate::{FAULT, MATCHED, UNMATCHED, fault};
+use crate::{FAULT, MATCHED, UNMATCHED, fault, write_line};
 use flushing_disk::FlushingDisk;
 use glob::{Disk, PatternRefusal, Tree, glob_in};
 use lines::Lines;
@@ -27,7 +27,7 @@ pub fn run_find<R: Files + Drop, A: Allocator + Copy, W: Write + Drop, E: Write>
     ensures { result ≤ 2 }
 {
     let Ok(buffer) = BufWriter::new(alloc, output) else {
-        return fault(errors, "out of memory");
+        return fault(alloc, errors, "out of memory");
     };
     let paths = RefCell::new(Lines::new(buffer));
     let disk = FlushingDisk::new(Disk::new(rt, alloc), &paths);
@@ -48,7 +48,7 @@ fn run<T: Tree, W: Write + Drop, A: Allocator, E: Write>(
 {
     match walk(alloc, tree, search, paths, errors) {
         Ok(status) => status,
-        Err(failure) => fault(errors, failure),
+        Err(failure) => fault(alloc, errors, failure),
     }
 }
 
@@ -99,7 +99,7 @@ fn walk<T: Tree, W: Write + Drop, A: Allocator, E: Write>(
             Err(error) => {
                 paths.flush()?;
                 has_error = true;
-                let _ = writeln!(errors, "{error}");
+                write_line(alloc, errors, &error);
             }
         }
     }

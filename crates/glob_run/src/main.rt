@@ -46,7 +46,7 @@ pub fn run_words<F: Files + Drop, A: Allocator + Copy, R: Read + Drop, W: Write 
     ensures { result ≤ 2 }
 {
     match Command::parse(words) {
-        None => fault(errors, USAGE),
+        None => fault(alloc, errors, USAGE),
         Some(Command::Match { options, pattern }) => {
             run_match(alloc, options, pattern, input, output, errors)
         }
@@ -67,14 +67,14 @@ fn run_match<A: Allocator + Copy, R: Read + Drop, W: Write + Drop, E: Write>(
 {
     let pattern = match Pattern::new(alloc, pattern) {
         Ok(pattern) => pattern,
-        Err(refusal) => return fault(errors, refusal),
+        Err(refusal) => return fault(alloc, errors, refusal),
     };
     let mut reader = Watch::new(input);
     let mut writer = Watch::new(output);
     match filter_lines(alloc, &pattern, options, &mut reader, &mut writer) {
         Ok(0) => UNMATCHED,
         Ok(_) => MATCHED,
-        Err(line_fault) => fault(errors, line_fault),
+        Err(line_fault) => fault(alloc, errors, line_fault),
     }
 }
 
@@ -87,11 +87,11 @@ fn run_escape<A: Allocator + Copy, W: Write + Drop, E: Write>(
     ensures { result ≤ 2 }
 {
     let Ok(line) = escaped_line(alloc, text) else {
-        return fault(errors, "out of memory");
+        return fault(alloc, errors, "out of memory");
     };
     match output.write_all(line.as_bytes()) {
         Ok(()) => MATCHED,
-        Err(_) => fault(errors, "writing failed"),
+        Err(_) => fault(alloc, errors, "writing failed"),
     }
 }
 
@@ -103,20 +103,29 @@ fn escaped_line<A: Allocator + Copy>(alloc: A, text: &str) -> Result<String<A>, 
 }
 
 /// Writes the one line of a fault, and answers its status.
-fn fault<E: Write, D: Display + Drop>(errors: &mut E, message: D) -> u8
+fn fault<A: Allocator, E: Write, D: Display + Drop>(alloc: A, errors: &mut E, message: D) -> u8
     ensures { result ≤ 2 }
 {
-    let _ = writeln!(errors, "{message}");
+    write_line(alloc, errors, &message);
     FAULT
 }
 
+/// Writes a line of standard error at once, so that no other process writes into it. Where there is no memory for the line,
+/// it is written piece by piece. A fault of `errors` itself is dropped.
+fn write_line<A: Allocator, E: Write, D: Display>(alloc: A, errors: &mut E, message: &D) {
+    let _ = match format!(in alloc; "{message}\n") {
+        Ok(line) => errors.write_all(line.as_bytes()),
+        Err(_) => writeln!(errors, "{message}"),
+    };
+}
+
 /// The line of words that could not be had: too little memory for them, or a word that is not UTF-8.
-fn words_fault<E: Write>(errors: &mut E, error: &io::Error) -> u8
+fn words_fault<A: Allocator, E: Write>(alloc: A, errors: &mut E, error: &io::Error) -> u8
     ensures { result ≤ 2 }
 {
     match error.kind() {
-        io::ErrorKind::OutOfMemory => fault(errors, "out of memory"),
-        _ => fault(errors, USAGE),
+        io::ErrorKind::OutOfMemory => fault(alloc, errors, "out of memory"),
+        _ => fault(alloc, errors, USAGE),
     }
 }
 
@@ -137,7 +146,7 @@ fn run_arguments<F: Files + Drop, A: Allocator + Copy, R: Read + Drop, W: Write 
         .collect::<Vec<&str, A>>(alloc)
     {
         Ok(words) => run_words(rt, alloc, words.as_slice(), input, output, errors),
-        Err(_) => fault(errors, "out of memory"),
+        Err(_) => fault(alloc, errors, "out of memory"),
     }
 }
 
@@ -157,7 +166,7 @@ fn main(rt: HostRuntime) -> ExitCode {
             rt.stdout(),
             &mut errors,
         ),
-        Err(error) => words_fault(&mut errors, &error),
+        Err(error) => words_fault(rt.alloc(), &mut errors, &error),
     })
 }
 

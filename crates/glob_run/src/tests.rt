@@ -106,6 +106,50 @@ fn an_output_that_fails_is_told(rt: HostRuntime) {
     check_failing_output(&rt, &["escape", "a"]);
 }
 
+/// A writer that counts its calls.
+#[derive(Drop)]
+struct Counting {
+    writes: u64,
+}
+
+impl Write for Counting {
+    fn write(&mut self, buf: &[u8]) -> io::Result<usize> {
+        self.writes = self.writes.saturating_add(1);
+        Ok(buf.len())
+    }
+
+    fn flush(&mut self) -> io::Result<()> {
+        Ok(())
+    }
+}
+
+/// Words whose run prints one line of a fault: of the usage, of the pattern, of the output, and of an item of a walk.
+const LINES_OF_FAULTS: &[&[&str]] = &[
+    &["match"],
+    &["match", "abc[def"],
+    &["find", "abc[def"],
+    &["escape", "a"],
+    &["find", "/"],
+    &["find", "-n", "0", "*"],
+];
+
+#[test]
+fn the_line_of_a_fault_is_one_write(rt: HostRuntime) {
+    for words in LINES_OF_FAULTS {
+        let mut errors = Counting { writes: 0 };
+        let status = run_words(
+            rt,
+            rt.alloc(),
+            words,
+            b"".as_slice(),
+            Unwritable,
+            &mut errors,
+        );
+        assert_eq!(rt; status, 2, "{words:?}");
+        assert_eq!(rt; errors.writes, 1, "{words:?}");
+    }
+}
+
 #[test]
 fn a_fault_that_cannot_be_told_is_dropped(rt: HostRuntime) {
     let mut written = Vec::new(rt.alloc());
