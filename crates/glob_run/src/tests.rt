@@ -90,14 +90,14 @@ impl Write for Unwritable {
 }
 
 #[test]
-fn a_fault_of_the_pattern_comes_before_one_of_the_input(rt: HostRuntime) {
-    check(&rt, &["match", "abc[def"], Unreadable, (2, "", FAULT_LINE));
+fn a_fault_of_the_pattern_comes_before_one_of_the_input(rt: HostRuntime) -> Result<(), Fail> {
+    check(&rt, &["match", "abc[def"], Unreadable, (2, "", FAULT_LINE))?;
     check(
         &rt,
         &["match", "*"],
         Unreadable,
         (2, "", "reading failed\n"),
-    );
+    )
 }
 
 #[test]

@@ -1,12 +1,11 @@
 //! Walks over a folder on the disk, by `glob`, by `glob_with` and by the command `find`. The folder holds what the tests
 //! of the original crate make, but for links.
 use super::check;
-use super::folder::Folder;
+use super::folder::{Folder, ensure};
 use glob::{GlobCause, MatchOptions, Paths, Pattern, Tree, glob, glob_with};
 use std::alloc::{AllocError, Global};
 use std::fs::Files;
 use std::io::ErrorKind;
-use std::process::Abort;
 use std::test::Fail;
 
 const DIRS: &[&str] = &[
@@ -185,22 +184,17 @@ fn by_glob_with(
 }
 
 /// Whether these lines, and no error, come of a pattern in each of the three ways.
-fn check_pattern(
-    rt: &(impl Abort + AllocGlobal + Files),
-    pattern: &str,
-    wanted: &str,
-) -> Result<(), Fail> {
+fn check_pattern(rt: &(impl AllocGlobal + Files), pattern: &str, wanted: &str) -> Result<(), Fail> {
     let by_glob = by_glob(rt, pattern)?;
-    assert!(rt; by_glob.as_str() == wanted, "{pattern}");
+    ensure(by_glob.as_str() == wanted, format_args!("{pattern}"))?;
     let by_glob_with = by_glob_with(rt, pattern, MatchOptions::new())?;
-    assert!(rt; by_glob_with.as_str() == wanted, "{pattern}");
+    ensure(by_glob_with.as_str() == wanted, format_args!("{pattern}"))?;
     let status = u8::from(wanted.is_empty());
-    check(rt, &["find", pattern], b"".as_slice(), (status, wanted, ""));
-    Ok(())
+    check(rt, &["find", pattern], b"".as_slice(), (status, wanted, ""))
 }
 
 /// Checks each pattern of a row, below a folder.
-fn check_row(rt: &(impl Abort + AllocGlobal + Files), folder: &str, row: &Row) -> Result<(), Fail> {
+fn check_row(rt: &(impl AllocGlobal + Files), folder: &str, row: &Row) -> Result<(), Fail> {
     let (patterns, names) = row;
     let escaped = Pattern::escape(rt.alloc(), folder)?;
     let wanted = below(rt, folder, names)?;
@@ -211,11 +205,7 @@ fn check_row(rt: &(impl Abort + AllocGlobal + Files), folder: &str, row: &Row) -
     Ok(())
 }
 
-fn check_rows(
-    rt: &(impl Abort + AllocGlobal + Files),
-    folder: &str,
-    rows: &[Row],
-) -> Result<(), Fail> {
+fn check_rows(rt: &(impl AllocGlobal + Files), folder: &str, rows: &[Row]) -> Result<(), Fail> {
     for row in rows {
         check_row(rt, folder, row)?;
     }
@@ -239,8 +229,7 @@ fn walks(rt: HostRuntime) -> Result<(), Fail> {
     fill(&rt, &folder)?;
     check_rows(&rt, folder.path(), WALKS)?;
     let specials = format!(in rt.alloc(); "{}/bbb/specials", folder.path())?;
-    check_rows(&rt, specials.as_str(), SPECIALS)?;
-    folder.remove(&rt)
+    check_rows(&rt, specials.as_str(), SPECIALS)
 }
 
 #[test]
@@ -257,9 +246,11 @@ fn options_are_those_of_the_caller(rt: HostRuntime) -> Result<(), Fail> {
     };
     let dotted = below(&rt, folder.path(), &[".a"])?;
     let upper = below(&rt, folder.path(), &["AAA"])?;
-    assert!(rt; by_glob(&rt, pattern.as_str())? == dotted);
-    assert!(rt; by_glob_with(&rt, pattern.as_str(), options)? == upper);
-    folder.remove(&rt)
+    ensure(by_glob(&rt, pattern.as_str())? == dotted, "glob")?;
+    ensure(
+        by_glob_with(&rt, pattern.as_str(), options)? == upper,
+        "glob_with",
+    )
 }
 
 #[test]
@@ -279,19 +270,21 @@ fn a_folder_that_was_removed_is_an_error(rt: HostRuntime) -> Result<(), Fail> {
     let pattern = format!(in rt.alloc(); "{escaped}/**")?;
     let wanted = format!(in rt.alloc(); "{}/e", folder.path())?;
     let Ok(mut items) = glob(rt, rt.alloc(), pattern.as_str()) else {
-        panic!(rt; "the pattern is refused");
+        return Err(Fail::new("the pattern is refused"));
     };
     let Some(Ok(path)) = items.next() else {
-        panic!(rt; "no path");
+        return Err(Fail::new("no path"));
     };
-    assert_eq!(rt; path.as_str(), wanted.as_str());
+    ensure(path.as_str() == wanted.as_str(), "the path")?;
     folder.remove_dir(&rt, "e")?;
     let Some(Err(error)) = items.next() else {
-        panic!(rt; "no error");
+        return Err(Fail::new("no error"));
     };
-    assert_eq!(rt; error.path().as_str(), wanted.as_str());
-    assert_eq!(rt; error.cause(), GlobCause::Read);
-    assert_eq!(rt; error.error().kind(), ErrorKind::NotFound);
-    assert!(rt; items.next().is_none());
-    folder.remove(&rt)
+    ensure(error.path().as_str() == wanted.as_str(), "the error's path")?;
+    ensure(error.cause() == GlobCause::Read, "the error's cause")?;
+    ensure(
+        error.error().kind() == ErrorKind::NotFound,
+        "the error's kind",
+    )?;
+    ensure(items.next().is_none(), "the end")
 }

@@ -1,12 +1,30 @@
 //! Folders that a test makes on the disk for itself.
+use std::fmt::Display;
 use std::io::ErrorKind;
 use std::test::Fail;
 use std::{env, fs, io, process};
 
-/// A folder of a test's own. The test removes it at its end.
-#[derive(Drop)]
+/// A folder of a test's own. It is removed with all that is in it when it is dropped, also where the test fails by an `Err`.
+/// An assertion that fails would end the process at once and leave it, so tests with a folder use [`ensure`].
 pub struct Folder {
+    rt: HostRuntime,
     path: String,
+}
+
+impl Drop for Folder {
+    fn drop(self) {
+        let Folder { rt, path } = self;
+        let _ = fs::remove_dir_all(&rt, path.as_str());
+    }
+}
+
+/// Fails with these words unless the condition holds.
+pub fn ensure(condition: bool, words: impl Display + Drop) -> Result<(), Fail> {
+    if condition {
+        Ok(())
+    } else {
+        Err(Fail::new(words))
+    }
 }
 
 impl Folder {
@@ -24,7 +42,7 @@ impl Folder {
     /// A folder that is there, by an absolute path without links, dots and doubled separators.
     fn at(rt: &HostRuntime, path: &str) -> Result<Folder, Fail> {
         let path = fs::canonicalize(rt, path)?.into_string();
-        Ok(Folder { path })
+        Ok(Folder { rt: *rt, path })
     }
 
     /// Its absolute path.
@@ -50,12 +68,6 @@ impl Folder {
     pub fn remove_dir(&self, rt: &HostRuntime, name: &str) -> Result<(), Fail> {
         let path = format!(in rt.alloc(); "{}/{name}", self.path)?;
         fs::remove_dir(rt, path.as_str())?;
-        Ok(())
-    }
-
-    /// Removes it, and all that is in it.
-    pub fn remove(self, rt: &HostRuntime) -> Result<(), Fail> {
-        fs::remove_dir_all(rt, self.path.as_str())?;
         Ok(())
     }
 }

@@ -1,5 +1,5 @@
 //! What a look at a path of the disk finds.
-use super::folder::Folder;
+use super::folder::{Folder, ensure};
 use glob::{Disk, Look, Tree};
 use std::os::unix::fs::symlink;
 use std::test::Fail;
@@ -68,7 +68,8 @@ fn looks(rt: HostRuntime) -> Result<(), Fail> {
     let mut disk = Disk::new(&rt, rt.alloc());
     for (path, wanted) in LOOKS {
         let path = format!(in rt.alloc(); "{}/{path}", folder.path())?;
-        assert!(rt; disk.look(path.as_str())? == *wanted, "{path}");
+        let found = disk.look(path.as_str())?;
+        ensure(found == *wanted, format_args!("{path}"))?;
     }
-    folder.remove(&rt)
+    Ok(())
 }

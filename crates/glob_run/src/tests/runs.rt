@@ -1,5 +1,6 @@
 //! Runs of the program in memory.
 use super::Unwritable;
+use super::folder::ensure;
 use crate::run_words;
 use std::fs::Files;
 use std::io::{Read, Write};
@@ -26,18 +27,21 @@ fn run<R: Read + Drop, W: Write + Drop>(
 
 /// Runs the program, and compares what it comes to.
 pub fn check<R: Read + Drop>(
-    rt: &(impl Abort + AllocGlobal + Files),
+    rt: &(impl AllocGlobal + Files),
     words: &[&str],
     input: R,
     wanted: Outcome<'_>,
-) {
+) -> Result<(), Fail> {
     let (wanted_status, wanted_output, wanted_errors) = wanted;
     let mut output = Vec::new(rt.alloc());
     let (status, errors) = run(rt, words, input, &mut output);
     let is_status = status == wanted_status;
     let is_output = output.as_slice() == wanted_output.as_bytes();
     let is_errors = errors.as_slice() == wanted_errors.as_bytes();
-    assert!(rt; is_status && is_output && is_errors, "{words:?}");
+    ensure(
+        is_status && is_output && is_errors,
+        format_args!("{words:?}"),
+    )
 }
 
 /// Runs the program with an output that fails, and compares what is printed of faults.
@@ -56,23 +60,20 @@ fn words_of<'a>(rt: &impl AllocGlobal, line: &'a str) -> Result<Vec<&'a str>, Fa
 }
 
 /// Runs the program on each row, and compares what it comes to.
-pub fn check_rows(rt: &(impl Abort + AllocGlobal + Files), rows: &[Row]) -> Result<(), Fail> {
+pub fn check_rows(rt: &(impl AllocGlobal + Files), rows: &[Row]) -> Result<(), Fail> {
     for (line, input, wanted) in rows {
         let words = words_of(rt, line)?;
-        check(rt, words.as_slice(), *input, *wanted);
+        check(rt, words.as_slice(), *input, *wanted)?;
     }
     Ok(())
 }
 
 /// Runs the program on the words of each line, and sees to it that this is a usage fault.
-pub fn check_usage_faults(
-    rt: &(impl Abort + AllocGlobal + Files),
-    lines: &[&str],
-) -> Result<(), Fail> {
+pub fn check_usage_faults(rt: &(impl AllocGlobal + Files), lines: &[&str]) -> Result<(), Fail> {
     for line in lines {
         let words = words_of(rt, line)?;
         let wanted = (2, "", super::USAGE_LINE);
-        check(rt, words.as_slice(), b"a\n".as_slice(), wanted);
+        check(rt, words.as_slice(), b"a\n".as_slice(), wanted)?;
     }
     Ok(())
 }
