@@ -1,5 +1,6 @@
-/* Runs a program, and writes how many nanoseconds it took and its peak memory in kilobytes into a file. Python cannot: the
-   peak that the system tells of a child is at least that of the process that started it.
+/* Runs a program, and writes into a file how many nanoseconds it took by the clock, how many microseconds of a processor,
+   and its peak memory in kilobytes. Python cannot: the peak that the system tells of a child is at least that of the process
+   that started it.
 
    usage: measure FILE PROGRAM WORD..    ends with the program's exit status */
 #define _GNU_SOURCE
@@ -13,6 +14,10 @@ static long long now(void) {
     struct timespec time;
     clock_gettime(CLOCK_MONOTONIC, &time);
     return time.tv_sec * 1000000000LL + time.tv_nsec;
+}
+
+static long long microseconds(struct timeval time) {
+    return time.tv_sec * 1000000LL + time.tv_usec;
 }
 
 int main(int count, char **words) {
@@ -29,6 +34,7 @@ int main(int count, char **words) {
     struct rusage usage;
     if (child < 0 || wait4(child, &status, 0, &usage) < 0)
         return 125;
-    fprintf(file, "%lld %ld\n", now() - start, usage.ru_maxrss);
+    long long busy = microseconds(usage.ru_utime) + microseconds(usage.ru_stime);
+    fprintf(file, "%lld %lld %ld\n", now() - start, busy, usage.ru_maxrss);
     return fclose(file) == 0 && WIFEXITED(status) ? WEXITSTATUS(status) : 125;
 }

@@ -1,17 +1,24 @@
 #!/usr/bin/env python3
-"""Makes trees on the disk, walks them by each program that can be had, and prints the table.
+"""Makes trees on the disk, walks them by each program that can be had, and prints the tables.
 
 usage: walks.py FOLDER ROUNDS SHARE
 
-FOLDER has ours/program, measure and calls and, where it could be had, original/walk. Of ROUNDS runs the least time counts.
-SHARE divides the size of the trees.
+FOLDER has ours/program, measure and calls and, where it could be had, original/walk. In each of ROUNDS rounds every program
+runs once, and its least time counts. SHARE divides the size of the trees.
 """
 
 import os
 import shutil
 import subprocess
 import sys
+from collections import namedtuple
 from pathlib import Path
+
+# Milliseconds of a processor and by the clock, and megabytes.
+Run = namedtuple("Run", "busy clock peak")
+
+# What some runs come to, with the number of system calls or None.
+Cell = namedtuple("Cell", "busy clock peak calls")
 
 PATTERNS = ["**/*.txt", "*", "**", "*/*/*.rs"]
 
@@ -50,7 +57,7 @@ def make_chain(folder, share):
         add_files(below, 1)
 
 
-TREES = {"10,100 directories, 100,000 files": make_wide, "one directory, 100,000 files": make_flat, "a chain of 1,000": make_chain}
+TREES = {"wide": make_wide, "flat": make_flat, "chain": make_chain}
 
 
 def find_words(pattern):
@@ -94,13 +101,13 @@ def commands(folder, pattern):
 
 
 def run(words, tree, folder, output):
-    """Runs a program in a tree. Answers its time in milliseconds and its peak memory in megabytes."""
+    """Runs a program in a tree."""
     log = folder / "measured"
     status = subprocess.run([folder / "measure", log, *words], cwd=tree, stdout=output, stderr=subprocess.DEVNULL).returncode
     if status not in (0, 1):
         raise RuntimeError(f"{words[0]} ended with status {status}")
-    nanoseconds, kilobytes = map(int, log.read_text().split())
-    return nanoseconds / 1e6, kilobytes / 1024
+    nanoseconds, microseconds, kilobytes = map(int, log.read_text().split())
+    return Run(microseconds / 1e3, nanoseconds / 1e6, kilobytes / 1024)
 
 
 def system_calls(words, tree, folder):
@@ -121,9 +128,9 @@ def lines(words, tree, folder):
     return file.read_bytes().splitlines()
 
 
-def cell(least, peak, calls):
-    counted = f"{calls:,} calls" if calls is not None else "calls not counted"
-    return f"{least:.1f} ms, {counted}, {peak:.1f} MB"
+def cell(runs, calls):
+    """The least times and the most memory of some runs."""
+    return Cell(min(one.busy for one in runs), min(one.clock for one in runs), max(one.peak for one in runs), calls)
 
 
 def measure(folder, tree, pattern, rounds):
@@ -136,26 +143,49 @@ def measure(folder, tree, pattern, rounds):
     for _ in range(rounds):
         for head, words in some.items():
             runs[head].append(run(words, tree, folder, subprocess.DEVNULL))
-    return {
-        head: cell(min(ms for ms, _ in runs[head]), max(mb for _, mb in runs[head]), system_calls(words, tree, folder))
-        for head, words in some.items()
+    return {head: cell(runs[head], system_calls(words, tree, folder)) for head, words in some.items()}
+
+
+def print_table(title, heads, rows):
+    """Prints a table: the heads of its columns after tree and pattern, and texts by tree and pattern."""
+    print(f"\n{title}\n\n| tree | pattern | " + " | ".join(heads) + " |\n|---|---|" + "--:|" * len(heads))
+    for (tree, pattern), texts in rows.items():
+        print(f"| {tree} | `{pattern}` | " + " | ".join(texts) + " |", flush=True)
+
+
+def ratios(cells):
+    """Our processor time as a part of that of each other side that is there."""
+    return [f"{cells['ours'].busy / cells[head].busy:.2f}" for head in ("the crate", "the calls alone") if head in cells]
+
+
+def print_tables(measured):
+    """Prints the tables of cells, which are by tree and pattern, and then by the heads of their columns."""
+    heads = list(next(iter(measured.values())))
+    titles = {
+        "Milliseconds of a processor, of user and system together, and in brackets by the clock:": lambda cell: f"{cell.busy:.1f} ({cell.clock:.1f})",
+        "System calls:": lambda cell: f"{cell.calls:,}" if cell.calls is not None else "not counted",
+        "Peak memory, in megabytes:": lambda cell: f"{cell.peak:.1f}",
     }
+    for title, text in titles.items():
+        print_table(title, heads, {row: [text(cells[head]) for head in heads] for row, cells in measured.items()})
+    others = [head for head in ("the crate", "the calls alone") if head in heads]
+    print_table("Our processor time as a part of that of", others, {row: ratios(cells) for row, cells in measured.items()})
 
 
 def main():
     folder = Path(sys.argv[1])
     rounds, share = int(sys.argv[2]), int(sys.argv[3])
-    heads = list(commands(folder, "*"))
-    print("\n| tree | pattern | " + " | ".join(heads) + " |\n|---|---|" + "---|" * len(heads))
+    measured = {}
     for name, make in TREES.items():
         tree = folder / "tree"
         tree.mkdir()
         make(tree, share)
         for pattern in PATTERNS:
-            cells = measure(folder, tree, pattern, rounds)
-            print(f"| {name} | `{pattern}` | " + " | ".join(cells[head] for head in heads) + " |", flush=True)
+            print(f"bench: walking the {name} tree by {pattern}", file=sys.stderr, flush=True)
+            measured[name, pattern] = measure(folder, tree, pattern, rounds)
         # the chain is deeper than Python's own way to remove a tree can go
         subprocess.run(["rm", "-r", tree], check=True)
+    print_tables(measured)
 
 
 if __name__ == "__main__":
