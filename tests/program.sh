@@ -5,6 +5,8 @@ set -u
 umask 022
 root=$(cd "$(dirname "$(readlink -f "${BASH_SOURCE[0]}")")/.." && pwd)
 program=$root/bin/glob_run
+# what the first call of the program builds, and what it starts
+binary=$root/crates/glob_run/out/glob_run
 work=$(mktemp -d)
 trap 'rm -rf "$work"' EXIT
 passed=0 failed=0
@@ -23,6 +25,44 @@ check() {
 
 run() {
     "$program" "$@" >"$work/out" 2>"$work/err"
+    status=$?
+}
+
+# needed PROGRAM WORD..: with how much memory, in kilobytes and to a megabyte, a program ends well on $work/in
+needed() {
+    local least=0 most=1024
+    while ! (ulimit -v $((most * 1024)) && "$@") >/dev/null 2>&1 <"$work/in" && [ "$most" -lt 8388608 ]; do
+        least=$most most=$((2 * most))
+    done
+    while [ $((most - least)) -gt 1 ]; do
+        local middle=$(((least + most) / 2))
+        if (ulimit -v $((middle * 1024)) && "$@") >/dev/null 2>&1 <"$work/in"; then most=$middle; else least=$middle; fi
+    done
+    echo $((most * 1024))
+}
+
+# with KILOBYTES WORD..: runs the program with this much memory
+with() {
+    (
+        ulimit -v "$1"
+        shift
+        exec "$binary" "$@"
+    ) >"$work/out" 2>"$work/err" <"$work/in"
+    status=$?
+}
+
+# beginning FILE: replaces the output by one line, if it is some of the first bytes of FILE
+beginning() {
+    local size
+    size=$(wc -c <"$work/out")
+    if [ "$size" -gt 0 ] && head -c "$size" "$1" | cmp -s - "$work/out"; then echo 'a beginning' >"$work/out"; fi
+}
+
+# ends SIGNAL WORD..: runs the program, and sends it the signal after a moment
+ends() {
+    local signal=$1
+    shift
+    timeout --preserve-status -s "$signal" 0.5 "$binary" "$@" >"$work/out" 2>"$work/err"
     status=$?
 }
 
@@ -101,6 +141,75 @@ run match '*7' <"$work/in"
 lines=$(wc -l <"$work/out")
 echo "$lines" >"$work/out"
 check 'a million lines' 0 '100000\n' ''
+
+"$program" escape a >/dev/full 2>"$work/err"
+status=$? && : >"$work/out"
+check 'escape to a full standard output' 2 '' 'writing failed\n'
+
+"$program" escape a >&- 2>"$work/err"
+status=$?
+check 'escape to a closed standard output' 2 '' 'writing failed\n'
+
+"$program" match 'abc[def' >"$work/out" 2>/dev/full
+status=$? && : >"$work/err"
+check 'a fault that match cannot report' 2 '' ''
+
+"$program" match 'abc[def' >"$work/out" 2>&-
+status=$?
+check 'a fault with standard error closed' 2 '' ''
+
+# Memory between what little work takes and what this input takes.
+little=$(needed "$binary" escape a)
+with $((little + ($(needed "$binary" match '*7') - little) / 2)) match '*7'
+check 'memory that runs out while the input is read' 2 '' 'out of memory\n'
+
+# Short lines, of which more than a buffer is full, and then a long one, which takes a longer buffer.
+{
+    seq 100000
+    head -c 20000000 /dev/zero | tr '\0' x
+    echo
+    seq 100000
+} >"$work/in"
+short=$(needed "$binary" match '[0-9]*')
+with $((short + ($(needed "$binary" match '*') - short) / 2)) match '*'
+[ -z "$(tail -c 1 "$work/out")" ] || echo 'the last line is not whole' >>"$work/err"
+beginning "$work/in"
+check 'memory that runs out while lines are written' 2 'a beginning\n' 'out of memory\n'
+
+# From too little memory to start the program to enough. Where it is not started, the status is the system's, 126 or more.
+printf 'a.rs\nb.c\n' >"$work/in"
+for limit in $(seq $((little - 1024)) 16 $((little + 512))); do
+    with "$limit" match '*.rs'
+    if [ "$status" -ge 126 ] && [ ! -s "$work/out" ]; then
+        echo 'not started'
+    else
+        echo "status $status: $(cat "$work/out" "$work/err")"
+    fi
+done | sort -u >"$work/ends"
+mv "$work/ends" "$work/out" && : >"$work/err" && status=
+check 'just too little memory, and just enough' '' 'not started\nstatus 0: a.rs\nstatus 2: out of memory\n' ''
+
+# A signal, while the program waits for more input.
+mkfifo "$work/input"
+exec 3<>"$work/input"
+printf 'a.rs\n' >&3
+ends TERM match '*' <"$work/input"
+check 'match ended by SIGTERM' 143 '' ''
+ends INT match '*' <"$work/input"
+check 'match ended by SIGINT' 130 '' ''
+exec 3<&-
+
+"$binary" match '*' <"$work/input" >"$work/out" 2>"$work/err" &
+copy=$!
+exec 3>"$work/input"
+printf 'a.rs\n' >&3
+sleep 0.5
+kill -PIPE "$copy"
+printf 'b.c\n' >&3
+exec 3>&-
+wait "$copy"
+status=$?
+check 'SIGPIPE alone ends nothing' 0 'a.rs\nb.c\n' ''
 
 # The command find. All of it runs in a folder of its own.
 usage='usage: glob_run match [-i] [-s] [-d] PATTERN | escape TEXT | find [-i] [-s] [-d] [-n LIMIT] PATTERN\n'
@@ -230,20 +339,8 @@ status=$?
 head -1 "$work/out" >"$work/first" && cp "$work/first" "$work/out"
 check 'an output that fails while the walk goes on ends it' 2 'late/a/hit1\n' 'writing failed\n'
 
-# needed: with how much memory, in kilobytes and to a megabyte, the program can do little
-needed() {
-    local least=0 most=1024
-    while ! (ulimit -v $((most * 1024)) && "$program" escape a) >/dev/null 2>&1 && [ "$most" -lt 8388608 ]; do
-        least=$most most=$((2 * most))
-    done
-    while [ $((most - least)) -gt 1 ]; do
-        local middle=$(((least + most) / 2))
-        if (ulimit -v $((middle * 1024)) && "$program" escape a) >/dev/null 2>&1; then most=$middle; else least=$middle; fi
-    done
-    echo $((most * 1024))
-}
 (
-    ulimit -v $(($(needed) + 16000))
+    ulimit -v $(($(needed "$program" escape a) + 16000))
     "$program" find -n 1000000 'late/**/hit*' >"$work/out" 2>"$work/err"
 )
 status=$?
@@ -252,7 +349,7 @@ check 'a long walk in a cycle of links takes little memory' 2 'late/a/hit1\n' "$
 
 # A directory that is not ours to read. Root can read it, and so gives its rights up.
 mkdir -p shut/a shut/b/sub shut/c && touch shut/a/x shut/b/x shut/b/sub/x shut/c/x && chmod 000 shut/b && chmod 755 "$work"
-as_user=() binary=$root/crates/glob_run/out/glob_run
+as_user=()
 [ "$(id -u)" != 0 ] || as_user=(setpriv --reuid=65534 --regid=65534 --clear-groups)
 if "${as_user[@]}" "$binary" escape a >/dev/null 2>&1; then
     "${as_user[@]}" "$binary" find 'shut/*/?' >"$work/out" 2>"$work/err"
@@ -296,9 +393,53 @@ check 'find for a reader that goes away' 2 'many/000001\n' 'writing failed\n'
 "$program" find 'many/*' >/dev/full 2>"$work/err"
 status=$?
 check 'find to a full standard output' 2 '' 'writing failed\n'
+"$program" find 'many/*' >&- 2>"$work/err"
+status=$? && : >"$work/out"
+check 'find to a closed standard output' 2 '' 'writing failed\n'
 "$program" find 'latin/*/?' >"$work/out" 2>/dev/full
 status=$? && : >"$work/err"
 check 'a fault that find cannot report' 2 'latin/a/x\nlatin/c/x\n' ''
+
+# A directory whose listing takes much memory, between two that take little.
+mkdir -p large/a large/b large/c && touch large/a/x large/a/y large/c/z
+seq -f "large/b/%06.0f$(printf '%200s' '' | tr ' ' n)" 20000 | xargs touch
+little=$(needed "$binary" find 'large/a/*')
+with $((little + ($(needed "$binary" find 'large/*/*') - little) / 2)) find 'large/*/*'
+sed -i 's/`.*`/`..`/' "$work/err"
+check 'memory that runs out in a large directory' 2 'large/a/x\nlarge/a/y\n' "$(unread ..)out of memory\n"
+
+(
+    ulimit -n 4
+    exec "$binary" find 'chain/**'
+) >"$work/paths" 2>"$work/err"
+status=$?
+wc -l <"$work/paths" >"$work/out"
+check 'one descriptor is enough for a chain of directories' 0 '999\n' ''
+
+(
+    ulimit -s 256
+    exec "$binary" find 'chain/**'
+) >"$work/paths" 2>"$work/err"
+status=$?
+wc -l <"$work/paths" >"$work/out"
+check 'a little stack is enough for a chain of directories' 0 '999\n' ''
+
+(
+    ulimit -s 256
+    seq 20000 | tr '\n' a | exec "$binary" match "$(printf '%20000s' '' | sed 's/ /*a/g')*"
+) >"$work/paths" 2>"$work/err"
+status=$?
+wc -l <"$work/paths" >"$work/out"
+check 'a little stack is enough for twenty thousand stars' 0 '1\n' ''
+
+ends TERM find 'cycle/**'
+"$program" find 'cycle/**' 2>/dev/null | head -c "$(wc -c <"$work/out")" >"$work/first"
+beginning "$work/first"
+check 'find ended by SIGTERM' 143 'a beginning\n' ''
+ends INT find 'cycle/**'
+"$program" find 'cycle/**' 2>/dev/null | head -c "$(wc -c <"$work/out")" >"$work/first"
+beginning "$work/first"
+check 'find ended by SIGINT' 130 'a beginning\n' ''
 
 cd "$root" || exit 1
 run find 'docs/A*.md'
