@@ -2,12 +2,17 @@
 //!
 //! `glob_bench match OPTIONS PATTERN FILE TIMES` counts the lines of a file that the pattern matches, over and over.
 //! OPTIONS is a word that has `i` for no case, `s` for the separator rule and `d` for the dot rule, as `sd` or `-`.
-//! `glob_bench compile PATTERN TIMES` reads the pattern over and over, and counts the bytes of all that it read. Reading
-//! the file is not timed, nor is reading the pattern of `match`.
+//! `glob_bench compile PATTERN TIMES` reads the pattern over and over, and counts the bytes of all that it read.
+//! `glob_bench walk PATTERN LEVELS` counts the items of a walk over that many directories, one in another.
+//! A pattern `@FILE` is the text of a file, since a word of a command line cannot be long. Reading a file is not timed, nor
+//! is reading the pattern of `match`.
 #![tactic(auto)]
 
+mod chain;
+
 use anyhow::{Context, Result, bail};
-use glob::{MatchOptions, Pattern};
+use chain::Chain;
+use glob::{MatchOptions, Pattern, glob_in};
 use std::alloc::{AllocError, Global};
 use std::rt::{Clock, Files};
 use std::time::Instant;
@@ -50,11 +55,31 @@ fn compile(alloc: Global, text: &str, times: u32) -> Result<u64> {
     Ok(count)
 }
 
+/// How many items a walk of the tree gives.
+fn count_items(alloc: Global, tree: Chain, pattern: &str) -> Result<u64> {
+    let paths = glob_in(alloc, tree, pattern, MatchOptions::new(), u64::MAX)
+        .ok()
+        .context("no pattern")?;
+    let mut count = 0u64;
+    for _ in paths {
+        count = count.saturating_add(1);
+    }
+    Ok(count)
+}
+
+/// The pattern that a word stands for: its own text, or that of a file.
+fn pattern_text<R: Files + AllocGlobal>(rt: &R, word: &str) -> Result<String> {
+    match word.strip_prefix('@') {
+        Some(file) => Ok(fs::read_to_string(rt, file)?),
+        None => Ok(String::from_str(rt.alloc(), word)?),
+    }
+}
+
 /// Does what the words after the program's name say. The answer is the count, and the time in nanoseconds.
 fn run<R: Files + Clock + AllocGlobal>(rt: &R, words: &[&str]) -> Result<(u64, u128)> {
     match words {
         ["match", letters, pattern, file, times] => {
-            let pattern = Pattern::new(rt.alloc(), pattern)
+            let pattern = Pattern::new(rt.alloc(), pattern_text(rt, pattern)?.as_str())
                 .ok()
                 .context("no pattern")?;
             let text = fs::read_to_string(rt, file)?;
@@ -65,12 +90,22 @@ fn run<R: Files + Clock + AllocGlobal>(rt: &R, words: &[&str]) -> Result<(u64, u
             Ok((count, start.elapsed(rt)?.as_nanos()))
         }
         ["compile", pattern, times] => {
+            let pattern = pattern_text(rt, pattern)?;
             let times = times.parse::<u32>()?;
             let start = Instant::now(rt)?;
-            let count = compile(rt.alloc(), pattern, times)?;
+            let count = compile(rt.alloc(), pattern.as_str(), times)?;
             Ok((count, start.elapsed(rt)?.as_nanos()))
         }
-        _ => bail!("usage: glob_bench match OPTIONS PATTERN FILE TIMES | compile PATTERN TIMES"),
+        ["walk", pattern, levels] => {
+            let pattern = pattern_text(rt, pattern)?;
+            let tree = Chain::new(rt.alloc(), levels.parse::<usize>()?);
+            let start = Instant::now(rt)?;
+            let count = count_items(rt.alloc(), tree, pattern.as_str())?;
+            Ok((count, start.elapsed(rt)?.as_nanos()))
+        }
+        _ => bail!(
+            "usage: glob_bench match OPTIONS PATTERN FILE TIMES | compile PATTERN TIMES | walk PATTERN LEVELS"
+        ),
     }
 }
 

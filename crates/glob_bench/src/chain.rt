@@ -1,0 +1,63 @@
+//! A tree of directories, one in another.
+ghost use Rattle.std.specs.Prelude.{None};
+
+use glob::{Asks, Entry, ListError, Look, Name, Tree};
+use std::alloc::{AllocError, Global};
+
+/// Each directory down to a level holds one directory `d`, and the last one holds nothing. Paths can be as long as they
+/// need to be, as they cannot on a disk.
+#[derive(Drop)]
+pub struct Chain {
+    alloc: Global,
+    levels: usize,
+    asks: Asks,
+}
+
+impl Chain {
+    /// So many directories below the first one.
+    pub fn new(alloc: Global, levels: usize) -> Self {
+        Chain {
+            alloc,
+            levels,
+            asks: Asks::new(),
+        }
+    }
+
+    /// Where there is a level below the path: the directory there.
+    fn entries(&self, path: &str) -> Result<Vec<Entry>, AllocError> {
+        let mut entries = Vec::new(self.alloc);
+        let level = if path == "." {
+            0
+        } else {
+            path.len().div_ceil(2)
+        };
+        if level < self.levels {
+            if let Ok(name) = Name::new(String::from_str(self.alloc, "d")?) {
+                entries.push(Entry { name, is_dir: true })?;
+            }
+        }
+        Ok(entries)
+    }
+}
+
+impl Tree for Chain {
+    type Alloc = Global;
+
+    ghost tells = { λ _. None };
+
+    ghost asks = { λ tree. tree.asks };
+
+    fn look(&mut self, _path: &str) -> Result<Look, AllocError> {
+        self.asks = self.asks.after(1);
+        Ok(Look::Dir)
+    }
+
+    fn list(&mut self, path: &str) -> Result<Vec<Entry>, ListError> {
+        self.asks = self.asks.after(1);
+        let Ok(entries) = self.entries(path) else {
+            return Err(ListError::Memory);
+        };
+        self.asks = self.asks.after(entries.len());
+        Ok(entries)
+    }
+}
