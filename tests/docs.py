@@ -1,6 +1,6 @@
 #!/usr/bin/env python3
-"""Checks what the pages say of the sources: links, names of files, definitions and edits, and code that a page quotes.
-Prints what is wrong, and last how many checks passed and failed."""
+"""Checks what the pages say of the sources: links, names of files, definitions, edits and tests, and code that a page
+quotes. Prints what is wrong, and last how many checks passed and failed."""
 
 import re
 import subprocess
@@ -67,18 +67,28 @@ def unknown_edits():
     return [name for row in rows for name in re.findall(r"\w+", row) if name not in edits]
 
 
+def unknown_tests():
+    """The tests, and the rows of tests/program.sh, that the tables of docs/FAULTS.md name and that are not there."""
+    tests = "\n".join((ROOT / name).read_text(encoding="utf-8") for name in FILES if name.endswith(".rt"))
+    rows = (ROOT / "tests/program.sh").read_text(encoding="utf-8")
+    cells = re.findall(r"\|([^|]*)\|$", (ROOT / "docs/FAULTS.md").read_text(encoding="utf-8"), re.M)
+    found = [name for cell in cells for name in re.findall(r"`(\w+)`", cell) if f"fn {name}(" not in tests]
+    return found + [row for cell in cells for row in re.findall(r'"([^"]*)"', cell) if f" '{row}' " not in rows]
+
+
 def main():
     faults = [f"{example[0]}: the example is not that of {example[2]}" for example in EXAMPLES if not quotes(*example)]
     for page in PAGES:
         faults += [f"{page}: no file {name}" for name in broken_links(page) + unknown_files(page)]
         faults += [f"{page}: no definition {name}" for name in unknown_definitions(page)]
     faults += [f"docs/PROOFS.md: no edit {name}" for name in unknown_edits()]
+    faults += [f"docs/FAULTS.md: no test {name}" for name in unknown_tests()]
     contracts = subprocess.run([ROOT / "tests/contracts.py", "--check"], capture_output=True, text=True)
     if contracts.returncode != 0:
         faults.append(contracts.stderr.strip())
     for fault in faults:
         print(f"failed: {fault}")
-    checks = len(EXAMPLES) + len(PAGES) + 2
+    checks = len(EXAMPLES) + len(PAGES) + 3
     failed = min(checks, len(faults))
     print(f"{checks - failed} passed, {failed} failed")
     sys.exit(bool(faults))

@@ -311,6 +311,19 @@ run find 'chain/**'
 echo "$(wc -l <"$work/out") $(tail -n 1 "$work/out" | wc -c)" >"$work/count" && cp "$work/count" "$work/out"
 check 'a chain of a thousand directories' 0 '999 2004\n' ''
 
+# 2,100 directories, one in another. A path of Linux has at most 4,095 bytes: `deep` and 2,045 times `/d`.
+mkdir deep
+(
+    cd deep || exit 1
+    python3 -c 'import os
+for _ in range(2100):
+    os.mkdir("d")
+    os.chdir("d")'
+)
+run find 'deep/**'
+echo "$(wc -l <"$work/out") $(tail -n 1 "$work/out" | wc -c)" >"$work/count" && cp "$work/count" "$work/out"
+check 'what is beyond the longest path is missing' 0 '2045 4095\n' ''
+
 mkdir many && seq -f 'many/%06.0f' 20000 | xargs touch
 run find 'many/*'
 seq -f 'many/%06.0f' 20000 | cmp -s - "$work/out" && : >"$work/out"
