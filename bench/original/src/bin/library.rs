@@ -40,11 +40,19 @@ fn compile(text: &str, times: u32) -> Result<u64> {
     Ok(count)
 }
 
+/// The pattern that a word stands for: its own text, or for `@FILE` that of the file.
+fn pattern_text(word: &str) -> Result<String> {
+    match word.strip_prefix('@') {
+        Some(file) => Ok(fs::read_to_string(file)?),
+        None => Ok(word.to_string()),
+    }
+}
+
 /// Does what the words after the program's name say. The answer is the count, and the time in nanoseconds.
 fn run(words: &[&str]) -> Result<(u64, u128)> {
     match words {
         ["match", letters, pattern, file, times] => {
-            let pattern = Pattern::new(pattern)?;
+            let pattern = Pattern::new(&pattern_text(pattern)?)?;
             let text = fs::read_to_string(file)?;
             let lines = text.lines().collect::<Vec<&str>>();
             let times = times.parse::<u32>()?;
@@ -53,9 +61,10 @@ fn run(words: &[&str]) -> Result<(u64, u128)> {
             Ok((count, start.elapsed().as_nanos()))
         }
         ["compile", pattern, times] => {
+            let pattern = pattern_text(pattern)?;
             let times = times.parse::<u32>()?;
             let start = Instant::now();
-            let count = compile(pattern, times)?;
+            let count = compile(&pattern, times)?;
             Ok((count, start.elapsed().as_nanos()))
         }
         _ => Err("usage: library match OPTIONS PATTERN FILE TIMES | compile PATTERN TIMES".into()),
