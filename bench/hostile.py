@@ -163,7 +163,7 @@ def row(folder, case, sizes, rounds):
         raise Failed(f"the stack grew from {stacks[0]} to {stacks[1]} kilobytes")
 
 
-HEADS = "case|n|ms at n/2|ms at n|growth|written|MB at n/2|MB at n|stack KB at n/2|stack KB at n|the crate: ms, peak"
+HEADS = "case|n|ms at n/2|ms at n|growth|at most as|MB at n/2|MB at n|stack KB at n/2|stack KB at n|the crate: ms, peak"
 
 
 def main():

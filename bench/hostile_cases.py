@@ -69,12 +69,12 @@ def matches(pattern_of, text_of, options="-", times=5):
     return job
 
 
-def walks(pattern_of, levels_of):
+def walks(pattern_of, levels_of, times):
     """Walks directories in memory, one in another, where a path may be longer than the system takes."""
 
     def job(folder, size):
         pattern = "@" + kept(folder, f"pattern-{size}", pattern_of(size))
-        return Job(["walk", pattern, str(levels_of(size))], is_the_crates=False)
+        return Job(["walk", pattern, str(levels_of(size)), "1"], times, is_the_crates=False)
 
     return job
 
@@ -155,6 +155,10 @@ def make_nothing(_tree, _size):
     """No entries."""
 
 
+def levels(size):
+    return size
+
+
 def limited(size):
     return ["-n", str(size), "**"]
 
@@ -194,11 +198,11 @@ MATCHES = [
 ]
 
 WALKS = [
-    Case("walk `./` n times in memory", 100_000, "n", walks(repeated("./"), same(1))),
-    Case("walk `*/` n times in memory", 100_000, "n", walks(repeated("*/"), same(1))),
-    Case("walk `**/` n times in memory", 100_000, "n", walks(repeated("**/"), same(1))),
-    Case("walk `**`, n levels in memory", 5_000, "n²", walks(same("**"), lambda size: size)),
-    Case("walk `**/*/d`, n levels in memory", 5_000, "n²", walks(same("**/*/d"), lambda size: size)),
+    Case("walk `./` n times in memory", 100_000, "n", walks(repeated("./"), same(1), 20)),
+    Case("walk `*/` n times in memory", 100_000, "n", walks(repeated("*/"), same(1), 2)),
+    Case("walk `**/` n times in memory", 100_000, "n", walks(repeated("**/"), same(1), 20)),
+    Case("walk `**`, n levels in memory", 5_000, "n²", walks(same("**"), levels, 200)),
+    Case("walk `**/*/d`, n levels in memory", 5_000, "n²", walks(same("**/*/d"), levels, 200)),
 ]
 
 FINDS = [

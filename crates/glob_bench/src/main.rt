@@ -3,7 +3,8 @@
 //! `glob_bench match OPTIONS PATTERN FILE TIMES` counts the lines of a file that the pattern matches, over and over.
 //! OPTIONS is a word that has `i` for no case, `s` for the separator rule and `d` for the dot rule, as `sd` or `-`.
 //! `glob_bench compile PATTERN TIMES` reads the pattern over and over, and counts the bytes of all that it read.
-//! `glob_bench walk PATTERN LEVELS` counts the items of a walk over that many directories, one in another.
+//! `glob_bench walk PATTERN LEVELS TIMES` counts the items of a walk over so many directories, one in another, over and
+//! over.
 //! A pattern `@FILE` is the text of a file, since a word of a command line cannot be long. Reading a file is not timed, nor
 //! is reading the pattern of `match`.
 #![tactic(auto)]
@@ -67,6 +68,16 @@ fn count_items(alloc: Global, tree: Chain, pattern: &str) -> Result<u64> {
     Ok(count)
 }
 
+/// How many items walks over so many levels give, `times` times over.
+fn walk(alloc: Global, pattern: &str, levels: usize, times: u32) -> Result<u64> {
+    let mut count = 0u64;
+    for _ in 0..times {
+        let items = count_items(alloc, Chain::new(alloc, levels), pattern)?;
+        count = count.saturating_add(items);
+    }
+    Ok(count)
+}
+
 /// The pattern that a word stands for: its own text, or that of a file.
 fn pattern_text<R: Files + AllocGlobal>(rt: &R, word: &str) -> Result<String> {
     match word.strip_prefix('@') {
@@ -96,15 +107,16 @@ fn run<R: Files + Clock + AllocGlobal>(rt: &R, words: &[&str]) -> Result<(u64, u
             let count = compile(rt.alloc(), pattern.as_str(), times)?;
             Ok((count, start.elapsed(rt)?.as_nanos()))
         }
-        ["walk", pattern, levels] => {
+        ["walk", pattern, levels, times] => {
             let pattern = pattern_text(rt, pattern)?;
-            let tree = Chain::new(rt.alloc(), levels.parse::<usize>()?);
+            let levels = levels.parse::<usize>()?;
+            let times = times.parse::<u32>()?;
             let start = Instant::now(rt)?;
-            let count = count_items(rt.alloc(), tree, pattern.as_str())?;
+            let count = walk(rt.alloc(), pattern.as_str(), levels, times)?;
             Ok((count, start.elapsed(rt)?.as_nanos()))
         }
         _ => bail!(
-            "usage: glob_bench match OPTIONS PATTERN FILE TIMES | compile PATTERN TIMES | walk PATTERN LEVELS"
+            "usage: glob_bench match OPTIONS PATTERN FILE TIMES | compile PATTERN TIMES | walk PATTERN LEVELS TIMES"
         ),
     }
 }
