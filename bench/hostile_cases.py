@@ -137,9 +137,11 @@ def filled(length):
 def make_deep(tree, size):
     """Makes n directories, one in another: by their names alone, since no path can be as long."""
     folder = os.open(tree, os.O_RDONLY)
-    for _ in range(size):
-        os.mkdir("d", dir_fd=folder)
-        below = os.open("d", os.O_RDONLY, dir_fd=folder)
+    for level in range(size):
+        # No path is then 4,095 bytes long: a directory there could be looked up, but not listed.
+        name = "d" if level else "dd"
+        os.mkdir(name, dir_fd=folder)
+        below = os.open(name, os.O_RDONLY, dir_fd=folder)
         os.close(folder)
         folder = below
     os.close(folder)
@@ -183,6 +185,7 @@ MATCHES = [
     Case("match n `a` with n letters", MILLION, "n", matches(repeated("a"), repeated("a"), times=50)),
     Case("match n `?` with n letters", MILLION, "n", matches(repeated("?"), repeated("a"), times=50)),
     Case("match n `[a]` with n letters", MILLION, "n", matches(repeated("[a]"), repeated("a"), times=50)),
+    Case("match n `*a` and `b` with no letter", 100_000, "n", matches(stars, same(""), times=500)),
     Case("match n `*a` and `b` with 1,000 letters", 100_000, "n", matches(stars, same(THOUSAND_A))),
     Case("the same and `/`, separator rule", 100_000, "n", matches(stars, same(THOUSAND_A + "/"), "s")),
     Case("match n `**/a/` with 500 components", 100_000, "n", matches(repeated("**/a/"), same("a/" * 500))),
