@@ -150,7 +150,7 @@ exec 3<&-
 copy=$!
 exec 3>"$work/input"
 printf 'a.rs\n' >&3
-sleep 0.5
+sleep 1
 kill -PIPE "$copy"
 printf 'b.c\n' >&3
 exec 3>&-

@@ -52,7 +52,7 @@ beginning() {
 ends() {
     local signal=$1
     shift
-    timeout --preserve-status -s "$signal" 0.5 "$binary" "$@" >"$work/out" 2>"$work/err"
+    timeout --preserve-status -s "$signal" 1 "$binary" "$@" >"$work/out" 2>"$work/err"
     status=$?
 }
 
