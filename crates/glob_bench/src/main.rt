@@ -7,10 +7,14 @@
 //! over.
 //! A pattern `@FILE` is the text of a file, since a word of a command line cannot be long. Reading a file is not timed, nor
 //! is reading the pattern of `match`.
+//!
+//! `glob_bench answer` prints no time. It answers the cases of `bench/run --random`, line by line.
 #![tactic(auto)]
 
+mod answer;
 mod chain;
 
+use answer::answer_lines;
 use anyhow::{Context, Result, bail};
 use chain::Chain;
 use glob::{MatchOptions, Pattern, glob_in};
@@ -116,7 +120,7 @@ fn run<R: Files + Clock + AllocGlobal>(rt: &R, words: &[&str]) -> Result<(u64, u
             Ok((count, start.elapsed(rt)?.as_nanos()))
         }
         _ => bail!(
-            "usage: glob_bench match OPTIONS PATTERN FILE TIMES | compile PATTERN TIMES | walk PATTERN LEVELS TIMES"
+            "usage: glob_bench match OPTIONS PATTERN FILE TIMES | compile PATTERN TIMES | walk PATTERN LEVELS TIMES | answer"
         ),
     }
 }
@@ -127,6 +131,9 @@ fn main(rt: HostRuntime) -> Result<()> {
         .iter()
         .map(|word| word.as_str())
         .collect::<Vec<&str>>(rt.alloc())?;
+    if let ["answer"] = words.as_slice() {
+        return answer_lines(rt);
+    }
     let (count, nanoseconds) = run(&rt, words.as_slice())?;
     println!(rt; "{count}")?;
     eprintln!(rt; "{nanoseconds}")?;

@@ -1,0 +1,297 @@
+#!/usr/bin/env python3
+"""Makes patterns, texts, trees and limits from a seed, and asks ours and the original crate what they match and find.
+Prints the first disagreement, cut down to a small one, and last how many of matches, walks and limits passed.
+
+usage: main.py FOLDER VERSION SECONDS SEED
+
+FOLDER has ours/library and original/answer, which is over this VERSION of the crate. Rounds are made for as many
+SECONDS, the first of them from SEED, and each further one from the next seed.
+"""
+
+import collections
+import os
+import random
+import shutil
+import subprocess
+import sys
+import tempfile
+import time
+from contextlib import contextmanager
+from dataclasses import replace
+from pathlib import Path
+
+import make
+import reference
+from cases import NO_LIMIT, Match, Walk, shrunk
+from sides import SECONDS_A_CASE, Side, Unanswered
+
+PATTERNS, TEXTS = 1000, 4
+WALKS = 200
+SHARE_WITH_LIMIT = 0.2
+NOBODY = 65534
+# So far below a folder of our own that no pattern leads out of it by `..`.
+BELOW = "1/2/3/4/5/6"
+UNANSWERED = "the crate ended or took more than {} s, as docs/DIFFERENCES.md says of patterns on which it backtracks"
+
+
+class Disagreement(Exception):
+    """What the two sides say otherwise, and a command line that shows it."""
+
+
+def spoken(answer):
+    """An answer for a reader."""
+    return answer.reason if isinstance(answer, Unanswered) else answer.replace("\t", " ")
+
+
+def unprivileged_user(program):
+    """The user by whom the programs are run, which is nobody in the place of root, and whether there are directories
+    that this user cannot list."""
+    if os.geteuid() != 0:
+        return None, True
+    try:
+        subprocess.run([program], user=NOBODY, group=NOBODY, extra_groups=[], capture_output=True)
+    except OSError:
+        return None, False
+    return NOBODY, True
+
+
+class Comparer:
+    """Asks both sides the same, and counts."""
+
+    def __init__(self, folder, version):
+        self.version = version
+        self.programs = [[folder / "ours/library", "answer"], [folder / "original/answer"]]
+        self.user, self.may_shut = unprivileged_user(self.programs[1][0])
+        memory = "/dev/shm" if os.access("/dev/shm", os.W_OK) else None
+        self.base = Path(tempfile.mkdtemp(dir=memory))
+        self.base.chmod(0o755)
+        self.above = str(self.base / BELOW)
+        os.makedirs(self.above)
+        self.built = None
+        self.matchers = [Side(words, self.base) for words in self.programs]
+        self.walkers = [Side(words, f"{self.above}/tree", self.user) for words in self.programs]
+        self.counts = collections.Counter()
+        self.accounts = collections.Counter()
+
+    def close(self):
+        """Ends the programs, and removes the trees."""
+        self.leave()
+        for side in self.matchers:
+            side.close()
+        shutil.rmtree(self.base)
+
+    def leave(self):
+        """Removes the tree that is there, if one is."""
+        for side in self.walkers:
+            side.close()
+        if self.built:
+            self.built.remove(f"{self.above}/tree")
+        self.built = None
+
+    def enter(self, tree):
+        """Makes a tree, unless it is there."""
+        if self.built != tree:
+            self.leave()
+            tree.build(f"{self.above}/tree")
+            self.built = tree
+
+    @contextmanager
+    def as_user(self):
+        """Reads the tree as the programs do."""
+        own = os.geteuid()
+        os.seteuid(self.user or own)
+        try:
+            yield
+        finally:
+            os.seteuid(own)
+
+    def count(self, reason):
+        self.accounts[reason] += 1
+
+    def is_unanswered(self, ours, crate):
+        """Whether ours alone gave an answer."""
+        return isinstance(crate, Unanswered) and not isinstance(ours, Unanswered)
+
+    # Matches
+
+    def match_differs(self, case):
+        """What the two sides say otherwise of a case, with the options as letters, or None."""
+        ours, crate = (side.ask([case.line()])[0] for side in self.matchers)
+        if ours == crate or self.is_unanswered(ours, crate):
+            return None
+        if isinstance(ours, Unanswered):
+            return "", f"ours: {ours.reason}"
+        first, *answers = zip(ours.split("\t"), crate.split("\t"))
+        if first[0] != first[1]:
+            return "", f"ours escapes the pattern as {first[0]!r}, and the crate as {first[1]!r}"
+        if answers[0] != ("ok", "ok"):
+            return "", f"ours: {spoken(ours)}, and the crate: {spoken(crate)}"
+        settings = [at for at, pair in enumerate(zip(*answers[1])) if pair[0] != pair[1]]
+        at = min(settings, key=lambda at: len(make.SETTINGS[at]))
+        return make.SETTINGS[at], f"ours: {answers[1][0][at]}, and the crate: {answers[1][1][at]}"
+
+    def report_match(self, pattern, texts):
+        """Raises the disagreement about a pattern and one of some texts. There is none if the crate gave no answer."""
+        for text in texts:
+            case = Match(pattern, text)
+            if self.match_differs(case):
+                case = shrunk(case, self.match_differs)
+                letters, words = self.match_differs(case)
+                what = f"the pattern {case.pattern!r} and the text {case.text!r}: {words}"
+                raise Disagreement(what, case.command(letters))
+
+    def matches(self, source):
+        """Compares some matches."""
+        cases = [make.match_case(source, TEXTS) for _ in range(PATTERNS)]
+        lines = ["\t".join(["match", pattern, *texts]) for pattern, texts in cases]
+        answers = [side.ask(lines) for side in self.matchers]
+        for (pattern, texts), ours, crate in zip(cases, *answers):
+            self.counts["patterns"] += 1
+            if ours != crate:
+                self.report_match(pattern, texts)
+                if not self.is_unanswered(ours, crate):
+                    words = f"ours: {spoken(ours)}, and the crate: {spoken(crate)}, and for each text alone the same"
+                    raise Disagreement(f"the pattern {pattern!r} and the texts {texts}: {words}", "")
+                self.count(UNANSWERED.format(SECONDS_A_CASE))
+            elif "\tok\t" in ours:
+                self.counts["matches"] += len(texts) * len(make.SETTINGS)
+                self.counts["yes"] += ours.rpartition("\t")[2].count("y")
+            else:
+                self.counts["faults"] += 1
+
+    # Walks
+
+    def walk_account(self, case, ours, crate):
+        """The reason for which other items are meant, or None."""
+        if self.is_unanswered(ours, crate):
+            return UNANSWERED.format(SECONDS_A_CASE)
+        if isinstance(ours, Unanswered) or not (ours.startswith("ok\t") and crate.startswith("ok\t")):
+            return None
+        pattern = case.pattern.replace(make.ABOVE, self.above)
+        items = [answer.split("\t")[2:] for answer in (ours, crate)]
+        with self.as_user():
+            return reference.account(pattern, case.letters, f"{self.above}/tree", *items, self.version)
+
+    def walk_differs(self, case):
+        """What the two sides say otherwise of a walk, or None where that is meant."""
+        self.enter(case.tree)
+        ours, crate = (side.ask([case.line(self.above)])[0] for side in self.walkers)
+        if same_items(ours, crate) or self.walk_account(case, ours, crate):
+            return None
+        return f"ours: {spoken(ours)}, and the crate: {spoken(crate)}"
+
+    def limit_differs(self, case):
+        """What a walk with a limit does otherwise than the one without it, or None."""
+        self.enter(case.tree)
+        lines = [some.line(self.above) for some in (case, replace(case, limit=NO_LIMIT))]
+        limited, whole = self.walkers[0].ask(lines)
+        if is_cut(limited, whole, case.limit):
+            return None
+        return f"with the limit {case.limit}: {spoken(limited)}, and without: {spoken(whole)}"
+
+    def report_walk(self, case, differs):
+        """Raises the disagreement about a walk, if there is one."""
+        if differs(case):
+            case = shrunk(case, differs)
+            what = f"the walk {case.pattern!r} with the options {case.letters!r}: {differs(case)}"
+            raise Disagreement(what, case.command())
+
+    def walks(self, source):
+        """Compares some walks of one tree, and some of them with a limit."""
+        tree = make.tree(source, self.may_shut)
+        self.enter(tree)
+        paths = tree.paths()
+        cases = [Walk(tree, make.walk_pattern(source, paths), source.choice(make.SETTINGS)) for _ in range(WALKS)]
+        lines = [case.line(self.above) for case in cases]
+        answers = [side.ask(lines) for side in self.walkers]
+        for case, ours, crate in zip(cases, *answers):
+            self.counts["walks"] += 1
+            self.counts["items"] += ours.count("\t") - 1 if same_items(ours, crate) and ours.startswith("ok") else 0
+            if not same_items(ours, crate):
+                self.report_walk(case, self.walk_differs)
+                self.enter(tree)
+                self.count(self.walk_account(case, ours, crate))
+        self.counts["trees"] += 1
+        self.limits(source, list(zip(cases, answers[0])))
+
+    def limits(self, source, asked):
+        """Compares some walks, which have their answers, with those that have a limit."""
+        chosen = [case for case in asked if source.random() < SHARE_WITH_LIMIT and case[1].startswith("ok\t")]
+        cases = [replace(case, limit=source.randint(0, spent(whole) + 1)) for case, whole in chosen]
+        answers = self.walkers[0].ask([case.line(self.above) for case in cases])
+        for case, (_, whole), limited in zip(cases, chosen, answers):
+            self.counts["limits"] += 1
+            if not is_cut(limited, whole, case.limit):
+                self.report_walk(case, self.limit_differs)
+
+
+def spent(answer):
+    """The units of work of a walk."""
+    return int(answer.split("\t")[1])
+
+
+def same_items(ours, crate):
+    """Whether two walks have the same items, or are refused alike. The crate counts no work."""
+    if isinstance(ours, Unanswered) or isinstance(crate, Unanswered):
+        return False
+    ours, crate = ours.split("\t"), crate.split("\t")
+    return ours == crate or (ours[0] == crate[0] == "ok" and ours[2:] == crate[2:])
+
+
+def is_cut(limited, whole, limit):
+    """Whether a walk with a limit gave what it has to: everything if the limit suffices, and else a beginning and the
+    refusal, for just as much work as the limit allows."""
+    if isinstance(limited, Unanswered) or isinstance(whole, Unanswered):
+        return False
+    if spent(whole) <= limit:
+        return limited == whole
+    *items, last = limited.split("\t")[2:] or [""]
+    is_beginning = whole.split("\t")[2:][: len(items)] == items
+    return spent(limited) == limit and is_beginning and last.startswith("?")
+
+
+def run(comparer, seconds, seed):
+    """Makes rounds for so long. Returns the last seed, and the disagreement that ended them, or None."""
+    deadline = time.monotonic() + seconds
+    last = seed - 1
+    while time.monotonic() < deadline:
+        last += 1
+        source = random.Random(last)
+        try:
+            comparer.matches(source)
+            comparer.walks(source)
+        except Disagreement as found:
+            return last, found
+    return last, None
+
+
+def print_counts(seeds, counts, accounts):
+    """Prints how much was compared."""
+    words = {name: f"{count:,}" for name, count in counts.items()}
+    words = collections.defaultdict(lambda: "0", words)
+    print(f"{seeds}: {words['patterns']} patterns, of which {words['faults']} have a fault.")
+    print(f"{words['matches']} matches, of which {words['yes']} are a yes.")
+    print(f"{words['walks']} walks of {words['trees']} trees, with {words['items']} items.")
+    print(f"{words['limits']} walks with a limit, of ours alone.")
+    for reason, count in accounts.items():
+        print(f"{count:,} differ as they have to, by {reason}")
+
+
+def main():
+    folder, version, seconds, seed = Path(sys.argv[1]).resolve(), sys.argv[2], float(sys.argv[3]), int(sys.argv[4])
+    folder.chmod(0o755)
+    comparer = Comparer(folder, version)
+    try:
+        last, found = run(comparer, seconds, seed)
+    finally:
+        comparer.close()
+    if found:
+        print(f"failed, seed {last}: {found.args[0]}\n    {found.args[1]}")
+    print_counts(f"Seeds {seed} to {last}", comparer.counts, comparer.accounts)
+    passed = sum(comparer.counts[name] > 0 for name in ("matches", "walks", "limits")) if not found else 0
+    print(f"{passed} passed, {1 if found else 0} failed")
+    sys.exit(1 if found else 0)
+
+
+if __name__ == "__main__":
+    main()
