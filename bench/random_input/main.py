@@ -31,7 +31,9 @@ SHARE_WITH_LIMIT = 0.2
 NOBODY = 65534
 # So far below a folder of our own that no pattern leads out of it by `..`.
 BELOW = "1/2/3/4/5/6"
-UNANSWERED = "the crate ended or took more than {} s, as docs/DIFFERENCES.md says of patterns on which it backtracks"
+UNANSWERED = f"docs/DIFFERENCES.md: the crate backtracks, and ended or took more than {SECONDS_A_CASE} s"
+# Of how many cases one may be such. The patterns have few stars, so hardly any is.
+CASES_FOR_ONE_UNANSWERED = 1000
 
 
 class Disagreement(Exception):
@@ -49,7 +51,7 @@ def unprivileged_user(program):
     if os.geteuid() != 0:
         return None, True
     try:
-        subprocess.run([program], user=NOBODY, group=NOBODY, extra_groups=[], capture_output=True)
+        subprocess.run([program], user=NOBODY, group=NOBODY, extra_groups=[], stdin=subprocess.DEVNULL)
     except OSError:
         return None, False
     return NOBODY, True
@@ -106,7 +108,11 @@ class Comparer:
             os.seteuid(own)
 
     def count(self, reason):
+        """Counts a difference that is meant. Raises one that stands too often for want of the crate's answer."""
         self.accounts[reason] += 1
+        asked = self.counts["patterns"] + self.counts["walks"]
+        if self.accounts[UNANSWERED] > 1 + asked / CASES_FOR_ONE_UNANSWERED:
+            raise Disagreement(f"the crate left {self.accounts[UNANSWERED]} of {asked} cases without an answer", "")
 
     def is_unanswered(self, ours, crate):
         """Whether ours alone gave an answer."""
@@ -150,9 +156,9 @@ class Comparer:
             if ours != crate:
                 self.report_match(pattern, texts)
                 if not self.is_unanswered(ours, crate):
-                    words = f"ours: {spoken(ours)}, and the crate: {spoken(crate)}, and for each text alone the same"
+                    words = f"ours: {spoken(ours)}, the crate: {spoken(crate)}, but no disagreement on a text alone"
                     raise Disagreement(f"the pattern {pattern!r} and the texts {texts}: {words}", "")
-                self.count(UNANSWERED.format(SECONDS_A_CASE))
+                self.count(UNANSWERED)
             elif "\tok\t" in ours:
                 self.counts["matches"] += len(texts) * len(make.SETTINGS)
                 self.counts["yes"] += ours.rpartition("\t")[2].count("y")
@@ -161,24 +167,31 @@ class Comparer:
 
     # Walks
 
-    def walk_account(self, case, ours, crate):
-        """The reason for which other items are meant, or None."""
-        if self.is_unanswered(ours, crate):
-            return UNANSWERED.format(SECONDS_A_CASE)
-        if isinstance(ours, Unanswered) or not (ours.startswith("ok\t") and crate.startswith("ok\t")):
+    def written(self, case):
+        """The walk as the rules have it, over the tree as the programs see it."""
+        return reference.Case(case.pattern.replace(make.ABOVE, self.above), case.letters, f"{self.above}/tree")
+
+    def account(self, case, ours, crate):
+        """Why the items of a walk are right: no words where they are those of the crate and of the rules, or the reason
+        for which the crate has others. None where they are wrong."""
+        if isinstance(ours, Unanswered):
             return None
-        pattern = case.pattern.replace(make.ABOVE, self.above)
-        items = [answer.split("\t")[2:] for answer in (ours, crate)]
+        if not ours.startswith("ok\t"):
+            return "" if ours == crate else UNANSWERED if isinstance(crate, Unanswered) else None
         with self.as_user():
-            return reference.account(pattern, case.letters, f"{self.above}/tree", *items, self.version)
+            if isinstance(crate, Unanswered):
+                return UNANSWERED if self.written(case).items() == items_of(ours) else None
+            return self.written(case).account(items_of(ours), items_of(crate), self.version)
 
     def walk_differs(self, case):
-        """What the two sides say otherwise of a walk, or None where that is meant."""
+        """What the two sides and the rules say otherwise of a walk, or None where that is meant."""
         self.enter(case.tree)
         ours, crate = (side.ask([case.line(self.above)])[0] for side in self.walkers)
-        if same_items(ours, crate) or self.walk_account(case, ours, crate):
+        if self.account(case, ours, crate) is not None:
             return None
-        return f"ours: {spoken(ours)}, and the crate: {spoken(crate)}"
+        with self.as_user():
+            rules = " ".join(self.written(case).items())
+        return f"ours: {spoken(ours)}, the crate: {spoken(crate)}, and the rules: {rules or 'nothing'}"
 
     def limit_differs(self, case):
         """What a walk with a limit does otherwise than the one without it, or None."""
@@ -205,12 +218,15 @@ class Comparer:
         lines = [case.line(self.above) for case in cases]
         answers = [side.ask(lines) for side in self.walkers]
         for case, ours, crate in zip(cases, *answers):
-            self.counts["walks"] += 1
-            self.counts["items"] += ours.count("\t") - 1 if same_items(ours, crate) and ours.startswith("ok") else 0
-            if not same_items(ours, crate):
+            reason = self.account(case, ours, crate)
+            if reason is None:
                 self.report_walk(case, self.walk_differs)
-                self.enter(tree)
-                self.count(self.walk_account(case, ours, crate))
+                what = f"the walk {case.pattern!r}: {spoken(ours)}, but no disagreement when it is asked again"
+                raise Disagreement(what, "")
+            if reason:
+                self.count(reason)
+            self.counts["walks"] += 1
+            self.counts["items"] += len(items_of(ours)) if ours.startswith("ok\t") else 0
         self.counts["trees"] += 1
         self.limits(source, list(zip(cases, answers[0])))
 
@@ -230,12 +246,10 @@ def spent(answer):
     return int(answer.split("\t")[1])
 
 
-def same_items(ours, crate):
-    """Whether two walks have the same items, or are refused alike. The crate counts no work."""
-    if isinstance(ours, Unanswered) or isinstance(crate, Unanswered):
-        return False
-    ours, crate = ours.split("\t"), crate.split("\t")
-    return ours == crate or (ours[0] == crate[0] == "ok" and ours[2:] == crate[2:])
+def items_of(answer):
+    """The items of a walk, or the fault."""
+    fields = answer.split("\t")
+    return fields[2:] if fields[0] == "ok" else fields
 
 
 def is_cut(limited, whole, limit):
@@ -245,8 +259,8 @@ def is_cut(limited, whole, limit):
         return False
     if spent(whole) <= limit:
         return limited == whole
-    *items, last = limited.split("\t")[2:] or [""]
-    is_beginning = whole.split("\t")[2:][: len(items)] == items
+    *items, last = items_of(limited) or [""]
+    is_beginning = items_of(whole)[: len(items)] == items
     return spent(limited) == limit and is_beginning and last.startswith("?")
 
 
@@ -279,6 +293,7 @@ def print_counts(seeds, counts, accounts):
 
 def main():
     folder, version, seconds, seed = Path(sys.argv[1]).resolve(), sys.argv[2], float(sys.argv[3]), int(sys.argv[4])
+    os.umask(0o022)
     folder.chmod(0o755)
     comparer = Comparer(folder, version)
     try:

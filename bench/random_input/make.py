@@ -197,10 +197,10 @@ def widened(source, own):
 def component(source, own):
     """A component for a name: mostly one that matches it."""
     kind = source.random()
-    if kind < 0.25:
+    if kind < 0.20:
         return re.sub(r"[][?*]", r"[\g<0>]", own)
-    if kind < 0.30:
-        return source.choice([own, own.swapcase()])
+    if kind < 0.32:
+        return source.choice([own, own.swapcase(), own.swapcase()])
     if kind < 0.60:
         return widened(source, own)
     if kind < 0.75:

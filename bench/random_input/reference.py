@@ -169,17 +169,27 @@ class Walk:
             yield from self.reach(part, path, is_dir)
 
 
-def items(pattern, letters, rules, folder):
-    return Walk(pattern, letters, rules, folder).items()
+@dataclass(frozen=True)
+class Case:
+    """A pattern, the options as letters, and the folder from which the walk goes."""
 
+    pattern: str
+    letters: str
+    folder: str
 
-def account(pattern, letters, folder, ours, crate, version):
-    """What explains that ours and the crate gave other items: the words of rules that this version of the crate has
-    otherwise. None where those rules do not give just what the two sides gave."""
-    if items(pattern, letters, OURS, folder) != ours:
+    def items(self, rules=OURS):
+        """What the walk gives by these rules."""
+        return Walk(self.pattern, self.letters, rules, self.folder).items()
+
+    def account(self, ours, crate, version):
+        """Why ours and the crate gave these items: no words where both are those of the rules here, or the words of
+        rules that this version of the crate has otherwise. None where ours or the crate's are not those of its rules."""
+        if self.items() != ours:
+            return None
+        if ours == crate:
+            return ""
+        rules = RELEASE_0_3_0 if version == "0.3.0" else CRATE
+        for names in [*([name] for name in rules), list(rules)]:
+            if self.items(replace(OURS, **dict.fromkeys(names, True))) == crate:
+                return "; and ".join(rules[name] for name in names)
         return None
-    rules = RELEASE_0_3_0 if version == "0.3.0" else CRATE
-    for names in [*([name] for name in rules), list(rules)]:
-        if items(pattern, letters, replace(OURS, **dict.fromkeys(names, True)), folder) == crate:
-            return "; and ".join(rules[name] for name in names)
-    return None
