@@ -1,14 +1,15 @@
-//! An allocator that counts the requests for memory and refuses a chosen one.
+//! An allocator that counts the requests for memory and the blocks that are held, and refuses a chosen request.
 ghost use Rattle.std.specs.Prelude.{◌≡◌, false, Option, None, Some, ℕ};
 
 use std::alloc::{AllocError, Allocator};
 use std::cell::Cell;
 use std::marker::Model;
 
-/// The number of requests for memory so far, and which request is refused, if any.
+/// The number of requests for memory so far, how many blocks were given back, and which request is refused, if any.
 #[derive(Drop)]
 pub struct Ration {
     asked: Cell<u64>,
+    given_back: Cell<u64>,
     refused: Option<u64>,
 }
 
@@ -26,6 +27,7 @@ impl Ration {
     {
         Ration {
             asked: Cell::new(0),
+            given_back: Cell::new(0),
             refused: None,
         }
     }
@@ -37,6 +39,7 @@ impl Ration {
     {
         Ration {
             asked: Cell::new(0),
+            given_back: Cell::new(0),
             refused: Some(number),
         }
     }
@@ -44,6 +47,26 @@ impl Ration {
     /// How many requests were counted so far, those that were refused or failed among them.
     pub fn asked(&self) -> u64 {
         self.asked.get()
+    }
+
+    /// How many blocks are held: those that were asked for and not refused, without those that were given back. A
+    /// request that failed in the inner allocator counts as a block.
+    pub fn held(&self) -> u64 {
+        let asked = self.asked.get();
+        let refused = match self.refused {
+            Some(number) => u64::from(0 < number && number <= asked),
+            None => 0,
+        };
+        asked
+            .saturating_sub(refused)
+            .saturating_sub(self.given_back.get())
+    }
+
+    /// Counts a block that is given back.
+    /// The count stops at `u64::MAX`.
+    pub fn count_return(&self) {
+        let number = self.given_back.get().saturating_add(1);
+        self.given_back.set(number);
     }
 
     /// Counts a request, and says whether it is the refused one.
@@ -74,6 +97,18 @@ pub struct Rationed<A> {
     pub inner: A,
 }
 
+impl<A> Rationed<A> {
+    /// The allocator `inner`, whose request of this number, counted from 1, is refused. At 0 none is.
+    pub fn refusing(number: u64, inner: A) -> Self
+        ensures { result.ration ≡ Some number }
+    {
+        Rationed {
+            ration: Ration::refusing(number),
+            inner,
+        }
+    }
+}
+
 unsafe impl<A: Allocator> Allocator for Rationed<A> {
     ghost dealloc_token = { λ rationed. A.dealloc_token rationed.inner };
 
@@ -85,6 +120,7 @@ unsafe impl<A: Allocator> Allocator for Rationed<A> {
     }
 
     unsafe fn deallocate(&self, ptr: *mut u8, size: usize, align: usize) {
+        self.ration.count_return();
         unsafe { self.inner.deallocate(ptr, size, align) }
     }
 }
@@ -116,35 +152,30 @@ mod tests {
         Ok((list, text))
     }
 
-    // No request is refused at `None`.
-    fn rationed(refused: Option<u64>, inner: Global) -> Rationed<Global> {
-        let ration = match refused {
-            Some(number) => Ration::refusing(number),
-            None => Ration::new(),
-        };
-        Rationed { ration, inner }
-    }
-
     #[test]
     fn each_request_is_refused_in_turn(rt: HostRuntime) -> Result<(), Fail> {
-        let ample = rationed(None, rt.alloc());
+        let ample = Rationed::refusing(0, rt.alloc());
         let (list, text) = grown(&ample)?;
         assert_eq!(rt; list.len(), 40);
         assert_eq!(rt; text.len(), 40);
+        assert_eq!(rt; ample.ration.held(), 2);
+        drop((list, text));
+        assert_eq!(rt; ample.ration.held(), 0);
         let requests = ample.ration.asked();
         assert!(rt; requests > 2);
 
         for number in 1..=requests {
-            let scarce = rationed(Some(number), rt.alloc());
+            let scarce = Rationed::refusing(number, rt.alloc());
             assert!(rt; matches!(grown(&scarce), Err(AllocError)), "at {number}");
             assert_eq!(rt; scarce.ration.asked(), number);
+            assert_eq!(rt; scarce.ration.held(), 0);
         }
         Ok(())
     }
 
     #[test]
     fn a_later_request_is_answered(rt: HostRuntime) -> Result<(), Fail> {
-        let scarce = rationed(Some(1), rt.alloc());
+        let scarce = Rationed::refusing(1, rt.alloc());
         assert!(rt; sums(&scarce, &[1, 2]).is_err());
         assert_eq!(rt; sums(&scarce, &[1, 2])?.as_slice(), [1, 3].as_slice());
         assert_eq!(rt; scarce.ration.asked(), 2);

@@ -88,7 +88,7 @@ allocate_spec 𝓤 𝓛 𝓜 𝓡 wired Y L g d d' met _ =
     (λ κs. (shr_vals, (uint_vals w64, (uint_vals w64, tt)))) (λ κs. ((λ r vs s. s.0), (uint_Tells w64, (uint_Tells w64, tt))))
     (λ κs qs bounds a τ are.
     let r = a.0 in let n = a.1.0 in let al = a.1.1.0 in let h : Y.Denot = r.now.inner in let κ : Lft = κs.0 in let κ' : Lft = κs.1.0 in let q : Share = qs.0 in
-    let counter : ℕ × ℕ = (r.ref_ptr.0, r.ref_ptr.1 + 0) in let inner : ℕ × ℕ = (r.ref_ptr.0, r.ref_ptr.1 + up (align (α Z)) 24) in
+    let counter : ℕ × ℕ = (r.ref_ptr.0, r.ref_ptr.1 + 0) in let inner : ℕ × ℕ = (r.ref_ptr.0, r.ref_ptr.1 + up (align (α Z)) 32) in
     let z : (walk_of 𝓛 En hs c).Ghost = ((κs, qs, bounds, a, (shr_vals r, (vint w64 n ∷ [], (vint w64 al ∷ [], tt)))), τ) in
     let Post : Val → SProp 𝓤 = (walk_of 𝓛 En hs c).post z in
     let Said : Type 0 = (capped (size τ) ≡ n) × (capped (align τ) ≡ al) in
