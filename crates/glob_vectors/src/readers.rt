@@ -1,7 +1,9 @@
-//! Readers and writers over memory that move few bytes a call, and fail at a call that is picked.
-ghost use Rattle.std.specs.Prelude.{Some};
+//! Readers and writers over memory that move few bytes a call, and fail at a call that is picked; others that count
+//! their calls, or have one answer.
+ghost use Rattle.std.specs.Prelude.{◌≤◌, IfOk, None, Some};
 
 use std::alloc::{Allocator, Global};
+use std::cell::Cell;
 use std::io::{self, ErrorKind, Read, Write};
 
 /// What is done in place of one call, and how many calls go before it.
@@ -128,6 +130,82 @@ impl<A: Allocator> Write for ShortWriter<A> {
         let len = buf.len().min(self.most);
         self.written.extend_from_slice(&buf[..len])?;
         Ok(len)
+    }
+
+    fn flush(&mut self) -> io::Result<()> {
+        Ok(())
+    }
+}
+
+/// A reader or writer whose calls are counted in a place that it is lent.
+#[derive(Drop)]
+pub struct Counted<'a, S> {
+    /// How many calls there were.
+    pub calls: &'a Cell<u64>,
+    /// What they go to.
+    pub inner: S,
+}
+
+impl<S> Counted<'_, S> {
+    fn count(&self) {
+        self.calls.set(self.calls.get().saturating_add(1));
+    }
+}
+
+impl<S: Read> Read for Counted<'_, S> {
+    ghost remaining = { λ r. S.remaining r.inner };
+
+    fn read(&mut self, buf: &mut [u8]) -> io::Result<usize> {
+        self.count();
+        self.inner.read(buf)
+    }
+}
+
+impl<S: Write> Write for Counted<'_, S> {
+    ghost contents = { λ w. S.contents w.inner };
+
+    fn write(&mut self, buf: &[u8]) -> io::Result<usize> {
+        self.count();
+        self.inner.write(buf)
+    }
+
+    fn flush(&mut self) -> io::Result<()> {
+        self.inner.flush()
+    }
+}
+
+/// A reader and writer with one answer, which moves no byte.
+#[derive(Clone, Copy)]
+pub struct Same {
+    /// What each call answers: at most as many bytes as there is room for.
+    pub answer: io::Result<usize>,
+}
+
+impl Same {
+    /// The answer where there is room for so many bytes.
+    fn within(self, len: usize) -> io::Result<usize>
+        ensures { IfOk result (λ count. count ≤ len) }
+    {
+        match self.answer {
+            Ok(count) => Ok(count.min(len)),
+            Err(error) => Err(error),
+        }
+    }
+}
+
+impl Read for Same {
+    ghost remaining = { λ _. None };
+
+    fn read(&mut self, buf: &mut [u8]) -> io::Result<usize> {
+        self.within(buf.len())
+    }
+}
+
+impl Write for Same {
+    ghost contents = { λ _. None };
+
+    fn write(&mut self, buf: &[u8]) -> io::Result<usize> {
+        self.within(buf.len())
     }
 
     fn flush(&mut self) -> io::Result<()> {

@@ -1,3 +1,4 @@
+mod costs;
 mod counted;
 mod escaping;
 mod faults;
@@ -7,7 +8,10 @@ mod lines;
 mod matching;
 mod memory;
 mod options;
+mod printing;
 mod readme;
 mod repeated;
+mod sizes;
 mod texts;
 mod trees;
+mod watching;

@@ -1,6 +1,8 @@
 //! How many questions a match takes.
 use super::repeated::{Parts, text_of};
-use glob::{MatchOptions, Pattern};
+use crate::judges::{Answers, TableJudge};
+use glob::{Judge, MatchOptions, Pattern, Shape, run_positions};
+use std::process::Abort;
 use std::test::Fail;
 
 const FREE: MatchOptions = MatchOptions {
@@ -55,6 +57,81 @@ fn a_match_takes_few_questions(rt: HostRuntime) -> Result<(), Fail> {
             pattern.as_str()
         );
         assert!(rt; !answer || text.len() as u128 <= asked, "{asked} questions");
+    }
+    Ok(())
+}
+
+/// How many questions are asked of a judge of the same table, which counts them by itself. In the pattern `*` is any
+/// number of characters, `?` one, and each other character is itself.
+fn questions(rt: &(impl Abort + AllocGlobal), pattern: &str, text: &str) -> Result<u128, Fail> {
+    let mut shapes = Vec::new(rt.alloc());
+    let mut refused = Vec::new(rt.alloc());
+    for (token, unit) in pattern.chars().enumerate() {
+        shapes.push(if unit == '*' { Shape::Run } else { Shape::One })?;
+        for (place, c) in text.chars().enumerate() {
+            if !matches!(unit, '*' | '?') && unit != c {
+                refused.push((token, place))?;
+            }
+        }
+    }
+    let answers = Answers {
+        characters: text.chars().count(),
+        tokens: shapes.len(),
+        opening: &[],
+        refused: refused.as_slice(),
+    };
+    let mut judge = TableJudge::new(answers);
+    run_positions(rt.alloc(), shapes.as_slice(), &mut judge)?;
+    Ok(judge.asked())
+}
+
+/// Patterns, each with texts that it matches and texts that it does not.
+const COUNTED: [(Parts<'static>, &[Parts<'static>]); 8] = [
+    (&[("", 1)], &[&[], &[("a", 1)]]),
+    (
+        &[("abc", 1)],
+        &[
+            &[("abc", 1)],
+            &[("abd", 1)],
+            &[("b", 1)],
+            &[("abcd", 1)],
+            &[],
+        ],
+    ),
+    (
+        &[("*.rs", 1)],
+        &[&[("main.rs", 1)], &[("main.c", 1)], &[(".rs", 9)], &[]],
+    ),
+    (
+        &[("a?*b", 1)],
+        &[&[("a\u{e9}\u{20ac}b", 1)], &[("ab", 1)], &[("ac", 20)]],
+    ),
+    (&[("*a", 6), ("*b", 1)], &[&[("a", 40)], &[("ab", 20)]]),
+    (
+        &[("?", 63), ("*", 1)],
+        &[&[("a", 63)], &[("a", 64)], &[("a", 62)]],
+    ),
+    (
+        &[("*", 1), ("?", 64)],
+        &[&[("a", 63)], &[("a", 64)], &[("b", 70)]],
+    ),
+    (
+        &[("*a", 40), ("z", 1)],
+        &[&[("a", 60)], &[("a", 60), ("z", 1)]],
+    ),
+];
+
+#[test]
+fn the_count_is_that_of_the_questions(rt: HostRuntime) -> Result<(), Fail> {
+    for (pattern, texts) in COUNTED {
+        let source = text_of(&rt, pattern)?;
+        let pattern = Pattern::new(rt.alloc(), source.as_str())?;
+        for text in texts {
+            let text = text_of(&rt, text)?;
+            let known = questions(&rt, source.as_str(), text.as_str())?;
+            let (_, asked) = pattern.matches_counted(text.as_str(), FREE)?;
+            assert_eq!(rt; asked, known, "{source} on {text}");
+        }
     }
     Ok(())
 }

@@ -2,6 +2,7 @@
 use crate::readers::{Refusal, ShortReader, ShortWriter};
 use glob::{LineFault, MatchOptions, Pattern, Watch, filter_lines};
 use std::io::ErrorKind;
+use std::process::Abort;
 use std::test::Fail;
 
 #[test]
@@ -48,55 +49,111 @@ fn a_line_that_is_no_text_never_matches(rt: HostRuntime) -> Result<(), Fail> {
     Ok(())
 }
 
+/// Errors that a reader or a writer may answer, none of which is passed over.
+const FAULTS: [ErrorKind; 5] = [
+    ErrorKind::Other,
+    ErrorKind::Interrupted,
+    ErrorKind::WouldBlock,
+    ErrorKind::TimedOut,
+    ErrorKind::BrokenPipe,
+];
+
+/// A reader that gives so many bytes a call and fails at a call: the fault is told, and nothing is written.
+fn check_reader(
+    rt: &(impl Abort + AllocGlobal),
+    input: &[u8],
+    most: usize,
+    call: u64,
+    kind: ErrorKind,
+) -> Result<(), Fail> {
+    let pattern = Pattern::new(rt.alloc(), "*")?;
+    let mut reader = Watch::new(ShortReader::new(input, most).failing_at(call, kind));
+    let mut writer = Watch::new(ShortWriter::new(rt.alloc(), 100));
+    let options = MatchOptions::new();
+    match filter_lines(rt.alloc(), &pattern, options, &mut reader, &mut writer) {
+        Err(LineFault::Read(error)) => assert!(rt; error.kind() == kind),
+        _ => panic!(rt; "no fault of the reader"),
+    }
+    assert!(rt; reader.failed() && !writer.failed());
+    assert!(rt; writer.into_inner().written().is_empty());
+    Ok(())
+}
+
+/// Each beginning of the input is read, before the fault.
 #[test]
 fn a_reader_that_fails_writes_nothing(rt: HostRuntime) -> Result<(), Fail> {
-    for (call, kind) in [(1, ErrorKind::Other), (0, ErrorKind::Interrupted)] {
-        let pattern = Pattern::new(rt.alloc(), "*")?;
-        let reader = ShortReader::new(b"ab\nc\n", 3).failing_at(call, kind);
-        let mut reader = Watch::new(reader);
-        let mut writer = Watch::new(ShortWriter::new(rt.alloc(), 100));
-        let options = MatchOptions::new();
-        match filter_lines(rt.alloc(), &pattern, options, &mut reader, &mut writer) {
-            Err(LineFault::Read(error)) => assert!(rt; error.kind() == kind),
-            _ => panic!(rt; "no fault of the reader"),
+    let input = b"ab\n\nc\n\xff\nd";
+    for kind in FAULTS {
+        for call in 0..=input.len() {
+            check_reader(&rt, input, 1, call as u64, kind)?;
+            check_reader(&rt, &input[..call], 100, call.min(1) as u64, kind)?;
         }
-        assert!(rt; reader.failed());
-        assert!(rt; !writer.failed());
-        assert_eq!(rt; writer.into_inner().written(), b"".as_slice());
     }
+    check_reader(&rt, b"ab\nc\n", 3, 1, ErrorKind::Other)
+}
+
+/// A writer that takes so many bytes a call and refuses at a call: the fault is told, and this was written before.
+fn check_writer(
+    rt: &(impl Abort + AllocGlobal),
+    most: usize,
+    call: u64,
+    refusal: Refusal,
+    written: &[u8],
+) -> Result<(), Fail> {
+    let pattern = Pattern::new(rt.alloc(), "*")?;
+    let mut reader = Watch::new(ShortReader::new(b"ab\n\xff\nc", 100));
+    let mut writer = Watch::new(ShortWriter::new(rt.alloc(), most).refusing_at(call, refusal));
+    let kind = match refusal {
+        Refusal::Fails(kind) => kind,
+        Refusal::TakesNone => ErrorKind::WriteZero,
+    };
+    let options = MatchOptions::new();
+    match filter_lines(rt.alloc(), &pattern, options, &mut reader, &mut writer) {
+        Err(LineFault::Write(error)) => assert!(rt; error.kind() == kind),
+        _ => panic!(rt; "no fault of the writer"),
+    }
+    assert!(rt; writer.failed() && !reader.failed());
+    assert_eq!(rt; writer.into_inner().written(), written);
     Ok(())
 }
 
 #[test]
 fn a_writer_that_fails_ends_the_copy(rt: HostRuntime) -> Result<(), Fail> {
-    let rows = [
-        (2, Refusal::Fails(ErrorKind::Other), ErrorKind::Other, "ab"),
-        (
-            3,
-            Refusal::Fails(ErrorKind::Other),
-            ErrorKind::Other,
-            "ab\n",
-        ),
-        (0, Refusal::TakesNone, ErrorKind::WriteZero, ""),
-        (
-            0,
-            Refusal::Fails(ErrorKind::Interrupted),
-            ErrorKind::Interrupted,
-            "",
-        ),
-    ];
-    for (call, refusal, kind, written) in rows {
-        let pattern = Pattern::new(rt.alloc(), "*")?;
-        let mut reader = Watch::new(ShortReader::new(b"ab\nc\n", 100));
-        let mut writer = Watch::new(ShortWriter::new(rt.alloc(), 1).refusing_at(call, refusal));
-        let options = MatchOptions::new();
-        match filter_lines(rt.alloc(), &pattern, options, &mut reader, &mut writer) {
-            Err(LineFault::Write(error)) => assert!(rt; error.kind() == kind),
-            _ => panic!(rt; "no fault of the writer"),
+    let output = b"ab\nc\n";
+    for most in 1..=3usize {
+        for call in 0..output.len() {
+            let taken = call.saturating_mul(most);
+            if taken < output.len() {
+                let written = &output[..taken];
+                for kind in FAULTS {
+                    check_writer(&rt, most, call as u64, Refusal::Fails(kind), written)?;
+                }
+                check_writer(&rt, most, call as u64, Refusal::TakesNone, written)?;
+            }
         }
-        assert!(rt; writer.failed());
-        assert!(rt; !reader.failed());
-        assert_eq!(rt; writer.into_inner().written(), written.as_bytes());
+    }
+    Ok(())
+}
+
+/// Each beginning of a text, as the whole input, is copied in pieces of each size, with the line feed that it lacks.
+#[test]
+fn each_beginning_is_copied(rt: HostRuntime) -> Result<(), Fail> {
+    let input = b"ab\n\n\r\nc d\n\n\ne";
+    let pattern = Pattern::new(rt.alloc(), "*")?;
+    for end in 0..=input.len() {
+        let part = &input[..end];
+        for most in 1..=input.len() {
+            let mut reader = Watch::new(ShortReader::new(part, most));
+            let mut writer = Watch::new(ShortWriter::new(rt.alloc(), most));
+            let options = MatchOptions::new();
+            filter_lines(rt.alloc(), &pattern, options, &mut reader, &mut writer)?;
+            let writer = writer.into_inner();
+            let mut output = Vec::from_slice(rt.alloc(), part)?;
+            if !part.is_empty() && !part.ends_with(b"\n") {
+                output.push(b'\n')?;
+            }
+            assert_eq!(rt; writer.written(), output.as_slice());
+        }
     }
     Ok(())
 }

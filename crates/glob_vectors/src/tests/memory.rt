@@ -1,57 +1,116 @@
-//! Each request for memory refused in turn: the answer is out of memory, or the one with ample memory.
+//! Each request for memory refused in turn: the answer is out of memory, or that with ample memory. No block is left.
 use super::repeated::{Parts, text_of};
+use super::trees::CHANGES;
+use crate::judges::{Answers, TableJudge};
 use crate::readers::{ShortReader, ShortWriter};
-use glob::{LineFault, MatchOptions, Pattern, PatternRefusal, Watch, filter_lines};
-use glob_testing::rationing::{Ration, Rationed};
+use glob::{
+    LineFault, ListError, Look, MatchOptions, MemTree, Pattern, PatternRefusal, Shape, Tree,
+    TreeRefusal, Watch, filter_lines, run_positions,
+};
+use glob_testing::rationing::Rationed;
 use std::alloc::{Allocator, Global};
 use std::path::Path;
 use std::process::Abort;
 use std::test::Fail;
 
-fn rationed(refused: u64, inner: Global) -> Rationed<Global> {
-    Rationed {
-        ration: Ration::refusing(refused),
-        inner,
+/// A text, the place of its first fault, and its escaped form.
+type Text = (&'static str, Option<usize>, &'static str);
+
+const TEXTS: [Text; 10] = [
+    ("", None, ""),
+    ("main.rs", None, "main.rs"),
+    ("*.rs", None, "[*].rs"),
+    ("[a-c]*[!x]", None, "[[]a-c[]][*][[]!x[]]"),
+    ("a/**/**/[xyz]?", None, "a/[*][*]/[*][*]/[[]xyz[]][?]"),
+    (
+        "\u{e9}[\u{20ac}-\u{10fffe}]",
+        None,
+        "\u{e9}[[]\u{20ac}-\u{10fffe}[]]",
+    ),
+    ("[a]b[c", Some(4), "[[]a[]]b[[]c"),
+    ("[a][b]***", Some(8), "[[]a[]][[]b[]][*][*][*]"),
+    ("[a]**", Some(2), "[[]a[]][*][*]"),
+    ("[", Some(0), "[[]"),
+];
+
+/// Reads the text by one of both calls, and copies what is read. Gives whether memory sufficed.
+fn reads<A: Allocator + Copy>(rt: &impl Abort, alloc: A, row: Text, by_from_str: bool) -> bool {
+    let (text, fault, _) = row;
+    let read = if by_from_str {
+        Pattern::from_str(alloc, text)
+    } else {
+        Pattern::new(alloc, text)
+    };
+    match read {
+        Ok(pattern) => {
+            assert!(rt; fault.is_none(), "{text}");
+            assert!(rt; pattern.as_str() == text);
+            match pattern.clone() {
+                Ok(copy) => {
+                    assert!(rt; copy == pattern, "{text}");
+                    true
+                }
+                Err(_) => false,
+            }
+        }
+        Err(PatternRefusal::Syntax(error)) => {
+            assert!(rt; Some(error.pos) == fault, "{text}");
+            true
+        }
+        Err(PatternRefusal::Memory) => false,
     }
 }
 
-/// Whether the pattern matches the text, or `None` where memory ran out.
-fn decided<A: Allocator + Copy>(alloc: A, text: &str, str: &str) -> Option<bool> {
-    let pattern = Pattern::new(alloc, text).ok()?;
-    pattern.matches(str).ok()
+/// Escapes the text. Gives whether memory sufficed.
+fn escapes<A: Allocator + Copy>(rt: &impl Abort, alloc: A, row: Text) -> bool {
+    match Pattern::escape(alloc, row.0) {
+        Ok(escaped) => {
+            assert!(rt; escaped.as_str() == row.2, "{}", row.0);
+            true
+        }
+        Err(_) => false,
+    }
+}
+
+/// Reads, copies or escapes the text. Gives whether memory sufficed.
+fn makes<A: Allocator + Copy>(rt: &impl Abort, alloc: A, row: Text, call: u32) -> bool {
+    match call {
+        0 => reads(rt, alloc, row, false),
+        1 => reads(rt, alloc, row, true),
+        _ => escapes(rt, alloc, row),
+    }
+}
+
+/// Refuses each request for memory in turn. Gives how often memory did not suffice.
+fn check_made(rt: &(impl Abort + AllocGlobal), row: Text, call: u32) -> u32 {
+    let ample = Rationed::refusing(0, rt.alloc());
+    assert!(rt; makes(rt, &ample, row, call), "{}", row.0);
+    assert_eq!(rt; ample.ration.held(), 0);
+    let mut short = 0u32;
+    for number in 1..=ample.ration.asked() {
+        let scarce = Rationed::refusing(number, rt.alloc());
+        if !makes(rt, &scarce, row, call) {
+            short = short.saturating_add(1);
+        }
+        assert_eq!(rt; scarce.ration.held(), 0);
+    }
+    short
 }
 
 #[test]
-fn patterns_and_matches(rt: HostRuntime) {
-    let rows = [
-        ("*.rs", "main.rs", true),
-        ("[a-c]*[!x]", "beta", true),
-        ("a/**/[xyz]?", "a/b/c/y", false),
-    ];
-    for (text, str, answer) in rows {
-        let ample = rationed(0, rt.alloc());
-        assert_eq!(rt; decided(&ample, text, str), Some(answer), "{text}");
-        let requests = ample.ration.asked();
-        assert!(rt; requests > 2);
-        assert_eq!(rt;
-            decided(&rationed(requests, rt.alloc()), text, str),
-            None,
-            "{text}"
-        );
-        for number in 1..=requests {
-            let scarce = rationed(number, rt.alloc());
-            let found = decided(&scarce, text, str);
-            assert!(rt;
-                found.is_none() || found == Some(answer),
-                "{text} at {number}"
-            );
+fn texts(rt: HostRuntime) {
+    for row in TEXTS {
+        for call in 0..3 {
+            let short = check_made(&rt, row, call);
+            assert!(rt; short > 0 || row.0.len() < 2, "{}", row.0);
         }
     }
 }
 
-/// A pattern, a text, and whether the pattern matches it. No pattern has more than 63 tokens.
+/// A pattern, a text, and whether the pattern matches it, under each of the options.
 type Row = (Parts<'static>, Parts<'static>, bool);
 
+/// No pattern has more than 63 tokens.
 const SHORT: [Row; 10] = [
     (&[("*.rs", 1)], &[("main.rs", 1)], true),
     (&[("**/*.rs", 1)], &[("a/b/c.txt", 1)], false),
@@ -65,62 +124,180 @@ const SHORT: [Row; 10] = [
     (&[("**/", 1), ("?", 62)], &[("x/", 1), ("a", 62)], true),
 ];
 
+/// Each pattern has more than 63 tokens, and not all of them take one character.
+const LONG: [Row; 7] = [
+    (&[("?", 63), ("*", 1)], &[("a", 63)], true),
+    (&[("*", 1), ("?", 64)], &[("a", 63)], false),
+    (&[("*", 1), ("a", 127)], &[("a", 127)], true),
+    (&[("*a", 64)], &[("a", 63)], false),
+    (&[("*a", 60), ("b", 10)], &[("a", 70), ("c", 1)], false),
+    (&[("**/", 1), ("[ab]", 64)], &[("x/", 2), ("ab", 32)], true),
+    (&[("*", 1), ("?", 300)], &[("\u{10fffe}", 301)], true),
+];
+
+/// What each form of matching answers for the text; `None` where memory ran out.
+fn forms<A: Allocator + Copy>(pattern: &Pattern<A>, str: &str) -> [Option<bool>; 6] {
+    let path = Path::new(str);
+    let options = MatchOptions::default();
+    [
+        pattern.matches(str).ok(),
+        pattern.matches_with(str, MatchOptions::new()).ok(),
+        pattern.matches_with(str, options).ok(),
+        pattern.matches_path(path).ok(),
+        pattern.matches_path_with(path, options).ok(),
+        pattern
+            .matches_counted(str, options)
+            .ok()
+            .map(|told| told.0),
+    ]
+}
+
+/// Matches in each form with a pattern of `alloc`. Gives how many answers are out of memory; all others are this one.
+fn unanswered<A: Allocator + Copy>(
+    rt: &impl Abort,
+    pattern: &Pattern<A>,
+    str: &str,
+    answer: bool,
+) -> u32 {
+    let mut count = 0u32;
+    for found in forms(pattern, str) {
+        match found {
+            Some(found) => assert!(rt; found == answer, "{}", pattern.as_str()),
+            None => count = count.saturating_add(1),
+        }
+    }
+    count
+}
+
 #[test]
 fn short_patterns_match_without_memory(rt: HostRuntime) -> Result<(), Fail> {
     for (pattern, str, answer) in SHORT {
         let text = text_of(&rt, pattern)?;
-        let text = text.as_str();
         let str = text_of(&rt, str)?;
-        let str = str.as_str();
-        let ample = rationed(0, rt.alloc());
-        Pattern::new(&ample, text)?;
+        let ample = Rationed::refusing(0, rt.alloc());
+        let pattern = Pattern::new(&ample, text.as_str())?;
         let requests = ample.ration.asked();
-        let scarce = rationed(requests.saturating_add(1), rt.alloc());
-        let pattern = Pattern::new(&scarce, text)?;
-        let path = Path::new(str);
-        let options = MatchOptions::new();
-        assert!(rt; pattern.matches(str) == Ok(answer), "{text}");
-        assert!(rt; pattern.matches_with(str, options) == Ok(answer), "{text}");
-        assert!(rt; pattern.matches_path(path) == Ok(answer), "{text}");
-        assert!(rt;
-            pattern.matches_path_with(path, options) == Ok(answer),
-            "{text}"
-        );
-        let counted = pattern.matches_counted(str, options).map(|told| told.0);
-        assert!(rt; counted == Ok(answer), "{text}");
-        assert!(rt;
-            pattern.matches_with(str, MatchOptions::default()) == Ok(answer),
-            "{text}"
-        );
-        assert_eq!(rt;
-            scarce.ration.asked(),
-            requests,
-            "{text} asks for no memory"
-        );
+        assert_eq!(rt; unanswered(&rt, &pattern, str.as_str(), answer), 0);
+        assert_eq!(rt; ample.ration.asked(), requests, "{text}");
     }
     Ok(())
 }
 
+/// Where a request of a match is refused, one form of matching is out of memory, and the pattern is as it was.
 #[test]
-fn a_refused_pattern_is_refused_alike(rt: HostRuntime) {
-    let ample = rationed(0, rt.alloc());
-    assert!(rt;
-        matches!(
-            Pattern::new(&ample, "[a]b[c"),
-            Err(PatternRefusal::Syntax(_))
-        )
-    );
-    for number in 1..=ample.ration.asked() {
-        let scarce = rationed(number, rt.alloc());
-        assert!(rt; Pattern::new(&scarce, "[a]b[c").is_err());
+fn long_patterns_match_with_memory(rt: HostRuntime) -> Result<(), Fail> {
+    for (pattern, str, answer) in LONG {
+        let text = text_of(&rt, pattern)?;
+        let str = text_of(&rt, str)?;
+        let ample = Rationed::refusing(0, rt.alloc());
+        let pattern = Pattern::new(&ample, text.as_str())?;
+        let first = ample.ration.asked().saturating_add(1);
+        let blocks = ample.ration.held();
+        assert_eq!(rt; unanswered(&rt, &pattern, str.as_str(), answer), 0);
+        assert_eq!(rt; ample.ration.held(), blocks);
+        for number in first..=ample.ration.asked() {
+            let scarce = Rationed::refusing(number, rt.alloc());
+            let pattern = Pattern::new(&scarce, text.as_str())?;
+            assert_eq!(rt; unanswered(&rt, &pattern, str.as_str(), answer), 1);
+            assert_eq!(rt; scarce.ration.held(), blocks);
+            assert_eq!(rt; unanswered(&rt, &pattern, str.as_str(), answer), 0);
+            drop(pattern);
+            assert_eq!(rt; scarce.ration.held(), 0);
+        }
+        assert!(rt; first < ample.ration.asked());
+    }
+    Ok(())
+}
+
+/// Where the one request of a list of 64 shapes and more is refused, the answer is out of memory.
+#[test]
+fn long_lists_of_shapes_need_memory(rt: HostRuntime) -> Result<(), Fail> {
+    let mut shapes = Vec::new(rt.alloc());
+    for number in 1..=200usize {
+        shapes.push(Shape::Run)?;
+        for refused in 0..=2 {
+            let answers = Answers {
+                characters: 3,
+                tokens: shapes.len(),
+                opening: &[],
+                refused: &[],
+            };
+            let scarce = Rationed::refusing(refused, rt.alloc());
+            let found = run_positions(&scarce, shapes.as_slice(), &mut TableJudge::new(answers));
+            let asked = scarce.ration.asked();
+            assert_eq!(rt; found.is_err(), refused == asked && asked > 0, "{number}");
+            assert!(rt; found.is_err() || found == Ok(true));
+            assert_eq!(rt; scarce.ration.held(), 0);
+        }
+    }
+    Ok(())
+}
+
+/// Makes each change, and again where it is refused for memory: the tree is then as it was. Gives how many were so.
+fn change_all<A: Allocator + Copy>(rt: &impl Abort, tree: &mut MemTree<A>) -> u32 {
+    let mut refused = 0u32;
+    for (change, answer) in &CHANGES {
+        let mut found = change.make(tree);
+        if found == Err(TreeRefusal::Memory) {
+            refused = refused.saturating_add(1);
+            found = change.make(tree);
+        }
+        assert!(rt; found == *answer);
+    }
+    refused
+}
+
+/// Lists the root, whose entries are those of the changes. Gives whether memory sufficed.
+fn lists<A: Allocator + Copy>(rt: &impl Abort, tree: &mut MemTree<A>) -> bool {
+    match tree.list("/") {
+        Ok(entries) => {
+            assert_eq!(rt; entries.len(), 2);
+            for entry in entries.iter() {
+                let is_dir = entry.name.as_str() == "s";
+                assert!(rt; is_dir || entry.name.as_str() == "f");
+                assert_eq!(rt; entry.is_dir, is_dir);
+            }
+            true
+        }
+        Err(error) => {
+            assert!(rt; matches!(error, ListError::Memory));
+            false
+        }
     }
 }
 
-/// Copies lines with memory from `alloc`: the count, or `None` where memory ran out; and what was written.
-fn copied<A: Allocator + Copy>(
+/// Changes and lists a tree with memory from `alloc`. Gives how many calls were refused.
+fn uses_tree<A: Allocator + Copy>(rt: &impl Abort, alloc: A) -> u32 {
+    let Ok(mut tree) = MemTree::new(alloc) else {
+        return 1;
+    };
+    let mut refused = change_all(rt, &mut tree);
+    if !lists(rt, &mut tree) {
+        assert!(rt; lists(rt, &mut tree));
+        refused = refused.saturating_add(1);
+    }
+    assert!(rt; tree.look("x") == Ok(Look::Dir));
+    refused
+}
+
+#[test]
+fn trees(rt: HostRuntime) {
+    let ample = Rationed::refusing(0, rt.alloc());
+    assert_eq!(rt; uses_tree(&rt, &ample), 0);
+    assert_eq!(rt; ample.ration.held(), 0);
+    for number in 1..=ample.ration.asked() {
+        let scarce = Rationed::refusing(number, rt.alloc());
+        assert_eq!(rt; uses_tree(&rt, &scarce), 1, "{number}");
+        assert_eq!(rt; scarce.ration.held(), 0);
+    }
+}
+
+/// Copies the lines that the pattern matches, with memory from `alloc` for the input and the output. Gives how many,
+/// or `None` where memory ran out; and what was written.
+fn copied<A: Allocator + Copy, B: Allocator + Copy>(
     rt: &(impl Abort + AllocGlobal),
     alloc: A,
-    pattern: &Pattern,
+    pattern: &Pattern<B>,
     input: &[u8],
 ) -> Result<(Option<u64>, Vec<u8>), Fail> {
     let mut reader = Watch::new(ShortReader::new(input, 60_000));
@@ -131,39 +308,77 @@ fn copied<A: Allocator + Copy>(
         Err(LineFault::Memory) => None,
         Err(_) => panic!(rt; "a fault of the reader or the writer"),
     };
+    assert!(rt; !reader.failed() && !writer.failed());
     let written = Vec::from_slice(rt.alloc(), writer.into_inner().written())?;
     Ok((count, written))
 }
 
+/// Copies the lines with memory from `alloc`, also for matches: the count, or out of memory after whole lines of the
+/// output. Gives whether memory sufficed.
+fn check_copied(
+    rt: &(impl Abort + AllocGlobal),
+    alloc: &Rationed<Global>,
+    pattern: &str,
+    input: &[u8],
+    output: &[u8],
+) -> Result<bool, Fail> {
+    let Ok(pattern) = Pattern::new(alloc, pattern) else {
+        return Ok(false);
+    };
+    let blocks = alloc.ration.held();
+    let (count, written) = copied(rt, alloc, &pattern, input)?;
+    assert_eq!(rt; alloc.ration.held(), blocks);
+    assert!(rt; output.starts_with(written.as_slice()));
+    assert!(rt; written.is_empty() || written.ends_with(b"\n"));
+    let Some(count) = count else {
+        return Ok(false);
+    };
+    let lines = output.iter().filter(|&&byte| byte == b'\n').count();
+    assert_eq!(rt; count, lines as u64);
+    assert_eq!(rt; written.as_slice(), output);
+    Ok(true)
+}
+
+/// Refuses each request for memory in turn.
+fn check_lines(
+    rt: &(impl Abort + AllocGlobal),
+    pattern: &str,
+    input: &[u8],
+    output: &[u8],
+) -> Result<(), Fail> {
+    let ample = Rationed::refusing(0, rt.alloc());
+    assert!(rt; check_copied(rt, &ample, pattern, input, output)?);
+    assert_eq!(rt; ample.ration.held(), 0);
+    let mut short = 0u32;
+    for number in 1..=ample.ration.asked() {
+        let scarce = Rationed::refusing(number, rt.alloc());
+        if !check_copied(rt, &scarce, pattern, input, output)? {
+            short = short.saturating_add(1);
+        }
+        assert_eq!(rt; scarce.ration.held(), 0);
+    }
+    assert!(rt; short > 0);
+    Ok(())
+}
+
 #[test]
 fn lines(rt: HostRuntime) -> Result<(), Fail> {
-    check_lines(&rt, b"ab\nc\nd", 3)
+    let long = text_of(&rt, &[("?", 63), ("*", 1)])?;
+    let wide = text_of(
+        &rt,
+        &[("b\n", 1), ("a", 63), ("\n", 1), ("a", 64), ("\n", 1)],
+    )?;
+    let kept = text_of(&rt, &[("a", 63), ("\n", 1), ("a", 64), ("\n", 1)])?;
+    check_lines(&rt, "*", b"", b"")?;
+    check_lines(&rt, "*", b"ab\nc\nd", b"ab\nc\nd\n")?;
+    check_lines(&rt, "a*", b"ab\nc\na", b"ab\na\n")?;
+    check_lines(&rt, "", b"a\n\n", b"\n")?;
+    check_lines(&rt, long.as_str(), wide.as_bytes(), kept.as_bytes())
 }
 
 /// More than one buffer of output, so that whole lines are written before memory runs out.
 #[test]
 fn many_lines(rt: HostRuntime) -> Result<(), Fail> {
-    let mut input = Vec::new(rt.alloc());
-    for _ in 0..40_000 {
-        input.extend_from_slice(b"a line of text\n")?;
-    }
-    check_lines(&rt, input.as_slice(), 40_000)
-}
-
-/// Refuses each request for memory in turn: the count, or out of memory after whole lines.
-fn check_lines(rt: &(impl Abort + AllocGlobal), input: &[u8], lines: u64) -> Result<(), Fail> {
-    let pattern = Pattern::new(rt.alloc(), "*")?;
-    let ample = rationed(0, rt.alloc());
-    let (count, written) = copied(rt, &ample, &pattern, input)?;
-    assert_eq!(rt; count, Some(lines));
-    let requests = ample.ration.asked();
-    assert!(rt; requests > 0);
-    for number in 1..=requests {
-        let scarce = rationed(number, rt.alloc());
-        let (count, part) = copied(rt, &scarce, &pattern, input)?;
-        assert_eq!(rt; count, None);
-        assert!(rt; written.starts_with(part.as_slice()));
-        assert!(rt; part.is_empty() || part.ends_with(b"\n"));
-    }
-    Ok(())
+    let input = text_of(&rt, &[("a line of text\n", 40_000)])?;
+    check_lines(&rt, "*", input.as_bytes(), input.as_bytes())
 }

@@ -37,7 +37,7 @@ const BOTH_RULES: MatchOptions = MatchOptions {
 /// A pattern, a text, options, and whether the pattern matches the text under each of them.
 type Row = (&'static str, &'static str, &'static [MatchOptions], bool);
 
-const CASES: [Row; 17] = [
+const CASES: [Row; 25] = [
     ("aBcDeFg", "aBcDeFg", &[ANY_CASE], true),
     ("aBcDeFg", "abcdefg", &[ANY_CASE], true),
     ("aBcDeFg", "ABCDEFG", &[ANY_CASE], true),
@@ -51,6 +51,14 @@ const CASES: [Row; 17] = [
     ("[A-z]", "_", &[ANY_CASE, CASE], true),
     ("É", "é", &[ANY_CASE], false),
     ("[a-Z]", "M", &[ANY_CASE], true),
+    ("[a-Z]", "a", &[ANY_CASE], true),
+    ("[a-Z]", "z", &[ANY_CASE], true),
+    ("[a-Z]", "A", &[ANY_CASE], true),
+    ("[a-Z]", "Z", &[ANY_CASE], true),
+    ("[a-Z]", "a", &[CASE], false),
+    ("[a-Z]", "z", &[CASE], false),
+    ("[a-Z]", "A", &[CASE], false),
+    ("[a-Z]", "Z", &[CASE], false),
     ("[a-Z]", "M", &[CASE], false),
     ("[a-Z]", "_", &[ANY_CASE, CASE], false),
     ("A*", "ab", &[ANY_CASE], true),

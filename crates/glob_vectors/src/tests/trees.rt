@@ -1,13 +1,14 @@
 //! A tree in memory: what it refuses, and what it answers.
 use crate::trees::LyingTree;
 use glob::{ListError, Look, MemTree, Tree, TreeRefusal};
+use std::alloc::Allocator;
 use std::io::ErrorKind;
 use std::process::Abort;
 use std::test::Fail;
 
 /// A call that changes a tree.
 #[derive(Clone, Copy)]
-enum Change {
+pub(super) enum Change {
     AddDir(&'static str),
     AddShut(&'static str),
     AddOther(&'static str),
@@ -16,30 +17,43 @@ enum Change {
 
 use Change::{AddDir, AddOther, AddShut, SetCurrent};
 
-/// Makes each change in turn, and compares what it answers.
-fn check(rt: &impl Abort, tree: &mut MemTree, rows: &[(Change, Result<(), TreeRefusal>)]) {
-    for (change, answer) in rows {
-        let found = match *change {
+impl Change {
+    /// Makes the change.
+    pub(super) fn make<A: Allocator + Copy>(
+        self,
+        tree: &mut MemTree<A>,
+    ) -> Result<(), TreeRefusal> {
+        match self {
             AddDir(path) => tree.add_dir(path),
             AddShut(path) => tree.add_shut(path, ErrorKind::PermissionDenied),
             AddOther(path) => tree.add_other(path),
             SetCurrent(path) => tree.set_current(path),
-        };
-        assert!(rt; found == *answer);
+        }
     }
 }
 
-const REFUSALS: [(Change, Result<(), TreeRefusal>); 7] = [
+/// Makes each change in turn, and compares what it answers.
+fn check(rt: &impl Abort, tree: &mut MemTree, rows: &[(Change, Result<(), TreeRefusal>)]) {
+    for (change, answer) in rows {
+        assert!(rt; change.make(tree) == *answer);
+    }
+}
+
+const REFUSALS: [(Change, Result<(), TreeRefusal>); 11] = [
     (AddOther("/a/b"), Err(TreeRefusal::NoParent)),
+    (AddDir("/a/b"), Err(TreeRefusal::NoParent)),
+    (AddShut("/a/b"), Err(TreeRefusal::NoParent)),
     (AddDir("/a"), Ok(())),
     (AddOther("/a"), Err(TreeRefusal::Taken)),
+    (AddDir("/a"), Err(TreeRefusal::Taken)),
+    (AddShut("/a"), Err(TreeRefusal::Taken)),
     (AddDir("b"), Err(TreeRefusal::Improper)),
     (AddDir("/a/"), Err(TreeRefusal::Improper)),
     (AddDir("/.."), Err(TreeRefusal::Improper)),
     (SetCurrent("/b"), Err(TreeRefusal::NoDirectory)),
 ];
 
-const CHANGES: [(Change, Result<(), TreeRefusal>); 10] = [
+pub(super) const CHANGES: [(Change, Result<(), TreeRefusal>); 11] = [
     (AddDir("/"), Err(TreeRefusal::Improper)),
     (AddDir(""), Err(TreeRefusal::Improper)),
     (AddDir("//a"), Err(TreeRefusal::Improper)),
@@ -47,6 +61,7 @@ const CHANGES: [(Change, Result<(), TreeRefusal>); 10] = [
     (AddDir("/s/x"), Ok(())),
     (AddOther("/f"), Ok(())),
     (AddOther("/f/y"), Err(TreeRefusal::NoParent)),
+    (AddDir("/f/y"), Err(TreeRefusal::NoParent)),
     (SetCurrent("/f"), Err(TreeRefusal::NoDirectory)),
     (SetCurrent("/s/z"), Err(TreeRefusal::NoDirectory)),
     (SetCurrent("/s"), Ok(())),

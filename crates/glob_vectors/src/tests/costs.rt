@@ -1,0 +1,172 @@
+//! How many requests for memory and calls of readers and writers are made. The clock is not asked.
+use super::repeated::{Parts, text_of};
+use crate::judges::{Answers, TableJudge};
+use crate::readers::{Counted, ShortReader, ShortWriter};
+use glob::{MatchOptions, Pattern, Shape, Watch, filter_lines, run_positions};
+use glob_testing::rationing::Rationed;
+use std::cell::Cell;
+use std::hash::{DefaultHasher, Hash};
+use std::process::Abort;
+use std::test::Fail;
+
+#[test]
+fn the_empty_pattern_needs_no_memory(rt: HostRuntime) -> Result<(), Fail> {
+    let counted = Rationed::refusing(0, rt.alloc());
+    let pattern = Pattern::default(&counted);
+    let other = Pattern::default(&counted);
+    assert!(rt; pattern == other && !(pattern < other));
+    assert!(rt; pattern.as_str().is_empty());
+    pattern.hash(&mut DefaultHasher::new());
+    assert!(rt; pattern.matches("")? && !pattern.matches("a")?);
+    pattern.clone()?;
+    assert_eq!(rt; counted.ration.asked(), 0);
+    Ok(())
+}
+
+/// Patterns of at most 63 tokens, with an end of a text that makes it one that they match, and one that does not.
+const SHORT: [(Parts<'static>, &str, &str); 3] = [
+    (&[("*b", 1)], "b", "a"),
+    (&[("**/[!a-y]", 1)], "/z", "z"),
+    (&[("?", 61), ("*z", 1)], "z", "zy"),
+];
+
+/// A hundred characters.
+const HUNDRED: &str =
+    "aaaaaaaaaaaaaaaaaaaaaaaaaaaaaaaaaaaaaaaaaaaaaaaaaaaaaaaaaaaaaaaaaaaaaaaaaaaaaaaaaaaaaaaaaaaaaaaaaaaa";
+
+/// A match with a megabyte and this end takes no memory.
+fn check_free(
+    rt: &(impl Abort + AllocGlobal),
+    pattern: Parts<'_>,
+    end: &str,
+    answer: bool,
+) -> Result<(), Fail> {
+    let text = text_of(rt, &[(HUNDRED, 10_000), (end, 1)])?;
+    let str = text.as_str();
+    let counted = Rationed::refusing(0, rt.alloc());
+    let pattern = Pattern::new(&counted, text_of(rt, pattern)?.as_str())?;
+    let requests = counted.ration.asked();
+    let options = MatchOptions {
+        require_literal_separator: true,
+        ..MatchOptions::new()
+    };
+    assert_eq!(rt; pattern.matches_with(str, options)?, answer);
+    assert_eq!(rt; counted.ration.asked(), requests);
+    Ok(())
+}
+
+#[test]
+fn short_patterns_match_a_megabyte_without_memory(rt: HostRuntime) -> Result<(), Fail> {
+    for (pattern, matched, unmatched) in SHORT {
+        check_free(&rt, pattern, matched, true)?;
+        check_free(&rt, pattern, unmatched, false)?;
+    }
+    Ok(())
+}
+
+/// A judge that no pattern made is run without memory, up to 63 shapes.
+#[test]
+fn short_lists_of_shapes_need_no_memory(rt: HostRuntime) -> Result<(), Fail> {
+    let mut shapes = Vec::new(rt.alloc());
+    for number in 0..=63usize {
+        let answers = Answers {
+            characters: 1_000,
+            tokens: shapes.len(),
+            opening: &[0, 7],
+            refused: &[(5, 999)],
+        };
+        let counted = Rationed::refusing(0, rt.alloc());
+        run_positions(&counted, shapes.as_slice(), &mut TableJudge::new(answers))?;
+        assert_eq!(rt; counted.ration.asked(), 0, "{number} shapes");
+        shapes.push(match number % 3 {
+            0 => Shape::Run,
+            1 => Shape::One,
+            _ => Shape::Deep,
+        })?;
+    }
+    Ok(())
+}
+
+/// A unit of a pattern, how often it stands there, and how many requests each may take. The first makes a megabyte.
+const UNITS: [(&str, usize, u64); 4] = [
+    ("a*\u{10fffe}?", 150_000, 0),
+    ("**/", 50_000, 0),
+    ("[!b-y]", 20_000, 4),
+    ("[0123456789abcdef]", 10_000, 8),
+];
+
+/// To read a pattern and to copy it takes a few requests for each bracket, and else a few for each doubling of its length.
+/// All blocks are given back.
+#[test]
+fn long_patterns_take_few_requests(rt: HostRuntime) -> Result<(), Fail> {
+    for (unit, units, each) in UNITS {
+        let text = text_of(&rt, &[(unit, units)])?;
+        let counted = Rationed::refusing(0, rt.alloc());
+        let pattern = Pattern::new(&counted, text.as_str())?;
+        let most = (units as u64).saturating_mul(each).saturating_add(100);
+        let read = counted.ration.asked();
+        assert!(rt; read <= most, "{read} requests for {unit}");
+        let copy = pattern.clone()?;
+        let copied = counted.ration.asked().saturating_sub(read);
+        assert!(rt; copied <= most, "{copied} requests for a copy of {unit}");
+        drop(copy);
+        drop(pattern);
+        assert_eq!(rt; counted.ration.held(), 0);
+        Pattern::escape(&counted, text.as_str())?;
+        assert_eq!(rt; counted.ration.held(), 0);
+    }
+    Ok(())
+}
+
+/// How many calls of a reader or a writer so many bytes may take: one for each 4,096 of them, and a few more.
+fn most_calls(bytes: usize) -> u64 {
+    (bytes as u64 / 4_096).saturating_add(3)
+}
+
+/// The lines are read and written in few calls, and with few requests for memory.
+fn check_calls(
+    rt: &(impl Abort + AllocGlobal),
+    pattern: &str,
+    line: &str,
+    lines: usize,
+) -> Result<(), Fail> {
+    let input = text_of(rt, &[(line, lines)])?;
+    let (reads, writes) = (Cell::new(0), Cell::new(0));
+    let inner = ShortReader::new(input.as_bytes(), usize::MAX);
+    let mut reader = Watch::new(Counted {
+        calls: &reads,
+        inner,
+    });
+    let inner = ShortWriter::new(rt.alloc(), usize::MAX);
+    let mut writer = Watch::new(Counted {
+        calls: &writes,
+        inner,
+    });
+    let counted = Rationed::refusing(0, rt.alloc());
+    let pattern = Pattern::new(rt.alloc(), pattern)?;
+    let options = MatchOptions::new();
+    filter_lines(&counted, &pattern, options, &mut reader, &mut writer)?;
+    let written = writer.into_inner().inner.written().len();
+    assert!(rt;
+        reads.get() <= most_calls(input.len()),
+        "{} reads",
+        reads.get()
+    );
+    assert!(rt;
+        writes.get() <= most_calls(written),
+        "{} writes",
+        writes.get()
+    );
+    let requests = counted.ration.asked();
+    assert!(rt; requests <= most_calls(input.len()), "{requests} requests");
+    assert_eq!(rt; counted.ration.held(), 0);
+    Ok(())
+}
+
+#[test]
+fn many_lines_take_few_calls(rt: HostRuntime) -> Result<(), Fail> {
+    check_calls(&rt, "*", "a line\n", 100_000)?;
+    check_calls(&rt, "*b", "a line\n", 100_000)?;
+    check_calls(&rt, "", "\n", 100_000)?;
+    check_calls(&rt, "*", "a", 1_000_000)
+}
