@@ -2,8 +2,9 @@
 pub use glob_pattern::laws::{
     accepted_has_no_fault, components_match_level_by_level, deep_tokens_match_as_one,
     escaped_text_matches_itself, looser_rules_keep_a_match, matching_is_decided,
-    no_more_tokens_than_characters, one_list_of_tokens, one_unit_at_a_place, one_way_of_units,
-    plain_pattern_matches_itself, reading_answers_fault, reading_answers_tokens,
+    no_more_tokens_than_characters, one_character_for_each_such_token, one_list_of_tokens,
+    one_unit_at_a_place, one_way_of_units, plain_pattern_matches_itself,
+    plain_tokens_stand_in_the_text, reading_answers_fault, reading_answers_tokens,
     refused_has_one_fault, separator_rule_spares_names,
 };
 pub use glob_walk::laws::{

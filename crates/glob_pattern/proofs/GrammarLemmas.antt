@@ -1,6 +1,7 @@
 pub mod Accepted
 pub mod Closing
 pub mod Folding
+pub mod PlainUnits
 pub mod Reading
 pub mod Units
 pub mod WrittenUnits

@@ -7,4 +7,5 @@ pub mod GrammarLemmas
 pub mod MaskLemmas
 pub mod MatchingLemmas
 pub mod Places
+pub mod PlainNeighbours
 pub mod PositionLemmas

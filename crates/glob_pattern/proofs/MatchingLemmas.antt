@@ -4,7 +4,9 @@ pub mod Folded
 pub mod Literals
 pub mod Loosening
 pub mod PiecesAndSplits
+pub mod PlainEnds
 pub mod PlainPatterns
+pub mod PlainTokens
 pub mod Rests
 pub mod Splits
 pub mod Stepping

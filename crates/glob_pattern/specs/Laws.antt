@@ -1,18 +1,19 @@
 -- Laws of patterns, as statements.
-use Rattle.std.specs.Prelude.{◌≡◌, ℕ, ◌<◌, Bool, List, ◌∷◌, length, slice_index, IsTrue, IsFalse, Decides, ◌↔◌}
-use Rattle.std.specs.List.{list_any, list_all, join_with_byte}
+use Rattle.std.specs.Prelude.{◌≡◌, ℕ, ◌<◌, ◌≤◌, Bool, List, [], ◌∷◌, ◌++◌, length, map, slice_index, IsTrue, IsFalse, Decides, ◌↔◌}
+use Rattle.std.specs.List.{count_by, list_any, list_all, join_with_byte}
 use Rattle.std.specs.Path.{has_no_slash}
 use Rattle.glob_text.specs.Characters.{slash}
 use Rattle.glob_pattern.specs.Grammar.Characters.{is_wildcard}
 use Rattle.glob_text.specs.Text.{Text}
 use Rattle.glob_pattern.specs.Grammar.Brackets.{is_same}
-use Rattle.glob_pattern.specs.Grammar.Tokens.{Token, tokens_of_units}
+use Rattle.glob_pattern.specs.Grammar.Tokens.{Token, tokens_of_units, takes_one}
 use Rattle.glob_pattern.specs.Grammar.Units.{IsAccepted}
 use Rattle.glob_pattern.specs.Matching.Components.{takes_names, with_separator_rule, AreComponents}
 use Rattle.glob_pattern.specs.Matching.Texts.{TokensMatch, Matches}
 use Rattle.glob_pattern.specs.Escaping.{escaped_text}
 use Rattle.glob_pattern.specs.Computing.Deciding.{tokens_match, is_match}
 use Rattle.glob_pattern.specs.declared.options.MatchOptions.{MatchOptions}
+use Rattle.glob_pattern.specs.declared.token.Token.TheVariants.{Plain}
 
 -- the second options have the case of the first, and no rule that the first lack
 abbrev pub IsLooser : MatchOptions → MatchOptions → Type 0
@@ -115,3 +116,27 @@ RootedMatchLevels =
     → AreComponents (t ∷ ts) → IsTrue (list_all has_no_slash (n ∷ ns))
     → is_match (with_separator_rule o) (slash ∷ join_with_byte slash (t ∷ ts)) (slash ∷ join_with_byte slash (n ∷ ns))
     ≡ takes_names o (is_match o) (t ∷ ts) (n ∷ ns)
+
+-- Plain characters stand in a text, the same with or without case: first in it if nothing is before their tokens, and
+-- last if nothing is after them.
+pub record StandsIn (case : Bool) (front : List Token) (plain : Text) (back : List Token) (text : Text) : Type 0 where
+  pub before : Text
+  pub here : Text
+  pub after : Text
+  pub split : text ≡ before ++ (here ++ after)
+  pub same : SameTexts case here plain
+  pub first : front ≡ [] → before ≡ []
+  pub last : back ≡ [] → after ≡ []
+
+-- neighbouring plain tokens stand for characters of each text that the tokens match
+abbrev pub PlainTokensStand : Type 0
+PlainTokensStand =
+    (o : MatchOptions) (front : List Token) (plain : Text) (back : List Token) (text : Text)
+    → TokensMatch o (front ++ (map Plain plain ++ back)) text
+    → StandsIn o.case_sensitive front plain back text
+
+-- a text is at least as long as there are tokens of one character
+abbrev pub OneCharacterEach : Type 0
+OneCharacterEach =
+    (o : MatchOptions) (tokens : List Token) (text : Text) → TokensMatch o tokens text
+    → count_by takes_one tokens ≤ length text

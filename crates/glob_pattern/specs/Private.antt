@@ -1,6 +1,7 @@
 pub mod Prefixes
 pub mod Masks
 pub mod Patterns
+pub mod PlainEnds
 pub mod Positions
 pub mod Stepping
 pub mod TextTable

@@ -5,7 +5,7 @@ ghost use Rattle.glob_pattern.specs.Grammar.Tokens.{Token};
 ghost use Rattle.glob_pattern.specs.Grammar.Units.{UnitAt, HasUnits, IsAccepted, HasTokens};
 ghost use Rattle.glob_pattern.specs.Grammar.Faults.{Fault, IsFault};
 ghost use Rattle.glob_pattern.specs.Computing.Reading.{reading_of};
-ghost use Rattle.glob_pattern.specs.Laws.{TokensLoosened, PatternsLoosened, PlainAccepted, PlainMatchesSame, PlainMatchesItself, FoldedMatchSame, EscapedAccepted, EscapedMatchesSame, EscapedMatchesItself, TokensDecided, PatternsDecided, SeparatorRuleSparesNames, JoinedMatchLevels, RootedMatchLevels};
+ghost use Rattle.glob_pattern.specs.Laws.{TokensLoosened, PatternsLoosened, PlainAccepted, PlainMatchesSame, PlainMatchesItself, FoldedMatchSame, EscapedAccepted, EscapedMatchesSame, EscapedMatchesItself, TokensDecided, PatternsDecided, SeparatorRuleSparesNames, JoinedMatchLevels, RootedMatchLevels, PlainTokensStand, OneCharacterEach};
 
 /// The computed reading of a text has tokens exactly if they are those of the text. That of `a?` has the plain `a` and
 /// `?`.
@@ -97,4 +97,15 @@ pub fn separator_rule_spares_names()
 pub fn components_match_level_by_level()
     ensures joined { JoinedMatchLevels }
     ensures rooted { RootedMatchLevels }
+{}
+
+/// Neighbouring plain tokens stand for characters of each text that the tokens match: the first ones at its beginning,
+/// and the last ones at its end. So a text that `a*.rs` matches begins with `a` and ends in `.rs`.
+pub fn plain_tokens_stand_in_the_text()
+    ensures { PlainTokensStand }
+{}
+
+/// A text is at least as long as there are tokens of one character: one that `*.r?` matches has three characters.
+pub fn one_character_for_each_such_token()
+    ensures { OneCharacterEach }
 {}

@@ -9,6 +9,7 @@ ghost use Rattle.glob_pattern.specs.Matching.Options.{new_options};
 
 mod character_judge;
 mod compare;
+mod ends;
 mod escape;
 mod judge;
 mod masks;
@@ -19,6 +20,8 @@ use crate::matcher::{self, Judge, Shape};
 use crate::options::MatchOptions;
 use crate::token::Token;
 use crate::token::bracket::Bracket;
+pub use ends::may_match;
+use ends::plain_end;
 use judge::TextJudge;
 use masks::TokenMasks;
 use std::alloc::{AllocError, Allocator, Global};
@@ -41,6 +44,8 @@ pub struct Pattern<A: Allocator = Global> {
     tokens: Vec<Token<Bracket<A>>, A>,
     shapes: Vec<Shape, A>,
     masks: Vec<TokenMasks, A>,
+    // how many bytes at the end of the text are plain tokens
+    plain_end: usize,
     alloc: A,
     ghost masked: { AreAllMasks tokens.items masks.items },
 }
@@ -52,10 +57,12 @@ impl<A: Allocator> Model for Pattern<A> {
 
     ghost use Rattle.std.specs.Prelude.{chars};
     ghost use Rattle.glob_pattern.specs.Private.Patterns.{KeepsTokens};
+    ghost use Rattle.glob_pattern.specs.Private.PlainEnds.{EndsPlain};
 
     ghost view = { λ p. string_bytes p.text };
 
-    ghost invariant = { λ p. KeepsTokens (chars (string_bytes p.text)) p.tokens.items p.shapes.items };
+    ghost invariant = { λ p. KeepsTokens (chars (string_bytes p.text)) p.tokens.items p.shapes.items
+        × EndsPlain p.tokens.items (string_bytes p.text) p.plain_end };
 }
 
 impl<A: Allocator> Pattern<A> {
@@ -81,12 +88,14 @@ impl<A: Allocator + Copy> Pattern<A> {
         let tokens = grammar::read_tokens(alloc, pattern)?;
         let shapes = grammar::shapes_of(alloc, tokens.as_slice())?;
         let masks = masks::masks_of(alloc, tokens.as_slice())?;
+        let plain_end = plain_end(pattern, tokens.as_slice());
         let text = String::from_str(alloc, pattern)?;
         Ok(Pattern {
             text,
             tokens,
             shapes,
             masks,
+            plain_end,
             alloc,
         })
     }
@@ -110,6 +119,7 @@ impl<A: Allocator + Copy> Pattern<A> {
             tokens: Vec::new(alloc),
             shapes: Vec::new(alloc),
             masks: Vec::new(alloc),
+            plain_end: 0,
             alloc,
         }
     }
@@ -124,6 +134,7 @@ impl<A: Allocator + Copy> Pattern<A> {
             tokens: grammar::clone_tokens(&self.tokens)?,
             shapes: self.shapes.clone()?,
             masks: self.masks.clone()?,
+            plain_end: self.plain_end,
             alloc: self.alloc,
         })
     }
@@ -133,12 +144,13 @@ impl<A: Allocator + Copy> Pattern<A> {
     ///
     /// The error is a failed allocation. A pattern of at most 63 tokens (characters, wildcards and brackets) allocates
     /// nothing.
+    #[inline]
     pub fn matches(&self, str: &str) -> Result<bool, AllocError>
         ensures answer { IfOk result
             (λ yes. IsTrue yes ↔ Matches new_options (chars self.now) (chars str.now)) }
         ensures short { IsShort (chars self.now) → IsOk result }
     {
-        Ok(self.matches_counted(str, MatchOptions::new())?.0)
+        self.matches_with(str, MatchOptions::new())
     }
 
     /// Whether the pattern matches the whole text: whether the text splits into one allowed piece for each token. So
@@ -146,20 +158,32 @@ impl<A: Allocator + Copy> Pattern<A> {
     ///
     /// The error is a failed allocation. A pattern of at most 63 tokens (characters, wildcards and brackets) allocates
     /// nothing.
+    #[inline]
     pub fn matches_with(&self, str: &str, options: MatchOptions) -> Result<bool, AllocError>
         ensures answer { IfOk result
             (λ yes. IsTrue yes ↔ Matches options (chars self.now) (chars str.now)) }
         ensures short { IsShort (chars self.now) → IsOk result }
     {
-        if options == MatchOptions::new() {
-            self.matches(str)
+        if !may_match(self, str.as_bytes(), options) {
+            Ok(false)
+        } else if options == MatchOptions::new() {
+            self.matches_by_new_options(str)
         } else {
             self.matches_under(str, options)
         }
     }
 
-    /// The answer of [`matches_with`](Self::matches_with) by a loop that tests the options. It is never inlined, so
-    /// that the loop in `matches` is compiled for `MatchOptions::new()` alone.
+    /// The answer of [`matches`](Self::matches) by a loop that is compiled for `MatchOptions::new()` alone.
+    #[inline(never)]
+    fn matches_by_new_options(&self, str: &str) -> Result<bool, AllocError>
+        ensures answer { IfOk result
+            (λ yes. IsTrue yes ↔ Matches new_options (chars self.now) (chars str.now)) }
+        ensures short { IsShort (chars self.now) → IsOk result }
+    {
+        Ok(self.matches_counted(str, MatchOptions::new())?.0)
+    }
+
+    /// The answer of [`matches_with`](Self::matches_with) by a loop that tests the options.
     #[inline(never)]
     fn matches_under(&self, str: &str, options: MatchOptions) -> Result<bool, AllocError>
         ensures answer { IfOk result

@@ -16,7 +16,7 @@ folded_one : (t : Token) → tokens_of_units (t ∷ []) ≡ t ∷ []
 folded_one t = cond_both (is_deep t && false) [] (t ∷ []) (λ xs. xs ≡ t ∷ []) (λ e. absurd (false≢true (sym (and_right (is_deep t) false refl) ∙ e))) (λ e. refl)
 
 -- Some token stays.
-folded_some : (t : Token) (ts : List Token) → 0 < length (tokens_of_units (t ∷ ts))
+pub folded_some : (t : Token) (ts : List Token) → 0 < length (tokens_of_units (t ∷ ts))
 folded_some t [] = omega (arith, ap length (folded_one t))
 folded_some t (u ∷ us) =
     let rest = folded_some u us in

@@ -19,6 +19,15 @@ is_deep Run = false
 is_deep (Within entries) = false
 is_deep (Except entries) = false
 
+-- the token takes one character: it is neither `*` nor `**`
+abbrev pub takes_one : Token → Bool
+takes_one (Plain c) = true
+takes_one Any = true
+takes_one Run = false
+takes_one Deep = false
+takes_one (Within entries) = true
+takes_one (Except entries) = true
+
 -- the first of the tokens is `**`
 abbrev pub begins_deep : List Token → Bool
 begins_deep [] = false

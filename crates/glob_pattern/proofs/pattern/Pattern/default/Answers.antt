@@ -1,7 +1,8 @@
-use Rattle.std.proofs.Common.{◌≡◌, ◌+◌, ◌*◌, ◌/◌, ℕ, [], length, refl, arith}
+use Rattle.std.proofs.Common.{[], refl, arith}
 use Rattle.std.proofs.lemmas.Str.{chars-nil}
 use Rattle.glob_pattern.specs.Grammar.Units.{HasTokens}
 use Rattle.glob_pattern.specs.Private.Masks.{AreAllMasks}
+use Rattle.glob_pattern.specs.Private.PlainEnds.{EndsPlain}
 use Rattle.glob_pattern.proofs.pattern.Pattern.default.Goals as goal
 
 -- The empty text has no token.
@@ -12,11 +13,18 @@ HasTokens-nil = ([], refl, refl)
 AreAllMasks-nil : AreAllMasks [] []
 AreAllMasks-nil = record { count = refl; each = λ i d lt. absurd (omega arith) }
 
+-- nor a plain end
+EndsPlain-nil : EndsPlain [] [] 0
+EndsPlain-nil = record { front = []; plain = []; tokens_are = refl; within = omega arith; spelt = refl }
+
 pub invariant_of-result : goal.invariant_of-result
 invariant_of-result g c = (rw (c.new-2.ensures.items, c.new-4.ensures.items) AreAllMasks-nil, _)
 
 pub invariant_of-result-2 : goal.invariant_of-result-2
-invariant_of-result-2 g c = record {
-  read = rw (c.new.ensures.bytes, chars-nil, c.new-2.ensures.items) HasTokens-nil;
-  shaped = rw (c.new-3.ensures.items, c.new-2.ensures.items) refl;
-}
+invariant_of-result-2 g c = (
+  record {
+    read = rw (c.new.ensures.bytes, chars-nil, c.new-2.ensures.items) HasTokens-nil;
+    shaped = rw (c.new-3.ensures.items, c.new-2.ensures.items) refl;
+  },
+  rw (c.new.ensures.bytes, c.new-2.ensures.items) EndsPlain-nil,
+)

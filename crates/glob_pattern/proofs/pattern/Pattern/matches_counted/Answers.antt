@@ -13,7 +13,7 @@ pub run_positions-requires-clause-tokens : goal.run_positions-requires-clause-to
 unfolding table_of
 run_positions-requires-clause-tokens g c =
     let shapes : length c.as_slice-3.result.now ≡ length c.self.inside.tokens.items =
-    ap length (c.as_slice-3.ensures.value ∙ c.self.invariant.shaped) ∙ length-map c.self.inside.tokens.items shape_of in
+    ap length (c.as_slice-3.ensures.value ∙ c.self.invariant.0.shaped) ∙ length-map c.self.inside.tokens.items shape_of in
     let tokens : length c.new-judge.result.tokens.now ≡ length c.self.inside.tokens.items =
     ap length (c.new-judge.ensures.tokens ∙ c.as_slice.ensures.value) in
     omega (arith, shapes, tokens)
@@ -29,7 +29,7 @@ run_positions-requires-clause-room g c =
 pub returns-clause-answer : goal.returns-clause-answer
 returns-clause-answer g c =
     Matches-by_table c.args.options (chars c.args.self.now) (chars c.args.str.now)
-    c.self.inside.tokens.items c.self.inside.shapes.items (rw c.self.view_is at c.self.invariant)
+    c.self.inside.tokens.items c.self.inside.shapes.items (rw c.self.view_is at c.self.invariant.0)
     c.new-judge.result.options c.new-judge.result.tokens.now (chars c.new-judge.result.text.now) c.as_slice-3.result.now
     c.new-judge.ensures.options (c.new-judge.ensures.tokens ∙ c.as_slice.ensures.value) (ap chars c.new-judge.ensures.text)
     c.as_slice-3.ensures.value c.in_ok-answer.ensures.answer
@@ -38,9 +38,9 @@ pub returns-clause-most : goal.returns-clause-most
 unfolding table_of
 returns-clause-most g c =
     let shapes : length c.as_slice-3.result.now ≡ length c.self.inside.tokens.items =
-    ap length (c.as_slice-3.ensures.value ∙ c.self.invariant.shaped) ∙ length-map c.self.inside.tokens.items shape_of in
+    ap length (c.as_slice-3.ensures.value ∙ c.self.invariant.0.shaped) ∙ length-map c.self.inside.tokens.items shape_of in
     let few : length c.self.inside.tokens.items ≤ length (chars c.args.self.now) =
-    length-HasTokens (chars c.args.self.now) c.self.inside.tokens.items (rw c.self.view_is at c.self.invariant.read) in
+    length-HasTokens (chars c.args.self.now) c.self.inside.tokens.items (rw c.self.view_is at c.self.invariant.0.read) in
     let text : length (chars c.new-judge.result.text.now) ≡ length (chars c.args.str.now) = ap (λ bytes. length (chars bytes)) c.new-judge.ensures.text in
     let bound : length c.as_slice-3.result.now * length (chars c.args.str.now) ≤ length (chars c.args.self.now) * length (chars c.args.str.now) =
     mul-le-mul_right (length (chars c.args.str.now)) (omega (arith, shapes, few)) in
@@ -55,5 +55,5 @@ returns-clause-least g c = λ yes.
 
 pub returns-in_err-answer-clause-short : goal.returns-in_err-answer-clause-short
 returns-in_err-answer-clause-short g c = λ short.
-    let few = shapes_are_few (chars c.args.self.now) c.self.inside.tokens.items c.self.inside.shapes.items (rw c.self.view_is at c.self.invariant) short in
+    let few = shapes_are_few (chars c.args.self.now) c.self.inside.tokens.items c.self.inside.shapes.items (rw c.self.view_is at c.self.invariant.0) short in
     absurd (false≢true (c.in_err-answer.ensures.small (omega (arith, few, ap length c.as_slice-3.ensures.value))))
