@@ -5,12 +5,13 @@ ghost use Rattle.std.specs.Path.{path_bytes};
 ghost use Rattle.glob_pattern.specs.Grammar.Units.{IsAccepted};
 ghost use Rattle.glob_pattern.specs.Grammar.Faults.{Refuses};
 ghost use Rattle.glob_pattern.specs.Matching.Texts.{Matches};
-ghost use Rattle.glob_pattern.specs.Matching.Options.{new_options};
+ghost use Rattle.glob_pattern.specs.Matching.Options.{new_options, default_options};
 
 mod character_judge;
 mod compare;
 mod ends;
 mod escape;
+mod inner;
 mod judge;
 mod masks;
 
@@ -22,6 +23,7 @@ use crate::token::Token;
 use crate::token::bracket::Bracket;
 pub use ends::may_match;
 use ends::plain_end;
+use inner::{inner_run, may_match_text};
 use judge::TextJudge;
 use masks::TokenMasks;
 use std::alloc::{AllocError, Allocator, Global};
@@ -46,6 +48,9 @@ pub struct Pattern<A: Allocator = Global> {
     masks: Vec<TokenMasks, A>,
     // how many bytes at the end of the text are plain tokens
     plain_end: usize,
+    // the bytes of the text between these places are plain tokens, neither the first nor the last ones
+    run_start: usize,
+    run_end: usize,
     alloc: A,
     ghost masked: { AreAllMasks tokens.items masks.items },
 }
@@ -57,12 +62,13 @@ impl<A: Allocator> Model for Pattern<A> {
 
     ghost use Rattle.std.specs.Prelude.{chars};
     ghost use Rattle.glob_pattern.specs.Private.Patterns.{KeepsTokens};
-    ghost use Rattle.glob_pattern.specs.Private.PlainEnds.{EndsPlain};
+    ghost use Rattle.glob_pattern.specs.Private.PlainEnds.{EndsPlain, HoldsPlain};
 
     ghost view = { λ p. string_bytes p.text };
 
     ghost invariant = { λ p. KeepsTokens (chars (string_bytes p.text)) p.tokens.items p.shapes.items
-        × EndsPlain p.tokens.items (string_bytes p.text) p.plain_end };
+        × EndsPlain p.tokens.items (string_bytes p.text) p.plain_end
+        × HoldsPlain p.tokens.items (string_bytes p.text) p.run_start p.run_end };
 }
 
 impl<A: Allocator> Pattern<A> {
@@ -89,6 +95,7 @@ impl<A: Allocator + Copy> Pattern<A> {
         let shapes = grammar::shapes_of(alloc, tokens.as_slice())?;
         let masks = masks::masks_of(alloc, tokens.as_slice())?;
         let plain_end = plain_end(pattern, tokens.as_slice());
+        let (run_start, run_end) = inner_run(pattern, tokens.as_slice());
         let text = String::from_str(alloc, pattern)?;
         Ok(Pattern {
             text,
@@ -96,6 +103,8 @@ impl<A: Allocator + Copy> Pattern<A> {
             shapes,
             masks,
             plain_end,
+            run_start,
+            run_end,
             alloc,
         })
     }
@@ -120,6 +129,8 @@ impl<A: Allocator + Copy> Pattern<A> {
             shapes: Vec::new(alloc),
             masks: Vec::new(alloc),
             plain_end: 0,
+            run_start: 0,
+            run_end: 0,
             alloc,
         }
     }
@@ -135,6 +146,8 @@ impl<A: Allocator + Copy> Pattern<A> {
             shapes: self.shapes.clone()?,
             masks: self.masks.clone()?,
             plain_end: self.plain_end,
+            run_start: self.run_start,
+            run_end: self.run_end,
             alloc: self.alloc,
         })
     }
@@ -164,10 +177,12 @@ impl<A: Allocator + Copy> Pattern<A> {
             (λ yes. IsTrue yes ↔ Matches options (chars self.now) (chars str.now)) }
         ensures short { IsShort (chars self.now) → IsOk result }
     {
-        if !may_match(self, str.as_bytes(), options) {
+        if !may_match_text(self, str, options) {
             Ok(false)
         } else if options == MatchOptions::new() {
             self.matches_by_new_options(str)
+        } else if options == MatchOptions::default() {
+            self.matches_by_default_options(str)
         } else {
             self.matches_under(str, options)
         }
@@ -181,6 +196,16 @@ impl<A: Allocator + Copy> Pattern<A> {
         ensures short { IsShort (chars self.now) → IsOk result }
     {
         Ok(self.matches_counted(str, MatchOptions::new())?.0)
+    }
+
+    /// The answer under `MatchOptions::default()`, by a loop that is compiled for them alone.
+    #[inline(never)]
+    fn matches_by_default_options(&self, str: &str) -> Result<bool, AllocError>
+        ensures answer { IfOk result
+            (λ yes. IsTrue yes ↔ Matches default_options (chars self.now) (chars str.now)) }
+        ensures short { IsShort (chars self.now) → IsOk result }
+    {
+        Ok(self.matches_counted(str, MatchOptions::default())?.0)
     }
 
     /// The answer of [`matches_with`](Self::matches_with) by a loop that tests the options.

@@ -1,5 +1,5 @@
 -- The plain characters that a pattern ends in.
-use Rattle.std.specs.Prelude.{◌≡◌, ℕ, ◌-◌, ◌≤◌, Bool, true, List, ◌++◌, length, map, drop}
+use Rattle.std.specs.Prelude.{◌≡◌, ℕ, ◌-◌, ◌≤◌, Bool, true, List, ◌++◌, length, map, drop, slice_range}
 use Rattle.std.specs.Char.{to_ascii_lowercase}
 use Rattle.std.specs.Str.{encode_utf8_all}
 use Rattle.glob_text.specs.Text.{Text}
@@ -21,3 +21,20 @@ pub record EndsSame (case : Bool) (bytes end : List ℕ) : Type 0 where
   pub split : bytes ≡ front ++ last
   pub small : map to_ascii_lowercase last ≡ map to_ascii_lowercase end
   pub exact : case ≡ true → last ≡ end
+
+-- the first tokens are plain, of these characters
+pub record BeginsPlain (tokens : List Token) (plain : Text) : Type 0 where
+  pub back : List Token
+  pub tokens_are : tokens ≡ map Plain plain ++ back
+
+-- plain tokens that stand together are of these characters
+pub record HasPlain (tokens : List Token) (plain : Text) : Type 0 where
+  pub front : List Token
+  pub back : List Token
+  pub tokens_are : tokens ≡ front ++ (map Plain plain ++ back)
+
+-- the bytes of the pattern between the places spell plain tokens that stand together
+pub record HoldsPlain (tokens : List Token) (pattern : List ℕ) (start end : ℕ) : Type 0 where
+  pub plain : Text
+  pub are : HasPlain tokens plain
+  pub spelt : slice_range pattern start end ≡ encode_utf8_all plain

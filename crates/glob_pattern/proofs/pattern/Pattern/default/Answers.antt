@@ -2,7 +2,7 @@ use Rattle.std.proofs.Common.{[], refl, arith}
 use Rattle.std.proofs.lemmas.Str.{chars-nil}
 use Rattle.glob_pattern.specs.Grammar.Units.{HasTokens}
 use Rattle.glob_pattern.specs.Private.Masks.{AreAllMasks}
-use Rattle.glob_pattern.specs.Private.PlainEnds.{EndsPlain}
+use Rattle.glob_pattern.specs.Private.PlainEnds.{EndsPlain, HoldsPlain}
 use Rattle.glob_pattern.proofs.pattern.Pattern.default.Goals as goal
 
 -- The empty text has no token.
@@ -17,6 +17,9 @@ AreAllMasks-nil = record { count = refl; each = λ i d lt. absurd (omega arith) 
 EndsPlain-nil : EndsPlain [] [] 0
 EndsPlain-nil = record { front = []; plain = []; tokens_are = refl; within = omega arith; spelt = refl }
 
+HoldsPlain-nil : HoldsPlain [] [] 0 0
+HoldsPlain-nil = record { plain = []; are = record { front = []; back = []; tokens_are = refl }; spelt = refl }
+
 pub invariant_of-result : goal.invariant_of-result
 invariant_of-result g c = (rw (c.new-2.ensures.items, c.new-4.ensures.items) AreAllMasks-nil, _)
 
@@ -27,4 +30,5 @@ invariant_of-result-2 g c = (
     shaped = rw (c.new-3.ensures.items, c.new-2.ensures.items) refl;
   },
   rw (c.new.ensures.bytes, c.new-2.ensures.items) EndsPlain-nil,
+  rw (c.new.ensures.bytes, c.new-2.ensures.items) HoldsPlain-nil,
 )

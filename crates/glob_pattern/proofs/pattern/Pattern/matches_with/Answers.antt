@@ -1,6 +1,5 @@
 use Rattle.std.proofs.Common.{◌≡◌, ◌↔◌, IsTrue, IfOk, chars, sym, ap, ◌∙◌, subst}
-use Rattle.std.proofs.lemmas.Bool.{and_parts, false≢true}
-use Rattle.std.proofs.lemmas.Str.{is_utf8-from_IsUtf8}
+use Rattle.std.proofs.lemmas.Bool.{and_parts}
 use Rattle.std.specs.Cmp.{booleans_Decides}
 use Rattle.glob_pattern.specs.Matching.Texts.{Matches}
 use Rattle.glob_pattern.specs.declared.options.MatchOptions.{MatchOptions}
@@ -20,8 +19,9 @@ returns-then-eq-clause-answer g c =
     let same = fields-equal c.args.options c.new.result ((booleans_Decides _ _).0 case) ((booleans_Decides _ _).0 separator) ((booleans_Decides _ _).0 leading_dot) ∙ c.new.ensures in
     subst (λ o. IfOk c.matches_by_new_options.result (λ yes. IsTrue yes ↔ Matches o (chars c.args.self.now) (chars c.args.str.now))) (sym same) c.matches_by_new_options.ensures.answer
 
-pub returns-then-not-may_match-clause-answer : goal.returns-then-not-may_match-clause-answer
-returns-then-not-may_match-clause-answer g c =
-    let utf8 = rw (← c.as_bytes.ensures.value) at (is_utf8-from_IsUtf8 c.args.str.now c.utf8.str) in
-    let none = rw c.as_bytes.ensures.value at (c.may_match.ensures c.if-not-may_match.true utf8) in
-    (λ e. absurd (false≢true e), λ matches. absurd (none matches))
+pub returns-then-eq-2-clause-answer : goal.returns-then-eq-2-clause-answer
+returns-then-eq-2-clause-answer g c =
+    let (case, rules) = and_parts _ _ (sym c.eq-else-eq.ensures ∙ c.if-eq-2.true) in
+    let (separator, leading_dot) = and_parts _ _ rules in
+    let same = fields-equal c.args.options c.default.result ((booleans_Decides _ _).0 case) ((booleans_Decides _ _).0 separator) ((booleans_Decides _ _).0 leading_dot) ∙ c.default.ensures in
+    subst (λ o. IfOk c.matches_by_default_options.result (λ yes. IsTrue yes ↔ Matches o (chars c.args.self.now) (chars c.args.str.now))) (sym same) c.matches_by_default_options.ensures.answer

@@ -1,0 +1,125 @@
+//! Plain characters inside a pattern, which stand in each text that it matches.
+ghost use Rattle.std.specs.Prelude.{◌≡◌, false, IsTrue, chars};
+ghost use Rattle.std.specs.Str.{IsUtf8};
+ghost use Rattle.glob_pattern.specs.Matching.Texts.{Matches};
+ghost use Rattle.glob_pattern.specs.Private.PlainEnds.{HoldsPlain, BeginsPlain, HasPlain};
+
+use crate::options::MatchOptions;
+use crate::pattern::Pattern;
+use crate::pattern::ends::may_match;
+use crate::token::Token;
+use crate::token::bracket::Bracket;
+use std::alloc::Allocator;
+
+/// A run has this many bytes at least: fewer stand in most texts, so that looking for them decides little.
+const SHORTEST: usize = 3;
+
+/// A run is cut to this many bytes.
+const LONGEST: usize = 32;
+
+/// Shorter texts are matched at once.
+const SHORTEST_TEXT: usize = 16;
+
+/// Whether the pattern may match the text: whether the text ends as the pattern does, and has the plain run inside the
+/// pattern. Where the answer is `false` there is no match.
+#[inline(always)]
+pub fn may_match_text<A: Allocator>(pattern: &Pattern<A>, str: &str, options: MatchOptions) -> bool
+    ensures { result ≡ false → ¬ (Matches options (chars pattern.now) (chars str.now)) }
+{
+    if !may_match(pattern, str.as_bytes(), options) {
+        return false;
+    }
+    pattern.run_start == pattern.run_end
+        || !options.case_sensitive
+        || str.len() < SHORTEST_TEXT
+        || has_run_inside(pattern, str, options)
+}
+
+/// Whether the text has the plain run inside the pattern.
+#[inline(never)]
+fn has_run_inside<A: Allocator>(pattern: &Pattern<A>, str: &str, options: MatchOptions) -> bool
+    requires { IsTrue options.case_sensitive }
+    ensures { result ≡ false → ¬ (Matches options (chars pattern.now) (chars str.now)) }
+{
+    match pattern
+        .text
+        .as_str()
+        .get(pattern.run_start..pattern.run_end)
+    {
+        Some(run) => str.contains(run),
+        None => true,
+    }
+}
+
+/// Where bytes of the pattern stand that are plain tokens, neither its first nor its last ones: `config` in
+/// `*config*`. Without such bytes both places are 0.
+pub fn inner_run<A: Allocator>(pattern: &str, tokens: &[Token<Bracket<A>>]) -> (usize, usize)
+    ensures { HoldsPlain tokens.now pattern.now result.0 result.1 }
+{
+    let (start, end) = longest_stretch(pattern.as_bytes());
+    if let Some(run) = pattern.get(start..end)
+        && has_run(tokens, run)
+    {
+        return (start, end);
+    }
+    (0, 0)
+}
+
+/// Where the longest stretch without wildcards and brackets stands between two of them, without a leading `/`, which
+/// may belong to a `**`. It may be something else in an odd pattern: what it is has to be looked at.
+fn longest_stretch(pattern: &[u8]) -> (usize, usize) {
+    let mut longest = (0, 0);
+    let mut len = SHORTEST - 1;
+    let mut start = 0usize;
+    for (place, byte) in pattern.iter().enumerate() {
+        match *byte {
+            b'*' | b'?' | b'[' => {
+                let end = place.min(start.saturating_add(LONGEST));
+                if start > 0 && end.saturating_sub(start) > len {
+                    len = end.saturating_sub(start);
+                    longest = (start, end);
+                }
+                start = place + 1;
+            }
+            b']' => start = place + 1,
+            b'/' if place == start => start = place + 1,
+            _ => {}
+        }
+    }
+    longest
+}
+
+/// Whether plain tokens that stand together are the characters of the run.
+fn has_run<A: Allocator>(tokens: &[Token<Bracket<A>>], run: &str) -> bool
+    ensures has { IsTrue result → HasPlain tokens.now (chars run.now) }
+    ensures utf8 { IsUtf8 run.now }
+{
+    let mut rest = tokens;
+    while let [_, others @ ..] = rest {
+        if begins_with_run(rest, run) {
+            return true;
+        }
+        rest = others;
+    }
+    false
+}
+
+/// Whether the first tokens are the characters of the run.
+fn begins_with_run<A: Allocator>(tokens: &[Token<Bracket<A>>], run: &str) -> bool
+    ensures { IsTrue result → BeginsPlain tokens.now (chars run.now) }
+{
+    let mut rest = tokens;
+    for c in run.chars() {
+        let [first, others @ ..] = rest else {
+            return false;
+        };
+        let Token::Plain(x) = first else {
+            return false;
+        };
+        if *x != c {
+            return false;
+        }
+        rest = others;
+    }
+    true
+}
