@@ -6,6 +6,7 @@ mod liars;
 use glob::{Asks, Entry, ListError, Look, Tree};
 pub use liars::{
     Chain, Counting, Descending, Endless, FalseDirectory, Fickle, NoMemory, Ready, Unlisted,
+    Unreadable,
 };
 use std::alloc::{AllocError, Allocator};
 

@@ -62,8 +62,8 @@ pub(super) struct Given {
     pub(super) spent: u64,
 }
 
-/// A walk that has given nothing yet. As of the two calls below, no contract is handed on, since each caller's proof would
-/// carry it.
+/// A walk that has given nothing yet. As of the three calls below, no contract is handed on, since each caller's proof
+/// would carry it.
 pub(super) fn start<T: Tree>(
     alloc: T::Alloc,
     tree: T,
@@ -84,6 +84,11 @@ pub(super) fn gather<T: Tree>(
     job: Job<'_>,
 ) -> Result<Walk<T>, PatternRefusal> {
     walk_in(alloc, tree, job.pattern, job.options, job.limit)
+}
+
+/// How much a walk has spent, and how many items it gave.
+fn counts_of<T: Tree>(paths: &Paths<T>) -> (u64, u128) {
+    (paths.spent(), paths.given())
 }
 
 /// The items that a walk has left.
@@ -108,14 +113,15 @@ pub(super) fn check_ended<T: Tree>(
     limit: u64,
     count: usize,
 ) {
-    let spent = paths.spent();
+    let counts = counts_of(paths);
     for _ in 0..3 {
         assert!(rt; next_of(paths).is_none());
     }
-    assert_eq!(rt; paths.spent(), spent);
+    assert!(rt; counts_of(paths) == counts);
+    let (spent, given) = counts;
     assert!(rt; spent <= limit);
-    assert_eq!(rt; paths.given(), count as u128);
-    assert!(rt; paths.given() <= u128::from(spent) + 1);
+    assert!(rt; given == count as u128);
+    assert!(rt; given <= u128::from(spent) + 1);
 }
 
 /// Takes the items of a walk one by one until none is given. It then stays ended.
@@ -127,7 +133,7 @@ pub(super) fn one_by_one<T: Tree<Alloc = Global>>(
     let mut paths = start(rt.alloc(), tree, job)?;
     let items = rest_of(rt.alloc(), &mut paths)?;
     check_ended(rt, &mut paths, job.limit, items.len());
-    let spent = paths.spent();
+    let (spent, _) = counts_of(&paths);
     Ok(Given { items, spent })
 }
 

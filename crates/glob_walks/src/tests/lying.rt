@@ -13,7 +13,7 @@ use std::process::Abort;
 use std::test::Fail;
 
 /// The text so many times, with separators between.
-fn joined(rt: &impl AllocGlobal, part: &str, times: usize) -> Result<String, Fail> {
+pub(super) fn joined(rt: &impl AllocGlobal, part: &str, times: usize) -> Result<String, Fail> {
     let mut text = String::from_str(rt.alloc(), part)?;
     for _ in 1..times {
         text.push('/')?;
@@ -140,57 +140,33 @@ fn answers_that_change_with_each_call(rt: HostRuntime) -> Result<(), Fail> {
 const COMPONENTS: usize = 5_000;
 
 /// A walk after five thousand such components over a small tree gives nothing and spends so much.
-fn check_nothing(
-    rt: &(impl Abort + AllocGlobal),
-    component: &str,
-    keys: &str,
-    spent: u64,
-) -> Result<(), Fail> {
-    let text = joined(rt, component, COMPONENTS)?;
-    let job = Job::of(text.as_str()).within(20_000);
-    let found = check(rt, &at_root(rt.alloc(), keys)?, job, &[])?;
-    assert_eq!(rt; found, spent);
+#[test]
+fn five_thousand_components_over_a_small_tree(rt: HostRuntime) -> Result<(), Fail> {
+    for (component, keys, spent) in [("a", "a/", 3), ("**", "", 2)] {
+        let text = joined(&rt, component, COMPONENTS)?;
+        let job = Job::of(text.as_str()).within(20_000);
+        let found = check(&rt, &at_root(rt.alloc(), keys)?, job, &[])?;
+        assert_eq!(rt; found, spent);
+    }
     Ok(())
 }
 
+/// A walk after five thousand such components over a tree without end gives a path of so many names, and spends so much.
 #[test]
-fn five_thousand_names_over_one_directory(rt: HostRuntime) -> Result<(), Fail> {
-    check_nothing(&rt, "a", "a/", 3)
-}
-
-#[test]
-fn five_thousand_runs_over_nothing(rt: HostRuntime) -> Result<(), Fail> {
-    check_nothing(&rt, "**", "", 2)
-}
-
-/// A walk after five thousand such components over a tree without end gives this path and spends so much.
-fn check_endless(
-    rt: &(impl Abort + AllocGlobal),
-    component: &str,
-    path: &str,
-    spent: u64,
-) -> Result<(), Fail> {
-    let text = joined(rt, component, COMPONENTS)?;
-    let job = Job::of(text.as_str()).within(20_000);
-    let endless = LyingTree::new(Endless { alloc: rt.alloc() });
-    check_over(rt, endless, job, &[Path(path)], spent)
-}
-
-#[test]
-fn five_thousand_names_without_end(rt: HostRuntime) -> Result<(), Fail> {
-    let path = joined(&rt, "a", COMPONENTS)?;
-    check_endless(&rt, "a", path.as_str(), 5_001)
-}
-
-#[test]
-fn five_thousand_dots(rt: HostRuntime) -> Result<(), Fail> {
-    check_endless(&rt, ".", ".", 5_001)
-}
-
-#[test]
-fn five_thousand_stars(rt: HostRuntime) -> Result<(), Fail> {
-    let path = joined(&rt, "d", COMPONENTS)?;
-    check_endless(&rt, "*", path.as_str(), 10_001)
+fn five_thousand_components_without_end(rt: HostRuntime) -> Result<(), Fail> {
+    let rows = [
+        ("a", "a", COMPONENTS, 5_001),
+        (".", ".", 1, 5_001),
+        ("*", "d", COMPONENTS, 10_001),
+    ];
+    for (component, name, names, spent) in rows {
+        let text = joined(&rt, component, COMPONENTS)?;
+        let path = joined(&rt, name, names)?;
+        let job = Job::of(text.as_str()).within(20_000);
+        let endless = LyingTree::new(Endless { alloc: rt.alloc() });
+        check_over(&rt, endless, job, &[Path(path.as_str())], spent)?;
+    }
+    Ok(())
 }
 
 const MANY: usize = 100_000;

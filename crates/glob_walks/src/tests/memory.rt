@@ -1,23 +1,16 @@
 //! Each request for memory refused in turn: the answer is out of memory, or the one with ample memory.
 use super::checks::{check_ended, gather, next_of, start};
 use super::contents::{Kind, plant};
-use super::items::Item::{self, Memory};
+use super::items::Item::{self, Memory, Unread};
 use super::items::{item_of, read_items};
 use super::reference::Job;
-use crate::trees::{LyingTree, Ready};
-use glob::{End, GlobResult, Look, MemTree, Paths, PatternRefusal, Tree, TreeRefusal};
+use crate::trees::{LyingTree, Ready, Unreadable};
+use glob::{End, GlobResult, MemTree, Paths, PatternRefusal, Tree, TreeRefusal};
 use glob_testing::rationing::{Ration, Rationed};
-use std::alloc::{AllocError, Allocator, Global};
-use std::io::ErrorKind;
+use std::alloc::{Allocator, Global};
+use std::io::{self, ErrorKind};
 use std::process::Abort;
 use std::test::Fail;
-
-fn rationed(refused: u64, inner: Global) -> Rationed<Global> {
-    Rationed {
-        ration: Ration::refusing(refused),
-        inner,
-    }
-}
 
 const FILES: u32 = 1_000;
 
@@ -42,11 +35,11 @@ fn check_first<A: Allocator + Copy>(
 
 #[test]
 fn a_thousand_files_take_few_requests(rt: HostRuntime) -> Result<(), Fail> {
-    let ample = rationed(0, rt.alloc());
+    let ample = Rationed::refusing(0, rt.alloc());
     let before = check_first(&rt, &ample, &ample.ration)?;
     assert!(rt; before > u64::from(FILES));
 
-    let scarce = rationed(before.saturating_add(501), rt.alloc());
+    let scarce = Rationed::refusing(before.saturating_add(501), rt.alloc());
     check_first(&rt, &scarce, &scarce.ration)?;
     assert!(rt; scarce.ration.asked() <= before.saturating_add(500));
     Ok(())
@@ -72,15 +65,22 @@ fn small_tree<A: Allocator + Copy>(alloc: A) -> Result<MemTree<A>, TreeRefusal> 
     Ok(tree)
 }
 
-/// A pattern, and the items of a walk after it in that tree.
-const PATTERN: &str = "**/[!.]*";
-
-const ITEMS: &str = "a a/b a/b/x a/y s !s z";
-
-/// The items of a walk after the pattern.
-fn known_items(alloc: Global) -> Result<Vec<Item<'static>>, AllocError> {
-    read_items(alloc, ITEMS, ErrorKind::PermissionDenied)
-}
+/// Patterns, and the items of a walk after each in that tree. The last has more than 63 tokens.
+const WALKS: [(&str, &str); 10] = [
+    ("**/[!.]*", "a a/b a/b/x a/y s !s z"),
+    ("**", "a a/b s !s"),
+    ("*/*", "a/b a/y !s"),
+    ("**/**/y", "a/y !s"),
+    ("a//y", "a/y"),
+    ("/*", "/a /s /z"),
+    (".*", "./.. ./."),
+    ("z*/", ""),
+    ("", ""),
+    (
+        "*?*?*?*?*?*?*?*?*?*?*?*?*?*?*?*?*?*?*?*?*?*?*?*?*?*?*?*?*?*?*?*?*",
+        "",
+    ),
+];
 
 /// Whether the items that were given are the first of those that are known.
 fn is_beginning<A: Allocator>(given: &[GlobResult<A>], known: &[Item<'_>]) -> bool {
@@ -95,11 +95,16 @@ fn is_beginning<A: Allocator>(given: &[GlobResult<A>], known: &[Item<'_>]) -> bo
 }
 
 /// Walks with memory from `alloc` by `walk_in`, and gives whether memory sufficed.
-fn gathers<A: Allocator + Copy>(rt: &impl Abort, alloc: A, known: &[Item<'_>]) -> bool {
+fn gathers<A: Allocator + Copy>(
+    rt: &impl Abort,
+    alloc: A,
+    pattern: &str,
+    known: &[Item<'_>],
+) -> bool {
     let Ok(tree) = small_tree(alloc) else {
         return false;
     };
-    match gather(alloc, tree, Job::of(PATTERN)) {
+    match gather(alloc, tree, Job::of(pattern)) {
         Err(refusal) => {
             assert!(rt; matches!(refusal, PatternRefusal::Memory));
             false
@@ -138,11 +143,16 @@ fn check_steps<T: Tree>(rt: &impl Abort, paths: &mut Paths<T>, known: &[Item<'_>
 }
 
 /// Takes the items of a walk one by one, with memory from `alloc`, and gives whether memory sufficed.
-fn steps<A: Allocator + Copy>(rt: &impl Abort, alloc: A, known: &[Item<'_>]) -> bool {
+fn steps<A: Allocator + Copy>(
+    rt: &impl Abort,
+    alloc: A,
+    pattern: &str,
+    known: &[Item<'_>],
+) -> bool {
     let Ok(tree) = small_tree(alloc) else {
         return false;
     };
-    match start(alloc, tree, Job::of(PATTERN)) {
+    match start(alloc, tree, Job::of(pattern)) {
         Ok(mut paths) => check_steps(rt, &mut paths, known),
         Err(refusal) => {
             assert!(rt; matches!(refusal, PatternRefusal::Memory));
@@ -151,80 +161,80 @@ fn steps<A: Allocator + Copy>(rt: &impl Abort, alloc: A, known: &[Item<'_>]) -> 
     }
 }
 
+/// Walks in one of both ways, and gives whether memory sufficed. All blocks are given back.
+fn walks(
+    rt: &impl Abort,
+    alloc: &Rationed<Global>,
+    pattern: &str,
+    known: &[Item<'_>],
+    by_steps: bool,
+) -> bool {
+    let sufficed = if by_steps {
+        steps(rt, alloc, pattern, known)
+    } else {
+        gathers(rt, alloc, pattern, known)
+    };
+    assert_eq!(rt; alloc.ration.held(), 0);
+    sufficed
+}
+
 /// How many requests for memory the tree makes.
 fn requests_of_tree(rt: &(impl Abort + AllocGlobal)) -> u64 {
-    let made = rationed(0, rt.alloc());
+    let made = Rationed::refusing(0, rt.alloc());
     assert!(rt; small_tree(&made).is_ok());
     made.ration.asked()
 }
 
-#[test]
-fn each_request_of_a_gathered_walk_is_refused(rt: HostRuntime) -> Result<(), Fail> {
-    let known = known_items(rt.alloc())?;
-    let ample = rationed(0, rt.alloc());
-    assert!(rt; gathers(&rt, &ample, known.as_slice()));
-    let mut refused = 0u32;
-    for number in requests_of_tree(&rt)..=ample.ration.asked() {
-        if !gathers(&rt, &rationed(number, rt.alloc()), known.as_slice()) {
-            refused = refused.saturating_add(1);
+/// Refuses each request for memory of a walk in turn. Gives how often memory did not suffice.
+fn check_walks(
+    rt: &(impl Abort + AllocGlobal),
+    pattern: &str,
+    known: &[Item<'_>],
+    by_steps: bool,
+) -> u32 {
+    let ample = Rationed::refusing(0, rt.alloc());
+    assert!(rt; walks(rt, &ample, pattern, known, by_steps));
+    let mut short = 0u32;
+    for number in requests_of_tree(rt)..=ample.ration.asked() {
+        let scarce = Rationed::refusing(number, rt.alloc());
+        if !walks(rt, &scarce, pattern, known, by_steps) {
+            short = short.saturating_add(1);
         }
     }
-    assert!(rt; refused > 10, "{refused}");
+    short
+}
+
+#[test]
+fn each_request_of_a_walk_is_refused(rt: HostRuntime) -> Result<(), Fail> {
+    for (pattern, words) in WALKS {
+        let known = read_items(rt.alloc(), words, ErrorKind::PermissionDenied)?;
+        for by_steps in [true, false] {
+            let short = check_walks(&rt, pattern, known.as_slice(), by_steps);
+            assert!(rt; short > 2, "{short} for {pattern}");
+        }
+    }
     Ok(())
 }
 
+/// An error's calls, and those that tell how far a walk is, make no request. Neither does a walk that has ended.
 #[test]
-fn each_request_of_a_stepped_walk_is_refused(rt: HostRuntime) -> Result<(), Fail> {
-    let known = known_items(rt.alloc())?;
-    let ample = rationed(0, rt.alloc());
-    assert!(rt; steps(&rt, &ample, known.as_slice()));
-    let mut refused = 0u32;
-    for number in requests_of_tree(&rt)..=ample.ration.asked() {
-        if !steps(&rt, &rationed(number, rt.alloc()), known.as_slice()) {
-            refused = refused.saturating_add(1);
-        }
-    }
-    assert!(rt; refused > 10, "{refused}");
-    Ok(())
-}
-
-/// Makes a directory of this path. Where that is refused for memory, the tree is as it was, and it is made again. Gives
-/// whether it was refused.
-fn adds_at_last<A: Allocator + Copy>(
-    rt: &impl Abort,
-    tree: &mut MemTree<A>,
-    path: &str,
-) -> Result<bool, AllocError> {
-    let added = tree.add_dir(path);
-    if added.is_err() {
-        assert!(rt; added == Err(TreeRefusal::Memory));
-        assert!(rt; tree.look(path)? == Look::Missing);
-        assert!(rt; tree.add_dir(path).is_ok());
-    }
-    assert!(rt; tree.look(path)? == Look::Dir);
-    Ok(added.is_err())
-}
-
-/// How many changes are refused where the request for memory of this number is.
-fn changes_refused(rt: &impl Abort, scarce: &Rationed<Global>) -> Result<u32, AllocError> {
-    let mut tree = MemTree::new(scarce)?;
-    let mut refused = 0u32;
-    for (path, _) in KEYS {
-        if adds_at_last(rt, &mut tree, path)? {
-            refused = refused.saturating_add(1);
-        }
-    }
-    Ok(refused)
-}
-
-/// A change of a tree that is refused for memory leaves the tree as it was, and can be made again.
-#[test]
-fn a_change_without_memory_changes_nothing(rt: HostRuntime) -> Result<(), Fail> {
-    let ample = rationed(0, rt.alloc());
-    assert!(rt; small_tree(&ample).is_ok());
-    for number in 1..=ample.ration.asked() {
-        let scarce = rationed(number, rt.alloc());
-        assert_eq!(rt; changes_refused(&rt, &scarce)?, 1, "{number}");
-    }
+fn what_needs_no_memory(rt: HostRuntime) -> Result<(), Fail> {
+    let counted = Rationed::refusing(0, rt.alloc());
+    let error = io::Error::new(ErrorKind::InvalidData, "words");
+    let tree = LyingTree::new(Unreadable {
+        alloc: &counted,
+        error,
+    });
+    let mut paths = start(&counted, tree, Job::of("some/path/*"))?;
+    let Some(Err(found)) = next_of(&mut paths) else {
+        panic!(rt; "no error");
+    };
+    let requests = counted.ration.asked();
+    assert!(rt; item_of(&Err(found)) == Unread("some/path", ErrorKind::InvalidData));
+    assert!(rt; next_of(&mut paths).is_none());
+    check_ended(&rt, &mut paths, u64::MAX, 1);
+    assert_eq!(rt; counted.ration.asked(), requests);
+    drop(paths);
+    assert_eq!(rt; counted.ration.held(), 0);
     Ok(())
 }

@@ -275,3 +275,24 @@ impl Liar for Unlisted {
         }
     }
 }
+
+/// Every path is a directory's, and no directory can be listed, for this reason.
+#[derive(Drop)]
+pub struct Unreadable<A: Allocator + Copy> {
+    /// Where its listings would be made.
+    pub alloc: A,
+    /// Why they fail.
+    pub error: io::Error,
+}
+
+impl<A: Allocator + Copy> Liar for Unreadable<A> {
+    type Alloc = A;
+
+    fn look(&mut self, _path: &str) -> Result<Look, AllocError> {
+        Ok(Look::Dir)
+    }
+
+    fn list(&mut self, _path: &str) -> Result<Vec<Entry<A>, A>, ListError> {
+        Err(ListError::Read(self.error))
+    }
+}
