@@ -13,7 +13,7 @@ use Rattle.glob_pattern.specs.Grammar.Brackets.{is_same}
 use Rattle.glob_pattern.specs.Grammar.Tokens.{Token}
 use Rattle.glob_pattern.specs.Matching.Texts.{TokensMatch}
 use Rattle.glob_pattern.specs.Laws.{SameTexts, StandsIn}
-use Rattle.glob_pattern.specs.Private.PlainEnds.{EndsPlain, EndsSame, HoldsPlain}
+use Rattle.glob_pattern.specs.Private.PlainEnds.{EndsPlain, EndsSame, HoldsPlain, ContainsSmall}
 use Rattle.glob_pattern.specs.declared.options.MatchOptions.{MatchOptions}
 use Rattle.glob_pattern.specs.declared.token.Token.TheVariants.{Plain}
 use Rattle.glob_pattern.proofs.MatchingLemmas.PlainPatterns.{SameTexts-with_case}
@@ -75,3 +75,19 @@ HasSubslice-from_match o tokens pattern bytes start end case holds utf8 match =
       sym (encodes-chars bytes utf8) ∙ ap encode_utf8_all stands.split ∙ encodes-append stands.before (stands.here ++ stands.after)
           ∙ ap (λ xs. encode_utf8_all stands.before ++ xs) (encodes-append stands.here stands.after ∙ ap (λ xs. xs ++ encode_utf8_all stands.after) (ap encode_utf8_all same ∙ sym holds.spelt)),
     )
+
+-- and without case it has them once capital letters are made small
+pub ContainsSmall-from_match : (o : MatchOptions) (tokens : List Token) (pattern bytes : List ℕ) (start end : ℕ)
+    → HoldsPlain tokens pattern start end → IsUtf8 bytes → TokensMatch o tokens (chars bytes) → ContainsSmall bytes (slice_range pattern start end)
+ContainsSmall-from_match o tokens pattern bytes start end holds utf8 match =
+    let plain = holds.plain in
+    let stands : StandsIn o.case_sensitive holds.are.front plain holds.are.back (chars bytes) =
+    plain_tokens_stand o holds.are.front plain holds.are.back (chars bytes) (subst (λ ts. TokensMatch o ts (chars bytes)) holds.are.tokens_are match) in
+    record {
+      before = encode_utf8_all stands.before;
+      here = encode_utf8_all stands.here;
+      after = encode_utf8_all stands.after;
+      split = sym (encodes-chars bytes utf8) ∙ ap encode_utf8_all stands.split ∙ encodes-append stands.before (stands.here ++ stands.after)
+          ∙ ap (λ xs. encode_utf8_all stands.before ++ xs) (encodes-append stands.here stands.after);
+      small = small-SameTexts o.case_sensitive stands.here plain stands.same ∙ ap (map to_ascii_lowercase) (sym holds.spelt);
+    }

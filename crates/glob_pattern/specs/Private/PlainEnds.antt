@@ -38,3 +38,11 @@ pub record HoldsPlain (tokens : List Token) (pattern : List ℕ) (start end : �
   pub plain : Text
   pub are : HasPlain tokens plain
   pub spelt : slice_range pattern start end ≡ encode_utf8_all plain
+
+-- the bytes have these ones somewhere, once capital letters are made small
+pub record ContainsSmall (bytes run : List ℕ) : Type 0 where
+  pub before : List ℕ
+  pub here : List ℕ
+  pub after : List ℕ
+  pub split : bytes ≡ before ++ (here ++ after)
+  pub small : map to_ascii_lowercase here ≡ map to_ascii_lowercase run

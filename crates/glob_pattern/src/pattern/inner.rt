@@ -2,7 +2,7 @@
 ghost use Rattle.std.specs.Prelude.{◌≡◌, false, IsTrue, chars};
 ghost use Rattle.std.specs.Str.{IsUtf8};
 ghost use Rattle.glob_pattern.specs.Matching.Texts.{Matches};
-ghost use Rattle.glob_pattern.specs.Private.PlainEnds.{HoldsPlain, BeginsPlain, HasPlain};
+ghost use Rattle.glob_pattern.specs.Private.PlainEnds.{HoldsPlain, BeginsPlain, HasPlain, ContainsSmall};
 
 use crate::options::MatchOptions;
 use crate::pattern::Pattern;
@@ -30,7 +30,6 @@ pub fn may_match_text<A: Allocator>(pattern: &Pattern<A>, str: &str, options: Ma
         return false;
     }
     pattern.run_start == pattern.run_end
-        || !options.case_sensitive
         || str.len() < SHORTEST_TEXT
         || has_run_inside(pattern, str, options)
 }
@@ -38,17 +37,32 @@ pub fn may_match_text<A: Allocator>(pattern: &Pattern<A>, str: &str, options: Ma
 /// Whether the text has the plain run inside the pattern.
 #[inline(never)]
 fn has_run_inside<A: Allocator>(pattern: &Pattern<A>, str: &str, options: MatchOptions) -> bool
-    requires { IsTrue options.case_sensitive }
     ensures { result ≡ false → ¬ (Matches options (chars pattern.now) (chars str.now)) }
 {
-    match pattern
-        .text
-        .as_str()
-        .get(pattern.run_start..pattern.run_end)
-    {
-        Some(run) => str.contains(run),
-        None => true,
+    let text = pattern.text.as_str();
+    let Some(run) = text.get(pattern.run_start..pattern.run_end) else {
+        return true;
+    };
+    if options.case_sensitive {
+        str.contains(run)
+    } else {
+        contains_small(str.as_bytes(), run.as_bytes())
     }
+}
+
+/// Whether the bytes have those of the run somewhere, where letters of ASCII in either case are the same.
+fn contains_small(bytes: &[u8], run: &[u8]) -> bool
+    ensures { ContainsSmall bytes.now run.now → IsTrue result }
+{
+    if bytes.len() < run.len() {
+        return false;
+    }
+    for start in 0..bytes.len() - run.len() {
+        if bytes[start..start + run.len()].eq_ignore_ascii_case(run) {
+            return true;
+        }
+    }
+    bytes[bytes.len() - run.len()..].eq_ignore_ascii_case(run)
 }
 
 /// Where bytes of the pattern stand that are plain tokens, neither its first nor its last ones: `config` in
