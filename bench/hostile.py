@@ -10,7 +10,9 @@ the two sides differ, or where a stack grew.
 """
 
 import os
+import re
 import resource
+import shutil
 import subprocess
 import sys
 from dataclasses import dataclass
@@ -99,6 +101,29 @@ def measured(folder, program, words, job, before):
     return run
 
 
+def instructions(folder, job, words):
+    """How many instructions of the processor our program takes, as valgrind counts them."""
+    command = ["valgrind", "--tool=callgrind", "--callgrind-out-file=/dev/null", ours(folder, job), *words]
+    done = subprocess.run(command, stdout=subprocess.DEVNULL, stderr=subprocess.PIPE, text=True)
+    found = re.search(r"Collected : (\d+)", done.stderr)
+    if not found:
+        raise Failed(f"valgrind counts nothing: {done.stderr[-200:]}")
+    return int(found[1])
+
+
+def once_more(folder, job):
+    """How many instructions doing a job once more takes, without all else."""
+    return instructions(folder, job, [*job.words[:-1], "2"]) - instructions(folder, job, job.words)
+
+
+def counted_growth(folder, jobs):
+    """How many times as many instructions n takes as n/2, where they can be counted; they are too many for the disk."""
+    if not jobs[0].times or not shutil.which("valgrind"):
+        return "-"
+    half, whole = (once_more(folder, job) for job in jobs)
+    return f"{whole / half:.2f}"
+
+
 def least_stack(folder, job):
     """The least stack, in kilobytes, with which our program does a job, besides the words of its command line."""
     enough, few = STACK, 0
@@ -155,7 +180,9 @@ def row(folder, case, sizes, rounds):
     half, whole = (min(run.milliseconds for run in of) for of in runs)
     peaks = [max(run.megabytes for run in of) for of in runs]
     stacks = [least_stack(folder, job) for job in jobs]
-    cells = [case.name, f"{sizes[1]:,}", digits(half), digits(whole), f"{whole / half:.1f}", case.grows]
+    # a difference of two short runs may be nothing
+    growth = f"{whole / half:.1f}" if half > 0 else "-"
+    cells = [case.name, f"{sizes[1]:,}", digits(half), digits(whole), growth, counted_growth(folder, jobs), case.grows]
     cells += [f"{peaks[0]:.1f}", f"{peaks[1]:.1f}", *map(str, stacks)]
     cells.append(beside(folder, jobs[1], runs[1][0].output, rounds))
     print("| " + " | ".join(cells) + " |", flush=True)
@@ -163,7 +190,7 @@ def row(folder, case, sizes, rounds):
         raise Failed(f"the stack grew from {stacks[0]} to {stacks[1]} kilobytes")
 
 
-HEADS = "case|n|ms at n/2|ms at n|growth|at most as|MB at n/2|MB at n|stack KB at n/2|stack KB at n|the crate: ms, peak"
+HEADS = "case|n|ms at n/2|ms at n|growth|counted|at most as|MB at n/2|MB at n|stack KB at n/2|stack KB at n|the crate: ms, peak"
 
 
 def main():
