@@ -265,7 +265,7 @@ fn names(rt: HostRuntime) -> Result<(), Fail> {
 fn entries(rt: HostRuntime) -> Result<(), Fail> {
     let mut tree = MemTree::new(rt.alloc())?;
     let mut count = 0usize;
-    for size in sizes_to(&rt, 11)? {
+    for size in sizes_to(&rt, 12)? {
         for number in count..size {
             let path = format!(in rt.alloc(); "/{number}")?;
             assert!(rt; tree.add_other(path.as_str()).is_ok());
