@@ -11,8 +11,8 @@ use crate::token::Token;
 use crate::token::bracket::Bracket;
 use std::alloc::Allocator;
 
-/// A run has this many bytes at least: fewer stand in most texts, so that looking for them decides little.
-const SHORTEST: usize = 3;
+/// A run has this many bytes at least: one stands in most texts, so that looking for it decides little.
+const SHORTEST: usize = 2;
 
 /// A run is cut to this many bytes.
 const LONGEST: usize = 32;
@@ -26,12 +26,26 @@ const SHORTEST_TEXT: usize = 16;
 pub fn may_match_text<A: Allocator>(pattern: &Pattern<A>, str: &str, options: MatchOptions) -> bool
     ensures { result ≡ false → ¬ (Matches options (chars pattern.now) (chars str.now)) }
 {
-    if !may_match(pattern, str.as_bytes(), options) {
+    let bytes = str.as_bytes();
+    // A walk that ends at its first character costs less than a test that may go either way.
+    if differs_at_once(pattern.as_str().as_bytes(), bytes) {
+        return true;
+    }
+    if !may_match(pattern, bytes, options) {
         return false;
     }
     pattern.run_start == pattern.run_end
         || str.len() < SHORTEST_TEXT
         || has_run_inside(pattern, str, options)
+}
+
+/// Whether the first bytes differ, and that of the pattern is plain.
+#[inline(always)]
+fn differs_at_once(pattern: &[u8], bytes: &[u8]) -> bool {
+    match (pattern, bytes) {
+        ([first, ..], [other, ..]) => { first != other && !matches!(*first, b'*' | b'?' | b'[') }
+        _ => false,
+    }
 }
 
 /// Whether the text has the plain run inside the pattern.
