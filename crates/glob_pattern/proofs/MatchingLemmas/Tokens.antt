@@ -24,6 +24,10 @@ Matches-by_tokens o pattern text tokens read = (
       (subst (λ ts. TokensMatch o ts text) (one_reading pattern matches.0 tokens matches.1 read) matches.2),
 )
 
+-- and a text that it matches is matched by its tokens
+pub TokensMatch-by_pattern : (o : MatchOptions) (pattern text : Text) (tokens : List Token) → HasTokens pattern tokens → Matches o pattern text → TokensMatch o tokens text
+TokensMatch-by_pattern o pattern text tokens read (others, has, match) = subst (λ ts. TokensMatch o ts text) (one_reading pattern others tokens has read) match
+
 -- what was decided of a judge's table is decided of the pattern whose parts the table was made of
 pub Matches-by_table : {yes : Bool} (o : MatchOptions) (pattern text : Text) (tokens : List Token) (shapes : List Shape)
     → KeepsTokens pattern tokens shapes

@@ -1,8 +1,9 @@
 -- The plain characters that a pattern ends in.
-use Rattle.std.specs.Prelude.{◌≡◌, ℕ, ◌-◌, ◌≤◌, Bool, true, List, ◌++◌, length, map, drop, slice_range}
+use Rattle.std.specs.Prelude.{◌≡◌, ◌≢◌, ℕ, ◌-◌, ◌<◌, ◌≤◌, Bool, true, List, ◌++◌, length, map, drop, slice_index, slice_range}
 use Rattle.std.specs.Char.{to_ascii_lowercase}
 use Rattle.std.specs.Str.{encode_utf8_all}
 use Rattle.glob_text.specs.Text.{Text}
+use Rattle.glob_pattern.specs.Grammar.Characters.{star, question_mark, open_bracket}
 use Rattle.glob_pattern.specs.Grammar.Tokens.{Token}
 use Rattle.glob_pattern.specs.declared.token.Token.TheVariants.{Plain}
 
@@ -46,3 +47,11 @@ pub record ContainsSmall (bytes run : List ℕ) : Type 0 where
   pub after : List ℕ
   pub split : bytes ≡ before ++ (here ++ after)
   pub small : map to_ascii_lowercase here ≡ map to_ascii_lowercase run
+
+-- the first bytes differ, and that of the pattern begins no wildcard and no bracket
+pub record DiffersAtOnce (pattern bytes : List ℕ) : Type 0 where
+  pub some : 0 < length pattern
+  pub other : slice_index pattern 0 ≢ slice_index bytes 0
+  pub no_question_mark : slice_index pattern 0 ≢ question_mark
+  pub no_star : slice_index pattern 0 ≢ star
+  pub no_bracket : slice_index pattern 0 ≢ open_bracket

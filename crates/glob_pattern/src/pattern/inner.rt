@@ -2,7 +2,7 @@
 ghost use Rattle.std.specs.Prelude.{◌≡◌, false, IsTrue, chars};
 ghost use Rattle.std.specs.Str.{IsUtf8};
 ghost use Rattle.glob_pattern.specs.Matching.Texts.{Matches};
-ghost use Rattle.glob_pattern.specs.Private.PlainEnds.{HoldsPlain, BeginsPlain, HasPlain, ContainsSmall};
+ghost use Rattle.glob_pattern.specs.Private.PlainEnds.{HoldsPlain, BeginsPlain, HasPlain, ContainsSmall, DiffersAtOnce};
 
 use crate::options::MatchOptions;
 use crate::pattern::Pattern;
@@ -27,9 +27,8 @@ pub fn may_match_text<A: Allocator>(pattern: &Pattern<A>, str: &str, options: Ma
     ensures { result ≡ false → ¬ (Matches options (chars pattern.now) (chars str.now)) }
 {
     let bytes = str.as_bytes();
-    // A walk that ends at its first character costs less than a test that may go either way.
-    if differs_at_once(pattern.as_str().as_bytes(), bytes) {
-        return true;
+    if options.case_sensitive && differs_at_once(pattern.text.as_str().as_bytes(), bytes) {
+        return false;
     }
     if !may_match(pattern, bytes, options) {
         return false;
@@ -39,13 +38,16 @@ pub fn may_match_text<A: Allocator>(pattern: &Pattern<A>, str: &str, options: Ma
         || has_run_inside(pattern, str, options)
 }
 
-/// Whether the first bytes differ, and that of the pattern is plain.
+/// Whether the first bytes differ, where that of the pattern is plain.
 #[inline(always)]
-fn differs_at_once(pattern: &[u8], bytes: &[u8]) -> bool {
-    match (pattern, bytes) {
-        ([first, ..], [other, ..]) => { first != other && !matches!(*first, b'*' | b'?' | b'[') }
-        _ => false,
+fn differs_at_once(pattern: &[u8], bytes: &[u8]) -> bool
+    ensures { IsTrue result → DiffersAtOnce pattern.now bytes.now }
+{
+    if pattern.is_empty() || bytes.is_empty() {
+        return false;
     }
+    let first = pattern[0];
+    first != bytes[0] && first != b'*' && first != b'?' && first != b'['
 }
 
 /// Whether the text has the plain run inside the pattern.

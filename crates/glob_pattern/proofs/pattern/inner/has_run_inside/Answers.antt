@@ -10,20 +10,16 @@ use Rattle.glob_pattern.specs.Grammar.Units.{HasTokens}
 use Rattle.glob_pattern.specs.Matching.Texts.{Matches, TokensMatch}
 use Rattle.glob_pattern.specs.Private.PlainEnds.{HoldsPlain, ContainsSmall}
 use Rattle.glob_pattern.specs.declared.options.MatchOptions.{MatchOptions}
-use Rattle.glob_pattern.proofs.GrammarLemmas.Accepted.{one_reading}
 use Rattle.glob_pattern.proofs.MatchingLemmas.PlainEnds.{HasSubslice-from_match, ContainsSmall-from_match}
+use Rattle.glob_pattern.proofs.MatchingLemmas.Tokens.{TokensMatch-by_pattern}
 use Rattle.glob_pattern.proofs.pattern.inner.has_run_inside.Goals as goal
-
--- what matches is matched by the tokens that are kept
-by_tokens : (o : MatchOptions) (pattern text : Text) (tokens : List Token) → HasTokens pattern tokens → Matches o pattern text → TokensMatch o tokens text
-by_tokens o pattern text tokens read (others, has, match) = subst (λ ts. TokensMatch o ts text) (one_reading pattern others tokens has read) match
 
 pub returns-then-options : goal.returns-then-options
 returns-then-options g c = λ no matches.
     let o = c.args.options in
     let inside = c.pattern.inside in
     let text = c.args.str.now in
-    let kept = by_tokens o (chars (string_bytes inside.text)) (chars text) inside.tokens.items c.pattern.invariant.0.read (rw c.pattern.view_is matches) in
+    let kept = TokensMatch-by_pattern o (chars (string_bytes inside.text)) (chars text) inside.tokens.items c.pattern.invariant.0.read (rw c.pattern.view_is matches) in
     let stands = HasSubslice-from_match o inside.tokens.items (string_bytes inside.text) text inside.run_start inside.run_end c.if-options.true c.pattern.invariant.2 c.utf8.str kept in
     let run = ap (λ p. slice_range p inside.run_start inside.run_end) (sym c.as_str-text.ensures.value) ∙ sym c.in-Some.ensures.cases.0 in
     both_ways _ no ((contains_text _ _ text c.contains.ensures.cases).1 (subst (HasSubslice text) run stands))
@@ -33,7 +29,7 @@ returns-else-options g c = λ no matches.
     let o = c.args.options in
     let inside = c.pattern.inside in
     let text = c.args.str.now in
-    let kept = by_tokens o (chars (string_bytes inside.text)) (chars text) inside.tokens.items c.pattern.invariant.0.read (rw c.pattern.view_is matches) in
+    let kept = TokensMatch-by_pattern o (chars (string_bytes inside.text)) (chars text) inside.tokens.items c.pattern.invariant.0.read (rw c.pattern.view_is matches) in
     let stands = ContainsSmall-from_match o inside.tokens.items (string_bytes inside.text) text inside.run_start inside.run_end c.pattern.invariant.2 c.utf8.str kept in
     let run = ap (λ p. slice_range p inside.run_start inside.run_end) (sym c.as_str-text.ensures.value) ∙ sym c.in-Some.ensures.cases.0 in
     both_ways _ no (c.contains_small.ensures (rw (c.as_bytes.ensures.value, c.as_bytes-else-options.ensures.value) (subst (ContainsSmall text) run stands)))
