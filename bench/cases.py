@@ -43,7 +43,8 @@ MATCHES = [
 
 @dataclass(frozen=True)
 class Hostile:
-    """Matches `*a` `stars` times and `b` with a text of `letters` times `a` and a `/`, under the separator rule."""
+    """Matches `*a` `stars` times and `b` with a text of `letters` times `a` and `/ab`, under the separator rule. The text
+    ends as the pattern does, so that its end does not decide."""
 
     stars: int
     letters: int
@@ -53,10 +54,10 @@ class Hostile:
         return "*a" * self.stars + "b"
 
     def text(self):
-        return "a" * self.letters + "/\n"
+        return "a" * self.letters + "/ab\n"
 
     def name(self):
-        return f"match `*a` {self.stars} times and `b`, with `a` {self.letters} times and `/`, separator rule"
+        return f"match `*a` {self.stars} times and `b`, with `a` {self.letters} times and `/ab`, separator rule"
 
 
 # The crate's time grows about tenfold with each star, so it is asked once.
@@ -106,4 +107,4 @@ FILTERS = [Filter(case.pattern, case.options) for case in MATCHES]
 
 
 def hostile_filter(case):
-    return Filter(case.pattern(), "s", f", with `a` {case.letters} times and `/`")
+    return Filter(case.pattern(), "s", f", with `a` {case.letters} times and `/ab`")

@@ -6,8 +6,9 @@ use std::test::Fail;
 /// A pattern, a text, and whether the pattern matches the text with case, with the separator rule or without it.
 type Row = (Parts<'static>, Parts<'static>, bool);
 
-const ROWS: [Row; 16] = [
+const ROWS: [Row; 17] = [
     (&[("*a", 60), ("b", 1)], &[("a", 200), ("/", 1)], false),
+    (&[("*a", 60), ("[c]b", 1)], &[("a", 200), ("b", 1)], false),
     (&[("*a", 6), ("*b", 1)], &[("a", 40)], false),
     (&[("a*", 8), ("a", 1)], &[("a", 31)], true),
     (&[("a*", 8), ("a", 1)], &[("a", 8)], false),
