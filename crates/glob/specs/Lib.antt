@@ -1,3 +1,5 @@
+pub mod Types
+pub mod Variants
 pub use Rattle.glob_lines.specs.LineFaults
 pub use Rattle.glob_lines.specs.Lines
 pub use Rattle.glob_lines.specs.Watch

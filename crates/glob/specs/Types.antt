@@ -1,0 +1,14 @@
+-- The structs and enums of the library, by which a definition outside can speak of their values.
+pub use Rattle.glob_lines.specs.declared.fault.LineFault.{LineFault}
+pub use Rattle.glob_pattern.specs.declared.error.PatternError.{PatternError}
+pub use Rattle.glob_pattern.specs.declared.error.PatternRefusal.{PatternRefusal}
+pub use Rattle.glob_pattern.specs.declared.matcher.Shape.{Shape}
+pub use Rattle.glob_pattern.specs.declared.options.MatchOptions.{MatchOptions}
+pub use Rattle.glob_tree.specs.declared.memory.refusal.TreeRefusal.{TreeRefusal}
+pub use Rattle.glob_tree.specs.declared.tree.Entry.{Entry}
+pub use Rattle.glob_tree.specs.declared.tree.ListError.{ListError}
+pub use Rattle.glob_tree.specs.declared.tree.Look.{Look}
+pub use Rattle.glob_walk.specs.declared.error.GlobCause.{GlobCause}
+pub use Rattle.glob_walk.specs.declared.error.GlobError.{GlobError}
+pub use Rattle.glob_walk.specs.declared.walk.End.{End}
+pub use Rattle.glob_walk.specs.declared.walk.Walk.{Walk}

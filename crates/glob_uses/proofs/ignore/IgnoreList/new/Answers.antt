@@ -1,0 +1,25 @@
+use Rattle.std.proofs.Common.{arith, map, ap, sym, subst, ◌∙◌}
+use Rattle.std.proofs.lemmas.List.{take_all}
+use Rattle.glob.specs.Grammar.Faults.{Refuses}
+use Rattle.glob_uses.proofs.ListReading.{RefusesOne-at, IfErr-from_known, IfErr-memory}
+use Rattle.glob_uses.proofs.Marks.{rules_of-read}
+use Rattle.glob_uses.proofs.ignore.IgnoreList.new.Goals as goal
+
+pub returns-in_err-new-clause-refused : goal.returns-in_err-new-clause-refused
+returns-in_err-new-clause-refused g c =
+    IfErr-from_known _ _ _
+    (λ refusal is. RefusesOne-at _ _ c.loop-line.line-index _ (omega arith) _ c.pattern_of.ensures refusal (subst (Refuses _) (sym is) c.in_err-new.ensures.refused))
+    c.from_residual.ensures.1
+
+pub returns-in_err-push-clause-refused : goal.returns-in_err-push-clause-refused
+returns-in_err-push-clause-refused g c =
+    IfErr-memory _ _ c.from_residual-in_err-push.ensures.1
+
+pub returns-in_err-push-2-clause-refused : goal.returns-in_err-push-2-clause-refused
+returns-in_err-push-2-clause-refused g c =
+    IfErr-memory _ _ c.from_residual-in_err-push-2.ensures.1
+
+pub returns-clause-rules : goal.returns-clause-rules
+returns-clause-rules g c =
+    let all = take_all c.loop-line.line-index c.args.lines.now (omega arith) in
+    rules_of-read c.args.lines.now _ _ (c.loop-line.invariant.patterns ∙ ap (map _) all) (c.loop-line.invariant.keeps ∙ ap (map _) all)

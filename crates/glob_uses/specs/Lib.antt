@@ -1,0 +1,3 @@
+pub mod Ignoring
+pub mod Lists
+pub mod Options

@@ -1,0 +1,9 @@
+//! Callers of the library, one file for each kind of user, with what each promises in words of its own.
+#![tactic(auto)]
+
+pub mod ignore;
+pub mod lists;
+pub mod literals;
+pub mod router;
+#[cfg(test)]
+mod tests;

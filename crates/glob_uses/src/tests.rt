@@ -1,0 +1,4 @@
+mod ignore;
+mod lists;
+mod literals;
+mod router;
