@@ -1,5 +1,6 @@
 #!/usr/bin/env python3
-"""Quotes the contracts of the library's public calls in crates/glob/CALLING.md, below the line '## Contracts'.
+"""Quotes the contracts of the library's public calls in crates/glob/CALLING.md, below the line '## Contracts'. And
+checks the page's tables: each public type has a row, and each word of a public clause one with the module that has it.
 
     tests/contracts.py            writes the quotes anew
     tests/contracts.py --check    writes nothing, and fails where a quote is not what src/ says
@@ -92,6 +93,29 @@ def page():
     return "\n".join(parts)
 
 
+def words():
+    """Each word of the library that a public clause uses, and its module below Rattle.glob.specs."""
+    found = {}
+    for crate in CRATES:
+        names = public_names(crate)
+        for path in sorted((ROOT / "crates" / crate / "src").rglob("*.rt")):
+            used = set(re.findall(r"[A-Za-z_]\w*", "\n".join(quotes(path, names))))
+            uses = re.findall(r"ghost use Rattle\.glob_\w+\.specs\.([\w.]+)\.\{([^}]*)\};", path.read_text(encoding="utf-8"))
+            for module, imported in uses:
+                module = re.sub(r"declared\.[\w.]*?(\w+)\.TheVariants", r"Variants.\1", module)
+                for word in re.findall(r"\w+(?: as \w+)?", imported):
+                    if word.split()[-1] in used and not module.startswith("Private"):
+                        found[word.split()[0]] = module
+    return found
+
+
+def missing_rows(text):
+    """The public types and the words of public clauses of which the page has no row."""
+    rows = dict(re.findall(r"^\| `(\w+)`[^|]* \| ([^|]*) \|", text, re.M))
+    lacks = [word for word, module in sorted(words().items()) if rows.get(word) != f"`{module}`"]
+    return lacks + [name for crate in CRATES for name in sorted(public_names(crate)) if name[0].isupper() and name not in rows]
+
+
 def main():
     text = PAGE.read_text(encoding="utf-8")
     before = text.split(HEAD)[0] + HEAD
@@ -101,6 +125,8 @@ def main():
         PAGE.write_text(wanted, encoding="utf-8")
     elif wanted != text:
         sys.exit("crates/glob/CALLING.md: the contracts are not those of src/. Run tests/contracts.py.")
+    if missing_rows(text):
+        sys.exit("crates/glob/CALLING.md: no row with its module: " + ", ".join(missing_rows(text)))
 
 
 main()

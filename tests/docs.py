@@ -15,10 +15,19 @@ PAGES = [name for name in FILES if name.endswith(".md")]
 # A page, which of its blocks of Rust or of proofs, and the file that holds the block word for word.
 EXAMPLES = [
     ("README.md", 0, "crates/glob_vectors/src/tests/readme.rt"),
-    ("crates/glob/CALLING.md", 0, "crates/glob_vectors/src/uses.rt"),
-    ("crates/glob/CALLING.md", 1, "crates/glob_vectors/proofs/uses/reread/Answers.antt"),
-    ("crates/glob/CALLING.md", 2, "crates/glob_walks/src/uses.rt"),
-    ("crates/glob/CALLING.md", 3, "crates/glob_walks/specs/FirstPaths.antt"),
+    ("crates/glob/CALLING.md", 0, "crates/glob_uses/src/lists.rt"),
+    ("crates/glob/CALLING.md", 1, "crates/glob_uses/specs/Lists.antt"),
+    ("crates/glob/CALLING.md", 2, "crates/glob_uses/src/router.rt"),
+    ("crates/glob/CALLING.md", 3, "crates/glob_uses/specs/Ignoring.antt"),
+    ("crates/glob/CALLING.md", 4, "crates/glob_uses/src/ignore.rt"),
+    ("crates/glob/CALLING.md", 5, "crates/glob_uses/src/literals.rt"),
+    ("crates/glob/CALLING.md", 6, "crates/glob_uses/proofs/literals/matches_main/Answers.antt"),
+    ("crates/glob/CALLING.md", 7, "crates/glob_vectors/src/uses.rt"),
+    ("crates/glob/CALLING.md", 8, "crates/glob_vectors/proofs/uses/reread/Answers.antt"),
+    ("crates/glob/CALLING.md", 9, "crates/glob_walks/src/uses.rt"),
+    ("crates/glob/CALLING.md", 10, "crates/glob_walks/specs/FirstPaths.antt"),
+    ("crates/glob/CALLING.md", 11, "crates/glob_vectors/src/trees.rt"),
+    ("crates/glob/CALLING.md", 12, "crates/glob_names/src/judge.rt"),
 ]
 
 

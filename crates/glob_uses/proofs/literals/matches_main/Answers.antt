@@ -15,6 +15,7 @@ computed = refl
 -- the law makes a match of it, and the pattern has the text that it was made of
 pub returns : goal.returns
 returns g c =
-    let matches = (c.matching_is_decided.ensures.patterns new_options (chars (codes "*.rs")) (chars (codes "main.rs"))).0 computed in
+    let law = c.matching_is_decided.ensures.patterns in
+    let matches = (law new_options (chars (codes "*.rs")) (chars (codes "main.rs"))).0 computed in
     c.in_ok-matches.ensures.answer.1
     (subst (λ p. Matches new_options (chars p) (chars (codes "main.rs"))) (sym c.in_ok-pattern.ensures.text) matches)
