@@ -1,3 +1,4 @@
 pub mod Ignoring
 pub mod Lists
 pub mod Options
+pub mod Sources

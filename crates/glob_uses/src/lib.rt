@@ -5,5 +5,6 @@ pub mod ignore;
 pub mod lists;
 pub mod literals;
 pub mod router;
+pub mod sources;
 #[cfg(test)]
 mod tests;

@@ -2,3 +2,4 @@ mod ignore;
 mod lists;
 mod literals;
 mod router;
+mod sources;

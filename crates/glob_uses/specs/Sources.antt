@@ -1,0 +1,12 @@
+-- The sources that a pattern of a build names.
+use Rattle.std.specs.Prelude.{List, Contains, ◌↔◌}
+use Rattle.glob.specs.Content.{Content}
+use Rattle.glob.specs.Goal.{goal}
+use Rattle.glob.specs.Matching.Options.{new_options}
+use Rattle.glob.specs.Order.{IsOrderly}
+use Rattle.glob.specs.Text.{Text}
+
+-- The files are exactly what the undivided pattern matches, each once and in order as far as its runs of `**` allow.
+pub record AreSources (c : Content) (pattern : Text) (files : List Text) : Type 0 where
+  pub exact : (path : Text) → Contains files path ↔ Contains (goal c new_options pattern) path
+  pub orderly : IsOrderly pattern files
