@@ -1,13 +1,13 @@
 -- Laws of walks, as statements.
-use Rattle.std.specs.Prelude.{◌≡◌, List, ◌∷◌, IsTrue, ◌&&◌, Bool}
+use Rattle.std.specs.Prelude.{◌≡◌, ℕ, ◌≤◌, List, ◌∷◌, Some, IsTrue, ◌&&◌, Bool}
 use Rattle.std.specs.Str.{IsUtf8, is_utf8}
 use Rattle.std.specs.List.{list_all}
 use Rattle.glob_text.specs.Text.{Text}
 use Rattle.glob_tree.specs.Paths.{is_proper}
-use Rattle.glob_tree.specs.Content.{Content}
+use Rattle.glob_tree.specs.Content.{Content, Key, is_content, is_dir_at, resolve}
 use Rattle.glob_walk.specs.Components.{components, matches_name}
-use Rattle.glob_walk.specs.Marks.{Item, items, paths, IsBeginning}
-use Rattle.glob_walk.specs.Listing.{listing}
+use Rattle.glob_walk.specs.Marks.{Mark, Item, items, paths, IsBeginning}
+use Rattle.glob_walk.specs.Listing.{descent, levels, listing}
 use Rattle.glob_walk.specs.Goal.{is_plain, matches_undivided, text_below, is_readable, IsPlainWalk, ReachesGoal, GivesGoal}
 use Rattle.glob_walk.specs.Order.{IsOrderly}
 use Rattle.glob_pattern.specs.declared.options.MatchOptions.{MatchOptions}
@@ -42,3 +42,10 @@ abbrev pub PlainWalkOrderly : Type 0
 PlainWalkOrderly =
     (c : Content) (o : MatchOptions) (pattern : Text) → IsPlainWalk c o pattern
     → (given : List Item) → IsBeginning given (items (listing c o pattern)) → IsOrderly pattern (paths given)
+
+-- as many levels as `levels` or more give the same marks of a descent below a directory
+abbrev pub EnoughLevelsAgree : Type 0
+EnoughLevelsAgree =
+    (c : Content) (o : MatchOptions) (each : Text → Text → Bool → List Mark) (path : Text) (k : Key)
+    → IsTrue (is_content c) → resolve c path ≡ Some k → IsTrue (is_dir_at c k)
+    → (n m : ℕ) → levels c ≤ n → levels c ≤ m → descent c o each n path ≡ descent c o each m path

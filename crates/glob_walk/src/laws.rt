@@ -1,5 +1,5 @@
 //! Laws of walks: each is the contract of a function that does nothing.
-ghost use Rattle.glob_walk.specs.Laws.{PlainMatchesLevels, PlainWalkReaches, PlainWalkGives, PlainWalkOrderly};
+ghost use Rattle.glob_walk.specs.Laws.{EnoughLevelsAgree, PlainMatchesLevels, PlainWalkReaches, PlainWalkGives, PlainWalkOrderly};
 
 /// A plain pattern matches the path of a key below the start exactly where its components take the key's names:
 /// `a/**/c` that of `a/b/c`, since `a` takes `a`, `**` takes `b` and `c` takes `c`.
@@ -24,4 +24,11 @@ pub fn plain_walk_gives_the_goal()
 /// component follows the run. So `**/*` gives `d` before `d/x`, and each once.
 pub fn plain_walk_is_orderly()
     ensures { PlainWalkOrderly }
+{}
+
+/// A descent by `**` below a directory, which the written listing cuts at a number of levels, is not changed by the cut:
+/// more levels than the longest key has names give the same marks. So over `d/x` alone, which has two names, three levels
+/// give what a hundred give.
+pub fn enough_levels_give_the_same_marks()
+    ensures { EnoughLevelsAgree }
 {}
