@@ -8,6 +8,7 @@ pub use glob_pattern::laws::{
     refused_has_one_fault, separator_rule_spares_names,
 };
 pub use glob_walk::laws::{
-    enough_levels_give_the_same_marks, plain_pattern_matches_level_by_level,
-    plain_walk_gives_the_goal, plain_walk_is_orderly, plain_walk_reaches_the_goal,
+    enough_levels_give_the_same_marks, entries_stand_in_ascending_order,
+    plain_pattern_matches_level_by_level, plain_walk_gives_the_goal, plain_walk_is_orderly,
+    plain_walk_reaches_the_goal,
 };

@@ -1,10 +1,10 @@
 -- Laws of walks, as statements.
-use Rattle.std.specs.Prelude.{◌≡◌, ℕ, ◌≤◌, List, ◌∷◌, Some, IsTrue, ◌&&◌, Bool}
+use Rattle.std.specs.Prelude.{◌≡◌, ℕ, ◌≤◌, List, ◌∷◌, Some, IsTrue, ◌&&◌, Bool, IsPermutation, AllPairs}
 use Rattle.std.specs.Str.{IsUtf8, is_utf8}
 use Rattle.std.specs.List.{list_all}
 use Rattle.glob_text.specs.Text.{Text}
 use Rattle.glob_tree.specs.Paths.{is_proper}
-use Rattle.glob_tree.specs.Content.{Content, Key, is_content, is_dir_at, resolve}
+use Rattle.glob_tree.specs.Content.{Content, Key, DirEntry, is_content, is_dir_at, is_before, resolve, sorted_entries}
 use Rattle.glob_walk.specs.Components.{components, matches_name}
 use Rattle.glob_walk.specs.Marks.{Mark, Item, items, paths, IsBeginning}
 use Rattle.glob_walk.specs.Listing.{descent, levels, listing}
@@ -49,3 +49,12 @@ EnoughLevelsAgree =
     (c : Content) (o : MatchOptions) (each : Text → Text → Bool → List Mark) (path : Text) (k : Key)
     → IsTrue (is_content c) → resolve c path ≡ Some k → IsTrue (is_dir_at c k)
     → (n m : ℕ) → levels c ≤ n → levels c ≤ m → descent c o each n path ≡ descent c o each m path
+
+-- the order in which the listing has entries is one of them all, and each name is at most those after it
+pub record IsAscendingOrder (entries sorted : List DirEntry) : Type 0 where
+  pub same : IsPermutation entries sorted
+  pub rising : AllPairs (λ e later. IsTrue (is_before e later)) sorted
+
+-- entries are put in ascending byte order of names, and none is lost or added
+abbrev pub EntriesAscend : Type 0
+EntriesAscend = (entries : List DirEntry) → IsAscendingOrder entries (sorted_entries entries)

@@ -1,5 +1,5 @@
 //! Laws of walks: each is the contract of a function that does nothing.
-ghost use Rattle.glob_walk.specs.Laws.{EnoughLevelsAgree, PlainMatchesLevels, PlainWalkReaches, PlainWalkGives, PlainWalkOrderly};
+ghost use Rattle.glob_walk.specs.Laws.{EnoughLevelsAgree, EntriesAscend, PlainMatchesLevels, PlainWalkReaches, PlainWalkGives, PlainWalkOrderly};
 
 /// A plain pattern matches the path of a key below the start exactly where its components take the key's names:
 /// `a/**/c` that of `a/b/c`, since `a` takes `a`, `**` takes `b` and `c` takes `c`.
@@ -31,4 +31,10 @@ pub fn plain_walk_is_orderly()
 /// give what a hundred give.
 pub fn enough_levels_give_the_same_marks()
     ensures { EnoughLevelsAgree }
+{}
+
+/// The written listing has the entries of a directory in ascending byte order of names, and each as often as the
+/// directory has it: `b`, `a` and `a.c` as `a`, `a.c` and `b`.
+pub fn entries_stand_in_ascending_order()
+    ensures { EntriesAscend }
 {}
