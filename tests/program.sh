@@ -48,6 +48,23 @@ check 'a pattern that looks like an option' 2 '' 'usage: glob_run match [-i] [-s
 run escape 'a*'
 check 'an escaped text' 0 'a[*]\n' ''
 
+run --version </dev/zero
+check 'the version is the one at the top of the changelog' 0 "glob_run $(sed -n 's/^## //p' "$root/CHANGELOG.md" | head -1)\n" ''
+
+run --help </dev/zero
+cp "$work/out" "$work/page"
+run -h </dev/zero
+cmp -s "$work/page" "$work/out" && [ "$(grep -c 'glob_run match' "$work/out")" = 2 ] && : >"$work/out"
+check 'the page that teaches the program' 0 '' ''
+
+"$program" --help >/dev/full 2>"$work/err"
+status=$? && : >"$work/out"
+check 'the page to a full standard output' 2 '' 'writing failed\n'
+
+"$program" --help >&- 2>"$work/err"
+status=$?
+check 'the page to a closed standard output' 2 '' 'writing failed\n'
+
 run match 'abc[def' </dev/zero
 check 'a fault of the pattern before anything is read' 2 '' 'Pattern syntax error near position 3: invalid range pattern\n'
 

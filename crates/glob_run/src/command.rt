@@ -14,6 +14,10 @@ pub enum Command<'a> {
     },
     /// Write the paths that a walk of the disk finds.
     Find(Search<'a>),
+    /// Write the page that teaches the program.
+    Help,
+    /// Write the version.
+    Version,
 }
 
 /// A walk of the disk.
@@ -35,6 +39,8 @@ impl<'a> Command<'a> {
                 text: only_operand(words)?,
             }),
             "find" => Some(Command::Find(Search::parse(words)?)),
+            "-h" | "--help" => Some(Command::Help),
+            "--version" => Some(Command::Version),
             _ => None,
         }
     }

@@ -7,6 +7,7 @@ ghost use Rattle.std.specs.Prelude.{◌≤◌};
 
 mod command;
 mod find;
+mod page;
 
 use command::Command;
 use find::run_find;
@@ -31,8 +32,8 @@ const UNMATCHED: u8 = 1;
 /// There was a fault.
 const FAULT: u8 = 2;
 
-/// Runs the program on the words after its name, and returns its exit status: 0 where something matched, 1 where
-/// nothing did, 2 at a fault or where a walk met an error. A fault is one line on `errors`; a fault of `errors` itself is
+/// Runs the program on the words after its name, and returns its exit status: 0 where something matched or a page was
+/// written, 1 where nothing matched, 2 at a fault or where a walk met an error. A fault is one line on `errors`; a fault of `errors` itself is
 /// dropped. A usage fault is found first, then a fault of the pattern, both before anything is read, looked up or
 /// written. The disk is the one that `rt` reaches.
 pub fn run_words<F: Files + Drop, A: Allocator + Copy, R: Read + Drop, W: Write + Drop, E: Write>(
@@ -51,6 +52,8 @@ pub fn run_words<F: Files + Drop, A: Allocator + Copy, R: Read + Drop, W: Write 
             run_match(alloc, options, pattern, input, output, errors)
         }
         Some(Command::Escape { text }) => run_escape(alloc, text, output, errors),
+        Some(Command::Help) => write_text(alloc, page::HELP, output, errors),
+        Some(Command::Version) => write_text(alloc, page::VERSION, output, errors),
         Some(Command::Find(search)) => run_find(rt, alloc, search, output, errors),
     }
 }
@@ -81,15 +84,27 @@ fn run_match<A: Allocator + Copy, R: Read + Drop, W: Write + Drop, E: Write>(
 fn run_escape<A: Allocator + Copy, W: Write + Drop, E: Write>(
     alloc: A,
     text: &str,
+    output: W,
+    errors: &mut E,
+) -> u8
+    ensures { result ≤ 2 }
+{
+    match escaped_line(alloc, text) {
+        Ok(line) => write_text(alloc, &line, output, errors),
+        Err(_) => fault(alloc, errors, "out of memory"),
+    }
+}
+
+/// Writes the whole text to the output.
+fn write_text<A: Allocator, W: Write + Drop, E: Write>(
+    alloc: A,
+    text: &str,
     mut output: W,
     errors: &mut E,
 ) -> u8
     ensures { result ≤ 2 }
 {
-    let Ok(line) = escaped_line(alloc, text) else {
-        return fault(alloc, errors, "out of memory");
-    };
-    match output.write_all(line.as_bytes()) {
+    match output.write_all(text.as_bytes()) {
         Ok(()) => MATCHED,
         Err(_) => fault(alloc, errors, "writing failed"),
     }

@@ -2,6 +2,7 @@ mod disk;
 mod find;
 mod folder;
 mod looks;
+mod pages;
 mod runs;
 
 use super::*;
@@ -53,6 +54,15 @@ const USAGE_FAULTS: &[&str] = &[
     "match -- a b",
     "catch *",
     "-- match *",
+    "-- --help",
+    "help",
+    "-help",
+    "-v",
+    "-V",
+    "match -h",
+    "match --help",
+    "escape --help",
+    "find --version",
 ];
 
 #[test]
@@ -104,6 +114,8 @@ fn a_fault_of_the_pattern_comes_before_one_of_the_input(rt: HostRuntime) -> Resu
 fn an_output_that_fails_is_told(rt: HostRuntime) {
     check_failing_output(&rt, &["match", "*"]);
     check_failing_output(&rt, &["escape", "a"]);
+    check_failing_output(&rt, &["--help"]);
+    check_failing_output(&rt, &["--version"]);
 }
 
 /// A writer that counts its calls.
@@ -129,6 +141,8 @@ const LINES_OF_FAULTS: &[&[&str]] = &[
     &["match", "abc[def"],
     &["find", "abc[def"],
     &["escape", "a"],
+    &["--help"],
+    &["--version"],
     &["find", "/"],
     &["find", "-n", "0", "*"],
 ];

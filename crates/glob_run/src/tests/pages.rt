@@ -1,0 +1,69 @@
+//! The page that teaches the program, and its version.
+use super::folder::ensure;
+use super::runs::{Row, check_rows};
+use crate::run_words;
+use std::test::Fail;
+
+/// What the page says of each command, option, wildcard and status, a line for each.
+const HELP_BEGINS: &[&str] = &[
+    "  glob_run match [-i] [-s] [-d] PATTERN ",
+    "  glob_run find [-i] [-s] [-d] [-n LIMIT] PATTERN ",
+    "  glob_run escape TEXT ",
+    "  glob_run --help, -h ",
+    "  glob_run --version ",
+    "  -i ",
+    "  -s ",
+    "  -d ",
+    "  -n LIMIT ",
+    "  -- ",
+    "  ? ",
+    "  * ",
+    "  ** ",
+    "  [abc] ",
+    "  [a-c] ",
+    "  [!a-c] ",
+    "  [*] ",
+    "  0 ",
+    "  1 ",
+    "  2 ",
+];
+
+const VERSIONS: &[Row] = &[
+    ("--version", b"", (0, "glob_run 0.2.0\n", "")),
+    ("--version x", b"", (0, "glob_run 0.2.0\n", "")),
+];
+
+#[test]
+fn versions(rt: HostRuntime) -> Result<(), Fail> {
+    check_rows(&rt, VERSIONS)
+}
+
+/// What the words write, where they write no fault.
+fn page_of(rt: &HostRuntime, words: &[&str]) -> Result<String, Fail> {
+    let mut output = Vec::new(rt.alloc());
+    let mut errors = Vec::new(rt.alloc());
+    let input = b"".as_slice();
+    let status = run_words(*rt, rt.alloc(), words, input, &mut output, &mut errors);
+    ensure(status == 0 && errors.is_empty(), format_args!("{words:?}"))?;
+    Ok(String::from_utf8(output)?)
+}
+
+#[test]
+fn the_page_teaches_each_word(rt: HostRuntime) -> Result<(), Fail> {
+    let page = page_of(&rt, &["--help"])?;
+    for begin in HELP_BEGINS {
+        let is_told = page.lines().any(|line| line.starts_with(begin));
+        ensure(is_told, format_args!("{begin}"))?;
+    }
+    for line in page.lines() {
+        ensure(line.len() <= 100, format_args!("{line}"))?;
+    }
+    Ok(())
+}
+
+#[test]
+fn the_page_has_two_names(rt: HostRuntime) -> Result<(), Fail> {
+    let page = page_of(&rt, &["--help"])?;
+    let is_same = page_of(&rt, &["-h"])? == page && page_of(&rt, &["-h", "match"])? == page;
+    ensure(is_same, format_args!("-h"))
+}
