@@ -1,0 +1,33 @@
+# Completions of glob_run for bash.
+
+_glob_run() {
+    local word=${COMP_WORDS[COMP_CWORD]} last=${COMP_WORDS[COMP_CWORD - 1]} options i
+    COMPREPLY=()
+    if [ "$COMP_CWORD" = 1 ]; then
+        mapfile -t COMPREPLY < <(compgen -W 'match find escape --help -h --version' -- "$word")
+        return
+    fi
+    case ${COMP_WORDS[1]} in
+    match) options='-i -s -d --' ;;
+    find) options='-i -s -d -n --' ;;
+    escape) options='--' ;;
+    *) return ;;
+    esac
+    # After -- or a pattern no option stands.
+    for ((i = 2; i < COMP_CWORD; i++)); do
+        case ${COMP_WORDS[i]} in
+        -n) [ "${COMP_WORDS[1]}" = find ] && i=$((i + 1)) ;;
+        --) options='' ;;
+        -*) ;;
+        *) return ;;
+        esac
+    done
+    # A limit is a number, which nothing completes.
+    [ "${COMP_WORDS[1]} $last" != 'find -n' ] || return 0
+    case $word in
+    -*) mapfile -t COMPREPLY < <(compgen -W "$options" -- "$word") ;;
+    *) [ "${COMP_WORDS[1]}" != find ] || mapfile -t COMPREPLY < <(compgen -f -- "$word") ;;
+    esac
+}
+
+complete -o filenames -F _glob_run glob_run

@@ -1,0 +1,129 @@
+#!/usr/bin/env python3
+"""Runs each example of the man page, checks the man page where `mandoc` or `groff` can be had, sources the completions in
+bash, and installs all of it. Prints what is wrong, and last how many checks passed and failed."""
+
+import re
+import shutil
+import subprocess
+import sys
+import tempfile
+from pathlib import Path
+
+ROOT = Path(__file__).resolve().parent.parent
+PAGE = ROOT / "man/glob_run.1"
+ROFF = {r"\(aq": "'", r"\(ga": "`", r"\e": "\\", r"\-": "-", r"\&": ""}
+
+# The words of a command line, of which the last is being written, and what bash offers for it.
+COMPLETIONS = [
+    ("glob_run ", "--help --version -h escape find match"),
+    ("glob_run m", "match"),
+    ("glob_run --", "--help --version"),
+    ("glob_run match -", "-- -d -i -s"),
+    ("glob_run match -i -", "-- -d -i -s"),
+    ("glob_run match -- -", ""),
+    ("glob_run match a -", ""),
+    ("glob_run find -", "-- -d -i -n -s"),
+    ("glob_run find -n ", ""),
+    ("glob_run find -n 5 -", "-- -d -i -n -s"),
+    ("glob_run find fo", "folder"),
+    ("glob_run match fo", ""),
+    ("glob_run escape -", "--"),
+    ("glob_run --help ", ""),
+]
+
+INSTALLED = [
+    "bin/glob_run",
+    "share/bash-completion/completions/glob_run",
+    "share/fish/vendor_completions.d/glob_run.fish",
+    "share/man/man1/glob_run.1",
+    "share/zsh/site-functions/_glob_run",
+]
+
+
+def examples():
+    """The commands of the man page, each with what it writes."""
+    text = PAGE.read_text(encoding="utf-8")
+    found = []
+    for block in re.findall(r"^\.EX\n(.*?)^\.EE$", text, re.M | re.S):
+        block = re.sub(r"\\\(..|\\.", lambda it: ROFF[it[0]], block)
+        for command, output in re.findall(r"^\$ (.*)\n((?:(?!\$ ).*\n)*)", block, re.M):
+            found.append((command, output))
+    return found
+
+
+def run_example(command, output, folder, path):
+    how = {"cwd": folder, "env": {"PATH": f"{path}:/usr/bin:/bin"}, "stdin": subprocess.DEVNULL, "timeout": 60}
+    ran = subprocess.run(["bash", "-c", command], capture_output=True, text=True, **how)
+    return [] if (ran.stdout, ran.stderr) == (output, "") else [f"{command}: {ran.stdout}{ran.stderr}"]
+
+
+def lint():
+    """What a checker of man pages says of the page, and None where none can be had."""
+    checkers = (["mandoc", "-Tlint", "-Wwarning"], ["groff", "-man", "-ww", "-z"])
+    for words in checkers:
+        if shutil.which(words[0]):
+            ran = subprocess.run([*words, PAGE], capture_output=True, text=True)
+            return [ran.stdout + ran.stderr] if ran.returncode or ran.stdout or ran.stderr else []
+    print("skipped: neither mandoc nor groff can be had, so nothing checks the man page")
+    return None
+
+
+def completion_faults(line, wanted, folder):
+    script = """
+        . "$1"
+        read -r -a COMP_WORDS <<<"$2"
+        [ "${2% }" = "$2" ] || COMP_WORDS+=('')
+        COMP_CWORD=$((${#COMP_WORDS[@]} - 1))
+        _glob_run
+        printf '%s\\n' "${COMPREPLY[@]}"
+    """
+    words = ["bash", "-c", script, "bash", ROOT / "completions/glob_run.bash", line]
+    ran = subprocess.run(words, cwd=folder, capture_output=True, text=True)
+    offered = " ".join(sorted(ran.stdout.split()))
+    return [] if (offered, ran.stderr) == (wanted, "") else [f"{line}: {offered} {ran.stderr}"]
+
+
+def syntax_faults(shell, file):
+    """What a shell says of a file that it cannot read, and None where the shell cannot be had."""
+    if not shutil.which(shell):
+        print(f"skipped: there is no {shell}, so {file} is not read")
+        return None
+    ran = subprocess.run([shell, "-n", ROOT / file], capture_output=True, text=True)
+    return [f"{file}: {ran.stderr}"] if ran.returncode or ran.stderr else []
+
+
+def install_faults(prefix):
+    ran = subprocess.run([ROOT / "bin/install", prefix], capture_output=True, text=True)
+    found = sorted(str(it.relative_to(prefix)) for it in Path(prefix).rglob("*") if it.is_file())
+    if ran.returncode or found != INSTALLED:
+        return [f"bin/install: {found} {ran.stderr}"]
+    said = subprocess.run([f"{prefix}/bin/glob_run", "--version"], capture_output=True, text=True).stdout
+    version = re.search(r"^## (.*)$", (ROOT / "CHANGELOG.md").read_text(encoding="utf-8"), re.M)[1]
+    faults = [] if said == f"glob_run {version}\n" else [f"the installed program is {said}"]
+    return faults if f'"glob_run {version}"' in PAGE.read_text(encoding="utf-8") else [*faults, "the man page's version"]
+
+
+def refusal_faults(words):
+    ran = subprocess.run([ROOT / "bin/install", *words], capture_output=True, text=True)
+    is_told = ran.returncode == 2 and ran.stdout == "" and ran.stderr.count("\n") == 1
+    return [] if is_told else [f"bin/install {words}: {ran.returncode} {ran.stderr}"]
+
+
+def main():
+    with tempfile.TemporaryDirectory() as work:
+        prefix, folder = Path(work, "prefix"), Path(work, "here")
+        (folder / "folder").mkdir(parents=True)
+        checks = [install_faults(prefix), lint(), refusal_faults([]), refusal_faults(["--help"])]
+        checks += [completion_faults(*it, folder) for it in COMPLETIONS]
+        checks += [syntax_faults("zsh", "completions/_glob_run"), syntax_faults("fish", "completions/glob_run.fish")]
+        (folder / "folder").rmdir()
+        checks += [run_example(*it, folder, prefix / "bin") for it in examples()]
+    done = [faults for faults in checks if faults is not None]
+    failed = sum(bool(faults) for faults in done)
+    for fault in (fault for faults in done for fault in faults):
+        print(f"failed: {fault}")
+    print(f"{len(done) - failed} passed, {failed} failed")
+    sys.exit(bool(failed))
+
+
+main()
