@@ -1,0 +1,121 @@
+#!/usr/bin/env bash
+# Runs bin/glob_run where nothing is built yet, over a copy of the repository without sources and an `rt` that proves
+# nothing and notes what it is asked. Prints a line for each row that fails, and last how many passed and failed.
+set -u
+root=$(cd "$(dirname "$(readlink -f "${BASH_SOURCE[0]}")")/.." && pwd)
+work=$(mktemp -d)
+trap 'chmod -R u+w "$work" && rm -rf "$work"' EXIT
+chmod 755 "$work"
+passed=0 failed=0
+program=$work/copy/bin/glob_run
+
+. "$root/tests/lib/rows.sh"
+
+# anew: a copy of the repository in which nothing is built
+anew() {
+    rm -rf "$work/copy" "$work/asked" && mkdir "$work/copy"
+    cp -a "$root/bin" "$root/crates.txt" "$work/copy"
+    for crate in $(sed -n 's/^\([a-z_]*\):.*/\1/p' "$root/crates.txt"); do
+        mkdir -p "$work/copy/crates/$crate/src" && touch "$work/copy/crates/$crate/src/lib.rt"
+    done
+}
+
+# It runs in the folder of a crate. A run makes a program that writes its words.
+mkdir "$work/tools"
+cat >"$work/tools/rt" <<'RT'
+#!/usr/bin/env bash
+echo "$1 ${PWD##*/}" >>"$ASKED"
+[ ! -f "$ASKED.slow" ] || { echo $$ >"$ASKED.slow" && exec sleep 300; }
+[ ! -f "$ASKED.wrong" ] || { echo 'error: wrong' && exit 1; }
+[ "$1" != run ] || { printf '#!/bin/sh\necho "$@"\n' >out/glob_run && chmod +x out/glob_run; }
+RT
+chmod 755 "$work/tools" "$work/tools/rt"
+export PATH=$work/tools:$PATH ASKED=$work/asked
+
+# asked NAME WANTED: compares what rt was asked, with a blank between each two, and the output of the run
+asked() {
+    [ ! -f "$work/asked" ] || tr '\n' ' ' <"$work/asked" >>"$work/out"
+    rm -f "$work/asked" && : >"$work/err"
+    check "$1" 0 "$2" ''
+}
+
+all='lib glob_text lib glob_pattern lib glob_lines lib glob_tree lib glob_walk lib glob run glob_run '
+
+anew
+run match x
+asked 'the first call builds the crates of the program alone' "match x\n$all"
+run match x
+asked 'the second call builds nothing' 'match x\n'
+echo 'other: glob' >>"$work/copy/crates.txt"
+run match x
+asked 'a line of crates.txt for another crate builds nothing' 'match x\n'
+sed -i 's/^glob_tree: /glob_tree: glob_lines /' "$work/copy/crates.txt"
+run match x
+[ -s "$work/asked" ] && : >"$work/asked"
+asked 'a line of crates.txt for a crate of the program builds anew' 'match x\n'
+touch "$work/copy/crates/glob_names/src/lib.rt" "$work/copy/crates/glob_walk/must-fail"
+run match x
+asked 'a source of another crate builds nothing' 'match x\n'
+touch "$work/copy/crates/glob_tree/src/lib.rt"
+run match x
+[ -s "$work/asked" ] && : >"$work/asked"
+asked 'a source of the program builds anew' 'match x\n'
+
+anew
+run match x
+sed -i 's/[0-9][0-9]* [sm][in0-9 s]*/TIME/; s/, about .*/, about TIME/' "$work/err"
+sed -i 's/: about .*/: about TIME/' "$work/err"
+grep -c ' of 7: ' "$work/err" >"$work/out"
+sed -n '1p;4p;$p' "$work/err" >"$work/some" && cp "$work/some" "$work/err"
+check 'a build says what it is at' 0 '7\n' \
+    'glob_run: proving and building the program, once for these sources: about TIME\nglob_run: 3 of 7: glob_lines, about TIME\nglob_run: built in TIME\n'
+
+anew
+touch "$work/asked.wrong"
+run match x
+sed -i '1,2d' "$work/err"
+check 'a build that fails' 2 '' 'error: wrong\nglob_run: the build of glob_text failed, as the lines above say\n'
+rm "$work/asked.wrong"
+
+for signal in TERM INT HUP; do
+    anew
+    touch "$work/asked.slow"
+    # to the launcher alone
+    timeout --foreground --preserve-status -s "$signal" 1 "$program" match x >"$work/out" 2>"$work/err"
+    status=$?
+    worker=$(cat "$work/asked.slow")
+    kill -0 "$worker" 2>/dev/null && echo 'its rt goes on' >>"$work/out"
+    sed -i '1,2d' "$work/err"
+    check "ended by SIG$signal, it ends its rt" "$((128 + $(kill -l "$signal")))" '' \
+        'glob_run: ended before it was built. The next call goes on from here\n'
+    rm "$work/asked.slow"
+done
+
+anew
+mkdir "$work/few" && for tool in bash sh env readlink dirname awk cmp find mktemp cp rm mkdir cat; do
+    ln -s "$(command -v "$tool")" "$work/few/$tool"
+done
+PATH=$work/few "$program" match x >"$work/out" 2>"$work/err"
+status=$?
+check 'no rt' 2 '' 'glob_run: there is no rt: put the folder of the toolchain that README.md names on PATH\n'
+
+TMPDIR=$work/missing "$program" match x >"$work/out" 2>"$work/err"
+status=$?
+check 'a folder of TMPDIR that is missing' 2 '' \
+    "glob_run: no file can be made in $work/missing: set TMPDIR to a folder where one can\n"
+
+# Root can write anywhere, and so gives its rights up.
+as_user=()
+[ "$(id -u)" != 0 ] || as_user=(setpriv --reuid=65534 --regid=65534 --clear-groups)
+chmod -R a+rX,a-w "$work/copy"
+if "${as_user[@]}" true 2>/dev/null; then
+    "${as_user[@]}" "$program" match x >"$work/out" 2>"$work/err"
+    status=$?
+    check 'a folder that cannot be written' 2 '' \
+        "glob_run: nothing can be written into $work/copy/crates/glob_text: copy the repository to a folder of your own\n"
+else
+    echo 'skipped: a folder that cannot be written: root writes it, and no other user can be had here'
+fi
+
+echo "$passed passed, $failed failed"
+[ "$failed" = 0 ]
