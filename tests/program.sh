@@ -65,6 +65,20 @@ check 'the page to a full standard output' 2 '' 'writing failed\n'
 status=$?
 check 'the page to a closed standard output' 2 '' 'writing failed\n'
 
+# means FORM LINES WANTED OTHER WANTED: what a form of other tools copies here, and what copies instead of it
+means() {
+    printf '%b' "$2" >"$work/in"
+    run match "$1" <"$work/in"
+    check "what $1 means" 0 "$3" ''
+    run match "$4" <"$work/in"
+    check "what is written instead of $1" 0 "$5" ''
+}
+means '*.{c,h}' 'a.c\na.h\na.{c,h}\n' 'a.{c,h}\n' '*.[ch]' 'a.c\na.h\n'
+means '[^a]' '^\na\nb\n' '^\na\n' '[!a]' '^\nb\n'
+means '[[:alpha:]]' 'a\nz\na]\n:]\nz]\n' 'a]\n:]\n' '[a-zA-Z]' 'a\nz\n'
+means '\*' '*\n\\\\a\n' '\\\\a\n' '[*]' '*\n'
+means './*.rs' 'a.rs\n./a.rs\n' './a.rs\n' '*.rs' 'a.rs\n./a.rs\n'
+
 run match 'abc[def' </dev/zero
 check 'a fault of the pattern before anything is read' 2 '' 'Pattern syntax error near position 3: invalid range pattern\n'
 
