@@ -1,0 +1,4 @@
+pub mod LooseValues
+pub mod Messages
+pub mod SlotValues
+pub mod Written

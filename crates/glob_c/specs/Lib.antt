@@ -1,0 +1,4 @@
+pub mod Answers
+pub mod Escaped
+pub mod Refusals
+pub mod Slots

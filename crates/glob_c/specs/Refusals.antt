@@ -1,0 +1,12 @@
+-- Why bytes are refused as a pattern.
+use Rattle.std.specs.Prelude.{ℕ, ◌≤◌, List, IsUtf8, chars, ⊤}
+use Rattle.glob_pattern.specs.Grammar.Faults.{IsFault}
+use Rattle.glob_c.specs.Answers.{fault_of}
+use Rattle.glob_c.specs.declared.fault.Refusal.{Refusal}
+use Rattle.glob_c.specs.declared.fault.Refusal.TheVariants.{Syntax, Memory, NotUtf8}
+
+-- their fault, a failed allocation, or that they are no UTF-8
+abbrev pub RefusesBytes : List ℕ → Refusal → Type 0
+RefusesBytes bytes (Syntax f) = IsUtf8 bytes × IsFault (chars bytes) (fault_of f.place f.message) × (f.message ≤ 2)
+RefusesBytes bytes Memory = ⊤
+RefusesBytes bytes NotUtf8 = ¬ (IsUtf8 bytes)

@@ -1,0 +1,8 @@
+//! Patterns for C, and for Rust over C: `include/cadmiumdove.h` says what a caller owes.
+#![tactic(auto)]
+
+mod escape;
+mod fault;
+mod loose;
+mod pattern;
+mod slot;
