@@ -1,0 +1,68 @@
+#!/usr/bin/env bash
+# Runs the static library for C and Rust: calls from C under valgrind, the tests of the Cargo crate, and a million
+# random matches beside the Rust crate `glob`, of the Debian package librust-glob-dev. What cannot be had here is left
+# out, and said. Its last line is 'N passed, M failed'.
+set -uo pipefail
+root=$(cd "$(dirname "$(readlink -f "${BASH_SOURCE[0]}")")/.." && pwd)
+work=$(mktemp -d)
+trap 'rm -rf "$work"' EXIT
+export CADMIUMDOVE_LIBRARY=$root/crates/glob_c/out CARGO_TARGET_DIR=$work/target
+passed=0 failed=0
+
+# check NAME COMMAND..: one more row, which passes if the command does
+check() {
+    local name=$1
+    shift
+    if "$@" >"$work/log" 2>&1; then
+        passed=$((passed + 1))
+    else
+        failed=$((failed + 1))
+        echo "failed: $name"
+        tail -n 40 "$work/log"
+    fi
+}
+
+left_out() {
+    echo "left out: $1"
+}
+
+has() {
+    command -v "$1" >/dev/null
+}
+
+calls_from_c() {
+    has cc || { left_out "calls from C, since there is no cc"; return; }
+    check 'C is compiled' cc -std=c11 -Wall -Wextra -Werror -g -I "$root/include" "$root/tests/border/calls.c" \
+        "$CADMIUMDOVE_LIBRARY/libcadmiumdove.a" -Wl,--wrap=malloc,--wrap=realloc -o "$work/calls"
+    if has valgrind; then
+        check 'calls from C, under valgrind' valgrind -q --leak-check=full --error-exitcode=9 "$work/calls"
+    else
+        check 'calls from C, without valgrind' "$work/calls"
+    fi
+}
+
+# the folder of the crate's sources
+original() {
+    ls -d /usr/share/cargo/registry/glob-0.3.* 2>/dev/null | tail -1
+}
+
+calls_from_rust() {
+    has cargo || { left_out "calls from Rust, since there is no cargo"; return; }
+    cp -r "$root/rust" "$work/rust"
+    check 'the Cargo crate' cargo test -q --offline --manifest-path "$work/rust/Cargo.toml"
+    [ -n "$(original)" ] || { left_out "matches beside the crate, since librust-glob-dev is not installed"; return; }
+    cp -r "$root/tests/border" "$work/beside"
+    cp -r "$(original)" "$work/glob"
+    check 'beside the crate' cargo run -q --offline --release --manifest-path "$work/beside/Cargo.toml" 1000000
+    grep -E ' matches, ' "$work/log"
+}
+
+if "$root/bin/c_library" >"$work/log" 2>&1; then
+    calls_from_c
+    calls_from_rust
+else
+    tail -n 40 "$work/log"
+    failed=1
+fi
+echo "$passed passed, $failed failed"
+[ "$failed" = 0 ]
