@@ -1,16 +1,16 @@
 -- Neighbours of the laws, each proved false by an example: what a law asks for, it needs.
-use Rattle.std.proofs.Common.{◌≡◌, ⊎_elim, Bool, true, false, List, [], ◌∷◌, codes, Contains, IsTrue, refl, sym, ap, arith}
+use Rattle.std.proofs.Common.{◌≡◌, ⊎_elim, ℕ, Bool, true, false, List, [], ◌∷◌, Some, length, slice_index, codes, Contains, IsTrue, refl, sym, ap, arith}
 use Prim.Native.String.{String}
-use Rattle.std.proofs.lemmas.Bool.{false≢true}
+use Rattle.std.proofs.lemmas.Bool.{false≢true, eqb-false}
 use Rattle.std.proofs.lemmas.Str.{IsUtf8-from_is_utf8}
 use Rattle.std.specs.Str.{IsUtf8, is_utf8}
 use Rattle.std.specs.Ordering.{is_lt}
 use Rattle.std.specs.declared.io.ErrorKind.TheVariants.{PermissionDenied}
 use Rattle.glob_text.specs.Text.{Text}
-use Rattle.glob_tree.specs.Content.{Content, is_content}
+use Rattle.glob_tree.specs.Content.{Content, Key, DirEntry, is_content, is_dir_at, resolve, sorted_entries}
 use Rattle.glob_walk.specs.Components.{components, matches_name}
-use Rattle.glob_walk.specs.Marks.{Item, items, paths, IsBeginning}
-use Rattle.glob_walk.specs.Listing.{listing}
+use Rattle.glob_walk.specs.Marks.{Mark, Item, items, paths, IsBeginning}
+use Rattle.glob_walk.specs.Listing.{descent, listing}
 use Rattle.glob_walk.specs.Goal.{is_plain, matches_undivided, text_below, IsPlainWalk, ReachesGoal, GivesGoal}
 use Rattle.glob_walk.specs.Order.{has_one_run, IsOnce, IsAscending}
 use Rattle.glob_walk.specs.Laws.{are_names}
@@ -154,3 +154,26 @@ two_components_after_a_run_break_the_order claim =
     let ascending : IsAscending (paths given) =
     claim unordered new (codes "**/*/*") (plain_walk unordered new "**/*/*" refl refl refl refl) given ([], refl) refl in
     false≢true (ap is_lt (ascending 1 2 [] (omega arith) (omega arith)))
+
+-- the listing's parts
+
+-- `enough_levels_give_the_same_marks`, of any numbers of levels: down no level a directory is not even listed
+few_levels_give_less :
+    ¬ ((c : Content) (o : MatchOptions) (each : Text → Text → Bool → List Mark) (path : Text) (k : Key)
+    → IsTrue (is_content c) → resolve c path ≡ Some k → IsTrue (is_dir_at c k)
+    → (n m : ℕ) → descent c o each n path ≡ descent c o each m path)
+unfolding computed
+few_levels_give_less claim =
+    let each : Text → Text → Bool → List Mark = λ path name d. [] in
+    let marks : List Mark = descent (at_root []) new each 1 (codes "/") in
+    eqb-false 0 (length marks) refl (ap length (claim (at_root []) new each (codes "/") [] refl refl refl 0 1))
+
+first_byte : List DirEntry → ℕ
+first_byte [] = 0
+first_byte (e ∷ es) = slice_index e.0 0
+
+-- `entries_stand_in_ascending_order`, of the directory's own order: of `b` and `a`, `a` comes first
+entries_do_not_stand_as_listed : ¬ ((entries : List DirEntry) → sorted_entries entries ≡ entries)
+entries_do_not_stand_as_listed claim =
+    let entries : List DirEntry = (codes "b", false) ∷ (codes "a", false) ∷ [] in
+    eqb-false 97 98 refl (ap first_byte (claim entries))
