@@ -2,3 +2,4 @@ pub mod FalseNeighbours
 pub mod Faults
 pub mod Matches
 pub mod Options
+pub mod PlainNeighbours

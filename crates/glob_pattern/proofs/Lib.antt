@@ -7,5 +7,4 @@ pub mod GrammarLemmas
 pub mod MaskLemmas
 pub mod MatchingLemmas
 pub mod Places
-pub mod PlainNeighbours
 pub mod PositionLemmas

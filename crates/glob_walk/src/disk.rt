@@ -24,8 +24,10 @@ const LARGE_BLOCK: usize = 32768;
 /// The real file system, as a tree with no known content: contracts know only how much was asked of it. Relative paths
 /// begin at the current directory of the process, and links are followed.
 ///
-/// A look makes one system call, and two at a link. A listing makes one for each entry, also for a link, four for the
-/// directory, and one for each further 32 KiB of names. An I/O error of the kind `OutOfMemory` is an allocation failure.
+/// A look makes one system call, and two at a link. A listing makes one for each entry, also for a link. Beside these it
+/// opens and closes the directory, and reads its records in two blocks of 4 KiB and then in blocks of 32 KiB, to an empty
+/// read: four calls where some hundred names fit the first block. An I/O error of the kind `OutOfMemory` is an allocation
+/// failure.
 ///
 /// In a directory with a file `a` and a link `b` to `a`, a look at `b` finds `Other`, and a listing of `.` the entries
 /// `a` and `b`, neither of them a directory.

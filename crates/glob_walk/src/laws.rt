@@ -14,8 +14,8 @@ pub fn plain_walk_reaches_the_goal()
 {}
 
 /// Over a readable content a plain walk has no error, and its paths are exactly what the undivided pattern matches
-/// under the separator rule, or the directories among those if it ends in `/` or `**`: by `**/x` over files `x`, `y`
-/// and `d/x` they are `d/x` and `x`.
+/// under the separator rule, and under the dot rule if that is set, or the directories among those if it ends in `/` or
+/// `**`: by `**/x` over files `x`, `y` and `d/x` they are `d/x` and `x`.
 pub fn plain_walk_gives_the_goal()
     ensures { PlainWalkGives }
 {}

@@ -44,12 +44,14 @@ pub struct Walk<T: Tree> {
 /// The whole walk of [`glob_in`](crate::glob_in), with its refusals of patterns. A limit that does not suffice, and an
 /// allocation failure during the walk, stand in `end` and not in `items`.
 ///
-/// Over a tree with a known content, with case, and where `end` is `Done`, the paths are those below the start that the
-/// whole pattern, without a `/` at its end, matches under the separator rule. If the pattern ends in `/` or `**`, they
-/// are the directories among those. What lies below a directory that could not be listed may be missing: then the error
-/// is an item. This is so for a plain pattern: no component is empty, `.` or `..`, and each that has a wildcard and
-/// begins with a dot is right after a `**`. Each path comes once if `**` stands in at most one place, where `**/**` is
-/// one, and in order if besides at most one component follows it.
+/// A pattern is plain if no component is empty, `.` or `..`, and if each that has a wildcard and begins with a dot is
+/// right after a `**`. For a plain pattern, with case, over a tree with a known content, and where `end` is `Done`:
+///
+/// - The paths are those below the start that the whole pattern, without a `/` at its end, matches under the separator
+///   rule, and under the dot rule if that is set. If the pattern ends in `/` or `**`, they are the directories among
+///   those. What lies below a directory that could not be listed may be missing: then the error is an item.
+/// - Each path comes once if `**` stands in at most one place, where `**/**` is one, and in order if besides at most one
+///   component follows it.
 ///
 /// `limit` is in units of work: lookups, listings and entries. Over files `x` and `y`, `walk_in(alloc, tree, "*", options,
 /// 4)` gives both and `End::Done`; with the limit 3 it gives none, and `End::Limit`.

@@ -174,6 +174,7 @@ first_byte (e ∷ es) = slice_index e.0 0
 
 -- `entries_stand_in_ascending_order`, of the directory's own order: of `b` and `a`, `a` comes first
 entries_do_not_stand_as_listed : ¬ ((entries : List DirEntry) → sorted_entries entries ≡ entries)
+unfolding first_byte
 entries_do_not_stand_as_listed claim =
     let entries : List DirEntry = (codes "b", false) ∷ (codes "a", false) ∷ [] in
     eqb-false 97 98 refl (ap first_byte (claim entries))
