@@ -21,7 +21,6 @@ use denote.Steps.{nothing, heard}
 use denote.Param.{layout}
 use denote.Triple.Walked.{Stays, stay_dropped, walk_of, Goes-dropped}
 use Rattle.core.proofs.cell.Inside.{one}
-use Rattle.libc.specs.Heap.{chunk}
 use Rattle.std.specs.contracts.alloc.Global as heap
 use Rattle.std.proofs.alloc.Global.TheLaws as heap_laws
 use Rattle.std.specs.contracts.impls.GlobalAllocator.TheImpl.{ghosts}
@@ -53,7 +52,7 @@ into_loose_spec 𝓤 𝓛 𝓜 𝓡 wired =
     qed 𝓛 ((‵ ftrue ⊛ ‵ (owns (types_at En.signature.params κs) z.0.3 z.0.4)) ∷ raw (fact 𝓤 (IsSome d.text)) ∷ []) ∵
     move ! (1 ∷ []) $ heard ! (IsSome d.text) (λ is. let text = (kept d.text is).0 in let full = (kept d.text is).1 in split ! $ move ! (1 ∷ []) $ fsplit ! $ slot_out ! d z.0.4.0 (λ ws.
     rewrite ! 0 (λ (t : Option (List ℕ)). ‵ (slot_owns d.at t)) full refl $
-    in_a_block ! d.at (λ p. slot_owns p (Some text)) (fst∗ 𝓤 (never 𝓤) (sem 𝓛 (chunk (bare (lone R.mir)) null_ptr))) (λ b o e.
+    in_a_block ! d.at (λ p. slot_owns p (Some text)) (fst∗ 𝓤 (never 𝓤) (sem 𝓛 (ghosts.dealloc_token a (bare (lone R.mir)) null_ptr))) (λ b o e.
     let w : Val = vstruct (vcons (vptr b o) vnil) in let v : Val = both (vptr b o) h in let x : Lr.Denot = record { at = block_ptr b o; alloc = a; value = text } in
     let typed = loose_good R Z LZ ghosts b o h fits in let us : z.0.4.0 ≡ w ∷ [] = ws ∙ ap (λ (p : Ptr). slot_val p ∷ []) e in
     -- [the box; the handle and nothing; the tokens]
