@@ -1,6 +1,6 @@
 ghost use Rattle.std.specs.Prelude.{◌≡◌, ◌≤◌, ◌<◌, IsUtf8, chars, length, take, drop};
 ghost use Rattle.glob_pattern.specs.Escaping.{escaped_text};
-ghost use Rattle.glob_c.specs.Answers.{done, not_utf8, too_short};
+ghost use Rattle.glob_c.specs.Answers.{done, syntax_fault, not_utf8, too_short};
 ghost use Rattle.glob_c.specs.Escaped.{IsLengthOfEscaped};
 
 use crate::pattern::{DONE, NOT_UTF8, OUT_OF_MEMORY};
@@ -21,6 +21,7 @@ pub extern "C" fn glob_pattern_escape(
     needed: &mut usize,
 ) -> u32
     ensures range { result ≤ too_short }
+    ensures no_fault { ¬ (result ≡ syntax_fault) }
     ensures fits { result ≡ done → needed.new ≤ length out.old }
     ensures written { result ≡ done →
         chars (take needed.new out.new) ≡ escaped_text (chars text.now) }
