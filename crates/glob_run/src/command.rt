@@ -1,4 +1,7 @@
 //! What the words of a command line ask for.
+ghost use Rattle.std.specs.Prelude.{◌≡◌, map, option_map};
+ghost use Rattle.glob_run.specs.CommandLine.{AsksFor, operand_of};
+
 use glob::MatchOptions;
 
 /// What a list of words asks of the program.
@@ -31,7 +34,9 @@ pub struct Search<'a> {
 
 impl<'a> Command<'a> {
     /// Reads the words after the program's name. `None` is a usage fault.
-    pub fn parse(words: &[&'a str]) -> Option<Self> {
+    pub fn parse(words: &[&'a str]) -> Option<Self>
+        ensures { AsksFor (map (λ w. w.now) words.now) result }
+    {
         let (&name, words) = words.split_first()?;
         match name {
             "match" => Self::parse_match(words),
@@ -108,10 +113,14 @@ fn parse_limit(digits: &str) -> Option<u64> {
 }
 
 /// The one word that is left after the options. A word that begins with `-` can stand there only after `--`.
-fn only_operand<'a>(words: &[&'a str]) -> Option<&'a str> {
+fn only_operand<'a>(words: &[&'a str]) -> Option<&'a str>
+    ensures { option_map (λ w. w.now) result ≡ operand_of (map (λ w. w.now) words.now) }
+{
     match words {
-        [word] if !word.starts_with('-') => Some(word),
-        ["--", word] => Some(word),
-        _ => None,
+        [] => None,
+        [word] if word.starts_with('-') => None,
+        [word] => Some(word),
+        [dashes, word] => { if *dashes == "--" { Some(word) } else { None } }
+        [_, _, _, ..] => None,
     }
 }

@@ -3,7 +3,11 @@
 //! of the disk that the pattern matches.
 #![tactic(auto)]
 
-ghost use Rattle.std.specs.Prelude.{◌≤◌};
+ghost use Rattle.std.specs.Prelude.{◌≡◌, ◌≤◌, ◌<◌, ◌⊎◌, ℕ, IfOk, chars, string_bytes};
+ghost use Rattle.std.specs.Io.KnownBytes.{Appends};
+ghost use Rattle.glob.specs.Grammar.Units.{IsAccepted};
+ghost use Rattle.glob.specs.Lines.{FiltersLines};
+ghost use Rattle.glob_run.specs.Outcomes.{Does, IsEscapedLine, IsRefused, WritesEscaped};
 
 mod command;
 mod find;
@@ -33,9 +37,10 @@ const UNMATCHED: u8 = 1;
 const FAULT: u8 = 2;
 
 /// Runs the program on the words after its name, and returns its exit status: 0 where something matched or a page was
-/// written, 1 where nothing matched, 2 at a fault or where a walk met an error. A fault is one line on `errors`; a fault of `errors` itself is
-/// dropped. A usage fault is found first, then a fault of the pattern, both before anything is read, looked up or
-/// written. The disk is the one that `rt` reaches.
+/// written, 1 where nothing matched, 2 at a fault or where a walk met an error. A fault is one line on `errors`; a fault
+/// of `errors` itself is dropped. A usage fault is found first, then a fault of the pattern, both before anything is read,
+/// looked up or written. The disk is the one that `rt` reaches. What each command writes is the contract of
+/// [`run_command`], which hands the output back.
 pub fn run_words<F: Files + Drop, A: Allocator + Copy, R: Read + Drop, W: Write + Drop, E: Write>(
     rt: F,
     alloc: A,
@@ -46,18 +51,42 @@ pub fn run_words<F: Files + Drop, A: Allocator + Copy, R: Read + Drop, W: Write 
 ) -> u8
     ensures { result ≤ 2 }
 {
-    match Command::parse(words) {
-        None => fault(alloc, errors, USAGE),
-        Some(Command::Match { options, pattern }) => {
+    let command = Command::parse(words);
+    let (status, _output) = run_command(rt, alloc, command, input, output, errors);
+    status
+}
+
+/// Runs a command, or tells a usage fault where there is none. Returns the exit status, and the output.
+pub fn run_command<F: Files + Drop, A: Allocator + Copy, R: Read + Drop, W: Write + Drop, E: Write>(
+    rt: F,
+    alloc: A,
+    command: Option<Command<'_>>,
+    input: R,
+    mut output: W,
+    errors: &mut E,
+) -> (u8, W)
+    ensures most { result.0 ≤ 2 }
+    ensures does { Does command.entry (R.remaining input)
+        (W.contents output) (W.contents result.1) result.0 }
+{
+    let Some(command) = command else {
+        return (fault(alloc, errors, USAGE), output);
+    };
+    match command {
+        Command::Match { options, pattern } => {
             run_match(alloc, options, pattern, input, output, errors)
         }
-        Some(Command::Escape { text }) => run_escape(alloc, text, output, errors),
-        Some(Command::Help) => write_text(alloc, page::HELP, output, errors),
-        Some(Command::Version) => write_text(alloc, page::VERSION, output, errors),
-        Some(Command::Find(search)) => run_find(rt, alloc, search, output, errors),
+        Command::Escape { text } => run_escape(alloc, text, output, errors),
+        Command::Find(search) => {
+            let status = run_find(rt, alloc, search, &mut output, errors);
+            (status, output)
+        }
+        Command::Help => write_text(alloc, page::HELP, output, errors),
+        Command::Version => write_text(alloc, page::VERSION, output, errors),
     }
 }
 
+/// Copies the matching lines. Returns the status, and the output.
 fn run_match<A: Allocator + Copy, R: Read + Drop, W: Write + Drop, E: Write>(
     alloc: A,
     options: MatchOptions,
@@ -65,53 +94,64 @@ fn run_match<A: Allocator + Copy, R: Read + Drop, W: Write + Drop, E: Write>(
     input: R,
     output: W,
     errors: &mut E,
-) -> u8
-    ensures { result ≤ 2 }
+) -> (u8, W)
+    ensures most { result.0 ≤ 2 }
+    ensures refused { (¬ (IsAccepted (chars pattern.now)))
+        → IsRefused (W.contents output) (W.contents result.1) result.0 }
+    ensures matched { result.0 ≡ 0 → (n : ℕ) × (0 < n) × FiltersLines options pattern.now
+        (R.remaining input) (W.contents output) (W.contents result.1) n }
+    ensures unmatched { result.0 ≡ 1 → FiltersLines options pattern.now
+        (R.remaining input) (W.contents output) (W.contents result.1) 0 }
 {
     let pattern = match Pattern::new(alloc, pattern) {
         Ok(pattern) => pattern,
-        Err(refusal) => return fault(alloc, errors, refusal),
+        Err(refusal) => return (fault(alloc, errors, refusal), output),
     };
     let mut reader = Watch::new(input);
     let mut writer = Watch::new(output);
-    match filter_lines(alloc, &pattern, options, &mut reader, &mut writer) {
-        Ok(0) => UNMATCHED,
-        Ok(_) => MATCHED,
+    let status = match filter_lines(alloc, &pattern, options, &mut reader, &mut writer) {
+        Ok(count) => { if count == 0 { UNMATCHED } else { MATCHED } }
         Err(line_fault) => fault(alloc, errors, line_fault),
-    }
+    };
+    (status, writer.into_inner())
 }
 
+/// Writes the pattern that stands for the text alone. Returns the status, and the output.
 fn run_escape<A: Allocator + Copy, W: Write + Drop, E: Write>(
     alloc: A,
     text: &str,
     output: W,
     errors: &mut E,
-) -> u8
-    ensures { result ≤ 2 }
+) -> (u8, W)
+    ensures status { (result.0 ≡ 0) ⊎ (result.0 ≡ 2) }
+    ensures written { result.0 ≡ 0 → WritesEscaped text.now (W.contents output) (W.contents result.1) }
 {
     match escaped_line(alloc, text) {
         Ok(line) => write_text(alloc, &line, output, errors),
-        Err(_) => fault(alloc, errors, "out of memory"),
+        Err(_) => (fault(alloc, errors, "out of memory"), output),
     }
 }
 
-/// Writes the whole text to the output.
+/// Writes the whole text. Returns the status, and the output.
 fn write_text<A: Allocator, W: Write + Drop, E: Write>(
     alloc: A,
     text: &str,
     mut output: W,
     errors: &mut E,
-) -> u8
-    ensures { result ≤ 2 }
+) -> (u8, W)
+    ensures status { (result.0 ≡ 0) ⊎ (result.0 ≡ 2) }
+    ensures written { result.0 ≡ 0 → Appends (W.contents output) (W.contents result.1) text.now }
 {
     match output.write_all(text.as_bytes()) {
-        Ok(()) => MATCHED,
-        Err(_) => fault(alloc, errors, "writing failed"),
+        Ok(()) => (MATCHED, output),
+        Err(_) => (fault(alloc, errors, "writing failed"), output),
     }
 }
 
 /// The escaped text and a line feed.
-fn escaped_line<A: Allocator + Copy>(alloc: A, text: &str) -> Result<String<A>, AllocError> {
+fn escaped_line<A: Allocator + Copy>(alloc: A, text: &str) -> Result<String<A>, AllocError>
+    ensures { IfOk result (λ line. IsEscapedLine text.now (string_bytes line)) }
+{
     let mut line = Pattern::escape(alloc, text)?;
     line.push('\n')?;
     Ok(line)
@@ -119,7 +159,7 @@ fn escaped_line<A: Allocator + Copy>(alloc: A, text: &str) -> Result<String<A>, 
 
 /// Writes the one line of a fault, and answers its status.
 fn fault<A: Allocator, E: Write, D: Display + Drop>(alloc: A, errors: &mut E, message: D) -> u8
-    ensures { result ≤ 2 }
+    ensures { result ≡ 2 }
 {
     write_line(alloc, errors, &message);
     FAULT
