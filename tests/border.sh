@@ -53,6 +53,9 @@ calls_from_rust() {
     [ -n "$(original)" ] || { left_out "matches beside the crate, since librust-glob-dev is not installed"; return; }
     cp -r "$root/tests/border" "$work/beside"
     cp -r "$(original)" "$work/glob"
+    mkdir "$work/beside/tests"
+    sed 's/^use cadmiumdove::/use glob::/' "$root/rust/tests/glob.rs" >"$work/beside/tests/glob.rs"
+    check 'the same tests over the crate' cargo test -q --offline --manifest-path "$work/beside/Cargo.toml"
     check 'beside the crate' cargo run -q --offline --release --manifest-path "$work/beside/Cargo.toml" 1000000
     grep -E ' matches, ' "$work/log"
 }

@@ -1,4 +1,5 @@
-//! What a program that uses patterns of `glob` asks.
+//! What a program that uses patterns of `glob` asks. `tests/border.sh` runs it over `glob`, too: but for the `use` line
+//! it is the same program.
 
 use std::collections::{BTreeSet, HashSet};
 use std::path::Path;
@@ -28,7 +29,7 @@ fn each_option_counts() {
     let dots = Pattern::new("*").unwrap();
     assert!(dots.matches_with(".x", options));
     assert!(!dots.matches_with(".x", MatchOptions { require_literal_leading_dot: true, ..options }));
-    assert_eq!(MatchOptions::default(), MatchOptions { case_sensitive: false, ..options });
+    assert!(MatchOptions::default() == MatchOptions { case_sensitive: false, ..options });
 }
 
 #[test]
