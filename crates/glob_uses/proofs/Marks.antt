@@ -1,6 +1,7 @@
 -- Rules, and the `!` at the start of a line.
-use Rattle.std.proofs.Common.{◌≡◌, ◌≢◌, ℕ, ◌==◌, Bool, true, false, ◌<◌, ◌↔◌, not, IsTrue, map, length, get_or, List, [], ◌∷◌, Option, Some, None, refl, sym, ap, ◌∙◌, arith}
+use Rattle.std.proofs.Common.{◌≡◌, ◌≢◌, ℕ, ◌==◌, Bool, true, false, ◌<◌, ◌↔◌, not, IsTrue, map, length, get_or, List, [], ◌∷◌, Option, Some, None, Decides, refl, sym, ap, ◌∙◌, arith}
 use Rattle.std.specs.Prelude.{MatchOption}
+use Rattle.std.proofs.lemmas.Bool.{eq-eqb, ne_eqb, false≢true}
 use Rattle.std.specs.Borrow.{Bor}
 use Rattle.std.specs.Option.{unwrap_or}
 use Rattle.std.proofs.lemmas.Bool.Decides.{nat_tests}
@@ -50,3 +51,8 @@ module _ (rules : Rules) (path : Text) where
     λ _. (place, last, sym (is ∙ get_or_default rules.keeps place false true below)),
     λ _. refl,
   )
+
+-- the answer whether a line begins with `!`
+pub is_keeping-from : (answer : Bool) (line : List ℕ) → Decides answer (get_or line 0 0 ≡ 33) → answer ≡ is_keeping line
+is_keeping-from true line decides = sym (eq-eqb _ _ (decides.0 refl))
+is_keeping-from false line decides = sym (ne_eqb _ _ (λ e. false≢true (decides.1 e)))
