@@ -121,7 +121,7 @@ impl<T: Tree> Iterator for Paths<T> {
         if self.over {
             return None;
         }
-        let turn = self.walker.turn_to_item();
+        let turn = self.walker.take_turn();
         self.given += turn.item_count();
         self.over = turn.is_last();
         turn.into_item(self.walker.stack.plan.alloc)

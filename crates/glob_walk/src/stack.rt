@@ -51,6 +51,16 @@ impl<A: Allocator + Copy> Stack<A> {
         Ok(true)
     }
 
+    /// Lets go of the task and of all directories, and of their memory: nothing is left.
+    pub fn clear(&mut self)
+        ensures plan { self.new.plan ≡ self.old.plan }
+        ensures next { self.new.next ≡ None }
+        ensures frames { self.new.frames.items ≡ [] }
+    {
+        self.next = None;
+        self.frames = Vec::new(self.plan.alloc);
+    }
+
     /// Puts a directory on top, unless nothing is left in it.
     pub fn open(&mut self, frame: Frame<A>) -> Result<(), AllocError>
         requires none { self.old.next ≡ None }

@@ -10,7 +10,7 @@
 //!
 //! The written listing is what a walk does, mark by mark. Each method of [`Walker`] has the same contract, `TurnsTo`: what
 //! was left of the listing begins with what the turn charged and gave, and what the stack then stands for is the rest.
-ghost use Rattle.std.specs.Prelude.{◌≡◌, ◌≢◌, ◌+◌, ◌<◌, ◌≤◌, ◌∷◌, true, false, None, string_bytes, vec_len, drop, not, ◌||◌, IfOk, Some, if◌then◌else◌};
+ghost use Rattle.std.specs.Prelude.{◌≡◌, ◌≢◌, ◌+◌, ◌<◌, ◌≤◌, ◌∷◌, true, false, [], None, string_bytes, vec_len, drop, not, ◌||◌, IfOk, Some, if◌then◌else◌};
 ghost use Rattle.glob_tree.specs.Content.{Content, look_result};
 ghost use Rattle.glob_walk.specs.Marks.{Work};
 ghost use Rattle.glob_walk.specs.Components.{component_kind, Literal};
@@ -19,6 +19,8 @@ ghost use Rattle.glob_tree.specs.Looks.{is_directory as is_directory_look};
 ghost use Rattle.glob_walk.specs.Private.Tasks.{task_marks, enter_from, IsOpened, sight_marks, next_marks, next_ready, IsNextSound};
 ghost use Rattle.glob_walk.specs.Private.Stacks.{next_weight, IsWithin};
 ghost use Rattle.glob_walk.specs.Private.Turns.{TurnsTo, with_task};
+ghost use Rattle.glob_walk.specs.Private.Walking.{turn_outcome};
+ghost use Rattle.glob_walk.specs.Walks.{is_last};
 
 use crate::frame::{Frame, Place};
 use crate::meter::{Meter, Stop, Unlisted};
@@ -213,6 +215,25 @@ impl<T: Tree> Walker<T> {
                 turn => return turn,
             }
         }
+    }
+
+    /// The turn that [`turn_to_item`](Walker::turn_to_item) ends with. Where no item follows it, as after a refusal, nothing
+    /// stays on the stack, since a walk that is over may be kept for long.
+    pub fn take_turn(&mut self) -> Turn<T::Alloc>
+        requires limit { self.old.meter.spent ≤ self.old.meter.limit }
+        requires within { IsWithin self.old.stack }
+        ensures stops { result ≢ Turn.Went }
+        ensures turn { TurnsTo T.asks T.tells
+            self.old.meter self.old.stack result
+            self.new.meter self.new.stack }
+        ensures cleared { is_last (turn_outcome result) ≡ true
+            → (self.new.stack.next ≡ None) × (self.new.stack.frames.items ≡ []) }
+    {
+        let turn = self.turn_to_item();
+        if turn.is_last() {
+            self.stack.clear();
+        }
+        turn
     }
 }
 

@@ -216,6 +216,58 @@ fn each_request_of_a_walk_is_refused(rt: HostRuntime) -> Result<(), Fail> {
     Ok(())
 }
 
+/// A walk to its end within a limit: once it is over it holds what it held before its first item, without the path at
+/// which it starts. Its items are dropped.
+fn check_kept(
+    rt: &impl Abort,
+    alloc: &Rationed<Global>,
+    pattern: &str,
+    limit: u64,
+) -> Result<(), PatternRefusal> {
+    let Ok(tree) = small_tree(alloc) else {
+        return Err(PatternRefusal::Memory);
+    };
+    let job = Job {
+        limit,
+        ..Job::of(pattern)
+    };
+    let mut paths = start(alloc, tree, job)?;
+    let before = alloc.ration.held();
+    for _ in 0..u64::MAX {
+        if next_of(&mut paths).is_none() {
+            break;
+        }
+    }
+    assert_eq!(rt;
+        alloc.ration.held().saturating_add(1),
+        before,
+        "{limit} for {pattern}"
+    );
+    Ok(())
+}
+
+/// A walk that is over keeps its tree and its pattern alone, also where a refusal came amid directories.
+#[test]
+fn a_walk_that_is_over_keeps_no_directory(rt: HostRuntime) -> Result<(), Fail> {
+    let mut started = 0u32;
+    for (pattern, _) in WALKS {
+        let ample = Rationed::refusing(0, rt.alloc());
+        for limit in 0..=20 {
+            check_kept(&rt, &ample, pattern, limit)?;
+        }
+        let whole = Rationed::refusing(0, rt.alloc());
+        check_kept(&rt, &whole, pattern, u64::MAX)?;
+        for number in requests_of_tree(&rt)..=whole.ration.asked() {
+            let scarce = Rationed::refusing(number, rt.alloc());
+            if check_kept(&rt, &scarce, pattern, u64::MAX).is_ok() {
+                started = started.saturating_add(1);
+            }
+        }
+    }
+    assert!(rt; started > 30, "{started}");
+    Ok(())
+}
+
 /// An error's calls, and those that tell how far a walk is, make no request. Neither does a walk that has ended.
 #[test]
 fn what_needs_no_memory(rt: HostRuntime) -> Result<(), Fail> {
