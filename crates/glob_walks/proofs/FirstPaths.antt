@@ -1,5 +1,5 @@
 -- A walk whose first paths are taken.
-use Rattle.std.proofs.Common.{◌≡◌, ℕ, ◌+◌, ◌-◌, ◌<◌, arith, Bool, true, false, Option, Some, None, List, [], ◌∷◌, ◌++◌, map, refl, ap, sym, subst, ◌∙◌, append_assoc}
+use Rattle.std.proofs.Common.{◌≡◌, ℕ, ◌+◌, ◌-◌, ◌<◌, ◌≤◌, arith, Bool, true, false, Option, Some, None, List, [], ◌∷◌, ◌++◌, map, refl, ap, sym, subst, ◌∙◌, append_assoc}
 use Rattle.std.proofs.lemmas.List.{map-append}
 use Rattle.std.proofs.lemmas.Option.{same_Some}
 use Rattle.std.specs.Path.{path_buf_bytes}
@@ -51,6 +51,8 @@ pub record Left (ms : List Mark) (found : List Text) (left : Option (List Mark))
 -- the paths that were found of a walk so far
 pub record Finds {X : Type 0} (tells : X → Option Content) (first : Walking X) (found : List Text) (now : Walking X) : Type 0 where
   pub told : tells now.tree ≡ tells first.tree
+  pub limit : now.limit ≡ first.limit
+  pub grows : first.spent ≤ now.spent
   pub begins : (c : Content) → IsTold (tells first.tree) c → (ms : List Mark) → first.left ≡ Some ms
       → (rest : List Text) × (paths (items ms) ≡ found ++ rest)
   pub going : now.over ≡ false → (c : Content) → IsTold (tells first.tree) c → (ms : List Mark) → first.left ≡ Some ms
@@ -59,6 +61,8 @@ pub record Finds {X : Type 0} (tells : X → Option Content) (first : Walking X)
 pub Finds-none : {X : Type 0} (tells : X → Option Content) (first : Walking X) → Finds tells first [] first
 Finds-none tells first = record {
   told = refl;
+  limit = refl;
+  grows = omega arith;
   begins = λ c h ms is. (paths (items ms), refl);
   going = λ on c h ms is. record { rest = ms; is = is; all = refl };
 }
@@ -83,9 +87,11 @@ module _ {X : Type 0} (asks : X → ℕ) (tells : X → Option Content) (first n
             ∙ sym (append_assoc found (given_paths (Gives item)) (paths (items t.new_left)));
       }
 
-  stopped : new.over ≡ true → tells new.tree ≡ tells now.tree → Finds tells first (found ++ []) new
-  stopped over told = subst (λ xs. Finds tells first xs new) (sym (append_none found)) (record {
+  stopped : new.over ≡ true → tells new.tree ≡ tells now.tree → new.limit ≡ now.limit → now.spent ≤ new.spent → Finds tells first (found ++ []) new
+  stopped over told limit grows = subst (λ xs. Finds tells first xs new) (sym (append_none found)) (record {
     told = told ∙ f.told;
+    limit = limit ∙ f.limit;
+    grows = omega (arith, grows, f.grows);
     begins = f.begins;
     going = λ on. absurd (cc);
   })
@@ -94,11 +100,13 @@ module _ {X : Type 0} (asks : X → ℕ) (tells : X → Option Content) (first n
   pub Finds-answer : (o : Outcome) → Goes asks tells now (Some o) new → Finds tells first (found ++ given_paths o) new
   Finds-answer (Gives item) goes = record {
     told = goes.told ∙ f.told;
+    limit = goes.counts.limit ∙ f.limit;
+    grows = omega (arith, goes.counts.grows, f.grows);
     begins = λ c h ms is. let l = left item goes c h ms is in (paths (items l.rest), l.all);
     going = λ on. left item goes;
   }
-  Finds-answer (LimitAt path) goes = stopped goes.counts.ends goes.told
-  Finds-answer NoMemory goes = stopped goes.counts.ends goes.told
+  Finds-answer (LimitAt path) goes = stopped goes.counts.ends goes.told goes.counts.limit goes.counts.grows
+  Finds-answer NoMemory goes = stopped goes.counts.ends goes.told goes.counts.limit goes.counts.grows
 
   -- an error is passed over
   pub Finds-error : {A : Type 0} (e : GlobError A) → Goes asks tells now (Some (error_outcome (cause_of e) e)) new → Finds tells first found new

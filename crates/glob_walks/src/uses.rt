@@ -1,15 +1,16 @@
 //! A caller of the walk. What each ensures follows from the contracts of the calls alone.
-ghost use Rattle.std.specs.Prelude.{◌≡◌, ◌≤◌, List, Some, IfOk, vec_len};
+ghost use Rattle.std.specs.Prelude.{◌≡◌, ◌<◌, ◌≤◌, true, false, List, Some, IfOk, vec_len};
 ghost use Rattle.glob.specs.Answers.{IsTold};
 ghost use Rattle.glob.specs.Content.{Content};
 ghost use Rattle.glob.specs.Marks.{Mark};
-ghost use Rattle.glob_walks.specs.FirstPaths.{AreFirstPaths};
+ghost use Rattle.glob_walks.specs.FirstPaths.{AreFirstPaths, LeavesOthers};
 
 use glob::{Paths, Tree};
 use std::alloc::AllocError;
 use std::path::PathBuf;
 
-/// The first paths of a walk, at most `most` of them. Errors are passed over, and a refusal ends it. It fails only
+/// The first paths of a walk: `most` of them, or fewer where the walk is over. Errors are passed over, and a refusal ends
+/// it. As long as the walk is not over, what is left of it gives exactly the paths that were not found. It fails only
 /// where memory for the list runs out.
 pub fn first_paths<T: Tree>(
     alloc: T::Alloc,
@@ -20,6 +21,12 @@ pub fn first_paths<T: Tree>(
     ensures first { (c : Content) → IsTold (T.tells paths.old.tree) c → (ms : List Mark)
         → paths.old.left ≡ Some ms
         → IfOk result (λ found. AreFirstPaths ms found.items) }
+    ensures none_skipped { (c : Content) → IsTold (T.tells paths.old.tree) c → (ms : List Mark)
+        → paths.old.left ≡ Some ms → paths.new.over ≡ false
+        → IfOk result (λ found. LeavesOthers ms found.items paths.new.left) }
+    ensures ended { IfOk result (λ found. vec_len found < most → paths.new.over ≡ true) }
+    ensures limit { IfOk result (λ _. paths.new.limit ≡ paths.old.limit) }
+    ensures spent { IfOk result (λ _. paths.old.spent ≤ paths.new.spent) }
 {
     let mut found = Vec::new(alloc);
     while found.len() < most {

@@ -33,3 +33,7 @@ loop-paths-preserved g c =
       subst (λ xs. Finds g.T.Tree.tells c.args.paths.now (map path_buf_bytes xs) c.next.new.self) (sym c.in_ok-push.ensures.items)
           (Finds-path g.T.Tree.asks g.T.Tree.tells c.args.paths.now c.loop-paths.paths c.next.new.self c.loop-paths.found.items c.loop-paths.invariant.1 c.in-Ok.path goes),
     )
+
+-- what is left as long as the walk is not over
+pub returns-clause-none_skipped : goal.returns-clause-none_skipped
+returns-clause-none_skipped g c = λ c' told ms is on. let l = c.loop-paths.invariant.1.going on c' told ms is in (l.rest, l.is, l.all)
