@@ -24,10 +24,11 @@ fn the_empty_pattern_needs_no_memory(rt: HostRuntime) -> Result<(), Fail> {
 }
 
 /// Patterns of at most 63 tokens, with an end of a text that makes it one that they match, and one that does not.
+/// No text is refused for its end alone, which is tested first.
 const SHORT: [(Parts<'static>, &str, &str); 3] = [
-    (&[("*b", 1)], "b", "a"),
+    (&[("*[b]", 1)], "b", "a"),
     (&[("**/[!a-y]", 1)], "/z", "z"),
-    (&[("?", 61), ("*z", 1)], "z", "zy"),
+    (&[("?", 61), ("*[z]", 1)], "z", "zy"),
 ];
 
 /// A hundred characters.
@@ -166,7 +167,7 @@ fn check_calls(
 #[test]
 fn many_lines_take_few_calls(rt: HostRuntime) -> Result<(), Fail> {
     check_calls(&rt, "*", "a line\n", 100_000)?;
-    check_calls(&rt, "*b", "a line\n", 100_000)?;
+    check_calls(&rt, "*[b]", "a line\n", 100_000)?;
     check_calls(&rt, "", "\n", 100_000)?;
     check_calls(&rt, "*", "a", 1_000_000)
 }

@@ -110,13 +110,13 @@ fn texts(rt: HostRuntime) {
 /// A pattern, a text, and whether the pattern matches it, under each of the options.
 type Row = (Parts<'static>, Parts<'static>, bool);
 
-/// No pattern has more than 63 tokens.
+/// No pattern has more than 63 tokens. No text is refused for its end alone, which is tested first and without memory.
 const SHORT: [Row; 10] = [
     (&[("*.rs", 1)], &[("main.rs", 1)], true),
-    (&[("**/*.rs", 1)], &[("a/b/c.txt", 1)], false),
+    (&[("**/*.[r]s", 1)], &[("a/b/c.css", 1)], false),
     (&[("[a-c]*[!x]", 1)], &[("beta", 1)], true),
     (&[("[a]", 8), ("*", 1)], &[("a", 10)], true),
-    (&[("*a", 6), ("*b", 1)], &[("a", 40)], false),
+    (&[("*a", 6), ("*[b]", 1)], &[("a", 40)], false),
     (&[("?", 63)], &[("a", 63)], true),
     (&[("?", 63)], &[("a", 62)], false),
     (&[("?", 63)], &[("a", 64)], false),
@@ -124,13 +124,13 @@ const SHORT: [Row; 10] = [
     (&[("**/", 1), ("?", 62)], &[("x/", 1), ("a", 62)], true),
 ];
 
-/// Each pattern has more than 63 tokens, and not all of them take one character.
+/// Each pattern has more than 63 tokens, and not all of them take one character. No text is refused for its end alone.
 const LONG: [Row; 7] = [
     (&[("?", 63), ("*", 1)], &[("a", 63)], true),
     (&[("*", 1), ("?", 64)], &[("a", 63)], false),
     (&[("*", 1), ("a", 127)], &[("a", 127)], true),
     (&[("*a", 64)], &[("a", 63)], false),
-    (&[("*a", 60), ("b", 10)], &[("a", 70), ("c", 1)], false),
+    (&[("*a", 60), ("[b]", 10)], &[("a", 70), ("c", 1)], false),
     (&[("**/", 1), ("[ab]", 64)], &[("x/", 2), ("ab", 32)], true),
     (&[("*", 1), ("?", 300)], &[("\u{10fffe}", 301)], true),
 ];
@@ -153,21 +153,21 @@ fn forms<A: Allocator + Copy>(pattern: &Pattern<A>, str: &str) -> [Option<bool>;
     ]
 }
 
-/// Matches in each form with a pattern of `alloc`. Gives how many answers are out of memory; all others are this one.
+/// Matches in each form with a pattern of `alloc`. Gives the forms that are out of memory; all others give this answer.
 fn unanswered<A: Allocator + Copy>(
     rt: &impl Abort,
     pattern: &Pattern<A>,
     str: &str,
     answer: bool,
-) -> u32 {
-    let mut count = 0u32;
-    for found in forms(pattern, str) {
+) -> [bool; 6] {
+    let mut without = [false; 6];
+    for (form, found) in forms(pattern, str).iter().enumerate() {
         match found {
-            Some(found) => assert!(rt; found == answer, "{}", pattern.as_str()),
-            None => count = count.saturating_add(1),
+            Some(found) => assert!(rt; *found == answer, "{}", pattern.as_str()),
+            None => without[form] = true,
         }
     }
-    count
+    without
 }
 
 #[test]
@@ -178,13 +178,14 @@ fn short_patterns_match_without_memory(rt: HostRuntime) -> Result<(), Fail> {
         let ample = Rationed::refusing(0, rt.alloc());
         let pattern = Pattern::new(&ample, text.as_str())?;
         let requests = ample.ration.asked();
-        assert_eq!(rt; unanswered(&rt, &pattern, str.as_str(), answer), 0);
+        assert_eq!(rt; unanswered(&rt, &pattern, str.as_str(), answer), [false; 6]);
         assert_eq!(rt; ample.ration.asked(), requests, "{text}");
     }
     Ok(())
 }
 
-/// Where a request of a match is refused, one form of matching is out of memory, and the pattern is as it was.
+/// Where a request of a match is refused, one form of matching is out of memory, and the pattern is as it was. Each of
+/// the forms asks for memory.
 #[test]
 fn long_patterns_match_with_memory(rt: HostRuntime) -> Result<(), Fail> {
     for (pattern, str, answer) in LONG {
@@ -194,18 +195,27 @@ fn long_patterns_match_with_memory(rt: HostRuntime) -> Result<(), Fail> {
         let pattern = Pattern::new(&ample, text.as_str())?;
         let first = ample.ration.asked().saturating_add(1);
         let blocks = ample.ration.held();
-        assert_eq!(rt; unanswered(&rt, &pattern, str.as_str(), answer), 0);
+        assert_eq!(rt; unanswered(&rt, &pattern, str.as_str(), answer), [false; 6]);
         assert_eq!(rt; ample.ration.held(), blocks);
+        let mut asking = [false; 6];
         for number in first..=ample.ration.asked() {
             let scarce = Rationed::refusing(number, rt.alloc());
             let pattern = Pattern::new(&scarce, text.as_str())?;
-            assert_eq!(rt; unanswered(&rt, &pattern, str.as_str(), answer), 1);
+            let mut short = 0u32;
+            for (form, refused) in unanswered(&rt, &pattern, str.as_str(), answer)
+                .iter()
+                .enumerate()
+            {
+                asking[form] = asking[form] || *refused;
+                short = short.saturating_add(u32::from(*refused));
+            }
+            assert_eq!(rt; short, 1, "{text}");
             assert_eq!(rt; scarce.ration.held(), blocks);
-            assert_eq!(rt; unanswered(&rt, &pattern, str.as_str(), answer), 0);
+            assert_eq!(rt; unanswered(&rt, &pattern, str.as_str(), answer), [false; 6]);
             drop(pattern);
             assert_eq!(rt; scarce.ration.held(), 0);
         }
-        assert!(rt; first < ample.ration.asked());
+        assert_eq!(rt; asking, [true; 6], "{text}");
     }
     Ok(())
 }
