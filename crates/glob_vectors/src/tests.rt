@@ -8,6 +8,7 @@ mod lines;
 mod matching;
 mod memory;
 mod options;
+mod plain_parts;
 mod printing;
 mod readme;
 mod repeated;
