@@ -79,11 +79,16 @@ def unknown_edits():
 
 
 def unknown_tests():
-    """The tests, and the rows of tests/program.sh, that the tables of docs/FAULTS.md name and that are not there."""
-    tests = "\n".join((ROOT / name).read_text(encoding="utf-8") for name in FILES if name.endswith(".rt"))
+    """The tests that the tables of docs/FAULTS.md name and that are not there, or are not one, and the rows of
+    tests/program.sh that are not there."""
+    sources = {f"/{name}": (ROOT / name).read_text(encoding="utf-8") for name in FILES if name.endswith(".rt")}
+    tests = [(file, name) for file in sources for name in re.findall(r"#\[test\]\n\s*fn (\w+)\(", sources[file])]
     rows = (ROOT / "tests/program.sh").read_text(encoding="utf-8")
     cells = re.findall(r"\|([^|]*)\|$", (ROOT / "docs/FAULTS.md").read_text(encoding="utf-8"), re.M)
-    found = [name for cell in cells for name in re.findall(r"`(\w+)`", cell) if f"fn {name}(" not in tests]
+    found = []
+    for file, name in re.findall(r"`(?:([\w/]+\.rt): )?(\w+)`", "|".join(cells)):
+        if sum(test == name and path.endswith(f"/{file}" if file else "") for path, test in tests) != 1:
+            found.append(f"{file}: {name}" if file else name)
     return found + [row for cell in cells for row in re.findall(r'"([^"]*)"', cell) if f" '{row}' " not in rows]
 
 

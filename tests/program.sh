@@ -48,12 +48,12 @@ check 'a pattern that looks like an option' 2 '' 'usage: glob_run match [-i] [-s
 run escape 'a*'
 check 'an escaped text' 0 'a[*]\n' ''
 
-run --version </dev/zero
+unfed --version
 check 'the version is the one at the top of the changelog' 0 "glob_run $(sed -n 's/^## //p' "$root/CHANGELOG.md" | head -1)\n" ''
 
-run --help </dev/zero
+unfed --help
 cp "$work/out" "$work/page"
-run -h </dev/zero
+unfed -h
 cmp -s "$work/page" "$work/out" && [ "$(grep -c 'glob_run match' "$work/out")" = 2 ] && : >"$work/out"
 check 'the page that teaches the program' 0 '' ''
 
@@ -79,17 +79,17 @@ means '[[:alpha:]]' 'a\nz\na]\n:]\nz]\n' 'a]\n:]\n' '[a-zA-Z]' 'a\nz\n'
 means '\*' '*\n\\\\a\n' '\\\\a\n' '[*]' '*\n'
 means './*.rs' 'a.rs\n./a.rs\n' './a.rs\n' '*.rs' 'a.rs\n./a.rs\n'
 
-run match 'abc[def' </dev/zero
+unfed match 'abc[def'
 check 'a fault of the pattern before anything is read' 2 '' 'Pattern syntax error near position 3: invalid range pattern\n'
 
 printf 'a.rs\nb.c\n' >"$work/in"
 run match 'abc[def' <"$work/in"
 check 'a fault of the pattern' 2 '' 'Pattern syntax error near position 3: invalid range pattern\n'
 
-run <"$work/in"
+unfed
 check 'no word' 2 '' 'usage: glob_run match [-i] [-s] [-d] PATTERN | escape TEXT | find [-i] [-s] [-d] [-n LIMIT] PATTERN\n'
 
-run match $'\xff' <"$work/in"
+unfed match $'\xff'
 check 'a word that is not UTF-8' 2 '' 'usage: glob_run match [-i] [-s] [-d] PATTERN | escape TEXT | find [-i] [-s] [-d] [-n LIMIT] PATTERN\n'
 
 run match '*' <"$work"
@@ -319,7 +319,7 @@ if "${as_user[@]}" "$binary" escape a >/dev/null 2>&1; then
     status=$?
     begins 'a directory that cannot be read' 2 'shut/a/x\nshut/c/x\n' "$(unread shut/b)"
 else
-    echo "skipped: a directory that cannot be read: root reads it, and no other user can run the program here"
+    skip 'a directory that cannot be read'
 fi
 chmod 444 shut/b
 if "${as_user[@]}" "$binary" escape a >/dev/null 2>&1; then
@@ -333,6 +333,10 @@ if "${as_user[@]}" "$binary" escape a >/dev/null 2>&1; then
     "${as_user[@]}" "$binary" find 'shut/link' >"$work/out" 2>"$work/err"
     status=$?
     check 'a link into a directory that may not be searched' 0 'shut/link\n' ''
+else
+    skip 'what a directory that may not be searched has is no directory'
+    skip 'a literal path below a directory that may not be searched'
+    skip 'a link into a directory that may not be searched'
 fi
 chmod 755 shut/b
 
@@ -354,6 +358,11 @@ for _ in range(2100):
 run find 'deep/**'
 echo "$(wc -l <"$work/out") $(tail -n 1 "$work/out" | wc -c)" >"$work/count" && cp "$work/count" "$work/out"
 check 'what is beyond the longest path is missing' 0 '2045 4095\n' ''
+mv deep deepx
+run find 'deepx/**'
+longest=deepx$(printf '%2045s' '' | sed 's| |/d|g')
+[ "$(tail -n 1 "$work/out")" = "$longest" ] && wc -l <"$work/out" >"$work/count" && cp "$work/count" "$work/out"
+begins 'a directory whose path is as long as can be is not listed' 2 '2045\n' "$(unread "$longest")"
 
 mkdir many && seq -f 'many/%06.0f' 20000 | xargs touch
 run find 'many/*'

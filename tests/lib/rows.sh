@@ -18,6 +18,15 @@ run() {
     status=$?
 }
 
+# unfed WORD..: runs the program on an input without end, with too little memory to read much of it
+unfed() {
+    (
+        ulimit -v 2000000
+        exec "$program" "$@"
+    ) >"$work/out" 2>"$work/err" </dev/zero
+    status=$?
+}
+
 # needed PROGRAM WORD..: with how much memory, in kilobytes and to a megabyte, a program ends well on $work/in
 needed() {
     local least=0 most=1024
@@ -48,12 +57,17 @@ beginning() {
     if [ "$size" -gt 0 ] && head -c "$size" "$1" | cmp -s - "$work/out"; then echo 'a beginning' >"$work/out"; fi
 }
 
-# ends SIGNAL WORD..: runs the program, and sends it the signal after a moment
+# ends SIGNAL WORD..: runs the program, and sends it the signal after a moment. Should it go on, it is killed
 ends() {
     local signal=$1
     shift
-    timeout --preserve-status -s "$signal" 1 "$binary" "$@" >"$work/out" 2>"$work/err"
+    timeout --preserve-status -k 10 -s "$signal" 1 "$binary" "$@" >"$work/out" 2>"$work/err"
     status=$?
+}
+
+# skip NAME: says that a row is not run, because root may do what it needs forbidden
+skip() {
+    echo "skipped: $1: root may do all, and no other user can run the program here"
 }
 
 # unread PATH: the beginning of the line for a path that cannot be read
