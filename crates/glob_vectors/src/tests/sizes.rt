@@ -43,13 +43,14 @@ fn sizes_to(rt: &impl AllocGlobal, exponent: u32) -> Result<Vec<usize>, AllocErr
     Ok(sizes)
 }
 
-/// The characters that are tried at a size: at the smallest all, and else one after another.
-fn characters_at(size: usize) -> &'static [&'static str] {
-    if size < 20 {
+/// The characters that are tried at a place of the list of sizes: at the first all, and else one after another. So
+/// each of them is tried at some power of two, one below and one above, as the list has three sizes for each power.
+fn characters_at(place: usize) -> &'static [&'static str] {
+    if place < 20 {
         return &CHARACTERS;
     }
-    let place = size % 8;
-    &CHARACTERS[place..place + 1]
+    let character = place % 8;
+    &CHARACTERS[character..character + 1]
 }
 
 /// Each form of matching answers so.
@@ -93,8 +94,8 @@ fn check_pattern(
 /// At a small size each unit is tried, and else one of them.
 #[test]
 fn patterns(rt: HostRuntime) -> Result<(), Fail> {
-    for size in sizes_to(&rt, 17)? {
-        for character in characters_at(size) {
+    for (place, size) in sizes_to(&rt, 17)?.iter().copied().enumerate() {
+        for character in characters_at(place) {
             let bracket = format!(in rt.alloc(); "[{character}]")?;
             let units = ["?", character, bracket.as_str()];
             if size < SMALL {
@@ -103,7 +104,7 @@ fn patterns(rt: HostRuntime) -> Result<(), Fail> {
                     check_pattern(&rt, unit, character, size, "*")?;
                 }
             } else {
-                check_pattern(&rt, units[size % 3], character, size, "*")?;
+                check_pattern(&rt, units[(place + place / 3) % 3], character, size, "*")?;
             }
         }
     }
@@ -128,9 +129,9 @@ fn check_bracket(
 
 #[test]
 fn brackets(rt: HostRuntime) -> Result<(), Fail> {
-    for size in sizes_to(&rt, 17)? {
+    for (place, size) in sizes_to(&rt, 17)?.iter().copied().enumerate() {
         let size = size.max(1);
-        for character in characters_at(size) {
+        for character in characters_at(place) {
             let range = format!(in rt.alloc(); "{character}-{character}")?;
             check_bracket(&rt, character, character, size)?;
             check_bracket(&rt, range.as_str(), character, size)?;
@@ -156,10 +157,10 @@ fn check_escaped(
 
 #[test]
 fn escaped_texts(rt: HostRuntime) -> Result<(), Fail> {
-    for size in sizes_to(&rt, 17)? {
-        let special = ["?", "*", "[", "]"][size % 4];
+    for (place, size) in sizes_to(&rt, 17)?.iter().copied().enumerate() {
+        let special = ["?", "*", "[", "]"][place % 4];
         check_escaped(&rt, special, size, size.saturating_mul(3))?;
-        for character in characters_at(size) {
+        for character in characters_at(place) {
             let bytes = size.saturating_mul(character.len());
             check_escaped(&rt, character, size, bytes)?;
         }
@@ -172,11 +173,11 @@ fn escaped_texts(rt: HostRuntime) -> Result<(), Fail> {
 #[test]
 fn shapes(rt: HostRuntime) -> Result<(), Fail> {
     let mut shapes = Vec::new(rt.alloc());
-    for size in sizes_to(&rt, 17)? {
+    for (place, size) in sizes_to(&rt, 17)?.iter().copied().enumerate() {
         for _ in shapes.len()..size {
             shapes.push(Shape::One)?;
         }
-        let last = if size % 2 == 0 {
+        let last = if place % 2 == 0 {
             Shape::Run
         } else {
             Shape::Deep
@@ -249,9 +250,9 @@ fn check_name(rt: &(impl Abort + AllocGlobal), tree: &mut MemTree, name: &str) -
 
 #[test]
 fn names(rt: HostRuntime) -> Result<(), Fail> {
-    for size in sizes_to(&rt, 17)? {
+    for (place, size) in sizes_to(&rt, 17)?.iter().copied().enumerate() {
         let size = size.max(1);
-        for character in characters_at(size) {
+        for character in characters_at(place) {
             let name = text_of(&rt, &[(character, size)])?;
             let mut tree = MemTree::new(rt.alloc())?;
             check_name(&rt, &mut tree, name.as_str())?;
@@ -298,10 +299,10 @@ fn check_copied(rt: &(impl Abort + AllocGlobal), input: &str, lines: usize) -> R
 #[test]
 fn lines(rt: HostRuntime) -> Result<(), Fail> {
     let mut each = String::new(rt.alloc());
-    for size in sizes_to(&rt, 17)? {
+    for (place, size) in sizes_to(&rt, 17)?.iter().copied().enumerate() {
         let many = text_of(&rt, &[("a\n", size)])?;
         check_copied(&rt, many.as_str(), size)?;
-        let character = CHARACTERS[size % 8];
+        let character = CHARACTERS[place % 8];
         let mut line = text_of(&rt, &[(character, size)])?;
         if size >= SMALL {
             check_copied(&rt, line.as_str(), 1)?;
