@@ -114,11 +114,11 @@ class Walk:
         return len(self.tree.nodes), kinds, len(self.letters), *length(names + self.pattern), self.limit
 
     def smaller(self):
-        less = self.limit if self.limit == NO_LIMIT else self.limit - 1
+        less = [self.limit - 1] if 0 < self.limit < NO_LIMIT else []
         for tree in smaller_trees(self.tree):
             yield replace(self, tree=tree)
-            yield replace(self, tree=tree, limit=less)
-        yield replace(self, limit=less)
+            yield from (replace(self, tree=tree, limit=limit) for limit in less)
+        yield from (replace(self, limit=limit) for limit in less)
         # A pattern that begins with `/` would walk the whole machine.
         yield from (replace(self, pattern=pattern) for pattern in cut(self.pattern) if not pattern.startswith("/"))
         yield from (replace(self, letters=self.letters.replace(letter, "")) for letter in self.letters)

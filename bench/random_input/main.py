@@ -17,7 +17,7 @@ import sys
 import tempfile
 import time
 from contextlib import contextmanager
-from dataclasses import replace
+from dataclasses import dataclass, replace
 from pathlib import Path
 
 import make
@@ -38,6 +38,30 @@ CASES_FOR_ONE_UNANSWERED = 1000
 
 class Disagreement(Exception):
     """What the two sides say otherwise, and a command line that shows it."""
+
+
+@dataclass(frozen=True)
+class Finding:
+    """What is wrong with a case, under which options, and whether ours gave no answer."""
+
+    words: str
+    letters: str = ""
+    is_unanswered: bool = False
+
+
+def cut_down(case, differs):
+    """The case, cut down, and what is wrong with it then, or None if nothing is wrong. That ours gives no answer counts
+    only if it gave none to the whole case."""
+    first = differs(case)
+    if first is None:
+        return None
+
+    def is_wrong(smaller):
+        found = differs(smaller)
+        return found is not None and (first.is_unanswered or not found.is_unanswered)
+
+    case = shrunk(case, is_wrong)
+    return case, differs(case) or first
 
 
 def spoken(answer):
@@ -114,37 +138,32 @@ class Comparer:
         if self.accounts[UNANSWERED] > 1 + asked / CASES_FOR_ONE_UNANSWERED:
             raise Disagreement(f"the crate left {self.accounts[UNANSWERED]} of {asked} cases without an answer", "")
 
-    def is_unanswered(self, ours, crate):
-        """Whether ours alone gave an answer."""
-        return isinstance(crate, Unanswered) and not isinstance(ours, Unanswered)
-
     # Matches
 
     def match_differs(self, case):
-        """What the two sides say otherwise of a case, with the options as letters, or None."""
+        """What the two sides say otherwise of a case, or None."""
         ours, crate = (side.ask([case.line()])[0] for side in self.matchers)
-        if ours == crate or self.is_unanswered(ours, crate):
-            return None
         if isinstance(ours, Unanswered):
-            return "", f"ours: {ours.reason}"
+            return Finding(f"ours: {ours.reason}", is_unanswered=True)
+        if ours == crate or isinstance(crate, Unanswered):
+            return None
         first, *answers = zip(ours.split("\t"), crate.split("\t"))
         if first[0] != first[1]:
-            return "", f"ours escapes the pattern as {first[0]!r}, and the crate as {first[1]!r}"
+            return Finding(f"ours escapes the pattern as {first[0]!r}, and the crate as {first[1]!r}")
         if answers[0] != ("ok", "ok"):
-            return "", f"ours: {spoken(ours)}, and the crate: {spoken(crate)}"
+            return Finding(f"ours: {spoken(ours)}, and the crate: {spoken(crate)}")
         settings = [at for at, pair in enumerate(zip(*answers[1])) if pair[0] != pair[1]]
         at = min(settings, key=lambda at: len(make.SETTINGS[at]))
-        return make.SETTINGS[at], f"ours: {answers[1][0][at]}, and the crate: {answers[1][1][at]}"
+        return Finding(f"ours: {answers[1][0][at]}, and the crate: {answers[1][1][at]}", make.SETTINGS[at])
 
     def report_match(self, pattern, texts):
         """Raises the disagreement about a pattern and one of some texts. There is none if the crate gave no answer."""
         for text in texts:
-            case = Match(pattern, text)
-            if self.match_differs(case):
-                case = shrunk(case, self.match_differs)
-                letters, words = self.match_differs(case)
-                what = f"the pattern {case.pattern!r} and the text {case.text!r}: {words}"
-                raise Disagreement(what, case.command(letters))
+            wrong = cut_down(Match(pattern, text), self.match_differs)
+            if wrong:
+                case, found = wrong
+                what = f"the pattern {case.pattern!r} and the text {case.text!r}: {found.words}"
+                raise Disagreement(what, case.command(found.letters))
 
     def matches(self, source):
         """Compares some matches."""
@@ -153,9 +172,9 @@ class Comparer:
         answers = [side.ask(lines) for side in self.matchers]
         for (pattern, texts), ours, crate in zip(cases, *answers):
             self.counts["patterns"] += 1
-            if ours != crate:
+            if isinstance(ours, Unanswered) or ours != crate:
                 self.report_match(pattern, texts)
-                if not self.is_unanswered(ours, crate):
+                if isinstance(ours, Unanswered) or not isinstance(crate, Unanswered):
                     words = f"ours: {spoken(ours)}, the crate: {spoken(crate)}, but no disagreement on a text alone"
                     raise Disagreement(f"the pattern {pattern!r} and the texts {texts}: {words}", "")
                 self.count(UNANSWERED)
@@ -191,7 +210,8 @@ class Comparer:
             return None
         with self.as_user():
             rules = " ".join(self.written(case).items())
-        return f"ours: {spoken(ours)}, the crate: {spoken(crate)}, and the rules: {rules or 'nothing'}"
+        words = f"ours: {spoken(ours)}, the crate: {spoken(crate)}, and the rules: {rules or 'nothing'}"
+        return Finding(words, is_unanswered=isinstance(ours, Unanswered))
 
     def limit_differs(self, case):
         """What a walk with a limit does otherwise than the one without it, or None."""
@@ -200,13 +220,15 @@ class Comparer:
         limited, whole = self.walkers[0].ask(lines)
         if is_cut(limited, whole, case.limit):
             return None
-        return f"with the limit {case.limit}: {spoken(limited)}, and without: {spoken(whole)}"
+        words = f"with the limit {case.limit}: {spoken(limited)}, and without: {spoken(whole)}"
+        return Finding(words, is_unanswered=isinstance(limited, Unanswered) or isinstance(whole, Unanswered))
 
     def report_walk(self, case, differs):
         """Raises the disagreement about a walk, if there is one."""
-        if differs(case):
-            case = shrunk(case, differs)
-            what = f"the walk {case.pattern!r} with the options {case.letters!r}: {differs(case)}"
+        wrong = cut_down(case, differs)
+        if wrong:
+            case, found = wrong
+            what = f"the walk {case.pattern!r} with the options {case.letters!r}: {found.words}"
             raise Disagreement(what, case.command())
 
     def walks(self, source):
@@ -257,6 +279,8 @@ def is_cut(limited, whole, limit):
     refusal, for just as much work as the limit allows."""
     if isinstance(limited, Unanswered) or isinstance(whole, Unanswered):
         return False
+    if not whole.startswith("ok\t"):
+        return limited == whole
     if spent(whole) <= limit:
         return limited == whole
     *items, last = items_of(limited) or [""]

@@ -68,7 +68,9 @@ class Side:
                 reason = f"it took more than {SECONDS_A_CASE} s"
         if reason:
             self.close()
-        return answered.decode().split("\n")[:found], reason
+        # A program may end inside a character.
+        whole = answered[: answered.rfind(b"\n") + 1]
+        return whole.decode().split("\n")[:found], reason
 
     def send(self, block):
         """Writes a block. A program that has ended takes it, too: the end of its output is seen next."""
