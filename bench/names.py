@@ -127,20 +127,39 @@ def patterns(top):
     paths = sorted(str(path.relative_to(top)) for path in top.rglob("*"))
     source = random.Random(SEED + 1)
     folders = [path for path in paths if (top / path).is_dir()]
-    stars = ["*", "**", "**/*", "*/*", "*/*/*", "*/*/*/*/*/*", "**/*/*", "**/**/*", "*/**", "*/**/*", "**/*/**", "*/**/**/*a*"]
-    ends = ["*/", "**/", "*/*/", "**/*/", "*/.", "*/..", "**/..", "**/.", "./*", "././*", ".//*", "*//*", "../tree/*", "../t*/*"]
-    names = ["*.rs", "**/*.rs", "**/*.RS", "*/*.txt", "**/*~", "**/a*", "**/a*/**/b*", "**/*a*/*b*", "a*", "*a", "?", "??", "**/?", "**/??"]
+    stars = [
+        "*", "**", "**/*", "*/*", "*/*/*", "*/*/*/*/*/*", "**/*/*", "**/**/*", "*/**", "*/**/*", "**/*/**",
+        "*/**/**/*a*",
+    ]
+    ends = [
+        "*/", "**/", "*/*/", "**/*/", "*/.", "*/..", "**/..", "**/.", "./*", "././*", ".//*", "*//*",
+        "../tree/*", "../t*/*",
+    ]
+    names = [
+        "*.rs", "**/*.rs", "**/*.RS", "*/*.txt", "**/*~", "**/a*", "**/a*/**/b*", "**/*a*/*b*", "a*", "*a",
+        "?", "??", "**/?", "**/??",
+    ]
     dots = [".*", "**/.*", "*/.*", ".*/*", "**/.*/**", "**/.*/*", "*.*", "**/[.]*", "**/[!.]*", "**/..*"]
-    brackets = ["[a-c]*", "[!a-c]*", "**/[a-c0-9]*", "**/[!a-zA-Z0-9]*", "**/*[[]*", "**/*[]]*", "**/*[*]*", "**/*[?]*", "**/[*][*]*", "**/[!]]*", "**/[a-]*"]
-    others = ["**/* *", "**/*\n*", "**/é*", "**/*[а-я]*", "**/*[!\x01-\x7f]*", "**/東*", "**/" + "n" * 255, "n" * 255, "n" * 256, "**/n*n", "nothing", "nothing/*", "**/nothing"]
+    brackets = [
+        "[a-c]*", "[!a-c]*", "**/[a-c0-9]*", "**/[!a-zA-Z0-9]*", "**/*[[]*", "**/*[]]*", "**/*[*]*",
+        "**/*[?]*", "**/[*][*]*", "**/[!]]*", "**/[a-]*",
+    ]
+    others = [
+        "**/* *", "**/*\n*", "**/é*", "**/*[а-я]*", "**/*[!\x01-\x7f]*", "**/東*", "**/" + "n" * 255,
+        "n" * 255, "n" * 256, "**/n*n", "nothing", "nothing/*", "**/nothing",
+    ]
     here = [escaped(str(top)), escaped(str(top)) + "/*", escaped(str(top)) + "/**/*.rs", "/", "//", "/.", "/.."]
     known = [escaped(path) for path in source.sample(paths, 20)] + [escaped(path) + "/*" for path in source.sample(folders, 10)]
-    known += [escaped(path) + "/**/*" for path in source.sample(folders, 5)] + [escaped(path) + "/../*" for path in source.sample(folders, 5)]
+    known += [escaped(path) + "/**/*" for path in source.sample(folders, 5)]
+    known += [escaped(path) + "/../*" for path in source.sample(folders, 5)]
     known += ["**/" + escaped(Path(path).name) for path in source.sample(paths, 10)]
     links = [path for path in paths if (top / path).is_symlink()]
     known += [escaped(path) + end for path in source.sample(links, 20) for end in ["", "/", "/*", "/../*"]]
     known += ["links/*", "links/*/", "links/**", "links/*/**/*.rs", "**/dir", "**/a.rs", "**/dir/*", "*/a.rs"]
-    cycles = ["*", "*/", "*/*", "*/*/*/*", "*/*/*/*/*/*/*", "*/*/x", "*/up/*/x", "*/self/self/self/x", "*/../*", "a/up/a/up/b/*", "c/*", "c", "b/"]
+    cycles = [
+        "*", "*/", "*/*", "*/*/*/*", "*/*/*/*/*/*/*", "*/*/x", "*/up/*/x", "*/self/self/self/x", "*/../*",
+        "a/up/a/up/b/*", "c/*", "c", "b/",
+    ]
     known += ["../cycle/" + cycle for cycle in cycles] + ["../ring/**", "../ring/**/x", "../ring/d/**/self/*"]
     plain = [([], pattern) for pattern in stars + ends + names + dots + brackets + others + here + known]
     under = [(["-i"], pattern) for pattern in ["**/*readme*", "**/[A-C]*", "A*", "**/*.Rs", "**/É*"] + known[:5]]

@@ -4,7 +4,8 @@
 usage: peers.py FOLDER ROUNDS
 
 FOLDER has paths.txt, ours/library, original/library, and of peers/ the programs that could be built. Of ROUNDS runs the
-least time counts. A matcher that gives another count than ours has no time in that row: its rules differ.
+least time counts. A peer that gives another count than ours has no time in that row: its rules differ. The exit status
+is 1 where ours gives no count, or the crate another one or none.
 """
 
 import subprocess
@@ -41,8 +42,14 @@ ROWS = [
     ("", "*ä*", "-", "accents"),
 ]
 
+HEADS = ["", "pattern", "lines that match", "ours ns", "the crate's ns", *PEERS, "to the crate", "to the best peer"]
+
 # How many paths make one long text.
 JOINED = 50
+
+
+class Failed(Exception):
+    """Ours gave no count, or the crate another one."""
 
 
 def write_texts(folder):
@@ -73,6 +80,9 @@ def measure(programs, row, texts, rounds):
             counts[name] = answer and answer[0]
             if answer:
                 least[name] = min(answer[1] / lines, least.get(name, answer[1] / lines))
+    for name in ("ours", "original"):
+        if name in counts and (counts[name] is None or counts[name] != counts["ours"]):
+            raise Failed(f"`{pattern}`: ours counts {counts['ours']} lines, and the crate {counts.get('original')}")
     return counts["ours"], {name: time for name, time in least.items() if counts[name] == counts["ours"]}
 
 
@@ -88,8 +98,10 @@ def line_of(row, count, least):
     what, pattern, letters, _ = row
     options = "" if letters == "-" else f", `{letters}`"
     best = min((least[name] for name in PEERS if name in least), default=None)
-    cells = [what, f"`{pattern}`{options}", f"{count:,}", *(shown(least.get(name)) for name in ("ours", "original", *PEERS))]
-    return f"| {' | '.join([*cells, ratio(least['ours'], least.get('original')), ratio(least['ours'], best)])} |"
+    cells = [what, f"`{pattern}`{options}", f"{count:,}"]
+    cells += [shown(least.get(name)) for name in ("ours", "original", *PEERS)]
+    cells += [ratio(least["ours"], least.get("original")), ratio(least["ours"], best)]
+    return f"| {' | '.join(cells)} |"
 
 
 def main():
@@ -98,10 +110,15 @@ def main():
     programs |= {name: folder / "peers" / name for name in PEERS}
     programs = {name: program for name, program in programs.items() if program.exists()}
     texts = write_texts(folder)
-    print("\n| | pattern | lines that match | ours ns | the crate's ns | globset | wildmatch | fnmatch | to the crate | to the best peer |")
-    print("|---|---|--:|--:|--:|--:|--:|--:|--:|--:|")
+    print(f"\n| {' | '.join(HEADS)} |\n|---|---|{'--:|' * (len(HEADS) - 2)}")
+    failures = 0
     for row in ROWS:
-        print(line_of(row, *measure(programs, row, texts, rounds)), flush=True)
+        try:
+            print(line_of(row, *measure(programs, row, texts, rounds)), flush=True)
+        except Failed as failure:
+            failures += 1
+            print(f"bench: {failure}", file=sys.stderr)
+    sys.exit(1 if failures else 0)
 
 
 main()
