@@ -114,6 +114,11 @@ def repeated(unit):
     return lambda size: unit * size
 
 
+def ended(end):
+    """As many `a` as the size says, and an end."""
+    return lambda size: "a" * size + end
+
+
 def stars(count):
     return "*a" * count + "b"
 
@@ -181,22 +186,23 @@ READS = [
     Case("read a bracket with n ranges", 100_000, "n", reads_text(bracket(span))),
 ]
 
+# A text that does not end as the plain end of its pattern is refused before it is walked. So each ends as it does.
 MATCHES = [
     Case("match n `a` with n letters", MILLION, "n", matches(repeated("a"), repeated("a"), times=50)),
     Case("match n `?` with n letters", MILLION, "n", matches(repeated("?"), repeated("a"), times=50)),
     Case("match n `[a]` with n letters", MILLION, "n", matches(repeated("[a]"), repeated("a"), times=50)),
-    Case("match n `*a` and `b` with no letter", 100_000, "n", matches(stars, same(""), times=500)),
-    Case("match n `*a` and `b` with 1,000 letters", 100_000, "n", matches(stars, same(THOUSAND_A))),
-    Case("the same and `/`, separator rule", 100_000, "n", matches(stars, same(THOUSAND_A + "/"), "s")),
+    Case("match n `*a` and `b` with `ab`", 100_000, "n", matches(stars, same("ab"), times=500)),
+    Case("match n `*a` and `b` with 1,000 `a` and `b`", 100_000, "n", matches(stars, same(THOUSAND_A + "b"))),
+    Case("the same with `/ab` at the end, separator rule", 100_000, "n", matches(stars, same(THOUSAND_A + "/ab"), "s")),
     Case("match n `**/a/` with 500 components", 100_000, "n", matches(repeated("**/a/"), same("a/" * 500))),
     Case("match n `[!b]*` with 1,000 letters", 100_000, "n", matches(repeated("[!b]*"), same(THOUSAND_A))),
     Case("match n `a/` with n components", 100_000, "n", matches(repeated("a/"), repeated("a/"), times=100)),
     Case("match n `*/`, separator rule, with 500", 100_000, "n", matches(repeated("*/"), same("a/" * 500), "s")),
     Case("match `*` and n ranges with 1,000 letters", 100_000, "n", matches(star_and_spans, same("é" * 1000), times=1)),
-    Case("match `*a*b` with n letters", MILLION, "n", matches(same("*a*b"), repeated("a"), times=50)),
-    Case("match `*a` 31 times and `b` with n letters", MILLION, "n", matches(same(stars(31)), repeated("a"), times=50)),
-    Case("match `*a` 1,000 times and `b` with n letters", MILLION, "n", matches(same(stars(1000)), repeated("a"), "-", 1)),
-    Case("match `**/*.rs`, both rules, n letters", MILLION, "n", matches(same("**/*.rs"), repeated("a"), "sd", 50)),
+    Case("match `*a*b` with n `a` and `b`", MILLION, "n", matches(same("*a*b"), ended("b"), times=50)),
+    Case("match `*a` 31 times and `b` with n `a` and `b`", MILLION, "n", matches(same(stars(31)), ended("b"), times=50)),
+    Case("match `*a` 1,000 times and `b` with n `a` and `b`", MILLION, "n", matches(same(stars(1000)), ended("b"), times=1)),
+    Case("match `**/*.rs`, both rules, n `a` and `.rs`", MILLION, "n", matches(same("**/*.rs"), ended(".rs"), "sd", 50)),
     Case("match `*[!a]*`, without case, n letters", MILLION, "n", matches(same("*[!a]*"), repeated("a"), "i", 20)),
 ]
 
