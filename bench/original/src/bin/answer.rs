@@ -1,7 +1,8 @@
 //! `glob_bench answer`, over the Rust crate: answers the same cases in the same words. It counts no work and knows no
 //! limit: of each walk it says `0`, and it gives all items.
 
-use glob::{glob_with, GlobResult, MatchOptions, Pattern, PatternError};
+use glob::{glob_with, GlobResult, Pattern, PatternError};
+use original::options_of;
 use std::env;
 use std::error::Error;
 use std::io::{self, BufRead, BufWriter, Write};
@@ -10,15 +11,6 @@ type Result<T> = std::result::Result<T, Box<dyn Error>>;
 
 /// Each setting of the options, as `options_of` reads it.
 const SETTINGS: [&str; 8] = ["", "d", "s", "sd", "i", "id", "is", "isd"];
-
-/// The options that the letters of a word stand for.
-fn options_of(letters: &str) -> MatchOptions {
-    let mut options = MatchOptions::new();
-    options.case_sensitive = !letters.contains('i');
-    options.require_literal_separator = letters.contains('s');
-    options.require_literal_leading_dot = letters.contains('d');
-    options
-}
 
 /// The answer to a pattern with a fault.
 fn fault(error: PatternError) -> String {

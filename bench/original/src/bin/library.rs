@@ -1,21 +1,13 @@
 //! `crates/glob_bench`, over the Rust crate: the same words, work and output.
 
 use glob::{MatchOptions, Pattern};
+use original::options_of;
 use std::env;
 use std::error::Error;
 use std::fs;
 use std::time::Instant;
 
 type Result<T> = std::result::Result<T, Box<dyn Error>>;
-
-/// The options that the letters of a word stand for.
-fn options_of(letters: &str) -> MatchOptions {
-    let mut options = MatchOptions::new();
-    options.case_sensitive = !letters.contains('i');
-    options.require_literal_separator = letters.contains('s');
-    options.require_literal_leading_dot = letters.contains('d');
-    options
-}
 
 /// How many of the lines the pattern matches, `times` times over.
 fn count_matches(pattern: &Pattern, options: MatchOptions, lines: &[&str], times: u32) -> u64 {
