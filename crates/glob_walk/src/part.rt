@@ -98,6 +98,18 @@ impl<A: Allocator + Copy> Part<A> {
         Ok(Part { form })
     }
 
+    /// Refuses a text that has a fault, and keeps nothing of it. Any text with a wildcard may be refused with `Memory`.
+    pub fn check(alloc: A, text: &str) -> Result<(), PatternRefusal>
+        ensures accepted { IfOk result (λ _. text_fault text.now ≡ None) }
+        ensures refused { IfErr result (RefusesWith (text_fault text.now)) }
+    {
+        if is_literal(text) {
+            return Ok(());
+        }
+        compile(alloc, text)?;
+        Ok(())
+    }
+
     /// Whether it is no `**` and matches the name.
     pub fn matches(&self, name: &str, options: MatchOptions) -> Result<bool, AllocError>
         ensures { IfOk result (λ yes. yes ≡ takes_name options self.now name.now) }

@@ -39,7 +39,8 @@ impl<A: Allocator + Copy> Plan<A> {
         ensures accepted { IfOk result (λ _. walk_fault pattern.now ≡ None) }
         ensures refused { IfErr result (RefusesWith (walk_fault pattern.now)) }
     {
-        Part::read(alloc, pattern)?;
+        // The whole first, so that a fault's place counts from the start of the pattern where the whole has one.
+        Part::check(alloc, pattern)?;
         let parts = read_parts(alloc, past_root(pattern))?;
         Ok(Plan {
             parts,
