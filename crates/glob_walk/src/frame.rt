@@ -36,8 +36,8 @@ pub enum Place {
 pub struct Frame<A: Allocator> {
     /// Its path.
     pub path: String<A>,
-    /// The number of the component for which it was listed: one with wildcards, or `**`, whose entries the component after
-    /// it meets.
+    /// The number of the component for which it was listed. One with wildcards is matched with the entries itself. For `**`
+    /// the component after it meets them.
     pub part: usize,
     /// Whether that component is `**`.
     pub run: bool,

@@ -1,10 +1,10 @@
 //! What a walk has still to do.
 //!
 //! The stack of `walkdir` holds a directory for each level, and so does this one, with two differences. What comes next is
-//! a task of its own, on top of the directories. And a directory in which nothing is left is not on the stack: it goes,
-//! with its names, in its last step. Of a run's last entry that is the step that enters it, so the run's directory stays
-//! while the components after the run go on in the entry. Down a chain of directories with one entry each, the stack holds
-//! at most one directory for each run and one more, and not the chain.
+//! a task of its own, kept here before the directories. And a directory in which nothing is left is not on the stack: it
+//! goes, with its names, in its last step. In a directory that `**` is listed for, the last step enters the last entry. It
+//! comes after that entry was met, so the directory stays while the components after `**` go on in the entry. Down a chain
+//! of directories with one entry each, the stack holds at most one directory for each run and one more, and not the chain.
 ghost use Rattle.std.specs.Prelude.{◌≡◌, ◌+◌, ◌<◌, ◌≤◌, ◌++◌, true, false, [], None, IfOk, OnOk, vec_len};
 ghost use Rattle.glob_tree.specs.Content.{Content};
 ghost use Rattle.glob_walk.specs.Private.Frames.{frame_marks, unmet, IsFrameSound};

@@ -15,7 +15,8 @@ pub enum Wanted {
     Any,
     /// Those that say that something is there.
     Present,
-    /// None of them.
+    /// None of them. The path is looked up all the same: its unit is part of the written listing, which is the same whether
+    /// `.` and `..` stand after a directory or after a file.
     Nothing,
 }
 
@@ -28,8 +29,8 @@ pub enum Sight {
     Seen(bool),
 }
 
-/// One thing to do: a path, and the number of the component that is met at it. Where that is the number of all components,
-/// none is left, and the path is to be given.
+/// One thing to do: a path, and the number of the component that is met at it. Past the last component none is left, and
+/// the path is to be given.
 #[derive(Drop)]
 pub struct Task<A: Allocator> {
     /// The path, as the walk gives it.

@@ -1,6 +1,6 @@
 //! The turns of a walk.
 //!
-//! A walk has one [`Task`] or none, and below it a [`Stack`] of the directories that it is in, one [`Frame`] for each. A
+//! A walk has a [`Stack`]: one [`Task`] or none, and below it the directories that it is in, one [`Frame`] for each. A
 //! turn does the task: it looks up one path, lists one directory, or gives one path. Where there is no task, a turn takes
 //! one step in the directory on top, and that step may make the next task. What a turn asks of the tree, its [`Meter`]
 //! charges first.
