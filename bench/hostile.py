@@ -88,7 +88,7 @@ def started(folder, program, words, job, before):
     if child.returncode != job.status:
         fault = errors.read_bytes()[:200].decode(errors="replace")
         raise Failed(f"{program} ended with status {child.returncode}: {fault}")
-    kilobytes = int(log.read_text().split()[1])
+    kilobytes = int(log.read_text().split()[2])
     return Run((usage.ru_utime + usage.ru_stime) * 1000, kilobytes / 1024, file.read_bytes())
 
 
