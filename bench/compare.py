@@ -4,7 +4,8 @@
 usage: compare.py FOLDER ROUNDS SHARE
 
 FOLDER has paths.txt, ours/library, ours/program and, where the crate could be had, original/library and
-original/program. Of ROUNDS runs the least time counts. SHARE divides how many times over a case is done.
+original/program. With no ours/program the programs' rows are left out. Of ROUNDS runs the least time counts. SHARE
+divides how many times over a case is done.
 """
 
 import subprocess
@@ -116,6 +117,15 @@ def filter_row(case, lines):
     return Row(case, measure)
 
 
+def filter_rows(folder, lines):
+    """The programs' rows, each with the file that it reads."""
+    rows = [(filter_row(case, lines), lines) for case in cases.FILTERS]
+    for case in cases.HOSTILE:
+        of = hostile_lines(case, folder)
+        rows.append((filter_row(cases.hostile_filter(case), of), of))
+    return rows
+
+
 def compare_outputs(row, lines, folder, sides):
     """Has each side's program write its output once, and compares the bytes."""
     outputs = set()
@@ -180,10 +190,7 @@ def main():
     rounds, share = int(sys.argv[2]), int(sys.argv[3])
     lines = folder / "paths.txt"
     sides = {name: Programs(folder / name) for name in ("ours", "original") if (folder / name).is_dir()}
-    filters = [(filter_row(case, lines), lines) for case in cases.FILTERS]
-    for case in cases.HOSTILE:
-        of = hostile_lines(case, folder)
-        filters.append((filter_row(cases.hostile_filter(case), of), of))
+    filters = filter_rows(folder, lines) if sides["ours"].program.exists() else []
     rows = [
         *(match_row(case, lines) for case in fewer(cases.MATCHES, share)),
         *(hostile_row(case, folder) for case in fewer(cases.HOSTILE, share)),
