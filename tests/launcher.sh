@@ -7,16 +7,16 @@ work=$(mktemp -d)
 trap 'chmod -R u+w "$work" && rm -rf "$work"' EXIT
 chmod 755 "$work"
 passed=0 failed=0
-program=$work/copy/bin/glob_run
+program="$work/a copy/bin/glob_run"
 
 . "$root/tests/lib/rows.sh"
 
 # anew: a copy of the repository in which nothing is built
 anew() {
-    rm -rf "$work/copy" "$work/asked" && mkdir "$work/copy"
-    cp -a "$root/bin" "$root/crates.txt" "$work/copy"
+    rm -rf "$work/a copy" "$work/asked" && mkdir "$work/a copy"
+    cp -a "$root/bin" "$root/crates.txt" "$work/a copy"
     for crate in $(sed -n 's/^\([a-z_]*\):.*/\1/p' "$root/crates.txt"); do
-        mkdir -p "$work/copy/crates/$crate/src" && touch "$work/copy/crates/$crate/src/lib.rt"
+        mkdir -p "$work/a copy/crates/$crate/src" && touch "$work/a copy/crates/$crate/src/lib.rt"
     done
 }
 
@@ -42,21 +42,28 @@ asked() {
 all='lib glob_text lib glob_pattern lib glob_lines lib glob_tree lib glob_walk lib glob run glob_run '
 
 anew
+mkdir "$work/a copy/crates/glob_run/out"
+echo 'glob_pattern 3600' >"$work/a copy/crates/glob_run/out/seconds"
+run match x
+rm -f "$work/asked"
+grep -o 'glob_pattern, about .*' "$work/err" >"$work/out" && : >"$work/err"
+check 'how long a crate took here is said' 0 'glob_pattern, about 60 min 0 s\n' ''
+anew
 run match x
 asked 'the first call builds the crates of the program alone' "match x\n$all"
 run match x
 asked 'the second call builds nothing' 'match x\n'
-echo 'other: glob' >>"$work/copy/crates.txt"
+echo 'other: glob' >>"$work/a copy/crates.txt"
 run match x
 asked 'a line of crates.txt for another crate builds nothing' 'match x\n'
-sed -i 's/^glob_tree: /glob_tree: glob_lines /' "$work/copy/crates.txt"
+sed -i 's/^glob_tree: /glob_tree: glob_lines /' "$work/a copy/crates.txt"
 run match x
 [ -s "$work/asked" ] && : >"$work/asked"
 asked 'a line of crates.txt for a crate of the program builds anew' 'match x\n'
-touch "$work/copy/crates/glob_names/src/lib.rt" "$work/copy/crates/glob_walk/must-fail"
+touch "$work/a copy/crates/glob_names/src/lib.rt" "$work/a copy/crates/glob_walk/must-fail"
 run match x
 asked 'a source of another crate builds nothing' 'match x\n'
-touch "$work/copy/crates/glob_tree/src/lib.rt"
+touch "$work/a copy/crates/glob_tree/src/lib.rt"
 run match x
 [ -s "$work/asked" ] && : >"$work/asked"
 asked 'a source of the program builds anew' 'match x\n'
@@ -107,12 +114,12 @@ check 'a folder of TMPDIR that is missing' 2 '' \
 # Root can write anywhere, and so gives its rights up.
 as_user=()
 [ "$(id -u)" != 0 ] || as_user=(setpriv --reuid=65534 --regid=65534 --clear-groups)
-chmod -R a+rX,a-w "$work/copy"
+chmod -R a+rX,a-w "$work/a copy"
 if "${as_user[@]}" true 2>/dev/null; then
     "${as_user[@]}" "$program" match x >"$work/out" 2>"$work/err"
     status=$?
     check 'a folder that cannot be written' 2 '' \
-        "glob_run: nothing can be written into $work/copy/crates/glob_text: copy the repository to a folder of your own\n"
+        "glob_run: nothing can be written into $work/a copy/crates/glob_text: copy the repository to a folder of your own\n"
 else
     echo 'skipped: a folder that cannot be written: root writes it, and no other user can be had here'
 fi
