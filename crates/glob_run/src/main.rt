@@ -124,7 +124,8 @@ fn run_escape<A: Allocator + Copy, W: Write + Drop, E: Write>(
     errors: &mut E,
 ) -> (u8, W)
     ensures status { (result.0 ≡ 0) ⊎ (result.0 ≡ 2) }
-    ensures written { result.0 ≡ 0 → WritesEscaped text.now (W.contents output) (W.contents result.1) }
+    ensures written { result.0 ≡ 0
+        → WritesEscaped text.now (W.contents output) (W.contents result.1) }
 {
     match escaped_line(alloc, text) {
         Ok(line) => write_text(alloc, &line, output, errors),

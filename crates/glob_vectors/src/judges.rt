@@ -45,7 +45,8 @@ pub struct TableJudge<'a> {
 impl<'a> TableJudge<'a> {
     /// A judge that has not stepped and was not asked.
     pub fn new(answers: Answers<'a>) -> Self
-        ensures table { ⟦<TableJudge<'a> as Judge>⟧.table result ≡ written.table_of answers.entry }
+        ensures table { ⟦<TableJudge<'a> as Judge>⟧.table result
+            ≡ written.table_of answers.entry }
         ensures place { ⟦<TableJudge<'a> as Judge>⟧.place result ≡ 0 }
         ensures count { ⟦<TableJudge<'a> as Judge>⟧.count result ≡ 0 }
     {

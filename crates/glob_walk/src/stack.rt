@@ -35,7 +35,8 @@ impl<A: Allocator + Copy> Stack<A> {
         requires within { IsWithin self.old }
         ensures plan { self.new.plan ≡ self.old.plan }
         ensures left { OnOk result ((c : Content) → left c self.old ≡ left c self.new) }
-        ensures over { IfOk result (λ more. more ≡ false → (c : Content) → left c self.old ≡ []) }
+        ensures over { IfOk result
+            (λ more. more ≡ false → (c : Content) → left c self.old ≡ []) }
         ensures falls { IfOk result (λ more. more ≡ true → weight self.new < weight self.old) }
         ensures ready { OnOk result (ready self.new ≤ ready self.old) }
         ensures within { OnOk result (IsWithin self.new) }

@@ -82,7 +82,8 @@ impl ShapeMasks {
     #[inline(always)]
     fn ending(self, took: u64, opens: bool) -> u64
         ensures { (j : ℕ) → j < 64
-            → IsBitSet result j ↔ (IsBitSet took j × (IsTrue opens ⊎ ¬ (IsBitSet self.bound j))) }
+            → IsBitSet result j
+            ↔ (IsBitSet took j × (IsTrue opens ⊎ ¬ (IsBitSet self.bound j))) }
     {
         if opens { took } else { took & !self.bound }
     }
