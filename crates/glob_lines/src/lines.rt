@@ -160,7 +160,7 @@ fn line_matches<B: Allocator + Copy>(
 ) -> Result<bool, AllocError>
     ensures { IfOk result (λ yes. IsTrue yes ↔ LineMatches options pattern.now line.now) }
 {
-    // The end of a line says of most that they do not match, and costs less than the test for UTF-8.
+    // The beginning and the end of a line say of most that they do not match, and cost less than the test for UTF-8.
     if !may_match(pattern, line, options) {
         return Ok(false);
     }

@@ -1,4 +1,5 @@
 pub mod Accepted
+pub mod Accepting
 pub mod Closing
 pub mod Folding
 pub mod PlainUnits

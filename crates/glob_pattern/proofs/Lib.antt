@@ -1,4 +1,5 @@
 pub mod BitLemmas
+pub mod CallerLemmas
 pub mod ComponentLemmas
 pub mod Counts
 pub mod EscapingLemmas

@@ -1,9 +1,11 @@
 pub mod Case
+pub mod Computed
 pub mod Deciding
 pub mod FirstBytes
 pub mod Folded
 pub mod Literals
 pub mod Loosening
+pub mod Matched
 pub mod PiecesAndSplits
 pub mod PlainEnds
 pub mod PlainPatterns

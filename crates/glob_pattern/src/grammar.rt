@@ -12,6 +12,9 @@ use crate::token::Token;
 use crate::token::bracket::Bracket;
 use std::alloc::{AllocError, Allocator};
 
+/// So many tokens have room at once: those of most patterns, whose list then never grows.
+const FEW: usize = 128;
+
 /// The shapes of the tokens, in order. Fails only if allocation fails.
 pub fn shapes_of<A: Allocator + Copy>(
     alloc: A,
@@ -40,7 +43,8 @@ pub fn read_tokens<A: Allocator + Copy>(
         (λ tokens. HasTokens (chars pattern.now) tokens.items) }
     ensures refused { IfErr result (Refuses (chars pattern.now)) }
 {
-    let text: Vec<char, A> = pattern.chars().collect(alloc)?;
+    let mut text = Vec::with_capacity(alloc, pattern.len())?;
+    text.extend(pattern.chars())?;
     read_text(alloc, text.as_slice())
 }
 
@@ -52,7 +56,7 @@ fn read_text<A: Allocator + Copy>(
     ensures accepted { IfOk result (λ tokens. HasTokens text.now tokens.items) }
     ensures refused { IfErr result (Refuses text.now) }
 {
-    let mut tokens = Vec::new(alloc);
+    let mut tokens = Vec::with_capacity(alloc, text.len().min(FEW))?;
     let mut place = 0;
     while place < text.len() {
         match unit_at(alloc, text, place)? {

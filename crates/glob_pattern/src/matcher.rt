@@ -1,5 +1,5 @@
 ghost use Rattle.std.specs.Prelude.{◌≡◌, ℕ, ◌+◌, ◌-◌, ◌*◌, ◌^◌, ◌<◌, ◌≤◌, ◌↔◌, false, length, IsTrue, IsOk, IfOk, count_ones};
-ghost use Rattle.glob_pattern.specs.Matching.Splits.{Table, Splits};
+ghost use Rattle.glob_pattern.specs.Matching.Splits.{Table, TakesAll, Splits};
 ghost use Rattle.std.specs.Int.{IsBitSet};
 
 mod many_words;
@@ -94,6 +94,28 @@ pub trait Judge {
             left &= left - 1;
         }
         took
+    }
+
+    /// Whether a token takes each character that the judge has not stepped over. Then the count rises by one for each
+    /// of them; the judge stays at its place. It may also return false where the token does take them. So for the text
+    /// `ab` and the token of `*` a judge may return true, and its count rises by 2. The token must be in the list, and
+    /// the count must have room.
+    ///
+    /// This body returns false. A judge that knows the answer without a question may have its own.
+    #[inline]
+    fn takes_rest(&mut self, token: usize) -> bool
+        requires token { token < (table self.old).tokens }
+        requires room { count self.old
+            + ((table self.old).characters - place self.old) < 2 ^ 128 }
+        ensures same { table self.new ≡ table self.old }
+        ensures place { place self.new ≡ place self.old }
+        ensures value { IsTrue result
+            → TakesAll (table self.old) token (place self.old) (table self.old).characters }
+        ensures asked { IsTrue result
+            → count self.new ≡ count self.old + ((table self.old).characters - place self.old) }
+        ensures unasked { result ≡ false → count self.new ≡ count self.old }
+    {
+        false
     }
 
     /// The count: how many questions were asked.

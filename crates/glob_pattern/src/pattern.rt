@@ -13,6 +13,7 @@ mod ends;
 mod escape;
 mod inner;
 mod judge;
+mod letters;
 mod masks;
 
 use crate::error::PatternRefusal;
@@ -22,8 +23,8 @@ use crate::options::MatchOptions;
 use crate::token::Token;
 use crate::token::bracket::Bracket;
 pub use ends::may_match;
-use ends::plain_end;
-use inner::{inner_run, may_match_text};
+use ends::{least_length, plain_end};
+use inner::{Stretch, inner_text, may_match_text};
 use judge::TextJudge;
 use masks::TokenMasks;
 use std::alloc::{AllocError, Allocator, Global};
@@ -46,11 +47,12 @@ pub struct Pattern<A: Allocator = Global> {
     tokens: Vec<Token<Bracket<A>>, A>,
     shapes: Vec<Shape, A>,
     masks: Vec<TokenMasks, A>,
+    // how many tokens take one character each: a text that they match is no shorter
+    least: usize,
     // how many bytes at the end of the text are plain tokens
     plain_end: usize,
-    // the bytes of the text between these places are plain tokens, neither the first nor the last ones
-    run_start: usize,
-    run_end: usize,
+    // bytes of the text that are plain tokens, neither the first nor the last ones
+    inner: Stretch,
     alloc: A,
     ghost masked: { AreAllMasks tokens.items masks.items },
 }
@@ -60,7 +62,8 @@ impl<A: Allocator> Model for Pattern<A> {
 
     ghost Value = { List ℕ };
 
-    ghost use Rattle.std.specs.Prelude.{chars};
+    ghost use Rattle.std.specs.Prelude.{◌≡◌, chars, count_by};
+    ghost use Rattle.glob_pattern.specs.Grammar.Tokens.{takes_one};
     ghost use Rattle.glob_pattern.specs.Private.Patterns.{KeepsTokens};
     ghost use Rattle.glob_pattern.specs.Private.PlainEnds.{EndsPlain, HoldsPlain};
 
@@ -68,11 +71,13 @@ impl<A: Allocator> Model for Pattern<A> {
 
     ghost invariant = { λ p. KeepsTokens (chars (string_bytes p.text)) p.tokens.items p.shapes.items
         × EndsPlain p.tokens.items (string_bytes p.text) p.plain_end
-        × HoldsPlain p.tokens.items (string_bytes p.text) p.run_start p.run_end };
+        × HoldsPlain p.tokens.items (string_bytes p.text) p.inner.start p.inner.end
+        × (p.least ≡ count_by takes_one p.tokens.items) };
 }
 
 impl<A: Allocator> Pattern<A> {
     /// The text that the pattern was parsed from, as `a/*.rs`. It is accepted: parsed again it gives an equal pattern.
+    #[tactic(auto, unfolding(crate::specs::Grammar::Units::IsAccepted))]
     pub fn as_str(&self) -> &str
         ensures text { result.now ≡ self.now }
         ensures accepted { IsAccepted (chars self.now) }
@@ -86,6 +91,7 @@ impl<A: Allocator + Copy> Pattern<A> {
     ///
     /// The error is [`Syntax`](PatternRefusal::Syntax) if the text is not accepted, with its first fault from the left,
     /// whose place counts characters; or [`Memory`](PatternRefusal::Memory) if an allocation fails.
+    #[tactic(auto, unfolding(crate::specs::Grammar::Units::IsAccepted))]
     pub fn new(alloc: A, pattern: &str) -> Result<Self, PatternRefusal>
         ensures accepted { IfOk result (λ _. IsAccepted (chars pattern.now)) }
         ensures text { IfOk result (λ p. p ≡ pattern.now) }
@@ -94,17 +100,18 @@ impl<A: Allocator + Copy> Pattern<A> {
         let tokens = grammar::read_tokens(alloc, pattern)?;
         let shapes = grammar::shapes_of(alloc, tokens.as_slice())?;
         let masks = masks::masks_of(alloc, tokens.as_slice())?;
+        let least = least_length(tokens.as_slice());
         let plain_end = plain_end(pattern, tokens.as_slice());
-        let (run_start, run_end) = inner_run(pattern, tokens.as_slice());
+        let inner = inner_text(pattern, tokens.as_slice());
         let text = String::from_str(alloc, pattern)?;
         Ok(Pattern {
             text,
             tokens,
             shapes,
             masks,
+            least,
             plain_end,
-            run_start,
-            run_end,
+            inner,
             alloc,
         })
     }
@@ -128,9 +135,9 @@ impl<A: Allocator + Copy> Pattern<A> {
             tokens: Vec::new(alloc),
             shapes: Vec::new(alloc),
             masks: Vec::new(alloc),
+            least: 0,
             plain_end: 0,
-            run_start: 0,
-            run_end: 0,
+            inner: Stretch::NONE,
             alloc,
         }
     }
@@ -145,9 +152,9 @@ impl<A: Allocator + Copy> Pattern<A> {
             tokens: grammar::clone_tokens(&self.tokens)?,
             shapes: self.shapes.clone()?,
             masks: self.masks.clone()?,
+            least: self.least,
             plain_end: self.plain_end,
-            run_start: self.run_start,
-            run_end: self.run_end,
+            inner: self.inner,
             alloc: self.alloc,
         })
     }
@@ -157,7 +164,7 @@ impl<A: Allocator + Copy> Pattern<A> {
     ///
     /// The error is a failed allocation. A pattern of at most 63 tokens (characters, wildcards and brackets) allocates
     /// nothing.
-    #[inline]
+    #[inline(always)]
     pub fn matches(&self, str: &str) -> Result<bool, AllocError>
         ensures answer { IfOk result
             (λ yes. IsTrue yes ↔ Matches new_options (chars self.now) (chars str.now)) }
@@ -171,7 +178,7 @@ impl<A: Allocator + Copy> Pattern<A> {
     ///
     /// The error is a failed allocation. A pattern of at most 63 tokens (characters, wildcards and brackets) allocates
     /// nothing.
-    #[inline]
+    #[inline(always)]
     pub fn matches_with(&self, str: &str, options: MatchOptions) -> Result<bool, AllocError>
         ensures answer { IfOk result
             (λ yes. IsTrue yes ↔ Matches options (chars self.now) (chars str.now)) }
@@ -195,7 +202,7 @@ impl<A: Allocator + Copy> Pattern<A> {
             (λ yes. IsTrue yes ↔ Matches new_options (chars self.now) (chars str.now)) }
         ensures short { IsShort (chars self.now) → IsOk result }
     {
-        Ok(self.matches_counted(str, MatchOptions::new())?.0)
+        self.answer(str, MatchOptions::new())
     }
 
     /// The answer under `MatchOptions::default()`, by a loop that is compiled for them alone.
@@ -205,7 +212,7 @@ impl<A: Allocator + Copy> Pattern<A> {
             (λ yes. IsTrue yes ↔ Matches default_options (chars self.now) (chars str.now)) }
         ensures short { IsShort (chars self.now) → IsOk result }
     {
-        Ok(self.matches_counted(str, MatchOptions::default())?.0)
+        self.answer(str, MatchOptions::default())
     }
 
     /// The answer of [`matches_with`](Self::matches_with) by a loop that tests the options.
@@ -215,7 +222,19 @@ impl<A: Allocator + Copy> Pattern<A> {
             (λ yes. IsTrue yes ↔ Matches options (chars self.now) (chars str.now)) }
         ensures short { IsShort (chars self.now) → IsOk result }
     {
-        Ok(self.matches_counted(str, options)?.0)
+        self.answer(str, options)
+    }
+
+    /// The answer of [`matches_with`](Self::matches_with), by a judge that need not be asked about each character.
+    #[inline(always)]
+    fn answer(&self, str: &str, options: MatchOptions) -> Result<bool, AllocError>
+        ensures answer { IfOk result
+            (λ yes. IsTrue yes ↔ Matches options (chars self.now) (chars str.now)) }
+        ensures short { IsShort (chars self.now) → IsOk result }
+    {
+        let tokens = self.tokens.as_slice();
+        let mut judge = TextJudge::taking_rests(tokens, self.masks.as_slice(), str, options);
+        matcher::run_positions(self.alloc, self.shapes.as_slice(), &mut judge)
     }
 
     /// The answer of [`matches_with`](Self::matches_with), and how many questions it took: how often it was asked

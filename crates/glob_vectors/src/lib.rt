@@ -3,6 +3,8 @@
 #![tactic(auto)]
 
 pub mod judges;
+// Used by tests alone, so it is proved with them and not once more without.
+#[cfg(test)]
 pub mod readers;
 #[cfg(test)]
 mod tests;

@@ -7,6 +7,7 @@ mod judges;
 mod lines;
 mod matching;
 mod memory;
+mod memory_of_lines;
 mod options;
 mod plain_parts;
 mod printing;

@@ -7,8 +7,7 @@ use Rattle.glob_pattern.specs.Computing.Deciding.{is_match}
 use Rattle.glob_lines.specs.Lines.{LineMatches, AreMatchingLines, lines_of, WritesSomeLines, WritesSomeBytes}
 use Rattle.glob_lines.specs.Private.Fronts.{WritesFrontLines, WritesFrontBytes}
 use Rattle.glob_pattern.specs.declared.options.MatchOptions.{MatchOptions}
-use Rattle.glob_pattern.proofs.GrammarLemmas.Accepted.{reading_of-Ok}
-use Rattle.glob_pattern.proofs.MatchingLemmas.Deciding.{Decides-Matches}
+use Rattle.glob_pattern.proofs.MatchingLemmas.Computed.{match_decided}
 use Rattle.glob_lines.proofs.LineLemmas.KeptLines.{AreKept-exists}
 
 both_decided : {P : Type 0} (a b : Bool) → (b ≡ true → P) → (P → b ≡ true) → ((a ≡ true) × P) ⊎ (¬ ((a ≡ true) × P))
@@ -19,7 +18,7 @@ both_decided false b means says = inr (λ h. let clash : false ≡ true = h.0 in
 -- whether a line matches is decided
 line_decided : (o : MatchOptions) (pattern line : List ℕ) → LineMatches o pattern line ⊎ (¬ (LineMatches o pattern line))
 line_decided o pattern line =
-    let decided = Decides-Matches o (chars pattern) (chars line) (λ tokens. ((reading_of-Ok (chars pattern) tokens).1, (reading_of-Ok (chars pattern) tokens).0)) in
+    let decided = match_decided o (chars pattern) (chars line) in
     both_decided (is_utf8 line) (is_match o (chars pattern) (chars line)) decided.0 decided.1
 
 -- there are the lines that match

@@ -13,6 +13,7 @@ use Rattle.glob_pattern.specs.Grammar.Units.{UnitAt, UnitsBetween, HasUnits}
 use Rattle.glob_pattern.specs.Computing.Deciding.{tokens_match, match_of_reading, is_match}
 use Rattle.glob_pattern.specs.declared.options.MatchOptions.{MatchOptions}
 use Rattle.glob_pattern.specs.declared.token.Token.TheVariants.{Plain, Any, Run, Deep, Within, Except}
+use Rattle.glob_pattern.proofs.GrammarLemmas.Accepting.{units_of_accepted}
 use Rattle.glob_pattern.proofs.GrammarLemmas.Reading.{reading_of-HasTokens}
 use Rattle.glob_pattern.proofs.MatchingLemmas.Folded.{folded_match_same}
 use Rattle.glob_pattern.proofs.MatchingLemmas.Deciding.{Decides-TokensMatch}
@@ -124,15 +125,16 @@ has_part o t (accepted, flat, some) = by_test (is_recursive t) refl
     }
     by_test false e =
         let other : t ≢ star ∷ star ∷ [] = λ same. both_ways (is_recursive t) e ((bytes_eq-Decides t (star ∷ star ∷ [])).1 same) in
-        let inner = inner-units t flat other 0 accepted.0 (length t) accepted.1 in record {
-          part = Level accepted.0;
-          is = λ ts ps are. (accepted.1, flat, inner, are);
-          level = level_from t accepted.0 some accepted.1 inner;
+        let has = units_of_accepted t accepted in
+        let inner = inner-units t flat other 0 has.0 (length t) has.1 in record {
+          part = Level has.0;
+          is = λ ts ps are. (has.1, flat, inner, are);
+          level = level_from t has.0 some has.1 inner;
           last = λ names h.
-              name_before-agree o t accepted.0 accepted.1 (reaches o []) (takes_names o (is_match o) []) nothing names h
+              name_before-agree o t has.0 has.1 (reaches o []) (takes_names o (is_match o) []) nothing names h
               ∙ sym (cond-false (is_recursive t) _ _ e);
           before = λ u us p ps same names h.
-              name_before-agree o t accepted.0 accepted.1 (reaches o (p ∷ ps)) (takes_names o (is_match o) (u ∷ us)) same names h
+              name_before-agree o t has.0 has.1 (reaches o (p ∷ ps)) (takes_names o (is_match o) (u ∷ us)) same names h
               ∙ sym (cond-false (is_recursive t) _ _ e);
         }
 

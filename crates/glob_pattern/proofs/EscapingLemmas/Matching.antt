@@ -15,8 +15,10 @@ use Rattle.glob_pattern.specs.Laws.{SameTexts, EscapedAccepted, EscapedMatchesSa
 use Rattle.glob_pattern.specs.declared.options.MatchOptions.{MatchOptions}
 use Rattle.glob_pattern.specs.declared.token.bracket.Entry.TheVariants.{Single}
 use Rattle.glob_pattern.specs.declared.token.Token.TheVariants.{Plain, Within}
+use Rattle.glob_pattern.proofs.GrammarLemmas.Accepting.{accepted_by_tokens}
 use Rattle.glob_pattern.proofs.Places.{get_or-at_drop, drop-at_drop, length-at_drop}
-use Rattle.glob_pattern.proofs.GrammarLemmas.WrittenUnits.{WritesUnit, HasTokens-written, UnitAt-plain, Matches-from_tokens, tokens-from_Matches}
+use Rattle.glob_pattern.proofs.GrammarLemmas.WrittenUnits.{WritesUnit, HasTokens-written, UnitAt-plain, tokens-from_Matches}
+use Rattle.glob_pattern.proofs.MatchingLemmas.Matched.{match_by_tokens}
 use Rattle.glob_pattern.proofs.MatchingLemmas.Literals.{IsLiteral, SameTexts-from_TokensMatch, TokensMatch-from_SameTexts}
 use Rattle.glob_pattern.proofs.MatchingLemmas.PlainPatterns.{TokensAreUnique, SameTexts-with_case, SameTexts-itself}
 
@@ -64,7 +66,7 @@ UnitAt-bracketed whole rest f c special e =
     )
 
 -- an escaped character is a unit
-escaped_text-writes : (c : ℕ) → WritesUnit escaped_character escaped_token c
+pub escaped_text-writes : (c : ℕ) → WritesUnit escaped_character escaped_token c
 escaped_text-writes c whole rest f = by (is_special c) refl
   where
     by : (b : Bool) → is_special c ≡ b → drop f whole ≡ cond b (open_bracket ∷ c ∷ close_bracket ∷ []) (c ∷ []) ++ rest → UnitAt whole f (cond b (bracketed c) (Plain c)) (f + length (cond b (open_bracket ∷ c ∷ close_bracket ∷ []) (c ∷ [])))
@@ -81,7 +83,7 @@ HasTokens-escaped_text text = HasTokens-written escaped_character escaped_token 
 
 -- the units of an escaped text are those of its characters
 pub escaped_accepted : EscapedAccepted
-escaped_accepted text = let has : HasTokens (escaped_text text) (map escaped_token text) = HasTokens-escaped_text text in (has.0, has.1)
+escaped_accepted text = accepted_by_tokens (escaped_text text) (map escaped_token text) (HasTokens-escaped_text text)
 
 -- a character whose small letter is no letter is that
 lowercase-apart : (c d : ℕ) → (d < 97) ⊎ (122 < d) → to_ascii_lowercase c ≡ d → c ≡ d
@@ -127,7 +129,7 @@ bracketed-literal o x special = (
 )
 
 -- an escaped character stands for itself
-escaped_text-literal : (o : MatchOptions) (x : ℕ) → IsLiteral o (escaped_token x) x
+pub escaped_text-literal : (o : MatchOptions) (x : ℕ) → IsLiteral o (escaped_token x) x
 escaped_text-literal o x =
     cond_both (is_special x) (bracketed x) (Plain x) (λ t. IsLiteral o t x) (bracketed-literal o x) (λ other. (refl, λ opening c. refl))
 
@@ -138,7 +140,7 @@ escaped_matches_same unique o text other =
     let has : HasTokens (escaped_text text) tokens = HasTokens-escaped_text text in (
       (λ m. SameTexts-from_TokensMatch o escaped_token (escaped_text-literal o) text other
           (tokens-from_Matches o (escaped_text text) other tokens (λ others h. unique (escaped_text text) others tokens h has) m)),
-      (λ s. Matches-from_tokens o (escaped_text text) other tokens has (TokensMatch-from_SameTexts o escaped_token (escaped_text-literal o) text other s)),
+      (λ s. match_by_tokens o (escaped_text text) other tokens has (TokensMatch-from_SameTexts o escaped_token (escaped_text-literal o) text other s)),
     )
 
 -- with case, the text alone

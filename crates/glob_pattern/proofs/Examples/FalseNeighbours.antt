@@ -1,5 +1,5 @@
 -- Neighbours of the laws, each proved false by an example: what a law asks for, it needs.
-use Rattle.std.proofs.Common.{◌≡◌, ◌↔◌, ◌≢◌, ℕ, ◌≤◌, ⊎_elim, Bool, true, false, List, [], ◌∷◌, length, slice_index, codes, IsTrue, Ok, Err, Decides, refl, sym, ap, subst, ◌∙◌, arith}
+use Rattle.std.proofs.Common.{◌≡◌, ◌↔◌, ◌≢◌, ℕ, ◌≤◌, ⊎_elim, Bool, true, false, List, [], ◌∷◌, length, slice_index, codes, IsTrue, Ok, Err, Decides, refl, sym, ap, subst, arith}
 use Rattle.std.specs.List.{list_all, join_with_byte}
 use Rattle.std.specs.Path.{has_no_slash}
 use Rattle.std.proofs.lemmas.Bool.{false≢true, eqb-false}
@@ -18,31 +18,9 @@ use Rattle.glob_pattern.specs.Laws.{IsPlain, SameTexts}
 use Rattle.glob_pattern.specs.declared.options.MatchOptions.{MatchOptions}
 use Rattle.glob_pattern.specs.declared.token.Token.TheVariants.{Plain, Any, Run, Deep}
 use Rattle.glob_pattern.proofs.Examples.Options.{options, new}
-use Rattle.glob_pattern.proofs.GrammarLemmas.Accepted.{reading_of-Ok, reading_of-Err, one_fault, no_fault}
-use Rattle.glob_pattern.proofs.MatchingLemmas.Deciding.{Decides-TokensMatch, Decides-Matches}
-
--- from a computed answer to the relation
-
-has_tokens : (text : Text) (tokens : List Token) → reading_of text ≡ Ok tokens → HasTokens text tokens
-has_tokens text tokens e = (reading_of-Ok text tokens).0 e
-
-is_fault : (text : Text) (fault : Fault) → reading_of text ≡ Err fault → IsFault text fault
-is_fault text fault e = (reading_of-Err text fault).0 e
-
-is_accepted : (text : Text) (tokens : List Token) → reading_of text ≡ Ok tokens → IsAccepted text
-is_accepted text tokens e = let has = has_tokens text tokens e in (has.0, has.1)
-
-is_refused : (text : Text) (fault : Fault) → reading_of text ≡ Err fault → ¬ (IsAccepted text)
-is_refused text fault e accepted = no_fault text fault accepted (is_fault text fault e)
-
-decided : (o : MatchOptions) (pattern text : Text) → Decides (is_match o pattern text) (Matches o pattern text)
-decided o pattern text = Decides-Matches o pattern text (λ tokens. ((reading_of-Ok pattern tokens).1, (reading_of-Ok pattern tokens).0))
-
-matches : (o : MatchOptions) (pattern text : Text) → is_match o pattern text ≡ true → Matches o pattern text
-matches o pattern text = (decided o pattern text).0
-
-no_match : (o : MatchOptions) (pattern text : Text) → is_match o pattern text ≡ false → ¬ (Matches o pattern text)
-no_match o pattern text e m = false≢true (sym e ∙ (decided o pattern text).1 m)
+use Rattle.glob_pattern.proofs.GrammarLemmas.Accepted.{one_fault, no_fault}
+use Rattle.glob_pattern.proofs.MatchingLemmas.Computed.{tokens_by_reading, accepted_by_reading, fault_by_reading, refused_by_reading, match_by_computing, no_match_by_computing}
+use Rattle.glob_pattern.proofs.MatchingLemmas.Deciding.{Decides-TokensMatch}
 
 abbrev no_case : MatchOptions
 no_case = options false false false
@@ -85,8 +63,8 @@ one_fault_alone_is_read :
     ¬ ((text : Text) (fault : Fault) → (reading_of text ≡ Err fault) ↔ (¬ (IsAccepted text)))
 one_fault_alone_is_read claim =
     let other : Fault = record { place = 1; message = range_message } in
-    let read : reading_of (codes "[") ≡ Err other = (claim (codes "[") other).1 (is_refused (codes "[") fault_of_bracket bracket_is_refused) in
-    let same : fault_of_bracket ≡ other = one_fault (codes "[") fault_of_bracket other (is_fault (codes "[") fault_of_bracket bracket_is_refused) (is_fault (codes "[") other read) in
+    let read : reading_of (codes "[") ≡ Err other = (claim (codes "[") other).1 (refused_by_reading (codes "[") fault_of_bracket bracket_is_refused) in
+    let same : fault_of_bracket ≡ other = one_fault (codes "[") fault_of_bracket other (fault_by_reading (codes "[") fault_of_bracket bracket_is_refused) (fault_by_reading (codes "[") other read) in
     eqb-false 0 1 refl (ap (λ fault. fault.place) same)
 
 -- `one_unit_at_a_place`, of a unit and the one after it: in `aa` they end at different places
@@ -102,7 +80,7 @@ the_next_unit_is_another claim =
 units_are_not_the_tokens :
     ¬ ((text : Text) (units others : List Token) → HasUnits text units → HasTokens text others → units ≡ others)
 units_are_not_the_tokens claim =
-    let has : HasTokens (codes "**/**") (Deep ∷ []) = has_tokens (codes "**/**") (Deep ∷ []) two_runs_are_one_token in
+    let has : HasTokens (codes "**/**") (Deep ∷ []) = tokens_by_reading (codes "**/**") (Deep ∷ []) two_runs_are_one_token in
     let same : has.0 ≡ Deep ∷ [] = claim (codes "**/**") has.0 (Deep ∷ []) has.1 has in
     two_runs_are_two_units (subst (HasUnits (codes "**/**")) same has.1)
 
@@ -116,20 +94,20 @@ tokens_are_not_the_units claim =
 a_refused_text_has_a_fault :
     ¬ ((text : Text) (fault : Fault) → ¬ (IsAccepted text) → ¬ (IsFault text fault))
 a_refused_text_has_a_fault claim =
-    claim (codes "[") fault_of_bracket (is_refused (codes "[") fault_of_bracket bracket_is_refused) (is_fault (codes "[") fault_of_bracket bracket_is_refused)
+    claim (codes "[") fault_of_bracket (refused_by_reading (codes "[") fault_of_bracket bracket_is_refused) (fault_by_reading (codes "[") fault_of_bracket bracket_is_refused)
 
 -- `refused_has_one_fault`, of every text: the empty text, which is accepted, has no fault
 not_every_text_has_a_fault :
     ¬ ((text : Text) → (fault : Fault) × IsFault text fault × ((other : Fault) → IsFault text other → other ≡ fault))
 unfolding units_from
-not_every_text_has_a_fault claim = no_fault [] (claim []).0 (is_accepted [] [] refl) (claim []).1
+not_every_text_has_a_fault claim = no_fault [] (claim []).0 (accepted_by_reading [] [] refl) (claim []).1
 
 -- `no_more_tokens_than_characters`, the other way round: `**` has two characters and one token
 tokens_may_be_fewer_than_characters :
     ¬ ((text : Text) (tokens : List Token) → HasTokens text tokens → length text ≤ length tokens)
 unfolding units_from
 tokens_may_be_fewer_than_characters claim =
-    let longer : 2 ≤ 1 = claim (codes "**") (Deep ∷ []) (has_tokens (codes "**") (Deep ∷ []) refl) in omega arith
+    let longer : 2 ≤ 1 = claim (codes "**") (Deep ∷ []) (tokens_by_reading (codes "**") (Deep ∷ []) refl) in omega arith
 
 -- laws of the rules
 
@@ -167,8 +145,8 @@ MayChangeCase o other =
 the_separator_rule_loses_a_match : ¬ (PatternsKept MayAddSeparatorRule)
 unfolding is_match tokens_match units_from
 the_separator_rule_loses_a_match claim =
-    no_match separator_rule (codes "*") (codes "/") refl
-    (claim new separator_rule (refl, (λ h. absurd (false≢true h)), (λ h. h)) (codes "*") (codes "/") (matches new (codes "*") (codes "/") refl))
+    no_match_by_computing separator_rule (codes "*") (codes "/") refl
+    (claim new separator_rule (refl, (λ h. absurd (false≢true h)), (λ h. h)) (codes "*") (codes "/") (match_by_computing new (codes "*") (codes "/") refl))
 
 -- nor does the token of `*`
 the_separator_rule_loses_a_match_of_tokens : ¬ (TokensKept MayAddSeparatorRule)
@@ -181,15 +159,15 @@ the_separator_rule_loses_a_match_of_tokens claim =
 the_dot_rule_loses_a_match : ¬ (PatternsKept MayAddDotRule)
 unfolding is_match tokens_match units_from
 the_dot_rule_loses_a_match claim =
-    no_match dot_rule (codes "*") (codes ".") refl
-    (claim new dot_rule (refl, (λ h. h), (λ h. absurd (false≢true h))) (codes "*") (codes ".") (matches new (codes "*") (codes ".") refl))
+    no_match_by_computing dot_rule (codes "*") (codes ".") refl
+    (claim new dot_rule (refl, (λ h. h), (λ h. absurd (false≢true h))) (codes "*") (codes ".") (match_by_computing new (codes "*") (codes ".") refl))
 
 -- if case may change: with case `a` does not match `A` any more
 case_loses_a_match : ¬ (PatternsKept MayChangeCase)
 unfolding is_match tokens_match units_from
 case_loses_a_match claim =
-    no_match new (codes "a") (codes "A") refl
-    (claim no_case new ((λ h. h), (λ h. h)) (codes "a") (codes "A") (matches no_case (codes "a") (codes "A") refl))
+    no_match_by_computing new (codes "a") (codes "A") refl
+    (claim no_case new ((λ h. h), (λ h. h)) (codes "a") (codes "A") (match_by_computing no_case (codes "a") (codes "A") refl))
 
 -- `separator_rule_spares_names`, if it is the pattern that has no separators: `*` matches `/`, and does not under the rule
 the_separator_rule_counts_for_texts :
@@ -202,28 +180,28 @@ the_separator_rule_counts_for_texts claim = false≢true (claim new (codes "*") 
 
 -- `plain_pattern_matches_itself` and `escaped_text_matches_itself`: `accepted`, of any text as it is: `[` is not accepted
 some_texts_are_refused : ¬ ((text : Text) → IsAccepted text)
-some_texts_are_refused claim = is_refused (codes "[") fault_of_bracket bracket_is_refused (claim (codes "["))
+some_texts_are_refused claim = refused_by_reading (codes "[") fault_of_bracket bracket_is_refused (claim (codes "["))
 
 -- the same two: `same`, of any text as it is: `?` matches `a`
 some_texts_match_others :
     ¬ ((o : MatchOptions) (text other : Text) → (Matches o text other ↔ SameTexts o.case_sensitive other text))
 unfolding is_match tokens_match units_from
 some_texts_match_others claim =
-    false≢true (((claim new (codes "?") (codes "a")).0 (matches new (codes "?") (codes "a") refl)).1 0 (omega arith))
+    false≢true (((claim new (codes "?") (codes "a")).0 (match_by_computing new (codes "?") (codes "a") refl)).1 0 (omega arith))
 
 -- `plain_pattern_matches_itself`: `itself`, without case too: `a` matches `A`
 plain_text_without_case_matches_more :
     ¬ ((o : MatchOptions) (pattern text : Text) → IsPlain pattern → (Matches o pattern text ↔ (pattern ≡ text)))
 unfolding is_match tokens_match units_from
 plain_text_without_case_matches_more claim =
-    different_letters ((claim no_case (codes "a") (codes "A") refl).0 (matches no_case (codes "a") (codes "A") refl))
+    different_letters ((claim no_case (codes "a") (codes "A") refl).0 (match_by_computing no_case (codes "a") (codes "A") refl))
 
 -- `escaped_text_matches_itself`: `itself`, without case too: the escaped `a` matches `A`
 escaped_text_without_case_matches_more :
     ¬ ((o : MatchOptions) (text other : Text) → (Matches o (escaped_text text) other ↔ (text ≡ other)))
 unfolding is_match tokens_match units_from
 escaped_text_without_case_matches_more claim =
-    different_letters ((claim no_case (codes "a") (codes "A")).0 (matches no_case (escaped_text (codes "a")) (codes "A") refl))
+    different_letters ((claim no_case (codes "a") (codes "A")).0 (match_by_computing no_case (escaped_text (codes "a")) (codes "A") refl))
 
 -- laws of matching
 
@@ -246,7 +224,7 @@ pattern_and_text_do_not_trade_places :
     ¬ ((o : MatchOptions) (pattern text : Text) → Decides (is_match o pattern text) (Matches o text pattern))
 unfolding is_match tokens_match units_from
 pattern_and_text_do_not_trade_places claim =
-    no_match new (codes "a") (codes "?") refl ((claim new (codes "?") (codes "a")).0 refl)
+    no_match_by_computing new (codes "a") (codes "?") refl ((claim new (codes "?") (codes "a")).0 refl)
 
 -- laws of components
 
@@ -262,7 +240,7 @@ LevelsMatch AreParts are_names whole =
 joined_without_the_separator_rule_match_more : ¬ (LevelsMatch AreComponents (list_all has_no_slash) (λ o. o))
 unfolding is_match tokens_match units_from
 joined_without_the_separator_rule_match_more claim =
-    false≢true (sym (claim new (codes "*") [] (codes "a") (codes "b" ∷ []) ((is_accepted (codes "*") (Run ∷ []) refl, refl, refl), tt) refl))
+    false≢true (sym (claim new (codes "*") [] (codes "a") (codes "b" ∷ []) ((accepted_by_reading (codes "*") (Run ∷ []) refl, refl, refl), tt) refl))
 
 -- of any texts as components: `a/b` matches `a/b`, and as a component takes one name alone
 a_component_holds_no_separator : ¬ (LevelsMatch (λ ts. Unit {0}) (list_all has_no_slash) with_separator_rule)
@@ -274,4 +252,4 @@ a_component_holds_no_separator claim =
 a_name_holds_no_separator : ¬ (LevelsMatch AreComponents (λ names. true) with_separator_rule)
 unfolding is_match tokens_match units_from
 a_name_holds_no_separator claim =
-    false≢true (claim new (codes "*") [] (codes "/") [] ((is_accepted (codes "*") (Run ∷ []) refl, refl, refl), tt) refl)
+    false≢true (claim new (codes "*") [] (codes "/") [] ((accepted_by_reading (codes "*") (Run ∷ []) refl, refl, refl), tt) refl)

@@ -5,6 +5,7 @@ use Rattle.glob_pattern.specs.Grammar.Tokens.{Token, tokens_of_units}
 use Rattle.glob_pattern.specs.Grammar.Units.{UnitAt, HasUnits, IsAccepted, HasTokens}
 use Rattle.glob_pattern.specs.Grammar.Faults.{Fault, IsFault}
 use Rattle.glob_pattern.specs.Computing.Reading.{unit_at, units_from, reading_of}
+use Rattle.glob_pattern.proofs.GrammarLemmas.Accepting.{accepted_by_tokens, units_of_accepted}
 use Rattle.glob_pattern.proofs.GrammarLemmas.Units.{unit_at-UnitAt}
 use Rattle.glob_pattern.proofs.GrammarLemmas.Folding.{length-tokens_of_units}
 use Rattle.glob_pattern.proofs.GrammarLemmas.Reading.{UnitsBetween-within, units_from-Ok, HasTokens-reading_of, reading_of-HasTokens, IsFault-reading_of, reading_of-IsFault}
@@ -53,11 +54,12 @@ one_fault text fault other first second =
 -- An accepted text has none.
 pub no_fault : (text : Text) (fault : Fault) → IsAccepted text → ¬ (IsFault text fault)
 no_fault text fault accepted is =
-    let read = reading_of-HasTokens text (tokens_of_units accepted.0) (accepted.0, accepted.1, refl) in
+    let has = units_of_accepted text accepted in
+    let read = reading_of-HasTokens text (tokens_of_units has.0) (has.0, has.1, refl) in
     let told = reading_of-IsFault text fault is in cc
 
 read_or_told : (text : Text) (read : Result (List Token) Fault) → reading_of text ≡ read → ¬ (IsAccepted text) → (fault : Fault) × IsFault text fault
-read_or_told text (Ok tokens) e refused = let has = HasTokens-reading_of text tokens e in absurd (refused (has.0, has.1))
+read_or_told text (Ok tokens) e refused = absurd (refused (accepted_by_tokens text tokens (HasTokens-reading_of text tokens e)))
 read_or_told text (Err fault) e refused = (fault, IsFault-reading_of text fault e)
 
 -- Another text has one.

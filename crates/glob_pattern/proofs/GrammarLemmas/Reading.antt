@@ -110,6 +110,7 @@ HasTokens-Answers text (Ok units) tokens answers e = (units, answers, cc)
 HasTokens-Answers text (Err fault) tokens answers e = cc
 
 IsFault-Answers : (text : Text) (read : Result (List Token) Fault) (fault : Fault) → Answers text 0 read → tokens_of_reading read ≡ Err fault → IsFault text fault
+unfolding IsFault
 IsFault-Answers text (Ok units) fault answers e = cc
 IsFault-Answers text (Err other) fault answers e = let same : other ≡ fault = cc in subst (IsFault text) same answers
 
@@ -128,6 +129,7 @@ IsFault-reading_of text fault e = IsFault-Answers text _ fault (Answers-start te
 
 -- The fault of a text is read.
 pub reading_of-IsFault : (text : Text) (fault : Fault) → IsFault text fault → reading_of text ≡ Err fault
+unfolding IsFault
 reading_of-IsFault text fault is =
     ap tokens_of_reading (units_from-Err (suc (length text)) text 0 is.1 is.0 (omega arith) (omega arith) is.2 (IsClear-start text) is.3 is.4)
     ∙ ap Err (sym is.5)
@@ -150,6 +152,7 @@ HasTokens-HasRead text tokens f has e = subst (HasRead text tokens) e has
 
 -- no unit is found
 pub IsFault-HasRead : (text : Text) (tokens : List Token) (f place : ℕ) (message : List ℕ) → HasRead text tokens f → f < length text → unit_at text f ≡ None → place ≡ (fault_at text f).place → message ≡ (fault_at text f).message → IsFault text (record { place = place; message = message })
+unfolding IsFault
 IsFault-HasRead text tokens f place message has within none same_place same_message =
     let told = fault_at text f in
     let made : ℕ → List ℕ → Fault = λ p m. record { place = p; message = m } in

@@ -52,10 +52,7 @@ UnitAt-plain whole rest f c plain e =
 abbrev pub HasOnly : Text → List Token → Type 0
 HasOnly pattern tokens = (others : List Token) → HasTokens pattern others → others ≡ tokens
 
--- a pattern matches what its tokens match
-pub Matches-from_tokens : (o : MatchOptions) (pattern text : Text) (tokens : List Token) → HasTokens pattern tokens → TokensMatch o tokens text → Matches o pattern text
-Matches-from_tokens o pattern text tokens has match = (tokens, has, match)
-
--- and nothing else
+-- a pattern matches what its only tokens match
 pub tokens-from_Matches : (o : MatchOptions) (pattern text : Text) (tokens : List Token) → HasOnly pattern tokens → Matches o pattern text → TokensMatch o tokens text
+unfolding Matches
 tokens-from_Matches o pattern text tokens only (others, has, match) = subst (λ ts. TokensMatch o ts text) (only others has) match

@@ -59,3 +59,12 @@ same-slash case c e =
   where
     other : c ≡ slash → ⊥
     other is = both_ways (c == slash) e (eq-eqb c slash is)
+
+-- one that has the same small form is the small or the capital form
+pub one_of_forms : (c x : ℕ) → to_ascii_lowercase c ≡ to_ascii_lowercase x → (c ≡ to_ascii_lowercase x) ⊎ (c ≡ to_ascii_uppercase x)
+one_of_forms c x e =
+    ⊎_elim inl
+    (λ nl. ⊎_elim inr
+    (λ nu. let lower = lower_cases c in let small = lower_cases x in let large = upper_cases x in absurd (omega arith))
+    (cases_eq c (to_ascii_uppercase x)))
+    (cases_eq c (to_ascii_lowercase x))

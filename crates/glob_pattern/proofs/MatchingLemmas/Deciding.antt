@@ -158,7 +158,7 @@ IsReadAs pattern =
 
 -- the decider answers whether the pattern matches the text
 pub Decides-Matches : (o : MatchOptions) (pattern text : Text) → IsReadAs pattern → Decides (is_match o pattern text) (Matches o pattern text)
-unfolding is_match
+unfolding is_match Matches
 Decides-Matches o pattern text reading = (
   (λ h. let told : (tokens : List Token) × (reading_of pattern ≡ Ok tokens) × (tokens_match o tokens text ≡ true) = match_of_reading-tells o (reading_of pattern) text h in
       (told.0, (reading told.0).1 told.1, TokensMatch-from_decider o told.0 text told.2)),

@@ -1,6 +1,5 @@
 -- A text whose first byte is not the plain one of the pattern is no match with case.
-use Rattle.std.proofs.Common.{◌≡◌, ◌≢◌, ℕ, suc, ◌+◌, ◌<◌, ◌≤◌, Bool, true, List, [], ◌∷◌, ◌++◌, length, map, get_or, IsTrue, ⊎_elim, refl, sym, ap, subst, ◌∙◌, arith, chars}
-use Rattle.std.proofs.lemmas.Bool.{cases_lt}
+use Rattle.std.proofs.Common.{◌≡◌, ◌≢◌, ℕ, ◌<◌, List, [], ◌∷◌, ◌++◌, length, get_or, IsTrue, refl, sym, ap, subst, ◌∙◌, arith, chars}
 use Rattle.std.proofs.lemmas.List.{get_or_append_left}
 use Rattle.std.proofs.lemmas.Str.{byte_from_char, encodes-chars, length-encode, len_utf8_bounds}
 use Rattle.std.specs.Str.{IsUtf8, encode_utf8_all}
@@ -8,7 +7,7 @@ use lib.Utf8.{encode}
 use Rattle.glob_text.specs.Text.{Text}
 use Rattle.glob_pattern.specs.Grammar.Characters.{star, question_mark, open_bracket}
 use Rattle.glob_pattern.specs.Grammar.Tokens.{Token, tokens_of_units}
-use Rattle.glob_pattern.specs.Grammar.Units.{HasTokens, UnitAt, UnitsBetween}
+use Rattle.glob_pattern.specs.Grammar.Units.{HasTokens, UnitAt}
 use Rattle.glob_pattern.specs.Matching.Texts.{TokensMatch}
 use Rattle.glob_pattern.specs.Laws.{SameTexts, StandsIn}
 use Rattle.glob_pattern.specs.Private.PlainEnds.{DiffersAtOnce}
@@ -44,7 +43,7 @@ first_byte c xs ys =
     get_or_append_left (encode c) xs 0 0 some ∙ sym (get_or_append_left (encode c) ys 0 0 some)
 
 -- the characters of bytes that there are
-first_character : (bytes : List ℕ) (cs : Text) → IsUtf8 bytes → 0 < length bytes → chars bytes ≡ cs
+pub first_character : (bytes : List ℕ) (cs : Text) → IsUtf8 bytes → 0 < length bytes → chars bytes ≡ cs
     → (c : ℕ) × (rest : Text) × (cs ≡ c ∷ rest) × (bytes ≡ encode c ++ encode_utf8_all rest)
 first_character bytes [] utf8 some e = let none = sym (encodes-chars bytes utf8) ∙ ap encode_utf8_all e in absurd (omega (arith, ap length none))
 first_character bytes (c ∷ rest) utf8 some e = (c, rest, refl, sym (encodes-chars bytes utf8) ∙ ap encode_utf8_all e)

@@ -156,6 +156,7 @@ allowed-from_folded o text (t ∷ ts) =
 
 -- tokens that match a text, where others may have its pieces
 TokensMatch-as : (o : MatchOptions) (text : Text) (ts us : List Token) → AllowedAs o text ts us → TokensMatch o ts text → TokensMatch o us text
+unfolding TokensMatch
 TokensMatch-as o text ts us recut (pieces, e, allowed) =
     let found : (others : List Text) × (concat others ≡ concat pieces) × AreAllowed o text 0 us others = recut 0 pieces allowed in
     (found.0, found.1 ∙ e, found.2)

@@ -6,10 +6,11 @@ use Rattle.glob_text.specs.Text.{Text, opens}
 use Rattle.glob_pattern.specs.Grammar.Brackets.{holds}
 use Rattle.glob_pattern.specs.Grammar.Tokens.{Token}
 use Rattle.glob_pattern.specs.Matching.Taking.{is_excluded_separator, is_excluded_dot, is_free, takes}
-use Rattle.glob_pattern.specs.Matching.Texts.{AreAllowed}
+use Rattle.glob_pattern.specs.Matching.Texts.{AreAllowed, TokensMatch}
 use Rattle.glob_pattern.specs.Laws.{IsLooser, TokensLoosened, PatternsLoosened}
 use Rattle.glob_pattern.specs.declared.options.MatchOptions.{MatchOptions}
 use Rattle.glob_pattern.specs.declared.token.Token.TheVariants.{Plain, Any, Run, Deep, Within, Except}
+use Rattle.glob_pattern.proofs.MatchingLemmas.Matched.{match_by_tokens, tokens_of_match}
 
 -- where a test says no, one that says yes less often does
 not-from_less : (a b : Bool) → (IsTrue b → IsTrue a) → IsTrue (not a) → IsTrue (not b)
@@ -65,8 +66,11 @@ AreAllowed-looser strict loose less text k (t ∷ ts) (piece ∷ pieces) (took, 
 
 -- the same pieces are a match under looser rules
 pub tokens_loosened : TokensLoosened
+unfolding TokensMatch
 tokens_loosened strict loose less tokens text (pieces, e, allowed) = (pieces, e, AreAllowed-looser strict loose less text 0 tokens pieces allowed)
 
 -- the same tokens match under looser rules
 pub patterns_loosened : PatternsLoosened
-patterns_loosened strict loose less pattern text (tokens, has, match) = (tokens, has, tokens_loosened strict loose less tokens text match)
+patterns_loosened strict loose less pattern text matches =
+    let has = tokens_of_match strict pattern text matches in
+    match_by_tokens loose pattern text has.0 has.1 (tokens_loosened strict loose less has.0 text has.2)

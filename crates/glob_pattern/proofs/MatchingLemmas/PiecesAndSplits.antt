@@ -151,10 +151,12 @@ pieces-from_SplitsFrom o all (t ∷ ts) text n k e (j, reach, took, others) =
 
 -- tokens that match a text split it over their table
 pub Splits-from_TokensMatch : (o : MatchOptions) (tokens : List Token) (text : Text) → TokensMatch o tokens text → Splits (table_of o tokens text) (map shape_of tokens)
+unfolding TokensMatch
 Splits-from_TokensMatch o tokens text (pieces, e, allowed) = SplitsFrom-from_pieces o tokens tokens text 0 0 pieces refl (sym e) (omega arith) allowed
 
 -- tokens over whose table a text splits match it
 pub TokensMatch-from_Splits : (o : MatchOptions) (tokens : List Token) (text : Text) → Splits (table_of o tokens text) (map shape_of tokens) → TokensMatch o tokens text
+unfolding TokensMatch
 TokensMatch-from_Splits o tokens text h =
     let found : PiecesFrom o text 0 tokens = pieces-from_SplitsFrom o tokens tokens text 0 0 refl h in
     (found.0, sym found.1, found.2)

@@ -5,7 +5,6 @@ use Rattle.std.proofs.lemmas.List.{map-append}
 use Rattle.std.proofs.lemmas.Str.{encode_ascii, encodes-append, encodes-chars}
 use Rattle.std.specs.Char.{is_ascii, to_ascii_lowercase}
 use Rattle.std.specs.Str.{IsUtf8, encode_utf8_all}
-use Rattle.std.specs.Str.Iter.{HasSubslice}
 use Rattle.std.specs.List.{slice_range}
 use lib.Utf8.{encode}
 use Rattle.glob_text.specs.Text.{Text}
@@ -62,21 +61,7 @@ EndsSame-from_match o tokens pattern bytes n ends utf8 match =
       exact = λ case. ap encode_utf8_all (SameTexts-with_case stands.here ends.plain (subst (λ b. SameTexts b stands.here ends.plain) case stands.same)) ∙ sym ends.spelt;
     }
 
--- a text that the tokens match with case has the plain characters inside them
-pub HasSubslice-from_match : (o : MatchOptions) (tokens : List Token) (pattern bytes : List ℕ) (start end : ℕ) → IsTrue o.case_sensitive
-    → HoldsPlain tokens pattern start end → IsUtf8 bytes → TokensMatch o tokens (chars bytes) → HasSubslice bytes (slice_range pattern start end)
-HasSubslice-from_match o tokens pattern bytes start end case holds utf8 match =
-    let plain = holds.plain in
-    let stands : StandsIn o.case_sensitive holds.are.front plain holds.are.back (chars bytes) =
-    plain_tokens_stand o holds.are.front plain holds.are.back (chars bytes) (subst (λ ts. TokensMatch o ts (chars bytes)) holds.are.tokens_are match) in
-    let same : stands.here ≡ plain = SameTexts-with_case stands.here plain (subst (λ b. SameTexts b stands.here plain) case stands.same) in (
-      encode_utf8_all stands.before,
-      encode_utf8_all stands.after,
-      sym (encodes-chars bytes utf8) ∙ ap encode_utf8_all stands.split ∙ encodes-append stands.before (stands.here ++ stands.after)
-          ∙ ap (λ xs. encode_utf8_all stands.before ++ xs) (encodes-append stands.here stands.after ∙ ap (λ xs. xs ++ encode_utf8_all stands.after) (ap encode_utf8_all same ∙ sym holds.spelt)),
-    )
-
--- and without case it has them once capital letters are made small
+-- a text that the tokens match has the plain characters inside them, once capital letters are made small
 pub ContainsSmall-from_match : (o : MatchOptions) (tokens : List Token) (pattern bytes : List ℕ) (start end : ℕ)
     → HoldsPlain tokens pattern start end → IsUtf8 bytes → TokensMatch o tokens (chars bytes) → ContainsSmall bytes (slice_range pattern start end)
 ContainsSmall-from_match o tokens pattern bytes start end holds utf8 match =

@@ -14,7 +14,9 @@ use Rattle.glob_pattern.specs.Matching.Texts.{Matches}
 use Rattle.glob_pattern.specs.Laws.{IsPlain, SameTexts, PlainAccepted, PlainMatchesSame, PlainMatchesItself}
 use Rattle.glob_pattern.specs.declared.options.MatchOptions.{MatchOptions}
 use Rattle.glob_pattern.specs.declared.token.Token.TheVariants.{Plain}
-use Rattle.glob_pattern.proofs.GrammarLemmas.WrittenUnits.{WritesUnit, HasTokens-written, UnitAt-plain, Matches-from_tokens, tokens-from_Matches}
+use Rattle.glob_pattern.proofs.GrammarLemmas.Accepting.{accepted_by_tokens}
+use Rattle.glob_pattern.proofs.GrammarLemmas.WrittenUnits.{WritesUnit, HasTokens-written, UnitAt-plain, tokens-from_Matches}
+use Rattle.glob_pattern.proofs.MatchingLemmas.Matched.{match_by_tokens}
 use Rattle.glob_pattern.proofs.MatchingLemmas.Literals.{IsLiteral, SameTexts-from_TokensMatch, TokensMatch-from_SameTexts}
 
 -- a text has one list of tokens
@@ -67,7 +69,7 @@ plain-literal o x = (refl, λ opening c. refl)
 
 -- its characters are its units
 pub plain_accepted : PlainAccepted
-plain_accepted pattern plain = let has : HasTokens pattern (map Plain pattern) = HasTokens-plain pattern plain in (has.0, has.1)
+plain_accepted pattern plain = accepted_by_tokens pattern (map Plain pattern) (HasTokens-plain pattern plain)
 
 -- a pattern without wildcards matches the texts that are the same as it
 pub plain_matches_same : TokensAreUnique → PlainMatchesSame
@@ -76,7 +78,7 @@ plain_matches_same unique o pattern text plain =
     let has : HasTokens pattern tokens = HasTokens-plain pattern plain in (
       (λ m. SameTexts-from_TokensMatch o Plain (plain-literal o) pattern text
           (tokens-from_Matches o pattern text tokens (λ others h. unique pattern others tokens h has) m)),
-      (λ s. Matches-from_tokens o pattern text tokens has (TokensMatch-from_SameTexts o Plain (plain-literal o) pattern text s)),
+      (λ s. match_by_tokens o pattern text tokens has (TokensMatch-from_SameTexts o Plain (plain-literal o) pattern text s)),
     )
 
 -- with case, that is the pattern alone

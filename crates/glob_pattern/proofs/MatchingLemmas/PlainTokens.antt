@@ -7,7 +7,7 @@ use Rattle.std.specs.List.{concat, count_by}
 use Rattle.glob_text.specs.Text.{Text}
 use Rattle.glob_pattern.specs.Grammar.Brackets.{is_same}
 use Rattle.glob_pattern.specs.Grammar.Tokens.{Token, takes_one}
-use Rattle.glob_pattern.specs.Matching.Texts.{AreAllowed}
+use Rattle.glob_pattern.specs.Matching.Texts.{AreAllowed, TokensMatch}
 use Rattle.glob_pattern.specs.Laws.{SameTexts, PlainTokensStand, OneCharacterEach}
 use Rattle.glob_pattern.specs.declared.options.MatchOptions.{MatchOptions}
 use Rattle.glob_pattern.specs.declared.token.Token.TheVariants.{Plain, Any, Run, Deep, Within, Except}
@@ -61,7 +61,7 @@ plain-first o text k (c ∷ cs) back ((d ∷ ds) ∷ pieces) (took, form, others
 
 -- neighbouring plain tokens stand for characters of each text
 pub plain_tokens_stand : PlainTokensStand
-unfolding AfterFront PlainFirst
+unfolding AfterFront PlainFirst TokensMatch
 plain_tokens_stand o front plain back text (pieces, e, allowed) =
     let (before, others, split, rest, first) = allowed-after_front o text 0 front (map Plain plain ++ back) pieces allowed in
     let (here, after, next, same, last) = plain-first o text (0 + length (concat before)) plain back others rest in
@@ -99,4 +99,5 @@ ones-allowed o text k (Except entries ∷ ts) (piece ∷ pieces) (took, form, ot
 
 -- a text is at least as long as there are tokens of one character
 pub one_character_each : OneCharacterEach
+unfolding TokensMatch
 one_character_each o tokens text (pieces, e, allowed) = omega (arith, ap length e, ones-allowed o text 0 tokens pieces allowed)

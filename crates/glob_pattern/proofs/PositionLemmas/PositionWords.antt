@@ -1,7 +1,7 @@
 -- Rows of positions as words: the first, the next, what is asked for it, and what the last says.
 use Rattle.std.proofs.Common.{◌≡◌, ℕ, zero, suc, ◌+◌, ◌-◌, ◌^◌, ◌<◌, ◌≤◌, ◌↔◌, Bool, false, nat_eq, IsTrue, List, length, bit_and, ⊎_elim, sym, subst, arith}
 use Rattle.std.specs.Int.Count.{ones}
-use Rattle.std.proofs.lemmas.Bool.{cases_eq, cases_lt, eqb-true, eq-eqb, false≢true}
+use Rattle.std.proofs.lemmas.Bool.{cases_eq, eqb-true, eq-eqb, false≢true}
 use Rattle.std.proofs.lemmas.Nat.{zero_from_ones}
 use Rattle.glob_pattern.specs.Matching.Splits.{Table, Splits}
 use Rattle.glob_pattern.specs.Private.Prefixes.{PrefixSplits, IsAlive, HasTaken, IsTakenPrefix}

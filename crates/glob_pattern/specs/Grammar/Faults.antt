@@ -39,7 +39,7 @@ abbrev pub NoUnitAt : Text → ℕ → Type 0
 NoUnitAt text f = (t : Token) (e : ℕ) → ¬ (UnitAt text f t e)
 
 -- The first fault from the left: units reach a place before the end at which none stands.
-abbrev pub IsFault : Text → Fault → Type 0
+unfoldable pub IsFault : Text → Fault → Type 0
 IsFault text fault =
     (f : ℕ) × (units : List Token)
     × UnitsBetween text 0 units f × (f < length text) × NoUnitAt text f × (fault ≡ fault_at text f)

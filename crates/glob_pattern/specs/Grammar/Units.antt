@@ -51,7 +51,7 @@ abbrev pub HasUnits : Text → List Token → Type 0
 HasUnits text units = UnitsBetween text 0 units (length text)
 
 -- the text is accepted
-abbrev pub IsAccepted : Text → Type 0
+unfoldable pub IsAccepted : Text → Type 0
 IsAccepted text = (units : List Token) × HasUnits text units
 
 -- The text is accepted, and these are its tokens: those of its units, where neighbouring deep ones are one.

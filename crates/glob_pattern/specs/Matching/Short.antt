@@ -5,5 +5,5 @@ use Rattle.glob_pattern.specs.Grammar.Tokens.{Token}
 use Rattle.glob_pattern.specs.Grammar.Units.{HasTokens}
 
 -- The pattern has at most 63 tokens.
-abbrev pub IsShort : (pattern : Text) → Type 0
+unfoldable pub IsShort : (pattern : Text) → Type 0
 IsShort pattern = (tokens : List Token) × HasTokens pattern tokens × (length tokens < 64)

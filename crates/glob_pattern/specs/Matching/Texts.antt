@@ -38,11 +38,11 @@ AreAllowed o text k (t ∷ ts) (piece ∷ pieces) =
     × AreAllowed o text (k + length piece) ts pieces
 
 -- the text is a concatenation of allowed pieces, one a token
-abbrev pub TokensMatch : MatchOptions → List Token → Text → Type 0
+unfoldable pub TokensMatch : MatchOptions → List Token → Text → Type 0
 TokensMatch o tokens text =
     (pieces : List Text) × (concat pieces ≡ text) × AreAllowed o text 0 tokens pieces
 
 -- the pattern is accepted, and its tokens match the text
-abbrev pub Matches : MatchOptions → (pattern : Text) → Text → Type 0
+unfoldable pub Matches : MatchOptions → (pattern : Text) → Text → Type 0
 Matches o pattern text =
     (tokens : List Token) × HasTokens pattern tokens × TokensMatch o tokens text

@@ -5,6 +5,7 @@ use Rattle.std.specs.Int.{IsBitSet}
 use Rattle.glob_pattern.specs.Matching.Options.{new_options}
 use Rattle.glob_pattern.specs.Matching.Taking.{takes, is_excluded_separator, is_excluded_dot}
 use Rattle.glob_pattern.specs.declared.options.MatchOptions.{MatchOptions}
+use Rattle.glob_pattern.specs.declared.pattern.masks.Kinds.{Kinds}
 use Rattle.glob_pattern.specs.declared.pattern.masks.TokenMasks.{TokenMasks}
 use Rattle.glob_pattern.specs.declared.token.Token.TheVariants.{Plain, Any, Run, Deep, Within, Except}
 
@@ -30,6 +31,15 @@ is_bracket Deep = false
 is_bracket (Within entries) = true
 is_bracket (Except entries) = true
 
+-- the token takes all characters but a few, where no rule applies: it is a wildcard or a `[!..]`
+abbrev pub is_wide : Token → Bool
+is_wide (Plain c) = false
+is_wide Any = true
+is_wide Run = true
+is_wide Deep = true
+is_wide (Within entries) = false
+is_wide (Except entries) = true
+
 -- a rule excludes the character from the token
 abbrev pub is_excluded : MatchOptions → (opening : Bool) → ℕ → Token → Bool
 is_excluded o opening c (Plain x) = false
@@ -50,6 +60,13 @@ pub record IsMask (tokens : List Token) (start end : ℕ) (test : Token → Bool
       → IsBitSet mask j
       ↔ ((start + j < end) × IsTrue (test (slice_index_or tokens (start + j) Any)))
 
+-- the kinds of the tokens from number `start` up to `end`
+pub record AreKinds (tokens : List Token) (start end : ℕ) (kinds : Kinds) : Type 0 where
+  pub any_or_run : IsMask tokens start end is_any_or_run kinds.any_or_run
+  pub deep : IsMask tokens start end is_deep kinds.deep
+  pub brackets : IsMask tokens start end is_bracket kinds.brackets
+  pub wide : IsMask tokens start end is_wide kinds.wide
+
 -- the masks of the tokens from number `start` up to `end`
 pub record AreMasks (tokens : List Token) (start end : ℕ) (masks : TokenMasks) : Type 0 where
   pub characters : (c : ℕ) → c < 128
@@ -69,9 +86,9 @@ pub record IsPut (old new bit : ℕ) (P : Type 0) : Type 0 where
   pub here : IsBitSet new bit ↔ P
   pub others : (j : ℕ) → j < 64 → j ≢ bit → IsBitSet new j ↔ IsBitSet old j
 
--- the bit is set in none of the masks
-pub record IsClear (masks : TokenMasks) (bit : ℕ) : Type 0 where
-  pub characters : (c : ℕ) → c < 128 → ¬ (IsBitSet (mask_of c masks) bit)
-  pub any_or_run : ¬ (IsBitSet masks.any_or_run bit)
-  pub deep : ¬ (IsBitSet masks.deep bit)
-  pub brackets : ¬ (IsBitSet masks.brackets bit)
+-- the bit is of no kind
+pub record IsClear (kinds : Kinds) (bit : ℕ) : Type 0 where
+  pub any_or_run : ¬ (IsBitSet kinds.any_or_run bit)
+  pub deep : ¬ (IsBitSet kinds.deep bit)
+  pub brackets : ¬ (IsBitSet kinds.brackets bit)
+  pub wide : ¬ (IsBitSet kinds.wide bit)

@@ -41,12 +41,12 @@ pub record HoldsPlain (tokens : List Token) (pattern : List ℕ) (start end : �
   pub spelt : slice_range pattern start end ≡ encode_utf8_all plain
 
 -- the bytes have these ones somewhere, once capital letters are made small
-pub record ContainsSmall (bytes run : List ℕ) : Type 0 where
+pub record ContainsSmall (bytes stretch : List ℕ) : Type 0 where
   pub before : List ℕ
   pub here : List ℕ
   pub after : List ℕ
   pub split : bytes ≡ before ++ (here ++ after)
-  pub small : map to_ascii_lowercase here ≡ map to_ascii_lowercase run
+  pub small : map to_ascii_lowercase here ≡ map to_ascii_lowercase stretch
 
 -- the first bytes differ, and that of the pattern begins no wildcard and no bracket
 pub record DiffersAtOnce (pattern bytes : List ℕ) : Type 0 where

@@ -1,6 +1,6 @@
 -- Positions among shapes as bits: words of 64 bits that say which shapes there are and what pieces they may have, and
 -- of leading shapes whether they are alive.
-use Rattle.std.specs.Prelude.{◌≡◌, ℕ, ◌+◌, ◌*◌, ◌/◌, ◌<◌, ◌≤◌, ◌≢◌, ◌↔◌, Bool, List, length, slice_index_or, IsTrue}
+use Rattle.std.specs.Prelude.{◌≡◌, ℕ, ◌+◌, ◌-◌, ◌*◌, ◌/◌, ◌<◌, ◌≤◌, ◌≢◌, ◌↔◌, Bool, List, length, slice_index_or, IsTrue}
 use Rattle.std.specs.Int.{IsBitSet}
 use Rattle.glob_pattern.specs.Matching.Splits.{Table}
 use Rattle.glob_pattern.specs.Private.Prefixes.{PrefixSplits, IsAlive, HasTaken}
@@ -24,6 +24,12 @@ pub record AreShapeMasks (shapes : List Shape) (start end : ℕ) (masks : ShapeM
 pub record AliveWord (table : Table) (shapes : List Shape) (start k word : ℕ) : Type 0 where
   pub alive : (j : ℕ) → j < 64 → start + j ≤ length shapes
       → IsBitSet word j ↔ IsAlive table shapes (start + j) k
+
+-- the word has the last shape, whose pieces may have any length
+pub record MayTakeRest (shapes : List Shape) (word : ℕ) : Type 0 where
+  pub some : 0 < length shapes
+  pub alive : IsBitSet word (length shapes - 1)
+  pub grows : slice_index_or shapes (length shapes - 1) One ≢ One
 
 -- the word says of the tokens from number `start` on, 64 at most, whether they have taken the character before place k
 pub record TakenWord (table : Table) (shapes : List Shape) (start k word : ℕ) : Type 0 where

@@ -33,3 +33,8 @@ pub record IsTakenPrefix (table : Table) (shapes : List Shape) (n : ℕ) : Type 
   pub within : n ≤ length shapes
   pub ones : (j : ℕ) → j < n → slice_index_or shapes j One ≡ One
   pub taken : TakenByLast table shapes n
+
+-- Where something is alive at place k, each character since place `from` was asked about: the count was `start` there.
+abbrev pub IsAskedSince : Table → List Shape → (start from k count : ℕ) → Type 0
+IsAskedSince table shapes start from k count =
+    (n : ℕ) → n ≤ length shapes → IsAlive table shapes n k → start + k ≤ count + from

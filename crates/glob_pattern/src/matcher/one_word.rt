@@ -1,9 +1,9 @@
 //! Matching with at most 63 shapes, whose position set is one word and is never allocated.
 ghost use Rattle.std.specs.Prelude.{◌≡◌, ℕ, ◌+◌, ◌-◌, ◌*◌, ◌^◌, ◌<◌, ◌≤◌, ◌↔◌, false, length, IsTrue};
 ghost use Rattle.glob_pattern.specs.Matching.Splits.{Table, Splits};
-ghost use Rattle.glob_pattern.specs.Private.Prefixes.{IsAlive, IsTakenPrefix};
+ghost use Rattle.glob_pattern.specs.Private.Prefixes.{IsAlive, IsAskedSince, IsTakenPrefix};
 ghost use Rattle.std.specs.Int.{IsBitSet};
-ghost use Rattle.glob_pattern.specs.Private.Positions.{AreShapeMasks, AliveWord};
+ghost use Rattle.glob_pattern.specs.Private.Positions.{AreShapeMasks, AliveWord, MayTakeRest};
 
 use super::shape_masks::{ShapeMasks, last_before};
 use super::{Judge, Shape};
@@ -38,6 +38,9 @@ pub fn run_one_word<J: Judge>(shapes: &[Shape], prefix: usize, judge: &mut J) ->
     let matcher = OneWordMatcher::new(shapes);
     let mut positions = matcher.first(prefix, judge.opens());
     while matcher.goes_on(positions) {
+        if matcher.takes_rest(positions, judge) {
+            return true;
+        }
         if !judge.step() {
             return matcher.is_whole(positions);
         }
@@ -78,23 +81,63 @@ impl<'a> OneWordMatcher<'a> {
         positions & self.masks.tokens != 0
     }
 
+    /// Whether the last shape may take further characters, of any number.
+    #[inline(always)]
+    fn is_last_alive(&self, positions: u64) -> bool
+        ensures { IsTrue result → MayTakeRest self.now.shapes.now positions }
+    {
+        positions & self.masks.growing & last_before(self.shapes.len(), 0) != 0
+    }
+
+    /// Whether the last shape may take all characters that are left, and its token takes them: then they split.
+    #[inline(always)]
+    fn takes_rest<J: Judge>(&self, positions: u64, judge: &mut J) -> bool
+        requires within { J.place judge.old ≤ (J.table judge.old).characters }
+        requires tokens { length self.now.shapes.now
+            ≤ (J.table judge.old).tokens }
+        requires room { J.count judge.old + length self.now.shapes.now
+            * ((J.table judge.old).characters - J.place judge.old) < 2 ^ 128 }
+        requires positions { AliveWord (J.table judge.old) self.now.shapes.now 0
+            (J.place judge.old) positions }
+        ensures splits { IsTrue result
+            → Splits (J.table judge.old) self.now.shapes.now }
+        ensures alive { IsTrue result
+            → IsAlive (J.table judge.old) self.now.shapes.now (length self.now.shapes.now - 1)
+            (J.place judge.old) }
+        ensures most { IsTrue result → J.count judge.new
+            ≤ J.count judge.old + length self.now.shapes.now
+            * ((J.table judge.old).characters - J.place judge.old) }
+        ensures asked { IsTrue result → J.count judge.new
+            ≡ J.count judge.old + ((J.table judge.old).characters - J.place judge.old) }
+        ensures unasked { result ≡ false → J.count judge.new ≡ J.count judge.old }
+        ensures place { J.place judge.new ≡ J.place judge.old }
+        ensures same { J.table judge.new ≡ J.table judge.old }
+    {
+        self.is_last_alive(positions) && judge.takes_rest(self.shapes.len() - 1)
+    }
+
     /// The position set of the place of a judge that has stepped, from the position set of the place before.
     #[inline(always)]
     fn next<J: Judge>(&self, positions: u64, judge: &mut J) -> u64
         requires stepped { 0 < J.place judge.old }
+        requires within { J.place judge.old ≤ (J.table judge.old).characters }
         requires tokens { length self.now.shapes.now
             ≤ (J.table judge.old).tokens }
         requires room { J.count judge.old + length self.now.shapes.now
-            < 2 ^ 128 }
+            * ((J.table judge.old).characters - (J.place judge.old - 1)) < 2 ^ 128 }
         requires positions { AliveWord (J.table judge.old) self.now.shapes.now 0
             (J.place judge.old - 1) positions }
         ensures positions { AliveWord (J.table judge.old) self.now.shapes.now 0
-            (J.place judge.old) result }
-        ensures most { J.count judge.new
-            ≤ J.count judge.old + length self.now.shapes.now }
-        ensures least { (n : ℕ) → n ≤ length self.now.shapes.now
-            → IsAlive (J.table judge.old) self.now.shapes.now n (J.place judge.old)
-            → J.count judge.old < J.count judge.new }
+            (J.place judge.new) result }
+        ensures most { J.count judge.new + length self.now.shapes.now
+            * ((J.table judge.old).characters - J.place judge.new)
+            ≤ J.count judge.old + length self.now.shapes.now
+            * ((J.table judge.old).characters - (J.place judge.old - 1)) }
+        ensures least { (start from : ℕ)
+            → IsAskedSince (J.table judge.old) self.now.shapes.now start from
+            (J.place judge.old - 1) (J.count judge.old)
+            → IsAskedSince (J.table judge.old) self.now.shapes.now start from
+            (J.place judge.new) (J.count judge.new) }
         ensures monotone { J.count judge.old ≤ J.count judge.new }
         ensures place { J.place judge.new ≡ J.place judge.old }
         ensures same { J.table judge.new ≡ J.table judge.old }

@@ -1,108 +1,101 @@
 //! Plain characters inside a pattern, which stand in each text that it matches.
-ghost use Rattle.std.specs.Prelude.{◌≡◌, false, IsTrue, chars};
+ghost use Rattle.std.specs.Prelude.{◌≡◌, ◌≤◌, false, length, IsTrue, chars};
 ghost use Rattle.std.specs.Str.{IsUtf8};
 ghost use Rattle.glob_pattern.specs.Matching.Texts.{Matches};
-ghost use Rattle.glob_pattern.specs.Private.PlainEnds.{HoldsPlain, BeginsPlain, HasPlain, ContainsSmall, DiffersAtOnce};
+ghost use Rattle.glob_pattern.specs.Private.PlainEnds.{HoldsPlain, BeginsPlain, HasPlain};
 
 use crate::options::MatchOptions;
 use crate::pattern::Pattern;
 use crate::pattern::ends::may_match;
+use crate::pattern::letters::{contains_small, rarest};
 use crate::token::Token;
 use crate::token::bracket::Bracket;
 use std::alloc::Allocator;
 
-/// A run has this many bytes at least: one stands in most texts, so that looking for it decides little.
+/// A stretch has this many bytes at least: one stands in most texts, so that looking for it decides little.
 const SHORTEST: usize = 2;
 
-/// A run is cut to this many bytes.
+/// A stretch is cut to this many bytes, or a few less so that no character is cut.
 const LONGEST: usize = 32;
 
 /// Shorter texts are matched at once.
 const SHORTEST_TEXT: usize = 16;
 
-/// Whether the pattern may match the text: whether the text ends as the pattern does, and has the plain run inside the
-/// pattern. Where the answer is `false` there is no match.
+/// Bytes of a pattern's text that stand together.
+#[derive(Clone, Copy)]
+pub struct Stretch {
+    /// The place of the first of them.
+    pub start: usize,
+    /// The place after the last of them.
+    pub end: usize,
+    /// Among them the place of the one that texts have least often.
+    pub rare: usize,
+}
+
+impl Stretch {
+    /// No bytes.
+    pub const NONE: Stretch = Stretch {
+        start: 0,
+        end: 0,
+        rare: 0,
+    };
+}
+
+/// Whether the pattern may match the text: whether the text begins and ends as the pattern does, and has the plain
+/// characters inside the pattern. Where the answer is `false` there is no match.
 #[inline(always)]
 pub fn may_match_text<A: Allocator>(pattern: &Pattern<A>, str: &str, options: MatchOptions) -> bool
     ensures { result ≡ false → ¬ (Matches options (chars pattern.now) (chars str.now)) }
 {
-    let bytes = str.as_bytes();
-    if options.case_sensitive && differs_at_once(pattern.text.as_str().as_bytes(), bytes) {
+    if !may_match(pattern, str.as_bytes(), options) {
         return false;
     }
-    if !may_match(pattern, bytes, options) {
-        return false;
-    }
-    pattern.run_start == pattern.run_end
+    pattern.inner.start == pattern.inner.end
         || str.len() < SHORTEST_TEXT
-        || has_run_inside(pattern, str, options)
+        || has_inner_text(pattern, str)
 }
 
-/// Whether the first bytes differ, where that of the pattern is plain.
-#[inline(always)]
-fn differs_at_once(pattern: &[u8], bytes: &[u8]) -> bool
-    ensures { IsTrue result → DiffersAtOnce pattern.now bytes.now }
-{
-    if pattern.is_empty() || bytes.is_empty() {
-        return false;
-    }
-    let first = pattern[0];
-    first != bytes[0] && first != b'*' && first != b'?' && first != b'['
-}
-
-/// Whether the text has the plain run inside the pattern.
+/// Whether the text has the plain characters inside the pattern, where letters of ASCII in either case are the same.
+/// With case too: few texts have them in another case alone, and these are told by the match.
 #[inline(never)]
-fn has_run_inside<A: Allocator>(pattern: &Pattern<A>, str: &str, options: MatchOptions) -> bool
-    ensures { result ≡ false → ¬ (Matches options (chars pattern.now) (chars str.now)) }
+fn has_inner_text<A: Allocator>(pattern: &Pattern<A>, str: &str) -> bool
+    ensures { result ≡ false → (o : MatchOptions)
+        → ¬ (Matches o (chars pattern.now) (chars str.now)) }
 {
     let text = pattern.text.as_str();
-    let Some(run) = text.get(pattern.run_start..pattern.run_end) else {
+    let Some(stretch) = text.get(pattern.inner.start..pattern.inner.end) else {
         return true;
     };
-    if options.case_sensitive {
-        str.contains(run)
-    } else {
-        contains_small(str.as_bytes(), run.as_bytes())
-    }
+    contains_small(str.as_bytes(), stretch.as_bytes(), pattern.inner.rare)
 }
 
-/// Whether the bytes have those of the run somewhere, where letters of ASCII in either case are the same.
-fn contains_small(bytes: &[u8], run: &[u8]) -> bool
-    ensures { ContainsSmall bytes.now run.now → IsTrue result }
+/// The longest stretch of bytes of the pattern that are plain tokens, neither its first nor its last ones: `config` in
+/// `*config*`; or no bytes.
+pub fn inner_text<A: Allocator>(pattern: &str, tokens: &[Token<Bracket<A>>]) -> Stretch
+    ensures { HoldsPlain tokens.now pattern.now result.start result.end }
 {
-    if bytes.len() < run.len() {
-        return false;
-    }
-    for start in 0..bytes.len() - run.len() {
-        if bytes[start..start + run.len()].eq_ignore_ascii_case(run) {
-            return true;
-        }
-    }
-    bytes[bytes.len() - run.len()..].eq_ignore_ascii_case(run)
-}
-
-/// Where bytes of the pattern stand that are plain tokens, neither its first nor its last ones: `config` in
-/// `*config*`. Without such bytes both places are 0.
-pub fn inner_run<A: Allocator>(pattern: &str, tokens: &[Token<Bracket<A>>]) -> (usize, usize)
-    ensures { HoldsPlain tokens.now pattern.now result.0 result.1 }
-{
-    let (start, end) = longest_stretch(pattern.as_bytes());
-    if let Some(run) = pattern.get(start..end)
-        && has_run(tokens, run)
+    let (start, after) = longest_stretch(pattern.as_bytes());
+    let end = whole_characters(pattern, start, after);
+    if let Some(stretch) = pattern.get(start..end)
+        && has_stretch(tokens, stretch)
     {
-        return (start, end);
+        let rare = rarest(stretch.as_bytes());
+        return Stretch { start, end, rare };
     }
-    (0, 0)
+    Stretch::NONE
 }
 
 /// Where the longest stretch without wildcards and brackets stands between two of them, without a leading `/`, which
 /// may belong to a `**`. It may be something else in an odd pattern: what it is has to be looked at.
-fn longest_stretch(pattern: &[u8]) -> (usize, usize) {
+fn longest_stretch(pattern: &[u8]) -> (usize, usize)
+    ensures order { result.0 ≤ result.1 }
+    ensures within { result.1 ≤ length pattern.now }
+{
     let mut longest = (0, 0);
     let mut len = SHORTEST - 1;
     let mut start = 0usize;
-    for (place, byte) in pattern.iter().enumerate() {
-        match *byte {
+    for place in 0..pattern.len() {
+        match pattern[place] {
             b'*' | b'?' | b'[' => {
                 let end = place.min(start.saturating_add(LONGEST));
                 if start > 0 && end.saturating_sub(start) > len {
@@ -119,14 +112,25 @@ fn longest_stretch(pattern: &[u8]) -> (usize, usize) {
     longest
 }
 
-/// Whether plain tokens that stand together are the characters of the run.
-fn has_run<A: Allocator>(tokens: &[Token<Bracket<A>>], run: &str) -> bool
-    ensures has { IsTrue result → HasPlain tokens.now (chars run.now) }
-    ensures utf8 { IsUtf8 run.now }
+/// The end of a stretch, moved to the left so that no character is cut.
+fn whole_characters(pattern: &str, start: usize, end: usize) -> usize
+    ensures { result ≤ end }
+{
+    let mut cut = end;
+    while start < cut && pattern.get(start..cut).is_none() {
+        cut -= 1;
+    }
+    cut
+}
+
+/// Whether plain tokens that stand together are the characters of the stretch.
+fn has_stretch<A: Allocator>(tokens: &[Token<Bracket<A>>], stretch: &str) -> bool
+    ensures has { IsTrue result → HasPlain tokens.now (chars stretch.now) }
+    ensures utf8 { IsUtf8 stretch.now }
 {
     let mut rest = tokens;
     while let [_, others @ ..] = rest {
-        if begins_with_run(rest, run) {
+        if begins_with_stretch(rest, stretch) {
             return true;
         }
         rest = others;
@@ -134,12 +138,12 @@ fn has_run<A: Allocator>(tokens: &[Token<Bracket<A>>], run: &str) -> bool
     false
 }
 
-/// Whether the first tokens are the characters of the run.
-fn begins_with_run<A: Allocator>(tokens: &[Token<Bracket<A>>], run: &str) -> bool
-    ensures { IsTrue result → BeginsPlain tokens.now (chars run.now) }
+/// Whether the first tokens are the characters of the stretch.
+fn begins_with_stretch<A: Allocator>(tokens: &[Token<Bracket<A>>], stretch: &str) -> bool
+    ensures { IsTrue result → BeginsPlain tokens.now (chars stretch.now) }
 {
     let mut rest = tokens;
-    for c in run.chars() {
+    for c in stretch.chars() {
         let [first, others @ ..] = rest else {
             return false;
         };

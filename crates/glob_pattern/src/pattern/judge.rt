@@ -1,4 +1,5 @@
-ghost use Rattle.std.specs.Prelude.{◌≡◌, length, chars};
+ghost use Rattle.std.specs.Prelude.{◌≡◌, ℕ, ◌+◌, ◌*◌, ◌^◌, ◌<◌, length, IsTrue, chars};
+ghost use Rattle.std.specs.Int.{IsBitSet};
 ghost use Rattle.std.specs.Str.Iter.{chars_rest};
 ghost use Rattle.glob_pattern.specs.Private.Stepping.{StandsBefore, place_before};
 ghost use Rattle.glob_pattern.specs.Private.TextTable.{table_of};
@@ -27,9 +28,14 @@ pub struct TextJudge<'a, A: Allocator> {
     opened: bool,
     // whether a component begins at the place after it
     opens: bool,
+    // how often it was asked about one character
     count: u128,
+    // whether it may answer for all characters that are left, and those for which it has
+    takes_rests: bool,
+    passed: &'a str,
     ghost masked: { AreAllMasks tokens.now masks.now },
     ghost stands: { StandsBefore (chars text.now) (chars (chars_rest rest)) current opened opens },
+    ghost counts: { count + length (chars passed.now) < 2 ^ 128 },
 }
 
 impl<'a, A: Allocator> TextJudge<'a, A> {
@@ -45,7 +51,7 @@ impl<'a, A: Allocator> TextJudge<'a, A> {
         ensures tokens { result.tokens.now ≡ tokens.now }
         ensures text { result.text.now ≡ text.now }
         ensures options { result.options ≡ options }
-        ensures count { result.count ≡ 0 }
+        ensures count { result.count + length (chars result.passed.now) ≡ 0 }
         ensures start { place_before (chars text.now) (chars (chars_rest result.rest))
             ≡ 0 }
     {
@@ -59,7 +65,31 @@ impl<'a, A: Allocator> TextJudge<'a, A> {
             opened: true,
             opens: true,
             count: 0,
+            takes_rests: false,
+            passed: "",
         }
+    }
+
+    /// The same, by a judge that need not be asked about each character: where a token takes all that are left, it may
+    /// say so at once.
+    #[inline(always)]
+    pub fn taking_rests(
+        tokens: &'a [Token<Bracket<A>>],
+        masks: &'a [TokenMasks],
+        text: &'a str,
+        options: MatchOptions,
+    ) -> Self
+        requires { AreAllMasks tokens.now masks.now }
+        ensures tokens { result.tokens.now ≡ tokens.now }
+        ensures text { result.text.now ≡ text.now }
+        ensures options { result.options ≡ options }
+        ensures count { result.count + length (chars result.passed.now) ≡ 0 }
+        ensures start { place_before (chars text.now) (chars (chars_rest result.rest))
+            ≡ 0 }
+    {
+        let mut judge = TextJudge::new(tokens, masks, text, options);
+        judge.takes_rests = true;
+        judge
     }
 }
 
@@ -69,7 +99,7 @@ impl<A: Allocator> Judge for TextJudge<'_, A> {
 
     ghost place = { λ j. place_before (chars j.text.now) (chars (chars_rest j.rest)) };
 
-    ghost count = { λ j. j.count };
+    ghost count = { λ j. j.count + length (chars j.passed.now) };
 
     #[inline(always)]
     fn step(&mut self) -> bool {
@@ -118,7 +148,34 @@ impl<A: Allocator> Judge for TextJudge<'_, A> {
     }
 
     #[inline(always)]
-    fn asked(&self) -> u128 {
-        self.count
+    fn takes_rest(&mut self, token: usize) -> bool {
+        let options = self.options;
+        if !self.takes_rests
+            || options.require_literal_separator
+            || options.require_literal_leading_dot
+            || !self.passed.is_empty()
+        {
+            return false;
+        }
+        match self.tokens[token] {
+            Token::Run | Token::Deep => {
+                // Counted only if anyone asks for the count.
+                self.passed = self.rest.as_str();
+                true
+            }
+            _ => false,
+        }
     }
+
+    #[inline(always)]
+    fn asked(&self) -> u128 {
+        self.count + characters_of(self.passed) as u128
+    }
+}
+
+/// How many characters the text has.
+fn characters_of(text: &str) -> usize
+    ensures { result ≡ length (chars text.now) }
+{
+    text.chars().count()
 }

@@ -1,12 +1,12 @@
 //! Masks: for each 64 tokens, which of them take each character of ASCII, and which are wildcards or brackets.
-ghost use Rattle.std.specs.Prelude.{◌≡◌, ℕ, ◌+◌, ◌<◌, ◌≤◌, ◌⊎◌, ◌↔◌, true, false, List, length, slice_index_or, IsTrue, IfOk};
+ghost use Rattle.std.specs.Prelude.{◌≡◌, ◌≢◌, ℕ, ◌+◌, ◌<◌, ◌≤◌, ◌⊎◌, ◌↔◌, true, false, List, length, slice_index_or, IsTrue, IfOk};
 ghost use Rattle.glob_pattern.specs.Grammar.Brackets.{holds};
 ghost use Rattle.std.specs.Int.{IsBitSet};
 ghost use Rattle.glob_pattern.specs.Matching.Options.{new_options};
 ghost use Rattle.glob_pattern.specs.Matching.Taking.{takes};
 ghost use Rattle.glob_pattern.specs.Grammar.Tokens.{Token as Kept, is_deep};
 ghost use Rattle.glob_pattern.specs.declared.token.Token.TheVariants.{Any};
-ghost use Rattle.glob_pattern.specs.Private.Masks.{mask_of, is_any_or_run, is_bracket, is_excluded, IsPut, IsClear, AreMasks, AreAllMasks, TakesBit};
+ghost use Rattle.glob_pattern.specs.Private.Masks.{is_any_or_run, is_bracket, is_wide, is_excluded, IsPut, IsClear, AreKinds, AreMasks, AreAllMasks, TakesBit};
 
 use crate::options::MatchOptions;
 use crate::token::Token;
@@ -48,52 +48,18 @@ impl TokenMasks {
         requires { start ≤ length tokens.now }
         ensures { AreMasks tokens.now start (length tokens.now) result }
     {
+        let end = tokens.len().min(start.saturating_add(64));
+        let kinds = Kinds::of(tokens, start, end);
         let mut masks = TokenMasks {
-            characters: [0; 128],
-            any_or_run: 0,
-            deep: 0,
-            brackets: 0,
+            characters: [kinds.wide; 128],
+            any_or_run: kinds.any_or_run,
+            deep: kinds.deep,
+            brackets: kinds.brackets,
         };
-        for n in start..tokens.len().min(start.saturating_add(64)) {
-            masks.add(n - start, &tokens[n]);
+        for n in start..end {
+            paint_token(&mut masks.characters, n - start, &tokens[n]);
         }
         masks
-    }
-
-    /// Sets the bit of a token in the masks that it is in. Before, the bit is set in none of them.
-    fn add<A: Allocator>(&mut self, bit: usize, token: &Token<Bracket<A>>)
-        requires bit { bit < 64 }
-        requires clear { IsClear self.old bit }
-        ensures characters { (c : ℕ) → c < 128
-            → IsPut (mask_of c self.old) (mask_of c self.new) bit
-            (IsTrue (takes new_options true c token.now)) }
-        ensures any_or_run { IsPut self.old.any_or_run self.new.any_or_run bit
-            (IsTrue (is_any_or_run token.now)) }
-        ensures deep { IsPut self.old.deep self.new.deep bit
-            (IsTrue (is_deep token.now)) }
-        ensures brackets { IsPut self.old.brackets self.new.brackets bit
-            (IsTrue (is_bracket token.now)) }
-    {
-        match token {
-            Token::Plain(c) => paint(&mut self.characters, bit, *c, *c, true),
-            Token::Any | Token::Run => {
-                paint(&mut self.characters, bit, '\0', '\u{7f}', true);
-                self.any_or_run = put_bit(self.any_or_run, bit, true);
-            }
-            Token::Deep => {
-                paint(&mut self.characters, bit, '\0', '\u{7f}', true);
-                self.deep = put_bit(self.deep, bit, true);
-            }
-            Token::Within(bracket) => {
-                paint_entries(&mut self.characters, bit, bracket.entries(), true);
-                self.brackets = put_bit(self.brackets, bit, true);
-            }
-            Token::Except(bracket) => {
-                paint(&mut self.characters, bit, '\0', '\u{7f}', true);
-                paint_entries(&mut self.characters, bit, bracket.entries(), false);
-                self.brackets = put_bit(self.brackets, bit, true);
-            }
-        }
     }
 
     /// Of the tokens that are asked, those that take the character by the masks, and those that the masks do not
@@ -147,6 +113,103 @@ impl TokenMasks {
         } else {
             0
         }
+    }
+}
+
+/// Of neighbouring tokens, 64 at most, those of each kind.
+#[derive(Clone, Copy)]
+struct Kinds {
+    /// Those that are `?` or `*`.
+    any_or_run: u64,
+    /// Those that are `**`.
+    deep: u64,
+    /// Those that are brackets.
+    brackets: u64,
+    /// Those that take all characters but a few: wildcards and `[!..]`.
+    wide: u64,
+}
+
+impl Kinds {
+    /// The kinds of the tokens from number `start` up to `end`.
+    fn of<A: Allocator>(tokens: &[Token<Bracket<A>>], start: usize, end: usize) -> Self
+        requires order { start ≤ end }
+        requires few { end ≤ start + 64 }
+        requires within { end ≤ length tokens.now }
+        ensures { AreKinds tokens.now start end result }
+    {
+        let mut kinds = Kinds {
+            any_or_run: 0,
+            deep: 0,
+            brackets: 0,
+            wide: 0,
+        };
+        for n in start..end {
+            kinds = kinds.with(n - start, &tokens[n]);
+        }
+        kinds
+    }
+
+    /// These and one token more, whose bit is set in none of them.
+    fn with<A: Allocator>(self, bit: usize, token: &Token<Bracket<A>>) -> Self
+        requires bit { bit < 64 }
+        requires clear { IsClear self bit }
+        ensures any_or_run { IsPut self.any_or_run result.any_or_run bit
+            (IsTrue (is_any_or_run token.now)) }
+        ensures deep { IsPut self.deep result.deep bit (IsTrue (is_deep token.now)) }
+        ensures brackets { IsPut self.brackets result.brackets bit
+            (IsTrue (is_bracket token.now)) }
+        ensures wide { IsPut self.wide result.wide bit (IsTrue (is_wide token.now)) }
+    {
+        let mut kinds = self;
+        match token {
+            Token::Plain(_) => {}
+            Token::Any | Token::Run => {
+                kinds.any_or_run = put_bit(kinds.any_or_run, bit, true);
+                kinds.wide = put_bit(kinds.wide, bit, true);
+            }
+            Token::Deep => {
+                kinds.deep = put_bit(kinds.deep, bit, true);
+                kinds.wide = put_bit(kinds.wide, bit, true);
+            }
+            Token::Within(_) => kinds.brackets = put_bit(kinds.brackets, bit, true),
+            Token::Except(_) => {
+                kinds.brackets = put_bit(kinds.brackets, bit, true);
+                kinds.wide = put_bit(kinds.wide, bit, true);
+            }
+        }
+        kinds
+    }
+}
+
+/// Sets the bit of a token in the masks of the characters that it takes with case where no rule applies, and in no
+/// others. Before, the bit is set in all if the token takes all characters but a few, and else in none.
+fn paint_token<A: Allocator>(characters: &mut [u64; 128], bit: usize, token: &Token<Bracket<A>>)
+    requires bit { bit < 64 }
+    requires before { (c : ℕ) → c < 128
+        → IsBitSet (slice_index_or characters.old c 0) bit ↔ IsTrue (is_wide token.now) }
+    ensures { (c : ℕ) → c < 128
+        → IsPut (slice_index_or characters.old c 0) (slice_index_or characters.new c 0) bit
+        (IsTrue (takes new_options true c token.now)) }
+{
+    match token {
+        Token::Plain(c) => paint_one(characters, bit, *c),
+        Token::Any | Token::Run | Token::Deep => {}
+        Token::Within(bracket) => paint_entries(characters, bit, bracket.entries(), true),
+        Token::Except(bracket) => paint_entries(characters, bit, bracket.entries(), false),
+    }
+}
+
+/// Sets the bit in the mask of a character, if it is of ASCII.
+fn paint_one(characters: &mut [u64; 128], bit: usize, x: char)
+    requires { bit < 64 }
+    ensures painted { x < 128
+        → IsPut (slice_index_or characters.old x 0) (slice_index_or characters.new x 0) bit
+        (IsTrue true) }
+    ensures others { (c : ℕ) → c ≢ x
+        → slice_index_or characters.new c 0 ≡ slice_index_or characters.old c 0 }
+{
+    if x.is_ascii() {
+        characters[x as usize] = put_bit(characters[x as usize], bit, true);
     }
 }
 

@@ -4,6 +4,9 @@ ghost use Rattle.glob_pattern.specs.Grammar.Brackets.{entries_of, is_same, in_ra
 use std::alloc::{AllocError, Allocator, Global};
 use std::marker::Model;
 
+/// So many entries have room at once: those of most brackets, whose list then never grows.
+const FEW: usize = 16;
+
 /// An entry of a bracket.
 #[derive(Clone, Copy, Debug)]
 pub enum Entry {
@@ -58,7 +61,7 @@ impl<A: Allocator> Bracket<A> {
     pub fn read(alloc: A, content: &[char]) -> Result<Self, AllocError>
         ensures { IfOk result (λ bracket. bracket ≡ entries_of content.now) }
     {
-        let mut entries = Vec::new(alloc);
+        let mut entries = Vec::with_capacity(alloc, content.len().min(FEW))?;
         let mut rest = content;
         while let [first, others @ ..] = rest {
             if let [hyphen, last, after @ ..] = others

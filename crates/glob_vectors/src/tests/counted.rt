@@ -2,6 +2,7 @@
 use super::repeated::{Parts, text_of};
 use crate::judges::{Answers, TableJudge};
 use glob::{Judge, MatchOptions, Pattern, Shape, run_positions};
+use std::alloc::AllocError;
 use std::process::Abort;
 use std::test::Fail;
 
@@ -61,6 +62,21 @@ fn a_match_takes_few_questions(rt: HostRuntime) -> Result<(), Fail> {
     Ok(())
 }
 
+/// Adds the token beside the place of each character that it does not take. `*` and `?` take all.
+fn add_refused(
+    refused: &mut Vec<(usize, usize)>,
+    token: usize,
+    unit: char,
+    text: &str,
+) -> Result<(), AllocError> {
+    for (place, c) in text.chars().enumerate() {
+        if !matches!(unit, '*' | '?') && unit != c {
+            refused.push((token, place))?;
+        }
+    }
+    Ok(())
+}
+
 /// How many questions are asked of a judge of the same table, which counts them by itself. In the pattern `*` is any
 /// number of characters, `?` one, and each other character is itself.
 fn questions(rt: &(impl Abort + AllocGlobal), pattern: &str, text: &str) -> Result<u128, Fail> {
@@ -68,11 +84,7 @@ fn questions(rt: &(impl Abort + AllocGlobal), pattern: &str, text: &str) -> Resu
     let mut refused = Vec::new(rt.alloc());
     for (token, unit) in pattern.chars().enumerate() {
         shapes.push(if unit == '*' { Shape::Run } else { Shape::One })?;
-        for (place, c) in text.chars().enumerate() {
-            if !matches!(unit, '*' | '?') && unit != c {
-                refused.push((token, place))?;
-            }
-        }
+        add_refused(&mut refused, token, unit, text)?;
     }
     let answers = Answers {
         characters: text.chars().count(),

@@ -1,4 +1,5 @@
 //! Patterns on which a search that goes back would take long, and patterns of many tokens.
+use super::options::check_match;
 use super::repeated::{Parts, text_of};
 use glob::{MatchOptions, Pattern};
 use std::test::Fail;
@@ -41,8 +42,7 @@ fn many_tokens(rt: HostRuntime) -> Result<(), Fail> {
                 require_literal_separator,
                 ..MatchOptions::new()
             };
-            let found = pattern.matches_with(text.as_str(), options)?;
-            assert_eq!(rt; found, answer, "{} on {text}", pattern.as_str());
+            check_match(&rt, &pattern, text.as_str(), options, answer)?;
         }
     }
     Ok(())

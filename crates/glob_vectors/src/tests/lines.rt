@@ -5,47 +5,76 @@ use std::io::ErrorKind;
 use std::process::Abort;
 use std::test::Fail;
 
-#[test]
-fn matching_lines_are_copied(rt: HostRuntime) -> Result<(), Fail> {
-    let rows = [
-        ("*.rs", "a.rs\nb.c\n\nx.rs", "a.rs\nx.rs\n", 2),
-        ("*.rs", "a.rs\r\n", "", 0),
-        ("", "\n", "\n", 1),
-        ("*", "", "", 0),
-        ("a?", "ab", "ab\n", 1),
-        ("*", "ab\nc\n", "ab\nc\n", 2),
-        // Lines of 15, 16, 17, 0 and 33 bytes, and one without a line feed.
-        (
-            "*a",
-            "abcdefghijklmna\nabcdefghijklmnoa\nabcdefghijklmnopa\n\nabcdefghijklmnopqrstuvwxyz012345a\nxa",
-            "abcdefghijklmna\nabcdefghijklmnoa\nabcdefghijklmnopa\nabcdefghijklmnopqrstuvwxyz012345a\nxa\n",
-            5,
-        ),
-    ];
-    for (text, input, output, count) in rows {
-        for most in [1, 3, 100] {
-            let pattern = Pattern::new(rt.alloc(), text)?;
-            let mut reader = Watch::new(ShortReader::new(input.as_bytes(), most));
-            let mut writer = Watch::new(ShortWriter::new(rt.alloc(), most));
-            let options = MatchOptions::new();
-            let answer = filter_lines(rt.alloc(), &pattern, options, &mut reader, &mut writer)?;
-            assert_eq!(rt; answer, count, "{text}");
-            assert!(rt; !reader.failed() && !writer.failed());
-            assert_eq!(rt; writer.into_inner().written(), output.as_bytes(), "{text}");
-        }
-    }
-    Ok(())
+/// What a copy of the lines that a pattern matches came to.
+#[derive(Drop)]
+struct Outcome {
+    answer: Result<u64, LineFault>,
+    reader_failed: bool,
+    writer_failed: bool,
+    written: Vec<u8>,
 }
 
-#[test]
-fn a_line_that_is_no_text_never_matches(rt: HostRuntime) -> Result<(), Fail> {
-    let pattern = Pattern::new(rt.alloc(), "*")?;
-    let mut reader = Watch::new(ShortReader::new(b"\xff\na\n", 100));
-    let mut writer = Watch::new(ShortWriter::new(rt.alloc(), 100));
+/// Copies the lines of the reader that the pattern matches to the writer.
+fn copy(
+    rt: &impl AllocGlobal,
+    pattern: &str,
+    reader: ShortReader<'_>,
+    writer: ShortWriter,
+) -> Result<Outcome, Fail> {
+    let pattern = Pattern::new(rt.alloc(), pattern)?;
+    let mut reader = Watch::new(reader);
+    let mut writer = Watch::new(writer);
     let options = MatchOptions::new();
-    let answer = filter_lines(rt.alloc(), &pattern, options, &mut reader, &mut writer)?;
-    assert_eq!(rt; answer, 1);
-    assert_eq!(rt; writer.into_inner().written(), b"a\n".as_slice());
+    let answer = filter_lines(rt.alloc(), &pattern, options, &mut reader, &mut writer);
+    Ok(Outcome {
+        answer,
+        reader_failed: reader.failed(),
+        writer_failed: writer.failed(),
+        written: Vec::from_slice(rt.alloc(), writer.into_inner().written())?,
+    })
+}
+
+/// Copies the lines of the input that the pattern matches, at most so many bytes a call: how many, and what is written.
+pub(super) fn copied(
+    rt: &(impl Abort + AllocGlobal),
+    pattern: &str,
+    input: &[u8],
+    most: usize,
+) -> Result<(u64, Vec<u8>), Fail> {
+    let writer = ShortWriter::new(rt.alloc(), most);
+    let outcome = copy(rt, pattern, ShortReader::new(input, most), writer)?;
+    assert!(rt; !outcome.reader_failed && !outcome.writer_failed);
+    Ok((outcome.answer?, outcome.written))
+}
+
+/// A pattern, an input, what is copied of it, and how many lines that is.
+const ROWS: [(&str, &[u8], &[u8], u64); 8] = [
+    ("*.rs", b"a.rs\nb.c\n\nx.rs", b"a.rs\nx.rs\n", 2),
+    ("*.rs", b"a.rs\r\n", b"", 0),
+    ("", b"\n", b"\n", 1),
+    ("*", b"", b"", 0),
+    ("a?", b"ab", b"ab\n", 1),
+    ("*", b"ab\nc\n", b"ab\nc\n", 2),
+    // A line that is not UTF-8 never matches.
+    ("*", b"\xff\na\n", b"a\n", 1),
+    // Lines of 15, 16, 17, 0 and 33 bytes, and one without a line feed.
+    (
+        "*a",
+        b"abcdefghijklmna\nabcdefghijklmnoa\nabcdefghijklmnopa\n\nabcdefghijklmnopqrstuvwxyz012345a\nxa",
+        b"abcdefghijklmna\nabcdefghijklmnoa\nabcdefghijklmnopa\nabcdefghijklmnopqrstuvwxyz012345a\nxa\n",
+        5,
+    ),
+];
+
+#[test]
+fn matching_lines_are_copied(rt: HostRuntime) -> Result<(), Fail> {
+    for (pattern, input, output, lines) in ROWS {
+        for most in [1, 3, 100] {
+            let (count, written) = copied(&rt, pattern, input, most)?;
+            assert_eq!(rt; count, lines, "{pattern}");
+            assert_eq!(rt; written.as_slice(), output, "{pattern}");
+        }
+    }
     Ok(())
 }
 
@@ -66,16 +95,14 @@ fn check_reader(
     call: u64,
     kind: ErrorKind,
 ) -> Result<(), Fail> {
-    let pattern = Pattern::new(rt.alloc(), "*")?;
-    let mut reader = Watch::new(ShortReader::new(input, most).failing_at(call, kind));
-    let mut writer = Watch::new(ShortWriter::new(rt.alloc(), 100));
-    let options = MatchOptions::new();
-    match filter_lines(rt.alloc(), &pattern, options, &mut reader, &mut writer) {
+    let reader = ShortReader::new(input, most).failing_at(call, kind);
+    let outcome = copy(rt, "*", reader, ShortWriter::new(rt.alloc(), 100))?;
+    match outcome.answer {
         Err(LineFault::Read(error)) => assert!(rt; error.kind() == kind),
         _ => panic!(rt; "no fault of the reader"),
     }
-    assert!(rt; reader.failed() && !writer.failed());
-    assert!(rt; writer.into_inner().written().is_empty());
+    assert!(rt; outcome.reader_failed && !outcome.writer_failed);
+    assert!(rt; outcome.written.is_empty());
     Ok(())
 }
 
@@ -100,20 +127,18 @@ fn check_writer(
     refusal: Refusal,
     written: &[u8],
 ) -> Result<(), Fail> {
-    let pattern = Pattern::new(rt.alloc(), "*")?;
-    let mut reader = Watch::new(ShortReader::new(b"ab\n\xff\nc", 100));
-    let mut writer = Watch::new(ShortWriter::new(rt.alloc(), most).refusing_at(call, refusal));
+    let writer = ShortWriter::new(rt.alloc(), most).refusing_at(call, refusal);
+    let outcome = copy(rt, "*", ShortReader::new(b"ab\n\xff\nc", 100), writer)?;
     let kind = match refusal {
         Refusal::Fails(kind) => kind,
         Refusal::TakesNone => ErrorKind::WriteZero,
     };
-    let options = MatchOptions::new();
-    match filter_lines(rt.alloc(), &pattern, options, &mut reader, &mut writer) {
+    match outcome.answer {
         Err(LineFault::Write(error)) => assert!(rt; error.kind() == kind),
         _ => panic!(rt; "no fault of the writer"),
     }
-    assert!(rt; writer.failed() && !reader.failed());
-    assert_eq!(rt; writer.into_inner().written(), written);
+    assert!(rt; outcome.writer_failed && !outcome.reader_failed);
+    assert_eq!(rt; outcome.written.as_slice(), written);
     Ok(())
 }
 
@@ -139,20 +164,15 @@ fn a_writer_that_fails_ends_the_copy(rt: HostRuntime) -> Result<(), Fail> {
 #[test]
 fn each_beginning_is_copied(rt: HostRuntime) -> Result<(), Fail> {
     let input = b"ab\n\n\r\nc d\n\n\ne";
-    let pattern = Pattern::new(rt.alloc(), "*")?;
     for end in 0..=input.len() {
         let part = &input[..end];
+        let mut output = Vec::from_slice(rt.alloc(), part)?;
+        if !part.is_empty() && !part.ends_with(b"\n") {
+            output.push(b'\n')?;
+        }
         for most in 1..=input.len() {
-            let mut reader = Watch::new(ShortReader::new(part, most));
-            let mut writer = Watch::new(ShortWriter::new(rt.alloc(), most));
-            let options = MatchOptions::new();
-            filter_lines(rt.alloc(), &pattern, options, &mut reader, &mut writer)?;
-            let writer = writer.into_inner();
-            let mut output = Vec::from_slice(rt.alloc(), part)?;
-            if !part.is_empty() && !part.ends_with(b"\n") {
-                output.push(b'\n')?;
-            }
-            assert_eq!(rt; writer.written(), output.as_slice());
+            let (_, written) = copied(&rt, "*", part, most)?;
+            assert_eq!(rt; written.as_slice(), output.as_slice());
         }
     }
     Ok(())

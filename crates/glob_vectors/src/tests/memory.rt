@@ -2,13 +2,12 @@
 use super::repeated::{Parts, text_of};
 use super::trees::CHANGES;
 use crate::judges::{Answers, TableJudge};
-use crate::readers::{ShortReader, ShortWriter};
 use glob::{
-    LineFault, ListError, Look, MatchOptions, MemTree, Pattern, PatternRefusal, Shape, Tree,
-    TreeRefusal, Watch, filter_lines, run_positions,
+    ListError, Look, MatchOptions, MemTree, Pattern, PatternRefusal, Shape, Tree, TreeRefusal,
+    run_positions,
 };
 use glob_testing::rationing::Rationed;
-use std::alloc::{Allocator, Global};
+use std::alloc::Allocator;
 use std::path::Path;
 use std::process::Abort;
 use std::test::Fail;
@@ -33,25 +32,36 @@ const TEXTS: [Text; 10] = [
     ("[", Some(0), "[[]"),
 ];
 
-/// Reads the text by one of both calls, and copies what is read. Gives whether memory sufficed.
-fn reads<A: Allocator + Copy>(rt: &impl Abort, alloc: A, row: Text, by_from_str: bool) -> bool {
-    let (text, fault, _) = row;
-    let read = if by_from_str {
+/// Copies a pattern of the text. Gives whether memory sufficed.
+fn copies<A: Allocator + Copy>(rt: &impl Abort, pattern: &Pattern<A>, text: &str) -> bool {
+    assert!(rt; pattern.as_str() == text);
+    let Ok(copy) = pattern.clone() else {
+        return false;
+    };
+    assert!(rt; copy == *pattern, "{text}");
+    true
+}
+
+/// Reads the text by one of both calls.
+fn read<A: Allocator + Copy>(
+    alloc: A,
+    text: &str,
+    by_from_str: bool,
+) -> Result<Pattern<A>, PatternRefusal> {
+    if by_from_str {
         Pattern::from_str(alloc, text)
     } else {
         Pattern::new(alloc, text)
-    };
-    match read {
+    }
+}
+
+/// Reads the text by one of both calls, and copies what is read. Gives whether memory sufficed.
+fn reads<A: Allocator + Copy>(rt: &impl Abort, alloc: A, row: Text, by_from_str: bool) -> bool {
+    let (text, fault, _) = row;
+    match read(alloc, text, by_from_str) {
         Ok(pattern) => {
             assert!(rt; fault.is_none(), "{text}");
-            assert!(rt; pattern.as_str() == text);
-            match pattern.clone() {
-                Ok(copy) => {
-                    assert!(rt; copy == pattern, "{text}");
-                    true
-                }
-                Err(_) => false,
-            }
+            copies(rt, &pattern, text)
         }
         Err(PatternRefusal::Syntax(error)) => {
             assert!(rt; Some(error.pos) == fault, "{text}");
@@ -110,7 +120,8 @@ fn texts(rt: HostRuntime) {
 /// A pattern, a text, and whether the pattern matches it, under each of the options.
 type Row = (Parts<'static>, Parts<'static>, bool);
 
-/// No pattern has more than 63 tokens. No text is refused for its end alone, which is tested first and without memory.
+/// No pattern has more than 63 tokens. No text is refused for its bytes alone, which are counted and compared first and
+/// without memory.
 const SHORT: [Row; 10] = [
     (&[("*.rs", 1)], &[("main.rs", 1)], true),
     (&[("**/*.[r]s", 1)], &[("a/b/c.css", 1)], false),
@@ -118,18 +129,19 @@ const SHORT: [Row; 10] = [
     (&[("[a]", 8), ("*", 1)], &[("a", 10)], true),
     (&[("*a", 6), ("*[b]", 1)], &[("a", 40)], false),
     (&[("?", 63)], &[("a", 63)], true),
-    (&[("?", 63)], &[("a", 62)], false),
+    (&[("?", 63)], &[("\u{e9}", 62)], false),
     (&[("?", 63)], &[("a", 64)], false),
     (&[("[a]", 42)], &[("a", 42)], true),
     (&[("**/", 1), ("?", 62)], &[("x/", 1), ("a", 62)], true),
 ];
 
-/// Each pattern has more than 63 tokens, and not all of them take one character. No text is refused for its end alone.
+/// Each pattern has more than 63 tokens, and not all of them take one character. No text is refused for its bytes
+/// alone.
 const LONG: [Row; 7] = [
     (&[("?", 63), ("*", 1)], &[("a", 63)], true),
-    (&[("*", 1), ("?", 64)], &[("a", 63)], false),
+    (&[("*", 1), ("?", 64)], &[("\u{e9}", 63)], false),
     (&[("*", 1), ("a", 127)], &[("a", 127)], true),
-    (&[("*a", 64)], &[("a", 63)], false),
+    (&[("*a", 64)], &[("b", 1), ("a", 63)], false),
     (&[("*a", 60), ("[b]", 10)], &[("a", 70), ("c", 1)], false),
     (&[("**/", 1), ("[ab]", 64)], &[("x/", 2), ("ab", 32)], true),
     (&[("*", 1), ("?", 300)], &[("\u{10fffe}", 301)], true),
@@ -184,38 +196,57 @@ fn short_patterns_match_without_memory(rt: HostRuntime) -> Result<(), Fail> {
     Ok(())
 }
 
-/// Where a request of a match is refused, one form of matching is out of memory, and the pattern is as it was. Each of
-/// the forms asks for memory.
+/// Where this request of a match is refused, one form of matching is out of memory, and it is noted. The pattern of the
+/// text, which has so many blocks, is then as it was.
+fn check_refused(
+    rt: &(impl Abort + AllocGlobal),
+    (text, str, answer): (&str, &str, bool),
+    number: u64,
+    blocks: u64,
+    asking: &mut [bool; 6],
+) -> Result<(), PatternRefusal> {
+    let scarce = Rationed::refusing(number, rt.alloc());
+    let pattern = Pattern::new(&scarce, text)?;
+    let mut short = 0u32;
+    for (form, refused) in unanswered(rt, &pattern, str, answer).iter().enumerate() {
+        asking[form] = asking[form] || *refused;
+        short = short.saturating_add(u32::from(*refused));
+    }
+    assert_eq!(rt; short, 1, "{text}");
+    assert_eq!(rt; scarce.ration.held(), blocks);
+    assert_eq!(rt; unanswered(rt, &pattern, str, answer), [false; 6]);
+    drop(pattern);
+    assert_eq!(rt; scarce.ration.held(), 0);
+    Ok(())
+}
+
+/// Each request of a match is refused in turn. Each form of matching asks for memory.
+fn check_long(
+    rt: &(impl Abort + AllocGlobal),
+    text: &str,
+    str: &str,
+    answer: bool,
+) -> Result<(), PatternRefusal> {
+    let ample = Rationed::refusing(0, rt.alloc());
+    let pattern = Pattern::new(&ample, text)?;
+    let first = ample.ration.asked().saturating_add(1);
+    let blocks = ample.ration.held();
+    assert_eq!(rt; unanswered(rt, &pattern, str, answer), [false; 6]);
+    assert_eq!(rt; ample.ration.held(), blocks);
+    let mut asking = [false; 6];
+    for number in first..=ample.ration.asked() {
+        check_refused(rt, (text, str, answer), number, blocks, &mut asking)?;
+    }
+    assert_eq!(rt; asking, [true; 6], "{text}");
+    Ok(())
+}
+
 #[test]
 fn long_patterns_match_with_memory(rt: HostRuntime) -> Result<(), Fail> {
     for (pattern, str, answer) in LONG {
         let text = text_of(&rt, pattern)?;
         let str = text_of(&rt, str)?;
-        let ample = Rationed::refusing(0, rt.alloc());
-        let pattern = Pattern::new(&ample, text.as_str())?;
-        let first = ample.ration.asked().saturating_add(1);
-        let blocks = ample.ration.held();
-        assert_eq!(rt; unanswered(&rt, &pattern, str.as_str(), answer), [false; 6]);
-        assert_eq!(rt; ample.ration.held(), blocks);
-        let mut asking = [false; 6];
-        for number in first..=ample.ration.asked() {
-            let scarce = Rationed::refusing(number, rt.alloc());
-            let pattern = Pattern::new(&scarce, text.as_str())?;
-            let mut short = 0u32;
-            for (form, refused) in unanswered(&rt, &pattern, str.as_str(), answer)
-                .iter()
-                .enumerate()
-            {
-                asking[form] = asking[form] || *refused;
-                short = short.saturating_add(u32::from(*refused));
-            }
-            assert_eq!(rt; short, 1, "{text}");
-            assert_eq!(rt; scarce.ration.held(), blocks);
-            assert_eq!(rt; unanswered(&rt, &pattern, str.as_str(), answer), [false; 6]);
-            drop(pattern);
-            assert_eq!(rt; scarce.ration.held(), 0);
-        }
-        assert_eq!(rt; asking, [true; 6], "{text}");
+        check_long(&rt, text.as_str(), str.as_str(), answer)?;
     }
     Ok(())
 }
@@ -301,98 +332,4 @@ fn trees(rt: HostRuntime) {
         assert_eq!(rt; uses_tree(&rt, &scarce), 1, "{number}");
         assert_eq!(rt; scarce.ration.held(), 0);
     }
-}
-
-/// Copies the lines that the pattern matches, with memory from `alloc` for the input and the output. Gives how many,
-/// or `None` where memory ran out; and what was written.
-fn copied<A: Allocator + Copy, B: Allocator + Copy>(
-    rt: &(impl Abort + AllocGlobal),
-    alloc: A,
-    pattern: &Pattern<B>,
-    input: &[u8],
-) -> Result<(Option<u64>, Vec<u8>), Fail> {
-    let mut reader = Watch::new(ShortReader::new(input, 60_000));
-    let mut writer = Watch::new(ShortWriter::new(rt.alloc(), 60_000));
-    let options = MatchOptions::new();
-    let count = match filter_lines(alloc, pattern, options, &mut reader, &mut writer) {
-        Ok(count) => Some(count),
-        Err(LineFault::Memory) => None,
-        Err(_) => panic!(rt; "a fault of the reader or the writer"),
-    };
-    assert!(rt; !reader.failed() && !writer.failed());
-    let written = Vec::from_slice(rt.alloc(), writer.into_inner().written())?;
-    Ok((count, written))
-}
-
-/// Copies the lines with memory from `alloc`, also for matches: the count, or out of memory after whole lines of the
-/// output. Gives whether memory sufficed.
-fn check_copied(
-    rt: &(impl Abort + AllocGlobal),
-    alloc: &Rationed<Global>,
-    pattern: &str,
-    input: &[u8],
-    output: &[u8],
-) -> Result<bool, Fail> {
-    let Ok(pattern) = Pattern::new(alloc, pattern) else {
-        return Ok(false);
-    };
-    let blocks = alloc.ration.held();
-    let (count, written) = copied(rt, alloc, &pattern, input)?;
-    assert_eq!(rt; alloc.ration.held(), blocks);
-    assert!(rt; output.starts_with(written.as_slice()));
-    assert!(rt; written.is_empty() || written.ends_with(b"\n"));
-    let Some(count) = count else {
-        return Ok(false);
-    };
-    let mut lines = 0u64;
-    for byte in output {
-        lines = lines.saturating_add(u64::from(*byte == b'\n'));
-    }
-    assert_eq!(rt; count, lines);
-    assert_eq!(rt; written.as_slice(), output);
-    Ok(true)
-}
-
-/// Refuses each request for memory in turn.
-fn check_lines(
-    rt: &(impl Abort + AllocGlobal),
-    pattern: &str,
-    input: &[u8],
-    output: &[u8],
-) -> Result<(), Fail> {
-    let ample = Rationed::refusing(0, rt.alloc());
-    assert!(rt; check_copied(rt, &ample, pattern, input, output)?);
-    assert_eq!(rt; ample.ration.held(), 0);
-    let mut short = 0u32;
-    for number in 1..=ample.ration.asked() {
-        let scarce = Rationed::refusing(number, rt.alloc());
-        if !check_copied(rt, &scarce, pattern, input, output)? {
-            short = short.saturating_add(1);
-        }
-        assert_eq!(rt; scarce.ration.held(), 0);
-    }
-    assert!(rt; short > 0);
-    Ok(())
-}
-
-#[test]
-fn lines(rt: HostRuntime) -> Result<(), Fail> {
-    let long = text_of(&rt, &[("?", 63), ("*", 1)])?;
-    let wide = text_of(
-        &rt,
-        &[("b\n", 1), ("a", 63), ("\n", 1), ("a", 64), ("\n", 1)],
-    )?;
-    let kept = text_of(&rt, &[("a", 63), ("\n", 1), ("a", 64), ("\n", 1)])?;
-    check_lines(&rt, "*", b"", b"")?;
-    check_lines(&rt, "*", b"ab\nc\nd", b"ab\nc\nd\n")?;
-    check_lines(&rt, "a*", b"ab\nc\na", b"ab\na\n")?;
-    check_lines(&rt, "", b"a\n\n", b"\n")?;
-    check_lines(&rt, long.as_str(), wide.as_bytes(), kept.as_bytes())
-}
-
-/// More than one buffer of output, so that whole lines are written before memory runs out.
-#[test]
-fn many_lines(rt: HostRuntime) -> Result<(), Fail> {
-    let input = text_of(&rt, &[("a line of text\n", 40_000)])?;
-    check_lines(&rt, "*", input.as_bytes(), input.as_bytes())
 }

@@ -1,4 +1,5 @@
 //! Patterns with plain characters at their end or inside, which are looked for in a text before the pattern is matched.
+use super::options::check_match;
 use super::repeated::{Parts, text_of};
 use glob::{MatchOptions, Pattern};
 use std::process::Abort;
@@ -49,8 +50,20 @@ const ENDS: [Row; 13] = [
     ),
 ];
 
-/// Long runs, of which some bytes are looked for, and brackets that hold what looks like a run.
-const RUNS: [Row; 16] = [
+/// Texts with as many characters as the pattern has tokens of one character, one fewer, and as many bytes alone.
+const LENGTHS: [Row; 8] = [
+    (&[("a?*[bc]", 1)], &[("axb", 1)], true, true),
+    (&[("a?*[bc]", 1)], &[("ab", 1)], false, false),
+    (&[("a?*[bc]", 1)], &[("a\u{e9}", 1)], false, false),
+    (&[("**/?/**", 1)], &[("a/", 1)], true, true),
+    (&[("**/?/**", 1)], &[("/", 1)], false, false),
+    (&[("?", 70), ("*", 1)], &[("\u{e9}", 70)], true, true),
+    (&[("?", 70), ("*", 1)], &[("\u{e9}", 69)], false, false),
+    (&[("?", 70), ("*", 1)], &[("", 1)], false, false),
+];
+
+/// Long stretches of plain characters, of which some bytes are looked for, and brackets that hold what looks like one.
+const STRETCHES: [Row; 16] = [
     (
         &[("*", 1), ("\u{8d44}", 11), ("*", 1)],
         &[("\u{8d44}", 11)],
@@ -133,10 +146,9 @@ fn check(
             case_sensitive,
             ..MatchOptions::new()
         };
-        let found = pattern.matches_with(text, options)?;
-        assert_eq!(rt; found, answer, "{} on {text}", pattern.as_str());
+        check_match(rt, &pattern, text, options, answer)?;
         let (found, _) = pattern.matches_counted(text, options)?;
-        assert_eq!(rt; found, answer, "{} on {text}", pattern.as_str());
+        assert_eq!(rt; found, answer);
     }
     Ok(())
 }
@@ -162,11 +174,17 @@ fn ends(rt: HostRuntime) -> Result<(), Fail> {
 }
 
 #[test]
-fn long_runs(rt: HostRuntime) -> Result<(), Fail> {
-    check_rows(&rt, &RUNS)
+fn lengths(rt: HostRuntime) -> Result<(), Fail> {
+    check_rows(&rt, &LENGTHS)
 }
 
-/// The word at the start, at the end and inside of texts of 15, 16 and 17 bytes. Shorter texts are matched at once.
+#[test]
+fn long_stretches(rt: HostRuntime) -> Result<(), Fail> {
+    check_rows(&rt, &STRETCHES)
+}
+
+/// The word at each place of a text whose other bytes are in it, in either case. A text of 15 bytes is matched at once,
+/// and a longer one is searched sixteen bytes at a time.
 #[test]
 fn words(rt: HostRuntime) -> Result<(), Fail> {
     let words = [
@@ -177,11 +195,11 @@ fn words(rt: HostRuntime) -> Result<(), Fail> {
         ("_onfig", false, false),
         ("con_fi", false, false),
     ];
-    for size in 15..=17usize {
+    for size in 15..=34usize {
         for (word, with_case, without_case) in words {
             for before in 0..=size - 6 {
                 let after = size - 6 - before;
-                let text = text_of(&rt, &[("c", before), (word, 1), ("g", after)])?;
+                let text = text_of(&rt, &[("c", before), (word, 1), ("F", after)])?;
                 assert_eq!(rt; text.len(), size);
                 check(&rt, "*config*", text.as_str(), with_case, without_case)?;
             }

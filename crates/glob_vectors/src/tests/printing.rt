@@ -68,7 +68,7 @@ fn faults_of_lines(rt: HostRuntime) -> Result<(), Fail> {
 #[test]
 fn patterns(rt: HostRuntime) -> Result<(), Fail> {
     check(&rt, &Pattern::default(rt.alloc()), "")?;
-    for unit in ["a", "[!\u{e9}-\u{20ac}]", "\u{10fffe}/**/?"] {
+    for unit in ["a", "[!\u{e9}-\u{20ac}]", "\u{10fffe}/**/?", "one/**/[!b]"] {
         for times in [1, 100, 10_000] {
             let text = text_of(&rt, &[(unit, times)])?;
             let pattern = Pattern::new(rt.alloc(), text.as_str())?;

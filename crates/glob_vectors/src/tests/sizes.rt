@@ -1,11 +1,8 @@
 //! Calls at many sizes and over characters of each length. Memory is ample, so each of them succeeds.
+use super::lines::copied;
 use super::repeated::text_of;
 use crate::judges::{Answers, TableJudge};
-use crate::readers::{ShortReader, ShortWriter};
-use glob::{
-    Look, MatchOptions, MemTree, Pattern, Shape, Tree, TreeRefusal, Watch, filter_lines,
-    run_positions,
-};
+use glob::{Look, MatchOptions, MemTree, Pattern, Shape, Tree, TreeRefusal, run_positions};
 use std::alloc::AllocError;
 use std::io::ErrorKind;
 use std::path::Path;
@@ -43,14 +40,36 @@ fn sizes_to(rt: &impl AllocGlobal, exponent: u32) -> Result<Vec<usize>, AllocErr
     Ok(sizes)
 }
 
-/// The characters that are tried at a place of the list of sizes: at the first all, and else one after another. So
-/// each of them is tried at some power of two, one below and one above, as the list has three sizes for each power.
-fn characters_at(place: usize) -> &'static [&'static str] {
-    if place < 20 {
-        return &CHARACTERS;
+/// A character that is tried at a size, and the place of that in the list of sizes.
+#[derive(Clone, Copy)]
+struct Trial {
+    place: usize,
+    size: usize,
+    character: &'static str,
+}
+
+/// Adds the characters that are tried at a size.
+fn add_trials(trials: &mut Vec<Trial>, place: usize, size: usize) -> Result<(), AllocError> {
+    for (number, character) in CHARACTERS.iter().enumerate() {
+        if place < 20 || place % 8 == number {
+            trials.push(Trial {
+                place,
+                size,
+                character,
+            })?;
+        }
     }
-    let character = place % 8;
-    &CHARACTERS[character..character + 1]
+    Ok(())
+}
+
+/// The characters that are tried at each of the sizes: at the first all, and else one after another. So each of them is
+/// tried at some power of two, one below and one above, as the list has three sizes for each power.
+fn trials(rt: &impl AllocGlobal) -> Result<Vec<Trial>, AllocError> {
+    let mut trials = Vec::new(rt.alloc());
+    for (place, size) in sizes_to(rt, 17)?.iter().enumerate() {
+        add_trials(&mut trials, place, *size)?;
+    }
+    Ok(trials)
 }
 
 /// Each form of matching answers so.
@@ -92,21 +111,25 @@ fn check_pattern(
 }
 
 /// At a small size each unit is tried, and else one of them.
+fn check_units(rt: &(impl Abort + AllocGlobal), trial: Trial) -> Result<(), Fail> {
+    let character = trial.character;
+    let bracket = format!(in rt.alloc(); "[{character}]")?;
+    let picked = (trial.place + trial.place / 3) % 3;
+    for (number, unit) in ["?", character, bracket.as_str()].iter().enumerate() {
+        if trial.size < SMALL {
+            check_pattern(rt, unit, character, trial.size, "")?;
+        }
+        if trial.size < SMALL || number == picked {
+            check_pattern(rt, unit, character, trial.size, "*")?;
+        }
+    }
+    Ok(())
+}
+
 #[test]
 fn patterns(rt: HostRuntime) -> Result<(), Fail> {
-    for (place, size) in sizes_to(&rt, 17)?.iter().copied().enumerate() {
-        for character in characters_at(place) {
-            let bracket = format!(in rt.alloc(); "[{character}]")?;
-            let units = ["?", character, bracket.as_str()];
-            if size < SMALL {
-                for unit in units {
-                    check_pattern(&rt, unit, character, size, "")?;
-                    check_pattern(&rt, unit, character, size, "*")?;
-                }
-            } else {
-                check_pattern(&rt, units[(place + place / 3) % 3], character, size, "*")?;
-            }
-        }
+    for trial in trials(&rt)? {
+        check_units(&rt, trial)?;
     }
     Ok(())
 }
@@ -129,27 +152,25 @@ fn check_bracket(
 
 #[test]
 fn brackets(rt: HostRuntime) -> Result<(), Fail> {
-    for (place, size) in sizes_to(&rt, 17)?.iter().copied().enumerate() {
-        let size = size.max(1);
-        for character in characters_at(place) {
-            let range = format!(in rt.alloc(); "{character}-{character}")?;
-            check_bracket(&rt, character, character, size)?;
-            check_bracket(&rt, range.as_str(), character, size)?;
-        }
+    for trial in trials(&rt)? {
+        let (character, size) = (trial.character, trial.size.max(1));
+        let range = format!(in rt.alloc(); "{character}-{character}")?;
+        check_bracket(&rt, character, character, size)?;
+        check_bracket(&rt, range.as_str(), character, size)?;
     }
     Ok(())
 }
 
-/// The text so many times is escaped in so many bytes, as a pattern that matches it.
+/// The part so many times is escaped in so many bytes for each time, as a pattern that matches the text.
 fn check_escaped(
     rt: &(impl Abort + AllocGlobal),
     part: &str,
     size: usize,
-    bytes: usize,
+    each: usize,
 ) -> Result<(), Fail> {
     let text = text_of(rt, &[(part, size)])?;
     let escaped = Pattern::escape(rt.alloc(), text.as_str())?;
-    assert_eq!(rt; escaped.len(), bytes);
+    assert_eq!(rt; escaped.len(), size.saturating_mul(each));
     let pattern = Pattern::new(rt.alloc(), escaped.as_str())?;
     assert!(rt; pattern.matches(text.as_str())?);
     Ok(())
@@ -157,14 +178,27 @@ fn check_escaped(
 
 #[test]
 fn escaped_texts(rt: HostRuntime) -> Result<(), Fail> {
-    for (place, size) in sizes_to(&rt, 17)?.iter().copied().enumerate() {
-        let special = ["?", "*", "[", "]"][place % 4];
-        check_escaped(&rt, special, size, size.saturating_mul(3))?;
-        for character in characters_at(place) {
-            let bytes = size.saturating_mul(character.len());
-            check_escaped(&rt, character, size, bytes)?;
-        }
+    for trial in trials(&rt)? {
+        let special = ["?", "*", "[", "]"][trial.place % 4];
+        check_escaped(&rt, special, trial.size, 3)?;
+        check_escaped(&rt, trial.character, trial.size, trial.character.len())?;
     }
+    Ok(())
+}
+
+/// So many characters, each of which goes with each of the shapes, split into pieces of these.
+fn check_shapes(
+    rt: &(impl Abort + AllocGlobal),
+    shapes: &[Shape],
+    characters: usize,
+) -> Result<(), Fail> {
+    let mut judge = TableJudge::new(Answers {
+        characters,
+        tokens: shapes.len(),
+        opening: &[0],
+        refused: &[],
+    });
+    assert!(rt; run_positions(rt.alloc(), shapes, &mut judge)?);
     Ok(())
 }
 
@@ -183,16 +217,8 @@ fn shapes(rt: HostRuntime) -> Result<(), Fail> {
             Shape::Deep
         };
         shapes.push(last)?;
-        for more in 0..2 {
-            let answers = Answers {
-                characters: size.saturating_add(more),
-                tokens: shapes.len(),
-                opening: &[0],
-                refused: &[],
-            };
-            let mut judge = TableJudge::new(answers);
-            assert!(rt; run_positions(rt.alloc(), shapes.as_slice(), &mut judge)?);
-        }
+        check_shapes(&rt, shapes.as_slice(), size)?;
+        check_shapes(&rt, shapes.as_slice(), size.saturating_add(1))?;
         shapes.pop();
     }
     Ok(())
@@ -250,13 +276,10 @@ fn check_name(rt: &(impl Abort + AllocGlobal), tree: &mut MemTree, name: &str) -
 
 #[test]
 fn names(rt: HostRuntime) -> Result<(), Fail> {
-    for (place, size) in sizes_to(&rt, 17)?.iter().copied().enumerate() {
-        let size = size.max(1);
-        for character in characters_at(place) {
-            let name = text_of(&rt, &[(character, size)])?;
-            let mut tree = MemTree::new(rt.alloc())?;
-            check_name(&rt, &mut tree, name.as_str())?;
-        }
+    for trial in trials(&rt)? {
+        let name = text_of(&rt, &[(trial.character, trial.size.max(1))])?;
+        let mut tree = MemTree::new(rt.alloc())?;
+        check_name(&rt, &mut tree, name.as_str())?;
     }
     Ok(())
 }
@@ -282,16 +305,11 @@ fn entries(rt: HostRuntime) -> Result<(), Fail> {
 
 /// The input is copied whole by `*`, as so many lines, with a line feed at the end.
 fn check_copied(rt: &(impl Abort + AllocGlobal), input: &str, lines: usize) -> Result<(), Fail> {
-    let pattern = Pattern::new(rt.alloc(), "*")?;
-    let mut reader = Watch::new(ShortReader::new(input.as_bytes(), usize::MAX));
-    let mut writer = Watch::new(ShortWriter::new(rt.alloc(), usize::MAX));
-    let options = MatchOptions::new();
-    let count = filter_lines(rt.alloc(), &pattern, options, &mut reader, &mut writer)?;
+    let (count, written) = copied(rt, "*", input.as_bytes(), usize::MAX)?;
     assert_eq!(rt; count, lines as u64);
-    let writer = writer.into_inner();
-    assert!(rt; writer.written().starts_with(input.as_bytes()));
+    assert!(rt; written.starts_with(input.as_bytes()));
     let fed = usize::from(!input.is_empty() && !input.ends_with('\n'));
-    assert_eq!(rt; writer.written().len(), input.len().saturating_add(fed));
+    assert_eq!(rt; written.len(), input.len().saturating_add(fed));
     Ok(())
 }
 

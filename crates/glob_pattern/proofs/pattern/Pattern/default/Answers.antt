@@ -31,4 +31,5 @@ invariant_of-result-2 g c = (
   },
   rw (c.new.ensures.bytes, c.new-2.ensures.items) EndsPlain-nil,
   rw (c.new.ensures.bytes, c.new-2.ensures.items) HoldsPlain-nil,
+  rw c.new-2.ensures.items refl,
 )

@@ -24,7 +24,7 @@ run_positions-requires-clause-room g c =
     let short : length c.args.str.now < 2 ^ 64 = omega arith in
     let few : length (chars c.new-judge.result.text.now) < 2 ^ 64 =
     omega (arith, length-chars c.new-judge.result.text.now, ap length c.new-judge.ensures.text) in
-    omega (arith, product_fits (length c.as_slice-3.result.now) (length (chars c.new-judge.result.text.now)) c.as_slice-3.type_inv.0 few)
+    omega (arith, c.new-judge.ensures.count, product_fits (length c.as_slice-3.result.now) (length (chars c.new-judge.result.text.now)) c.as_slice-3.type_inv.0 few)
 
 pub returns-clause-answer : goal.returns-clause-answer
 returns-clause-answer g c =

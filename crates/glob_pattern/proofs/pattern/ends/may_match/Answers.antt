@@ -1,12 +1,34 @@
-use Rattle.std.proofs.Common.{◌≡◌, ℕ, ◌-◌, length, take, drop, chars, string_bytes, sym, ap, subst, ◌∙◌, arith}
+use Rattle.std.proofs.Common.{◌≡◌, ℕ, ◌-◌, ◌<◌, length, take, drop, chars, string_bytes, sym, ap, subst, ◌∙◌, arith}
 use Rattle.std.proofs.lemmas.Bool.{both_ways}
 use Rattle.std.proofs.lemmas.List.{length-drop, take_all}
-use Rattle.std.proofs.lemmas.Str.{IsUtf8-from_is_utf8}
-use Rattle.glob_pattern.specs.Private.PlainEnds.{EndsSame}
-use Rattle.glob_pattern.proofs.GrammarLemmas.Accepted.{one_reading}
+use Rattle.std.proofs.lemmas.Str.{IsUtf8-from_is_utf8, IsUtf8-string_bytes}
+use Rattle.glob_pattern.specs.Private.PlainEnds.{EndsSame, DiffersAtOnce}
+use Rattle.glob_pattern.proofs.Counts.{length-chars}
+use Rattle.glob_pattern.proofs.MatchingLemmas.FirstBytes.{no_match-from_first}
 use Rattle.glob_pattern.proofs.MatchingLemmas.PlainEnds.{EndsSame-from_match}
-use Rattle.glob_pattern.specs.Matching.Texts.{TokensMatch}
+use Rattle.glob_pattern.proofs.MatchingLemmas.PlainTokens.{one_character_each}
+use Rattle.glob_pattern.proofs.MatchingLemmas.Tokens.{TokensMatch-by_pattern}
 use Rattle.glob_pattern.proofs.pattern.ends.may_match.Goals as goal
+
+pub returns-then-differs_at_once : goal.returns-then-differs_at_once
+returns-then-differs_at_once g c = λ _ utf8 matches.
+    let o = c.args.options in
+    let inside = c.pattern.inside in
+    let bytes = c.args.bytes.now in
+    let pattern = string_bytes inside.text in
+    let read = c.pattern.invariant.0.read in
+    let kept = TokensMatch-by_pattern o (chars pattern) (chars bytes) inside.tokens.items read (rw c.pattern.view_is matches) in
+    let differs : DiffersAtOnce pattern bytes = rw (c.as_bytes-text.ensures.value, c.as_str.ensures.value) at (c.differs_at_once.ensures c.if-differs_at_once.true) in
+    no_match-from_first o inside.tokens.items pattern bytes c.if-options.true differs (IsUtf8-string_bytes inside.text) (IsUtf8-from_is_utf8 bytes utf8) read kept
+
+pub returns-then-bytes-pattern : goal.returns-then-bytes-pattern
+returns-then-bytes-pattern g c = λ no utf8 matches.
+    let inside = c.pattern.inside in
+    let bytes = c.args.bytes.now in
+    let kept = TokensMatch-by_pattern c.args.options (chars (string_bytes inside.text)) (chars bytes) inside.tokens.items c.pattern.invariant.0.read
+    (rw c.pattern.view_is matches) in
+    let short : length bytes < inside.least = c.if-bytes-pattern.true in
+    absurd (omega (arith, short, c.pattern.invariant.3, one_character_each c.args.options inside.tokens.items (chars bytes) kept, length-chars bytes))
 
 pub returns : goal.returns
 returns g c = λ no utf8 matches.
@@ -15,10 +37,8 @@ returns g c = λ no utf8 matches.
     let bytes = c.args.bytes.now in
     let pattern = string_bytes inside.text in
     let k : ℕ = length pattern - inside.plain_end in
-    let (tokens, has, match) = matches in
-    let same = one_reading (chars pattern) tokens inside.tokens.items (rw c.pattern.view_is has) c.pattern.invariant.0.read in
-    let ends = EndsSame-from_match o inside.tokens.items pattern bytes inside.plain_end c.pattern.invariant.1 (IsUtf8-from_is_utf8 bytes utf8)
-    (subst (λ ts. TokensMatch o ts (chars bytes)) same match) in
+    let kept = TokensMatch-by_pattern o (chars pattern) (chars bytes) inside.tokens.items c.pattern.invariant.0.read (rw c.pattern.view_is matches) in
+    let ends = EndsSame-from_match o inside.tokens.items pattern bytes inside.plain_end c.pattern.invariant.1 (IsUtf8-from_is_utf8 bytes utf8) kept in
     let text = c.as_bytes-text.ensures.value ∙ c.as_str.ensures.value in
     let t = c.as_bytes-text.result.now in
     let n = inside.plain_end in

@@ -1,4 +1,4 @@
-use Rattle.std.proofs.Common.{◌≡◌, true, refl, sym, ◌∙◌, ⊎_elim, inl, inr, arith}
+use Rattle.std.proofs.Common.{◌≡◌, true, refl, sym, ◌∙◌, ⊎_elim, inl, inr}
 use Rattle.glob_pattern.specs.Matching.Taking.{is_excluded_separator}
 use Rattle.glob_pattern.proofs.BitLemmas.SetBits.{IsBitSet-or, IsBitSet-any_of_three}
 use Rattle.glob_pattern.proofs.MaskLemmas.Masks.{IsMask-within}

@@ -1,5 +1,14 @@
-use Rattle.glob_pattern.specs.Private.Masks.{AreMasks}
+-- The characters are painted for the tokens gone past, and the kinds stay.
+use Rattle.std.proofs.Common.{ℕ, ◌<◌, length, slice_index_or}
+use Rattle.glob_pattern.specs.Grammar.Tokens.{is_deep}
+use Rattle.glob_pattern.specs.Private.Masks.{is_any_or_run, is_bracket, IsMask}
+use Rattle.glob_pattern.proofs.MaskLemmas.Masks.{IsPainted}
 use Rattle.glob_pattern.proofs.pattern.masks.TokenMasks.new.Given as goal
 
 abbrev pub invariant-loop-n : goal.invariant-loop-n
-invariant-loop-n g l = AreMasks l.tokens l.start l.n l.masks
+invariant-loop-n g l = record {
+  painted : (c : ℕ) → c < 128 → IsPainted l.tokens l.start l.n c (slice_index_or l.masks.characters c 0);
+  any_or_run : IsMask l.tokens l.start (length l.tokens) is_any_or_run l.masks.any_or_run;
+  deep : IsMask l.tokens l.start (length l.tokens) is_deep l.masks.deep;
+  brackets : IsMask l.tokens l.start (length l.tokens) is_bracket l.masks.brackets;
+}

@@ -1,4 +1,4 @@
-use Rattle.std.proofs.Common.{◌≡◌, ◌+◌, ◌*◌, ◌<◌, ◌≤◌, ◌^◌, true, false, length, get_or, bit_and, bit_or, IsTrue, sym, ◌∙◌, inl, inr, ⊎_elim, arith}
+use Rattle.std.proofs.Common.{◌≡◌, ◌+◌, ◌<◌, ◌≤◌, ◌^◌, true, false, length, get_or, bit_and, bit_or, IsTrue, sym, ◌∙◌, inl, inr, ⊎_elim, arith}
 use Rattle.std.proofs.lemmas.Bool.{false≢true, false_from_ne_true, ltb-true, ltb-false, and_parts, and_from, not-true, not_from_false}
 use Rattle.std.proofs.lemmas.Nat.{or_lt}
 use Rattle.std.proofs.lemmas.Str.Ascii.{lowercase_ascii, uppercase_ascii}
@@ -9,7 +9,6 @@ use Rattle.glob_pattern.specs.Matching.Options.{new_options}
 use Rattle.glob_pattern.specs.Private.Masks.{mask_of, is_bracket, is_excluded}
 use Rattle.glob_pattern.specs.declared.token.Token.TheVariants.{Any}
 use Rattle.glob_pattern.proofs.BitLemmas.SetBits.{IsBitSet-cases, IsBitSet-or, IsBitSet-and, IsBitSet-without}
-use Rattle.glob_pattern.proofs.MaskLemmas.Masks.{IsMask-within}
 use Rattle.glob_pattern.proofs.MaskLemmas.KnownTakers.{takes-with_case, takes-without_case, takes-beyond}
 use Rattle.glob_pattern.proofs.pattern.masks.TokenMasks.take_known.Goals as goal
 

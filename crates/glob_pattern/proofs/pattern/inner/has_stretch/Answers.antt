@@ -1,7 +1,7 @@
 use Rattle.std.proofs.Common.{◌≡◌, ◌-◌, ◌++◌, List, length, take, drop, sym, ap, ◌∙◌, arith, append_assoc}
 use Rattle.std.proofs.lemmas.List.{take-append-drop, take_all, length-drop}
 use Rattle.glob_pattern.specs.Grammar.Tokens.{Token}
-use Rattle.glob_pattern.proofs.pattern.inner.has_run.Goals as goal
+use Rattle.glob_pattern.proofs.pattern.inner.has_stretch.Goals as goal
 
 -- one more token has been gone past
 one_more : (tokens front rest : List Token) → tokens ≡ front ++ rest → tokens ≡ (front ++ take 1 rest) ++ take (length rest - 1) (drop 1 rest)
