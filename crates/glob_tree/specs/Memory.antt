@@ -32,7 +32,7 @@ key_of path =
     if begins_with slash path && list_all is_proper (pieces (drop 1 path)) then Some (pieces (drop 1 path)) else None
 
 -- the same, where `/` is the root
-abbrev pub directory_key : Text → Option Key
+unfoldable pub directory_key : Text → Option Key
 directory_key path = if bytes_eq path root_dir then Some [] else key_of path
 
 -- why a key is not added: there is none, its parent is no directory, or something stands there
@@ -43,7 +43,7 @@ key_refusal c (Some k) =
     else if is_some (kind_at c k) then Some refusal.Taken
     else None
 
-abbrev pub add_refusal : Content → Text → Option TreeRefusal
+unfoldable pub add_refusal : Content → Text → Option TreeRefusal
 add_refusal c path = key_refusal c (key_of path)
 
 -- the content with a further key
@@ -51,7 +51,7 @@ abbrev pub with_key : Content → Kind → Option Key → Content
 with_key c kind None = c
 with_key c kind (Some k) = record { kinds = c.kinds ++ (k, kind) ∷ []; current = c.current }
 
-abbrev pub content_with : Content → Text → Kind → Content
+unfoldable pub content_with : Content → Text → Kind → Content
 content_with c path kind = with_key c kind (key_of path)
 
 -- why a directory does not become the current one
@@ -59,11 +59,11 @@ abbrev pub directory_refusal : Content → Option Key → Option TreeRefusal
 directory_refusal c None = Some refusal.Improper
 directory_refusal c (Some k) = if is_dir_at c k then None else Some refusal.NoDirectory
 
-abbrev pub current_refusal : Content → Text → Option TreeRefusal
+unfoldable pub current_refusal : Content → Text → Option TreeRefusal
 current_refusal c path = directory_refusal c (directory_key path)
 
 -- the content with another current directory
-abbrev pub with_current : Content → Option Key → Content
+unfoldable pub with_current : Content → Option Key → Content
 with_current c None = c
 with_current c (Some k) = record { kinds = c.kinds; current = k }
 
@@ -79,7 +79,7 @@ kind_fault (Some Dir) = None
 kind_fault (Some (Shut kind)) = Some kind
 kind_fault (Some Other) = Some error.NotADirectory
 
-abbrev pub list_fault : Content → Text → Option ErrorKind
+unfoldable pub list_fault : Content → Text → Option ErrorKind
 list_fault c path = kind_fault (kind_found c path)
 
 -- the error is the one with which the listing fails, or an allocation failure where it does not fail

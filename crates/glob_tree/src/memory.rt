@@ -125,6 +125,7 @@ impl<A: Allocator + Copy> MemTree<A> {
     ///
     /// - [`TreeRefusal::Improper`]: `path` is any other text.
     /// - [`TreeRefusal::NoDirectory`]: `path` leads to no directory.
+    #[tactic(auto, unfolding(crate::specs::Memory::current_refusal, crate::specs::Memory::directory_key, crate::specs::Memory::with_current))]
     pub fn set_current(&mut self, path: &str) -> Result<(), TreeRefusal>
         ensures answer { result ≡ change_answer (current_refusal self.old.content path.now) }
         ensures current { OnOk result
@@ -139,6 +140,7 @@ impl<A: Allocator + Copy> MemTree<A> {
     }
 
     /// Adds an entry of any kind.
+    #[tactic(auto, unfolding(crate::specs::Memory::content_with))]
     fn add(&mut self, path: &str, kind: Kind) -> Result<(), TreeRefusal>
         ensures answer { IsChangeAnswer (add_refusal self.old.content path.now) result }
         ensures added { OnOk result
@@ -167,6 +169,7 @@ impl<A: Allocator + Copy> Tree for MemTree<A> {
 
     /// It never fails: a path that leads nowhere is `Look::Missing`.
     fn look(&mut self, path: &str) -> Result<Look, AllocError>
+        ensures well_formed { is_content self.old.content ≡ true }
         ensures asks { self.new.asks ≡ self.old.asks + 1 }
         ensures content { self.new.content ≡ self.old.content }
         ensures seen { result ≡ Ok (look_result self.old.content path.now) }
@@ -179,6 +182,7 @@ impl<A: Allocator + Copy> Tree for MemTree<A> {
     /// where it leads to a directory of [`add_shut`](MemTree::add_shut), the kind given there. [`ListError::Memory`]
     /// comes where the entries cannot be allocated.
     fn list(&mut self, path: &str) -> Result<Vec<Entry<A>, A>, ListError>
+        ensures well_formed { is_content self.old.content ≡ true }
         ensures asks { self.new.asks ≡ self.old.asks + 1 + entry_count result }
         ensures content { self.new.content ≡ self.old.content }
         ensures entries { IfOk result (λ v.
@@ -195,6 +199,7 @@ impl<A: Allocator + Copy> Tree for MemTree<A> {
 
 impl<A: Allocator + Copy> MemTree<A> {
     /// The entries of the directory to which a path leads.
+    #[tactic(auto, unfolding(crate::specs::Memory::list_fault))]
     fn entries(&self, path: &str) -> Result<Vec<Entry<A>, A>, ListError>
         ensures entries { IfOk result (λ v.
             list_result self.now.content path.now ≡ Entries (entries_of v.items)) }
@@ -230,6 +235,7 @@ impl<A: Allocator> MemTree<A> {
     }
 
     /// Where an entry may be added at a path: the number of its directory, and its name.
+    #[tactic(auto, unfolding(crate::specs::Memory::add_refusal))]
     fn place<'p>(&self, path: &'p str) -> Result<(usize, &'p str), TreeRefusal>
         ensures { MatchResult result
             (λ place. IsPlace self.now.content path.now place.0 place.1.now)
@@ -249,6 +255,7 @@ impl<A: Allocator> MemTree<A> {
     }
 
     /// The number of the directory that a path names.
+    #[tactic(auto, unfolding(crate::specs::Memory::current_refusal, crate::specs::Memory::directory_key))]
     fn directory(&self, path: &str) -> Result<usize, TreeRefusal>
         ensures { MatchResult result
             (λ number. IsDirectoryOf self.now.content path.now number)

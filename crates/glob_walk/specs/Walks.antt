@@ -43,7 +43,7 @@ abbrev pub AreItems : {A : Type 0} → List (Result (PathBuf A) (GlobError A)) �
 AreItems answers is = map outcome answers ≡ map Gives is
 
 -- no refusal is among the answers
-abbrev pub HasNoRefusal : {A : Type 0} → List (Result (PathBuf A) (GlobError A)) → Type 0
+unfoldable pub HasNoRefusal : {A : Type 0} → List (Result (PathBuf A) (GlobError A)) → Type 0
 HasNoRefusal answers = (is : List Item) × AreItems answers is
 
 -- what contracts see of a walk over a tree of the type X
@@ -139,7 +139,7 @@ pub record Goes {X : Type 0} (asks : X → ℕ) (tells : X → Option Content) (
 
 -- A whole walk within a limit, over a tree with a known content and this listing: all of it, with its cost; or the items
 -- before the first unit that does not fit; or, without memory, a beginning of the items.
-abbrev pub IsWalk : {A : Type 0} → (listing : List Mark) → (limit : ℕ) → End → (spent : ℕ)
+unfoldable pub IsWalk : {A : Type 0} → (listing : List Mark) → (limit : ℕ) → End → (spent : ℕ)
     → List (Result (PathBuf A) (GlobError A)) → Type 0
 IsWalk ms limit end.Done spent answers = (cost ms ≤ limit) × (spent ≡ cost ms) × AreItems answers (items ms)
 IsWalk ms limit end.Limit spent answers =
@@ -147,7 +147,7 @@ IsWalk ms limit end.Limit spent answers =
 IsWalk ms limit end.Memory spent answers = (is : List Item) × AreItems answers is × IsBeginning is (items ms)
 
 -- the tree was asked what the walk charged; where it ends at its limit at least that, and the limit is spent
-abbrev pub IsWalkAsked : (limit : ℕ) → (asks : ℕ) → End → (spent : ℕ) → (asks' : ℕ) → Type 0
+unfoldable pub IsWalkAsked : (limit : ℕ) → (asks : ℕ) → End → (spent : ℕ) → (asks' : ℕ) → Type 0
 IsWalkAsked limit asks end.Limit spent asks' = (spent ≡ limit) × (asks + spent ≤ asks')
 IsWalkAsked limit asks end.Done spent asks' = asks' ≡ asks + spent
 IsWalkAsked limit asks end.Memory spent asks' = asks' ≡ asks + spent

@@ -143,14 +143,14 @@ fn compile<A: Allocator + Copy>(alloc: A, text: &str) -> Result<Pattern<A>, Patt
 }
 
 /// Whether the component is `**`.
-fn is_recursive(component: &str) -> bool
+pub fn is_recursive(component: &str) -> bool
     ensures { result ≡ is_recursive_text component.now }
 {
     component == "**"
 }
 
 /// Whether the component stands for itself alone.
-fn is_literal(component: &str) -> bool
+pub fn is_literal(component: &str) -> bool
     ensures { result ≡ is_literal_text component.now }
 {
     !has_wildcard(component)

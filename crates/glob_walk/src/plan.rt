@@ -95,7 +95,7 @@ fn read_parts<A: Allocator + Copy>(alloc: A, text: &str) -> Result<Vec<Part<A>, 
 }
 
 /// The text of the components: what follows the root, without one separator at its end.
-fn past_root(pattern: &str) -> &str
+pub fn past_root(pattern: &str) -> &str
     ensures { result.now ≡ without_end_separator (without_root pattern.now) }
 {
     match pattern.strip_prefix('/') {

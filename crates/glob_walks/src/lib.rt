@@ -4,5 +4,7 @@
 
 #[cfg(test)]
 mod tests;
+// Used by tests alone, so it is proved with them and not once more without.
+#[cfg(test)]
 pub mod trees;
 pub mod uses;

@@ -8,6 +8,7 @@ mod items;
 mod limits;
 mod lying;
 mod memory;
+mod plain;
 mod printing;
 mod random;
 mod random_goals;

@@ -20,7 +20,7 @@ pub record AnswersNothing (c : Content) (path : Text) : Type 0 where
   pub fault : list_fault c path ≡ Some NotFound
 
 pub AnswersNothing-from_resolve : (c : Content) (path : Text) → resolve c path ≡ None → AnswersNothing c path
-unfolding look_result list_result
+unfolding look_result list_result list_fault resolve
 AnswersNothing-from_resolve c path r = record {
   look = ap (λ k. look_of (option_and_then (kind_at c) k)) r;
   list = ap (list_found c) r;
@@ -34,7 +34,7 @@ pub record AnswersKind (c : Content) (path : Text) (k : Key) (kind : Kind) : Typ
   pub fault : list_fault c path ≡ kind_fault (Some kind)
 
 pub AnswersKind-from_resolve : (c : Content) (path : Text) (k : Key) (kind : Kind) → resolve c path ≡ Some k → kind_at c k ≡ Some kind → AnswersKind c path k kind
-unfolding look_result list_result
+unfolding look_result list_result list_fault resolve
 AnswersKind-from_resolve c path k kind r held = record {
   look = ap (λ o. look_of (option_and_then (kind_at c) o)) r ∙ ap look_of held;
   list = ap (list_found c) r ∙ ap (list_of c k) held;

@@ -13,7 +13,7 @@ use Rattle.glob_text.specs.Text.{Text}
 use Rattle.glob_tree.specs.Paths.{is_proper}
 use Rattle.glob_text.specs.Pieces.{pieces}
 use Rattle.glob_tree.specs.Content.{Content, Key, parent_key, kind_at, is_dir, is_dir_at, is_content, is_placed, are_distinct, child_key}
-use Rattle.glob_tree.specs.Memory.{key_of, key_refusal, add_refusal, with_key, content_with, directory_refusal, current_refusal}
+use Rattle.glob_tree.specs.Memory.{key_of, key_refusal, add_refusal, with_key, content_with, directory_refusal, current_refusal, directory_key}
 use Rattle.glob_tree.specs.Private.Places.{IsPlace, IsDirectoryOf}
 use Rattle.glob_tree.specs.Private.Nodes.{root_entry, entry_numbered, key_numbered, kind_numbered, rooted_content, content_at}
 use Rattle.glob_tree.specs.Private.Numbers.{Leads}
@@ -35,6 +35,7 @@ unfolding kind_at
 is_dir_any entries m n k = refl
 
 pub refused_improper : (c : Content) (path : Text) → key_of path ≡ None → add_refusal c path ≡ Some Improper
+unfolding add_refusal
 refused_improper c path key = ap (key_refusal c) key
 
 module _ (entries : List (Key × Kind)) (current : ℕ) (path names : Text) (directory : Key) (name : Text) (key : key_of path ≡ Some (pieces names)) (last : pieces names ≡ directory ++ name ∷ []) where
@@ -42,6 +43,7 @@ module _ (entries : List (Key × Kind)) (current : ℕ) (path names : Text) (dir
   c = content_at entries current
 
   refusal_at : add_refusal c path ≡ key_refusal c (Some (directory ++ name ∷ []))
+  unfolding add_refusal
   refusal_at = ap (key_refusal c) (key ∙ ap Some last)
 
   parent_is : is_dir_at c (parent_key (directory ++ name ∷ [])) ≡ is_dir_at (rooted_content entries) directory
@@ -99,6 +101,7 @@ module _ (entries : List (Key × Kind)) (current : ℕ) (path : Text) (number : 
       ∙ is_content-extended (content_at entries current) is k name kind stands place.utf8 place.proper place.free
 
   pub content_with-more : content_at more current ≡ content_with (content_at entries current) path kind
+  unfolding content_with
   content_with-more = ap (λ key. record { kinds = more; current = key }) current_stays ∙ ap (with_key (content_at entries current) kind) (sym place.key)
 
 -- what a call ensures that succeeded
@@ -108,13 +111,16 @@ on_ok_holds (Err e) h p = absurd (both_ways false refl h)
 
 -- a path that names no key does not become the current directory
 pub current_improper : (c : Content) (path : Text) → bytes_eq path root_dir ≡ false → key_of path ≡ None → current_refusal c path ≡ Some Improper
+unfolding current_refusal directory_key
 current_improper c path other key = ap (λ b. directory_refusal c (cond b (Some []) (key_of path))) other ∙ ap (directory_refusal c) key
 
 pub current_no_directory : (c : Content) (path : Text) (k : Key) → bytes_eq path root_dir ≡ false → key_of path ≡ Some k → is_dir_at c k ≡ false → current_refusal c path ≡ Some NoDirectory
+unfolding current_refusal directory_key
 current_no_directory c path k other key d =
     ap (λ b. directory_refusal c (cond b (Some []) (key_of path))) other ∙ ap (directory_refusal c) key ∙ ap (λ b. cond b None (Some NoDirectory)) d
 
 pub current_allowed : (c : Content) (path : Text) (number : ℕ) → IsDirectoryOf c path number → current_refusal c path ≡ None
+unfolding current_refusal
 current_allowed c path number is = ap (directory_refusal c) is.key ∙ ap (λ b. cond b None (Some NoDirectory)) is.directory
 
 -- the entries stay a content with another directory as the current one
@@ -135,6 +141,7 @@ is_content-current entries current number h d =
 
 module _ (entries : List (Key × Kind)) (current number : ℕ) (path : Text) (inside : number < length entries) where
   pub root_named : bytes_eq path root_dir ≡ true → entry_numbered entries number ≡ root_entry → is_content (content_at entries current) ≡ true → IsDirectoryOf (content_at entries current) path number
+  unfolding directory_key
   root_named same root content = record {
     key = ap (λ b. cond b (Some []) (key_of path)) same ∙ ap (λ e. Some e.0) (sym root);
     inside = inside;
@@ -143,6 +150,7 @@ module _ (entries : List (Key × Kind)) (current number : ℕ) (path : Text) (in
 
   pub directory_named : (k : Key) → bytes_eq path root_dir ≡ false → key_of path ≡ Some k → (key_numbered entries number) ≡ k → is_dir_at (rooted_content entries) k ≡ true
       → IsDirectoryOf (content_at entries current) path number
+  unfolding directory_key
   directory_named k other key at d = record {
     key = ap (λ b. cond b (Some []) (key_of path)) other ∙ key ∙ ap Some (sym at);
     inside = inside;

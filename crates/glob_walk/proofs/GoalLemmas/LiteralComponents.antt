@@ -5,16 +5,16 @@ use Rattle.std.proofs.lemmas.Str.{IsUtf8-from_is_utf8}
 use Rattle.glob_text.specs.Text.{Text}
 use Rattle.glob_walk.specs.Components.{is_literal, matches_name}
 use Rattle.glob_pattern.specs.declared.options.MatchOptions.{MatchOptions}
-use Rattle.glob_pattern.proofs.GrammarLemmas.Accepted.{reading_of-Ok, one_reading}
+use Rattle.glob_pattern.proofs.GrammarLemmas.Accepted.{one_reading}
+use Rattle.glob_pattern.proofs.MatchingLemmas.Computed.{match_decided}
 use Rattle.glob_pattern.proofs.MatchingLemmas.PlainPatterns.{plain_matches_itself}
-use Rattle.glob_pattern.proofs.MatchingLemmas.Deciding.{Decides-Matches}
 use Rattle.glob_walk.proofs.GoalLemmas.Characters.{literal-chars, chars_same}
 
 matches-itself : (o : MatchOptions) → o.case_sensitive ≡ true → (t n : Text) → is_literal t ≡ true → IsUtf8 t → IsUtf8 n → (matches_name o t n ≡ true → t ≡ n) × (t ≡ n → matches_name o t n ≡ true)
 matches-itself o case t n literal a b =
     let plain = literal-chars t a literal in
     let both = plain_matches_itself one_reading o (chars t) (chars n) plain case in
-    let decides = Decides-Matches o (chars t) (chars n) (λ tokens. ((reading_of-Ok (chars t) tokens).1, (reading_of-Ok (chars t) tokens).0)) in (
+    let decides = match_decided o (chars t) (chars n) in (
       (λ h. chars_same t n a b (both.0 (decides.0 h))),
       (λ e. decides.1 (both.1 (ap chars e))),
     )

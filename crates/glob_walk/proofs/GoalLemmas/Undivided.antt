@@ -21,7 +21,7 @@ use Rattle.glob_pattern.specs.Computing.Deciding.{is_match}
 use Rattle.glob_walk.specs.Components.{has_root, without_root, without_end_separator, components, is_literal, is_recursive, is_special_name, matches_name, first_fault, walk_fault}
 use Rattle.glob_walk.specs.Goal.{is_plain_component, are_plain, is_plain, text_below, goal_options, matches_undivided}
 use Rattle.glob_pattern.specs.declared.options.MatchOptions.{MatchOptions}
-use Rattle.glob_pattern.proofs.GrammarLemmas.Reading.{HasTokens-reading_of}
+use Rattle.glob_pattern.proofs.MatchingLemmas.Computed.{accepted_by_reading}
 use Rattle.glob_pattern.specs.Matching.Components.{is_open, run_to_end, run_before, name_before, takes_names, with_separator_rule, AreComponents}
 use Rattle.glob_pattern.proofs.ComponentLemmas.JoinedComponents.{joined_takes, rooted_takes}
 use Rattle.glob_walk.proofs.GoalLemmas.PatternParts.{components-utf8, components-flat, components-joined, without_end-rooted}
@@ -69,7 +69,7 @@ accepted-from_none : (t : Text) → is_none (result_err (reading_of t)) ≡ true
 accepted-from_none t h = by_reading (reading_of t) refl h
   where
     by_reading : (read : Result (List Token) Fault) → reading_of t ≡ read → is_none (result_err read) ≡ true → IsAccepted t
-    by_reading (Ok tokens) e h = let has = HasTokens-reading_of t tokens e in (has.0, has.1)
+    by_reading (Ok tokens) e h = accepted_by_reading t tokens e
     by_reading (Err fault) e h = absurd (false≢true h)
 
 none-parts : {X : Type 0} (a b : Option X) → is_none (option_or a b) ≡ true → (is_none a ≡ true) × (is_none b ≡ true)

@@ -26,11 +26,13 @@ given_items-is answers is said = ap (filter_map item_of) said ∙ kept is
 module _ {A : Type 0} (c : Content) (o : MatchOptions) (pattern : Text) (p : IsPlainWalk c o pattern) (limit spent : ℕ) (answers : List (Result (PathBuf A) (GlobError A))) where
   -- the items are a beginning, and where the walk is done they are all
   begins : (end : End) → IsWalk (listing c o pattern) limit end spent answers → IsBeginning (given_items answers) (items (listing c o pattern))
+  unfolding IsWalk
   begins Done walk = IsBeginning-whole (given_items answers) (items (listing c o pattern)) (given_items-is answers (items (listing c o pattern)) walk.2)
   begins Limit walk = IsBeginning-within c o pattern limit (given_items answers) (given_items-is answers (items (front limit (listing c o pattern))) walk.2)
   begins Memory walk = subst (λ is. IsBeginning is (items (listing c o pattern))) (sym (given_items-is answers walk.0 walk.1)) walk.2
 
   whole : (end : End) → IsWalk (listing c o pattern) limit end spent answers → end ≡ Done → given_items answers ≡ items (listing c o pattern)
+  unfolding IsWalk
   whole Done walk e = given_items-is answers (items (listing c o pattern)) walk.2
   whole Limit walk e = absurd (cc)
   whole Memory walk e = absurd (cc)

@@ -58,6 +58,7 @@ module _ {A : Type 0} (ms : List Mark) (spent spent' : ℕ) (answers : List (Res
 
   -- nothing is left
   pub IsWalk-done : (limit : ℕ) → spent' ≤ limit → Charges rest spent [] spent' → IsWalk ms limit end.Done spent' answers
+  unfolding IsWalk
   IsWalk-done limit fits c =
       let (paths, whole, units, same) = charged [] c in
       let all : ms ≡ g.done ++ works paths = whole ∙ append_none (g.done ++ works paths) in
@@ -66,6 +67,7 @@ module _ {A : Type 0} (ms : List Mark) (spent spent' : ℕ) (answers : List (Res
 
   -- the next unit does not fit
   pub IsWalk-limit : (limit : ℕ) (path : Text) → spent' ≡ limit → StopsAt rest spent path spent' → IsWalk ms limit end.Limit spent' answers
+  unfolding IsWalk
   IsWalk-limit limit path at stop =
       let (paths, whole, units, same) = charged (Work path ∷ stop.rest) stop.charges in
       let done : List Mark = g.done ++ works paths in
@@ -77,6 +79,7 @@ module _ {A : Type 0} (ms : List Mark) (spent spent' : ℕ) (answers : List (Res
 
   -- memory was not found
   pub IsWalk-memory : (limit : ℕ) → IsWalk ms limit end.Memory spent' answers
+  unfolding IsWalk
   IsWalk-memory limit = (items g.done, g.given, (items rest, ap items g.whole ∙ items-append g.done rest))
 
 -- a walk from its beginning on, of which only items were gathered
@@ -102,6 +105,7 @@ pub record Ends {X A : Type 0} (asks : X → ℕ) (tells : X → Option Content)
   pub walk : (c : Content) → IsTold (tells first.tree) c → (ms : List Mark) → first.left ≡ Some ms → IsWalk ms first.limit e last.spent answers
 
 pub Gathers-none : {X A : Type 0} (asks : X → ℕ) (tells : X → Option Content) (first : Walking X) → IsFresh first.tree first.limit first → Gathers {A = A} asks tells first [] first
+unfolding HasNoRefusal
 Gathers-none {A = A} asks tells first fresh = record {
   same = refl;
   within = omega (arith, fresh.spent);
@@ -124,6 +128,7 @@ module _ {X A : Type 0} (asks : X → ℕ) (tells : X → Option Content) (first
 
   pub Gathers-item : (answer : Result (PathBuf A) (GlobError A)) (item : Item) → outcome answer ≡ Gives item → Goes asks tells now (Some (Gives item)) new
       → Gathers asks tells first (answers ++ answer ∷ []) new
+  unfolding HasNoRefusal
   Gathers-item answer item says goes = record {
     same = goes.counts.limit ∙ g.same;
     within = omega (arith, goes.counts.within, goes.counts.limit, g.same);
@@ -147,6 +152,7 @@ module _ {X A : Type 0} (asks : X → ℕ) (tells : X → Option Content) (first
       )
 
   pub Ends-done : Goes asks tells now None new → Ends asks tells first end.Done answers new
+  unfolding IsWalkAsked
   Ends-done goes = record {
     within = omega (arith, goes.counts.within, goes.counts.limit, g.same);
     asked = omega (arith, goes.counts.asked, g.asked);
@@ -161,6 +167,7 @@ module _ {X A : Type 0} (asks : X → ℕ) (tells : X → Option Content) (first
 
   -- an item that was not kept
   pub Ends-memory : (o : Outcome) → asks new.tree + now.spent ≡ asks now.tree + new.spent → Goes asks tells now (Some o) new → Ends asks tells first end.Memory answers new
+  unfolding IsWalkAsked
   Ends-memory o asked goes = record {
     within = omega (arith, goes.counts.within, goes.counts.limit, g.same);
     asked = omega (arith, asked, g.asked);
@@ -173,6 +180,7 @@ module _ {X A : Type 0} (asks : X → ℕ) (tells : X → Option Content) (first
   }
 
   ends_limit : (path : Text) → Goes asks tells now (Some (LimitAt path)) new → Ends asks tells first end.Limit answers new
+  unfolding IsWalkAsked
   ends_limit path goes = record {
     within = omega (arith, goes.counts.within, goes.counts.limit, g.same);
     asked = (goes.counts.asked.0 ∙ goes.counts.limit ∙ g.same, omega (arith, goes.counts.asked.1, g.asked));

@@ -1,7 +1,7 @@
 -- A literal component matches the names that are the same as it.
 use Rattle.std.proofs.Common.{◌≡◌, ◌↔◌, Bool, true, false, cond, not, ◌&&◌, [], ◌∷◌, None, Result, Ok, Err, IsTrue, refl, ap, sym, ◌∙◌}
 use Rattle.std.specs.Prelude.{IfOk}
-use Rattle.std.specs.Bool.{Decides, one_answer}
+use Rattle.std.specs.Bool.{one_answer}
 use Rattle.std.specs.Str.{chars, IsUtf8}
 use Rattle.std.proofs.lemmas.Bool.{both_ways}
 use Rattle.std.proofs.lemmas.Slice.Eq.{bytes_eq-Decides}
@@ -13,8 +13,8 @@ use Rattle.glob_pattern.specs.Matching.Texts.{Matches}
 use Rattle.glob_pattern.specs.Computing.Deciding.{is_match}
 use Rattle.glob_pattern.specs.Computing.Reading.{units_from}
 use Rattle.glob_pattern.specs.declared.options.MatchOptions.{MatchOptions}
-use Rattle.glob_pattern.proofs.GrammarLemmas.Accepted.{reading_of-Ok, one_reading}
-use Rattle.glob_pattern.proofs.MatchingLemmas.Deciding.{Decides-Matches}
+use Rattle.glob_pattern.proofs.GrammarLemmas.Accepted.{one_reading}
+use Rattle.glob_pattern.proofs.MatchingLemmas.Computed.{match_decided}
 use Rattle.glob_pattern.proofs.MatchingLemmas.PlainPatterns.{plain_matches_same}
 use Rattle.glob_walk.specs.Components.{component_kind, Literal, Recursive, Wild, is_literal, is_recursive, matches_name}
 use Rattle.glob_walk.specs.Private.Parts.{same_texts, takes_name, text_fault}
@@ -71,12 +71,9 @@ stars_fault = refl
 pub text_fault-recursive : (t : Text) → is_recursive t ≡ true → text_fault t ≡ None
 text_fault-recursive t h = ap text_fault ((bytes_eq-Decides t (star ∷ star ∷ [])).0 h) ∙ stars_fault
 
-Decides-is_match : (o : MatchOptions) (pattern text : Text) → Decides (is_match o pattern text) (Matches o pattern text)
-Decides-is_match o pattern text = Decides-Matches o pattern text (λ tokens. ((reading_of-Ok pattern tokens).1, (reading_of-Ok pattern tokens).0))
-
 -- a pattern's answer is that of the decider
 same_answer : (o : MatchOptions) (pattern name : Text) (b : Bool) → (IsTrue b ↔ Matches o (chars pattern) (chars name)) → b ≡ matches_name o pattern name
-same_answer o pattern name b h = one_answer b (is_match o (chars pattern) (chars name)) (h.0, h.1) (Decides-is_match o (chars pattern) (chars name))
+same_answer o pattern name b h = one_answer b (is_match o (chars pattern) (chars name)) (h.0, h.1) (match_decided o (chars pattern) (chars name))
 
 pub matches_name-result : {E : Type 0} (o : MatchOptions) (pattern name : Text) (r : Result Bool E) → IfOk r (λ b. IsTrue b ↔ Matches o (chars pattern) (chars name))
     → IfOk r (λ b. b ≡ matches_name o pattern name)

@@ -11,12 +11,12 @@ use Rattle.glob_text.specs.Text.{Text}
 use Rattle.glob_text.specs.Characters.{slash}
 use Rattle.glob_text.specs.Pieces.{ends_with}
 use Rattle.glob_pattern.specs.Grammar.Characters.{is_wildcard}
-use Rattle.glob_pattern.specs.Grammar.Tokens.{tokens_of_units}
 use Rattle.glob_pattern.specs.Grammar.Units.{IsAccepted}
 use Rattle.glob_pattern.specs.Grammar.Faults.{Refuses, Fault}
 use Rattle.glob_pattern.specs.declared.error.PatternRefusal.{PatternRefusal}
 use Rattle.glob_pattern.specs.declared.error.PatternRefusal.TheVariants as refusal
 use Rattle.glob_pattern.proofs.GrammarLemmas.Accepted.{reading_of-Ok, reading_of-Err}
+use Rattle.glob_pattern.proofs.GrammarLemmas.Accepting.{tokens_of_accepted}
 use Rattle.glob_pattern.proofs.MatchingLemmas.PlainPatterns.{plain_accepted}
 use Rattle.glob_tree.proofs.ContentLemmas.Resolving.{front_and_end}
 use Rattle.std.proofs.lemmas.Iterator.{YieldsList}
@@ -48,7 +48,9 @@ without_root-plain (b ∷ bs) h = by_test (b == slash) refl
 
 -- an accepted text has no fault
 pub text_fault-accepted : (text : Text) → IsAccepted (chars text) → text_fault text ≡ None
-text_fault-accepted text (units, has) = ap result_err ((reading_of-Ok (chars text) (tokens_of_units units)).1 (units, has, refl))
+text_fault-accepted text accepted =
+    let has = tokens_of_accepted (chars text) accepted in
+    ap result_err ((reading_of-Ok (chars text) has.0).1 has.1)
 
 -- a refusal tells the fault
 pub RefusesWith-text_fault : (text : Text) (e : PatternRefusal) → Refuses (chars text) e → RefusesWith (text_fault text) e

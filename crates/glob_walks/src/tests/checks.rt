@@ -118,7 +118,11 @@ pub(super) fn check_ended<T: Tree>(
         assert!(rt; next_of(paths).is_none());
     }
     assert!(rt; counts_of(paths) == counts);
-    let (spent, given) = counts;
+    check_counts(rt, counts, limit, count);
+}
+
+/// What a walk within the limit spent, and how many items it gave, which are so many.
+fn check_counts(rt: &impl Abort, (spent, given): (u64, u128), limit: u64, count: usize) {
     assert!(rt; spent <= limit);
     assert!(rt; given == count as u128);
     assert!(rt; given <= u128::from(spent) + 1);

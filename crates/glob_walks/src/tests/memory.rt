@@ -111,12 +111,10 @@ fn gathers<A: Allocator + Copy>(
         }
         Ok(walk) => {
             assert!(rt; is_beginning(walk.items.as_slice(), known));
-            if walk.end == End::Done {
-                assert_eq!(rt; walk.items.len(), known.len());
-                return true;
-            }
-            assert!(rt; walk.end == End::Memory);
-            false
+            let is_done = walk.end == End::Done;
+            assert!(rt; is_done || walk.end == End::Memory);
+            assert!(rt; !is_done || walk.items.len() == known.len());
+            is_done
         }
     }
 }

@@ -49,19 +49,23 @@ fn one_file(rt: &(impl Abort + AllocGlobal), name: &str) -> Result<MemTree, Fail
     Ok(tree)
 }
 
-/// A file of a name is found by its name, by `*`, and by its name and `*` after `**`.
+/// A file of this name is found by its name, by `*`, and by its name and `*` after `**`.
+fn check_name(rt: &(impl Abort + AllocGlobal), name: &str) -> Result<(), Fail> {
+    let after = format!(in rt.alloc(); "**/{name}*")?;
+    for (pattern, spent) in [(name, 2), ("*", 3), (after.as_str(), 3)] {
+        let tree = one_file(rt, name)?;
+        check_over(rt, tree, Job::of(pattern), &[Path(name)], spent)?;
+    }
+    Ok(())
+}
+
+/// The characters are tried one after another. So each of them is tried at some power of two, one below and one above,
+/// as the list has three sizes for each power.
 #[test]
 fn names(rt: HostRuntime) -> Result<(), Fail> {
-    for size in sizes_to(&rt, 17)? {
-        let size = size.max(1);
-        let character = CHARACTERS[size % 4];
-        let name = repeated(&rt, character, size)?;
-        let name = name.as_str();
-        let after = format!(in rt.alloc(); "**/{name}*")?;
-        for (pattern, spent) in [(name, 2), ("*", 3), (after.as_str(), 3)] {
-            let tree = one_file(&rt, name)?;
-            check_over(&rt, tree, Job::of(pattern), &[Path(name)], spent)?;
-        }
+    for (place, size) in sizes_to(&rt, 17)?.iter().enumerate() {
+        let name = repeated(&rt, CHARACTERS[place % 4], (*size).max(1))?;
+        check_name(&rt, name.as_str())?;
     }
     Ok(())
 }

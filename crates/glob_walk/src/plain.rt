@@ -1,0 +1,50 @@
+//! Which patterns are plain.
+ghost use Rattle.std.specs.Prelude.{◌≡◌, false, None, IfOk, IfErr};
+ghost use Rattle.glob_text.specs.Pieces.{pieces};
+ghost use Rattle.glob_walk.specs.Components.{walk_fault};
+ghost use Rattle.glob_walk.specs.Goal.{are_plain, is_plain, is_plain_component};
+ghost use Rattle.glob_walk.specs.Walks.{RefusesWith};
+
+use crate::part::{is_literal, is_recursive, is_special};
+use crate::path_text::begins_with_dot;
+use crate::plan::{Plan, past_root};
+use glob_pattern::{MatchOptions, PatternRefusal};
+use std::alloc::Allocator;
+
+/// Whether the pattern is plain, so that a walk by it finds what the undivided pattern matches: no component is empty,
+/// `.` or `..`, and each that has a wildcard and begins with a dot is right after a `**`. A `/` at the start or at the
+/// end makes no component. A pattern that [`glob_in`](crate::glob_in) would refuse is refused as it does.
+///
+/// So `src/**/*.rs` is plain, and `src/./*.rs` and `.*` are not; `a**` is refused.
+#[tactic(auto, unfolding(crate::specs::Goal::is_plain))]
+pub fn is_plain<A: Allocator + Copy>(alloc: A, pattern: &str) -> Result<bool, PatternRefusal>
+    ensures plain { IfOk result (λ yes. yes ≡ is_plain pattern.now) }
+    ensures accepted { IfOk result (λ _. walk_fault pattern.now ≡ None) }
+    ensures refused { IfErr result (RefusesWith (walk_fault pattern.now)) }
+{
+    Plan::read(alloc, pattern, MatchOptions::new())?;
+    Ok(are_plain(past_root(pattern)))
+}
+
+/// Whether the components of a text are plain, which stand between separators.
+fn are_plain(text: &str) -> bool
+    ensures { result ≡ are_plain false (pieces text.now) }
+{
+    let mut after_recursive = false;
+    for component in text.split('/') {
+        if !is_plain_component(after_recursive, component) {
+            return false;
+        }
+        after_recursive = is_recursive(component);
+    }
+    true
+}
+
+/// Whether the component is plain, where `**` is right before it or not.
+fn is_plain_component(after_recursive: bool, component: &str) -> bool
+    ensures { result ≡ is_plain_component after_recursive component.now }
+{
+    !component.is_empty()
+        && !is_special(component)
+        && (is_literal(component) || !begins_with_dot(component) || after_recursive)
+}
