@@ -1,3 +1,4 @@
+pub mod Lists
 pub mod Types
 pub mod Variants
 pub use Rattle.glob_lines.specs.LineFaults

@@ -33,5 +33,6 @@ pub use glob_pattern::{
 };
 pub use glob_tree::{Asks, Entry, ListError, Look, MemTree, Name, Tree, TreeRefusal};
 pub use glob_walk::{
-    Disk, End, GlobCause, GlobError, GlobResult, Paths, Walk, glob, glob_in, glob_with, walk_in,
+    Disk, End, GlobCause, GlobError, GlobResult, Paths, Walk, glob, glob_in, glob_with, is_plain,
+    walk_in,
 };

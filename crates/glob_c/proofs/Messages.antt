@@ -23,5 +23,6 @@ chosen false false false p q r s = λ _ n. absurd (n refl)
 
 -- The message of a fault is the third if it is not one of the first two.
 pub third_message : (text : Text) (fault : Fault) → IsFault text fault → IsThird fault
+unfolding IsFault
 third_message text fault (f, units, between, inside, none, same) =
     subst IsThird (sym same) (chosen (not (has text f star)) (has text (f + 2) star) (not (opens text f)) f (f + 2) (f - 1) (f + 2))

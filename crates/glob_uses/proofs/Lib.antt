@@ -1,3 +1,2 @@
-pub mod Gathered
-pub mod ListReading
+pub mod Chosen
 pub mod Marks

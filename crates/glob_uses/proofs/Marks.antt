@@ -9,9 +9,9 @@ use Rattle.std.proofs.lemmas.List.{get_or_default}
 use Rattle.std.proofs.lemmas.Simd.{map-map}
 use Rattle.glob.specs.Text.{Text}
 use Rattle.glob_uses.specs.Ignoring.{Rules, pattern_of, is_keeping, rules_of, Ignores}
-use Rattle.glob_uses.specs.Lists.{LastMatch}
+use Rattle.glob.specs.Lists.{LastMatch}
 use Rattle.glob_uses.specs.Options.{path_options}
-use Rattle.glob_uses.proofs.ListReading.{LastMatch-same, LastMatch-none}
+use Rattle.glob.proofs.ListReading.{LastMatch-same, LastMatch-none}
 
 -- what is left of a line from whose start `!` is stripped
 pub pattern_of-from : (line : Bor (List ℕ)) (r : Option (Bor (List ℕ)))

@@ -2,7 +2,7 @@
 use Rattle.std.specs.Prelude.{◌≡◌, ℕ, ◌==◌, Bool, true, false, if◌then◌else◌, List, map, drop, slice_index, slice_index_or, Some}
 use Rattle.glob.specs.Text.{Text}
 use Rattle.glob.specs.Grammar.Characters.{exclamation_mark}
-use Rattle.glob_uses.specs.Lists.{LastMatch}
+use Rattle.glob.specs.Lists.{LastMatch}
 use Rattle.glob_uses.specs.Options.{path_options}
 
 -- What the rules are: the pattern of each, and whether it keeps what it matches.

@@ -1,4 +1,5 @@
+pub mod Copying
 pub mod Ignoring
-pub mod Lists
 pub mod Options
 pub mod Sources
+pub use Rattle.glob.specs.Lists

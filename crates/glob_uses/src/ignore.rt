@@ -1,7 +1,7 @@
 //! An ignore list, as of a version control: the last rule that matches decides, and `!` turns a rule round.
 ghost use Rattle.std.specs.Prelude.{◌≡◌, ◌↔◌, map, IsTrue, IfOk, IfErr};
 ghost use Rattle.glob_uses.specs.Ignoring.{Ignores, pattern_of, rules_of, is_keeping};
-ghost use Rattle.glob_uses.specs.Lists.{RefusesOne};
+ghost use Rattle.glob.specs.Lists.{RefusesOne};
 
 use crate::lists::{last_match, path_options};
 use glob::{Pattern, PatternRefusal};

@@ -1,6 +1,7 @@
 //! Callers of the library, one file for each kind of user, with what each promises in words of its own.
 #![tactic(auto)]
 
+pub mod copy;
 pub mod ignore;
 pub mod lists;
 pub mod literals;
@@ -8,3 +9,4 @@ pub mod router;
 pub mod sources;
 #[cfg(test)]
 mod tests;
+pub mod texts;

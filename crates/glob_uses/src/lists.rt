@@ -1,7 +1,7 @@
 //! A text against a list of patterns: whether any matches it, and which does first or last.
 ghost use Rattle.std.specs.Prelude.{◌≡◌, ◌↔◌, map, IsTrue, IfOk, IfErr};
 ghost use Rattle.glob_uses.specs.Options.{path_options};
-ghost use Rattle.glob_uses.specs.Lists.{AnyMatch, FirstMatch, LastMatch, RefusesOne};
+ghost use Rattle.glob.specs.Lists.{AnyMatch, FirstMatch, LastMatch, RefusesOne};
 
 use glob::{MatchOptions, Pattern, PatternRefusal};
 use std::alloc::{AllocError, Allocator};

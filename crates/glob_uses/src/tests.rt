@@ -1,5 +1,7 @@
+mod copy;
 mod ignore;
 mod lists;
 mod literals;
 mod router;
 mod sources;
+mod texts;

@@ -35,6 +35,8 @@ fn the_sources_of_a_pattern(rt: HostRuntime) -> Result<(), Fail> {
 fn what_keeps_them_unknown(rt: HostRuntime) -> Result<(), Fail> {
     let found = sources(rt.alloc(), tree(rt.alloc())?, "src/**.rs", 100);
     assert!(rt; matches!(found, Err(SourceFault::Pattern(_))));
+    let found = sources(rt.alloc(), tree(rt.alloc())?, "src/../*.rs", 100);
+    assert!(rt; matches!(found, Err(SourceFault::NotPlain)));
     let found = sources(rt.alloc(), tree(rt.alloc())?, "src/**/*.rs", 3);
     assert!(rt; matches!(found, Err(SourceFault::Limit)));
     let mut shut = tree(rt.alloc())?;

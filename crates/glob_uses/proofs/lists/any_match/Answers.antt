@@ -1,5 +1,5 @@
 use Rattle.std.proofs.Common.{rules, refl, arith, below_more}
-use Rattle.glob_uses.proofs.ListReading.{MatchesAt-yes, MatchesAt-no, AnyMatch-at, NoneBelow-end}
+use Rattle.glob.proofs.ListReading.{MatchesAt-yes, MatchesAt-no, AnyMatch-at, NoneBelow-end}
 use Rattle.glob_uses.proofs.lists.any_match.Goals as goal
 
 pub returns-then-branch : goal.returns-then-branch

@@ -1,5 +1,5 @@
 use Rattle.std.proofs.Common.{arith, below_more}
-use Rattle.glob_uses.proofs.ListReading.{MatchesAt-yes, MatchesAt-no, FirstMatch-at, FirstMatch-end}
+use Rattle.glob.proofs.ListReading.{MatchesAt-yes, MatchesAt-no, FirstMatch-at, FirstMatch-end}
 use Rattle.glob_uses.proofs.lists.first_match.Goals as goal
 
 pub returns-then-branch : goal.returns-then-branch

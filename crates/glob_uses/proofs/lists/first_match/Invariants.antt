@@ -1,4 +1,4 @@
-use Rattle.glob_uses.proofs.ListReading.{NoneBelow}
+use Rattle.glob.proofs.ListReading.{NoneBelow}
 use Rattle.glob_uses.proofs.lists.first_match.Given as goal
 
 abbrev pub invariant-loop-place : goal.invariant-loop-place

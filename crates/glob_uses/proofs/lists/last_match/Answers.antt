@@ -1,5 +1,5 @@
 use Rattle.std.proofs.Common.{◌+◌, arith, sym, subst}
-use Rattle.glob_uses.proofs.ListReading.{MatchesAt-yes, MatchesAt-no, LastBelow, LastBelow-start, LastBelow-yes, LastBelow-no, LastMatch-end}
+use Rattle.glob.proofs.ListReading.{MatchesAt-yes, MatchesAt-no, LastBelow, LastBelow-start, LastBelow-yes, LastBelow-no, LastMatch-end}
 use Rattle.glob_uses.proofs.lists.last_match.Goals as goal
 use Rattle.glob_uses.proofs.lists.last_match.Goals.{then-branch, else-branch}
 

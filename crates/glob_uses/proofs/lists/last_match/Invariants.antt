@@ -1,4 +1,4 @@
-use Rattle.glob_uses.proofs.ListReading.{LastBelow}
+use Rattle.glob.proofs.ListReading.{LastBelow}
 use Rattle.glob_uses.proofs.lists.last_match.Given as goal
 
 abbrev pub invariant-loop-place : goal.invariant-loop-place

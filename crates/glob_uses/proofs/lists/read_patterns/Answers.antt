@@ -1,6 +1,6 @@
 use Rattle.std.proofs.Common.{arith, refl, sym, subst}
 use Rattle.glob.specs.Grammar.Faults.{Refuses}
-use Rattle.glob_uses.proofs.ListReading.{map-take_more, RefusesOne-at, IfErr-from_known, IfErr-memory}
+use Rattle.glob.proofs.ListReading.{map-take_more, RefusesOne-at, IfErr-from_known, IfErr-memory}
 use Rattle.glob_uses.proofs.lists.read_patterns.Goals as goal
 
 pub returns-in_err-new-clause-refused : goal.returns-in_err-new-clause-refused

@@ -5,6 +5,7 @@ use Rattle.glob.specs.Computing.Deciding.{is_match, tokens_match}
 use Rattle.glob.specs.Computing.Reading.{units_from}
 use Rattle.glob.specs.Matching.Options.{new_options}
 use Rattle.glob.specs.Matching.Texts.{Matches}
+use Rattle.glob.proofs.PatternLemmas.{match_by_computing}
 use Rattle.glob_uses.proofs.literals.matches_main.Goals as goal
 
 -- the definitions compute the answer
@@ -12,10 +13,9 @@ computed : is_match new_options (chars (codes "*.rs")) (chars (codes "main.rs"))
 unfolding is_match tokens_match units_from chars
 computed = refl
 
--- the law makes a match of it, and the pattern has the text that it was made of
+-- the lemma makes a match of it, and the pattern has the text that it was made of
 pub returns : goal.returns
 returns g c =
-    let law = c.matching_is_decided.ensures.patterns in
-    let matches = (law new_options (chars (codes "*.rs")) (chars (codes "main.rs"))).0 computed in
+    let matches = match_by_computing new_options (chars (codes "*.rs")) (chars (codes "main.rs")) computed in
     c.in_ok-matches.ensures.answer.1
     (subst (λ p. Matches new_options (chars p) (chars (codes "main.rs"))) (sym c.in_ok-pattern.ensures.text) matches)

@@ -3,7 +3,7 @@ use Rattle.std.specs.Borrow.{Bor}
 use Rattle.std.proofs.lemmas.List.{take_all}
 use Rattle.std.proofs.lemmas.Str.Pattern.{starts_char}
 use Rattle.glob.specs.Grammar.Faults.{Refuses}
-use Rattle.glob_uses.proofs.ListReading.{map-take_more, RefusesOne-at, IfErr-from_known, IfErr-memory}
+use Rattle.glob.proofs.ListReading.{map-take_more, RefusesOne-at, IfErr-from_known, IfErr-memory}
 use Rattle.glob_uses.proofs.Marks.{is_keeping-from, rules_of-read}
 use Rattle.glob_uses.proofs.ignore.IgnoreList.new.Goals as goal
 

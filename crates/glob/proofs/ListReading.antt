@@ -9,7 +9,7 @@ use Rattle.glob.specs.Text.{Text}
 use Rattle.glob.specs.Grammar.Faults.{Refuses}
 use Rattle.glob.specs.Types.{MatchOptions, PatternRefusal}
 use Rattle.glob.specs.Variants.PatternRefusal.{Syntax, Memory}
-use Rattle.glob_uses.specs.Lists.{MatchesAt, AnyMatch, FirstMatch, LastMatch, RefusesOne}
+use Rattle.glob.specs.Lists.{MatchesAt, AnyMatch, FirstMatch, LastMatch, RefusesOne}
 
 module _ (o : MatchOptions) (patterns : List Text) (text : Text) where
   -- none of the patterns before a place matches

@@ -1,0 +1,5 @@
+pub mod EscapedFolders
+pub mod FoundPaths
+pub mod ListReading
+pub use Rattle.glob_pattern.proofs.CallerLemmas as PatternLemmas
+pub use Rattle.glob_walk.proofs.CallerLemmas as WalkLemmas
