@@ -1,13 +1,33 @@
 # Completions of glob_run for fish.
 
+function __glob_run_first -d 'Whether the word after the program is being written'
+    test (count (commandline -opc)) -eq 1
+end
+
+function __glob_run_options -d 'Whether nothing but options stands after one of these commands'
+    set -l words (commandline -opc)
+    contains -- "$words[2]" $argv; or return 1
+    set -l is_limit no
+    for word in $words[3..-1]
+        if test $is_limit = yes
+            set is_limit no
+        else if test "$words[2] $word" = 'find -n'
+            set is_limit yes
+        else if not string match -qr '^-[isd]$' -- $word
+            return 1
+        end
+    end
+    test $is_limit = no
+end
+
 complete -c glob_run -f
-complete -c glob_run -n __fish_use_subcommand -a match -d 'Copy the matching lines of standard input'
-complete -c glob_run -n __fish_use_subcommand -a find -d 'Write the paths of the disk that match'
-complete -c glob_run -n __fish_use_subcommand -a escape -d 'Write the pattern that stands for a text alone'
-complete -c glob_run -n __fish_use_subcommand -s h -l help -d 'Write the page that teaches the program'
-complete -c glob_run -n __fish_use_subcommand -l version -d 'Write the version'
-complete -c glob_run -n '__fish_seen_subcommand_from match find' -s i -d 'ASCII letters in either case are the same'
-complete -c glob_run -n '__fish_seen_subcommand_from match find' -s s -d 'Wildcards and brackets take no separator'
-complete -c glob_run -n '__fish_seen_subcommand_from match find' -s d -d 'Wildcards and brackets take no leading dot'
-complete -c glob_run -n '__fish_seen_subcommand_from find' -s n -x -d 'The most lookups, listings and entries'
-complete -c glob_run -n '__fish_seen_subcommand_from find' -F
+complete -c glob_run -n __glob_run_first -a match -d 'Copy the matching lines of standard input'
+complete -c glob_run -n __glob_run_first -a find -d 'Write the paths of the disk that match'
+complete -c glob_run -n __glob_run_first -a escape -d 'Write the pattern that stands for a text alone'
+complete -c glob_run -n __glob_run_first -s h -l help -d 'Write the page that teaches the program'
+complete -c glob_run -n __glob_run_first -l version -d 'Write the version'
+complete -c glob_run -n '__glob_run_options match find' -s i -d 'ASCII letters in either case are the same'
+complete -c glob_run -n '__glob_run_options match find' -s s -d 'Wildcards and brackets take no separator'
+complete -c glob_run -n '__glob_run_options match find' -s d -d 'Wildcards and brackets take no leading dot'
+complete -c glob_run -n '__glob_run_options find' -s n -x -d 'The most lookups, listings and entries'
+complete -c glob_run -n '__glob_run_options find' -F

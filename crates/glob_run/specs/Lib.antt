@@ -1,2 +1,4 @@
 pub mod CommandLine
+pub mod FoundPaths
 pub mod Outcomes
+pub mod Requests

@@ -1,6 +1,10 @@
 //! What the words of a command line ask for.
-ghost use Rattle.std.specs.Prelude.{◌≡◌, map, option_map};
-ghost use Rattle.glob_run.specs.CommandLine.{AsksFor, operand_of};
+ghost use Rattle.std.specs.Prelude.{◌≡◌, ◌-◌, ◌^◌, map, option_map};
+ghost use Rattle.std.specs.Char.{is_ascii_digit};
+ghost use Rattle.std.specs.List.{list_all};
+ghost use Rattle.glob_run.specs.CommandLine.{is_match_option, limit_of, lines_request, operand_of, paths_request, request_asked, with_option};
+ghost use Rattle.glob_run.specs.Requests.{request_of, search_request};
+ghost use Rattle.glob.specs.Matching.Options.{new_options};
 
 use glob::MatchOptions;
 
@@ -35,7 +39,7 @@ pub struct Search<'a> {
 impl<'a> Command<'a> {
     /// Reads the words after the program's name. `None` is a usage fault.
     pub fn parse(words: &[&'a str]) -> Option<Self>
-        ensures { AsksFor (map (λ w. w.now) words.now) result }
+        ensures { option_map request_of result ≡ request_asked (map (λ w. w.now) words.now) }
     {
         let (&name, words) = words.split_first()?;
         match name {
@@ -50,28 +54,45 @@ impl<'a> Command<'a> {
         }
     }
 
-    fn parse_match(words: &[&'a str]) -> Option<Self> {
-        let (options, count) = leading_options(words);
-        let pattern = only_operand(words.get(count..)?)?;
-        Some(Command::Match { options, pattern })
+    /// Reads the words after `match`.
+    fn parse_match(words: &[&'a str]) -> Option<Self>
+        ensures { option_map request_of result
+            ≡ lines_request new_options (map (λ w. w.now) words.now) }
+    {
+        let mut options = MatchOptions::new();
+        let mut rest = words;
+        while let [word, after @ ..] = rest {
+            if !set_option(&mut options, word) {
+                let pattern = only_operand(rest)?;
+                return Some(Command::Match { options, pattern });
+            }
+            rest = after;
+        }
+        None
     }
 }
 
 impl<'a> Search<'a> {
     /// Reads the words after `find`. Between match options, `-n LIMIT` can stand, and the last one counts.
-    fn parse(words: &[&'a str]) -> Option<Self> {
+    fn parse(words: &[&'a str]) -> Option<Self>
+        ensures { option_map search_request result
+            ≡ paths_request new_options (2 ^ 64 - 1) (map (λ w. w.now) words.now) }
+    {
         let mut options = MatchOptions::new();
         let mut limit = u64::MAX;
-        let mut is_limit = false;
-        for (count, word) in words.iter().enumerate() {
-            if is_limit {
-                limit = parse_limit(word)?;
-                is_limit = false;
-            } else if *word == "-n" {
-                is_limit = true;
-            } else if !set_option(&mut options, word) {
+        let mut rest = words;
+        while let [word, after @ ..] = rest {
+            if *word == "-n" {
+                let [digits, after @ ..] = after else {
+                    return None;
+                };
+                limit = parse_limit(digits)?;
+                rest = after;
+            } else if set_option(&mut options, word) {
+                rest = after;
+            } else {
                 return Some(Search {
-                    pattern: only_operand(words.get(count..)?)?,
+                    pattern: only_operand(rest)?,
                     options,
                     limit,
                 });
@@ -81,19 +102,11 @@ impl<'a> Search<'a> {
     }
 }
 
-/// The match options that the first words set, and how many words those are.
-fn leading_options(words: &[&str]) -> (MatchOptions, usize) {
-    let mut options = MatchOptions::new();
-    for (count, word) in words.iter().enumerate() {
-        if !set_option(&mut options, word) {
-            return (options, count);
-        }
-    }
-    (options, words.len())
-}
-
 /// Sets the match option that the word names. False where it names none.
-fn set_option(options: &mut MatchOptions, word: &str) -> bool {
+fn set_option(options: &mut MatchOptions, word: &str) -> bool
+    ensures named { result ≡ is_match_option word.now }
+    ensures set { options.new ≡ with_option word.now options.old }
+{
     match word {
         "-i" => options.case_sensitive = false,
         "-s" => options.require_literal_separator = true,
@@ -104,12 +117,20 @@ fn set_option(options: &mut MatchOptions, word: &str) -> bool {
 }
 
 /// A limit: one to twenty decimal digits, whose number is at most `u64::MAX`.
-fn parse_limit(digits: &str) -> Option<u64> {
-    let is_number = digits.bytes().all(|byte| byte.is_ascii_digit());
-    if !is_number || digits.len() > 20 {
+fn parse_limit(digits: &str) -> Option<u64>
+    ensures { result ≡ limit_of digits.now }
+{
+    if digits.len() > 20 || !are_digits(digits) {
         return None;
     }
     digits.parse().ok()
+}
+
+/// Whether each character is a decimal digit. So `parse` meets no sign.
+fn are_digits(text: &str) -> bool
+    ensures { result ≡ list_all is_ascii_digit text.now }
+{
+    text.bytes().all(|byte| byte.is_ascii_digit())
 }
 
 /// The one word that is left after the options. A word that begins with `-` can stand there only after `--`.

@@ -1,115 +1,150 @@
 //! The command `find`: what a walk of the disk finds, a line for each path.
-ghost use Rattle.std.specs.Prelude.{◌≤◌, IfOk};
+ghost use Rattle.std.specs.Prelude.{◌≡◌, ◌≢◌, ◌≤◌, List, None, Some, IfOk, IfSome};
+ghost use Rattle.glob.specs.Answers.{IsTold};
+ghost use Rattle.glob.specs.Components.{walk_fault};
+ghost use Rattle.glob.specs.Content.{Content};
+ghost use Rattle.glob.specs.Listing.{listing};
+ghost use Rattle.glob.specs.Marks.{Mark};
+ghost use Rattle.glob.specs.Walks.{IsFresh};
+ghost use Rattle.glob_run.specs.FoundPaths.{FindsPaths, WritesItem};
+ghost use Rattle.glob_run.specs.Outcomes.{IsRefused};
 
 mod flushing_disk;
+mod line_sink;
 mod lines;
 
 use crate::command::Search;
 use crate::{FAULT, MATCHED, UNMATCHED, fault, write_line};
 use flushing_disk::FlushingDisk;
-use glob::{Disk, PatternRefusal, Tree, glob_in};
-use lines::Lines;
+use glob::{Disk, GlobResult, Paths, Tree, glob_in};
+use line_sink::LineSink;
+use lines::{LinesCell, SharedLines};
 use std::alloc::Allocator;
 use std::cell::RefCell;
-use std::fmt::{self, Display, Formatter};
 use std::fs::Files;
 use std::io::{self, BufWriter, Write};
 
 /// Walks the disk, writes each path and a line feed to `output` and each error to `errors`, and returns the exit status.
 /// A path waits for others before it is written, but not for long: see [`Lines`].
-pub fn run_find<R: Files + Drop, A: Allocator + Copy, W: Write + Drop, E: Write>(
+pub fn run_find<R: Files + Drop, A: Allocator + Copy, W: Write, E: Write>(
     rt: R,
     alloc: A,
     search: Search<'_>,
-    output: W,
+    output: &mut W,
     errors: &mut E,
 ) -> u8
+    ensures most { result ≤ 2 }
+    ensures refused { walk_fault search.entry.pattern.now ≢ None
+        → IsRefused output.old output.new result }
+{
+    let lines = RefCell::new(None);
+    let disk = FlushingDisk::new(Disk::new(rt, alloc), &lines);
+    let Some(items) = begin_walk(alloc, disk, search, errors) else {
+        return FAULT;
+    };
+    let status = write_walk(alloc, items, &mut *output, &lines, errors);
+    if let Some(lines) = lines.into_inner() {
+        lines.abandon();
+    }
+    status
+}
+
+/// Begins a walk. None is a refusal of the pattern, which is told.
+fn begin_walk<T: Tree, E: Write>(
+    alloc: T::Alloc,
+    tree: T,
+    search: Search<'_>,
+    errors: &mut E,
+) -> Option<Paths<T>>
+    ensures accepted { IfSome result (λ _. walk_fault search.entry.pattern.now ≡ None) }
+    ensures fresh { IfSome result (IsFresh tree search.entry.limit) }
+    ensures listing { (c : Content) → IsTold (T.tells tree) c → IfSome result
+        (λ walk. walk.left ≡ Some (listing c search.entry.options search.entry.pattern.now)) }
+{
+    match glob_in(alloc, tree, search.pattern, search.options, search.limit) {
+        Ok(items) => Some(items),
+        Err(refusal) => {
+            fault(alloc, errors, refusal);
+            None
+        }
+    }
+}
+
+/// Writes the items of a walk by lines that are put into the cell, and returns the exit status.
+fn write_walk<T: Tree, W: Write + Drop, A: Allocator + Copy, E: Write>(
+    alloc: A,
+    mut items: Paths<T>,
+    output: W,
+    lines: &LinesCell<W, A>,
+    errors: &mut E,
+) -> u8
+    requires { IsFresh items.tree items.limit items }
     ensures { result ≤ 2 }
 {
     let Ok(buffer) = BufWriter::new(alloc, output) else {
         return fault(alloc, errors, "out of memory");
     };
-    let paths = RefCell::new(Lines::new(buffer));
-    let disk = FlushingDisk::new(Disk::new(rt, alloc), &paths);
-    let status = run(alloc, disk, search, &paths, errors);
-    paths.into_inner().abandon();
-    status
-}
-
-/// Walks a tree, and returns the exit status.
-fn run<T: Tree, W: Write + Drop, A: Allocator, E: Write>(
-    alloc: T::Alloc,
-    tree: T,
-    search: Search<'_>,
-    paths: &RefCell<Lines<W, A>>,
-    errors: &mut E,
-) -> u8
-    ensures { result ≤ 2 }
-{
-    match walk(alloc, tree, search, paths, errors) {
+    let Ok(mut lines) = SharedLines::begin(lines, buffer) else {
+        return fault(alloc, errors, "writing failed");
+    };
+    match write_items(alloc, &mut items, &mut lines, errors) {
         Ok(status) => status,
-        Err(failure) => fault(alloc, errors, failure),
+        Err(_) => fault(alloc, errors, "writing failed"),
     }
 }
 
-/// Why a search cannot go on.
-#[derive(Drop)]
-enum Failure {
-    Refused(PatternRefusal),
-    Writing,
-}
-
-impl From<PatternRefusal> for Failure {
-    fn from(refusal: PatternRefusal) -> Self {
-        Failure::Refused(refusal)
-    }
-}
-
-impl From<io::Error> for Failure {
-    fn from(_error: io::Error) -> Self {
-        Failure::Writing
-    }
-}
-
-impl Display for Failure {
-    fn fmt<W: fmt::Write>(&self, f: &mut Formatter<W>) -> fmt::Result {
-        match self {
-            Failure::Refused(refusal) => write!(f, "{refusal}"),
-            Failure::Writing => f.write_str("writing failed"),
-        }
-    }
-}
-
-/// Walks a tree: a path is a line of `paths`, and an error a line on `errors`, after the paths before it. Returns the exit
-/// status.
-fn walk<T: Tree, W: Write + Drop, A: Allocator, E: Write>(
-    alloc: T::Alloc,
-    tree: T,
-    search: Search<'_>,
-    paths: &RefCell<Lines<W, A>>,
+/// Writes the items of a walk: a path is a line of `lines`, and an error a line on `errors`, after the paths before it.
+/// Returns the exit status.
+fn write_items<T: Tree, S: LineSink, A: Allocator + Copy, E: Write>(
+    alloc: A,
+    items: &mut Paths<T>,
+    lines: &mut S,
     errors: &mut E,
-) -> Result<u8, Failure>
-    ensures { IfOk result (λ status. status ≤ 2) }
+) -> io::Result<u8>
+    requires fresh { IsFresh items.old.tree items.old.limit items.old }
+    ensures most { IfOk result (λ status. status ≤ 2) }
+    ensures paths { (c : Content) → IsTold (T.tells items.old.tree) c → (ms : List Mark)
+        → items.old.left ≡ Some ms → IfOk result (λ status. FindsPaths ms items.old.limit
+        (S.contents lines.old) (S.contents lines.new) status) }
 {
+    let mut has_path = false;
     let mut has_error = false;
-    for item in glob_in(alloc, tree, search.pattern, search.options, search.limit)? {
-        let mut paths = lines::lend(paths)?;
-        match item {
-            Ok(path) => paths.add(path.as_str())?,
-            Err(error) => {
-                paths.flush()?;
-                has_error = true;
-                write_line(alloc, errors, &error);
-            }
+    while let Some(item) = items.next() {
+        if write_item(alloc, item, lines, errors)? {
+            has_path = true;
+        } else {
+            has_error = true;
         }
     }
-    let mut paths = lines::lend(paths)?;
-    paths.flush()?;
+    lines.flush()?;
     Ok(if has_error {
         FAULT
-    } else if paths.has_line() {
+    } else if has_path {
         MATCHED
     } else {
         UNMATCHED
     })
+}
+
+/// Writes an item of a walk. Whether it is a path.
+fn write_item<S: LineSink, B: Allocator, A: Allocator, E: Write>(
+    alloc: A,
+    item: GlobResult<B>,
+    lines: &mut S,
+    errors: &mut E,
+) -> io::Result<bool>
+    ensures { IfOk result (λ is_path.
+        WritesItem item is_path (S.contents lines.old) (S.contents lines.new)) }
+{
+    match item {
+        Ok(path) => {
+            lines.add(path.as_str())?;
+            Ok(true)
+        }
+        Err(error) => {
+            lines.flush()?;
+            write_line(alloc, errors, &error);
+            Ok(false)
+        }
+    }
 }

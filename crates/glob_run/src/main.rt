@@ -3,19 +3,23 @@
 //! of the disk that the pattern matches.
 #![tactic(auto)]
 
-ghost use Rattle.std.specs.Prelude.{◌≡◌, ◌≤◌, ◌<◌, ◌⊎◌, ℕ, IfOk, chars, string_bytes};
-ghost use Rattle.std.specs.Io.KnownBytes.{Appends};
+ghost use Rattle.std.specs.Prelude.{◌≡◌, ◌≢◌, ◌≤◌, Some, None, IfOk, chars, map, string_bytes};
+ghost use Rattle.glob.specs.Components.{walk_fault};
 ghost use Rattle.glob.specs.Grammar.Units.{IsAccepted};
-ghost use Rattle.glob.specs.Lines.{FiltersLines};
-ghost use Rattle.glob_run.specs.Outcomes.{Does, IsEscapedLine, IsRefused, WritesEscaped};
+ghost use Rattle.glob_run.specs.CommandLine.{request_asked};
+ghost use Rattle.glob_run.specs.Outcomes.{CopiesLines, IsEscapedLine, IsRefused, WritesEscaped, WritesText};
+ghost use Rattle.glob_run.specs.Requests.{OnEscaped, OnLines, OnPaths, Page, VersionLine};
+ghost use Rattle.glob_run.specs.declared.page.TheConstants.{HELP, VERSION};
 
 mod command;
 mod find;
+mod lent;
 mod page;
 
 use command::Command;
 use find::run_find;
 use glob::{MatchOptions, Pattern, Watch, filter_lines};
+use lent::Lent;
 use std::alloc::{AllocError, Allocator};
 use std::env;
 use std::fmt::Display;
@@ -39,113 +43,106 @@ const FAULT: u8 = 2;
 /// Runs the program on the words after its name, and returns its exit status: 0 where something matched or a page was
 /// written, 1 where nothing matched, 2 at a fault or where a walk met an error. A fault is one line on `errors`; a fault
 /// of `errors` itself is dropped. A usage fault is found first, then a fault of the pattern, both before anything is read,
-/// looked up or written. The disk is the one that `rt` reaches. What each command writes is the contract of
-/// [`run_command`], which hands the output back.
-pub fn run_words<F: Files + Drop, A: Allocator + Copy, R: Read + Drop, W: Write + Drop, E: Write>(
+/// looked up or written. The disk is the one that `rt` reaches.
+///
+/// Over the input `"a.rs\nb.c\n"` the words `match` and `*.rs` write `"a.rs\n"`, and the status is 0.
+pub fn run_words<F: Files + Drop, A: Allocator + Copy, R: Read + Drop, W: Write, E: Write>(
     rt: F,
     alloc: A,
     words: &[&str],
     input: R,
-    output: W,
+    output: &mut W,
     errors: &mut E,
 ) -> u8
-    ensures { result ≤ 2 }
+    ensures most { result ≤ 2 }
+    ensures usage { request_asked (map (λ w. w.now) words.now) ≡ None
+        → IsRefused output.old output.new result }
+    ensures refused { OnLines (request_asked (map (λ w. w.now) words.now)) (λ options pattern.
+        (¬ (IsAccepted (chars pattern))) → IsRefused output.old output.new result) }
+    ensures lines { OnLines (request_asked (map (λ w. w.now) words.now)) (λ options pattern.
+        CopiesLines options pattern (R.remaining input)
+        (W.contents output.old) (W.contents output.new) result) }
+    ensures escaped { OnEscaped (request_asked (map (λ w. w.now) words.now)) (λ text.
+        WritesEscaped text (W.contents output.old) (W.contents output.new) result) }
+    ensures walk_refused { OnPaths (request_asked (map (λ w. w.now) words.now)) (λ pattern.
+        walk_fault pattern ≢ None → IsRefused output.old output.new result) }
+    ensures page { request_asked (map (λ w. w.now) words.now) ≡ Some Page
+        → WritesText HELP.now (W.contents output.old) (W.contents output.new) result }
+    ensures version { request_asked (map (λ w. w.now) words.now) ≡ Some VersionLine
+        → WritesText VERSION.now (W.contents output.old) (W.contents output.new) result }
 {
-    let command = Command::parse(words);
-    let (status, _output) = run_command(rt, alloc, command, input, output, errors);
-    status
-}
-
-/// Runs a command, or tells a usage fault where there is none. Returns the exit status, and the output.
-pub fn run_command<F: Files + Drop, A: Allocator + Copy, R: Read + Drop, W: Write + Drop, E: Write>(
-    rt: F,
-    alloc: A,
-    command: Option<Command<'_>>,
-    input: R,
-    mut output: W,
-    errors: &mut E,
-) -> (u8, W)
-    ensures most { result.0 ≤ 2 }
-    ensures does { Does command.entry (R.remaining input)
-        (W.contents output) (W.contents result.1) result.0 }
-{
-    let Some(command) = command else {
-        return (fault(alloc, errors, USAGE), output);
+    let Some(command) = Command::parse(words) else {
+        return fault(alloc, errors, USAGE);
     };
     match command {
         Command::Match { options, pattern } => {
             run_match(alloc, options, pattern, input, output, errors)
         }
         Command::Escape { text } => run_escape(alloc, text, output, errors),
-        Command::Find(search) => {
-            let status = run_find(rt, alloc, search, &mut output, errors);
-            (status, output)
-        }
+        Command::Find(search) => run_find(rt, alloc, search, output, errors),
         Command::Help => write_text(alloc, page::HELP, output, errors),
         Command::Version => write_text(alloc, page::VERSION, output, errors),
     }
 }
 
-/// Copies the matching lines. Returns the status, and the output.
-fn run_match<A: Allocator + Copy, R: Read + Drop, W: Write + Drop, E: Write>(
+/// Copies the matching lines, and returns the status.
+fn run_match<A: Allocator + Copy, R: Read + Drop, W: Write, E: Write>(
     alloc: A,
     options: MatchOptions,
     pattern: &str,
     input: R,
-    output: W,
+    output: &mut W,
     errors: &mut E,
-) -> (u8, W)
-    ensures most { result.0 ≤ 2 }
+) -> u8
+    ensures most { result ≤ 2 }
     ensures refused { (¬ (IsAccepted (chars pattern.now)))
-        → IsRefused (W.contents output) (W.contents result.1) result.0 }
-    ensures matched { result.0 ≡ 0 → (n : ℕ) × (0 < n) × FiltersLines options pattern.now
-        (R.remaining input) (W.contents output) (W.contents result.1) n }
-    ensures unmatched { result.0 ≡ 1 → FiltersLines options pattern.now
-        (R.remaining input) (W.contents output) (W.contents result.1) 0 }
+        → IsRefused output.old output.new result }
+    ensures lines { CopiesLines options pattern.now (R.remaining input)
+        (W.contents output.old) (W.contents output.new) result }
 {
     let pattern = match Pattern::new(alloc, pattern) {
         Ok(pattern) => pattern,
-        Err(refusal) => return (fault(alloc, errors, refusal), output),
+        Err(refusal) => return fault(alloc, errors, refusal),
     };
     let mut reader = Watch::new(input);
-    let mut writer = Watch::new(output);
-    let status = match filter_lines(alloc, &pattern, options, &mut reader, &mut writer) {
-        Ok(count) => { if count == 0 { UNMATCHED } else { MATCHED } }
+    let mut writer = Watch::new(Lent { writer: output });
+    let answer = filter_lines(alloc, &pattern, options, &mut reader, &mut writer);
+    let Lent { writer: output } = writer.into_inner();
+    let _ = &*output;
+    match answer {
+        Ok(0) => UNMATCHED,
+        Ok(_) => MATCHED,
         Err(line_fault) => fault(alloc, errors, line_fault),
-    };
-    (status, writer.into_inner())
-}
-
-/// Writes the pattern that stands for the text alone. Returns the status, and the output.
-fn run_escape<A: Allocator + Copy, W: Write + Drop, E: Write>(
-    alloc: A,
-    text: &str,
-    output: W,
-    errors: &mut E,
-) -> (u8, W)
-    ensures status { (result.0 ≡ 0) ⊎ (result.0 ≡ 2) }
-    ensures written { result.0 ≡ 0
-        → WritesEscaped text.now (W.contents output) (W.contents result.1) }
-{
-    match escaped_line(alloc, text) {
-        Ok(line) => write_text(alloc, &line, output, errors),
-        Err(_) => (fault(alloc, errors, "out of memory"), output),
     }
 }
 
-/// Writes the whole text. Returns the status, and the output.
-fn write_text<A: Allocator, W: Write + Drop, E: Write>(
+/// Writes the pattern that stands for the text alone, and returns the status.
+fn run_escape<A: Allocator + Copy, W: Write, E: Write>(
     alloc: A,
     text: &str,
-    mut output: W,
+    output: &mut W,
     errors: &mut E,
-) -> (u8, W)
-    ensures status { (result.0 ≡ 0) ⊎ (result.0 ≡ 2) }
-    ensures written { result.0 ≡ 0 → Appends (W.contents output) (W.contents result.1) text.now }
+) -> u8
+    ensures { WritesEscaped text.now (W.contents output.old) (W.contents output.new) result }
+{
+    match escaped_line(alloc, text) {
+        Ok(line) => write_text(alloc, &line, output, errors),
+        Err(_) => fault(alloc, errors, "out of memory"),
+    }
+}
+
+/// Writes the whole text, and returns the status.
+fn write_text<A: Allocator, W: Write, E: Write>(
+    alloc: A,
+    text: &str,
+    output: &mut W,
+    errors: &mut E,
+) -> u8
+    ensures { WritesText text.now (W.contents output.old) (W.contents output.new) result }
 {
     match output.write_all(text.as_bytes()) {
-        Ok(()) => (MATCHED, output),
-        Err(_) => (fault(alloc, errors, "writing failed"), output),
+        Ok(()) => MATCHED,
+        Err(_) => fault(alloc, errors, "writing failed"),
     }
 }
 
@@ -186,12 +183,12 @@ fn words_fault<A: Allocator, E: Write>(alloc: A, errors: &mut E, error: &io::Err
 }
 
 /// Runs the program on its arguments, without its name.
-fn run_arguments<F: Files + Drop, A: Allocator + Copy, R: Read + Drop, W: Write + Drop, E: Write>(
+fn run_arguments<F: Files + Drop, A: Allocator + Copy, R: Read + Drop, W: Write, E: Write>(
     rt: F,
     alloc: A,
     arguments: &[String<A>],
     input: R,
-    output: W,
+    output: &mut W,
     errors: &mut E,
 ) -> u8
     ensures { result ≤ 2 }
@@ -219,7 +216,7 @@ fn main(rt: HostRuntime) -> ExitCode {
             rt.alloc(),
             words.as_slice(),
             rt.stdin(),
-            rt.stdout(),
+            &mut rt.stdout(),
             &mut errors,
         ),
         Err(error) => words_fault(rt.alloc(), &mut errors, &error),

@@ -156,7 +156,7 @@ fn the_line_of_a_fault_is_one_write(rt: HostRuntime) {
             rt.alloc(),
             words,
             b"".as_slice(),
-            Unwritable,
+            &mut Unwritable,
             &mut errors,
         );
         assert_eq!(rt; status, 2, "{words:?}");

@@ -1,10 +1,9 @@
 //! The disk, on which a walk waits.
 ghost use Rattle.std.specs.Prelude.{None};
 
-use super::lines::{self, Lines};
+use super::lines::{self, LinesCell};
 use glob::{Asks, Disk, Entry, ListError, Look, Tree};
 use std::alloc::{AllocError, Allocator};
-use std::cell::RefCell;
 use std::fs::Files;
 use std::io::{self, Write};
 
@@ -13,12 +12,12 @@ use std::io::{self, Write};
 #[derive(Drop)]
 pub struct FlushingDisk<'l, R: Files, W: Write + Drop, A: Allocator> {
     disk: Disk<R, A>,
-    lines: &'l RefCell<Lines<W, A>>,
+    lines: &'l LinesCell<W, A>,
     asks: Asks,
 }
 
 impl<'l, R: Files, W: Write + Drop, A: Allocator> FlushingDisk<'l, R, W, A> {
-    pub fn new(disk: Disk<R, A>, lines: &'l RefCell<Lines<W, A>>) -> Self {
+    pub fn new(disk: Disk<R, A>, lines: &'l LinesCell<W, A>) -> Self {
         FlushingDisk {
             disk,
             lines,
@@ -28,16 +27,19 @@ impl<'l, R: Files, W: Write + Drop, A: Allocator> FlushingDisk<'l, R, W, A> {
 
     /// Writes lines that have waited long, before the disk is asked, and counts the lookup or listing.
     fn begin(&self) -> io::Result<()> {
-        let mut lines = lines::lend(self.lines)?;
-        lines.flush_late()?;
-        lines.count(1);
+        if let Some(lines) = &mut *lines::lend(self.lines)? {
+            lines.flush_late()?;
+            lines.count(1);
+        }
         Ok(())
     }
 
     /// Counts the entries of a listing.
     fn count_entries(&self, entries: usize) {
         if let Ok(mut lines) = lines::lend(self.lines) {
-            lines.count(entries);
+            if let Some(lines) = &mut *lines {
+                lines.count(entries);
+            }
         }
     }
 }

@@ -14,11 +14,11 @@ pub type Outcome<'a> = (u8, &'a str, &'a str);
 pub type Row<'a> = (&'a str, &'a [u8], Outcome<'a>);
 
 /// Runs the program. Returns its exit status, and what it prints of faults.
-fn run<R: Read + Drop, W: Write + Drop>(
+fn run<R: Read + Drop, W: Write>(
     rt: &(impl AllocGlobal + Files),
     words: &[&str],
     input: R,
-    output: W,
+    output: &mut W,
 ) -> (u8, Vec<u8>) {
     let mut errors = Vec::new(rt.alloc());
     let status = run_words(rt, rt.alloc(), words, input, output, &mut errors);
@@ -46,7 +46,7 @@ pub fn check<R: Read + Drop>(
 
 /// Runs the program with an output that fails, and compares what is printed of faults.
 pub fn check_failing_output(rt: &(impl Abort + AllocGlobal + Files), words: &[&str]) {
-    let (status, errors) = run(rt, words, b"a\n".as_slice(), Unwritable);
+    let (status, errors) = run(rt, words, b"a\n".as_slice(), &mut Unwritable);
     let is_told = errors.as_slice() == b"writing failed\n".as_slice();
     assert!(rt; status == 2 && is_told, "{words:?}");
 }

@@ -1,0 +1,13 @@
+use Rattle.std.proofs.Common.{sym, ◌∙◌}
+use Rattle.glob_run.proofs.RequestLemmas.{paths_request-option, paths_request-limit}
+use Rattle.glob_run.proofs.command.Search.parse.Goals as goal
+
+pub loop-rest-preserved-then-eq : goal.loop-rest-preserved-then-eq
+loop-rest-preserved-then-eq c =
+    sym (paths_request-limit _ _ _ _ _ _ c.in-len1-up.len_at_least c.in-len1-up-after.len_at_least (sym c.eq.ensures ∙ c.if-eq.true) (sym c.parse_limit.ensures ∙ c.in_ok-limit.was))
+    ∙ c.loop-rest.invariant
+
+pub loop-rest-preserved : goal.loop-rest-preserved
+loop-rest-preserved c =
+    rw c.set_option.ensures.set (sym (paths_request-option _ _ _ _ c.in-len1-up.len_at_least (sym c.eq.ensures ∙ c.if-eq.false) (sym c.set_option.ensures.named ∙ c.if-set_option.true))
+    ∙ c.loop-rest.invariant)

@@ -1,0 +1,21 @@
+//! Where the paths of a walk go.
+ghost use Rattle.std.specs.Prelude.{ℕ, List, Option, None, OnOk};
+ghost use Rattle.std.specs.Io.KnownBytes.{Appends, Keeps};
+ghost use Rattle.glob.specs.Lines.{ended_line};
+
+use std::io;
+
+/// What takes lines, and may keep them for a while before it writes them.
+pub trait LineSink {
+    /// The bytes of the lines, after those that the writer held before, where they are known.
+    ghost contents: { Self → Option (List ℕ) } = { λ _. None };
+
+    /// Adds the text and a line feed.
+    fn add(&mut self, text: &str) -> io::Result<()>
+        ensures { OnOk result
+            (Appends (contents self.old) (contents self.new) (ended_line text.now)) };
+
+    /// Writes the lines that wait.
+    fn flush(&mut self) -> io::Result<()>
+        ensures { OnOk result (Keeps (contents self.old) (contents self.new)) };
+}
