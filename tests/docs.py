@@ -16,20 +16,24 @@ PAGES = [name for name in FILES if name.endswith(".md")]
 EXAMPLES = [
     ("README.md", 0, "crates/glob_vectors/src/tests/readme.rt"),
     ("crates/glob/CALLING.md", 0, "crates/glob_uses/src/lists.rt"),
-    ("crates/glob/CALLING.md", 1, "crates/glob_uses/specs/Lists.antt"),
+    ("crates/glob/CALLING.md", 1, "crates/glob/specs/Lists.antt"),
     ("crates/glob/CALLING.md", 2, "crates/glob_uses/src/router.rt"),
     ("crates/glob/CALLING.md", 3, "crates/glob_uses/specs/Ignoring.antt"),
     ("crates/glob/CALLING.md", 4, "crates/glob_uses/src/ignore.rt"),
     ("crates/glob/CALLING.md", 5, "crates/glob_uses/src/sources.rt"),
     ("crates/glob/CALLING.md", 6, "crates/glob_uses/specs/Sources.antt"),
-    ("crates/glob/CALLING.md", 7, "crates/glob_uses/src/literals.rt"),
-    ("crates/glob/CALLING.md", 8, "crates/glob_uses/proofs/literals/matches_main/Answers.antt"),
-    ("crates/glob/CALLING.md", 9, "crates/glob_vectors/src/uses.rt"),
-    ("crates/glob/CALLING.md", 10, "crates/glob_vectors/proofs/uses/reread/Answers.antt"),
-    ("crates/glob/CALLING.md", 11, "crates/glob_walks/src/uses.rt"),
-    ("crates/glob/CALLING.md", 12, "crates/glob_walks/specs/FirstPaths.antt"),
-    ("crates/glob/CALLING.md", 13, "crates/glob_vectors/src/trees.rt"),
-    ("crates/glob/CALLING.md", 14, "crates/glob_names/src/judge.rt"),
+    ("crates/glob/CALLING.md", 7, "crates/glob_uses/specs/Copying.antt"),
+    ("crates/glob/CALLING.md", 8, "crates/glob_uses/src/copy.rt"),
+    ("crates/glob/CALLING.md", 9, "crates/glob_uses/src/literals.rt"),
+    ("crates/glob/CALLING.md", 10, "crates/glob_uses/proofs/literals/matches_main/Answers.antt"),
+    ("crates/glob/CALLING.md", 11, "crates/glob_uses/src/texts.rt"),
+    ("crates/glob/CALLING.md", 12, "crates/glob_uses/proofs/texts/matches_text/Answers.antt"),
+    ("crates/glob/CALLING.md", 13, "crates/glob_vectors/src/uses.rt"),
+    ("crates/glob/CALLING.md", 14, "crates/glob_vectors/proofs/uses/reread/Answers.antt"),
+    ("crates/glob/CALLING.md", 15, "crates/glob_walks/src/uses.rt"),
+    ("crates/glob/CALLING.md", 16, "crates/glob_walks/specs/FirstPaths.antt"),
+    ("crates/glob/CALLING.md", 17, "crates/glob_vectors/src/trees.rt"),
+    ("crates/glob/CALLING.md", 18, "crates/glob_names/src/judge.rt"),
 ]
 
 
@@ -45,6 +49,30 @@ def quotes(page, number, source):
     wanted, lines = lines_of(blocks[number]), lines_of((ROOT / source).read_text(encoding="utf-8"))
     starts = range(len(lines) - len(wanted) + 1)
     return any(lines[start : start + len(wanted)] == wanted for start in starts)
+
+
+def unlisted_blocks():
+    """The blocks of code on the pages of EXAMPLES of which no row is. tests/contracts.py writes those below its line,
+    and tests/manual.py runs those of a shell."""
+    found = []
+    for page in sorted({example[0] for example in EXAMPLES}):
+        text = (ROOT / page).read_text(encoding="utf-8").split("\n## Contracts\n")[0]
+        kinds = re.findall(r"^```(\w*)\n.*?^```$", text, re.S | re.M)
+        listed = [example[1] for example in EXAMPLES if example[0] == page]
+        if listed != list(range(len([kind for kind in kinds if kind in ("rust", "antt")]))):
+            found.append(f"{page}: not each block of code is in EXAMPLES")
+        found += [f"{page}: nothing runs a block of {kind}" for kind in kinds if kind not in ("rust", "antt", "sh")]
+    return found
+
+
+def unknown_lemmas():
+    """The lemmas that crates/glob/CALLING.md names and that the module of their row has not."""
+    text = (ROOT / "crates/glob/CALLING.md").read_text(encoding="utf-8").split("\n## Lemmas for loops\n")[1].split("\n## ")[0]
+    found = []
+    for names, module in re.findall(r"^\| ((?:`[\w-]+`(?:, )?)+) \| `(\w+)` \|", text, re.M):
+        lemmas = (ROOT / f"crates/glob/proofs/{module}.antt").read_text(encoding="utf-8")
+        found += [name for name in re.findall(r"[\w-]+", names) if not re.search(rf"\bpub (record )?{name} ", lemmas)]
+    return found
 
 
 def broken_links(page):
@@ -97,6 +125,8 @@ def main():
     for page in PAGES:
         faults += [f"{page}: no file {name}" for name in broken_links(page) + unknown_files(page)]
         faults += [f"{page}: no definition {name}" for name in unknown_definitions(page)]
+    faults += unlisted_blocks()
+    faults += [f"crates/glob/CALLING.md: no lemma {name}" for name in unknown_lemmas()]
     faults += [f"docs/PROOFS.md: no edit {name}" for name in unknown_edits()]
     faults += [f"docs/FAULTS.md: no test {name}" for name in unknown_tests()]
     contracts = subprocess.run([ROOT / "tests/contracts.py", "--check"], capture_output=True, text=True)
@@ -104,7 +134,7 @@ def main():
         faults.append(contracts.stderr.strip())
     for fault in faults:
         print(f"failed: {fault}")
-    checks = len(EXAMPLES) + len(PAGES) + 3
+    checks = len(EXAMPLES) + len(PAGES) + 5
     failed = min(checks, len(faults))
     print(f"{checks - failed} passed, {failed} failed")
     sys.exit(bool(faults))

@@ -20,26 +20,36 @@ anew() {
     done
 }
 
-# It runs in the folder of a crate. A run makes a program that writes its words.
+# It runs in the folder of a crate, once those that the crate stands on are made. One that is built beside another takes a
+# while. A run makes a program that writes its words.
 mkdir "$work/tools"
 cat >"$work/tools/rt" <<'RT'
 #!/usr/bin/env bash
-echo "$1 ${PWD##*/}" >>"$ASKED"
-[ ! -f "$ASKED.slow" ] || { echo $$ >"$ASKED.slow" && exec sleep 300; }
-[ ! -f "$ASKED.wrong" ] || { echo 'error: wrong' && exit 1; }
+crate=${PWD##*/}
+echo "$1 $crate" >>"$ASKED"
+for below in $(sed -n "s/^$crate: //p" ../../crates.txt); do
+    [ -f "../$below/out/made" ] || { echo "error: $crate is asked for before $below is made" && exit 1; }
+done
+[ ! -f "$ASKED.slow" ] || [ "$crate" = glob_text ] || { echo $$ >>"$ASKED.slow" && exec sleep 300; }
+[ "$(cat "$ASKED.wrong" 2>/dev/null)" != "$crate" ] || { echo 'error: wrong' && exit 1; }
+[ $# = 1 ] || sleep 0.5
+touch out/made
 [ "$1" != run ] || { printf '#!/bin/sh\necho "$@"\n' >out/glob_run && chmod +x out/glob_run; }
 RT
-chmod 755 "$work/tools" "$work/tools/rt"
+# on any machine as on two processors
+printf '#!/bin/sh\necho 2\n' >"$work/tools/nproc"
+chmod 755 "$work/tools" "$work/tools"/*
 export PATH=$work/tools:$PATH ASKED=$work/asked
 
-# asked NAME WANTED: compares what rt was asked, with a blank between each two, and the output of the run
+# asked NAME WANTED: compares what rt was asked, in order of words and with a blank between each two, and the output of
+# the run
 asked() {
-    [ ! -f "$work/asked" ] || tr '\n' ' ' <"$work/asked" >>"$work/out"
+    [ ! -f "$work/asked" ] || LC_ALL=C sort "$work/asked" | tr '\n' ' ' >>"$work/out"
     rm -f "$work/asked" && : >"$work/err"
     check "$1" 0 "$2" ''
 }
 
-all='lib glob_text lib glob_pattern lib glob_lines lib glob_tree lib glob_walk lib glob run glob_run '
+all='lib glob lib glob_lines lib glob_pattern lib glob_text lib glob_tree lib glob_walk run glob_run '
 
 anew
 mkdir "$work/a copy/crates/glob_run/out"
@@ -73,27 +83,43 @@ run match x
 sed -i 's/[0-9][0-9]* [sm][in0-9 s]*/TIME/; s/, about .*/, about TIME/' "$work/err"
 sed -i 's/: about .*/: about TIME/' "$work/err"
 grep -c ' of 7: ' "$work/err" >"$work/out"
-sed -n '1p;4p;$p' "$work/err" >"$work/some" && cp "$work/some" "$work/err"
-check 'a build says what it is at' 0 '7\n' \
-    'glob_run: proving and building the program, once for these sources: about TIME\nglob_run: 3 of 7: glob_lines, about TIME\nglob_run: built in TIME\n'
+sed -n '1p;3,4p;$p' "$work/err" >"$work/some" && cp "$work/some" "$work/err"
+check 'a build says what it is at' 0 '7\n' "$(printf 'glob_run: %s\\n' \
+    'proving and building the program, once for these sources: about TIME' '2 of 7: glob_tree, beside the next one' \
+    '3 of 7: glob_pattern, about TIME' 'built in TIME')"
 
-anew
-touch "$work/asked.wrong"
-run match x
-sed -i '1,2d' "$work/err"
-check 'a build that fails' 2 '' 'error: wrong\nglob_run: the build of glob_text failed, as the lines above say\n'
+for wrong in glob_text glob_tree; do
+    anew
+    echo "$wrong" >"$work/asked.wrong"
+    run match x
+    grep -v ' of 7: ' "$work/err" | sed 1d >"$work/some" && cp "$work/some" "$work/err"
+    check "a build that fails at $wrong" 2 '' \
+        "error: wrong\nglob_run: the build of $wrong failed, as the lines above say\n"
+done
 rm "$work/asked.wrong"
 
 for signal in TERM INT HUP; do
     anew
     touch "$work/asked.slow"
-    # to the launcher alone
-    timeout --foreground --preserve-status -s "$signal" 1 "$program" match x >"$work/out" 2>"$work/err"
+    # A job of its own, since a shell without jobs has those in its background ignore SIGINT. Only it gets the signal,
+    # once both are at work.
+    set -m
+    "$program" match x >"$work/out" 2>"$work/err" &
+    launcher=$!
+    set +m
+    for ((tries = 0; tries < 600; tries++)); do
+        [ "$(wc -l <"$work/asked.slow")" -lt 2 ] || break
+        sleep 0.1
+    done
+    kill -s "$signal" "$launcher"
+    { wait "$launcher"; } 2>/dev/null
     status=$?
-    worker=$(cat "$work/asked.slow")
-    kill -0 "$worker" 2>/dev/null && echo 'its rt goes on' >>"$work/out"
-    sed -i '1,2d' "$work/err"
-    check "ended by SIG$signal, it ends its rt" "$((128 + $(kill -l "$signal")))" '' \
+    wc -l <"$work/asked.slow" >>"$work/out"
+    for worker in $(cat "$work/asked.slow"); do
+        kill -0 "$worker" 2>/dev/null && echo 'its rt goes on' >>"$work/out"
+    done
+    sed -i '1,4d' "$work/err"
+    check "ended by SIG$signal, it ends each rt" "$((128 + $(kill -l "$signal")))" '2\n' \
         'glob_run: ended before it was built. The next call goes on from here\n'
     rm "$work/asked.slow"
 done

@@ -1,7 +1,9 @@
 #!/usr/bin/env python3
-"""Runs each example of the man page, checks the man page where `mandoc` or `groff` can be had, sources the completions in
-bash, and installs all of it. Prints what is wrong, and last how many checks passed and failed."""
+"""Runs each example of the man page, and each call of the program that the README shows. Checks the man page where
+`mandoc` or `groff` can be had, sources the completions in bash, and installs all of it. Prints what is wrong, and last
+how many checks passed and failed."""
 
+import os
 import re
 import shutil
 import subprocess
@@ -13,7 +15,8 @@ ROOT = Path(__file__).resolve().parent.parent
 PAGE = ROOT / "man/glob_run.1"
 ROFF = {r"\(aq": "'", r"\(ga": "`", r"\e": "\\", r"\-": "-", r"\&": ""}
 
-# The words of a command line, of which the last is being written, and what bash offers for it.
+# The words of a command line, of which the last is being written, and what bash offers for it. So does fish, but for the
+# lines of FISH: it offers options only after a hyphen, and no `--`.
 COMPLETIONS = [
     ("glob_run ", "--help --version -h escape find match"),
     ("glob_run m", "match"),
@@ -30,6 +33,16 @@ COMPLETIONS = [
     ("glob_run escape -", "--"),
     ("glob_run --help ", ""),
 ]
+
+FISH = {
+    "glob_run ": "escape find match",
+    "glob_run match -": "-d -i -s",
+    "glob_run match -i -": "-d -i -s",
+    "glob_run find -": "-d -i -n -s",
+    "glob_run find -n 5 -": "-d -i -n -s",
+    "glob_run find fo": "folder/",
+    "glob_run escape -": "",
+}
 
 INSTALLED = [
     "bin/glob_run",
@@ -48,6 +61,16 @@ def examples():
         block = re.sub(r"\\\(..|\\.", lambda it: ROFF[it[0]], block)
         for command, output in re.findall(r"^\$ (.*)\n((?:(?!\$ ).*\n)*)", block, re.M):
             found.append((command, output))
+    return found
+
+
+def shown_calls():
+    """The calls of the program in the README, each with what it writes, which is listed at the end of its comment."""
+    text = (ROOT / "README.md").read_text(encoding="utf-8")
+    found = []
+    for block in re.findall(r"^```sh\n(.*?)^```$", text, re.M | re.S):
+        for command, comment in re.findall(r"^(.*bin/glob_run .*?) +# (.*)$", block, re.M):
+            found.append((command, comment.split(": ")[-1].replace(", ", "\n") + "\n"))
     return found
 
 
@@ -83,6 +106,17 @@ def completion_faults(line, wanted, folder):
     return [] if (offered, ran.stderr) == (wanted, "") else [f"{line}: {offered} {ran.stderr}"]
 
 
+def fish_faults(line, wanted, folder):
+    """What fish offers otherwise than it should, and None where it cannot be had."""
+    if not shutil.which("fish"):
+        return None
+    script = "source $argv[1]; complete -C $argv[2]"
+    words = ["fish", "--no-config", "-c", script, "--", ROOT / "completions/glob_run.fish", line]
+    ran = subprocess.run(words, cwd=folder, capture_output=True, text=True)
+    offered = " ".join(sorted(it.split("\t")[0] for it in ran.stdout.splitlines()))
+    return [] if (offered, ran.stderr) == (wanted, "") else [f"fish: {line}: {offered} {ran.stderr}"]
+
+
 def syntax_faults(shell, file):
     """What a shell says of a file that it cannot read, and None where the shell cannot be had."""
     if not shutil.which(shell):
@@ -115,9 +149,11 @@ def main():
         (folder / "folder").mkdir(parents=True)
         checks = [install_faults(prefix), lint(), refusal_faults([]), refusal_faults(["--help"])]
         checks += [completion_faults(*it, folder) for it in COMPLETIONS]
+        checks += [fish_faults(line, FISH.get(line, wanted), folder) for line, wanted in COMPLETIONS]
         checks += [syntax_faults("zsh", "completions/_glob_run"), syntax_faults("fish", "completions/glob_run.fish")]
         (folder / "folder").rmdir()
         checks += [run_example(*it, folder, prefix / "bin") for it in examples()]
+        checks += [run_example(*it, ROOT, os.environ["PATH"]) for it in shown_calls()]
     done = [faults for faults in checks if faults is not None]
     failed = sum(bool(faults) for faults in done)
     for fault in (fault for faults in done for fault in faults):
