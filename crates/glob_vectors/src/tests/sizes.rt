@@ -114,7 +114,7 @@ fn check_pattern(
 fn check_units(rt: &(impl Abort + AllocGlobal), trial: Trial) -> Result<(), Fail> {
     let character = trial.character;
     let bracket = format!(in rt.alloc(); "[{character}]")?;
-    let picked = (trial.place + trial.place / 3) % 3;
+    let picked = (trial.place % 3 + trial.place / 3 % 3) % 3;
     for (number, unit) in ["?", character, bracket.as_str()].iter().enumerate() {
         if trial.size < SMALL {
             check_pattern(rt, unit, character, trial.size, "")?;
