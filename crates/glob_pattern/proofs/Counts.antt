@@ -27,6 +27,14 @@ mul-left n characters place le =
     let next : characters - place ≡ suc (characters - (place + 1)) = omega arith in
     rw next (mul-suc n (characters - (place + 1)))
 
+-- the asks about the character before a place leave the room for those of the characters left
+pub room-after : (n characters place asked before after : ℕ) → 0 < place → place ≤ characters → asked ≤ n → after ≡ before + asked
+    → after + n * (characters - place) ≤ before + n * (characters - (place - 1))
+room-after n characters place asked before after later within few count =
+    let room = mul-left n characters (place - 1) (omega arith) in
+    let next : place - 1 + 1 ≡ place = omega arith in
+    omega (arith, rw next at room)
+
 -- the asks for leading characters, one each, and the room for the others
 pub led_fits : (n characters lead : ℕ) → lead ≤ characters → (0 < lead → 0 < n) → lead + n * (characters - lead) ≤ n * characters
 led_fits zero characters zero le some = omega arith

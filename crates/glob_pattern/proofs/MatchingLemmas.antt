@@ -6,6 +6,7 @@ pub mod Folded
 pub mod Literals
 pub mod Loosening
 pub mod Matched
+pub mod Passing
 pub mod PiecesAndSplits
 pub mod PlainEnds
 pub mod PlainPatterns

@@ -2,6 +2,7 @@ pub mod Advancing
 pub mod Alive
 pub mod Prefixes
 pub mod Rests
+pub mod Skipping
 pub mod TakenPrefixes
 pub mod ManyWords
 pub mod Spreading

@@ -1,4 +1,5 @@
-ghost use Rattle.std.specs.Prelude.{◌≡◌, ℕ, ◌+◌, ◌-◌, ◌*◌, ◌^◌, ◌<◌, ◌≤◌, ◌↔◌, false, length, IsTrue, IsOk, IfOk, count_ones};
+ghost use Rattle.std.specs.Prelude.{◌≡◌, ℕ, ◌+◌, ◌-◌, ◌*◌, ◌^◌, ◌<◌, ◌≤◌, ◌↔◌, false, length, IsTrue, IsOk, IfOk, IfSome, count_ones};
+ghost use Rattle.glob_pattern.specs.Private.Positions.{AreShapeMasks};
 ghost use Rattle.glob_pattern.specs.Matching.Splits.{Table, TakesAll, Splits};
 ghost use Rattle.std.specs.Int.{IsBitSet};
 
@@ -10,6 +11,7 @@ mod shape_masks;
 use many_words::run_many_words;
 use one_word::run_one_word;
 use prefix::take_prefix;
+pub use shape_masks::ShapeMasks;
 use std::alloc::{AllocError, Allocator};
 
 /// Which pieces of a text a token may match. The shapes of `**/*a` are `Deep`, `Run` and `One`.
@@ -118,6 +120,30 @@ pub trait Judge {
         false
     }
 
+    /// Steps over further characters, as many as the judge likes: each of them, of the tokens of `asked`, those of `took`
+    /// take and no others. The bits are of tokens 0 to 63. It passes a place where a component begins only if `across` is
+    /// true. The count rises for each character by one for each bit of `asked`. So for the text `abc`, where one step
+    /// stands behind the `a`, `skip(0b1, 0b1, false)` may step over `b` and `c`, if token 0 takes both. Each bit must be
+    /// of a token in the list, and the count must have room for all characters that are left.
+    ///
+    /// This body steps over none. A judge that knows the answers of many characters at once may have its own.
+    #[inline]
+    fn skip(&mut self, asked: u64, took: u64, across: bool)
+        requires within { place self.old ≤ (table self.old).characters }
+        requires tokens { (j : ℕ) → IsBitSet asked j → j < (table self.old).tokens }
+        requires room { count self.old
+            + count_ones asked * ((table self.old).characters - place self.old) < 2 ^ 128 }
+        ensures same { table self.new ≡ table self.old }
+        ensures forward { place self.old ≤ place self.new }
+        ensures within { place self.new ≤ (table self.old).characters }
+        ensures count { count self.new
+            ≡ count self.old + count_ones asked * (place self.new - place self.old) }
+        ensures took { (k : ℕ) → place self.old ≤ k → k < place self.new → (j : ℕ) → j < 64
+            → IsBitSet took j ↔ (IsBitSet asked j × IsTrue ((table self.old).takes j k)) }
+        ensures inside { across ≡ false → (k : ℕ) → place self.old < k → k ≤ place self.new
+            → (table self.old).opens k ≡ false }
+    {}
+
     /// The count: how many questions were asked.
     fn asked(&self) -> u128
         ensures { result ≡ count self.now };
@@ -152,6 +178,33 @@ pub fn run_positions<A: Allocator + Copy, J: Judge>(
     // At most 63 shapes need no memory.
     ensures small { length shapes.now < 64 → IsOk result }
 {
+    run_known(alloc, shapes, None, judge)
+}
+
+/// The same, by one who may know the masks of the first 64 shapes.
+#[inline(always)]
+pub fn run_known<A: Allocator + Copy, J: Judge>(
+    alloc: A,
+    shapes: &[Shape],
+    known: Option<ShapeMasks>,
+    judge: &mut J,
+) -> Result<bool, AllocError>
+    requires known { IfSome known (AreShapeMasks shapes.now 0 (length shapes.now)) }
+    requires tokens { length shapes.now ≤ (J.table judge.old).tokens }
+    requires start { J.place judge.old ≡ 0 }
+    requires room { J.count judge.old
+        + length shapes.now * (J.table judge.old).characters < 2 ^ 128 }
+    ensures answer { IfOk result
+        (λ yes. IsTrue yes ↔ Splits (J.table judge.old) shapes.now) }
+    ensures most { J.count judge.new
+        ≤ J.count judge.old + length shapes.now * (J.table judge.old).characters }
+    ensures least { IfOk result
+        (λ yes. IsTrue yes
+        → J.count judge.old + (J.table judge.old).characters ≤ J.count judge.new) }
+    ensures monotone { J.count judge.old ≤ J.count judge.new }
+    ensures same { J.table judge.new ≡ J.table judge.old }
+    ensures small { length shapes.now < 64 → IsOk result }
+{
     let Some(prefix) = take_prefix(shapes, judge) else {
         return Ok(false);
     };
@@ -159,7 +212,8 @@ pub fn run_positions<A: Allocator + Copy, J: Judge>(
         return Ok(!judge.step());
     }
     if shapes.len() < 64 {
-        Ok(run_one_word(shapes, prefix, judge))
+        let masks = ShapeMasks::of(shapes, known);
+        Ok(run_one_word(shapes, masks, prefix, judge))
     } else {
         run_many_words(alloc, shapes, prefix, judge)
     }

@@ -18,7 +18,7 @@ mod masks;
 
 use crate::error::PatternRefusal;
 use crate::grammar;
-use crate::matcher::{self, Judge, Shape};
+use crate::matcher::{self, Judge, Shape, ShapeMasks};
 use crate::options::MatchOptions;
 use crate::token::Token;
 use crate::token::bracket::Bracket;
@@ -47,6 +47,8 @@ pub struct Pattern<A: Allocator = Global> {
     tokens: Vec<Token<Bracket<A>>, A>,
     shapes: Vec<Shape, A>,
     masks: Vec<TokenMasks, A>,
+    // the first 64 shapes, as masks
+    shape_masks: ShapeMasks,
     // how many tokens take one character each: a text that they match is no shorter
     least: usize,
     // how many bytes at the end of the text are plain tokens
@@ -62,7 +64,8 @@ impl<A: Allocator> Model for Pattern<A> {
 
     ghost Value = { List ℕ };
 
-    ghost use Rattle.std.specs.Prelude.{◌≡◌, chars, count_by};
+    ghost use Rattle.std.specs.Prelude.{◌≡◌, chars, count_by, length};
+    ghost use Rattle.glob_pattern.specs.Private.Positions.{AreShapeMasks};
     ghost use Rattle.glob_pattern.specs.Grammar.Tokens.{takes_one};
     ghost use Rattle.glob_pattern.specs.Private.Patterns.{KeepsTokens};
     ghost use Rattle.glob_pattern.specs.Private.PlainEnds.{EndsPlain, HoldsPlain};
@@ -72,7 +75,8 @@ impl<A: Allocator> Model for Pattern<A> {
     ghost invariant = { λ p. KeepsTokens (chars (string_bytes p.text)) p.tokens.items p.shapes.items
         × EndsPlain p.tokens.items (string_bytes p.text) p.plain_end
         × HoldsPlain p.tokens.items (string_bytes p.text) p.inner.start p.inner.end
-        × (p.least ≡ count_by takes_one p.tokens.items) };
+        × (p.least ≡ count_by takes_one p.tokens.items)
+        × AreShapeMasks p.shapes.items 0 (length p.shapes.items) p.shape_masks };
 }
 
 impl<A: Allocator> Pattern<A> {
@@ -99,6 +103,7 @@ impl<A: Allocator + Copy> Pattern<A> {
     {
         let tokens = grammar::read_tokens(alloc, pattern)?;
         let shapes = grammar::shapes_of(alloc, tokens.as_slice())?;
+        let shape_masks = ShapeMasks::new(shapes.as_slice(), 0);
         let masks = masks::masks_of(alloc, tokens.as_slice())?;
         let least = least_length(tokens.as_slice());
         let plain_end = plain_end(pattern, tokens.as_slice());
@@ -109,6 +114,7 @@ impl<A: Allocator + Copy> Pattern<A> {
             tokens,
             shapes,
             masks,
+            shape_masks,
             least,
             plain_end,
             inner,
@@ -135,6 +141,7 @@ impl<A: Allocator + Copy> Pattern<A> {
             tokens: Vec::new(alloc),
             shapes: Vec::new(alloc),
             masks: Vec::new(alloc),
+            shape_masks: ShapeMasks::new(&[], 0),
             least: 0,
             plain_end: 0,
             inner: Stretch::NONE,
@@ -152,6 +159,7 @@ impl<A: Allocator + Copy> Pattern<A> {
             tokens: grammar::clone_tokens(&self.tokens)?,
             shapes: self.shapes.clone()?,
             masks: self.masks.clone()?,
+            shape_masks: self.shape_masks,
             least: self.least,
             plain_end: self.plain_end,
             inner: self.inner,
@@ -234,7 +242,8 @@ impl<A: Allocator + Copy> Pattern<A> {
     {
         let tokens = self.tokens.as_slice();
         let mut judge = TextJudge::taking_rests(tokens, self.masks.as_slice(), str, options);
-        matcher::run_positions(self.alloc, self.shapes.as_slice(), &mut judge)
+        let masks = Some(self.shape_masks);
+        matcher::run_known(self.alloc, self.shapes.as_slice(), masks, &mut judge)
     }
 
     /// The answer of [`matches_with`](Self::matches_with), and how many questions it took: how often it was asked
@@ -256,7 +265,8 @@ impl<A: Allocator + Copy> Pattern<A> {
         ensures short { IsShort (chars self.now) → IsOk result }
     {
         let mut judge = TextJudge::new(self.tokens.as_slice(), self.masks.as_slice(), str, options);
-        let answer = matcher::run_positions(self.alloc, self.shapes.as_slice(), &mut judge)?;
+        let masks = Some(self.shape_masks);
+        let answer = matcher::run_known(self.alloc, self.shapes.as_slice(), masks, &mut judge)?;
         Ok((answer, judge.asked()))
     }
 

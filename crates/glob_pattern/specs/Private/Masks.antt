@@ -92,3 +92,11 @@ pub record IsClear (kinds : Kinds) (bit : ℕ) : Type 0 where
   pub deep : ¬ (IsBitSet kinds.deep bit)
   pub brackets : ¬ (IsBitSet kinds.brackets bit)
   pub wide : ¬ (IsBitSet kinds.wide bit)
+
+-- Of the tokens that are asked, those of `took` take the byte, which is of ASCII, and no others, where no component
+-- begins.
+pub record IsAlike (masks : TokenMasks) (asked took : ℕ) (o : MatchOptions) (byte : ℕ) : Type 0 where
+  pub ascii : byte < 128
+  pub takes : (tokens : List Token) (start j : ℕ) → AreMasks tokens start (length tokens) masks
+      → j < 64 → (IsBitSet asked j → start + j < length tokens)
+      → IsBitSet took j ↔ (IsBitSet asked j × TakesBit o false byte tokens start j)

@@ -1,9 +1,9 @@
 //! Matching with at most 63 shapes, whose position set is one word and is never allocated.
-ghost use Rattle.std.specs.Prelude.{◌≡◌, ℕ, ◌+◌, ◌-◌, ◌*◌, ◌^◌, ◌<◌, ◌≤◌, ◌↔◌, false, length, IsTrue};
+ghost use Rattle.std.specs.Prelude.{◌≡◌, ℕ, ◌+◌, ◌-◌, ◌*◌, ◌^◌, ◌<◌, ◌≤◌, ◌↔◌, false, length, IsTrue, bit_and, count_ones};
 ghost use Rattle.glob_pattern.specs.Matching.Splits.{Table, Splits};
 ghost use Rattle.glob_pattern.specs.Private.Prefixes.{IsAlive, IsAskedSince, IsTakenPrefix};
 ghost use Rattle.std.specs.Int.{IsBitSet};
-ghost use Rattle.glob_pattern.specs.Private.Positions.{AreShapeMasks, AliveWord, MayTakeRest};
+ghost use Rattle.glob_pattern.specs.Private.Positions.{AreShapeMasks, AliveWord, AfterAdvance, MayTakeRest};
 
 use super::shape_masks::{ShapeMasks, last_before};
 use super::{Judge, Shape};
@@ -19,8 +19,14 @@ struct OneWordMatcher<'a> {
 
 /// Whether the characters split, by a judge that has stepped over those of the first `prefix` shapes.
 #[inline(always)]
-pub fn run_one_word<J: Judge>(shapes: &[Shape], prefix: usize, judge: &mut J) -> bool
+pub fn run_one_word<J: Judge>(
+    shapes: &[Shape],
+    masks: ShapeMasks,
+    prefix: usize,
+    judge: &mut J,
+) -> bool
     requires few { length shapes.now < 64 }
+    requires masks { AreShapeMasks shapes.now 0 (length shapes.now) masks }
     requires tokens { length shapes.now ≤ (J.table judge.old).tokens }
     requires reached { IsTakenPrefix (J.table judge.old) shapes.now prefix }
     requires place { J.place judge.old ≡ prefix }
@@ -35,7 +41,7 @@ pub fn run_one_word<J: Judge>(shapes: &[Shape], prefix: usize, judge: &mut J) ->
     ensures monotone { J.count judge.old ≤ J.count judge.new }
     ensures same { J.table judge.new ≡ J.table judge.old }
 {
-    let matcher = OneWordMatcher::new(shapes);
+    let matcher = OneWordMatcher::new(shapes, masks);
     let mut positions = matcher.first(prefix, judge.opens());
     while matcher.goes_on(positions) {
         if matcher.takes_rest(positions, judge) {
@@ -50,15 +56,13 @@ pub fn run_one_word<J: Judge>(shapes: &[Shape], prefix: usize, judge: &mut J) ->
 }
 
 impl<'a> OneWordMatcher<'a> {
-    /// The masks of the shapes.
-    fn new(shapes: &'a [Shape]) -> Self
-        requires { length shapes.now < 64 }
+    /// The shapes with their masks.
+    fn new(shapes: &'a [Shape], masks: ShapeMasks) -> Self
+        requires few { length shapes.now < 64 }
+        requires masks { AreShapeMasks shapes.now 0 (length shapes.now) masks }
         ensures { result.shapes.now ≡ shapes.now }
     {
-        OneWordMatcher {
-            shapes,
-            masks: ShapeMasks::new(shapes, 0),
-        }
+        OneWordMatcher { shapes, masks }
     }
 
     /// The position set of the place after the characters of the first `prefix` shapes.
@@ -116,7 +120,8 @@ impl<'a> OneWordMatcher<'a> {
         self.is_last_alive(positions) && judge.takes_rest(self.shapes.len() - 1)
     }
 
-    /// The position set of the place of a judge that has stepped, from the position set of the place before.
+    /// The position set of the place of a judge that has stepped, from the position set of the place before. The judge may
+    /// step further, where the position set stays what it is.
     #[inline(always)]
     fn next<J: Judge>(&self, positions: u64, judge: &mut J) -> u64
         requires stepped { 0 < J.place judge.old }
@@ -139,11 +144,52 @@ impl<'a> OneWordMatcher<'a> {
             → IsAskedSince (J.table judge.old) self.now.shapes.now start from
             (J.place judge.new) (J.count judge.new) }
         ensures monotone { J.count judge.old ≤ J.count judge.new }
-        ensures place { J.place judge.new ≡ J.place judge.old }
+        ensures forward { J.place judge.old ≤ J.place judge.new }
+        ensures within { J.place judge.new ≤ (J.table judge.old).characters }
         ensures same { J.table judge.new ≡ J.table judge.old }
     {
         let took = judge.takes_each(0, positions & self.masks.tokens);
-        self.masks.advance(took, judge.opens(), false).0
+        let opens = judge.opens();
+        let next = self.masks.advance(took, opens, false).0;
+        self.skip(positions, took, opens, next, judge);
+        next
+    }
+
+    /// Steps over characters after which the position set stays what it is. Before the last one it was `positions`, the
+    /// tokens of `took` took that one, and now it is `next`.
+    #[inline(always)]
+    fn skip<J: Judge>(&self, positions: u64, took: u64, opens: bool, next: u64, judge: &mut J)
+        requires stepped { 0 < J.place judge.old }
+        requires within { J.place judge.old ≤ (J.table judge.old).characters }
+        requires tokens { length self.now.shapes.now
+            ≤ (J.table judge.old).tokens }
+        requires room { J.count judge.old + length self.now.shapes.now
+            * ((J.table judge.old).characters - J.place judge.old) < 2 ^ 128 }
+        requires asked { (j : ℕ) → j < 64
+            → IsBitSet took j → IsBitSet (bit_and positions self.now.masks.tokens) j }
+        requires advances { AfterAdvance self.now.masks took opens false
+            (λ table shapes start k. AliveWord table shapes start k next) }
+        requires alive { AliveWord (J.table judge.old) self.now.shapes.now 0
+            (J.place judge.old) next }
+        ensures alive { AliveWord (J.table judge.old) self.now.shapes.now 0
+            (J.place judge.new) next }
+        ensures most { J.count judge.new + length self.now.shapes.now
+            * ((J.table judge.old).characters - J.place judge.new)
+            ≤ J.count judge.old + length self.now.shapes.now
+            * ((J.table judge.old).characters - J.place judge.old) }
+        ensures least { J.count judge.old + J.place judge.new
+            ≤ J.count judge.new + J.place judge.old }
+        ensures forward { J.place judge.old ≤ J.place judge.new }
+        ensures within { J.place judge.new ≤ (J.table judge.old).characters }
+        ensures same { J.table judge.new ≡ J.table judge.old }
+    {
+        if next != positions || took == 0 {
+            return;
+        }
+        let across = self.masks.advance(took, !opens, false).0 == positions;
+        if across || !opens {
+            judge.skip(positions & self.masks.tokens, took, across);
+        }
     }
 
     /// Whether the position after the last shape is alive.

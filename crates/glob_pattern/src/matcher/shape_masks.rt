@@ -1,4 +1,4 @@
-ghost use Rattle.std.specs.Prelude.{◌≡◌, ℕ, ◌+◌, ◌<◌, ◌≤◌, ◌≢◌, ◌⊎◌, ◌↔◌, length, IsTrue};
+ghost use Rattle.std.specs.Prelude.{◌≡◌, ℕ, ◌+◌, ◌<◌, ◌≤◌, ◌≢◌, ◌⊎◌, ◌↔◌, length, IsTrue, IfSome};
 ghost use Rattle.glob_pattern.specs.Private.Prefixes.{PrefixSplits};
 ghost use Rattle.std.specs.Int.{IsBitSet};
 ghost use Rattle.glob_pattern.specs.Private.Positions.{AreShapeMasks, AliveWord, AfterAdvance};
@@ -32,6 +32,18 @@ impl ShapeMasks {
             masks = masks.with(n - start, shapes[n], n + 1 < shapes.len());
         }
         masks
+    }
+
+    /// The first 64 shapes, by masks that are known already or not.
+    #[inline(always)]
+    pub fn of(shapes: &[Shape], known: Option<ShapeMasks>) -> Self
+        requires { IfSome known (AreShapeMasks shapes.now 0 (length shapes.now)) }
+        ensures { AreShapeMasks shapes.now 0 (length shapes.now) result }
+    {
+        match known {
+            Some(masks) => masks,
+            None => Self::new(shapes, 0),
+        }
     }
 
     /// These shapes and one more, which has others after it or not.

@@ -1,4 +1,5 @@
-ghost use Rattle.std.specs.Prelude.{◌≡◌, ℕ, ◌+◌, ◌*◌, ◌^◌, ◌<◌, length, IsTrue, chars};
+ghost use Rattle.std.specs.Prelude.{◌≡◌, ℕ, ◌+◌, ◌*◌, ◌^◌, ◌<◌, ◌≤◌, length, take, IsTrue, chars};
+ghost use Rattle.std.specs.Str.{IsAscii};
 ghost use Rattle.std.specs.Int.{IsBitSet};
 ghost use Rattle.std.specs.Str.Iter.{chars_rest};
 ghost use Rattle.glob_pattern.specs.Private.Stepping.{StandsBefore, place_before};
@@ -91,6 +92,42 @@ impl<'a, A: Allocator> TextJudge<'a, A> {
         judge.takes_rests = true;
         judge
     }
+
+    /// Steps over the next `len` bytes, which are characters of ASCII. Returns how many it has stepped over.
+    #[inline(always)]
+    fn pass(&mut self, len: usize) -> usize
+        requires within { len ≤ length (chars_rest self.old.rest) }
+        requires ascii { IsAscii (take len (chars_rest self.old.rest)) }
+        ensures most { result ≤ len }
+        ensures place { place_before (chars self.new.text.now) (chars (chars_rest self.new.rest))
+            ≡ place_before (chars self.old.text.now) (chars (chars_rest self.old.rest)) + result }
+        ensures within { place_before (chars self.new.text.now) (chars (chars_rest self.new.rest))
+            ≤ length (chars self.old.text.now) }
+        ensures tokens { self.new.tokens.now ≡ self.old.tokens.now }
+        ensures masks { self.new.masks.now ≡ self.old.masks.now }
+        ensures text { self.new.text.now ≡ self.old.text.now }
+        ensures options { self.new.options ≡ self.old.options }
+        ensures count { self.new.count ≡ self.old.count }
+        ensures passed { self.new.passed.now ≡ self.old.passed.now }
+    {
+        let left = self.rest.as_str();
+        let bytes = left.as_bytes();
+        if len == 0 {
+            return 0;
+        }
+        let Some(rest) = left.get(len..) else {
+            return 0;
+        };
+        self.opened = if len == 1 {
+            self.opens
+        } else {
+            bytes[len - 2] == b'/'
+        };
+        self.opens = bytes[len - 1] == b'/';
+        self.current = bytes[len - 1] as char;
+        self.rest = rest.chars();
+        len
+    }
 }
 
 #[tactic(auto, unfolding(crate::specs::Private::TextTable::table_of))]
@@ -165,6 +202,20 @@ impl<A: Allocator> Judge for TextJudge<'_, A> {
             }
             _ => false,
         }
+    }
+
+    #[inline(always)]
+    fn skip(&mut self, asked: u64, took: u64, across: bool) {
+        let dots = self.options.require_literal_leading_dot;
+        // The word after the last token has no masks. At a component start the dot rule may exclude a character.
+        if asked == 0 || (dots && self.opens) {
+            return;
+        }
+        let masks = self.masks;
+        let bytes = self.rest.as_str().as_bytes();
+        let len = masks[0].taken_alike(bytes, asked, took, self.options, across && !dots);
+        let passed = self.pass(len);
+        self.count += u128::from(asked.count_ones()) * passed as u128;
     }
 
     #[inline(always)]

@@ -1,12 +1,14 @@
 //! Masks: for each 64 tokens, which of them take each character of ASCII, and which are wildcards or brackets.
-ghost use Rattle.std.specs.Prelude.{◌≡◌, ◌≢◌, ℕ, ◌+◌, ◌<◌, ◌≤◌, ◌⊎◌, ◌↔◌, true, false, List, length, slice_index_or, IsTrue, IfOk};
+ghost use Rattle.std.specs.Prelude.{◌≡◌, ◌≢◌, ℕ, ◌+◌, ◌<◌, ◌≤◌, ◌⊎◌, ◌↔◌, true, false, List, length, take, slice_index_or, IsTrue, IfOk};
+ghost use Rattle.std.specs.Str.{IsAscii};
+ghost use Rattle.glob_text.specs.Characters.{slash};
 ghost use Rattle.glob_pattern.specs.Grammar.Brackets.{holds};
 ghost use Rattle.std.specs.Int.{IsBitSet};
 ghost use Rattle.glob_pattern.specs.Matching.Options.{new_options};
 ghost use Rattle.glob_pattern.specs.Matching.Taking.{takes};
 ghost use Rattle.glob_pattern.specs.Grammar.Tokens.{Token as Kept, is_deep};
 ghost use Rattle.glob_pattern.specs.declared.token.Token.TheVariants.{Any};
-ghost use Rattle.glob_pattern.specs.Private.Masks.{is_any_or_run, is_bracket, is_wide, is_excluded, IsPut, IsClear, AreKinds, AreMasks, AreAllMasks, TakesBit};
+ghost use Rattle.glob_pattern.specs.Private.Masks.{is_any_or_run, is_bracket, is_wide, is_excluded, IsPut, IsClear, AreKinds, AreMasks, AreAllMasks, IsAlike, TakesBit};
 
 use crate::options::MatchOptions;
 use crate::token::Token;
@@ -96,6 +98,40 @@ impl TokenMasks {
         (asked & free & same & !self.brackets, asked & self.brackets)
     }
 
+    /// How many of the first bytes are characters of ASCII that, of the tokens that are asked, those of `took` take and
+    /// no others, where no component begins. It ends before a `/`, unless `across` is true.
+    #[inline(always)]
+    pub fn taken_alike(
+        &self,
+        bytes: &[u8],
+        asked: u64,
+        took: u64,
+        options: MatchOptions,
+        across: bool,
+    ) -> usize
+        ensures within { result ≤ length bytes.now }
+        ensures ascii { IsAscii (take result bytes.now) }
+        ensures alike { (k : ℕ) → k < result
+            → IsAlike self.now asked took options (slice_index_or bytes.now k 0) }
+        ensures inside { across ≡ false → (k : ℕ) → k < result
+            → slice_index_or bytes.now k 0 ≢ slash }
+    {
+        let end = end_of_names(across);
+        let mut place = 0;
+        while place < bytes.len() {
+            let byte = bytes[place];
+            if !byte.is_ascii() || byte == end {
+                return place;
+            }
+            let (taken, left) = self.take_known(asked, options, false, byte as char);
+            if taken != took || left != 0 {
+                return place;
+            }
+            place += 1;
+        }
+        place
+    }
+
     /// The tokens that may not take the character, by a rule.
     #[inline(always)]
     fn excluded(&self, options: MatchOptions, opening: bool, c: char) -> u64
@@ -114,6 +150,14 @@ impl TokenMasks {
             0
         }
     }
+}
+
+/// The byte of ASCII before which a loop over names ends: `/`, or none if it goes on across them.
+#[inline(always)]
+fn end_of_names(across: bool) -> u8
+    ensures { across ≡ false → result ≡ slash }
+{
+    if across { u8::MAX } else { b'/' }
 }
 
 /// Of neighbouring tokens, 64 at most, those of each kind.

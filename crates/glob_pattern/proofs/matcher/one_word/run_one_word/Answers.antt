@@ -14,7 +14,7 @@ loop-matcher-preserved g c =
     let back : g.J.Judge.place c.step.new.self - 1 ≡ g.J.Judge.place c.loop-matcher.judge = omega (arith, stepped.0) in
     record {
       positions = h.positions;
-      within = omega (arith, h.place, stepped.1);
+      within = h.within;
       most = omega (arith, rw back at h.most, c.step.ensures.count, unasked, i.most);
       least = (rw back at h.least) (g.J.Judge.count c.args.judge.now) (g.J.Judge.place c.args.judge.now) (λ n le alive. omega (arith, i.least n le alive, unasked, c.step.ensures.count));
       monotone = omega (arith, h.monotone, i.monotone, unasked, c.step.ensures.count);

@@ -32,4 +32,5 @@ invariant_of-result-2 g c = (
   rw (c.new.ensures.bytes, c.new-2.ensures.items) EndsPlain-nil,
   rw (c.new.ensures.bytes, c.new-2.ensures.items) HoldsPlain-nil,
   rw c.new-2.ensures.items refl,
+  rw c.new-3.ensures.items c.new-5.ensures,
 )

@@ -9,18 +9,18 @@ use Rattle.glob_pattern.proofs.Counts.{length-chars, product_fits}
 use Rattle.glob_pattern.proofs.MatchingLemmas.Tokens.{Matches-by_table, shapes_are_few}
 use Rattle.glob_pattern.proofs.pattern.Pattern.matches_counted.Goals as goal
 
-pub run_positions-requires-clause-tokens : goal.run_positions-requires-clause-tokens
+pub run_known-requires-clause-tokens : goal.run_known-requires-clause-tokens
 unfolding table_of
-run_positions-requires-clause-tokens g c =
+run_known-requires-clause-tokens g c =
     let shapes : length c.as_slice-3.result.now ≡ length c.self.inside.tokens.items =
     ap length (c.as_slice-3.ensures.value ∙ c.self.invariant.0.shaped) ∙ length-map c.self.inside.tokens.items shape_of in
     let tokens : length c.new-judge.result.tokens.now ≡ length c.self.inside.tokens.items =
     ap length (c.new-judge.ensures.tokens ∙ c.as_slice.ensures.value) in
     omega (arith, shapes, tokens)
 
-pub run_positions-requires-clause-room : goal.run_positions-requires-clause-room
+pub run_known-requires-clause-room : goal.run_known-requires-clause-room
 unfolding table_of
-run_positions-requires-clause-room g c =
+run_known-requires-clause-room g c =
     let short : length c.args.str.now < 2 ^ 64 = omega arith in
     let few : length (chars c.new-judge.result.text.now) < 2 ^ 64 =
     omega (arith, length-chars c.new-judge.result.text.now, ap length c.new-judge.ensures.text) in

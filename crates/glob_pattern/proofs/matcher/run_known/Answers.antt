@@ -1,7 +1,7 @@
 use Rattle.std.proofs.Common.{◌≡◌, ◌∙◌, length, arith}
 use Rattle.glob_pattern.proofs.Counts.{led_fits}
 use Rattle.glob_pattern.proofs.PositionLemmas.TakenPrefixes.{IsTakenPrefix-end}
-use Rattle.glob_pattern.proofs.matcher.run_positions.Goals as goal
+use Rattle.glob_pattern.proofs.matcher.run_known.Goals as goal
 
 pub returns-then-prefix-shapes-clause-answer : goal.returns-then-prefix-shapes-clause-answer
 returns-then-prefix-shapes-clause-answer g c =

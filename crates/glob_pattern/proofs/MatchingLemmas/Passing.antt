@@ -1,0 +1,105 @@
+-- Stepping over several characters at once.
+use Rattle.std.proofs.Common.{◌≡◌, ℕ, suc, ◌+◌, ◌-◌, ◌<◌, ◌≤◌, Bool, true, false, slice_index, List, [], ◌∷◌, ◌++◌, length, take, drop, get_or, ◌==◌, refl, sym, ap, ◌∙◌, arith}
+use Rattle.std.proofs.Math.ListN.{get_or-append}
+use Rattle.std.proofs.lemmas.Bool.{false≢true, false_from_ne_true}
+use Rattle.std.proofs.lemmas.List.{take-append-drop, length-take-le, get_or-take, get_or-drop}
+use Rattle.std.proofs.lemmas.Str.{chars-append, chars-IsAscii, IsUtf8-from_ascii}
+use Rattle.std.specs.Str.{chars, IsAscii}
+use Rattle.glob_text.specs.Text.{Text, opens}
+use Rattle.glob_text.specs.Characters.{slash}
+use Rattle.glob_pattern.specs.Private.Stepping.{place_before, StandsBefore}
+use Rattle.glob_pattern.specs.Grammar.Tokens.{Token}
+use Rattle.glob_pattern.specs.Matching.Taking.{takes}
+use Rattle.glob_pattern.specs.declared.options.MatchOptions.{MatchOptions}
+use Rattle.glob_pattern.specs.declared.token.Token.TheVariants.{Plain, Any, Run, Deep, Within, Except}
+use Rattle.glob_pattern.proofs.MatchingLemmas.Stepping.{StandsBefore-step, place_before-step, opens-suc}
+
+-- leading bytes of ASCII are characters
+pub chars-leading_ascii : (bytes : List ℕ) (n : ℕ) → IsAscii (take n bytes) → chars bytes ≡ take n bytes ++ chars (drop n bytes)
+chars-leading_ascii bytes n ascii =
+    ap chars (sym (take-append-drop n bytes))
+    ∙ (chars-append (take n bytes) (drop n bytes) (IsUtf8-from_ascii (take n bytes) ascii)
+    ∙ ap (λ front. front ++ chars (drop n bytes)) (chars-IsAscii (take n bytes) ascii))
+
+-- What a judge knows of its place after some characters more: of the last of them, and of the one before.
+pub record Passed (text front back : Text) (opening opened : Bool) : Type 0 where
+  pub stands : StandsBefore text back (get_or front (length front - 1) 0) opened (get_or front (length front - 1) 0 == slash)
+  pub place : place_before text back ≡ place_before text (front ++ back) + length front
+  pub within : place_before text back ≤ length text
+
+pub Passed-from_front : (text front back : Text) (current : ℕ) (before opening opened : Bool) → 0 < length front
+    → StandsBefore text (front ++ back) current before opening
+    → (length front ≡ 1 → opened ≡ opening) → (1 < length front → opened ≡ (get_or front (length front - 2) 0 == slash))
+    → Passed text front back opening opened
+Passed-from_front text [] back current before opening opened some here one more = absurd (omega arith)
+Passed-from_front text (x ∷ []) back current before opening opened some here one more =
+    let step = place_before-step text back x current before opening here in
+    record {
+      stands = rw (one refl) (StandsBefore-step text back x current before opening here);
+      place = omega (arith, step.0);
+      within = step.1;
+    }
+Passed-from_front text (x ∷ y ∷ front) back current before opening opened some here one more =
+    let rest = y ∷ front in
+    let next = StandsBefore-step text (rest ++ back) x current before opening here in
+    let step = place_before-step text (rest ++ back) x current before opening here in
+    let last : length (x ∷ rest) - 1 ≡ suc (length rest - 1) = omega arith in
+    let passed = Passed-from_front text (y ∷ front) back x opening (x == slash) opened (omega arith) next
+    (λ e. let at : length (x ∷ rest) - 2 ≡ 0 = omega (arith, e) in rw at at (more (omega arith)))
+    (λ lt. let at : length (x ∷ rest) - 2 ≡ suc (length rest - 2) = omega (arith, lt) in rw at at (more (omega arith))) in
+    record {
+      stands = rw last passed.stands;
+      place = omega (arith, passed.place, step.0);
+      within = passed.within;
+    }
+
+-- the same of the rest of a text's bytes, the first n of which are of ASCII
+pub Passed-from_bytes : (text : Text) (bytes rest : List ℕ) (n current : ℕ) (before opening opened : Bool) → 0 < n → n ≤ length bytes → IsAscii (take n bytes)
+    → rest ≡ drop n bytes → StandsBefore text (chars bytes) current before opening
+    → (n ≡ 1 → opened ≡ opening) → (1 < n → opened ≡ (get_or bytes (n - 2) 0 == slash))
+    → StandsBefore text (chars rest) (get_or bytes (n - 1) 0) opened (get_or bytes (n - 1) 0 == slash)
+    × (place_before text (chars rest) ≡ place_before text (chars bytes) + n) × (place_before text (chars rest) ≤ length text)
+Passed-from_bytes text bytes rest n current before opening opened some within ascii left here one more =
+    let split = chars-leading_ascii bytes n ascii in
+    let long = length-take-le n bytes within in
+    let last : get_or (take n bytes) (n - 1) 0 ≡ get_or bytes (n - 1) 0 = get_or-take n bytes (n - 1) 0 (omega arith) in
+    let passed = Passed-from_front text (take n bytes) (chars (drop n bytes)) current before opening opened (omega (arith, long)) (rw split at here)
+    (λ e. one (omega (arith, e, long)))
+    (λ lt. rw long (more (omega (arith, lt, long)) ∙ ap (λ b. b == slash) (sym (get_or-take n bytes (n - 2) 0 (omega (arith, lt, long)))))) in
+    rw left (
+      rw (long, last) at passed.stands,
+      (rw long at passed.place) ∙ ap (λ t. place_before text t + n) (sym split),
+      passed.within,
+    )
+
+module _ (text : Text) (bytes : List ℕ) (n place : ℕ) (within : n ≤ length bytes) (ascii : IsAscii (take n bytes)) (here : chars bytes ≡ drop place text) where
+  -- each of the bytes is the character at its place
+  pub character-from_byte : (k : ℕ) → place ≤ k → k < place + n → slice_index text k ≡ get_or bytes (k - place) 0
+  character-from_byte k from below =
+      let at : place + (k - place) ≡ k = omega (arith, from) in
+      let long = length-take-le n bytes within in
+      let before : k - place < n = omega (arith, from, below) in
+      rw at at (sym (get_or-drop place text (k - place) 0))
+      ∙ (ap (λ t. get_or t (k - place) 0) (sym here ∙ chars-leading_ascii bytes n ascii)
+      ∙ (get_or-append (take n bytes) (chars (drop n bytes)) 0 (k - place) (omega (arith, before, long))
+      ∙ get_or-take n bytes (k - place) 0 before))
+
+  -- and says whether a component begins after it
+  pub opens-from_byte : (k : ℕ) → place < k → k ≤ place + n → opens text k ≡ (get_or bytes (k - place - 1) 0 == slash)
+  opens-from_byte k after within =
+      let next : k ≡ suc (k - 1) = omega (arith, after) in
+      let back : k - 1 - place ≡ k - place - 1 = omega arith in
+      ap (opens text) next ∙ (opens-suc text (k - 1) ∙ ap (λ c. c == slash) (rw back at (character-from_byte (k - 1) (omega (arith, after)) (omega (arith, after, within)))))
+
+-- a character that no component begins with, or where dots do not matter, is taken as it is elsewhere
+dots_off : (o : MatchOptions) → (o.require_literal_leading_dot ≡ true → true ≡ false) → o.require_literal_leading_dot ≡ false
+dots_off o inside = false_from_ne_true _ (λ e. false≢true (sym (inside e)))
+
+pub takes-inside : (o : MatchOptions) (opening : Bool) (c : ℕ) (t : Token) → (o.require_literal_leading_dot ≡ true → opening ≡ false) → takes o opening c t ≡ takes o false c t
+takes-inside o false c t inside = refl
+takes-inside o true c (Plain x) inside = refl
+takes-inside o true c Any inside = rw (dots_off o inside) refl
+takes-inside o true c Run inside = rw (dots_off o inside) refl
+takes-inside o true c Deep inside = rw (dots_off o inside) refl
+takes-inside o true c (Within e) inside = rw (dots_off o inside) refl
+takes-inside o true c (Except e) inside = rw (dots_off o inside) refl
