@@ -1,6 +1,6 @@
 #!/usr/bin/env python3
-"""Checks what the pages say of the sources: links, names of files, definitions, edits and tests, and code that a page
-quotes. Prints what is wrong, and last how many checks passed and failed."""
+"""Checks what the pages say of the sources: links, names of files, definitions, words, edits and tests, and code that a
+page quotes. Prints what is wrong, and last how many checks passed and failed."""
 
 import re
 import subprocess
@@ -22,18 +22,21 @@ EXAMPLES = [
     ("crates/glob/CALLING.md", 4, "crates/glob_uses/src/ignore.rt"),
     ("crates/glob/CALLING.md", 5, "crates/glob_uses/src/sources.rt"),
     ("crates/glob/CALLING.md", 6, "crates/glob_uses/specs/Sources.antt"),
-    ("crates/glob/CALLING.md", 7, "crates/glob_uses/specs/Copying.antt"),
-    ("crates/glob/CALLING.md", 8, "crates/glob_uses/src/copy.rt"),
-    ("crates/glob/CALLING.md", 9, "crates/glob_uses/src/literals.rt"),
-    ("crates/glob/CALLING.md", 10, "crates/glob_uses/proofs/literals/matches_main/Answers.antt"),
-    ("crates/glob/CALLING.md", 11, "crates/glob_uses/src/texts.rt"),
-    ("crates/glob/CALLING.md", 12, "crates/glob_uses/proofs/texts/matches_text/Answers.antt"),
-    ("crates/glob/CALLING.md", 13, "crates/glob_vectors/src/uses.rt"),
-    ("crates/glob/CALLING.md", 14, "crates/glob_vectors/proofs/uses/reread/Answers.antt"),
-    ("crates/glob/CALLING.md", 15, "crates/glob_walks/src/uses.rt"),
-    ("crates/glob/CALLING.md", 16, "crates/glob_walks/specs/FirstPaths.antt"),
-    ("crates/glob/CALLING.md", 17, "crates/glob_vectors/src/trees.rt"),
-    ("crates/glob/CALLING.md", 18, "crates/glob_names/src/judge.rt"),
+    ("crates/glob/CALLING.md", 7, "crates/glob_uses/src/faults.rt"),
+    ("crates/glob/CALLING.md", 8, "crates/glob_uses/src/faults.rt"),
+    ("crates/glob/CALLING.md", 9, "crates/glob_uses/specs/WalkFaults.antt"),
+    ("crates/glob/CALLING.md", 10, "crates/glob_uses/specs/Copying.antt"),
+    ("crates/glob/CALLING.md", 11, "crates/glob_uses/src/copy.rt"),
+    ("crates/glob/CALLING.md", 12, "crates/glob_uses/src/literals.rt"),
+    ("crates/glob/CALLING.md", 13, "crates/glob_uses/proofs/literals/matches_main/Answers.antt"),
+    ("crates/glob/CALLING.md", 14, "crates/glob_uses/src/texts.rt"),
+    ("crates/glob/CALLING.md", 15, "crates/glob_uses/proofs/texts/matches_text/Answers.antt"),
+    ("crates/glob/CALLING.md", 16, "crates/glob_vectors/src/uses.rt"),
+    ("crates/glob/CALLING.md", 17, "crates/glob_vectors/proofs/uses/reread/Answers.antt"),
+    ("crates/glob/CALLING.md", 18, "crates/glob_walks/src/uses.rt"),
+    ("crates/glob/CALLING.md", 19, "crates/glob_walks/specs/FirstPaths.antt"),
+    ("crates/glob/CALLING.md", 20, "crates/glob_vectors/src/trees.rt"),
+    ("crates/glob/CALLING.md", 21, "crates/glob_names/src/judge.rt"),
 ]
 
 
@@ -72,6 +75,26 @@ def unknown_lemmas():
     for names, module in re.findall(r"^\| ((?:`[\w-]+`(?:, )?)+) \| `(\w+)` \|", text, re.M):
         lemmas = (ROOT / f"crates/glob/proofs/{module}.antt").read_text(encoding="utf-8")
         found += [name for name in re.findall(r"[\w-]+", names) if not re.search(rf"\bpub (record )?{name} ", lemmas)]
+    return found
+
+
+def unknown_words():
+    """The words of the library that crates/glob/CALLING.md lists and that their module has not."""
+    text = (ROOT / "crates/glob/CALLING.md").read_text(encoding="utf-8")
+    rows = re.findall(r"^\| `(\w+)` \| `([A-Z][\w.]*)` \|", text.split("\n## Words\n")[1].split("\n## ")[0], re.M)
+    found = []
+    for word, module in rows:
+        if module.startswith("Rattle."):
+            continue
+        path, enum = f"specs/{module.replace('.', '/')}.antt", module.removeprefix("Variants.")
+        if module == enum:
+            sources = [name for name in FILES if name.endswith(f"/{path}")]
+            declared = rf"\bpub (record |data )?{word}\b|^  {word} :"
+        else:
+            sources = [name for name in FILES if name.endswith(".rt")]
+            declared = rf"^pub(?:\(crate\))? enum {enum}\b.*(\n.+)*?\n    {word}\b"
+        if not any(re.search(declared, (ROOT / name).read_text(encoding="utf-8"), re.M) for name in sources):
+            found.append(f"{module}.{word}")
     return found
 
 
@@ -127,6 +150,7 @@ def main():
         faults += [f"{page}: no definition {name}" for name in unknown_definitions(page)]
     faults += unlisted_blocks()
     faults += [f"crates/glob/CALLING.md: no lemma {name}" for name in unknown_lemmas()]
+    faults += [f"crates/glob/CALLING.md: no word {name}" for name in unknown_words()]
     faults += [f"docs/PROOFS.md: no edit {name}" for name in unknown_edits()]
     faults += [f"docs/FAULTS.md: no test {name}" for name in unknown_tests()]
     contracts = subprocess.run([ROOT / "tests/contracts.py", "--check"], capture_output=True, text=True)
@@ -134,7 +158,7 @@ def main():
         faults.append(contracts.stderr.strip())
     for fault in faults:
         print(f"failed: {fault}")
-    checks = len(EXAMPLES) + len(PAGES) + 5
+    checks = len(EXAMPLES) + len(PAGES) + 6
     failed = min(checks, len(faults))
     print(f"{checks - failed} passed, {failed} failed")
     sys.exit(bool(faults))

@@ -11,7 +11,7 @@ use Rattle.glob_pattern.specs.Computing.Deciding.{is_match}
 use Rattle.glob_pattern.specs.Matching.Texts.{Matches}
 use Rattle.glob_pattern.specs.Matching.Taking.{takes}
 use Rattle.glob_pattern.specs.Grammar.Brackets.{is_same}
-use Rattle.glob_pattern.specs.declared.options.MatchOptions.{MatchOptions}
+use Rattle.glob.specs.PathOptions.{path_options}
 use Rattle.glob_pattern.specs.declared.token.bracket.Entry.TheVariants.{Single}
 use Rattle.glob_pattern.specs.declared.token.Token.TheVariants.{Plain, Run, Deep, Within}
 use Rattle.glob_pattern.proofs.Places.{get_or-from_drop, length-at_drop, drop-after_piece, length-after_piece}
@@ -25,14 +25,6 @@ use Rattle.glob_pattern.proofs.MatchingLemmas.Deciding.{Decides-Matches}
 -- `/**/*`
 abbrev pub all_below : Text
 all_below = slash ∷ star ∷ star ∷ slash ∷ star ∷ []
-
--- with case and the separator rule
-abbrev pub path_rule : MatchOptions
-path_rule = record {
-  case_sensitive = true;
-  require_literal_separator = true;
-  require_literal_leading_dot = false;
-}
 
 abbrev below_tokens : List Token
 below_tokens = Plain slash ∷ Deep ∷ Run ∷ []
@@ -94,9 +86,9 @@ units-written (c ∷ cs) whole f e h =
 
 -- an escaped character takes itself alone, and what is after it goes on
 fits-escaped : (x : ℕ) (ts : List Token) (b : Bool) (cs : Text)
-    → fits path_rule (escaped_token x ∷ ts) b cs ≡ one_then path_rule (escaped_token x) (fits path_rule ts) b cs
+    → fits path_options (escaped_token x ∷ ts) b cs ≡ one_then path_options (escaped_token x) (fits path_options ts) b cs
 fits-escaped x ts b cs =
-    cond_both (is_special x) (Within (Single x ∷ [])) (Plain x) (λ t. fits path_rule (t ∷ ts) b cs ≡ one_then path_rule t (fits path_rule ts) b cs) (λ _. refl) (λ _. refl)
+    cond_both (is_special x) (Within (Single x ∷ [])) (Plain x) (λ t. fits path_options (t ∷ ts) b cs ≡ one_then path_options t (fits path_options ts) b cs) (λ _. refl) (λ _. refl)
 
 same_character : (c x : ℕ) → is_same true c x ≡ true → c ≡ x
 same_character c x h = ⊎_elim (λ e. eqb-true c x e) (λ never. absurd (false≢true never)) (or_cases (c == x) false h)
@@ -104,48 +96,48 @@ same_character c x h = ⊎_elim (λ e. eqb-true c x e) (λ never. absurd (false�
 is_same-itself : (x : ℕ) → is_same true x x ≡ true
 is_same-itself x = ap (λ b. b || false) (eq-eqb x x refl)
 
-fits-name : (name : Text) (ts : List Token) (b : Bool) (text : Text) → fits path_rule (map escaped_token name ++ ts) b text ≡ true
-    → (rest : Text) × (after : Bool) × (text ≡ name ++ rest) × (fits path_rule ts after rest ≡ true)
+fits-name : (name : Text) (ts : List Token) (b : Bool) (text : Text) → fits path_options (map escaped_token name ++ ts) b text ≡ true
+    → (rest : Text) × (after : Bool) × (text ≡ name ++ rest) × (fits path_options ts after rest ≡ true)
 fits-name [] ts b text h = (text, b, refl, h)
 fits-name (x ∷ name) ts b [] h = absurd (false≢true (sym (fits-escaped x (map escaped_token name ++ ts) b []) ∙ h))
 fits-name (x ∷ name) ts b (c ∷ cs) h =
-    let both = and_parts (takes path_rule b c (escaped_token x)) _ (sym (fits-escaped x (map escaped_token name ++ ts) b (c ∷ cs)) ∙ h) in
-    let same : c ≡ x = same_character c x (sym ((escaped_text-literal path_rule x).1 b c) ∙ both.0) in
+    let both = and_parts (takes path_options b c (escaped_token x)) _ (sym (fits-escaped x (map escaped_token name ++ ts) b (c ∷ cs)) ∙ h) in
+    let same : c ≡ x = same_character c x (sym ((escaped_text-literal path_options x).1 b c) ∙ both.0) in
     let (rest, after, is, others) = fits-name name ts (c == slash) cs both.1 in
     (rest, after, ap (λ y. y ∷ cs) same ∙ ap (λ ys. x ∷ ys) is, others)
 
-fits-from_name : (name : Text) (ts : List Token) (b : Bool) (rest : Text) → ((after : Bool) → fits path_rule ts after rest ≡ true)
-    → fits path_rule (map escaped_token name ++ ts) b (name ++ rest) ≡ true
+fits-from_name : (name : Text) (ts : List Token) (b : Bool) (rest : Text) → ((after : Bool) → fits path_options ts after rest ≡ true)
+    → fits path_options (map escaped_token name ++ ts) b (name ++ rest) ≡ true
 fits-from_name [] ts b rest h = h b
 fits-from_name (x ∷ name) ts b rest h =
     fits-escaped x (map escaped_token name ++ ts) b (x ∷ name ++ rest)
-    ∙ and_from _ _ ((escaped_text-literal path_rule x).1 b x ∙ is_same-itself x) (fits-from_name name ts (x == slash) rest h)
+    ∙ and_from _ _ ((escaped_text-literal path_options x).1 b x ∙ is_same-itself x) (fits-from_name name ts (x == slash) rest h)
 
 -- what `**/*` takes: any text
 either : (e m c : Bool) → (m || c) ≡ true → ((not e && true) && m || (e && m || c)) ≡ true
 either true m c h = h
 either false m c h = h
 
-any_fits : (b : Bool) (text : Text) → fits path_rule (Deep ∷ Run ∷ []) b text ≡ true
+any_fits : (b : Bool) (text : Text) → fits path_options (Deep ∷ Run ∷ []) b text ≡ true
 any_fits b [] = refl
-any_fits b (c ∷ cs) = either (c == slash) (many_then path_rule Run (fits path_rule []) (c == slash) cs) (closed_then path_rule Deep (fits path_rule (Run ∷ [])) (c == slash) cs) (any_fits (c == slash) cs)
+any_fits b (c ∷ cs) = either (c == slash) (many_then path_options Run (fits path_options []) (c == slash) cs) (closed_then path_options Deep (fits path_options (Run ∷ [])) (c == slash) cs) (any_fits (c == slash) cs)
 
 -- what `/**/*` takes: a separator and any text
-slash_fits : (b : Bool) (text : Text) → fits path_rule below_tokens b text ≡ true → (rest : Text) × (text ≡ slash ∷ rest)
+slash_fits : (b : Bool) (text : Text) → fits path_options below_tokens b text ≡ true → (rest : Text) × (text ≡ slash ∷ rest)
 slash_fits b [] h = absurd (false≢true h)
 slash_fits b (c ∷ cs) h = (cs, ap (λ x. x ∷ cs) (same_character c slash (and_parts (is_same true c slash) _ h).0))
 
 -- The escaped name of a folder and `/**/*` match exactly the texts that are the name, a separator, and any more.
 pub Matches-below : (folder pattern text : Text) → pattern ≡ escaped_text folder ++ all_below
-    → Matches path_rule pattern text ↔ ((rest : Text) × (text ≡ folder ++ slash ∷ rest))
+    → Matches path_options pattern text ↔ ((rest : Text) × (text ≡ folder ++ slash ∷ rest))
 Matches-below folder pattern text is =
     let units : List Token = map escaped_token folder ++ below_tokens in
-    let decides = Decides-Matches path_rule pattern text (λ tokens. ((reading_of-Ok pattern tokens).1, (reading_of-Ok pattern tokens).0)) in
-    let reads : is_match path_rule pattern text ≡ fits path_rule units true text =
-    is_match-units path_rule pattern text units (units-written folder pattern 0 is (omega arith)) in (
+    let decides = Decides-Matches path_options pattern text (λ tokens. ((reading_of-Ok pattern tokens).1, (reading_of-Ok pattern tokens).0)) in
+    let reads : is_match path_options pattern text ≡ fits path_options units true text =
+    is_match-units path_options pattern text units (units-written folder pattern 0 is (omega arith)) in (
       (λ matches.
           let (rest, after, split, others) = fits-name folder below_tokens true text (sym reads ∙ decides.1 matches) in
           let (more, begins) = slash_fits after rest others in
           (more, split ∙ ap (λ xs. folder ++ xs) begins)),
-      (λ below. decides.0 (reads ∙ ap (fits path_rule units true) below.1 ∙ fits-from_name folder below_tokens true (slash ∷ below.0) (λ after. any_fits true below.0))),
+      (λ below. decides.0 (reads ∙ ap (fits path_options units true) below.1 ∙ fits-from_name folder below_tokens true (slash ∷ below.0) (λ after. any_fits true below.0))),
     )

@@ -1,7 +1,7 @@
 -- The paths of a walk that a loop takes one by one, as `for item in paths` or over the items of `walk_in`.
-use Rattle.std.proofs.Common.{◌≡◌, ℕ, ◌↔◌, ◌<◌, false, List, [], ◌∷◌, ◌++◌, map, filter_map, Contains, Option, Some, None, Result, Ok, refl, ap, sym, subst, ◌∙◌, arith, append_assoc, ⊎_elim}
+use Rattle.std.proofs.Common.{◌≡◌, ℕ, suc, ◌+◌, ◌↔◌, ◌<◌, length, get_or, false, List, [], ◌∷◌, ◌++◌, map, filter_map, Contains, Option, Some, None, Result, Ok, refl, ap, sym, subst, ◌∙◌, arith, append_assoc, ⊎_elim}
 use Rattle.std.proofs.lemmas.List.{append-nil, map-append, length-map, get_or-map}
-use Rattle.std.proofs.lemmas.List.Elements.{Contains-append_left, Contains-push, Contains-push_cases}
+use Rattle.std.proofs.lemmas.List.Elements.{Contains-append_right, Contains-get_or}
 use Rattle.std.proofs.lemmas.Option.{same_Some}
 use Rattle.std.specs.Prelude.{option_map}
 use Rattle.std.specs.Path.{path_buf_bytes}
@@ -14,10 +14,11 @@ use Rattle.glob_pattern.specs.declared.options.MatchOptions.{MatchOptions}
 use Rattle.glob_walk.specs.declared.error.GlobError.{GlobError}
 use Rattle.glob_walk.specs.Goal.{goal, IsPlainWalk, ReachesGoal}
 use Rattle.glob_walk.specs.Listing.{listing}
-use Rattle.glob_walk.specs.Marks.{Item, Found, Unread, Mark, Give, items, paths}
+use Rattle.glob_walk.specs.Order.{IsOrderly}
+use Rattle.glob_walk.specs.Marks.{Item, Found, Unread, Mark, Give, items, cost, paths, Work}
 use Rattle.glob_walk.specs.WalkGoals.{Answers, item_of, given_items}
-use Rattle.glob_walk.specs.Walks.{Gives, outcome, works, AreItems, Charges, Goes, IsFresh, Walking}
-use Rattle.glob_walk.proofs.GoalLemmas.Clauses.{reaches_goal, IsBeginning-whole}
+use Rattle.glob_walk.specs.Walks.{Gives, LimitAt, NoMemory, outcome, works, AreItems, Charges, StopsAt, Goes, IsFresh, Walking}
+use Rattle.glob_walk.proofs.GoalLemmas.Clauses.{reaches_goal, comes_in_order, IsBeginning-whole}
 
 -- the items of a walk that has no error among them
 abbrev pub found_items : List Text → List Item
@@ -36,13 +37,17 @@ AreFound-more answers found path are =
     ∙ ap (λ xs. xs ++ map Gives more) are
     ∙ sym (ap (map Gives) (map-append Found found (path_buf_bytes path ∷ [])) ∙ map-append Gives (found_items found) more)
 
--- the items that they say
-pub given_items-found : {A : Type 0} (answers : Answers A) (found : List Text) → AreFound answers found → given_items answers ≡ found_items found
-given_items-found answers found are = ap (filter_map item_of) are ∙ kept found
+-- the items that answers without a refusal say
+pub given_items-are : {A : Type 0} (answers : Answers A) (is : List Item) → AreItems answers is → given_items answers ≡ is
+given_items-are answers is are = ap (filter_map item_of) are ∙ kept is
   where
-    kept : (found : List Text) → filter_map item_of (map Gives (found_items found)) ≡ found_items found
+    kept : (is : List Item) → filter_map item_of (map Gives is) ≡ is
     kept [] = refl
-    kept (path ∷ found) = ap (λ is. Found path ∷ is) (kept found)
+    kept (item ∷ is) = ap (λ others. item ∷ others) (kept is)
+
+-- and those of answers without an error
+pub given_items-found : {A : Type 0} (answers : Answers A) (found : List Text) → AreFound answers found → given_items answers ≡ found_items found
+given_items-found answers found are = given_items-are answers (found_items found) are
 
 -- their paths
 pub paths-found : (found : List Text) → paths (found_items found) ≡ found
@@ -68,24 +73,63 @@ goal-found c o pattern given found IsWhole is whole reaches path =
           (reaches.complete whole path h),
     )
 
+-- The paths of all items of a plain walk, where no item is an error: they are exactly the goal,
+pub goal-listed : (c : Content) (o : MatchOptions) (pattern : Text) → IsPlainWalk c o pattern → (found : List Text) → found_items found ≡ items (listing c o pattern)
+    → (path : Text) → Contains found path ↔ Contains (goal c o pattern) path
+goal-listed c o pattern plain found whole =
+    goal-found c o pattern (found_items found) found _ refl whole
+    (reaches_goal c o pattern plain (found_items found) _ (IsBeginning-whole (found_items found) (items (listing c o pattern)) whole) (λ e. e))
+
+-- they come once and in order, as far as the runs of `**` allow,
+pub orderly-listed : (c : Content) (o : MatchOptions) (pattern : Text) → IsPlainWalk c o pattern → (found : List Text) → found_items found ≡ items (listing c o pattern)
+    → IsOrderly pattern found
+orderly-listed c o pattern plain found whole =
+    subst (IsOrderly pattern) (paths-found found)
+    (comes_in_order c o pattern plain (found_items found) (IsBeginning-whole (found_items found) (items (listing c o pattern)) whole))
+
+-- and they are the paths of the written listing.
+pub paths-listed : (found : List Text) (ms : List Mark) → found_items found ≡ items ms → found ≡ paths (items ms)
+paths-listed found ms whole = sym (paths-found found) ∙ ap paths whole
+
+-- an answer of a walk without a refusal is an item
+pub item-answered : {A : Type 0} (answers : Answers A) (is : List Item) → AreItems answers is → (answer : Result (PathBuf A) (GlobError A)) → Contains answers answer
+    → (item : Item) × (outcome answer ≡ Gives item) × Contains is item
+item-answered answers is are answer has =
+    let d : Item = Found [] in
+    let here : get_or (map outcome answers) has.0 NoMemory ≡ outcome (get_or answers has.0 answer) = get_or-map outcome answers has.0 answer NoMemory has.1 in
+    let long : length is ≡ length answers = sym (length-map is Gives) ∙ sym (ap length are) ∙ length-map answers outcome in
+    let within : has.0 < length is = subst (λ n. has.0 < n) (sym long) has.1 in
+    let there : get_or (map Gives is) has.0 NoMemory ≡ Gives (get_or is has.0 d) = get_or-map Gives is has.0 d NoMemory within in (
+      get_or is has.0 d,
+      ap outcome (sym has.2) ∙ sym here ∙ ap (λ xs. get_or xs has.0 NoMemory) are ∙ there,
+      Contains-get_or is has.0 d within,
+    )
+
 items-past_works : (ps : List Text) (ms : List Mark) → items (works ps ++ ms) ≡ items ms
 items-past_works [] ms = refl
 items-past_works (p ∷ ps) ms = items-past_works ps ms
 
+cost-past_works : (ps : List Text) (ms : List Mark) → cost (works ps ++ ms) ≡ cost ms + length ps
+cost-past_works [] ms = omega arith
+cost-past_works (p ∷ ps) ms = let rest = cost-past_works ps ms in omega (arith, rest)
+
 -- What a loop over a walk has been given so far, where no answer was an error: the items found, and those of what is
--- left, come to all that the written listing had.
+-- left, come to all that the written listing had, and so do the units charged and those that are left.
 pub record FindsSoFar {X : Type 0} (tells : X → Option Content) (first now : Walking X) (found : List Text) : Type 0 where
   pub told : tells now.tree ≡ tells first.tree
   pub going : now.over ≡ false
+  pub limit : now.limit ≡ first.limit
   pub left : (c : Content) → IsTold (tells first.tree) c → (ms : List Mark) → first.left ≡ Some ms
       → (rest : List Mark) × (now.left ≡ Some rest) × (items ms ≡ found_items found ++ items rest)
+      × (cost ms + first.spent ≡ cost rest + now.spent)
 
 -- nothing was given yet
 pub FindsSoFar-start : {X : Type 0} (tells : X → Option Content) (first : Walking X) → first.over ≡ false → FindsSoFar tells first first []
 FindsSoFar-start tells first going = record {
   told = refl;
   going = going;
-  left = λ c told ms is. (ms, is, refl);
+  limit = refl;
+  left = λ c told ms is. (ms, is, refl, refl);
 }
 
 module _ {X : Type 0} (asks : X → ℕ) (tells : X → Option Content) (first now new : Walking X) (found : List Text) (finds : FindsSoFar tells first now found) where
@@ -94,16 +138,19 @@ module _ {X : Type 0} (asks : X → ℕ) (tells : X → Option Content) (first n
   FindsSoFar-more path goes = record {
     told = goes.told ∙ finds.told;
     going = goes.counts.ends;
+    limit = goes.counts.limit ∙ finds.limit;
     left = λ c told ms is.
         let l = finds.left c told ms is in
         let t = goes.takes c (finds.told ∙ told.0, told.1) in
         let took : Charges t.old_left now.spent (Give (Found path) ∷ t.new_left) new.spent = t.takes finds.going in
         let same : l.0 ≡ t.old_left = same_Some l.0 t.old_left (sym l.1 ∙ t.had) in
-        let next : items l.0 ≡ Found path ∷ items t.new_left = ap items (same ∙ took.front) ∙ items-past_works took.paths (Give (Found path) ∷ t.new_left) in (
+        let next : items l.0 ≡ Found path ∷ items t.new_left = ap items (same ∙ took.front) ∙ items-past_works took.paths (Give (Found path) ∷ t.new_left) in
+        let costs : cost l.0 ≡ cost t.new_left + length took.paths = ap cost (same ∙ took.front) ∙ cost-past_works took.paths (Give (Found path) ∷ t.new_left) in (
           t.new_left,
           t.has,
           l.2 ∙ ap (λ is. found_items found ++ is) next ∙ sym (append_assoc (found_items found) (Found path ∷ []) (items t.new_left))
               ∙ ap (λ is. is ++ items t.new_left) (sym (map-append Found found (path ∷ []))),
+          omega (arith, l.3, costs, took.units),
         );
   }
 
@@ -124,44 +171,38 @@ module _ {X : Type 0} (asks : X → ℕ) (tells : X → Option Content) (first n
       let none : items l.0 ≡ [] = ap items (same ∙ took.0.front) ∙ items-past_works took.0.paths [] in
       sym (l.2 ∙ ap (λ is. found_items found ++ is) none ∙ append-nil (found_items found))
 
-  -- and by a plain pattern they are its goal, where `next` returned `None`
+  -- so, where `next` returned `None`, the paths found are those of the written listing
+  pub FindsSoFar-whole : {A : Type 0} (answer : Option (Result (PathBuf A) (GlobError A))) → answer ≡ None → Goes asks tells now (option_map outcome answer) new → (limit : ℕ) (tree : X) → IsFresh tree limit first → (c : Content) → IsTold (tells tree) c
+      → (ms : List Mark) → first.left ≡ Some ms → found_items found ≡ items ms
+  FindsSoFar-whole answer none goes limit tree fresh c told ms is =
+      FindsSoFar-end (subst (λ r. Goes asks tells now (option_map outcome r) new) none goes) c (ap tells fresh.tree ∙ told.0, told.1) ms is
+
+  -- and by a plain pattern they are its goal
   pub FindsSoFar-goal : {A : Type 0} (answer : Option (Result (PathBuf A) (GlobError A))) → answer ≡ None → Goes asks tells now (option_map outcome answer) new → (limit : ℕ) (tree : X) → IsFresh tree limit first → (c : Content) → IsTold (tells tree) c
       → (o : MatchOptions) (pattern : Text) → IsPlainWalk c o pattern → first.left ≡ Some (listing c o pattern)
       → (path : Text) → Contains found path ↔ Contains (goal c o pattern) path
   FindsSoFar-goal answer none goes limit tree fresh c told o pattern plain is =
-      let at_first : IsTold (tells first.tree) c = (ap tells fresh.tree ∙ told.0, told.1) in
-      let whole : found_items found ≡ items (listing c o pattern) =
-      FindsSoFar-end (subst (λ r. Goes asks tells now (option_map outcome r) new) none goes) c at_first (listing c o pattern) is in
-      let begins = IsBeginning-whole (found_items found) (items (listing c o pattern)) whole in
-      goal-found c o pattern (found_items found) found _ refl whole (reaches_goal c o pattern plain (found_items found) _ begins (λ e. e))
+      goal-listed c o pattern plain found (FindsSoFar-whole answer none goes limit tree fresh c told (listing c o pattern) is)
 
--- of the paths that were found, exactly those with P were kept
-abbrev pub KeepsThose : (P : Text → Type 0) → (found kept : List Text) → Type 0
-KeepsThose P found kept = (path : Text) → Contains kept path ↔ (Contains found path × P path)
+  -- a directory that could not be listed is an item of the written listing
+  pub FindsSoFar-unread : (path : Text) (kind : ErrorKind) → Goes asks tells now (Some (Gives (Unread path kind))) new → (c : Content) → IsTold (tells first.tree) c
+      → (ms : List Mark) → first.left ≡ Some ms → Contains (items ms) (Unread path kind)
+  FindsSoFar-unread path kind goes c told ms is =
+      let l = finds.left c told ms is in
+      let t = goes.takes c (finds.told ∙ told.0, told.1) in
+      let took : Charges t.old_left now.spent (Give (Unread path kind) ∷ t.new_left) new.spent = t.takes finds.going in
+      let same : l.0 ≡ t.old_left = same_Some l.0 t.old_left (sym l.1 ∙ t.had) in
+      let next : items l.0 ≡ Unread path kind ∷ items t.new_left = ap items (same ∙ took.front) ∙ items-past_works took.paths (Give (Unread path kind) ∷ t.new_left) in
+      subst (λ is. Contains is (Unread path kind)) (sym (l.2 ∙ ap (λ is. found_items found ++ is) next))
+      (Contains-append_right (found_items found) (Unread path kind ∷ items t.new_left) (Unread path kind) (0, omega arith, refl))
 
-pub KeepsThose-none : (P : Text → Type 0) → KeepsThose P [] []
-KeepsThose-none P path = (λ h. absurd (omega (arith, h.1)), λ both. both.0)
-
-module _ (P : Text → Type 0) (found kept : List Text) (keeps : KeepsThose P found kept) (path : Text) where
-  -- one more path, which is kept
-  pub KeepsThose-kept : P path → KeepsThose P (found ++ path ∷ []) (kept ++ path ∷ [])
-  KeepsThose-kept has p = (
-    λ h. ⊎_elim
-        (λ old. let both = (keeps p).0 old in (Contains-append_left _ _ p both.0, both.1))
-        (λ same. subst (λ q. Contains (found ++ path ∷ []) q × P q) same (Contains-push found path, has))
-        (Contains-push_cases kept path p h),
-    λ both. ⊎_elim
-        (λ old. Contains-append_left _ _ p ((keeps p).1 (old, both.1)))
-        (λ same. subst (Contains (kept ++ path ∷ [])) same (Contains-push kept path))
-        (Contains-push_cases found path p both.0),
-  )
-
-  -- or is left out
-  pub KeepsThose-left_out : ¬ (P path) → KeepsThose P (found ++ path ∷ []) kept
-  KeepsThose-left_out lacks p = (
-    λ h. let both = (keeps p).0 h in (Contains-append_left _ _ p both.0, both.1),
-    λ both. ⊎_elim
-        (λ old. (keeps p).1 (old, both.1))
-        (λ same. absurd (lacks (subst P (sym same) both.1)))
-        (Contains-push_cases found path p both.0),
-  )
+  -- where the limit is reached, it is less than what the written listing costs
+  pub FindsSoFar-limit : (path : Text) → Goes asks tells now (Some (LimitAt path)) new → (c : Content) → IsTold (tells first.tree) c
+      → (ms : List Mark) → first.left ≡ Some ms → first.limit < cost ms + first.spent
+  FindsSoFar-limit path goes c told ms is =
+      let l = finds.left c told ms is in
+      let t = goes.takes c (finds.told ∙ told.0, told.1) in
+      let stops : StopsAt t.old_left now.spent path new.spent = t.takes finds.going in
+      let same : l.0 ≡ t.old_left = same_Some l.0 t.old_left (sym l.1 ∙ t.had) in
+      let costs : cost l.0 ≡ suc (cost stops.rest) + length stops.charges.paths = ap cost (same ∙ stops.charges.front) ∙ cost-past_works stops.charges.paths (Work path ∷ stops.rest) in
+      omega (arith, l.3, costs, stops.charges.units, goes.counts.asked.0, goes.counts.limit, finds.limit)

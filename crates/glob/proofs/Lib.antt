@@ -1,5 +1,6 @@
 pub mod EscapedFolders
 pub mod FoundPaths
+pub mod KeptTexts
 pub mod ListReading
 pub use Rattle.glob_pattern.proofs.CallerLemmas as PatternLemmas
 pub use Rattle.glob_walk.proofs.CallerLemmas as WalkLemmas

@@ -1,4 +1,6 @@
+pub mod Kept
 pub mod Lists
+pub mod PathOptions
 pub mod Types
 pub mod Variants
 pub use Rattle.glob_lines.specs.LineFaults

@@ -10,7 +10,7 @@ use Rattle.std.proofs.lemmas.Simd.{map-map}
 use Rattle.glob.specs.Text.{Text}
 use Rattle.glob_uses.specs.Ignoring.{Rules, pattern_of, is_keeping, rules_of, Ignores}
 use Rattle.glob.specs.Lists.{LastMatch}
-use Rattle.glob_uses.specs.Options.{path_options}
+use Rattle.glob.specs.PathOptions.{path_options}
 use Rattle.glob.proofs.ListReading.{LastMatch-same, LastMatch-none}
 
 -- what is left of a line from whose start `!` is stripped

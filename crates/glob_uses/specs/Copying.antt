@@ -3,10 +3,14 @@ use Rattle.std.specs.Prelude.{◌≡◌, ◌↔◌, List, ◌∷◌, ◌++◌, C
 use Rattle.glob.specs.Characters.{slash}
 use Rattle.glob.specs.Content.{Content}
 use Rattle.glob.specs.Goal.{goal}
+use Rattle.glob.specs.Kept.{KeepsThose}
+use Rattle.glob.specs.Listing.{listing}
 use Rattle.glob.specs.Lists.{AnyMatch}
+use Rattle.glob.specs.Marks.{items, paths}
 use Rattle.glob.specs.Matching.Options.{new_options}
+use Rattle.glob.specs.Order.{IsOrderly}
+use Rattle.glob.specs.PathOptions.{path_options}
 use Rattle.glob.specs.Text.{Text}
-use Rattle.glob_uses.specs.Options.{path_options}
 
 -- What the rules are: the patterns of what is copied, and those of what is not.
 pub record CopyRules : Type 0 where
@@ -17,10 +21,13 @@ pub record CopyRules : Type 0 where
 unfoldable pub Copies : CopyRules → (path : Text) → Type 0
 Copies rules path = AnyMatch path_options rules.include path × (¬ (AnyMatch path_options rules.exclude path))
 
--- Of all paths that the undivided pattern matches in the tree, the files are exactly those that the rules copy.
-unfoldable pub AreToCopy : Content → (pattern : Text) → CopyRules → (files : List Text) → Type 0
-AreToCopy c pattern rules files =
-    (path : Text) → Contains files path ↔ (Contains (goal c new_options pattern) path × Copies rules path)
+-- The files are those that the rules copy of all paths that the undivided pattern matches in the tree: each once and in
+-- order as far as its runs of `**` allow, and in the order of the written listing.
+pub record AreToCopy (c : Content) (pattern : Text) (rules : CopyRules) (files : List Text) : Type 0 where
+  pub exact : (path : Text)
+      → Contains files path ↔ (Contains (goal c new_options pattern) path × Copies rules path)
+  pub orderly : IsOrderly pattern files
+  pub listed : KeepsThose (Copies rules) (paths (items (listing c new_options pattern))) files
 
 -- the text is that of the folder, a separator, and any more
 unfoldable pub IsBelow : (folder text : Text) → Type 0

@@ -3,7 +3,7 @@ use Rattle.std.specs.Prelude.{◌≡◌, ℕ, ◌==◌, Bool, true, false, if◌
 use Rattle.glob.specs.Text.{Text}
 use Rattle.glob.specs.Grammar.Characters.{exclamation_mark}
 use Rattle.glob.specs.Lists.{LastMatch}
-use Rattle.glob_uses.specs.Options.{path_options}
+use Rattle.glob.specs.PathOptions.{path_options}
 
 -- What the rules are: the pattern of each, and whether it keeps what it matches.
 pub record Rules : Type 0 where

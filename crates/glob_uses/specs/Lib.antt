@@ -1,5 +1,5 @@
 pub mod Copying
 pub mod Ignoring
-pub mod Options
 pub mod Sources
+pub mod WalkFaults
 pub use Rattle.glob.specs.Lists

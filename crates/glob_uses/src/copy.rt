@@ -1,17 +1,20 @@
 //! What a copy tool copies: of the paths that a walk finds, those that an include pattern matches, and no exclude
 //! pattern.
-ghost use Rattle.std.specs.Prelude.{◌≡◌, ◌↔◌, ◌⊎◌, map, chars, string_bytes, IsTrue, IfOk, IfErr};
+ghost use Rattle.std.specs.Prelude.{◌≡◌, ◌↔◌, ◌⊎◌, true, map, chars, string_bytes, IsTrue, IfOk, IfErr};
 ghost use Rattle.std.specs.Path.{path_bytes, path_buf_bytes};
 ghost use Rattle.glob.specs.Answers.{IsTold};
 ghost use Rattle.glob.specs.Content.{Content};
-ghost use Rattle.glob.specs.Lists.{AnyMatch, RefusesOne};
+ghost use Rattle.glob.specs.Goal.{is_plain};
+ghost use Rattle.glob.specs.Lists.{RefusesOne};
 ghost use Rattle.glob.specs.Matching.Texts.{Matches};
+ghost use Rattle.glob.specs.PathOptions.{path_options};
 ghost use Rattle.glob.specs.Text.{Text};
 ghost use Rattle.glob_uses.specs.Copying.{AreToCopy, Copies, IsBelow};
-ghost use Rattle.glob_uses.specs.Options.{path_options};
+ghost use Rattle.glob_uses.specs.WalkFaults.{IsMet, IsWalkFault};
 
-use crate::lists::{path_options, read_patterns};
-use glob::{GlobError, MatchOptions, Pattern, PatternRefusal, Tree, glob_in, is_plain};
+use crate::faults::{WalkFault, check_plain};
+use crate::lists::{any_match, path_options, read_patterns};
+use glob::{MatchOptions, Pattern, PatternRefusal, Tree, glob_in};
 use std::alloc::{AllocError, Allocator, Global};
 use std::marker::Model;
 use std::path::{Path, PathBuf};
@@ -54,41 +57,11 @@ impl<A: Allocator + Copy> CopyRules<A> {
     pub fn copies(&self, path: Path<'_>) -> Result<bool, AllocError>
         ensures { IfOk result (λ yes. IsTrue yes ↔ Copies self.now (path_bytes path.entry)) }
     {
-        if !any_matches(self.include.as_slice(), path, path_options())? {
+        if !any_match(self.include.as_slice(), path.as_str(), path_options())? {
             return Ok(false);
         }
-        Ok(!any_matches(self.exclude.as_slice(), path, path_options())?)
+        Ok(!any_match(self.exclude.as_slice(), path.as_str(), path_options())?)
     }
-}
-
-/// Whether any of the patterns matches the path.
-fn any_matches<A: Allocator + Copy>(
-    patterns: &[Pattern<A>],
-    path: Path<'_>,
-    options: MatchOptions,
-) -> Result<bool, AllocError>
-    ensures { IfOk result
-        (λ yes. IsTrue yes ↔ AnyMatch options patterns.now (path_bytes path.entry)) }
-{
-    for pattern in patterns {
-        if pattern.matches_path_with(path, options)? {
-            return Ok(true);
-        }
-    }
-    Ok(false)
-}
-
-/// Why it is not known what is to be copied.
-#[derive(Drop)]
-pub enum CopyFault<A: Allocator> {
-    /// The pattern has a fault, or out of memory.
-    Pattern(PatternRefusal),
-    /// The pattern is not plain, as `src/./*.rs` and `.*`: a walk by it may find what the whole pattern does not match.
-    NotPlain,
-    /// A directory could not be listed, the limit was reached, or an allocation failed during the walk.
-    Walk(GlobError<A>),
-    /// Out of memory.
-    Memory,
 }
 
 /// Of the paths that a plain pattern leads to, those that the rules copy. The walk comes to its end, or its first error
@@ -102,30 +75,21 @@ pub fn paths_to_copy<T: Tree, A: Allocator + Copy>(
     pattern: &str,
     rules: &CopyRules<A>,
     limit: u64,
-) -> Result<Vec<PathBuf<T::Alloc>, T::Alloc>, CopyFault<T::Alloc>>
-    ensures { (c : Content) → IsTold (T.tells tree) c → IfOk result (λ files.
+) -> Result<Vec<PathBuf<T::Alloc>, T::Alloc>, WalkFault<T::Alloc>>
+    ensures files { (c : Content) → IsTold (T.tells tree) c → IfOk result (λ files.
         AreToCopy c pattern.now rules.now (map path_buf_bytes files.items)) }
+    ensures plain { IfOk result (λ _. is_plain pattern.now ≡ true) }
+    ensures fault { IfErr result (IsWalkFault pattern.now) }
+    ensures met { (c : Content) → IsTold (T.tells tree) c
+        → IfErr result (IsMet c pattern.now limit) }
 {
-    match is_plain(alloc, pattern) {
-        Ok(true) => {}
-        Ok(false) => return Err(CopyFault::NotPlain),
-        Err(refusal) => return Err(CopyFault::Pattern(refusal)),
-    }
-    let paths = match glob_in(alloc, tree, pattern, MatchOptions::new(), limit) {
-        Ok(paths) => paths,
-        Err(refusal) => return Err(CopyFault::Pattern(refusal)),
-    };
+    check_plain(alloc, pattern)?;
+    let paths = glob_in(alloc, tree, pattern, MatchOptions::new(), limit)?;
     let mut files = Vec::new(alloc);
     for item in paths {
-        let path = match item {
-            Ok(path) => path,
-            Err(error) => return Err(CopyFault::Walk(error)),
-        };
-        let Ok(is_copied) = rules.copies(path.as_path()) else {
-            return Err(CopyFault::Memory);
-        };
-        if is_copied && files.push(path).is_err() {
-            return Err(CopyFault::Memory);
+        let path = item?;
+        if rules.copies(path.as_path())? {
+            files.push(path)?;
         }
     }
     Ok(files)

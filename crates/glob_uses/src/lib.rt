@@ -2,6 +2,7 @@
 #![tactic(auto)]
 
 pub mod copy;
+pub mod faults;
 pub mod ignore;
 pub mod lists;
 pub mod literals;

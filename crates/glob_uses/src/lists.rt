@@ -1,6 +1,6 @@
 //! A text against a list of patterns: whether any matches it, and which does first or last.
 ghost use Rattle.std.specs.Prelude.{◌≡◌, ◌↔◌, map, IsTrue, IfOk, IfErr};
-ghost use Rattle.glob_uses.specs.Options.{path_options};
+ghost use Rattle.glob.specs.PathOptions.{path_options};
 ghost use Rattle.glob.specs.Lists.{AnyMatch, FirstMatch, LastMatch, RefusesOne};
 
 use glob::{MatchOptions, Pattern, PatternRefusal};

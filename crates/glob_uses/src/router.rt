@@ -1,7 +1,7 @@
 //! A router: which of its routes a path takes. The first that matches.
 ghost use Rattle.std.specs.Prelude.{◌≡◌, map, IfOk, IfErr};
 ghost use Rattle.glob.specs.Lists.{FirstMatch, RefusesOne};
-ghost use Rattle.glob_uses.specs.Options.{path_options};
+ghost use Rattle.glob.specs.PathOptions.{path_options};
 
 use crate::lists::{first_match, path_options, read_patterns};
 use glob::{Pattern, PatternRefusal};

@@ -1,5 +1,6 @@
-use crate::copy::{CopyFault, CopyRules, paths_to_copy, pattern_below};
-use glob::{GlobCause, MemTree, PatternRefusal};
+use crate::copy::{CopyRules, paths_to_copy, pattern_below};
+use crate::faults::WalkFault;
+use glob::{MemTree, PatternRefusal};
 use std::alloc::Global;
 use std::io;
 use std::path::Path;
@@ -67,20 +68,41 @@ fn the_paths_of_rows(rt: HostRuntime) -> Result<(), Fail> {
 fn what_keeps_the_paths_unknown(rt: HostRuntime) -> Result<(), Fail> {
     let rules = CopyRules::new(rt.alloc(), &["**"], &[])?;
     let found = paths_to_copy(rt.alloc(), tree(rt.alloc())?, "src/**.rs", &rules, 100);
-    assert!(rt; matches!(found, Err(CopyFault::Pattern(_))));
+    assert!(rt; matches!(found, Err(WalkFault::Syntax(_))));
     let found = paths_to_copy(rt.alloc(), tree(rt.alloc())?, ".*", &rules, 100);
-    assert!(rt; matches!(found, Err(CopyFault::NotPlain)));
-    let Err(CopyFault::Walk(error)) = paths_to_copy(rt.alloc(), tree(rt.alloc())?, "**", &rules, 3)
-    else {
-        panic!(rt; "the limit is kept silent");
-    };
-    assert!(rt; matches!(error.cause(), GlobCause::Limit));
+    assert!(rt; matches!(found, Err(WalkFault::NotPlain)));
+    let found = paths_to_copy(rt.alloc(), tree(rt.alloc())?, "**", &rules, 3);
+    assert!(rt; matches!(found, Err(WalkFault::Limit)));
     let mut shut = tree(rt.alloc())?;
     shut.add_shut("/shut", io::ErrorKind::PermissionDenied)?;
-    let Err(CopyFault::Walk(error)) = paths_to_copy(rt.alloc(), shut, "**/*", &rules, 100) else {
+    let Err(WalkFault::Unread(error)) = paths_to_copy(rt.alloc(), shut, "**/*", &rules, 100) else {
         panic!(rt; "the directory is passed over");
     };
     assert_eq!(rt; error.path(), Path::new("shut"));
+    Ok(())
+}
+
+#[test]
+fn paths_come_in_the_order_of_the_walk(rt: HostRuntime) -> Result<(), Fail> {
+    let mut tree = tree(rt.alloc())?;
+    for path in ["/b.rs", "/src/a.rs", "/src/tests/z.rs", "/a.rs"] {
+        tree.add_other(path)?;
+    }
+    let rules = CopyRules::new(rt.alloc(), &["**/*.rs"], &["**/main.rs"])?;
+    let Ok(found) = paths_to_copy(rt.alloc(), tree, "**/[!.]*", &rules, 100) else {
+        panic!(rt; "no paths");
+    };
+    let wanted = [
+        "a.rs",
+        "b.rs",
+        "src/a.rs",
+        "src/tests/copy.rs",
+        "src/tests/z.rs",
+    ];
+    assert_eq!(rt; found.len(), wanted.len());
+    for (found, path) in found.iter().zip(wanted) {
+        assert_eq!(rt; found.as_path(), Path::new(path));
+    }
     Ok(())
 }
 

@@ -1,4 +1,5 @@
-use crate::sources::{SourceFault, sources};
+use crate::faults::WalkFault;
+use crate::sources::sources;
 use glob::MemTree;
 use std::alloc::Global;
 use std::io;
@@ -34,14 +35,14 @@ fn the_sources_of_a_pattern(rt: HostRuntime) -> Result<(), Fail> {
 #[test]
 fn what_keeps_them_unknown(rt: HostRuntime) -> Result<(), Fail> {
     let found = sources(rt.alloc(), tree(rt.alloc())?, "src/**.rs", 100);
-    assert!(rt; matches!(found, Err(SourceFault::Pattern(_))));
+    assert!(rt; matches!(found, Err(WalkFault::Syntax(_))));
     let found = sources(rt.alloc(), tree(rt.alloc())?, "src/../*.rs", 100);
-    assert!(rt; matches!(found, Err(SourceFault::NotPlain)));
+    assert!(rt; matches!(found, Err(WalkFault::NotPlain)));
     let found = sources(rt.alloc(), tree(rt.alloc())?, "src/**/*.rs", 3);
-    assert!(rt; matches!(found, Err(SourceFault::Limit)));
+    assert!(rt; matches!(found, Err(WalkFault::Limit)));
     let mut shut = tree(rt.alloc())?;
     shut.add_shut("/src/shut", io::ErrorKind::PermissionDenied)?;
     let found = sources(rt.alloc(), shut, "src/**/*.rs", 100);
-    assert!(rt; matches!(found, Err(SourceFault::Unread(_))));
+    assert!(rt; matches!(found, Err(WalkFault::Unread(_))));
     Ok(())
 }

@@ -7,7 +7,7 @@ use Rattle.glob.specs.Matching.Texts.{Matches}
 use Rattle.glob.specs.Text.{Text}
 use Rattle.glob.proofs.EscapedFolders.{all_below, Matches-below}
 use Rattle.glob_uses.specs.Copying.{IsBelow}
-use Rattle.glob_uses.specs.Options.{path_options}
+use Rattle.glob.specs.PathOptions.{path_options}
 use Rattle.glob_uses.proofs.copy.pattern_below.Goals as goal
 
 written : chars (codes "/**/*") ≡ all_below

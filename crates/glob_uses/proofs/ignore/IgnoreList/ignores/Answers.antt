@@ -1,7 +1,7 @@
 use Rattle.std.proofs.Common.{◌↔◌, Some, None, IsTrue, not, arith, sym, subst}
 use Rattle.glob_uses.specs.Ignoring.{Ignores}
 use Rattle.glob.specs.Lists.{LastMatch}
-use Rattle.glob_uses.specs.Options.{path_options}
+use Rattle.glob.specs.PathOptions.{path_options}
 use Rattle.glob_uses.proofs.Marks.{Ignores-none, Ignores-by}
 use Rattle.glob.proofs.ListReading.{LastMatch-below}
 use Rattle.glob_uses.proofs.ignore.IgnoreList.ignores.Goals as goal
