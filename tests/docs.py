@@ -36,7 +36,13 @@ EXAMPLES = [
     ("crates/glob/CALLING.md", 18, "crates/glob_walks/src/uses.rt"),
     ("crates/glob/CALLING.md", 19, "crates/glob_walks/specs/FirstPaths.antt"),
     ("crates/glob/CALLING.md", 20, "crates/glob_vectors/src/trees.rt"),
-    ("crates/glob/CALLING.md", 21, "crates/glob_names/src/judge.rt"),
+    ("crates/glob/CALLING.md", 21, "crates/glob_uses/specs/OneFile.antt"),
+    ("crates/glob/CALLING.md", 22, "crates/glob_uses/src/one_file.rt"),
+    ("crates/glob/CALLING.md", 23, "crates/glob_uses/src/one_file.rt"),
+    ("crates/glob/CALLING.md", 24, "crates/glob_uses/src/one_file.rt"),
+    ("crates/glob/CALLING.md", 25, "crates/glob_uses/proofs/one_file/walk_over_main/Answers.antt"),
+    ("crates/glob/CALLING.md", 26, "crates/glob_uses/proofs/one_file/walk_over_main/Answers.antt"),
+    ("crates/glob/CALLING.md", 27, "crates/glob_names/src/judge.rt"),
 ]
 
 
@@ -74,7 +80,7 @@ def unknown_lemmas():
     found = []
     for names, module in re.findall(r"^\| ((?:`[\w-]+`(?:, )?)+) \| `(\w+)` \|", text, re.M):
         lemmas = (ROOT / f"crates/glob/proofs/{module}.antt").read_text(encoding="utf-8")
-        found += [name for name in re.findall(r"[\w-]+", names) if not re.search(rf"\bpub (record )?{name} ", lemmas)]
+        found += [name for name in re.findall(r"[\w-]+", names) if not re.search(rf"\bpub (record )?{name} |^pub use .*[{{ ]{name}[,}}]", lemmas, re.M)]
     return found
 
 

@@ -1,3 +1,4 @@
+pub mod Computing
 pub mod EscapedFolders
 pub mod FoundPaths
 pub mod KeptTexts

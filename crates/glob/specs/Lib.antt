@@ -1,4 +1,3 @@
-pub mod Kept
 pub mod Lists
 pub mod PathOptions
 pub mod Types

@@ -1,3 +1,4 @@
 pub mod Chosen
 pub mod Marks
+pub mod OneFile
 pub mod WalkFaults

@@ -3,7 +3,7 @@ use Rattle.std.specs.Prelude.{◌≡◌, ◌↔◌, List, ◌∷◌, ◌++◌, C
 use Rattle.glob.specs.Characters.{slash}
 use Rattle.glob.specs.Content.{Content}
 use Rattle.glob.specs.Goal.{goal}
-use Rattle.glob.specs.Kept.{KeepsThose}
+use Rattle.glob.specs.Lines.{AreKept}
 use Rattle.glob.specs.Listing.{listing}
 use Rattle.glob.specs.Lists.{AnyMatch}
 use Rattle.glob.specs.Marks.{items, paths}
@@ -27,7 +27,7 @@ pub record AreToCopy (c : Content) (pattern : Text) (rules : CopyRules) (files :
   pub exact : (path : Text)
       → Contains files path ↔ (Contains (goal c new_options pattern) path × Copies rules path)
   pub orderly : IsOrderly pattern files
-  pub listed : KeepsThose (Copies rules) (paths (items (listing c new_options pattern))) files
+  pub listed : AreKept (Copies rules) (paths (items (listing c new_options pattern))) files
 
 -- the text is that of the folder, a separator, and any more
 unfoldable pub IsBelow : (folder text : Text) → Type 0

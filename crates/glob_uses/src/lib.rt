@@ -6,6 +6,7 @@ pub mod faults;
 pub mod ignore;
 pub mod lists;
 pub mod literals;
+pub mod one_file;
 pub mod router;
 pub mod sources;
 #[cfg(test)]

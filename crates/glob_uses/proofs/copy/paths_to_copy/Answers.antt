@@ -3,12 +3,12 @@ use Rattle.std.proofs.lemmas.Bool.{false≢true}
 use Rattle.std.proofs.lemmas.List.{map-append}
 use Rattle.std.specs.Path.{path_buf_bytes}
 use Rattle.glob.specs.Goal.{IsPlainWalk}
-use Rattle.glob.specs.Kept.{KeepsThose}
+use Rattle.glob.specs.Lines.{AreKept}
 use Rattle.glob.specs.Listing.{listing}
 use Rattle.glob.specs.Matching.Options.{new_options}
 use Rattle.glob.specs.Walks.{IsFresh}
 use Rattle.glob.proofs.FoundPaths.{FindsSoFar-start, FindsSoFar-next, FindsSoFar-whole}
-use Rattle.glob.proofs.KeptTexts.{KeepsThose-none, KeepsThose-kept, KeepsThose-left_out}
+use Rattle.glob.proofs.KeptTexts.{AreKept-push, AreKept-pass}
 use Rattle.glob.proofs.ListReading.{IfErr-from_known}
 use Rattle.glob_uses.specs.Copying.{Copies}
 use Rattle.glob_uses.specs.WalkFaults.{IsPatternFault}
@@ -61,7 +61,7 @@ pub loop-item-init : goal.loop-item-init
 loop-item-init g c = record {
   found = [];
   finds = FindsSoFar-start g.T.Tree.tells _ (ap (λ walk. walk.over) c.into_iter-item-iterator.ensures.into_iter_gives ∙ c.in_ok-paths.ensures.fresh.over);
-  keeps = subst (λ files. KeepsThose (Copies c.args.rules.now) [] (map path_buf_bytes files)) (sym c.new-files.ensures.items) (KeepsThose-none (Copies c.args.rules.now));
+  keeps = subst (λ files. AreKept (Copies c.args.rules.now) [] (map path_buf_bytes files)) (sym c.new-files.ensures.items) refl;
 }
 
 -- one more path, which is kept
@@ -75,7 +75,7 @@ loop-item-preserved-in-Continue-branch-5 g c =
     record {
       found = before.found ++ path ∷ [];
       finds = FindsSoFar-next g.T.Tree.asks g.T.Tree.tells _ _ c.next.new.self before.found before.finds _ _ c.in_ok-path.path c.in-Some.is c.in_ok-path.was c.next.ensures.steps;
-      keeps = rw (c.in_ok-push.ensures.items, map-append path_buf_bytes files (c.in_ok-path.path ∷ [])) (KeepsThose-kept _ before.found (map path_buf_bytes files) before.keeps path copied);
+      keeps = rw (c.in_ok-push.ensures.items, map-append path_buf_bytes files (c.in_ok-path.path ∷ [])) (AreKept-push _ before.found (map path_buf_bytes files) path before.keeps copied);
     }
 
 -- or left out
@@ -88,7 +88,7 @@ loop-item-preserved g c =
     record {
       found = before.found ++ path ∷ [];
       finds = FindsSoFar-next g.T.Tree.asks g.T.Tree.tells _ _ c.next.new.self before.found before.finds _ _ c.in_ok-path.path c.in-Some.is c.in_ok-path.was c.next.ensures.steps;
-      keeps = KeepsThose-left_out _ before.found _ before.keeps path (λ copied. false≢true (sym c.if-branch.false ∙ tells.1 copied));
+      keeps = AreKept-pass _ before.found _ path before.keeps (λ copied. false≢true (sym c.if-branch.false ∙ tells.1 copied));
     }
 
 -- the walk has come to its end
