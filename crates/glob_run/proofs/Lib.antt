@@ -1,3 +1,5 @@
+pub mod CopyLemmas
 pub mod FoundLemmas
 pub mod NumberLemmas
 pub mod RequestLemmas
+pub mod WritingLemmas

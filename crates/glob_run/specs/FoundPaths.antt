@@ -1,35 +1,77 @@
 -- What `find` writes of a walk.
-use Rattle.std.specs.Prelude.{◌≡◌, ℕ, ◌≤◌, ◌⊎◌, Bool, true, false, List, [], ◌∷◌, Option, Result, map, MatchResult}
-use Rattle.std.specs.Io.KnownBytes.{Appends, Keeps}
-use Rattle.std.specs.Path.{path_buf_bytes}
-use Rattle.std.specs.declared.path.buf.PathBuf.{PathBuf}
-use Rattle.glob.specs.Lines.{ended_line, with_line_feeds}
-use Rattle.glob.specs.Marks.{Mark, Item, Found, items, cost, paths, IsBeginning}
+use Rattle.std.specs.Prelude.{◌≡◌, ℕ, ◌<◌, ◌≤◌, ◌⊎◌, if◌then◌else◌, Bool, true, false, List, [], ◌∷◌, Option, ⊤}
+use Rattle.std.specs.Io.KnownBytes.{Appends}
+use Rattle.glob.specs.Lines.{with_line_feeds}
+use Rattle.glob.specs.Marks.{Mark, Item, Found, Unread, items, cost, front, paths, IsBeginning}
 use Rattle.glob.specs.Text.{Text}
-use Rattle.glob.specs.Types.{GlobError}
-
--- a path is added as a line, and of an error nothing
-abbrev pub WritesItem : {A : Type 0} → Result (PathBuf A) (GlobError A) → (is_path : Bool) → (old new : Option (List ℕ)) → Type 0
-WritesItem item is_path old new =
-    MatchResult item (λ path. (is_path ≡ true) × Appends old new (ended_line (path_buf_bytes path)))
-    (λ _. (is_path ≡ false) × Keeps old new)
+use Rattle.glob.specs.Types.{End}
+use Rattle.glob.specs.Variants.End as end
+use Rattle.glob.specs.Walks.{Outcome, Gives, LimitAt, NoMemory}
+use Rattle.glob_run.specs.Outcomes.{AppendsSome}
+use Rattle.glob_run.specs.declared.find.fault.FindFault.{FindFault}
+use Rattle.glob_run.specs.declared.find.fault.FindFault.TheVariants.{Pattern, Write}
+use Rattle.glob_run.specs.declared.find.findings.Findings.{Findings}
 
 -- whether there is a path
 abbrev pub has_any : List Text → Bool
 has_any [] = false
 has_any (path ∷ paths) = true
 
--- the status of a walk without an error, by its paths
-abbrev pub found_status : List Text → ℕ
-found_status [] = 1
-found_status (path ∷ paths) = 0
+-- whether an item is an error
+abbrev pub has_unread : List Item → Bool
+has_unread [] = false
+has_unread (Found path ∷ is) = has_unread is
+has_unread (Unread path kind ∷ is) = true
 
--- The paths of a beginning of the items were written, a line each. The status is 2; or the walk is done within its limit,
--- all of its items are paths, and the status says whether there are any.
-abbrev pub FindsPaths : (listing : List Mark) → (limit : ℕ) → (old new : Option (List ℕ)) → (status : ℕ) → Type 0
-FindsPaths ms limit old new status =
+-- the status of a whole walk: 2 with an error among its items, and else 0 with a path, and 1 without
+abbrev pub found_status : List Item → ℕ
+found_status is = if has_unread is then 2 else (if has_any (paths is) then 0 else 1)
+
+-- What a walk gave that came to this end within the limit: all items of the listing; those before the first unit of work
+-- that does not fit; or, without memory, a beginning of them.
+abbrev pub GaveItems : (listing : List Mark) → (limit : ℕ) → End → List Item → Type 0
+GaveItems ms limit end.Done given = (cost ms ≤ limit) × (given ≡ items ms)
+GaveItems ms limit end.Limit given = (limit < cost ms) × (given ≡ items (front limit ms))
+GaveItems ms limit end.Memory given = IsBeginning given (items ms)
+
+-- The paths of what the walk gave were written, a line each, in order, also those between errors and after them.
+abbrev pub FindsPaths : (listing : List Mark) → (limit : ℕ) → (old new : Option (List ℕ)) → Findings → Type 0
+FindsPaths ms limit old new findings =
     (given : List Item)
-    × IsBeginning given (items ms)
+    × GaveItems ms limit findings.end given
     × Appends old new (with_line_feeds (paths given))
-    × ((status ≡ 2)
-    ⊎ ((cost ms ≤ limit) × (given ≡ items ms) × (given ≡ map Found (paths given)) × (status ≡ found_status (paths given))))
+    × (findings.has_path ≡ has_any (paths given))
+    × (findings.has_error ≡ has_unread given)
+
+-- of the lines of all paths of the listing, the first n bytes were written, for some n
+abbrev pub FindsSomeBytes : (listing : List Mark) → (old new : Option (List ℕ)) → Type 0
+FindsSomeBytes ms old new = AppendsSome old new (with_line_feeds (paths (items ms)))
+
+-- the status says of the whole walk what it says; or it is 2
+abbrev pub IsFindStatus : (listing : List Mark) → (limit : ℕ) → (status : ℕ) → Type 0
+IsFindStatus ms limit status = (status ≡ 2) ⊎ ((cost ms ≤ limit) × (status ≡ found_status (items ms)))
+
+-- the status of what was found
+abbrev pub status_of : Findings → ℕ
+status_of findings = elim findings.end [
+  | end.Done ↦ if findings.has_error then 2 else (if findings.has_path then 0 else 1)
+  | end.Limit ↦ 2
+  | end.Memory ↦ 2
+]
+
+-- the same and one answer of the walk more
+abbrev pub noting : Findings → Outcome → Findings
+noting findings (Gives (Found path)) = record findings { has_path = true }
+noting findings (Gives (Unread path kind)) = record findings { has_error = true }
+noting findings (LimitAt path) = record findings { end = end.Limit }
+noting findings NoMemory = record findings { end = end.Memory }
+
+-- the pattern was refused
+abbrev pub IsRefusal : FindFault → Type 0
+IsRefusal (Pattern refusal) = ⊤
+IsRefusal (Write error) = ⊥
+
+-- a line could not be written
+abbrev pub IsWrite : FindFault → Type 0
+IsWrite (Pattern refusal) = ⊥
+IsWrite (Write error) = ⊤

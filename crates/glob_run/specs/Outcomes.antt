@@ -1,30 +1,37 @@
 -- What a run comes to: its status, and what its output gained.
-use Rattle.std.specs.Prelude.{◌≡◌, ℕ, ◌<◌, ◌⊎◌, List, Option, chars}
-use Rattle.std.specs.Io.KnownBytes.{Appends}
+use Rattle.std.specs.Prelude.{◌≡◌, ℕ, ◌<◌, ◌⊎◌, List, Option, chars, take}
+use Rattle.std.specs.Io.KnownBytes.{Appends, Keeps}
 use Rattle.glob.specs.Escaping.{escaped_text}
-use Rattle.glob.specs.Lines.{FiltersLines, ended_line}
+use Rattle.glob.specs.Lines.{FiltersLines, FiltersSomeBytes, ended_line}
 use Rattle.glob.specs.Types.{MatchOptions}
 
 -- a fault before anything was done with the output
 abbrev pub IsRefused : {W : Type 0} → (old new : W) → (status : ℕ) → Type 0
 IsRefused old new status = (status ≡ 2) × (new ≡ old)
 
+-- of the bytes, the first n were written, for some n
+abbrev pub AppendsSome : (old new : Option (List ℕ)) → (bytes : List ℕ) → Type 0
+AppendsSome old new bytes = (n : ℕ) × Appends old new (take n bytes)
+
 -- Status 0: some lines match, and just those were written, in order. Status 1: no line matches, and none was written.
+-- Status 2: of the bytes of the lines that match, the first n were written, for some n.
 abbrev pub CopiesLines : MatchOptions → (pattern : List ℕ) → (input old new : Option (List ℕ)) → (status : ℕ) → Type 0
 CopiesLines options pattern input old new status =
     (status ≡ 0 → (n : ℕ) × (0 < n) × FiltersLines options pattern input old new n)
     × (status ≡ 1 → FiltersLines options pattern input old new 0)
+    × (status ≡ 2 → FiltersSomeBytes options pattern input old new)
 
--- Status 0: these bytes were written. There is no other status but 2.
+-- Status 0: these bytes were written. Status 2: the first n of them were, for some n. There is no other status.
 abbrev pub WritesText : (text : List ℕ) → (old new : Option (List ℕ)) → (status : ℕ) → Type 0
-WritesText text old new status = ((status ≡ 0) × Appends old new text) ⊎ (status ≡ 2)
+WritesText text old new status = ((status ≡ 0) × Appends old new text) ⊎ ((status ≡ 2) × AppendsSome old new text)
 
 -- the pattern that stands for the text alone, and a line feed
 abbrev pub IsEscapedLine : (text line : List ℕ) → Type 0
 IsEscapedLine text line =
     (escaped : List ℕ) × (chars escaped ≡ escaped_text (chars text)) × (line ≡ ended_line escaped)
 
--- Status 0: that line was written. There is no other status but 2.
+-- That line was written, and the status is 0; or the status is 2, and nothing was written, or the line's first bytes.
 abbrev pub WritesEscaped : (text : List ℕ) → (old new : Option (List ℕ)) → (status : ℕ) → Type 0
 WritesEscaped text old new status =
-    ((status ≡ 0) × ((line : List ℕ) × IsEscapedLine text line × Appends old new line)) ⊎ (status ≡ 2)
+    ((status ≡ 2) × Keeps old new)
+    ⊎ ((line : List ℕ) × IsEscapedLine text line × WritesText line old new status)

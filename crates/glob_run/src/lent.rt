@@ -3,9 +3,10 @@ ghost use Rattle.std.specs.Prelude.{◌∷◌, option_map};
 
 use std::io::{self, Write};
 
-/// A writer behind a reference, for a call that could put another one in its place, as far as its contract says.
-/// Contracts see the name of the reference first, and then the bytes that the writer holds. Writes only add at the end.
-/// So where the bytes are known, whoever has it back knows that the reference is the same, and what its lender holds.
+/// A writer behind a reference, which is lent to a call that takes a `&mut Lent`. Such a call could put another reference
+/// in its place, as far as its contract says. As its contents, contracts see the name of the reference first, and then the
+/// bytes of the writer. Writes only add at the end, so where these bytes are known, the name stays. Who has the `Lent` back
+/// then knows that the reference is the one that was lent, and what its writer holds.
 #[derive(Drop)]
 pub struct Lent<'w, W> {
     pub writer: &'w mut W,

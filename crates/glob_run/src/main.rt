@@ -3,29 +3,36 @@
 //! of the disk that the pattern matches.
 #![tactic(auto)]
 
-ghost use Rattle.std.specs.Prelude.{◌≡◌, ◌≢◌, ◌≤◌, Some, None, IfOk, chars, map, string_bytes};
+ghost use Rattle.std.specs.Prelude.{◌≡◌, ◌≢◌, ◌≤◌, List, ℕ, Some, None, IfOk, OnErr, chars, false, map, string_bytes};
+ghost use Rattle.glob.specs.Answers.{IsTold};
 ghost use Rattle.glob.specs.Components.{walk_fault};
+ghost use Rattle.glob.specs.Content.{Content};
 ghost use Rattle.glob.specs.Grammar.Units.{IsAccepted};
+ghost use Rattle.glob.specs.Lines.{FiltersLines, FiltersSomeBytes};
+ghost use Rattle.glob.specs.Listing.{listing};
+ghost use Rattle.glob.specs.Types.{MatchOptions};
 ghost use Rattle.glob_run.specs.CommandLine.{request_asked};
+ghost use Rattle.glob_run.specs.FoundPaths.{IsFindStatus};
 ghost use Rattle.glob_run.specs.Outcomes.{CopiesLines, IsEscapedLine, IsRefused, WritesEscaped, WritesText};
-ghost use Rattle.glob_run.specs.Requests.{OnEscaped, OnLines, OnPaths, Page, VersionLine};
+ghost use Rattle.glob_run.specs.Requests.{Escaped, Lines, Page, Paths, VersionLine};
 ghost use Rattle.glob_run.specs.declared.page.TheConstants.{HELP, VERSION};
 
 mod command;
 mod find;
 mod lent;
 mod page;
+mod writing;
 
 use command::Command;
 use find::run_find;
-use glob::{MatchOptions, Pattern, Watch, filter_lines};
+use glob::{Disk, LineFault, MatchOptions, Pattern, Tree, Watch, filter_lines};
 use lent::Lent;
 use std::alloc::{AllocError, Allocator};
 use std::env;
 use std::fmt::Display;
-use std::fs::Files;
 use std::io::{self, Read, Write};
 use std::process::ExitCode;
+use writing::write_whole;
 
 /// The line that a usage fault prints.
 const USAGE: &str =
@@ -41,14 +48,15 @@ const UNMATCHED: u8 = 1;
 const FAULT: u8 = 2;
 
 /// Runs the program on the words after its name, and returns its exit status: 0 where something matched or a page was
-/// written, 1 where nothing matched, 2 at a fault or where a walk met an error. A fault is one line on `errors`; a fault
-/// of `errors` itself is dropped. A usage fault is found first, then a fault of the pattern, both before anything is read,
-/// looked up or written. The disk is the one that `rt` reaches.
+/// written, 1 where nothing matched, 2 at a fault or where a walk met an error. `find` walks the tree.
+///
+/// A fault is one line on `errors`; a fault of `errors` itself is dropped. A usage fault, or a fault of the pattern, leaves
+/// the output as it was. Of the input and the tree, of which no clause says so, tests show that they are not asked then.
 ///
 /// Over the input `"a.rs\nb.c\n"` the words `match` and `*.rs` write `"a.rs\n"`, and the status is 0.
-pub fn run_words<F: Files + Drop, A: Allocator + Copy, R: Read + Drop, W: Write, E: Write>(
-    rt: F,
-    alloc: A,
+pub fn run_words<T: Tree, R: Read + Drop, W: Write, E: Write>(
+    alloc: T::Alloc,
+    tree: T,
     words: &[&str],
     input: R,
     output: &mut W,
@@ -57,15 +65,23 @@ pub fn run_words<F: Files + Drop, A: Allocator + Copy, R: Read + Drop, W: Write,
     ensures most { result ≤ 2 }
     ensures usage { request_asked (map (λ w. w.now) words.now) ≡ None
         → IsRefused output.old output.new result }
-    ensures refused { OnLines (request_asked (map (λ w. w.now) words.now)) (λ options pattern.
-        (¬ (IsAccepted (chars pattern))) → IsRefused output.old output.new result) }
-    ensures lines { OnLines (request_asked (map (λ w. w.now) words.now)) (λ options pattern.
-        CopiesLines options pattern (R.remaining input)
-        (W.contents output.old) (W.contents output.new) result) }
-    ensures escaped { OnEscaped (request_asked (map (λ w. w.now) words.now)) (λ text.
-        WritesEscaped text (W.contents output.old) (W.contents output.new) result) }
-    ensures walk_refused { OnPaths (request_asked (map (λ w. w.now) words.now)) (λ pattern.
-        walk_fault pattern ≢ None → IsRefused output.old output.new result) }
+    ensures refused { (options : MatchOptions) → (pattern : List ℕ)
+        → request_asked (map (λ w. w.now) words.now) ≡ Some (Lines options pattern)
+        → (¬ (IsAccepted (chars pattern))) → IsRefused output.old output.new result }
+    ensures lines { (options : MatchOptions) → (pattern : List ℕ)
+        → request_asked (map (λ w. w.now) words.now) ≡ Some (Lines options pattern)
+        → CopiesLines options pattern (R.remaining input)
+        (W.contents output.old) (W.contents output.new) result }
+    ensures escaped { (text : List ℕ)
+        → request_asked (map (λ w. w.now) words.now) ≡ Some (Escaped text)
+        → WritesEscaped text (W.contents output.old) (W.contents output.new) result }
+    ensures walk_refused { (options : MatchOptions) → (limit : ℕ) → (pattern : List ℕ)
+        → request_asked (map (λ w. w.now) words.now) ≡ Some (Paths options limit pattern)
+        → walk_fault pattern ≢ None → IsRefused output.old output.new result }
+    ensures walk_status { (options : MatchOptions) → (limit : ℕ) → (pattern : List ℕ)
+        → request_asked (map (λ w. w.now) words.now) ≡ Some (Paths options limit pattern)
+        → (c : Content) → IsTold (T.tells tree) c
+        → IsFindStatus (listing c options pattern) limit result }
     ensures page { request_asked (map (λ w. w.now) words.now) ≡ Some Page
         → WritesText HELP.now (W.contents output.old) (W.contents output.new) result }
     ensures version { request_asked (map (λ w. w.now) words.now) ≡ Some VersionLine
@@ -79,7 +95,7 @@ pub fn run_words<F: Files + Drop, A: Allocator + Copy, R: Read + Drop, W: Write,
             run_match(alloc, options, pattern, input, output, errors)
         }
         Command::Escape { text } => run_escape(alloc, text, output, errors),
-        Command::Find(search) => run_find(rt, alloc, search, output, errors),
+        Command::Find(search) => run_find(alloc, tree, search, output, errors),
         Command::Help => write_text(alloc, page::HELP, output, errors),
         Command::Version => write_text(alloc, page::VERSION, output, errors),
     }
@@ -104,16 +120,34 @@ fn run_match<A: Allocator + Copy, R: Read + Drop, W: Write, E: Write>(
         Ok(pattern) => pattern,
         Err(refusal) => return fault(alloc, errors, refusal),
     };
-    let mut reader = Watch::new(input);
     let mut writer = Watch::new(Lent { writer: output });
-    let answer = filter_lines(alloc, &pattern, options, &mut reader, &mut writer);
+    let answer = copy_lines(alloc, &pattern, options, input, &mut writer);
     let Lent { writer: output } = writer.into_inner();
+    // No effect at run time. The proof reads here what the output holds.
     let _ = &*output;
     match answer {
         Ok(0) => UNMATCHED,
         Ok(_) => MATCHED,
         Err(line_fault) => fault(alloc, errors, line_fault),
     }
+}
+
+/// Copies the matching lines, and returns how many there are. Where it fails, the first bytes of them were written.
+fn copy_lines<A: Allocator + Copy, R: Read + Drop, W: Write>(
+    alloc: A,
+    pattern: &Pattern<A>,
+    options: MatchOptions,
+    input: R,
+    writer: &mut Watch<W>,
+) -> Result<u64, LineFault>
+    requires { writer.old.failed ≡ false }
+    ensures lines { IfOk result (FiltersLines options pattern.now (R.remaining input)
+        (W.contents writer.old.inner) (W.contents writer.new.inner)) }
+    ensures some { OnErr result (FiltersSomeBytes options pattern.now (R.remaining input)
+        (W.contents writer.old.inner) (W.contents writer.new.inner)) }
+{
+    let mut reader = Watch::new(input);
+    filter_lines(alloc, pattern, options, &mut reader, writer)
 }
 
 /// Writes the pattern that stands for the text alone, and returns the status.
@@ -140,7 +174,7 @@ fn write_text<A: Allocator, W: Write, E: Write>(
 ) -> u8
     ensures { WritesText text.now (W.contents output.old) (W.contents output.new) result }
 {
-    match output.write_all(text.as_bytes()) {
+    match write_whole(output, text.as_bytes()) {
         Ok(()) => MATCHED,
         Err(_) => fault(alloc, errors, "writing failed"),
     }
@@ -172,9 +206,9 @@ fn write_line<A: Allocator, E: Write, D: Display>(alloc: A, errors: &mut E, mess
     };
 }
 
-/// The line of words that could not be had: too little memory for them, or a word that is not UTF-8.
-fn words_fault<A: Allocator, E: Write>(alloc: A, errors: &mut E, error: &io::Error) -> u8
-    ensures { result ≤ 2 }
+/// The line of arguments that could not be read: too little memory for them, or one that is not UTF-8.
+fn arguments_fault<A: Allocator, E: Write>(alloc: A, errors: &mut E, error: &io::Error) -> u8
+    ensures { result ≡ 2 }
 {
     match error.kind() {
         io::ErrorKind::OutOfMemory => fault(alloc, errors, "out of memory"),
@@ -182,44 +216,48 @@ fn words_fault<A: Allocator, E: Write>(alloc: A, errors: &mut E, error: &io::Err
     }
 }
 
-/// Runs the program on its arguments, without its name.
-fn run_arguments<F: Files + Drop, A: Allocator + Copy, R: Read + Drop, W: Write, E: Write>(
-    rt: F,
+/// The texts of the arguments.
+fn words_of<A: Allocator + Copy>(
     alloc: A,
     arguments: &[String<A>],
-    input: R,
-    output: &mut W,
-    errors: &mut E,
-) -> u8
-    ensures { result ≤ 2 }
+) -> Result<Vec<&str, A>, AllocError>
+    ensures { IfOk result (λ words. map (λ w. w.now) words.items ≡ map string_bytes arguments.now) }
 {
-    match arguments
-        .iter()
-        .map(|word| word.as_str())
-        .collect::<Vec<&str, A>>(alloc)
-    {
-        Ok(words) => run_words(rt, alloc, words.as_slice(), input, output, errors),
-        Err(_) => fault(alloc, errors, "out of memory"),
+    let mut words = Vec::new(alloc);
+    let mut rest = arguments;
+    while let [argument, after @ ..] = rest {
+        words.push(argument.as_str())?;
+        rest = after;
     }
+    Ok(words)
 }
 
-/// The words after the program's name.
+/// The arguments after the program's name.
 fn arguments(rt: &HostRuntime) -> io::Result<Vec<String>> {
     Ok(env::args(rt)?.skip(1).collect(rt.alloc())?)
 }
 
 fn main(rt: HostRuntime) -> ExitCode {
+    let alloc = rt.alloc();
     let mut errors = rt.stderr();
-    ExitCode::from(match arguments(&rt) {
-        Ok(words) => run_arguments(
-            rt,
-            rt.alloc(),
-            words.as_slice(),
-            rt.stdin(),
-            &mut rt.stdout(),
-            &mut errors,
-        ),
-        Err(error) => words_fault(rt.alloc(), &mut errors, &error),
+    let arguments = match arguments(&rt) {
+        Ok(arguments) => arguments,
+        Err(error) => return ExitCode::from(arguments_fault(alloc, &mut errors, &error)),
+    };
+    ExitCode::from(match words_of(alloc, arguments.as_slice()) {
+        Ok(words) => {
+            let tree = Disk::new(rt, alloc);
+            let output = &mut rt.stdout();
+            run_words(
+                alloc,
+                tree,
+                words.as_slice(),
+                rt.stdin(),
+                output,
+                &mut errors,
+            )
+        }
+        Err(_) => fault(alloc, &mut errors, "out of memory"),
     })
 }
 

@@ -4,6 +4,7 @@ mod folder;
 mod looks;
 mod pages;
 mod runs;
+mod told;
 
 use super::*;
 use runs::{Row, check, check_failing_output, check_rows, check_usage_faults};
@@ -152,8 +153,8 @@ fn the_line_of_a_fault_is_one_write(rt: HostRuntime) {
     for words in LINES_OF_FAULTS {
         let mut errors = Counting { writes: 0 };
         let status = run_words(
-            rt,
             rt.alloc(),
+            Disk::new(rt, rt.alloc()),
             words,
             b"".as_slice(),
             &mut Unwritable,
@@ -168,8 +169,8 @@ fn the_line_of_a_fault_is_one_write(rt: HostRuntime) {
 fn a_fault_that_cannot_be_told_is_dropped(rt: HostRuntime) {
     let mut written = Vec::new(rt.alloc());
     let answer = run_words(
-        rt,
         rt.alloc(),
+        Disk::new(rt, rt.alloc()),
         &["match"],
         b"".as_slice(),
         &mut written,

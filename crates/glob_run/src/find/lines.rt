@@ -1,7 +1,10 @@
 //! Lines that wait for others before they are written.
-ghost use Rattle.std.specs.Prelude.{None};
+ghost use Rattle.std.specs.Prelude.{◌≡◌, None, Some, IfOk};
+ghost use Rattle.std.specs.Io.Buffered.{writer_contents};
+ghost use Rattle.std.specs.Io.KnownBytes.{Keeps};
 
 use super::line_sink::LineSink;
+use crate::writing::write_whole;
 use std::alloc::Allocator;
 use std::cell::{RefCell, RefMut};
 use std::io::{self, BufWriter, ErrorKind, Write};
@@ -22,7 +25,7 @@ pub struct Lines<W: Write + Drop, A: Allocator> {
 
 impl<W: Write + Drop, A: Allocator> Lines<W, A> {
     /// No lines yet.
-    fn new(buffer: BufWriter<W, A>) -> Self {
+    pub fn new(buffer: BufWriter<W, A>) -> Self {
         Lines {
             buffer,
             has_line: false,
@@ -46,6 +49,18 @@ impl<W: Write + Drop, A: Allocator> Lines<W, A> {
         }
     }
 
+    /// Writes the lines that wait, and returns the writer.
+    #[cfg(test)]
+    pub fn finish(self) -> io::Result<W>
+        ensures { IfOk result (λ writer.
+            Keeps (writer_contents W.contents self.buffer) (W.contents writer)) }
+    {
+        match self.buffer.into_inner() {
+            Ok(writer) => Ok(writer),
+            Err(_) => Err(io::Error::from(ErrorKind::WriteZero)),
+        }
+    }
+
     /// Drops the lines that wait.
     pub fn abandon(self) {
         let (_writer, _unwritten) = self.buffer.into_parts();
@@ -53,13 +68,11 @@ impl<W: Write + Drop, A: Allocator> Lines<W, A> {
 }
 
 impl<W: Write + Drop, A: Allocator> LineSink for Lines<W, A> {
-    ghost use Rattle.std.specs.Io.Buffered.{writer_contents};
-
     ghost contents = { λ lines. writer_contents W.contents lines.buffer };
 
     fn add(&mut self, text: &str) -> io::Result<()> {
-        self.buffer.write_all(text.as_bytes())?;
-        self.buffer.write_all(b"\n")?;
+        write_whole(&mut self.buffer, text.as_bytes())?;
+        write_whole(&mut self.buffer, b"\n")?;
         if !self.has_line {
             self.has_line = true;
             return self.flush();
@@ -94,24 +107,50 @@ pub fn lend<W: Write + Drop, A: Allocator>(
     }
 }
 
-/// Shared lines as they are added. Contracts do not know what a cell holds.
+/// Shared lines as they are added. The first puts the lines, which are on their way to the output, into the cell.
+/// Contracts do not know what a cell holds.
 #[derive(Drop)]
 pub struct SharedLines<'l, W: Write + Drop, A: Allocator> {
+    alloc: A,
+    /// Where the lines go, until there are some.
+    output: Option<W>,
     lines: &'l LinesCell<W, A>,
 }
 
-impl<'l, W: Write + Drop, A: Allocator> SharedLines<'l, W, A> {
-    /// Puts lines on their way to a writer into the cell.
-    pub fn begin(lines: &'l LinesCell<W, A>, buffer: BufWriter<W, A>) -> io::Result<Self> {
-        *lend(lines)? = Some(Lines::new(buffer));
-        Ok(SharedLines { lines })
+impl<'l, W: Write + Drop, A: Allocator + Copy> SharedLines<'l, W, A> {
+    /// No lines yet. The cell holds none, either.
+    pub fn new(alloc: A, output: W, lines: &'l LinesCell<W, A>) -> Self
+        ensures { result.output ≡ Some output }
+    {
+        SharedLines {
+            alloc,
+            output: Some(output),
+            lines,
+        }
+    }
+
+    /// The output, where there were no lines.
+    pub fn into_output(self) -> Option<W>
+        ensures { result ≡ self.entry.output }
+    {
+        self.output
+    }
+
+    /// Puts lines on their way to the output into the cell, if there are none yet.
+    fn begin(&mut self) -> io::Result<()> {
+        if let Some(output) = self.output.take() {
+            let buffer = BufWriter::new(self.alloc, output)?;
+            *lend(self.lines)? = Some(Lines::new(buffer));
+        }
+        Ok(())
     }
 }
 
-impl<W: Write + Drop, A: Allocator> LineSink for SharedLines<'_, W, A> {
+impl<W: Write + Drop, A: Allocator + Copy> LineSink for SharedLines<'_, W, A> {
     ghost contents = { λ _. None };
 
     fn add(&mut self, text: &str) -> io::Result<()> {
+        self.begin()?;
         match &mut *lend(self.lines)? {
             Some(lines) => lines.add(text),
             None => Err(io::Error::from(ErrorKind::NotConnected)),

@@ -2,6 +2,7 @@
 use super::folder::ensure;
 use super::runs::{Row, check_rows};
 use crate::run_words;
+use glob::Disk;
 use std::test::Fail;
 
 /// What the page says of each command, option, wildcard and status, a line for each.
@@ -43,7 +44,8 @@ fn page_of(rt: &HostRuntime, words: &[&str]) -> Result<String, Fail> {
     let mut output = Vec::new(rt.alloc());
     let mut errors = Vec::new(rt.alloc());
     let input = b"".as_slice();
-    let status = run_words(*rt, rt.alloc(), words, input, &mut output, &mut errors);
+    let tree = Disk::new(*rt, rt.alloc());
+    let status = run_words(rt.alloc(), tree, words, input, &mut output, &mut errors);
     ensure(status == 0 && errors.is_empty(), format_args!("{words:?}"))?;
     Ok(String::from_utf8(output)?)
 }

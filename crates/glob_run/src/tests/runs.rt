@@ -2,6 +2,7 @@
 use super::Unwritable;
 use super::folder::ensure;
 use crate::run_words;
+use glob::Disk;
 use std::fs::Files;
 use std::io::{Read, Write};
 use std::process::Abort;
@@ -21,7 +22,8 @@ fn run<R: Read + Drop, W: Write>(
     output: &mut W,
 ) -> (u8, Vec<u8>) {
     let mut errors = Vec::new(rt.alloc());
-    let status = run_words(rt, rt.alloc(), words, input, output, &mut errors);
+    let tree = Disk::new(rt, rt.alloc());
+    let status = run_words(rt.alloc(), tree, words, input, output, &mut errors);
     (status, errors)
 }
 

@@ -1,0 +1,196 @@
+//! The command `find` over trees in memory, whose content contracts know: exact bytes, for a pattern each.
+use super::folder::ensure;
+use crate::command::Search;
+use crate::find::fault::FindFault;
+use crate::find::find_in;
+use crate::find::findings::Findings;
+use crate::find::lines::Lines;
+use crate::run_words;
+use glob::{End, MatchOptions, MemTree, TreeRefusal};
+use std::alloc::Global;
+use std::io::{BufWriter, ErrorKind, Write};
+use std::test::Fail;
+
+/// Finds in a tree in memory by lines that are in no cell, and returns the output.
+fn find_in_memory<W: Write + Drop, E: Write>(
+    alloc: Global,
+    tree: MemTree,
+    search: Search<'_>,
+    output: W,
+    errors: &mut E,
+) -> Result<(W, Findings), FindFault> {
+    let buffer = match BufWriter::new(alloc, output) {
+        Ok(buffer) => buffer,
+        Err(error) => return Err(FindFault::Write(error)),
+    };
+    let mut lines = Lines::new(buffer);
+    let findings = find_in(alloc, tree, search, &mut lines, errors)?;
+    match lines.finish() {
+        Ok(output) => Ok((output, findings)),
+        Err(error) => Err(FindFault::Write(error)),
+    }
+}
+
+/// Adds a key: before `#` a directory that cannot be listed, before `/` another one.
+fn add(tree: &mut MemTree, key: &str) -> Result<(), TreeRefusal> {
+    if let Some(path) = key.strip_suffix('#') {
+        tree.add_shut(path, ErrorKind::PermissionDenied)
+    } else if let Some(path) = key.strip_suffix('/') {
+        tree.add_dir(path)
+    } else {
+        tree.add_other(key)
+    }
+}
+
+/// The tree of these keys, with a current directory.
+fn tree_of(rt: &impl AllocGlobal, keys: &str, current: &str) -> Result<MemTree, Fail> {
+    let mut tree = MemTree::new(rt.alloc())?;
+    for key in keys.split_whitespace() {
+        ensure(add(&mut tree, key).is_ok(), format_args!("{key}"))?;
+    }
+    ensure(tree.set_current(current).is_ok(), format_args!("{current}"))?;
+    Ok(tree)
+}
+
+/// Files and directories below `/w`.
+const FILES: &str = "
+    /w/ /w/aaa/ /w/aaa/apple/ /w/aaa/orange/ /w/aaa/tomato/ /w/bbb/ /w/bbb/specials/ /w/ccc/ /w/xyz/
+    /w/r/ /w/r/one/ /w/r/one/another/ /w/r/one/another/deep/ /w/r/another/ /w/r/two/ /w/r/three/
+    /w/aaa/tomato/tomato.txt /w/aaa/tomato/tomoto.txt /w/xyz/x /w/xyz/y /w/xyz/z
+    /w/r/current_dir.md /w/r/one/a.md /w/r/one/another/a.md /w/r/one/another/deep/spelunking.md
+    /w/r/another/a.md /w/r/two/b.md /w/r/three/c.md
+    /w/bbb/specials/! /w/bbb/specials/* /w/bbb/specials/? /w/bbb/specials/[ /w/bbb/specials/]
+    /w/aaa/green_apple /w/aaa/kazusa
+";
+
+/// A pattern, and the exit status, the lines, and what is printed of faults.
+type Row<'a> = (&'a str, u8, &'a str, &'a str);
+
+const ROWS: &[Row] = &[
+    (
+        "r/**",
+        0,
+        "r/another\nr/one\nr/one/another\nr/one/another/deep\nr/three\nr/two\n",
+        "",
+    ),
+    (
+        "r/**/*.md",
+        0,
+        "r/another/a.md\nr/current_dir.md\nr/one/a.md\nr/one/another/a.md\nr/one/another/deep/spelunking.md\nr/three/c.md\nr/two/b.md\n",
+        "",
+    ),
+    (
+        "r/**/another/a.md",
+        0,
+        "r/another/a.md\nr/one/another/a.md\n",
+        "",
+    ),
+    ("", 1, "", ""),
+    (".", 0, ".\n", ""),
+    ("aaa/", 0, "aaa\n", ""),
+    ("aaaa", 1, "", ""),
+    ("???/", 0, "aaa\nbbb\nccc\nxyz\n", ""),
+    (
+        "aaa/*",
+        0,
+        "aaa/apple\naaa/green_apple\naaa/kazusa\naaa/orange\naaa/tomato\n",
+        "",
+    ),
+    ("aaa/../bbb", 0, "aaa/../bbb\n", ""),
+    ("aaa/tomato/tomato.txt/", 1, "", ""),
+    (
+        "bbb/specials/[![]",
+        0,
+        "bbb/specials/!\nbbb/specials/*\nbbb/specials/?\nbbb/specials/]\n",
+        "",
+    ),
+    (
+        "a/**b",
+        2,
+        "",
+        "Pattern syntax error near position 4: recursive wildcards must form a single path component\n",
+    ),
+];
+
+const DENIED: &str = "attempting to read `d` resulted in an error: permission denied\n";
+
+const LIMITED: &str = "attempting to read `.` resulted in an error: walk limit reached\n";
+
+/// Runs the program on the words over a tree, and compares its exit status and what it writes.
+fn check_words(
+    rt: &impl AllocGlobal,
+    tree: MemTree,
+    words: &[&str],
+    (wanted_status, wanted_output, wanted_errors): (u8, &str, &str),
+) -> Result<(), Fail> {
+    let mut output = Vec::new(rt.alloc());
+    let mut errors = Vec::new(rt.alloc());
+    let status = run_words(
+        rt.alloc(),
+        tree,
+        words,
+        b"".as_slice(),
+        &mut output,
+        &mut errors,
+    );
+    let is_wanted = status == wanted_status
+        && output.as_slice() == wanted_output.as_bytes()
+        && errors.as_slice() == wanted_errors.as_bytes();
+    ensure(is_wanted, format_args!("{words:?}"))
+}
+
+#[test]
+fn the_program_writes_the_listing(rt: HostRuntime) -> Result<(), Fail> {
+    for (pattern, status, output, errors) in ROWS {
+        let tree = tree_of(&rt, FILES, "/w")?;
+        let words = ["find", "--", *pattern];
+        check_words(&rt, tree, &words, (*status, *output, *errors))?;
+    }
+    Ok(())
+}
+
+#[test]
+fn a_limit_cuts_the_listing(rt: HostRuntime) -> Result<(), Fail> {
+    let two = ["find", "-n", "4", "*"];
+    check_words(&rt, tree_of(&rt, "/x /y", "/")?, &two, (0, "x\ny\n", ""))?;
+    let none = ["find", "-n", "3", "*"];
+    check_words(&rt, tree_of(&rt, "/x /y", "/")?, &none, (2, "", LIMITED))?;
+    let all = ["find", "-n", "5", "**"];
+    check_words(&rt, tree_of(&rt, "/d/ /d/x", "/")?, &all, (0, "d\n", ""))?;
+    let cut = ["find", "-n", "4", "**"];
+    let refusal = "attempting to read `d` resulted in an error: walk limit reached\n";
+    check_words(
+        &rt,
+        tree_of(&rt, "/d/ /d/x", "/")?,
+        &cut,
+        (2, "d\n", refusal),
+    )
+}
+
+#[test]
+fn paths_and_errors(rt: HostRuntime) -> Result<(), Fail> {
+    let tree = tree_of(&rt, "/d#", "/")?;
+    check_words(&rt, tree, &["find", "**"], (2, "d\n", DENIED))?;
+    // A path after the error, too.
+    let tree = tree_of(&rt, "/d# /e/", "/")?;
+    check_words(&rt, tree, &["find", "**"], (2, "d\ne\n", DENIED))
+}
+
+#[test]
+fn a_search_says_how_it_ended(rt: HostRuntime) -> Result<(), Fail> {
+    let alloc = rt.alloc();
+    let search = Search {
+        pattern: "*",
+        options: MatchOptions::new(),
+        limit: 4,
+    };
+    let mut errors = Vec::new(alloc);
+    let tree = tree_of(&rt, "/x /y", "/")?;
+    let found = find_in_memory(alloc, tree, search, Vec::new(alloc), &mut errors);
+    let Ok((output, findings)) = found else {
+        return Err(Fail::new("a fault"));
+    };
+    let is_whole = findings.end == End::Done && findings.has_path && !findings.has_error;
+    let is_written = output.as_slice() == b"x\ny\n".as_slice() && errors.is_empty();
+    ensure(is_whole && is_written, format_args!("two files"))
+}
