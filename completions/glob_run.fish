@@ -13,7 +13,7 @@ function __glob_run_options -d 'Whether nothing but options stands after one of 
             set is_limit no
         else if test "$words[2] $word" = 'find -n'
             set is_limit yes
-        else if not string match -qr '^-[isd]$' -- $word
+        else if not string match -qr '^-[isd-]$' -- $word
             return 1
         end
     end

@@ -1,9 +1,11 @@
 #!/usr/bin/env python3
 """Runs each example of the man page, and each call of the program that the README shows. Checks the man page where
-`mandoc` or `groff` can be had, sources the completions in bash, and installs all of it. Prints what is wrong, and last
-how many checks passed and failed."""
+`mandoc` or `groff` can be had, asks bash, fish and zsh what their completions offer, and installs all of it. Prints
+what is wrong, and last how many checks passed and failed."""
 
+import contextlib
 import os
+import pty
 import re
 import shutil
 import subprocess
@@ -15,8 +17,8 @@ ROOT = Path(__file__).resolve().parent.parent
 PAGE = ROOT / "man/glob_run.1"
 ROFF = {r"\(aq": "'", r"\(ga": "`", r"\e": "\\", r"\-": "-", r"\&": ""}
 
-# The words of a command line, of which the last is being written, and what bash offers for it. So does fish, but for the
-# lines of FISH: it offers options only after a hyphen, and no `--`.
+# The words of a command line, of which the last is being written, and what bash offers for it. So do fish and zsh, but
+# for the lines of FISH and of ZSH. Neither offers `--`, and fish offers options only after a hyphen.
 COMPLETIONS = [
     ("glob_run ", "--help --version -h escape find match"),
     ("glob_run m", "match"),
@@ -29,6 +31,9 @@ COMPLETIONS = [
     ("glob_run find -n ", ""),
     ("glob_run find -n 5 -", "-- -d -i -n -s"),
     ("glob_run find fo", "folder"),
+    ("glob_run find -n 5 fo", "folder"),
+    ("glob_run find -- fo", "folder"),
+    ("glob_run find folder fo", ""),
     ("glob_run match fo", ""),
     ("glob_run escape -", "--"),
     ("glob_run --help ", ""),
@@ -41,8 +46,44 @@ FISH = {
     "glob_run find -": "-d -i -n -s",
     "glob_run find -n 5 -": "-d -i -n -s",
     "glob_run find fo": "folder/",
+    "glob_run find -n 5 fo": "folder/",
+    "glob_run find -- fo": "folder/",
     "glob_run escape -": "",
 }
+
+ZSH = {
+    "glob_run match -": "-d -i -s",
+    "glob_run match -i -": "-d -i -s",
+    "glob_run find -": "-d -i -n -s",
+    "glob_run find -n 5 -": "-d -i -n -s",
+    "glob_run escape -": "",
+}
+
+# What zsh reads at its start in a terminal: it completes each line of the file ASKED, and writes a line with all that it
+# offers to the file OFFERED. Then it ends. What is offered goes through `compadd`, which with -O, -A or -D only asks.
+ZSHRC = """
+fpath=("$COMPLETIONS" $fpath)
+autoload -Uz compinit && compinit -u -D
+compadd() {
+    local -a found options=("${(@)argv[1,(i)(-|--)]}")
+    if ((${options[(I)-[OAD]*]} == 0)); then
+        builtin compadd -A found "$@"
+        offered+=($found)
+    fi
+    builtin compadd "$@"
+}
+zle-line-init() {
+    local line
+    while IFS= read -r line; do
+        offered=() BUFFER=$line CURSOR=$#line
+        zle list-choices
+        print -r -- $offered
+    done <$ASKED >$OFFERED
+    BUFFER=exit
+    zle accept-line
+}
+zle -N zle-line-init
+"""
 
 INSTALLED = [
     "bin/glob_run",
@@ -117,6 +158,39 @@ def fish_faults(line, wanted, folder):
     return [] if (offered, ran.stderr) == (wanted, "") else [f"fish: {line}: {offered} {ran.stderr}"]
 
 
+def run_in_terminal(words, **how):
+    """Runs a command in a terminal of its own, for at most a minute, and shows nothing of it."""
+    near, far = pty.openpty()
+    words = ["timeout", "--foreground", "60", *words]
+    ran = subprocess.Popen(words, stdin=far, stdout=far, stderr=far, start_new_session=True, **how)
+    os.close(far)
+    # Once nobody writes to a terminal, reading it is an error.
+    with contextlib.suppress(OSError):
+        while os.read(near, 4096):
+            pass
+    os.close(near)
+    ran.wait()
+
+
+def zsh_faults(folder, home):
+    """What zsh offers otherwise than it should, of each line. An empty list where it cannot be had."""
+    if not shutil.which("zsh"):
+        print("skipped: there is no zsh, so it is not asked what it offers")
+        return []
+    (home / ".zshrc").write_text(ZSHRC, encoding="utf-8")
+    asked, offered = home / "asked", home / "offered"
+    asked.write_text("".join(f"{line}\n" for line, _ in COMPLETIONS), encoding="utf-8")
+    offered.touch()
+    env = {"PATH": os.environ["PATH"], "TERM": "dumb", "HOME": home, "ZDOTDIR": home}
+    env |= {"COMPLETIONS": ROOT / "completions", "ASKED": asked, "OFFERED": offered}
+    run_in_terminal(["zsh", "-d", "-i"], cwd=folder, env=env)
+    found = [" ".join(sorted(it.split())) for it in offered.read_text(encoding="utf-8").splitlines()]
+    found += ["no answer"] * (len(COMPLETIONS) - len(found))
+    wanted = [ZSH.get(line, it) for line, it in COMPLETIONS]
+    rows = zip(COMPLETIONS, wanted, found)
+    return [[] if it == want else [f"zsh: {line}: {it}"] for (line, _), want, it in rows]
+
+
 def syntax_faults(shell, file):
     """What a shell says of a file that it cannot read, and None where the shell cannot be had."""
     if not shutil.which(shell):
@@ -150,6 +224,7 @@ def main():
         checks = [install_faults(prefix), lint(), refusal_faults([]), refusal_faults(["--help"])]
         checks += [completion_faults(*it, folder) for it in COMPLETIONS]
         checks += [fish_faults(line, FISH.get(line, wanted), folder) for line, wanted in COMPLETIONS]
+        checks += zsh_faults(folder, Path(work))
         checks += [syntax_faults("zsh", "completions/_glob_run"), syntax_faults("fish", "completions/glob_run.fish")]
         (folder / "folder").rmdir()
         checks += [run_example(*it, folder, prefix / "bin") for it in examples()]
