@@ -1,10 +1,12 @@
 #!/usr/bin/env bash
 # Runs the static library for C and Rust: calls from C under valgrind, the tests of the Cargo crate, and a million
 # random matches beside the Rust crate `glob`, of the Debian package librust-glob-dev. What cannot be had here is left
-# out, and said. Its last line is 'N passed, M failed'.
+# out, and said. Its last line is 'N passed, M failed'. Ended by a signal, it ends what it started.
 set -uo pipefail
 root=$(cd "$(dirname "$(readlink -f "${BASH_SOURCE[0]}")")/.." && pwd)
 work=$(mktemp -d)
+. "$root/tests/lib/ending.sh"
+end_all_by_signal
 trap 'rm -rf "$work"' EXIT
 export CADMIUMDOVE_LIBRARY=$root/crates/glob_c/out CARGO_TARGET_DIR=$work/target
 passed=0 failed=0
@@ -13,7 +15,7 @@ passed=0 failed=0
 check() {
     local name=$1
     shift
-    if "$@" >"$work/log" 2>&1; then
+    if as_job "$@" >"$work/log" 2>&1; then
         passed=$((passed + 1))
     else
         failed=$((failed + 1))
@@ -60,7 +62,7 @@ calls_from_rust() {
     grep -E ' matches, ' "$work/log"
 }
 
-if "$root/bin/c_library" >"$work/log" 2>&1; then
+if as_job "$root/bin/c_library" >"$work/log" 2>&1; then
     calls_from_c
     calls_from_rust
 else

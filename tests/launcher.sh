@@ -1,6 +1,7 @@
 #!/usr/bin/env bash
 # Runs bin/glob_run where nothing is built yet, over a copy of the repository without sources and an `rt` that proves
-# nothing and notes what it is asked. Prints a line for each row that fails, and last how many passed and failed.
+# nothing and notes what it is asked. Ends it and the gate by signals while they are at work. Prints a line for each row
+# that fails, and last how many passed and failed.
 set -u
 root=$(cd "$(dirname "$(readlink -f "${BASH_SOURCE[0]}")")/.." && pwd)
 work=$(mktemp -d)
@@ -15,7 +16,7 @@ program="$work/a copy/bin/glob_run"
 anew() {
     rm -rf "$work/a copy" "$work/asked" && mkdir "$work/a copy"
     cp -a "$root/bin" "$root/crates.txt" "$work/a copy"
-    for crate in $(sed -n 's/^\([a-z_]*\):.*/\1/p' "$root/crates.txt"); do
+    for crate in $(sed -n 's/^\([a-z_]*\)[ :].*/\1/p' "$root/crates.txt"); do
         mkdir -p "$work/a copy/crates/$crate/src" && touch "$work/a copy/crates/$crate/src/lib.rt"
     done
 }
@@ -27,7 +28,7 @@ cat >"$work/tools/rt" <<'RT'
 #!/usr/bin/env bash
 crate=${PWD##*/}
 echo "$1 $crate" >>"$ASKED"
-for below in $(sed -n "s/^$crate: //p" ../../crates.txt); do
+for below in $(sed -n "s/^$crate: //p" ../../crates.txt 2>/dev/null); do
     [ -f "../$below/out/made" ] || { echo "error: $crate is asked for before $below is made" && exit 1; }
 done
 [ ! -f "$ASKED.slow" ] || [ "$crate" = glob_text ] || { echo $$ >>"$ASKED.slow" && exec sleep 300; }
@@ -98,30 +99,46 @@ for wrong in glob_text glob_tree; do
 done
 rm "$work/asked.wrong"
 
-for signal in TERM INT HUP; do
-    anew
+# ended_by SIGNAL COMMAND..: runs the command until two rt are at work, ends it by the signal, and adds to the output how
+# many rt there were, and a line for each that goes on. The command is a job of its own, since a shell without jobs has
+# those in its background ignore SIGINT. Only it gets the signal.
+ended_by() {
+    local signal=$1 tries worker started
+    shift
     touch "$work/asked.slow"
-    # A job of its own, since a shell without jobs has those in its background ignore SIGINT. Only it gets the signal,
-    # once both are at work.
     set -m
-    "$program" match x >"$work/out" 2>"$work/err" &
-    launcher=$!
+    "$@" >"$work/out" 2>"$work/err" &
+    started=$!
     set +m
     for ((tries = 0; tries < 600; tries++)); do
         [ "$(wc -l <"$work/asked.slow")" -lt 2 ] || break
         sleep 0.1
     done
-    kill -s "$signal" "$launcher"
-    { wait "$launcher"; } 2>/dev/null
+    kill -s "$signal" "$started"
+    { wait "$started"; } 2>/dev/null
     status=$?
     wc -l <"$work/asked.slow" >>"$work/out"
     for worker in $(cat "$work/asked.slow"); do
+        # One whose parent has ended is there until the system's first process has noticed.
+        for ((tries = 0; tries < 100; tries++)); do
+            kill -0 "$worker" 2>/dev/null || break
+            sleep 0.1
+        done
         kill -0 "$worker" 2>/dev/null && echo 'its rt goes on' >>"$work/out"
     done
+    rm "$work/asked.slow"
+}
+
+for signal in TERM INT HUP; do
+    anew
+    ended_by "$signal" "$program" match x
     sed -i '1,4d' "$work/err"
     check "ended by SIG$signal, it ends each rt" "$((128 + $(kill -l "$signal")))" '2\n' \
         'glob_run: ended before it was built. The next call goes on from here\n'
-    rm "$work/asked.slow"
+    anew
+    cp -a "$root/tests" "$work/a copy"
+    ended_by "$signal" "$work/a copy/bin/test"
+    check "ended by SIG$signal, the gate ends each rt" "$((128 + $(kill -l "$signal")))" '2\n' ''
 done
 
 anew
