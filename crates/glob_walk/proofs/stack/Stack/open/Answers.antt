@@ -1,16 +1,51 @@
-use Rattle.std.proofs.Common.{rules, ◌≡◌, ◌<◌, false, length, subst, sym}
-use Rattle.std.specs.List.{All}
+use Rattle.std.proofs.Common.{◌≡◌, ◌+◌, ◌<◌, ◌++◌, ◌∙◌, true, false, length, subst, sym, ap, arith, rules}
+use Rattle.std.specs.List.{All, sum_by}
 use Rattle.std.proofs.lemmas.List.Elements.{All-push}
-use Rattle.glob_walk.specs.Private.Frames.{is_done, IsFrameSound}
+use Rattle.std.proofs.lemmas.List.Sums.{sum_by_push}
+use Rattle.glob_walk.specs.Private.Frames.{frame_marks, is_done, unmet, IsFrameSound}
+use Rattle.glob_walk.specs.Private.Stacks.{left, frames_marks, frame_weight}
+use Rattle.glob_walk.proofs.WalkLemmas.Stacking.{done_marks, left_none, frames_last}
 use Rattle.glob_walk.proofs.stack.Stack.open.Goals as goal
+
+pub returns-then-is_done-clause-left : goal.returns-then-is_done-clause-left
+returns-then-is_done-clause-left g c = λ c'.
+    let done : is_done c.args.frame ≡ true = sym c.is_done.ensures ∙ c.if-is_done.true in
+    sym (ap (λ ms. ms ++ left c' c.args.self.now) (done_marks c' c.args.self.now.plan c.args.frame done))
+
+pub returns-then-is_done-clause-weight : goal.returns-then-is_done-clause-weight
+returns-then-is_done-clause-weight g c = omega arith
+
+pub returns-then-is_done-clause-ready : goal.returns-then-is_done-clause-ready
+returns-then-is_done-clause-ready g c = omega arith
+
+pub returns-then-is_done-clause-sound : goal.returns-then-is_done-clause-sound
+returns-then-is_done-clause-sound g c = λ c' f s. s
+
+pub returns-clause-left : goal.returns-clause-left
+returns-clause-left g c = λ c'.
+    sym (left_none c' (record { plan = c.args.self.now.plan; next = c.args.self.now.next; frames = c.push.new.self }) c.requires.none)
+    ∙ ap (frames_marks c' c.args.self.now.plan) c.in_ok-push.ensures.items
+    ∙ frames_last c' c.args.self.now.plan c.args.self.now.frames.items c.args.frame
+    ∙ ap (λ ms. frame_marks c' c.args.self.now.plan c.args.frame ++ ms) (left_none c' c.args.self.now c.requires.none)
+
+pub returns-clause-weight : goal.returns-clause-weight
+returns-clause-weight g c =
+    let more : sum_by frame_weight c.push.new.self.items ≡ sum_by frame_weight c.args.self.now.frames.items + frame_weight c.args.frame =
+    ap (sum_by frame_weight) c.in_ok-push.ensures.items ∙ sum_by_push frame_weight c.args.self.now.frames.items c.args.frame in
+    omega (arith, more)
+
+pub returns-clause-ready : goal.returns-clause-ready
+returns-clause-ready g c =
+    let more : sum_by unmet c.push.new.self.items ≡ sum_by unmet c.args.self.now.frames.items + unmet c.args.frame =
+    ap (sum_by unmet) c.in_ok-push.ensures.items ∙ sum_by_push unmet c.args.self.now.frames.items c.args.frame in
+    omega (arith, more)
 
 pub returns-clause-within : goal.returns-clause-within
 returns-clause-within g c =
-    let part : c.args.frame.part < length c.args.self.now.plan.parts.items = search rules in
-    let going : is_done c.args.frame ≡ false = search rules in
+    let going : is_done c.args.frame ≡ false = sym c.is_done.ensures ∙ c.if-is_done.false in
     record {
       parts = subst (All (λ f. f.part < length c.args.self.now.plan.parts.items)) (sym c.in_ok-push.ensures.items)
-          (All-push (λ f. f.part < length c.args.self.now.plan.parts.items) c.args.self.now.frames.items c.args.frame c.requires.within.parts part);
+          (All-push (λ f. f.part < length c.args.self.now.plan.parts.items) c.args.self.now.frames.items c.args.frame c.requires.within.parts (search rules));
       going = subst (All (λ f. is_done f ≡ false)) (sym c.in_ok-push.ensures.items)
           (All-push (λ f. is_done f ≡ false) c.args.self.now.frames.items c.args.frame c.requires.within.going going);
     }
