@@ -1,10 +1,30 @@
-use Rattle.std.proofs.Common.{rules, ◌≡◌, ◌-◌, ◌<◌, true, false, length, ap, ◌∙◌, ◌++◌}
-use Rattle.std.specs.Prelude.{vec_len}
+use Rattle.std.proofs.Common.{rules, ◌≡◌, ℕ, ◌+◌, ◌-◌, ◌<◌, ◌≤◌, true, false, List, length, get_or, set, take, Option, None, Some, ap, ◌∙◌, ◌++◌, arith}
+use Rattle.std.specs.Prelude.{vec_len, sum_by}
+use Rattle.std.proofs.lemmas.List.Sums.{sum_by-set, sum_by-take-le}
+use Rattle.glob_walk.specs.declared.task.Task.{Task}
+use Rattle.glob_walk.specs.declared.task.Sight.{Sight}
+use Rattle.glob_walk.specs.declared.task.Sight.TheVariants as sight
 use Rattle.glob_walk.specs.Private.Tasks.{next_marks}
-use Rattle.glob_walk.specs.Private.Frames.{is_done, IsFrameSound}
-use Rattle.glob_walk.specs.Private.Stacks.{frames_marks}
+use Rattle.glob_walk.specs.Private.Frames.{is_done, unmet, IsFrameSound}
+use Rattle.glob_walk.specs.Private.Stacks.{frames_marks, sight_weight, next_weight, frame_weight}
 use Rattle.glob_walk.proofs.WalkLemmas.Stacking.{step_left, last_step_left, All-front}
 use Rattle.glob_walk.proofs.stack.Stack.go_on.Goals as goal
+
+sight-light : (s : Sight) → sight_weight s ≤ 2
+sight-light (sight.Unseen w) = omega arith
+sight-light (sight.Seen d) = omega arith
+
+next-light : {A : Type 0} (next : Option (Task A)) → next_weight next ≤ 2
+next-light None = omega arith
+next-light (Some t) = sight-light t.sight
+
+-- one of a list is replaced by another
+sum-at : {X : Type 0} (f : X → ℕ) (xs : List X) (n : ℕ) (x y : X) → n + 1 ≡ length xs → x ≡ get_or xs n x → sum_by f (set xs n y) + f x ≡ sum_by f xs + f y
+sum-at f xs n x y h is = ap (λ z. sum_by f (set xs n y) + f z) is ∙ sum_by-set f xs n y x (omega (arith, h))
+
+-- and dropped
+sum-front : {X : Type 0} (f : X → ℕ) (xs ys : List X) (n : ℕ) (x y : X) → n + 1 ≡ length xs → x ≡ get_or xs n x → ys ≡ take n (set xs n y) → sum_by f ys + f x ≤ sum_by f xs + f y
+sum-front f xs ys n x y h is popped = omega (arith, ap (sum_by f) popped, sum_by-take-le f (set xs n y) n, sum-at f xs n x y h is)
 
 pub returns-else-is_done-clause-left : goal.returns-else-is_done-clause-left
 returns-else-is_done-clause-left g c = λ c'.
@@ -34,3 +54,27 @@ returns-then-is_done-clause-sound g c = λ c' h.
       next = c.in_ok-self.ensures.sound c' frame;
       frames = All-front (IsFrameSound c') c.args.self.now.frames.items c.pop.new.self.items (vec_len c.args.self.now.frames - 1) c.step.new.self (search rules) (search rules) h.frames;
     }
+
+pub returns-else-is_done-clause-falls : goal.returns-else-is_done-clause-falls
+returns-else-is_done-clause-falls g c = λ _.
+    let n = vec_len c.args.self.now.frames - 1 in
+    let sums = sum-at frame_weight c.args.self.now.frames.items n c.in-Some.frame.now c.step.new.self (search rules) (search rules) in
+    omega (arith, sums, next-light c.in_ok-self.field-0, c.in_ok-self.ensures.falls)
+
+pub returns-else-is_done-clause-ready : goal.returns-else-is_done-clause-ready
+returns-else-is_done-clause-ready g c =
+    let n = vec_len c.args.self.now.frames - 1 in
+    let sums = sum-at unmet c.args.self.now.frames.items n c.in-Some.frame.now c.step.new.self (search rules) (search rules) in
+    omega (arith, sums, c.in_ok-self.ensures.ready)
+
+pub returns-then-is_done-clause-falls : goal.returns-then-is_done-clause-falls
+returns-then-is_done-clause-falls g c = λ _.
+    let n = vec_len c.args.self.now.frames - 1 in
+    let sums = sum-front frame_weight c.args.self.now.frames.items c.pop.new.self.items n c.in-Some.frame.now c.step.new.self (search rules) (search rules) (search rules) in
+    omega (arith, sums, next-light c.in_ok-self.field-0, c.in_ok-self.ensures.falls)
+
+pub returns-then-is_done-clause-ready : goal.returns-then-is_done-clause-ready
+returns-then-is_done-clause-ready g c =
+    let n = vec_len c.args.self.now.frames - 1 in
+    let sums = sum-front unmet c.args.self.now.frames.items c.pop.new.self.items n c.in-Some.frame.now c.step.new.self (search rules) (search rules) (search rules) in
+    omega (arith, sums, c.in_ok-self.ensures.ready)
