@@ -120,11 +120,12 @@ pub trait Judge {
         false
     }
 
-    /// Steps over further characters, as many as the judge likes: each of them, of the tokens of `asked`, those of `took`
-    /// take and no others. The bits are of tokens 0 to 63. It passes a place where a component begins only if `across` is
-    /// true. The count rises for each character by one for each bit of `asked`. So for the text `abc`, where one step
-    /// stands behind the `a`, `skip(0b1, 0b1, false)` may step over `b` and `c`, if token 0 takes both. Each bit must be
-    /// of a token in the list, and the count must have room for all characters that are left.
+    /// Steps over further characters, as many as the judge likes. Of the tokens of `asked`, which are those of numbers 0
+    /// to 63, those of `took` take each of these characters, and no others do. It passes a place where a component begins
+    /// only if `across` is true. The count rises for each character by one for each bit of `asked`.
+    ///
+    /// So after one `step`, over the `a` of `abc`, `skip(0b1, 0b1, false)` may step over `b` and `c`, if token 0 takes
+    /// both. Each bit must be of a token in the list, and the count must have room for all characters that are left.
     ///
     /// This body steps over none. A judge that knows the answers of many characters at once may have its own.
     #[inline]
