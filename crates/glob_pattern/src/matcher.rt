@@ -120,12 +120,13 @@ pub trait Judge {
         false
     }
 
-    /// Steps over further characters, as many as the judge likes. Of the tokens of `asked`, which are those of numbers 0
-    /// to 63, those of `took` take each of these characters, and no others do. It passes a place where a component begins
-    /// only if `across` is true. The count rises for each character by one for each bit of `asked`.
+    /// Steps over further characters, as many as the judge likes. Bit n of `asked` and of `took` is token n. A character
+    /// is stepped over only if exactly those of `took`, of the tokens of `asked`, take it, and a place where a component
+    /// begins is passed only if `across` is true. The count rises for each character by one for each bit of `asked`.
     ///
     /// So after one `step`, over the `a` of `abc`, `skip(0b1, 0b1, false)` may step over `b` and `c`, if token 0 takes
-    /// both. Each bit must be of a token in the list, and the count must have room for all characters that are left.
+    /// both. Each bit of `asked` must be of a token in the list, and the count must have room for all characters that
+    /// are left.
     ///
     /// This body steps over none. A judge that knows the answers of many characters at once may have its own.
     #[inline]
@@ -182,7 +183,7 @@ pub fn run_positions<A: Allocator + Copy, J: Judge>(
     run_known(alloc, shapes, None, judge)
 }
 
-/// The same, by one who may know the masks of the first 64 shapes.
+/// [`run_positions`], by a caller that may have the masks of the first 64 shapes already.
 #[inline(always)]
 pub fn run_known<A: Allocator + Copy, J: Judge>(
     alloc: A,

@@ -1,12 +1,13 @@
 -- What `find` writes of a walk.
 use Rattle.std.specs.Prelude.{◌≡◌, ℕ, ◌<◌, ◌≤◌, ◌⊎◌, if◌then◌else◌, Bool, true, false, List, [], ◌∷◌, Option, ⊤}
 use Rattle.std.specs.Io.KnownBytes.{Appends}
+use Rattle.glob.specs.Components.{walk_fault}
 use Rattle.glob.specs.Lines.{with_line_feeds}
 use Rattle.glob.specs.Marks.{Mark, Item, Found, Unread, items, cost, front, paths, IsBeginning}
 use Rattle.glob.specs.Text.{Text}
 use Rattle.glob.specs.Types.{End}
 use Rattle.glob.specs.Variants.End as end
-use Rattle.glob.specs.Walks.{Outcome, Gives, LimitAt, NoMemory}
+use Rattle.glob.specs.Walks.{Outcome, Gives, LimitAt, NoMemory, RefusesWith}
 use Rattle.glob_run.specs.Outcomes.{AppendsSome}
 use Rattle.glob_run.specs.declared.find.fault.FindFault.{FindFault}
 use Rattle.glob_run.specs.declared.find.fault.FindFault.TheVariants.{Pattern, Write}
@@ -70,6 +71,11 @@ noting findings NoMemory = record findings { end = end.Memory }
 abbrev pub IsRefusal : FindFault → Type 0
 IsRefusal (Pattern refusal) = ⊤
 IsRefusal (Write error) = ⊥
+
+-- the fault is a line that could not be written, or one of the pattern, which is refused with it
+abbrev pub IsFindFault : (pattern : Text) → FindFault → Type 0
+IsFindFault pattern (Pattern refusal) = RefusesWith (walk_fault pattern) refusal
+IsFindFault pattern (Write error) = ⊤
 
 -- a line could not be written
 abbrev pub IsWrite : FindFault → Type 0

@@ -1,5 +1,5 @@
 //! The command `find`: what a walk of a tree finds, a line for each path.
-ghost use Rattle.std.specs.Prelude.{◌≡◌, ◌≢◌, ◌≤◌, List, None, Some, IfOk, IsErrAnd, MatchResult, OnErr, OnOk};
+ghost use Rattle.std.specs.Prelude.{◌≡◌, ◌≢◌, ◌≤◌, List, None, Some, IfOk, IfErr, IsErrAnd, MatchResult, OnErr, OnOk};
 ghost use Rattle.std.specs.Io.KnownBytes.{Appends, Keeps};
 ghost use Rattle.std.specs.Path.{path_buf_bytes};
 ghost use Rattle.glob.specs.Answers.{IsTold};
@@ -9,7 +9,7 @@ ghost use Rattle.glob.specs.Lines.{ended_line};
 ghost use Rattle.glob.specs.Listing.{listing};
 ghost use Rattle.glob.specs.Marks.{Mark};
 ghost use Rattle.glob.specs.Walks.{IsFresh};
-ghost use Rattle.glob_run.specs.FoundPaths.{FindsPaths, FindsSomeBytes, IsFindStatus, IsRefusal, IsWrite};
+ghost use Rattle.glob_run.specs.FoundPaths.{FindsPaths, FindsSomeBytes, IsFindFault, IsFindStatus, IsRefusal, IsWrite};
 ghost use Rattle.glob_run.specs.Outcomes.{AppendsSome, IsRefused};
 
 pub mod fault;
@@ -53,11 +53,10 @@ pub fn run_find<T: Tree, W: Write, E: Write>(
     if let Some(lines) = cell.into_inner() {
         lines.abandon();
     }
-    let Some(unused) = unused else {
-        return status;
-    };
-    // No effect at run time. The proof reads here that the output is as it was.
-    let _ = &*unused;
+    if let Some(output) = unused {
+        // No effect at run time. The proof reads here that the output is as it was.
+        let _ = &*output;
+    }
     status
 }
 
@@ -93,7 +92,9 @@ pub fn find_in<T: Tree, S: LineSink, E: Write>(
     errors: &mut E,
 ) -> Result<Findings, FindFault>
     ensures refused { walk_fault search.entry.pattern.now ≢ None → IsErrAnd result IsRefusal }
+    ensures fault { IfErr result (IsFindFault search.entry.pattern.now) }
     ensures kept { IsErrAnd result IsRefusal → lines.new ≡ lines.old }
+    ensures written { IfOk result (λ _. S.written lines.new ≡ S.contents lines.new) }
     ensures paths { (c : Content) → IsTold (T.tells tree) c → IfOk result (FindsPaths
         (listing c search.entry.options search.entry.pattern.now) search.entry.limit
         (S.contents lines.old) (S.contents lines.new)) }
@@ -124,6 +125,7 @@ fn write_items<T: Tree, S: LineSink, A: Allocator + Copy, E: Write>(
     ensures some { (c : Content) → IsTold (T.tells items.old.tree) c → (ms : List Mark)
         → items.old.left ≡ Some ms → OnErr result (FindsSomeBytes ms
         (S.contents lines.old) (S.contents lines.new)) }
+    ensures written { IfOk result (λ _. S.written lines.new ≡ S.contents lines.new) }
 {
     let mut findings = Findings::new();
     while let Some(item) = items.next() {

@@ -3,10 +3,9 @@ ghost use Rattle.std.specs.Prelude.{◌∷◌, option_map};
 
 use std::io::{self, Write};
 
-/// A writer behind a reference, which is lent to a call that takes a `&mut Lent`. Such a call could put another reference
-/// in its place, as far as its contract says. As its contents, contracts see the name of the reference first, and then the
-/// bytes of the writer. Writes only add at the end, so where these bytes are known, the name stays. Who has the `Lent` back
-/// then knows that the reference is the one that was lent, and what its writer holds.
+/// A writer behind a reference, lent to a call that takes a `&mut Lent`. By its contract such a call could exchange the
+/// reference, so `contents` begins with the reference's name. Calls only add at the end of `contents`, so the name shows
+/// that it is still the same writer.
 #[derive(Drop)]
 pub struct Lent<'w, W> {
     pub writer: &'w mut W,

@@ -16,6 +16,7 @@ pub fn write_whole<W: Write>(writer: &mut W, bytes: &[u8]) -> io::Result<()>
         (AppendsSome (W.contents writer.old) (W.contents writer.new) bytes.now) }
 {
     let mut rest = bytes;
+    // A bound that no run reaches: each write may be interrupted, and the proof has to know that this ends.
     for _ in 0..u64::MAX {
         if rest.is_empty() {
             return Ok(());

@@ -14,7 +14,7 @@ use glob::{
 use std::alloc::{AllocError, Global};
 use std::io;
 
-/// A root with one file, which is the current directory. If the name is not proper, contracts know nothing of it.
+/// A root, which is the current directory, with one file. If the name is not proper, contracts know nothing of it.
 #[derive(Drop)]
 pub struct OneFile<'a> {
     alloc: Global,

@@ -155,8 +155,8 @@ impl<'a> OneWordMatcher<'a> {
         next
     }
 
-    /// Steps over characters after which the position set stays what it is. Before the last one it was `positions`, the
-    /// tokens of `took` took that one, and now it is `next`.
+    /// Steps over characters that keep the position set. The last step led from `positions` to `next`; the tokens of `took`
+    /// took its character, and `opens` says whether a component begins after it.
     #[inline(always)]
     fn skip<J: Judge>(&self, positions: u64, took: u64, opens: bool, next: u64, judge: &mut J)
         requires stepped { 0 < J.place judge.old }
@@ -186,6 +186,7 @@ impl<'a> OneWordMatcher<'a> {
         if next != positions || took == 0 {
             return;
         }
+        // Characters that the same tokens take lead from this set to itself.
         let across = self.masks.advance(took, !opens, false).0 == positions;
         if across || !opens {
             judge.skip(positions & self.masks.tokens, took, across);

@@ -34,7 +34,7 @@ impl ShapeMasks {
         masks
     }
 
-    /// The first 64 shapes, by masks that are known already or not.
+    /// The masks of the first 64 shapes: those that are known, or new ones.
     #[inline(always)]
     pub fn of(shapes: &[Shape], known: Option<ShapeMasks>) -> Self
         requires { IfSome known (AreShapeMasks shapes.now 0 (length shapes.now)) }

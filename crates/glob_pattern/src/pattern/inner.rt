@@ -86,7 +86,7 @@ pub fn inner_text<A: Allocator>(pattern: &str, tokens: &[Token<Bracket<A>>]) -> 
 }
 
 /// Where the longest stretch without wildcards and brackets stands between two of them, without a leading `/`, which
-/// may belong to a `**`. It may be something else in an odd pattern: what it is has to be looked at.
+/// may belong to a `**`. In a pattern such as `[*]ab[*]` it may be something else, so `has_stretch` checks it.
 fn longest_stretch(pattern: &[u8]) -> (usize, usize)
     ensures order { result.0 ≤ result.1 }
     ensures within { result.1 ≤ length pattern.now }

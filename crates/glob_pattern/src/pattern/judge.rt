@@ -31,8 +31,9 @@ pub struct TextJudge<'a, A: Allocator> {
     opens: bool,
     // how often it was asked about one character
     count: u128,
-    // whether it may answer for all characters that are left, and those for which it has
+    // whether `takes_rest` may answer yes
     takes_rests: bool,
+    // the rest of the text for which it did
     passed: &'a str,
     ghost masked: { AreAllMasks tokens.now masks.now },
     ghost stands: { StandsBefore (chars text.now) (chars (chars_rest rest)) current opened opens },
@@ -196,7 +197,7 @@ impl<A: Allocator> Judge for TextJudge<'_, A> {
         }
         match self.tokens[token] {
             Token::Run | Token::Deep => {
-                // Counted only if anyone asks for the count.
+                // Its characters are counted only in `asked`.
                 self.passed = self.rest.as_str();
                 true
             }
@@ -207,7 +208,7 @@ impl<A: Allocator> Judge for TextJudge<'_, A> {
     #[inline(always)]
     fn skip(&mut self, asked: u64, took: u64, across: bool) {
         let dots = self.options.require_literal_leading_dot;
-        // The word after the last token has no masks. At a component start the dot rule may exclude a character.
+        // Without tokens there are no masks. At a component start the dot rule may exclude a character.
         if asked == 0 || (dots && self.opens) {
             return;
         }

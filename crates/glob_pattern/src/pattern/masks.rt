@@ -98,8 +98,8 @@ impl TokenMasks {
         (asked & free & same & !self.brackets, asked & self.brackets)
     }
 
-    /// How many of the first bytes are characters of ASCII that, of the tokens that are asked, those of `took` take and
-    /// no others, where no component begins. It ends before a `/`, unless `across` is true.
+    /// How many of the first bytes can be passed at once: each is of ASCII, and exactly those of `took`, of the tokens
+    /// that are asked, take it where no component begins. It ends before a `/`, unless `across` is true.
     #[inline(always)]
     pub fn taken_alike(
         &self,
@@ -152,7 +152,8 @@ impl TokenMasks {
     }
 }
 
-/// The byte of ASCII before which a loop over names ends: `/`, or none if it goes on across them.
+/// The byte before which a loop over names ends: `/`, or one that is not of ASCII if it goes on across them. So the loop
+/// makes one comparison.
 #[inline(always)]
 fn end_of_names(across: bool) -> u8
     ensures { across ≡ false → result ≡ slash }

@@ -1,4 +1,4 @@
-//! The tree, on which a walk waits.
+//! A tree that writes waiting lines before it is asked.
 ghost use Rattle.std.specs.Prelude.{◌≡◌};
 
 use super::lines::{self, LinesCell};

@@ -1,6 +1,6 @@
 //! Lines that wait for others before they are written.
 ghost use Rattle.std.specs.Prelude.{◌≡◌, None, Some, IfOk};
-ghost use Rattle.std.specs.Io.Buffered.{writer_contents};
+ghost use Rattle.std.specs.Io.Buffered.{writer_contents, writer_inner};
 ghost use Rattle.std.specs.Io.KnownBytes.{Keeps};
 
 use super::line_sink::LineSink;
@@ -70,6 +70,8 @@ impl<W: Write + Drop, A: Allocator> Lines<W, A> {
 impl<W: Write + Drop, A: Allocator> LineSink for Lines<W, A> {
     ghost contents = { λ lines. writer_contents W.contents lines.buffer };
 
+    ghost written = { λ lines. W.contents (writer_inner lines.buffer) };
+
     fn add(&mut self, text: &str) -> io::Result<()> {
         write_whole(&mut self.buffer, text.as_bytes())?;
         write_whole(&mut self.buffer, b"\n")?;
@@ -93,7 +95,7 @@ impl<W: Write + Drop, A: Allocator> LineSink for Lines<W, A> {
     }
 }
 
-/// The lines that a walk's loop shares with the disk, which writes them before it is asked. There are none yet while the
+/// The lines that a walk's loop shares with the tree, which writes them before it is asked. There are none yet while the
 /// pattern is read.
 pub type LinesCell<W, A> = RefCell<Option<Lines<W, A>>>;
 
@@ -148,6 +150,8 @@ impl<'l, W: Write + Drop, A: Allocator + Copy> SharedLines<'l, W, A> {
 
 impl<W: Write + Drop, A: Allocator + Copy> LineSink for SharedLines<'_, W, A> {
     ghost contents = { λ _. None };
+
+    ghost written = { λ _. None };
 
     fn add(&mut self, text: &str) -> io::Result<()> {
         self.begin()?;

@@ -4,6 +4,7 @@ use glob::{MemTree, PatternRefusal};
 use std::alloc::Global;
 use std::io;
 use std::path::Path;
+use std::process::Abort;
 use std::test::Fail;
 
 /// `src/main.rs`, `src/notes.txt`, `src/tests/copy.rs`, and `.hidden.rs`.
@@ -49,17 +50,24 @@ const ROWS: [Row; 6] = [
     ("**/*", &[], &[], &[]),
 ];
 
+/// Copies the paths of a row over the tree, in order.
+fn check_row(rt: &(impl Abort + AllocGlobal), tree: MemTree, row: Row) -> Result<(), Fail> {
+    let (pattern, include, exclude, paths) = row;
+    let rules = CopyRules::new(rt.alloc(), include, exclude)?;
+    let Ok(found) = paths_to_copy(rt.alloc(), tree, pattern, &rules, 100) else {
+        panic!(rt; "{pattern} gives no paths");
+    };
+    assert_eq!(rt; found.len(), paths.len(), "{pattern}");
+    for (found, path) in found.iter().zip(paths) {
+        assert_eq!(rt; found.as_path(), Path::new(path), "{pattern}");
+    }
+    Ok(())
+}
+
 #[test]
 fn the_paths_of_rows(rt: HostRuntime) -> Result<(), Fail> {
-    for (pattern, include, exclude, paths) in ROWS {
-        let rules = CopyRules::new(rt.alloc(), include, exclude)?;
-        let Ok(found) = paths_to_copy(rt.alloc(), tree(rt.alloc())?, pattern, &rules, 100) else {
-            panic!(rt; "{pattern} gives no paths");
-        };
-        assert_eq!(rt; found.len(), paths.len(), "{pattern}");
-        for (found, path) in found.iter().zip(paths) {
-            assert_eq!(rt; found.as_path(), Path::new(path), "{pattern}");
-        }
+    for row in ROWS {
+        check_row(&rt, tree(rt.alloc())?, row)?;
     }
     Ok(())
 }
@@ -82,28 +90,27 @@ fn what_keeps_the_paths_unknown(rt: HostRuntime) -> Result<(), Fail> {
     Ok(())
 }
 
+/// A row whose paths do not come in the order in which they were added.
+const IN_ORDER: Row = (
+    "**/[!.]*",
+    &["**/*.rs"],
+    &["**/main.rs"],
+    &[
+        "a.rs",
+        "b.rs",
+        "src/a.rs",
+        "src/tests/copy.rs",
+        "src/tests/z.rs",
+    ],
+);
+
 #[test]
 fn paths_come_in_the_order_of_the_walk(rt: HostRuntime) -> Result<(), Fail> {
     let mut tree = tree(rt.alloc())?;
     for path in ["/b.rs", "/src/a.rs", "/src/tests/z.rs", "/a.rs"] {
         tree.add_other(path)?;
     }
-    let rules = CopyRules::new(rt.alloc(), &["**/*.rs"], &["**/main.rs"])?;
-    let Ok(found) = paths_to_copy(rt.alloc(), tree, "**/[!.]*", &rules, 100) else {
-        panic!(rt; "no paths");
-    };
-    let wanted = [
-        "a.rs",
-        "b.rs",
-        "src/a.rs",
-        "src/tests/copy.rs",
-        "src/tests/z.rs",
-    ];
-    assert_eq!(rt; found.len(), wanted.len());
-    for (found, path) in found.iter().zip(wanted) {
-        assert_eq!(rt; found.as_path(), Path::new(path));
-    }
-    Ok(())
+    check_row(&rt, tree, IN_ORDER)
 }
 
 /// A folder's name, and the pattern of what is below it.

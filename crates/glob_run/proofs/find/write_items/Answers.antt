@@ -29,11 +29,11 @@ pub returns-in_err-flush-clause-some : goal.returns-in_err-flush-clause-some
 returns-in_err-flush-clause-some g c c' told ms left =
     let held = g.S.LineSink.contents in
     OnErr-from _ (Written-before g.T.Tree.asks g.T.Tree.tells c.args.items.now (held c.args.lines.now) c.loop-item.items c.next.new.self (held c.loop-item.lines) (held c.flush.new.self)
-    c.loop-item.findings c.loop-item.invariant c.flush.ensures c' told ms left)
+    c.loop-item.findings c.loop-item.invariant c.flush.ensures.keeps c' told ms left)
 
 pub returns-clause-paths : goal.returns-clause-paths
 returns-clause-paths g c c' told ms left =
     let held = g.S.LineSink.contents in
     let goes = subst (λ r. Goes g.T.Tree.asks g.T.Tree.tells c.loop-item.items (option_map outcome r) c.next.new.self) c.in_default.is c.next.ensures.steps in
     Written-end g.T.Tree.asks g.T.Tree.tells c.args.items.now (held c.args.lines.now) c.loop-item.items c.next.new.self (held c.loop-item.lines) (held c.flush.new.self)
-    c.loop-item.findings c.loop-item.invariant goes c.flush.ensures c' told ms left
+    c.loop-item.findings c.loop-item.invariant goes c.flush.ensures.keeps c' told ms left

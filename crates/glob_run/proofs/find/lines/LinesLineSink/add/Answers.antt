@@ -28,4 +28,4 @@ returns-then-not-self-clause-some g c =
     OnErr-from _ (subst (λ text. AppendsSome (held c.args.self.now.buffer) (held c.flush.new.self.buffer) (ended_line text)) c.as_bytes.ensures.value
     (AppendsSome-kept (held c.args.self.now.buffer) (held c.write_whole-2.new.writer) (held c.flush.new.self.buffer) (ended_line bytes) (ended_line bytes) [] (sym (append-nil (ended_line bytes)))
     (Appends-trans (held c.args.self.now.buffer) (held c.write_whole.new.writer) (held c.write_whole-2.new.writer) bytes (10 ∷ []) c.in_ok-write_whole.ensures.all c.in_ok-write_whole-2.ensures.all)
-    c.flush.ensures))
+    c.flush.ensures.keeps))
