@@ -1,5 +1,5 @@
 -- The matching lines of which the first bytes were written.
-use Rattle.std.proofs.Common.{◌≡◌, ℕ, ◌⊎◌, inl, inr, Bool, true, false, Option, None, Some, Result, Ok, Err, OnErr, List, [], ◌∷◌, ◌++◌, take, drop, length, refl, sym, ap, subst, ◌∙◌, append-nil}
+use Rattle.std.proofs.Common.{◌≡◌, ℕ, ◌⊎◌, inl, inr, Bool, true, false, Option, None, Some, Result, Ok, Err, OnErr, List, [], ◌∷◌, take, drop, refl, sym, ap, subst, ◌∙◌}
 use Rattle.std.specs.Prelude.{chars, option_map, IsErrAnd}
 use Rattle.std.proofs.lemmas.List.{take-append-drop}
 use Rattle.std.proofs.lemmas.List.Concat.{flat_map-append}
@@ -7,7 +7,7 @@ use Rattle.std.specs.Str.{is_utf8}
 use Rattle.std.specs.Io.KnownBytes.{Appends, Keeps}
 use Rattle.glob.specs.Computing.Deciding.{is_match}
 use Rattle.glob.specs.LineFaults.{IsRead, IsMemory, IsWrite}
-use Rattle.glob.specs.Lines.{AreKept, AreMatchingLines, FiltersSomeBytes, FiltersSomeLines, LineMatches, WritesSomeBytes, WritesSomeLines, ended_line, lines_of, with_line_feeds}
+use Rattle.glob.specs.Lines.{AreKept, FiltersSomeBytes, FiltersSomeLines, LineMatches, WritesSomeBytes, ended_line, lines_of, with_line_feeds}
 use Rattle.glob.specs.Types.{LineFault, MatchOptions}
 use Rattle.glob.specs.Variants.LineFault as fault
 use Rattle.glob.proofs.PatternLemmas.{match_decided}

@@ -1,5 +1,5 @@
 -- Bytes of which the first were written.
-use Rattle.std.proofs.Common.{◌≡◌, ℕ, ◌-◌, Option, None, Some, List, [], ◌++◌, take, drop, length, Result, Ok, Err, OnErr, sym, ap, subst, ◌∙◌, append-nil, append_assoc}
+use Rattle.std.proofs.Common.{◌≡◌, ℕ, ◌-◌, Option, None, Some, List, ◌++◌, take, drop, length, Result, Ok, Err, OnErr, sym, ap, subst, ◌∙◌, append-nil, append_assoc}
 use Rattle.std.proofs.lemmas.List.{take-append-drop, take_rest}
 use lib.Seq.{take-append_seam}
 use Rattle.std.specs.Io.KnownBytes.{Appends, Keeps}

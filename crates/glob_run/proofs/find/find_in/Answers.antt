@@ -1,4 +1,4 @@
-use Rattle.std.proofs.Common.{sym, ap, subst, ◌∙◌, ◌≡◌}
+use Rattle.std.proofs.Common.{sym, subst}
 use Rattle.glob.specs.Answers.{IsTold}
 use Rattle.glob.specs.Listing.{listing}
 use Rattle.glob_run.specs.FoundPaths.{FindsPaths}

@@ -1,4 +1,4 @@
-use Rattle.std.proofs.Common.{refl, [], ◌∷◌, ◌++◌, sym, subst, append-nil}
+use Rattle.std.proofs.Common.{refl, [], ◌∷◌, sym, subst, append-nil}
 use Rattle.std.proofs.KnownBytes.{Appends-nil, Appends-trans}
 use Rattle.std.specs.Io.Buffered.{writer_contents}
 use Rattle.glob.specs.Lines.{ended_line}
