@@ -140,8 +140,10 @@ pub trait Judge {
         ensures within { place self.new ≤ (table self.old).characters }
         ensures count { count self.new
             ≡ count self.old + count_ones asked * (place self.new - place self.old) }
-        ensures took { (k : ℕ) → place self.old ≤ k → k < place self.new → (j : ℕ) → j < 64
-            → IsBitSet took j ↔ (IsBitSet asked j × IsTrue ((table self.old).takes j k)) }
+        ensures took { (k : ℕ) → place self.old ≤ k → k < place self.new
+            → (j : ℕ) → j < 64
+            → IsBitSet took j
+            ↔ (IsBitSet asked j × IsTrue ((table self.old).takes j k)) }
         ensures inside { across ≡ false → (k : ℕ) → place self.old < k → k ≤ place self.new
             → (table self.old).opens k ≡ false }
     {}

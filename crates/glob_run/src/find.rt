@@ -144,10 +144,12 @@ fn write_item<S: LineSink, B: Allocator, A: Allocator, E: Write>(
     errors: &mut E,
 ) -> io::Result<()>
     ensures path { MatchResult item (λ path. OnOk result
-        (Appends (S.contents lines.old) (S.contents lines.new) (ended_line (path_buf_bytes path))))
+        (Appends (S.contents lines.old) (S.contents lines.new)
+        (ended_line (path_buf_bytes path))))
         (λ _. Keeps (S.contents lines.old) (S.contents lines.new)) }
     ensures some { MatchResult item (λ path. OnErr result
-        (AppendsSome (S.contents lines.old) (S.contents lines.new) (ended_line (path_buf_bytes path))))
+        (AppendsSome (S.contents lines.old) (S.contents lines.new)
+        (ended_line (path_buf_bytes path))))
         (λ _. Keeps (S.contents lines.old) (S.contents lines.new)) }
 {
     match item {

@@ -221,7 +221,8 @@ fn words_of<A: Allocator + Copy>(
     alloc: A,
     arguments: &[String<A>],
 ) -> Result<Vec<&str, A>, AllocError>
-    ensures { IfOk result (λ words. map (λ w. w.now) words.items ≡ map string_bytes arguments.now) }
+    ensures { IfOk result (λ words.
+        map (λ w. w.now) words.items ≡ map string_bytes arguments.now) }
 {
     let mut words = Vec::new(alloc);
     let mut rest = arguments;
