@@ -1,3 +1,5 @@
+pub mod BothForms
+pub mod FormMasks
 pub mod KnownTakers
 pub mod Masks
 pub mod Painting

@@ -1,17 +1,17 @@
 -- What the masks say of a token and a character.
 use Rattle.std.proofs.Common.{◌≡◌, ℕ, ◌<◌, ◌≤◌, ◌⊎◌, ◌↔◌, Bool, true, false, not, ◌||◌, ◌&&◌, ◌==◌, IsTrue, refl, sym, ap, ◌∙◌, inl, inr, ⊎_elim, arith}
-use Rattle.std.proofs.lemmas.Bool.{false≢true, or_left, or_right, eqb-true, eq-eqb, ne_eqb, not-true, not_from_false}
-use Rattle.std.proofs.Math.Bool.{and-true, and-false, or-false}
+use Rattle.std.proofs.lemmas.Bool.{false≢true, or_left, or_right, ne_eqb}
+use Rattle.std.proofs.Math.Bool.{and-true, and-false}
 use Rattle.std.specs.Char.{to_ascii_lowercase, to_ascii_uppercase}
 use Rattle.glob_pattern.specs.Grammar.Brackets.{is_same, holds}
 use Rattle.glob_text.specs.Characters.{slash, dot}
 use Rattle.glob_pattern.specs.Grammar.Tokens.{Token, is_deep}
 use Rattle.glob_pattern.specs.Matching.Taking.{takes, is_excluded_separator, is_excluded_dot}
 use Rattle.glob_pattern.specs.Matching.Options.{new_options}
-use Rattle.glob_pattern.specs.Private.Masks.{is_any_or_run, is_bracket, is_excluded}
+use Rattle.glob_pattern.specs.Private.Masks.{is_any_or_run, is_bracket, is_negated, is_mixed_bracket, is_excluded}
 use Rattle.glob_pattern.specs.declared.options.MatchOptions.{MatchOptions}
 use Rattle.glob_pattern.specs.declared.token.Token.TheVariants.{Plain, Any, Run, Deep, Within, Except}
-use Rattle.glob_pattern.proofs.MatchingLemmas.Case.{same-forms}
+use Rattle.glob_pattern.proofs.MaskLemmas.BothForms.{single-forms, with_case, holds-forms}
 
 -- of two tests neither holds
 neither : (a b : Bool) → (not a && not b) ≡ not (a || b)
@@ -23,6 +23,27 @@ and_comm true true = refl
 and_comm true false = refl
 and_comm false true = refl
 and_comm false false = refl
+
+either : (a b : Bool) → ((a && b) || ((a || b) && true)) ≡ (a || b)
+either true b = or-right-true b
+  where
+    or-right-true : (b : Bool) → (b || true) ≡ true
+    or-right-true true = refl
+    or-right-true false = refl
+either false b = and-true b
+
+both : (a b : Bool) → ((a && b) || ((a || b) && false)) ≡ (a && b)
+both true true = refl
+both true false = refl
+both false true = refl
+both false false = refl
+
+-- What a token takes of the small and the capital form of a character, with case: a `[!..]` both, another token one of
+-- them.
+abbrev pub takes_forms : ℕ → Token → Bool
+takes_forms c t =
+    (takes new_options true (to_ascii_lowercase c) t && takes new_options true (to_ascii_uppercase c) t)
+    || ((takes new_options true (to_ascii_lowercase c) t || takes new_options true (to_ascii_uppercase c) t) && not (is_negated t))
 
 module _ (o : MatchOptions) (opening : Bool) (c : ℕ) where
   -- what the dot rule excludes from wildcards, it excludes from all of them
@@ -52,25 +73,28 @@ module _ (o : MatchOptions) (opening : Bool) (c : ℕ) where
   takes-with_case case (Within e) = rw case (ap (λ b. b && holds true c e) (neither (is_excluded_separator o c) (is_excluded_dot o opening c)) ∙ and_comm _ (holds true c e))
   takes-with_case case (Except e) = rw case (ap (λ b. b && not (holds true c e)) (neither (is_excluded_separator o c) (is_excluded_dot o opening c)) ∙ and_comm _ (not (holds true c e)))
 
-  -- without case, one that is no bracket takes those with a lowercase or uppercase form whose mask it is in
-  pub takes-without_case : c < 128 → o.case_sensitive ≡ false → (t : Token) → is_bracket t ≡ false
-      → IsTrue (takes o opening c t) ↔ ((IsTrue (takes new_options true (to_ascii_lowercase c) t) ⊎ IsTrue (takes new_options true (to_ascii_uppercase c) t)) × (is_excluded o opening c t ≡ false))
+  -- without case, one that is no mixed bracket takes those whose forms it takes, and that no rule excludes
+  pub takes-without_case : c < 128 → o.case_sensitive ≡ false → (t : Token) → is_mixed_bracket t ≡ false
+      → takes o opening c t ≡ (takes_forms c t && not (is_excluded o opening c t))
   takes-without_case low case (Plain x) plain =
-      let forms = same-forms c x low in
-      let of : (d : ℕ) → IsTrue (takes new_options true d (Plain x)) ↔ (d ≡ x) = λ d. (λ t. eqb-true d x (sym (or-false (d == x)) ∙ t), λ e. or-false (d == x) ∙ eq-eqb d x e) in
       rw case (
-        λ t. (⊎_elim (λ e. inl ((of (to_ascii_lowercase c)).1 e)) (λ e. inr ((of (to_ascii_uppercase c)).1 e)) (forms.0 t), refl),
-        λ (h, _). forms.1 (⊎_elim (λ t. inl ((of (to_ascii_lowercase c)).0 t)) (λ t. inr ((of (to_ascii_uppercase c)).0 t)) h),
+      single-forms c x low ∙ with_case (to_ascii_lowercase c == x) (to_ascii_uppercase c == x)
+      ∙ sym (either (takes new_options true (to_ascii_lowercase c) (Plain x)) (takes new_options true (to_ascii_uppercase c) (Plain x)))
+      ∙ sym (and-true (takes_forms c (Plain x)))
       )
-  takes-without_case low case Any plain =
-      let n = neither (is_excluded_separator o c) (is_excluded_dot o opening c) in
-      (λ t. (inl refl, not-true _ (sym n ∙ t)), λ (_, f). n ∙ not_from_false _ f)
-  takes-without_case low case Run plain =
-      let n = neither (is_excluded_separator o c) (is_excluded_dot o opening c) in
-      (λ t. (inl refl, not-true _ (sym n ∙ t)), λ (_, f). n ∙ not_from_false _ f)
-  takes-without_case low case Deep plain = (λ t. (inl refl, not-true _ t), λ (_, f). not_from_false _ f)
-  takes-without_case low case (Within e) plain = absurd (false≢true (sym plain))
-  takes-without_case low case (Except e) plain = absurd (false≢true (sym plain))
+  takes-without_case low case Any plain = neither (is_excluded_separator o c) (is_excluded_dot o opening c)
+  takes-without_case low case Run plain = neither (is_excluded_separator o c) (is_excluded_dot o opening c)
+  takes-without_case low case Deep plain = refl
+  takes-without_case low case (Within e) plain =
+      rw case (
+      ap (λ b. b && holds false c e) (neither (is_excluded_separator o c) (is_excluded_dot o opening c)) ∙ and_comm _ (holds false c e)
+      ∙ ap (λ b. b && not (is_excluded o opening c (Within e))) (holds-forms e c low plain ∙ sym (either (holds true (to_ascii_lowercase c) e) (holds true (to_ascii_uppercase c) e)))
+      )
+  takes-without_case low case (Except e) plain =
+      rw case (
+      ap (λ b. b && not (holds false c e)) (neither (is_excluded_separator o c) (is_excluded_dot o opening c)) ∙ and_comm _ (not (holds false c e))
+      ∙ ap (λ b. b && not (is_excluded o opening c (Except e))) (ap not (holds-forms e c low plain) ∙ sym (neither (holds true (to_ascii_lowercase c) e) (holds true (to_ascii_uppercase c) e)) ∙ sym (both (not (holds true (to_ascii_lowercase c) e)) (not (holds true (to_ascii_uppercase c) e))))
+      )
 
   -- no rule excludes a character beyond ASCII
   excluded-beyond : 128 ≤ c → (is_excluded_separator o c ≡ false) × (is_excluded_dot o opening c ≡ false)

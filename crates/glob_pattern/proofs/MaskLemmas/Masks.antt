@@ -6,7 +6,7 @@ use Rattle.glob_pattern.specs.Grammar.Tokens.{Token, is_deep}
 use Rattle.std.specs.Int.{IsBitSet}
 use Rattle.glob_pattern.specs.Matching.Options.{new_options}
 use Rattle.glob_pattern.specs.Matching.Taking.{takes}
-use Rattle.glob_pattern.specs.Private.Masks.{is_any_or_run, is_bracket, is_wide, IsMask, AreKinds, AreMasks, IsPut, IsClear}
+use Rattle.glob_pattern.specs.Private.Masks.{is_any_or_run, is_bracket, is_negated, is_mixed_bracket, is_wide, IsMask, AreKinds, AreMasks, IsPut, IsClear}
 use Rattle.glob_pattern.specs.declared.pattern.masks.Kinds.{Kinds}
 use Rattle.glob_pattern.specs.declared.pattern.masks.TokenMasks.{TokenMasks}
 use Rattle.glob_pattern.specs.declared.token.Token.TheVariants.{Any}
@@ -19,11 +19,13 @@ IsMask-none tokens start test mask zero = record {
 }
 
 pub AreKinds-none : (tokens : List Token) (start : ℕ) (kinds : Kinds)
-    → kinds.any_or_run ≡ 0 → kinds.deep ≡ 0 → kinds.brackets ≡ 0 → kinds.wide ≡ 0 → AreKinds tokens start start kinds
-AreKinds-none tokens start kinds any_or_run deep brackets wide = record {
+    → kinds.any_or_run ≡ 0 → kinds.deep ≡ 0 → kinds.brackets ≡ 0 → kinds.negated ≡ 0 → kinds.mixed ≡ 0 → kinds.wide ≡ 0 → AreKinds tokens start start kinds
+AreKinds-none tokens start kinds any_or_run deep brackets negated mixed wide = record {
   any_or_run = IsMask-none tokens start _ _ any_or_run;
   deep = IsMask-none tokens start _ _ deep;
   brackets = IsMask-none tokens start _ _ brackets;
+  negated = IsMask-none tokens start _ _ negated;
+  mixed = IsMask-none tokens start _ _ mixed;
   wide = IsMask-none tokens start _ _ wide;
 }
 
@@ -37,6 +39,8 @@ AreKinds-clear tokens start n kinds are from near =
       any_or_run = clear is_any_or_run kinds.any_or_run are.any_or_run;
       deep = clear is_deep kinds.deep are.deep;
       brackets = clear is_bracket kinds.brackets are.brackets;
+      negated = clear is_negated kinds.negated are.negated;
+      mixed = clear is_mixed_bracket kinds.mixed are.mixed;
       wide = clear is_wide kinds.wide are.wide;
     }
 
@@ -70,12 +74,16 @@ pub AreKinds-more : (tokens : List Token) (start n : ℕ) (token : Token) (old n
     → IsPut old.any_or_run new.any_or_run (n - start) (IsTrue (is_any_or_run token))
     → IsPut old.deep new.deep (n - start) (IsTrue (is_deep token))
     → IsPut old.brackets new.brackets (n - start) (IsTrue (is_bracket token))
+    → IsPut old.negated new.negated (n - start) (IsTrue (is_negated token))
+    → IsPut old.mixed new.mixed (n - start) (IsTrue (is_mixed_bracket token))
     → IsPut old.wide new.wide (n - start) (IsTrue (is_wide token))
     → AreKinds tokens start (n + 1) new
-AreKinds-more tokens start n token old new from is are any_or_run deep brackets wide = record {
+AreKinds-more tokens start n token old new from is are any_or_run deep brackets negated mixed wide = record {
   any_or_run = IsMask-more tokens start n is_any_or_run token _ _ from is are.any_or_run any_or_run;
   deep = IsMask-more tokens start n is_deep token _ _ from is are.deep deep;
   brackets = IsMask-more tokens start n is_bracket token _ _ from is are.brackets brackets;
+  negated = IsMask-more tokens start n is_negated token _ _ from is are.negated negated;
+  mixed = IsMask-more tokens start n is_mixed_bracket token _ _ from is are.mixed mixed;
   wide = IsMask-more tokens start n is_wide token _ _ from is are.wide wide;
 }
 

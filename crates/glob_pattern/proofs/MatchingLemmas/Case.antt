@@ -7,13 +7,13 @@ use Rattle.glob_pattern.specs.Grammar.Brackets.{is_same}
 use Rattle.std.specs.Char.{is_ascii}
 use Rattle.glob_text.specs.Characters.{slash}
 
-lower_cases : (c : ℕ) → ((65 ≤ c) × (c ≤ 90) × (to_ascii_lowercase c ≡ c + 32)) ⊎ (((c < 65) ⊎ (90 < c)) × (to_ascii_lowercase c ≡ c))
+pub lower_cases : (c : ℕ) → ((65 ≤ c) × (c ≤ 90) × (to_ascii_lowercase c ≡ c + 32)) ⊎ (((c < 65) ⊎ (90 < c)) × (to_ascii_lowercase c ≡ c))
 lower_cases c =
     ⊎_elim (λ lt. inr (inl lt, (lowercase_is c).1 lt))
     (λ from. ⊎_elim (λ below. inl (omega arith, omega arith, (lowercase_is c).0 (omega arith, omega arith))) (λ above. inr (inr (omega arith), (lowercase_is c).2 (omega arith))) (cases_lt c 91))
     (cases_lt c 65)
 
-upper_cases : (c : ℕ) → ((97 ≤ c) × (c ≤ 122) × (to_ascii_uppercase c + 32 ≡ c)) ⊎ (((c < 97) ⊎ (122 < c)) × (to_ascii_uppercase c ≡ c))
+pub upper_cases : (c : ℕ) → ((97 ≤ c) × (c ≤ 122) × (to_ascii_uppercase c + 32 ≡ c)) ⊎ (((c < 97) ⊎ (122 < c)) × (to_ascii_uppercase c ≡ c))
 upper_cases c =
     ⊎_elim (λ lt. inr (inl lt, (uppercase_is c).1 lt))
     (λ from. ⊎_elim (λ below. inl (omega arith, omega arith, (uppercase_is c).0 (omega arith, omega arith))) (λ above. inr (inr (omega arith), (uppercase_is c).2 (omega arith))) (cases_lt c 123))

@@ -1,10 +1,14 @@
 -- Which tokens take which characters of ASCII, as bits of words of 64.
-use Rattle.std.specs.Prelude.{◌≡◌, ◌≢◌, ℕ, ◌+◌, ◌*◌, ◌/◌, ◌<◌, ◌↔◌, Bool, true, false, ◌||◌, List, length, slice_index_or, IsTrue}
+use Rattle.std.specs.Prelude.{◌≡◌, ◌≢◌, ℕ, ◌+◌, ◌*◌, ◌/◌, ◌<◌, ◌↔◌, Bool, true, false, ◌&&◌, ◌||◌, not, nat_le, List, length, slice_index_or, IsTrue}
 use Rattle.glob_pattern.specs.Grammar.Tokens.{Token, is_deep}
 use Rattle.std.specs.Int.{IsBitSet}
+use Rattle.std.specs.List.{list_any}
+use Rattle.std.specs.Char.{is_ascii_lowercase, is_ascii_uppercase}
 use Rattle.glob_pattern.specs.Matching.Options.{new_options}
 use Rattle.glob_pattern.specs.Matching.Taking.{takes, is_excluded_separator, is_excluded_dot}
 use Rattle.glob_pattern.specs.declared.options.MatchOptions.{MatchOptions}
+use Rattle.glob_pattern.specs.declared.token.bracket.Entry.{Entry}
+use Rattle.glob_pattern.specs.declared.token.bracket.Entry.TheVariants.{Single, Range}
 use Rattle.glob_pattern.specs.declared.pattern.masks.Kinds.{Kinds}
 use Rattle.glob_pattern.specs.declared.pattern.masks.TokenMasks.{TokenMasks}
 use Rattle.glob_pattern.specs.declared.token.Token.TheVariants.{Plain, Any, Run, Deep, Within, Except}
@@ -30,6 +34,38 @@ is_bracket Run = false
 is_bracket Deep = false
 is_bracket (Within entries) = true
 is_bracket (Except entries) = true
+
+-- the token is a `[!..]`
+abbrev pub is_negated : Token → Bool
+is_negated (Plain c) = false
+is_negated Any = false
+is_negated Run = false
+is_negated Deep = false
+is_negated (Within entries) = false
+is_negated (Except entries) = true
+
+-- both are small letters of ASCII, or both are capital ones
+abbrev pub are_in_one_case : ℕ → ℕ → Bool
+are_in_one_case x y =
+    (is_ascii_lowercase x && is_ascii_lowercase y) || (is_ascii_uppercase x && is_ascii_uppercase y)
+
+-- the entry is a range that may hold letters of ASCII, and whose ends are not two of them in the same case
+abbrev pub is_mixed : Entry → Bool
+is_mixed (Single x) = false
+is_mixed (Range x y) = nat_le 65 y && nat_le x 122 && not (are_in_one_case x y)
+
+-- an entry is such a range
+abbrev pub has_mixed : List Entry → Bool
+has_mixed entries = list_any is_mixed entries
+
+-- the token is a bracket with a mixed range
+abbrev pub is_mixed_bracket : Token → Bool
+is_mixed_bracket (Plain c) = false
+is_mixed_bracket Any = false
+is_mixed_bracket Run = false
+is_mixed_bracket Deep = false
+is_mixed_bracket (Within entries) = has_mixed entries
+is_mixed_bracket (Except entries) = has_mixed entries
 
 -- the token takes all characters but a few, where no rule applies: it is a wildcard or a `[!..]`
 abbrev pub is_wide : Token → Bool
@@ -65,6 +101,8 @@ pub record AreKinds (tokens : List Token) (start end : ℕ) (kinds : Kinds) : Ty
   pub any_or_run : IsMask tokens start end is_any_or_run kinds.any_or_run
   pub deep : IsMask tokens start end is_deep kinds.deep
   pub brackets : IsMask tokens start end is_bracket kinds.brackets
+  pub negated : IsMask tokens start end is_negated kinds.negated
+  pub mixed : IsMask tokens start end is_mixed_bracket kinds.mixed
   pub wide : IsMask tokens start end is_wide kinds.wide
 
 -- the masks of the tokens from number `start` up to `end`
@@ -74,6 +112,8 @@ pub record AreMasks (tokens : List Token) (start end : ℕ) (masks : TokenMasks)
   pub any_or_run : IsMask tokens start end is_any_or_run masks.any_or_run
   pub deep : IsMask tokens start end is_deep masks.deep
   pub brackets : IsMask tokens start end is_bracket masks.brackets
+  pub negated : IsMask tokens start end is_negated masks.negated
+  pub mixed : IsMask tokens start end is_mixed_bracket masks.mixed
 
 -- the masks of all tokens, 64 in each
 pub record AreAllMasks (tokens : List Token) (list : List TokenMasks) : Type 0 where
@@ -91,6 +131,8 @@ pub record IsClear (kinds : Kinds) (bit : ℕ) : Type 0 where
   pub any_or_run : ¬ (IsBitSet kinds.any_or_run bit)
   pub deep : ¬ (IsBitSet kinds.deep bit)
   pub brackets : ¬ (IsBitSet kinds.brackets bit)
+  pub negated : ¬ (IsBitSet kinds.negated bit)
+  pub mixed : ¬ (IsBitSet kinds.mixed bit)
   pub wide : ¬ (IsBitSet kinds.wide bit)
 
 -- Of the tokens that are asked, those of `took` take the byte, which is of ASCII, and no others, where no component

@@ -8,7 +8,7 @@ ghost use Rattle.glob_pattern.specs.Matching.Options.{new_options};
 ghost use Rattle.glob_pattern.specs.Matching.Taking.{takes};
 ghost use Rattle.glob_pattern.specs.Grammar.Tokens.{Token as Kept, is_deep};
 ghost use Rattle.glob_pattern.specs.declared.token.Token.TheVariants.{Any};
-ghost use Rattle.glob_pattern.specs.Private.Masks.{is_any_or_run, is_bracket, is_wide, is_excluded, IsPut, IsClear, AreKinds, AreMasks, AreAllMasks, IsAlike, TakesBit};
+ghost use Rattle.glob_pattern.specs.Private.Masks.{is_any_or_run, is_bracket, is_negated, is_mixed_bracket, is_wide, is_excluded, IsPut, IsClear, AreKinds, AreMasks, AreAllMasks, IsAlike, TakesBit};
 
 use crate::options::MatchOptions;
 use crate::token::Token;
@@ -27,6 +27,10 @@ pub struct TokenMasks {
     deep: u64,
     /// Those that are brackets.
     brackets: u64,
+    /// Those that are `[!..]`.
+    negated: u64,
+    /// Those that are brackets with a mixed range.
+    mixed: u64,
 }
 
 /// The masks of all tokens, 64 in each. Fails only if allocation fails.
@@ -57,6 +61,8 @@ impl TokenMasks {
             any_or_run: kinds.any_or_run,
             deep: kinds.deep,
             brackets: kinds.brackets,
+            negated: kinds.negated,
+            mixed: kinds.mixed,
         };
         for n in start..end {
             paint_token(&mut masks.characters, n - start, &tokens[n]);
@@ -65,7 +71,7 @@ impl TokenMasks {
     }
 
     /// Of the tokens that are asked, those that take the character by the masks, and those that the masks do not
-    /// decide: without case the brackets, and at a character beyond ASCII all but `?`, `*` and `**`.
+    /// decide: without case brackets with a mixed range, and at a character beyond ASCII all but `?`, `*` and `**`.
     #[inline(always)]
     pub fn take_known(
         &self,
@@ -93,9 +99,11 @@ impl TokenMasks {
         if options.case_sensitive {
             return (asked & free & self.characters[c as usize], 0);
         }
-        let same = self.characters[c.to_ascii_lowercase() as usize]
-            | self.characters[c.to_ascii_uppercase() as usize];
-        (asked & free & same & !self.brackets, asked & self.brackets)
+        let small = self.characters[c.to_ascii_lowercase() as usize];
+        let great = self.characters[c.to_ascii_uppercase() as usize];
+        // A `[!..]` takes a character if it takes both forms of it, and another token if it takes one.
+        let same = (small & great) | ((small | great) & !self.negated);
+        (asked & free & same & !self.mixed, asked & self.mixed)
     }
 
     /// How many of the first bytes can be passed at once: each is of ASCII, and exactly those of `took`, of the tokens
@@ -170,6 +178,10 @@ struct Kinds {
     deep: u64,
     /// Those that are brackets.
     brackets: u64,
+    /// Those that are `[!..]`.
+    negated: u64,
+    /// Those that are brackets with a mixed range.
+    mixed: u64,
     /// Those that take all characters but a few: wildcards and `[!..]`.
     wide: u64,
 }
@@ -186,6 +198,8 @@ impl Kinds {
             any_or_run: 0,
             deep: 0,
             brackets: 0,
+            negated: 0,
+            mixed: 0,
             wide: 0,
         };
         for n in start..end {
@@ -203,6 +217,10 @@ impl Kinds {
         ensures deep { IsPut self.deep result.deep bit (IsTrue (is_deep token.now)) }
         ensures brackets { IsPut self.brackets result.brackets bit
             (IsTrue (is_bracket token.now)) }
+        ensures negated { IsPut self.negated result.negated bit
+            (IsTrue (is_negated token.now)) }
+        ensures mixed { IsPut self.mixed result.mixed bit
+            (IsTrue (is_mixed_bracket token.now)) }
         ensures wide { IsPut self.wide result.wide bit (IsTrue (is_wide token.now)) }
     {
         let mut kinds = self;
@@ -216,9 +234,14 @@ impl Kinds {
                 kinds.deep = put_bit(kinds.deep, bit, true);
                 kinds.wide = put_bit(kinds.wide, bit, true);
             }
-            Token::Within(_) => kinds.brackets = put_bit(kinds.brackets, bit, true),
-            Token::Except(_) => {
+            Token::Within(bracket) => {
                 kinds.brackets = put_bit(kinds.brackets, bit, true);
+                kinds.mixed = put_bit(kinds.mixed, bit, bracket.has_mixed());
+            }
+            Token::Except(bracket) => {
+                kinds.brackets = put_bit(kinds.brackets, bit, true);
+                kinds.negated = put_bit(kinds.negated, bit, true);
+                kinds.mixed = put_bit(kinds.mixed, bit, bracket.has_mixed());
                 kinds.wide = put_bit(kinds.wide, bit, true);
             }
         }

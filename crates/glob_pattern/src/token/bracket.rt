@@ -1,5 +1,6 @@
 ghost use Rattle.std.specs.Prelude.{◌≡◌, ℕ, true, IfOk};
 ghost use Rattle.glob_pattern.specs.Grammar.Brackets.{entries_of, is_same, in_range, in_folded_range, entry_holds, holds};
+ghost use Rattle.glob_pattern.specs.Private.Masks.{is_mixed, has_mixed};
 
 use std::alloc::{AllocError, Allocator, Global};
 use std::marker::Model;
@@ -25,6 +26,22 @@ impl Entry {
         match self {
             Entry::Single(x) => (x, x),
             Entry::Range(x, y) => (x, y),
+        }
+    }
+
+    /// Whether the entry is a range that may hold letters of ASCII, and whose ends are not two of them in the same case:
+    /// so `0-z` and `A-z` are mixed, and `a-z`, `A-F` and `0-9` are not.
+    fn is_mixed(self) -> bool
+        ensures { result ≡ is_mixed self }
+    {
+        match self {
+            Entry::Single(_) => false,
+            Entry::Range(x, y) => {
+                'A' <= y
+                    && x <= 'z'
+                    && !(x.is_ascii_lowercase() && y.is_ascii_lowercase())
+                    && !(x.is_ascii_uppercase() && y.is_ascii_uppercase())
+            }
         }
     }
 
@@ -82,6 +99,13 @@ impl<A: Allocator> Bracket<A> {
         ensures { result.now ≡ self.now }
     {
         self.entries.as_slice()
+    }
+
+    /// Whether an entry is a mixed range.
+    pub fn has_mixed(&self) -> bool
+        ensures { result ≡ has_mixed self.now }
+    {
+        self.entries.iter().any(|entry| entry.is_mixed())
     }
 
     /// Whether an entry holds `c`. Without case, letters of ASCII in either case are the same.

@@ -5,7 +5,7 @@ use Rattle.glob_pattern.proofs.MaskLemmas.Masks.{AreKinds-none, AreKinds-clear, 
 use Rattle.glob_pattern.proofs.pattern.masks.Kinds.of.Goals as goal
 
 pub loop-n-init : goal.loop-n-init
-loop-n-init g c = AreKinds-none c.args.tokens.now c.args.start _ refl refl refl refl
+loop-n-init g c = AreKinds-none c.args.tokens.now c.args.start _ refl refl refl refl refl refl
 
 pub with-kinds-requires-clause-clear : goal.with-kinds-requires-clause-clear
 with-kinds-requires-clause-clear g c = AreKinds-clear c.args.tokens.now c.args.start c.loop-n.n c.loop-n.kinds c.loop-n.invariant (omega arith) (omega arith)
@@ -14,7 +14,7 @@ pub loop-n-preserved : goal.loop-n-preserved
 loop-n-preserved g c =
     let h = c.with-kinds.ensures in
     AreKinds-more c.args.tokens.now c.args.start c.loop-n.n c.index-tokens-n.result c.loop-n.kinds c.with-kinds.result (omega arith)
-    (c.index-tokens-n.is ∙ get_or_default c.args.tokens.now c.loop-n.n _ _ (omega arith)) c.loop-n.invariant h.any_or_run h.deep h.brackets h.wide
+    (c.index-tokens-n.is ∙ get_or_default c.args.tokens.now c.loop-n.n _ _ (omega arith)) c.loop-n.invariant h.any_or_run h.deep h.brackets h.negated h.mixed h.wide
 
 pub returns : goal.returns
 returns g c =

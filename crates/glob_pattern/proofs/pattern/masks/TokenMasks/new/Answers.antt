@@ -18,6 +18,8 @@ loop-n-init g c =
       any_or_run = IsMask-all tokens start end _ _ (omega arith) (λ more. omega (arith, more)) kinds.any_or_run;
       deep = IsMask-all tokens start end _ _ (omega arith) (λ more. omega (arith, more)) kinds.deep;
       brackets = IsMask-all tokens start end _ _ (omega arith) (λ more. omega (arith, more)) kinds.brackets;
+      negated = IsMask-all tokens start end _ _ (omega arith) (λ more. omega (arith, more)) kinds.negated;
+      mixed = IsMask-all tokens start end _ _ (omega arith) (λ more. omega (arith, more)) kinds.mixed;
     }
 
 pub paint_token-requires-clause-before : goal.paint_token-requires-clause-before
@@ -40,6 +42,8 @@ loop-n-preserved g c =
       any_or_run = i.any_or_run;
       deep = i.deep;
       brackets = i.brackets;
+      negated = i.negated;
+      mixed = i.mixed;
     }
 
 pub returns : goal.returns
@@ -50,4 +54,6 @@ returns g c =
       any_or_run = i.any_or_run;
       deep = i.deep;
       brackets = i.brackets;
+      negated = i.negated;
+      mixed = i.mixed;
     }

@@ -1,7 +1,7 @@
 -- The characters are painted for the tokens gone past, and the kinds stay.
 use Rattle.std.proofs.Common.{ℕ, ◌<◌, length, slice_index_or}
 use Rattle.glob_pattern.specs.Grammar.Tokens.{is_deep}
-use Rattle.glob_pattern.specs.Private.Masks.{is_any_or_run, is_bracket, IsMask}
+use Rattle.glob_pattern.specs.Private.Masks.{is_any_or_run, is_bracket, is_negated, is_mixed_bracket, IsMask}
 use Rattle.glob_pattern.proofs.MaskLemmas.Masks.{IsPainted}
 use Rattle.glob_pattern.proofs.pattern.masks.TokenMasks.new.Given as goal
 
@@ -11,4 +11,6 @@ invariant-loop-n g l = record {
   any_or_run : IsMask l.tokens l.start (length l.tokens) is_any_or_run l.masks.any_or_run;
   deep : IsMask l.tokens l.start (length l.tokens) is_deep l.masks.deep;
   brackets : IsMask l.tokens l.start (length l.tokens) is_bracket l.masks.brackets;
+  negated : IsMask l.tokens l.start (length l.tokens) is_negated l.masks.negated;
+  mixed : IsMask l.tokens l.start (length l.tokens) is_mixed_bracket l.masks.mixed;
 }
