@@ -6,6 +6,7 @@ ghost use Rattle.glob_pattern.specs.Grammar.Units.{IsAccepted};
 ghost use Rattle.glob_pattern.specs.Grammar.Faults.{Refuses};
 ghost use Rattle.glob_pattern.specs.Matching.Texts.{Matches};
 ghost use Rattle.glob_pattern.specs.Matching.Options.{new_options, default_options};
+ghost use Rattle.glob_pattern.specs.Private.LoopOptions.{separator_options};
 
 mod character_judge;
 mod compare;
@@ -198,6 +199,8 @@ impl<A: Allocator + Copy> Pattern<A> {
             self.matches_by_new_options(str)
         } else if options == MatchOptions::default() {
             self.matches_by_default_options(str)
+        } else if options == separator_options() {
+            self.matches_by_separator_options(str)
         } else {
             self.matches_under(str, options)
         }
@@ -221,6 +224,16 @@ impl<A: Allocator + Copy> Pattern<A> {
         ensures short { IsShort (chars self.now) → IsOk result }
     {
         self.answer(str, MatchOptions::default())
+    }
+
+    /// The answer under the separator rule alone, by a loop that is compiled for it.
+    #[inline(never)]
+    fn matches_by_separator_options(&self, str: &str) -> Result<bool, AllocError>
+        ensures answer { IfOk result (λ yes. IsTrue yes
+            ↔ Matches separator_options (chars self.now) (chars str.now)) }
+        ensures short { IsShort (chars self.now) → IsOk result }
+    {
+        self.answer(str, separator_options())
     }
 
     /// The answer of [`matches_with`](Self::matches_with) by a loop that tests the options.
@@ -291,5 +304,16 @@ impl<A: Allocator + Copy> Pattern<A> {
         ensures short { IsShort (chars self.now) → IsOk result }
     {
         self.matches_with(path.as_str(), options)
+    }
+}
+
+/// With case, and under the separator rule alone.
+const fn separator_options() -> MatchOptions
+    ensures { result ≡ separator_options }
+{
+    MatchOptions {
+        case_sensitive: true,
+        require_literal_separator: true,
+        require_literal_leading_dot: false,
     }
 }
