@@ -6,7 +6,7 @@ ghost use Rattle.glob_pattern.specs.Grammar.Units.{IsAccepted};
 ghost use Rattle.glob_pattern.specs.Grammar.Faults.{Refuses};
 ghost use Rattle.glob_pattern.specs.Matching.Texts.{Matches};
 ghost use Rattle.glob_pattern.specs.Matching.Options.{new_options, default_options};
-ghost use Rattle.glob_pattern.specs.Private.LoopOptions.{separator_options};
+ghost use Rattle.glob_pattern.specs.Private.LoopOptions.{separator_options, strict_options};
 
 mod character_judge;
 mod compare;
@@ -201,6 +201,8 @@ impl<A: Allocator + Copy> Pattern<A> {
             self.matches_by_default_options(str)
         } else if options == separator_options() {
             self.matches_by_separator_options(str)
+        } else if options == strict_options() {
+            self.matches_by_strict_options(str)
         } else {
             self.matches_under(str, options)
         }
@@ -234,6 +236,16 @@ impl<A: Allocator + Copy> Pattern<A> {
         ensures short { IsShort (chars self.now) → IsOk result }
     {
         self.answer(str, separator_options())
+    }
+
+    /// The answer under both rules, by a loop that is compiled for them.
+    #[inline(never)]
+    fn matches_by_strict_options(&self, str: &str) -> Result<bool, AllocError>
+        ensures answer { IfOk result (λ yes. IsTrue yes
+            ↔ Matches strict_options (chars self.now) (chars str.now)) }
+        ensures short { IsShort (chars self.now) → IsOk result }
+    {
+        self.answer(str, strict_options())
     }
 
     /// The answer of [`matches_with`](Self::matches_with) by a loop that tests the options.
@@ -315,5 +327,16 @@ const fn separator_options() -> MatchOptions
         case_sensitive: true,
         require_literal_separator: true,
         require_literal_leading_dot: false,
+    }
+}
+
+/// With case, and under both rules.
+const fn strict_options() -> MatchOptions
+    ensures { result ≡ strict_options }
+{
+    MatchOptions {
+        case_sensitive: true,
+        require_literal_separator: true,
+        require_literal_leading_dot: true,
     }
 }

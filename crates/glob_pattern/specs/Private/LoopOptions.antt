@@ -9,3 +9,11 @@ separator_options = record {
   require_literal_separator = true;
   require_literal_leading_dot = false;
 }
+
+-- with case, and both rules
+abbrev pub strict_options : MatchOptions
+strict_options = record {
+  case_sensitive = true;
+  require_literal_separator = true;
+  require_literal_leading_dot = true;
+}
