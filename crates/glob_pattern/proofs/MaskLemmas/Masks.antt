@@ -1,6 +1,7 @@
 -- Masks of the first tokens, and of one token more.
-use Rattle.std.proofs.Common.{◌≡◌, ◌≢◌, ℕ, ◌+◌, ◌-◌, ◌*◌, ◌<◌, ◌≤◌, ◌↔◌, Bool, true, IsTrue, List, [], ◌∷◌, ◌++◌, length, get_or, sym, subst, ⊎_elim, arith}
+use Rattle.std.proofs.Common.{◌≡◌, ◌≢◌, ℕ, ◌+◌, ◌-◌, ◌*◌, ◌<◌, ◌≤◌, ◌↔◌, Bool, true, IsTrue, List, [], ◌∷◌, ◌++◌, length, get_or, set, sym, subst, ⊎_elim, arith}
 use Rattle.std.proofs.lemmas.List.{get_or_append_left, get_or_push}
+use Rattle.std.proofs.Math.Seq.{set-append_seam}
 use Rattle.std.proofs.lemmas.Bool.{cases_eq, cases_lt}
 use Rattle.glob_pattern.specs.Grammar.Tokens.{Token, is_deep}
 use Rattle.std.specs.Int.{IsBitSet}
@@ -148,6 +149,11 @@ masks-push tokens n list masks count before here i d lt =
     (λ e. let at : get_or (list ++ masks ∷ []) i d ≡ masks = get_or_push list masks d i (omega arith) in rw at (subst (λ j. AreMasks tokens (64 * j) (length tokens) masks) (sym e) here))
     (λ ne. let at : get_or (list ++ masks ∷ []) i d ≡ get_or list i d = get_or_append_left list (masks ∷ []) d i (omega arith) in rw at (before i d (omega arith)))
     (cases_eq i n)
+
+-- what stands last is filled where it stands
+pub filled_last : (list : List TokenMasks) (n : ℕ) (blank masks : TokenMasks) → length list ≡ n
+    → set (list ++ blank ∷ []) n masks ≡ list ++ masks ∷ []
+filled_last list n blank masks count = rw (← count) (set-append_seam list blank [] masks)
 
 -- what a mask says of a token that there is
 pub IsMask-within : (tokens : List Token) (start : ℕ) (test : Token → Bool) (mask : ℕ) → IsMask tokens start (length tokens) test mask

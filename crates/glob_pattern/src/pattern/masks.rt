@@ -43,31 +43,39 @@ pub fn masks_of<A: Allocator + Copy>(
     let count = tokens.len().div_ceil(64);
     let mut masks = Vec::with_capacity(alloc, count)?;
     for n in 0..count {
-        masks.push(TokenMasks::new(tokens, 64 * n))?;
+        masks.push(TokenMasks::NONE)?;
+        masks[n].fill(tokens, 64 * n);
     }
     Ok(masks)
 }
 
 impl TokenMasks {
-    /// The masks of the tokens from number `start` on.
-    fn new<A: Allocator>(tokens: &[Token<Bracket<A>>], start: usize) -> Self
+    /// The masks of no tokens.
+    const NONE: TokenMasks = TokenMasks {
+        characters: [0; 128],
+        any_or_run: 0,
+        deep: 0,
+        brackets: 0,
+        negated: 0,
+        mixed: 0,
+    };
+
+    /// Makes these the masks of the tokens from number `start` on, where they stand: they are too large to be moved.
+    fn fill<A: Allocator>(&mut self, tokens: &[Token<Bracket<A>>], start: usize)
         requires { start ≤ length tokens.now }
-        ensures { AreMasks tokens.now start (length tokens.now) result }
+        ensures { AreMasks tokens.now start (length tokens.now) self.new }
     {
         let end = tokens.len().min(start.saturating_add(64));
         let kinds = Kinds::of(tokens, start, end);
-        let mut masks = TokenMasks {
-            characters: [kinds.wide; 128],
-            any_or_run: kinds.any_or_run,
-            deep: kinds.deep,
-            brackets: kinds.brackets,
-            negated: kinds.negated,
-            mixed: kinds.mixed,
-        };
+        self.any_or_run = kinds.any_or_run;
+        self.deep = kinds.deep;
+        self.brackets = kinds.brackets;
+        self.negated = kinds.negated;
+        self.mixed = kinds.mixed;
+        self.characters = [kinds.wide; 128];
         for n in start..end {
-            paint_token(&mut masks.characters, n - start, &tokens[n]);
+            paint_token(&mut self.characters, n - start, &tokens[n]);
         }
-        masks
     }
 
     /// Of the tokens that are asked, those that take the character by the masks, and those that the masks do not

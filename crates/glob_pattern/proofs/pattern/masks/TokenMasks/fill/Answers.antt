@@ -3,7 +3,7 @@ use Rattle.std.proofs.lemmas.List.{get_or-replicate, get_or_default}
 use Rattle.glob_pattern.specs.Private.Masks.{is_wide, IsMask}
 use Rattle.glob_pattern.specs.declared.token.Token.TheVariants.{Any}
 use Rattle.glob_pattern.proofs.MaskLemmas.Masks.{IsMask-all, IsPainted-first, IsPainted-more, IsPainted-all}
-use Rattle.glob_pattern.proofs.pattern.masks.TokenMasks.new.Goals as goal
+use Rattle.glob_pattern.proofs.pattern.masks.TokenMasks.fill.Goals as goal
 
 pub loop-n-init : goal.loop-n-init
 loop-n-init g c =
