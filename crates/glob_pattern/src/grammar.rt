@@ -22,7 +22,11 @@ pub fn shapes_of<A: Allocator + Copy>(
 ) -> Result<Vec<Shape, A>, AllocError>
     ensures { IfOk result (λ shapes. shapes.items ≡ map shape_of tokens.now) }
 {
-    tokens.iter().map(|token| token.shape()).collect(alloc)
+    let mut shapes = Vec::with_capacity(alloc, tokens.len())?;
+    for token in tokens {
+        shapes.push(token.shape())?;
+    }
+    Ok(shapes)
 }
 
 /// The same tokens on the same allocator. Fails only if allocation fails.

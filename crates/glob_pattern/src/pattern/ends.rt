@@ -64,7 +64,13 @@ fn ends_same(bytes: &[u8], end: &[u8], case_sensitive: bool) -> bool
 pub fn least_length<A: Allocator>(tokens: &[Token<Bracket<A>>]) -> usize
     ensures { result ≡ count_by takes_one tokens.now }
 {
-    tokens.iter().filter(|token| token.takes_one()).count()
+    let mut least = 0;
+    for token in tokens {
+        if token.takes_one() {
+            least += 1;
+        }
+    }
+    least
 }
 
 /// How many bytes at the end of the pattern are plain tokens: in `**/a*.rs` the three of `.rs`.
