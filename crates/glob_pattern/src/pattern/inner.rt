@@ -1,5 +1,5 @@
 //! Plain characters inside a pattern, which stand in each text that it matches.
-ghost use Rattle.std.specs.Prelude.{◌≡◌, ◌≤◌, false, length, IsTrue, chars};
+ghost use Rattle.std.specs.Prelude.{◌≡◌, ◌<◌, ◌≤◌, false, length, IsTrue, chars};
 ghost use Rattle.std.specs.Str.{IsUtf8};
 ghost use Rattle.glob_pattern.specs.Matching.Texts.{Matches};
 ghost use Rattle.glob_pattern.specs.Private.PlainEnds.{HoldsPlain, BeginsPlain, HasPlain};
@@ -74,6 +74,9 @@ fn has_inner_text<A: Allocator>(pattern: &Pattern<A>, str: &str) -> bool
 pub fn inner_text<A: Allocator>(pattern: &str, tokens: &[Token<Bracket<A>>]) -> Stretch
     ensures { HoldsPlain tokens.now pattern.now result.start result.end }
 {
+    if !has_inner_plain(tokens) {
+        return Stretch::NONE;
+    }
     let (start, after) = longest_stretch(pattern.as_bytes());
     let end = whole_characters(pattern, start, after);
     if let Some(stretch) = pattern.get(start..end)
@@ -83,6 +86,28 @@ pub fn inner_text<A: Allocator>(pattern: &str, tokens: &[Token<Bracket<A>>]) -> 
         return Stretch { start, end, rare };
     }
     Stretch::NONE
+}
+
+/// Whether plain tokens of `SHORTEST` bytes or more stand between two others, without a leading `/`: in `a*bc?d`. Most
+/// patterns have none, and are spared the search for the longest.
+fn has_inner_plain<A: Allocator>(tokens: &[Token<Bracket<A>>]) -> bool
+    ensures { IsTrue result → 0 < length tokens.now }
+{
+    let mut found = false;
+    let mut inside = false;
+    let mut bytes = 0;
+    for token in tokens {
+        if let Token::Plain(c) = token {
+            if inside && (bytes > 0 || *c != '/') {
+                bytes = if c.is_ascii() { bytes + 1 } else { SHORTEST };
+            }
+        } else {
+            found |= bytes >= SHORTEST;
+            inside = true;
+            bytes = 0;
+        }
+    }
+    found
 }
 
 /// Where the longest stretch without wildcards and brackets stands between two of them, without a leading `/`, which
