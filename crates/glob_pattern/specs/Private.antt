@@ -1,3 +1,4 @@
+pub mod Brackets
 pub mod LoopOptions
 pub mod Masks
 pub mod Patterns

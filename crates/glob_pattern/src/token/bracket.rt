@@ -4,6 +4,7 @@ ghost use Rattle.glob_pattern.specs.Private.Masks.{is_mixed, has_mixed};
 
 use std::alloc::{AllocError, Allocator, Global};
 use std::marker::Model;
+use std::slice;
 
 /// So many entries have room at once: those of most brackets, whose list then never grows.
 const FEW: usize = 16;
@@ -61,16 +62,24 @@ impl Entry {
 /// What stands in a bracket: its entries, in the order of the pattern.
 #[derive(Debug, Drop)]
 pub struct Bracket<A: Allocator = Global> {
-    entries: Vec<Entry, A>,
+    entries: Entries<A>,
+}
+
+/// The entries of a bracket. Most have one, as `[0-9]`, and take no memory for it.
+#[derive(Debug, Drop)]
+enum Entries<A: Allocator> {
+    One(Entry),
+    Many(Vec<Entry, A>),
 }
 
 impl<A: Allocator> Model for Bracket<A> {
     ghost use Rattle.std.specs.Prelude.{List};
     ghost use Rattle.glob_pattern.specs.declared.token.bracket.Entry.{Entry};
+    ghost use Rattle.glob_pattern.specs.Private.Brackets.{entries_in};
 
     ghost Value = { List Entry };
 
-    ghost view = { λ c. c.entries.items };
+    ghost view = { λ c. entries_in c.entries };
 }
 
 impl<A: Allocator> Bracket<A> {
@@ -78,19 +87,11 @@ impl<A: Allocator> Bracket<A> {
     pub fn read(alloc: A, content: &[char]) -> Result<Self, AllocError>
         ensures { IfOk result (λ bracket. bracket ≡ entries_of content.now) }
     {
-        let mut entries = Vec::with_capacity(alloc, content.len().min(FEW))?;
-        let mut rest = content;
-        while let [first, others @ ..] = rest {
-            if let [hyphen, last, after @ ..] = others
-                && *hyphen == '-'
-            {
-                entries.push(Entry::Range(*first, *last))?;
-                rest = after;
-            } else {
-                entries.push(Entry::Single(*first))?;
-                rest = others;
-            }
-        }
+        let entries = match content {
+            [only] => Entries::One(Entry::Single(*only)),
+            [first, '-', last] => Entries::One(Entry::Range(*first, *last)),
+            _ => Entries::Many(read_entries(alloc, content)?),
+        };
         Ok(Bracket { entries })
     }
 
@@ -98,21 +99,24 @@ impl<A: Allocator> Bracket<A> {
     pub fn entries(&self) -> &[Entry]
         ensures { result.now ≡ self.now }
     {
-        self.entries.as_slice()
+        match &self.entries {
+            Entries::One(entry) => slice::from_ref(entry),
+            Entries::Many(entries) => entries.as_slice(),
+        }
     }
 
     /// Whether an entry is a mixed range.
     pub fn has_mixed(&self) -> bool
         ensures { result ≡ has_mixed self.now }
     {
-        self.entries.iter().any(|entry| entry.is_mixed())
+        self.entries().iter().any(|entry| entry.is_mixed())
     }
 
     /// Whether an entry holds `c`. Without case, letters of ASCII in either case are the same.
     pub fn holds(&self, c: char, case_sensitive: bool) -> bool
         ensures { result ≡ holds case_sensitive c self.now }
     {
-        self.entries
+        self.entries()
             .iter()
             .any(|entry| entry.holds(c, case_sensitive))
     }
@@ -123,9 +127,34 @@ impl<A: Allocator + Copy> Clone for Bracket<A> {
     ghost is_clone = { λ bracket copy. copy ≡ bracket };
 
     fn clone(&self) -> Result<Self, AllocError> {
-        let entries = Vec::from_slice(*self.entries.allocator(), self.entries.as_slice())?;
+        let entries = match &self.entries {
+            Entries::One(entry) => Entries::One(*entry),
+            Entries::Many(entries) => {
+                Entries::Many(Vec::from_slice(*entries.allocator(), entries.as_slice())?)
+            }
+        };
         Ok(Bracket { entries })
     }
+}
+
+/// The entries of a bracket's content, as a list. Fails only if allocation fails.
+fn read_entries<A: Allocator>(alloc: A, content: &[char]) -> Result<Vec<Entry, A>, AllocError>
+    ensures { IfOk result (λ entries. entries.items ≡ entries_of content.now) }
+{
+    let mut entries = Vec::with_capacity(alloc, content.len().min(FEW))?;
+    let mut rest = content;
+    while let [first, others @ ..] = rest {
+        if let [hyphen, last, after @ ..] = others
+            && *hyphen == '-'
+        {
+            entries.push(Entry::Range(*first, *last))?;
+            rest = after;
+        } else {
+            entries.push(Entry::Single(*first))?;
+            rest = others;
+        }
+    }
+    Ok(entries)
 }
 
 /// Whether `c` and `x` are the same character. Without case, two of ASCII are also the same if their lowercase forms

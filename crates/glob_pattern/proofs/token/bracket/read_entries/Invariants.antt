@@ -1,6 +1,6 @@
 use Rattle.std.proofs.Common.{◌≡◌, ◌++◌, length}
 use Rattle.glob_pattern.specs.Grammar.Brackets.{entries_of}
-use Rattle.glob_pattern.proofs.token.bracket.Bracket.read.Given as goal
+use Rattle.glob_pattern.proofs.token.bracket.read_entries.Given as goal
 
 -- the entries so far and those of the rest are those of the content
 abbrev pub invariant-loop-rest : goal.invariant-loop-rest
