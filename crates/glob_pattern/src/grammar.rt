@@ -1,5 +1,5 @@
-ghost use Rattle.std.specs.Prelude.{◌≡◌, ◌+◌, ◌<◌, ◌≤◌, List, [], ◌∷◌, ◌++◌, length, map, IfSome, IfOk, IfErr, OnOk};
-ghost use Rattle.std.specs.Str.{chars};
+ghost use Rattle.std.specs.Prelude.{◌≡◌, ◌+◌, ◌<◌, ◌≤◌, List, [], ◌∷◌, ◌++◌, length, map, IsTrue, IfSome, IfOk, IfErr, OnOk};
+ghost use Rattle.std.specs.Str.{chars, IsAscii};
 ghost use Rattle.glob_text.specs.Text.{has, opens};
 ghost use Rattle.glob_pattern.specs.Grammar.Tokens.{Token as Kept, is_deep, ends_deep, tokens_of_units, shape_of};
 ghost use Rattle.glob_pattern.specs.Grammar.Units.{HasTokens};
@@ -47,9 +47,36 @@ pub fn read_tokens<A: Allocator + Copy>(
         (λ tokens. HasTokens (chars pattern.now) tokens.items) }
     ensures refused { IfErr result (Refuses (chars pattern.now)) }
 {
-    let mut text = Vec::with_capacity(alloc, pattern.len())?;
-    text.extend(pattern.chars())?;
+    let text = characters_of(alloc, pattern)?;
     read_text(alloc, text.as_slice())
+}
+
+/// The characters of a text. Fails only if allocation fails.
+fn characters_of<A: Allocator>(alloc: A, text: &str) -> Result<Vec<char, A>, AllocError>
+    ensures { IfOk result (λ characters. characters.items ≡ chars text.now) }
+{
+    let mut characters = vec![in alloc; '\0'; text.len()]?;
+    if widen(text.as_bytes(), characters.as_mut_slice()) {
+        return Ok(characters);
+    }
+    characters.clear();
+    characters.extend(text.chars())?;
+    Ok(characters)
+}
+
+/// Writes each byte as a character. Returns whether all are of ASCII, and so spell these characters. The loop has no
+/// other way out, so that the compiler makes it one over sixteen bytes at a time.
+fn widen(bytes: &[u8], characters: &mut [char]) -> bool
+    requires { length bytes.now ≡ length characters.old }
+    ensures written { characters.new ≡ bytes.now }
+    ensures ascii { IsTrue result → IsAscii bytes.now }
+{
+    let mut ascii = true;
+    for n in 0..bytes.len() {
+        ascii &= bytes[n].is_ascii();
+        characters[n] = bytes[n] as char;
+    }
+    ascii
 }
 
 /// The tokens of the characters, as `read_tokens`.
