@@ -1,7 +1,6 @@
 pub mod Case
 pub mod Computed
 pub mod Deciding
-pub mod FirstBytes
 pub mod Folded
 pub mod Literals
 pub mod Loosening

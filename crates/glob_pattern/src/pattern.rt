@@ -24,7 +24,7 @@ use crate::options::MatchOptions;
 use crate::token::Token;
 use crate::token::bracket::Bracket;
 pub use ends::may_match;
-use ends::{least_length, plain_end};
+use ends::{least_length, plain_end, plain_start};
 use inner::{Stretch, inner_text, may_match_text};
 use judge::TextJudge;
 use masks::TokenMasks;
@@ -54,6 +54,8 @@ pub struct Pattern<A: Allocator = Global> {
     least: usize,
     // how many bytes at the end of the text are plain tokens
     plain_end: usize,
+    // how many bytes at the beginning of the text are plain tokens
+    plain_start: usize,
     // bytes of the text that are plain tokens, neither the first nor the last ones
     inner: Stretch,
     alloc: A,
@@ -69,7 +71,7 @@ impl<A: Allocator> Model for Pattern<A> {
     ghost use Rattle.glob_pattern.specs.Private.Positions.{AreShapeMasks};
     ghost use Rattle.glob_pattern.specs.Grammar.Tokens.{takes_one};
     ghost use Rattle.glob_pattern.specs.Private.Patterns.{KeepsTokens};
-    ghost use Rattle.glob_pattern.specs.Private.PlainEnds.{EndsPlain, HoldsPlain};
+    ghost use Rattle.glob_pattern.specs.Private.PlainEnds.{StartsPlain, EndsPlain, HoldsPlain};
 
     ghost view = { λ p. string_bytes p.text };
 
@@ -77,7 +79,8 @@ impl<A: Allocator> Model for Pattern<A> {
         × EndsPlain p.tokens.items (string_bytes p.text) p.plain_end
         × HoldsPlain p.tokens.items (string_bytes p.text) p.inner.start p.inner.end
         × (p.least ≡ count_by takes_one p.tokens.items)
-        × AreShapeMasks p.shapes.items 0 (length p.shapes.items) p.shape_masks };
+        × AreShapeMasks p.shapes.items 0 (length p.shapes.items) p.shape_masks
+        × StartsPlain p.tokens.items (string_bytes p.text) p.plain_start };
 }
 
 impl<A: Allocator> Pattern<A> {
@@ -108,6 +111,7 @@ impl<A: Allocator + Copy> Pattern<A> {
         let masks = masks::masks_of(alloc, tokens.as_slice())?;
         let least = least_length(tokens.as_slice());
         let plain_end = plain_end(pattern, tokens.as_slice());
+        let plain_start = plain_start(pattern, tokens.as_slice());
         let inner = inner_text(pattern, tokens.as_slice());
         let text = String::from_str(alloc, pattern)?;
         Ok(Pattern {
@@ -118,6 +122,7 @@ impl<A: Allocator + Copy> Pattern<A> {
             shape_masks,
             least,
             plain_end,
+            plain_start,
             inner,
             alloc,
         })
@@ -145,6 +150,7 @@ impl<A: Allocator + Copy> Pattern<A> {
             shape_masks: ShapeMasks::new(&[], 0),
             least: 0,
             plain_end: 0,
+            plain_start: 0,
             inner: Stretch::NONE,
             alloc,
         }
@@ -163,6 +169,7 @@ impl<A: Allocator + Copy> Pattern<A> {
             shape_masks: self.shape_masks,
             least: self.least,
             plain_end: self.plain_end,
+            plain_start: self.plain_start,
             inner: self.inner,
             alloc: self.alloc,
         })

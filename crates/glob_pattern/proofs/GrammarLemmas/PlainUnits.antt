@@ -1,8 +1,8 @@
 -- Neighbouring plain tokens of a pattern are its own characters.
 use Rattle.std.proofs.Common.{◌≡◌, ℕ, suc, ◌+◌, ◌-◌, ◌≤◌, ◌⊎◌, inl, inr, ⊎_elim, Bool, true, false, ◌&&◌, cond, List, [], ◌∷◌, ◌++◌, length, map, get_or, take, drop, refl, sym, ap, subst, ◌∙◌, arith, chars, append_assoc, append-nil}
-use Rattle.std.proofs.Math.Seq.{drop-cons, drop-append_seam}
+use Rattle.std.proofs.Math.Seq.{drop-cons, drop-append_seam, take-append_seam}
 use Rattle.std.proofs.lemmas.Bool.{and_parts, false≢true}
-use Rattle.std.proofs.lemmas.List.{length-append, take-append-drop, take_more, take_all, drop_all}
+use Rattle.std.proofs.lemmas.List.{length-append, map-append, take-append-drop, take_more, take_all, drop_all}
 use Rattle.std.proofs.lemmas.Str.{encodes-append, encodes-chars, length-encode}
 use Rattle.std.specs.Char.{len_utf8}
 use lib.Utf8.{encode}
@@ -10,7 +10,7 @@ use Rattle.std.specs.Str.{IsUtf8, encode_utf8_all}
 use Rattle.glob_text.specs.Text.{Text}
 use Rattle.glob_pattern.specs.Grammar.Tokens.{Token, is_deep, begins_deep, tokens_of_units}
 use Rattle.glob_pattern.specs.Grammar.Units.{UnitsBetween, HasTokens}
-use Rattle.glob_pattern.specs.Private.PlainEnds.{EndsPlain}
+use Rattle.glob_pattern.specs.Private.PlainEnds.{StartsPlain, EndsPlain}
 use Rattle.glob_pattern.specs.declared.token.Token.TheVariants.{Plain}
 use Rattle.glob_pattern.proofs.GrammarLemmas.Folding.{folded_some}
 
@@ -135,3 +135,57 @@ pub EndsPlain-from_behind : (bytes : List ℕ) (tokens front : List Token) (n : 
     → PlainBehind tokens front n → EndsPlain tokens bytes n
 EndsPlain-from_behind bytes tokens front n utf8 has b =
     subst (EndsPlain tokens bytes) (sym b.count) (EndsPlain-from_tokens bytes tokens front b.plain utf8 has b.tokens_are)
+
+-- a pattern begins with the characters of its first tokens, if these are plain
+text-starts_plain : (text : Text) (tokens : List Token) (plain : Text) (back : List Token) → HasTokens text tokens → tokens ≡ map Plain plain ++ back
+    → (after : Text) × (text ≡ plain ++ after)
+text-starts_plain text tokens plain back (units, has, are) e =
+    let (after, plainly, left) = units-plain units plain back (sym are ∙ e) in
+    let (stand, end) = UnitsBetween-plain text 0 (length text) plain after (subst (λ us. UnitsBetween text 0 us (length text)) plainly has) in
+    (drop (0 + length plain) text, stand)
+
+-- the tokens before the others are plain, of n bytes
+pub record PlainAhead (tokens others : List Token) (n : ℕ) : Type 0 where
+  pub plain : Text
+  pub tokens_are : tokens ≡ map Plain plain ++ others
+  pub count : n ≡ length (encode_utf8_all plain)
+
+pub PlainAhead-none : (tokens : List Token) → PlainAhead tokens tokens 0
+PlainAhead-none tokens = record { plain = []; tokens_are = refl; count = refl }
+
+-- one more token, which is plain
+pub PlainAhead-more : (tokens others : List Token) (c n : ℕ) → PlainAhead tokens (Plain c ∷ others) n → PlainAhead tokens others (n + len_utf8 c)
+PlainAhead-more tokens others c n a = record {
+  plain = a.plain ++ c ∷ [];
+  tokens_are = a.tokens_are ∙ sym (append_assoc (map Plain a.plain) (Plain c ∷ []) others)
+      ∙ ap (λ xs. xs ++ others) (sym (map-append Plain a.plain (c ∷ [])));
+  count = omega (arith, a.count, ap length (encodes-append a.plain (c ∷ [])), length-append (encode_utf8_all a.plain) (encode_utf8_all (c ∷ [])), length-append (encode c) [], length-encode c);
+}
+
+-- the first of the others is plain
+pub PlainAhead-first : (tokens rest : List Token) (t : Token) (c n : ℕ) → 1 ≤ length rest → t ≡ get_or rest 0 t → t ≡ Plain c
+    → PlainAhead tokens rest n → PlainAhead tokens (take (length rest - 1) (drop 1 rest)) (n + len_utf8 c)
+PlainAhead-first tokens [] t c n some first is a = absurd (omega arith)
+PlainAhead-first tokens (u ∷ us) t c n some first is a =
+    let here : u ≡ Plain c = sym first ∙ is in
+    let left : take (length (u ∷ us) - 1) us ≡ us = take_all (length (u ∷ us) - 1) us (omega arith) in
+    subst (λ ts. PlainAhead tokens ts (n + len_utf8 c)) (sym left) (PlainAhead-more tokens us c n (subst (λ v. PlainAhead tokens (v ∷ us) n) here a))
+
+-- what is counted is the pattern's beginning
+pub StartsPlain-from_ahead : (bytes : List ℕ) (tokens others : List Token) (n : ℕ) → IsUtf8 bytes → HasTokens (chars bytes) tokens
+    → PlainAhead tokens others n → StartsPlain tokens bytes n
+StartsPlain-from_ahead bytes tokens others n utf8 has a =
+    let (after, split) = text-starts_plain (chars bytes) tokens a.plain others has a.tokens_are in
+    let spelt : bytes ≡ encode_utf8_all a.plain ++ encode_utf8_all after =
+    sym (encodes-chars bytes utf8) ∙ ap encode_utf8_all split ∙ encodes-append a.plain after in
+    record {
+      plain = a.plain;
+      are = record { back = others; tokens_are = a.tokens_are };
+      within = omega (arith, a.count, ap length spelt, length-append (encode_utf8_all a.plain) (encode_utf8_all after));
+      spelt = ap (λ k. take k bytes) a.count ∙ ap (take (length (encode_utf8_all a.plain))) spelt
+          ∙ take-append_seam (encode_utf8_all a.plain) (encode_utf8_all after);
+    }
+
+-- no bytes are the beginning of each pattern
+pub StartsPlain-none : (bytes : List ℕ) (tokens : List Token) → StartsPlain tokens bytes 0
+StartsPlain-none bytes tokens = record { plain = []; are = record { back = tokens; tokens_are = refl }; within = omega arith; spelt = refl }

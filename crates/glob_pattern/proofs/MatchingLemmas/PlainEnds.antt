@@ -1,5 +1,6 @@
--- Each text that a pattern matches ends in the plain characters at the pattern's end, the same with or without case.
-use Rattle.std.proofs.Common.{◌≡◌, ℕ, suc, ◌-◌, ◌<◌, Bool, not, ◌&&◌, ◌==◌, List, [], ◌∷◌, ◌++◌, length, map, drop, IsTrue, ⊎_elim, refl, sym, ap, ap₂, subst, ◌∙◌, arith, chars, append-nil}
+-- Each text that a pattern matches begins with the plain characters at the pattern's beginning, and ends in those at its
+-- end, the same with or without case.
+use Rattle.std.proofs.Common.{◌≡◌, ℕ, suc, ◌-◌, ◌<◌, Bool, not, ◌&&◌, ◌==◌, List, [], ◌∷◌, ◌++◌, length, map, take, drop, IsTrue, ⊎_elim, refl, sym, ap, ap₂, subst, ◌∙◌, arith, chars, append-nil}
 use Rattle.std.proofs.lemmas.Bool.{or_cases, and_parts, eqb-true, ltb-true}
 use Rattle.std.proofs.lemmas.List.{map-append}
 use Rattle.std.proofs.lemmas.Str.{encode_ascii, encodes-append, encodes-chars}
@@ -12,7 +13,7 @@ use Rattle.glob_pattern.specs.Grammar.Brackets.{is_same}
 use Rattle.glob_pattern.specs.Grammar.Tokens.{Token}
 use Rattle.glob_pattern.specs.Matching.Texts.{TokensMatch}
 use Rattle.glob_pattern.specs.Laws.{SameTexts, StandsIn}
-use Rattle.glob_pattern.specs.Private.PlainEnds.{EndsPlain, EndsSame, HoldsPlain, ContainsSmall}
+use Rattle.glob_pattern.specs.Private.PlainEnds.{SameBytes, StartsPlain, StartsSame, EndsPlain, EndsSame, HoldsPlain, ContainsSmall}
 use Rattle.glob_pattern.specs.declared.options.MatchOptions.{MatchOptions}
 use Rattle.glob_pattern.specs.declared.token.Token.TheVariants.{Plain}
 use Rattle.glob_pattern.proofs.MatchingLemmas.PlainPatterns.{SameTexts-with_case}
@@ -44,6 +45,29 @@ small-SameTexts case (x ∷ xs) (y ∷ ys) (lengths, each) =
     ∙ ap₂ (λ a b. a ++ b) (small-same case x y (each 0 (omega arith))) (small-SameTexts case xs ys (omega arith, λ k l. each (suc k) (omega arith)))
     ∙ sym (map-append to_ascii_lowercase (encode y) (encode_utf8_all ys))
 
+-- the bytes of texts that are the same
+SameBytes-from_texts : (case : Bool) (here plain : Text) (bytes : List ℕ) → SameTexts case here plain → bytes ≡ encode_utf8_all plain
+    → SameBytes case (encode_utf8_all here) bytes
+SameBytes-from_texts case here plain bytes same spelt = record {
+  small = small-SameTexts case here plain same ∙ ap (map to_ascii_lowercase) (sym spelt);
+  exact = λ is. ap encode_utf8_all (SameTexts-with_case here plain (subst (λ b. SameTexts b here plain) is same)) ∙ sym spelt;
+}
+
+-- a text that the tokens match begins with their plain beginning
+pub StartsSame-from_match : (o : MatchOptions) (tokens : List Token) (pattern bytes : List ℕ) (n : ℕ) → StartsPlain tokens pattern n → IsUtf8 bytes
+    → TokensMatch o tokens (chars bytes) → StartsSame o.case_sensitive bytes (take n pattern)
+StartsSame-from_match o tokens pattern bytes n starts utf8 match =
+    let stands : StandsIn o.case_sensitive [] starts.plain starts.are.back (chars bytes) =
+    plain_tokens_stand o [] starts.plain starts.are.back (chars bytes) (subst (λ ts. TokensMatch o ts (chars bytes)) starts.are.tokens_are match) in
+    let first : chars bytes ≡ stands.here ++ stands.after =
+    stands.split ∙ ap (λ xs. xs ++ (stands.here ++ stands.after)) (stands.first refl) in
+    record {
+      first = encode_utf8_all stands.here;
+      rest = encode_utf8_all stands.after;
+      split = sym (encodes-chars bytes utf8) ∙ ap encode_utf8_all first ∙ encodes-append stands.here stands.after;
+      same = SameBytes-from_texts o.case_sensitive stands.here starts.plain (take n pattern) stands.same starts.spelt;
+    }
+
 -- a text that the tokens match ends in their plain end
 pub EndsSame-from_match : (o : MatchOptions) (tokens : List Token) (pattern bytes : List ℕ) (n : ℕ) → EndsPlain tokens pattern n → IsUtf8 bytes
     → TokensMatch o tokens (chars bytes) → EndsSame o.case_sensitive bytes (drop (length pattern - n) pattern)
@@ -57,8 +81,7 @@ EndsSame-from_match o tokens pattern bytes n ends utf8 match =
       front = encode_utf8_all stands.before;
       last = encode_utf8_all stands.here;
       split = sym (encodes-chars bytes utf8) ∙ ap encode_utf8_all last ∙ encodes-append stands.before stands.here;
-      small = small-SameTexts o.case_sensitive stands.here ends.plain stands.same ∙ ap (map to_ascii_lowercase) (sym ends.spelt);
-      exact = λ case. ap encode_utf8_all (SameTexts-with_case stands.here ends.plain (subst (λ b. SameTexts b stands.here ends.plain) case stands.same)) ∙ sym ends.spelt;
+      same = SameBytes-from_texts o.case_sensitive stands.here ends.plain (drop (length pattern - n) pattern) stands.same ends.spelt;
     }
 
 -- a text that the tokens match has the plain characters inside them, once capital letters are made small

@@ -1,11 +1,34 @@
--- The plain characters that a pattern ends in.
-use Rattle.std.specs.Prelude.{◌≡◌, ◌≢◌, ℕ, ◌-◌, ◌<◌, ◌≤◌, Bool, true, List, ◌++◌, length, map, drop, slice_index, slice_range}
+-- The plain characters that a pattern begins with, has inside and ends in.
+use Rattle.std.specs.Prelude.{◌≡◌, ℕ, ◌-◌, ◌≤◌, Bool, true, List, ◌++◌, length, map, take, drop, slice_range}
 use Rattle.std.specs.Char.{to_ascii_lowercase}
 use Rattle.std.specs.Str.{encode_utf8_all}
 use Rattle.glob_text.specs.Text.{Text}
-use Rattle.glob_pattern.specs.Grammar.Characters.{star, question_mark, open_bracket}
 use Rattle.glob_pattern.specs.Grammar.Tokens.{Token}
 use Rattle.glob_pattern.specs.declared.token.Token.TheVariants.{Plain}
+
+-- the first tokens are plain, of these characters
+pub record BeginsPlain (tokens : List Token) (plain : Text) : Type 0 where
+  pub back : List Token
+  pub tokens_are : tokens ≡ map Plain plain ++ back
+
+-- the first n bytes of the pattern spell its first tokens, which are plain
+pub record StartsPlain (tokens : List Token) (pattern : List ℕ) (n : ℕ) : Type 0 where
+  pub plain : Text
+  pub are : BeginsPlain tokens plain
+  pub within : n ≤ length pattern
+  pub spelt : take n pattern ≡ encode_utf8_all plain
+
+-- the bytes are the same with case, and without case once capital letters are made small
+pub record SameBytes (case : Bool) (a b : List ℕ) : Type 0 where
+  pub small : map to_ascii_lowercase a ≡ map to_ascii_lowercase b
+  pub exact : case ≡ true → a ≡ b
+
+-- the bytes begin with these ones, with case or without
+pub record StartsSame (case : Bool) (bytes start : List ℕ) : Type 0 where
+  pub first : List ℕ
+  pub rest : List ℕ
+  pub split : bytes ≡ first ++ rest
+  pub same : SameBytes case first start
 
 -- the last n bytes of the pattern spell its last tokens, which are plain
 pub record EndsPlain (tokens : List Token) (pattern : List ℕ) (n : ℕ) : Type 0 where
@@ -15,18 +38,12 @@ pub record EndsPlain (tokens : List Token) (pattern : List ℕ) (n : ℕ) : Type
   pub within : n ≤ length pattern
   pub spelt : drop (length pattern - n) pattern ≡ encode_utf8_all plain
 
--- the bytes end in these ones: the same ones with case, and without case once capital letters are made small
+-- the bytes end in these ones, with case or without
 pub record EndsSame (case : Bool) (bytes end : List ℕ) : Type 0 where
   pub front : List ℕ
   pub last : List ℕ
   pub split : bytes ≡ front ++ last
-  pub small : map to_ascii_lowercase last ≡ map to_ascii_lowercase end
-  pub exact : case ≡ true → last ≡ end
-
--- the first tokens are plain, of these characters
-pub record BeginsPlain (tokens : List Token) (plain : Text) : Type 0 where
-  pub back : List Token
-  pub tokens_are : tokens ≡ map Plain plain ++ back
+  pub same : SameBytes case last end
 
 -- plain tokens that stand together are of these characters
 pub record HasPlain (tokens : List Token) (plain : Text) : Type 0 where
@@ -47,11 +64,3 @@ pub record ContainsSmall (bytes stretch : List ℕ) : Type 0 where
   pub after : List ℕ
   pub split : bytes ≡ before ++ (here ++ after)
   pub small : map to_ascii_lowercase here ≡ map to_ascii_lowercase stretch
-
--- the first bytes differ, and that of the pattern begins no wildcard and no bracket
-pub record DiffersAtOnce (pattern bytes : List ℕ) : Type 0 where
-  pub some : 0 < length pattern
-  pub other : slice_index pattern 0 ≢ slice_index bytes 0
-  pub no_question_mark : slice_index pattern 0 ≢ question_mark
-  pub no_star : slice_index pattern 0 ≢ star
-  pub no_bracket : slice_index pattern 0 ≢ open_bracket

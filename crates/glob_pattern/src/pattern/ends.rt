@@ -1,10 +1,11 @@
 //! What each text that a pattern matches begins with and ends in, and how long it is at least.
-ghost use Rattle.std.specs.Prelude.{◌≡◌, false, IsTrue, chars, count_by};
+ghost use Rattle.std.specs.Prelude.{◌≡◌, false, map, IsTrue, chars, count_by};
+ghost use Rattle.std.specs.Char.{to_ascii_lowercase};
 ghost use Rattle.std.specs.Str.{is_utf8};
 ghost use Rattle.glob_pattern.specs.Grammar.Tokens.{takes_one};
 ghost use Rattle.glob_pattern.specs.Grammar.Units.{HasTokens};
 ghost use Rattle.glob_pattern.specs.Matching.Texts.{Matches};
-ghost use Rattle.glob_pattern.specs.Private.PlainEnds.{EndsPlain, EndsSame, DiffersAtOnce};
+ghost use Rattle.glob_pattern.specs.Private.PlainEnds.{SameBytes, StartsPlain, StartsSame, EndsPlain, EndsSame};
 
 use crate::options::MatchOptions;
 use crate::pattern::Pattern;
@@ -13,15 +14,16 @@ use crate::token::bracket::Bracket;
 use std::alloc::Allocator;
 
 /// Whether a text of these bytes may be one that the pattern matches. Where the answer is `false` it is none: so for
-/// `*.rs` and the bytes of `main.c`. The bytes need not be UTF-8. The test looks at their number, the first of them and
-/// the last ones alone.
+/// `*.rs` and the bytes of `main.c`. The bytes need not be UTF-8. The test looks at their number, the first and the last
+/// of them alone.
 #[inline(always)]
 pub fn may_match<A: Allocator>(pattern: &Pattern<A>, bytes: &[u8], options: MatchOptions) -> bool
     ensures { result ≡ false → IsTrue (is_utf8 bytes.now)
         → ¬ (Matches options (chars pattern.now) (chars bytes.now)) }
 {
     let text = pattern.text.as_str().as_bytes();
-    if options.case_sensitive && differs_at_once(text, bytes) {
+    let start = &text[..pattern.plain_start];
+    if !starts_same(bytes, start, options.case_sensitive) {
         return false;
     }
     // A character is a byte at least.
@@ -32,16 +34,15 @@ pub fn may_match<A: Allocator>(pattern: &Pattern<A>, bytes: &[u8], options: Matc
     ends_same(bytes, end, options.case_sensitive)
 }
 
-/// Whether the first bytes differ, where that of the pattern is plain.
+/// Whether the bytes begin with these ones, with case or without.
 #[inline(always)]
-fn differs_at_once(pattern: &[u8], bytes: &[u8]) -> bool
-    ensures { IsTrue result → DiffersAtOnce pattern.now bytes.now }
+fn starts_same(bytes: &[u8], start: &[u8], case_sensitive: bool) -> bool
+    ensures { StartsSame case_sensitive bytes.now start.now → IsTrue result }
 {
-    if pattern.is_empty() || bytes.is_empty() {
+    if bytes.len() < start.len() {
         return false;
     }
-    let first = pattern[0];
-    first != bytes[0] && first != b'*' && first != b'?' && first != b'['
+    same_bytes(&bytes[..start.len()], start, case_sensitive)
 }
 
 /// Whether the bytes end in these ones, with case or without.
@@ -52,12 +53,27 @@ fn ends_same(bytes: &[u8], end: &[u8], case_sensitive: bool) -> bool
     if bytes.len() < end.len() {
         return false;
     }
-    let last = &bytes[bytes.len() - end.len()..];
+    same_bytes(&bytes[bytes.len() - end.len()..], end, case_sensitive)
+}
+
+/// Whether the bytes are the same, with case or without.
+#[inline(always)]
+fn same_bytes(a: &[u8], b: &[u8], case_sensitive: bool) -> bool
+    ensures { SameBytes case_sensitive a.now b.now → IsTrue result }
+{
     if case_sensitive {
-        last == end
+        a == b
     } else {
-        last.eq_ignore_ascii_case(end)
+        first_may_be_same(a, b) && a.eq_ignore_ascii_case(b)
     }
+}
+
+/// Whether the first bytes may be the same letter in either case: these differ by 32. Most texts are told by this.
+#[inline(always)]
+fn first_may_be_same(a: &[u8], b: &[u8]) -> bool
+    ensures { map to_ascii_lowercase a.now ≡ map to_ascii_lowercase b.now → IsTrue result }
+{
+    a.is_empty() || b.is_empty() || a[0] % 32 == b[0] % 32
 }
 
 /// How many of the tokens take one character each: of those of `**/?a*` two.
@@ -71,6 +87,23 @@ pub fn least_length<A: Allocator>(tokens: &[Token<Bracket<A>>]) -> usize
         }
     }
     least
+}
+
+/// How many bytes at the beginning of the pattern are plain tokens: in `src/*.rs` the four of `src/`.
+pub fn plain_start<A: Allocator>(pattern: &str, tokens: &[Token<Bracket<A>>]) -> usize
+    requires { HasTokens (chars pattern.now) tokens.now }
+    ensures { StartsPlain tokens.now pattern.now result }
+{
+    let mut bytes = 0;
+    let mut rest = tokens;
+    while let [first, others @ ..] = rest {
+        let Token::Plain(c) = first else {
+            return bytes;
+        };
+        bytes += c.len_utf8();
+        rest = others;
+    }
+    bytes
 }
 
 /// How many bytes at the end of the pattern are plain tokens: in `**/a*.rs` the three of `.rs`.

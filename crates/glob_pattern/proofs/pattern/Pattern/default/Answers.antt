@@ -3,6 +3,7 @@ use Rattle.std.proofs.lemmas.Str.{chars-nil}
 use Rattle.glob_pattern.specs.Grammar.Units.{HasTokens}
 use Rattle.glob_pattern.specs.Private.Masks.{AreAllMasks}
 use Rattle.glob_pattern.specs.Private.PlainEnds.{EndsPlain, HoldsPlain}
+use Rattle.glob_pattern.proofs.GrammarLemmas.PlainUnits.{StartsPlain-none}
 use Rattle.glob_pattern.proofs.pattern.Pattern.default.Goals as goal
 
 -- The empty text has no token.
@@ -33,4 +34,5 @@ invariant_of-result-2 g c = (
   rw (c.new.ensures.bytes, c.new-2.ensures.items) HoldsPlain-nil,
   rw c.new-2.ensures.items refl,
   rw c.new-3.ensures.items c.new-5.ensures,
+  StartsPlain-none _ _,
 )

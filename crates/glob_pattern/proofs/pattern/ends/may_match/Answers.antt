@@ -1,25 +1,26 @@
 use Rattle.std.proofs.Common.{◌≡◌, ℕ, ◌-◌, ◌<◌, length, take, drop, chars, string_bytes, sym, ap, subst, ◌∙◌, arith}
 use Rattle.std.proofs.lemmas.Bool.{both_ways}
 use Rattle.std.proofs.lemmas.List.{length-drop, take_all}
-use Rattle.std.proofs.lemmas.Str.{IsUtf8-from_is_utf8, IsUtf8-string_bytes}
-use Rattle.glob_pattern.specs.Private.PlainEnds.{EndsSame, DiffersAtOnce}
+use Rattle.std.proofs.lemmas.Str.{IsUtf8-from_is_utf8}
+use Rattle.glob_pattern.specs.Private.PlainEnds.{StartsSame, EndsSame}
 use Rattle.glob_pattern.proofs.Counts.{length-chars}
-use Rattle.glob_pattern.proofs.MatchingLemmas.FirstBytes.{no_match-from_first}
-use Rattle.glob_pattern.proofs.MatchingLemmas.PlainEnds.{EndsSame-from_match}
+use Rattle.glob_pattern.proofs.MatchingLemmas.PlainEnds.{StartsSame-from_match, EndsSame-from_match}
 use Rattle.glob_pattern.proofs.MatchingLemmas.PlainTokens.{one_character_each}
 use Rattle.glob_pattern.proofs.MatchingLemmas.Tokens.{TokensMatch-by_pattern}
 use Rattle.glob_pattern.proofs.pattern.ends.may_match.Goals as goal
 
-pub returns-then-differs_at_once : goal.returns-then-differs_at_once
-returns-then-differs_at_once g c = λ _ utf8 matches.
+pub returns-then-not-starts_same : goal.returns-then-not-starts_same
+returns-then-not-starts_same g c = λ _ utf8 matches.
     let o = c.args.options in
     let inside = c.pattern.inside in
     let bytes = c.args.bytes.now in
     let pattern = string_bytes inside.text in
-    let read = c.pattern.invariant.0.read in
-    let kept = TokensMatch-by_pattern o (chars pattern) (chars bytes) inside.tokens.items read (rw c.pattern.view_is matches) in
-    let differs : DiffersAtOnce pattern bytes = rw (c.as_bytes-text.ensures.value, c.as_str.ensures.value) at (c.differs_at_once.ensures c.if-differs_at_once.true) in
-    no_match-from_first o inside.tokens.items pattern bytes c.if-options.true differs (IsUtf8-string_bytes inside.text) (IsUtf8-from_is_utf8 bytes utf8) read kept
+    let n = inside.plain_start in
+    let kept = TokensMatch-by_pattern o (chars pattern) (chars bytes) inside.tokens.items c.pattern.invariant.0.read (rw c.pattern.view_is matches) in
+    let starts = StartsSame-from_match o inside.tokens.items pattern bytes n c.pattern.invariant.5 (IsUtf8-from_is_utf8 bytes utf8) kept in
+    let text = c.as_bytes-text.ensures.value ∙ c.as_str.ensures.value in
+    let start : take n pattern ≡ take n c.as_bytes-text.result.now = ap (take n) (sym text) in
+    both_ways _ c.if-not-starts_same.true (c.starts_same.ensures (subst (StartsSame o.case_sensitive bytes) start starts))
 
 pub returns-then-bytes-pattern : goal.returns-then-bytes-pattern
 returns-then-bytes-pattern g c = λ no utf8 matches.
