@@ -1,4 +1,5 @@
 pub mod FilteredLines
+pub mod Filtering
 pub mod FirstPlaces
 pub mod KeptLines
 pub mod KnownMoves

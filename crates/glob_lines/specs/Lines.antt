@@ -67,11 +67,11 @@ WritesSomeBytes o pattern input old new =
     × ((n : ℕ) × Appends old new (take n (with_line_feeds kept)))
 
 -- the same three of an input that is known, and nothing of another
-abbrev pub FiltersLines : MatchOptions → (pattern : List ℕ) → (input old new : Option (List ℕ)) → (count : ℕ) → Type 0
+unfoldable pub FiltersLines : MatchOptions → (pattern : List ℕ) → (input old new : Option (List ℕ)) → (count : ℕ) → Type 0
 FiltersLines o pattern input old new count = IfSome input (λ bytes. WritesLines o pattern bytes old new count)
 
-abbrev pub FiltersSomeLines : MatchOptions → (pattern : List ℕ) → (input old new : Option (List ℕ)) → Type 0
+unfoldable pub FiltersSomeLines : MatchOptions → (pattern : List ℕ) → (input old new : Option (List ℕ)) → Type 0
 FiltersSomeLines o pattern input old new = IfSome input (λ bytes. WritesSomeLines o pattern bytes old new)
 
-abbrev pub FiltersSomeBytes : MatchOptions → (pattern : List ℕ) → (input old new : Option (List ℕ)) → Type 0
+unfoldable pub FiltersSomeBytes : MatchOptions → (pattern : List ℕ) → (input old new : Option (List ℕ)) → Type 0
 FiltersSomeBytes o pattern input old new = IfSome input (λ bytes. WritesSomeBytes o pattern bytes old new)

@@ -34,6 +34,7 @@ const WRITE_LEN: usize = 64 * 1024;
 ///   written, some or none of them, each whole.
 /// - [`LineFault::Write`]: a call of the writer failed, also with `Interrupted`. The first bytes of the output were
 ///   written, some or none of them.
+#[tactic(auto, unfolding(crate::specs::Lines::FiltersLines))]
 pub fn filter_lines<A: Allocator + Copy, B: Allocator + Copy, R: Read, W: Write>(
     alloc: A,
     pattern: &Pattern<B>,

@@ -58,7 +58,7 @@ paths_request options limit (word ∷ next ∷ words) =
     else option_map (Paths options limit) (operand_of (word ∷ next ∷ words)))
 
 -- The words after the program's name. What stands after those of a page is passed over.
-abbrev pub request_asked : List (List ℕ) → Option Request
+unfoldable pub request_asked : List (List ℕ) → Option Request
 request_asked [] = None
 request_asked (name ∷ words) =
     if bytes_eq name (codes "match") then lines_request new_options words

@@ -49,7 +49,7 @@ abbrev pub FindsSomeBytes : (listing : List Mark) → (old new : Option (List �
 FindsSomeBytes ms old new = AppendsSome old new (with_line_feeds (paths (items ms)))
 
 -- the status says of the whole walk what it says; or it is 2
-abbrev pub IsFindStatus : (listing : List Mark) → (limit : ℕ) → (status : ℕ) → Type 0
+unfoldable pub IsFindStatus : (listing : List Mark) → (limit : ℕ) → (status : ℕ) → Type 0
 IsFindStatus ms limit status = (status ≡ 2) ⊎ ((cost ms ≤ limit) × (status ≡ found_status (items ms)))
 
 -- the status of what was found

@@ -15,14 +15,14 @@ AppendsSome old new bytes = (n : ℕ) × Appends old new (take n bytes)
 
 -- Status 0: some lines match, and just those were written, in order. Status 1: no line matches, and none was written.
 -- Status 2: of the bytes of the lines that match, the first n were written, for some n.
-abbrev pub CopiesLines : MatchOptions → (pattern : List ℕ) → (input old new : Option (List ℕ)) → (status : ℕ) → Type 0
+unfoldable pub CopiesLines : MatchOptions → (pattern : List ℕ) → (input old new : Option (List ℕ)) → (status : ℕ) → Type 0
 CopiesLines options pattern input old new status =
     (status ≡ 0 → (n : ℕ) × (0 < n) × FiltersLines options pattern input old new n)
     × (status ≡ 1 → FiltersLines options pattern input old new 0)
     × (status ≡ 2 → FiltersSomeBytes options pattern input old new)
 
 -- Status 0: these bytes were written. Status 2: the first n of them were, for some n. There is no other status.
-abbrev pub WritesText : (text : List ℕ) → (old new : Option (List ℕ)) → (status : ℕ) → Type 0
+unfoldable pub WritesText : (text : List ℕ) → (old new : Option (List ℕ)) → (status : ℕ) → Type 0
 WritesText text old new status = ((status ≡ 0) × Appends old new text) ⊎ ((status ≡ 2) × AppendsSome old new text)
 
 -- the pattern that stands for the text alone, and a line feed
@@ -31,7 +31,7 @@ IsEscapedLine text line =
     (escaped : List ℕ) × (chars escaped ≡ escaped_text (chars text)) × (line ≡ ended_line escaped)
 
 -- That line was written, and the status is 0; or the status is 2, and nothing was written, or the line's first bytes.
-abbrev pub WritesEscaped : (text : List ℕ) → (old new : Option (List ℕ)) → (status : ℕ) → Type 0
+unfoldable pub WritesEscaped : (text : List ℕ) → (old new : Option (List ℕ)) → (status : ℕ) → Type 0
 WritesEscaped text old new status =
     ((status ≡ 2) × Keeps old new)
     ⊎ ((line : List ℕ) × IsEscapedLine text line × WritesText line old new status)

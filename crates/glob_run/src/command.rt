@@ -38,6 +38,7 @@ pub struct Search<'a> {
 
 impl<'a> Command<'a> {
     /// Reads the words after the program's name. `None` is a usage fault.
+    #[tactic(auto, unfolding(crate::specs::CommandLine::request_asked))]
     pub fn parse(words: &[&'a str]) -> Option<Self>
         ensures { option_map request_of result ≡ request_asked (map (λ w. w.now) words.now) }
     {

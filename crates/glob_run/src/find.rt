@@ -61,6 +61,7 @@ pub fn run_find<T: Tree, W: Write, E: Write>(
 }
 
 /// The exit status of what [`find_in`] finds. Its fault is told.
+#[tactic(auto, unfolding(crate::specs::FoundPaths::IsFindStatus))]
 fn find_status<T: Tree, S: LineSink, E: Write>(
     alloc: T::Alloc,
     tree: T,

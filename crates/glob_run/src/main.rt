@@ -3,7 +3,7 @@
 //! of the disk that the pattern matches.
 #![tactic(auto)]
 
-ghost use Rattle.std.specs.Prelude.{◌≡◌, ◌≢◌, ◌≤◌, List, ℕ, Some, None, IfOk, OnErr, chars, false, map, string_bytes};
+ghost use Rattle.std.specs.Prelude.{◌≡◌, ◌≢◌, ◌≤◌, List, ℕ, Some, None, IfOk, OnErr, chars, map, string_bytes};
 ghost use Rattle.glob.specs.Answers.{IsTold};
 ghost use Rattle.glob.specs.Components.{walk_fault};
 ghost use Rattle.glob.specs.Content.{Content};
@@ -101,7 +101,7 @@ pub fn run_words<T: Tree, R: Read + Drop, W: Write, E: Write>(
     }
 }
 
-/// Copies the matching lines, and returns the status.
+/// Copies the lines that the pattern of the text matches, and returns the status.
 fn run_match<A: Allocator + Copy, R: Read + Drop, W: Write, E: Write>(
     alloc: A,
     options: MatchOptions,
@@ -116,16 +116,27 @@ fn run_match<A: Allocator + Copy, R: Read + Drop, W: Write, E: Write>(
     ensures lines { CopiesLines options pattern.now (R.remaining input)
         (W.contents output.old) (W.contents output.new) result }
 {
-    let pattern = match Pattern::new(alloc, pattern) {
-        Ok(pattern) => pattern,
-        Err(refusal) => return fault(alloc, errors, refusal),
-    };
-    let mut writer = Watch::new(Lent { writer: output });
-    let answer = copy_lines(alloc, &pattern, options, input, &mut writer);
-    let Lent { writer: output } = writer.into_inner();
-    // No effect at run time. The proof reads here what the output holds.
-    let _ = &*output;
-    match answer {
+    match Pattern::new(alloc, pattern) {
+        Ok(pattern) => copy_lines(alloc, &pattern, options, input, output, errors),
+        Err(refusal) => fault(alloc, errors, refusal),
+    }
+}
+
+/// Copies the matching lines, and returns the status.
+#[tactic(auto, unfolding(crate::specs::Outcomes::CopiesLines))]
+fn copy_lines<A: Allocator + Copy, R: Read + Drop, W: Write, E: Write>(
+    alloc: A,
+    pattern: &Pattern<A>,
+    options: MatchOptions,
+    input: R,
+    output: &mut W,
+    errors: &mut E,
+) -> u8
+    ensures most { result ≤ 2 }
+    ensures lines { CopiesLines options pattern.now (R.remaining input)
+        (W.contents output.old) (W.contents output.new) result }
+{
+    match filter_input(alloc, pattern, options, input, output) {
         Ok(0) => UNMATCHED,
         Ok(_) => MATCHED,
         Err(line_fault) => fault(alloc, errors, line_fault),
@@ -133,31 +144,38 @@ fn run_match<A: Allocator + Copy, R: Read + Drop, W: Write, E: Write>(
 }
 
 /// Copies the matching lines, and returns how many there are. Where it fails, the first bytes of them were written.
-fn copy_lines<A: Allocator + Copy, R: Read + Drop, W: Write>(
+fn filter_input<A: Allocator + Copy, R: Read + Drop, W: Write>(
     alloc: A,
     pattern: &Pattern<A>,
     options: MatchOptions,
     input: R,
-    writer: &mut Watch<W>,
+    output: &mut W,
 ) -> Result<u64, LineFault>
-    requires { writer.old.failed ≡ false }
     ensures lines { IfOk result (FiltersLines options pattern.now (R.remaining input)
-        (W.contents writer.old.inner) (W.contents writer.new.inner)) }
+        (W.contents output.old) (W.contents output.new)) }
     ensures some { OnErr result (FiltersSomeBytes options pattern.now (R.remaining input)
-        (W.contents writer.old.inner) (W.contents writer.new.inner)) }
+        (W.contents output.old) (W.contents output.new)) }
 {
     let mut reader = Watch::new(input);
-    filter_lines(alloc, pattern, options, &mut reader, writer)
+    let mut writer = Watch::new(Lent { writer: output });
+    let answer = filter_lines(alloc, pattern, options, &mut reader, &mut writer);
+    let Lent { writer: output } = writer.into_inner();
+    // No effect at run time. The proof reads here what the output holds.
+    let _ = &*output;
+    answer
 }
 
 /// Writes the pattern that stands for the text alone, and returns the status.
+#[tactic(auto, unfolding(crate::specs::Outcomes::WritesEscaped))]
 fn run_escape<A: Allocator + Copy, W: Write, E: Write>(
     alloc: A,
     text: &str,
     output: &mut W,
     errors: &mut E,
 ) -> u8
-    ensures { WritesEscaped text.now (W.contents output.old) (W.contents output.new) result }
+    ensures most { result ≤ 2 }
+    ensures escaped { WritesEscaped text.now
+        (W.contents output.old) (W.contents output.new) result }
 {
     match escaped_line(alloc, text) {
         Ok(line) => write_text(alloc, &line, output, errors),
@@ -166,13 +184,15 @@ fn run_escape<A: Allocator + Copy, W: Write, E: Write>(
 }
 
 /// Writes the whole text, and returns the status.
+#[tactic(auto, unfolding(crate::specs::Outcomes::WritesText))]
 fn write_text<A: Allocator, W: Write, E: Write>(
     alloc: A,
     text: &str,
     output: &mut W,
     errors: &mut E,
 ) -> u8
-    ensures { WritesText text.now (W.contents output.old) (W.contents output.new) result }
+    ensures most { result ≤ 2 }
+    ensures written { WritesText text.now (W.contents output.old) (W.contents output.new) result }
 {
     match write_whole(output, text.as_bytes()) {
         Ok(()) => MATCHED,

@@ -1,14 +1,16 @@
 use Rattle.std.proofs.Common.{subst}
-use Rattle.glob_lines.specs.Lines.{WritesSomeLines, WritesSomeBytes}
+use Rattle.glob_lines.specs.Lines.{WritesSomeLines, WritesSomeBytes, FiltersSomeLines, FiltersSomeBytes}
 use Rattle.glob_lines.proofs.LineLemmas.KnownMoves.{IfSome-all_read}
 use Rattle.glob_lines.proofs.LineLemmas.MatchingLines.{some_lines-from_front, some_bytes-from_front, some_lines-none, IfSome-each}
 use Rattle.glob_lines.proofs.lines.filter_lines.Goals as goal
 
 pub returns-in_err-input-clause-memory : goal.returns-in_err-input-clause-memory
+unfolding FiltersSomeLines
 returns-in_err-input-clause-memory g c =
     λ _. IfSome-each _ _ (λ input. some_lines-none c.args.options c.args.pattern.now input (g.W.Write.contents c.args.writer.now.inner))
 
 pub returns-clause-memory : goal.returns-clause-memory
+unfolding FiltersSomeLines
 returns-clause-memory g c = λ fault.
     let o = c.args.options in
     let pattern = c.args.pattern.now in
@@ -19,6 +21,7 @@ returns-clause-memory g c = λ fault.
     (subst (λ input. WritesSomeLines o pattern input old new) c.deref.ensures.value some)
 
 pub returns-clause-write_fault : goal.returns-clause-write_fault
+unfolding FiltersSomeBytes
 returns-clause-write_fault g c = λ fault.
     let o = c.args.options in
     let pattern = c.args.pattern.now in
