@@ -29,12 +29,12 @@ cat >"$work/tools/rt" <<'RT'
 crate=${PWD##*/}
 echo "$1 $crate" >>"$ASKED"
 for below in $(sed -n "s/^$crate: //p" ../../crates.txt 2>/dev/null); do
-    [ -f "../$below/out/made" ] || { echo "error: $crate is asked for before $below is made" && exit 1; }
+    [ -f "../$below/out/rlib/made" ] || { echo "error: $crate is asked for before $below is made" && exit 1; }
 done
 [ ! -f "$ASKED.slow" ] || [ "$crate" = glob_text ] || { echo $$ >>"$ASKED.slow" && exec sleep 300; }
 [ "$(cat "$ASKED.wrong" 2>/dev/null)" != "$crate" ] || { echo 'error: wrong' && exit 1; }
 [ $# = 1 ] || sleep 0.5
-touch out/made
+mkdir -p out/rlib && touch out/rlib/made
 [ "$1" != run ] || { printf '#!/bin/sh\necho "$@"\n' >out/glob_run && chmod +x out/glob_run; }
 RT
 # on any machine as on two processors
