@@ -148,6 +148,49 @@ pub trait Judge {
             → (table self.old).opens k ≡ false }
     {}
 
+    /// How many of the next characters, `most` at most, 64 tokens answer alike: exactly those of `took`, of the tokens of
+    /// `asked`, take each. Bit n of both is token 64 · `word` + n. They end before a place where a component begins,
+    /// unless `across` is true. It may return fewer. The judge stays at its place, and nothing is counted.
+    ///
+    /// So after one `step`, over the `a` of `abc`, `alike(0, 0b1, 0b1, 8, false)` may return 2, if token 0 takes `b` and
+    /// `c`. Each bit of `asked` must be of a token in the list.
+    ///
+    /// This body returns 0. A judge that knows the answers of many characters at once may have its own, and then
+    /// [`step_over`](Self::step_over), too.
+    #[inline]
+    fn alike(&self, word: usize, asked: u64, took: u64, most: usize, across: bool) -> usize
+        requires within { place self.now ≤ (table self.now).characters }
+        requires tokens { (j : ℕ)
+            → IsBitSet asked j → 64 * word + j < (table self.now).tokens }
+        ensures most { result ≤ most }
+        ensures within { place self.now + result ≤ (table self.now).characters }
+        ensures took { (k : ℕ) → place self.now ≤ k → k < place self.now + result
+            → (j : ℕ) → j < 64
+            → IsBitSet took j
+            ↔ (IsBitSet asked j × IsTrue ((table self.now).takes (64 * word + j) k)) }
+        ensures inside { across ≡ false
+            → (k : ℕ) → place self.now < k → k ≤ place self.now + result
+            → (table self.now).opens k ≡ false }
+    {
+        0
+    }
+
+    /// Steps over further characters, `most` at most, and raises the count by `questions` for each. So after one `step`,
+    /// over the `a` of `abc`, `step_over(2, 3)` may step over `b` and `c`; then the count rises by 6. So many characters
+    /// must be left, and the count must have room for them.
+    ///
+    /// This body steps over none.
+    #[inline]
+    fn step_over(&mut self, most: usize, questions: u64)
+        requires within { place self.old + most ≤ (table self.old).characters }
+        requires room { count self.old + questions * most < 2 ^ 128 }
+        ensures same { table self.new ≡ table self.old }
+        ensures forward { place self.old ≤ place self.new }
+        ensures most { place self.new ≤ place self.old + most }
+        ensures count { count self.new
+            ≡ count self.old + questions * (place self.new - place self.old) }
+    {}
+
     /// The count: how many questions were asked.
     fn asked(&self) -> u128
         ensures { result ≡ count self.now };

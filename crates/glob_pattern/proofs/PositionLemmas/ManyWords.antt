@@ -46,6 +46,17 @@ module _ (table : Table) (shapes : List Shape) (k : ℕ) where
       whole_is = next_whole;
     }
 
+    -- a word more that stands there
+    pub PositionsPart-next : ((d : PositionWord) → get_or words n d ≡ w) → PositionsPart table shapes k (n + 1) words next
+    PositionsPart-next stands = record {
+      word = λ i d lt.
+          ⊎_elim
+          (λ e. let at : get_or words i d ≡ w = rw e (stands d) in rw at (subst (λ j. IsPositionWord table shapes (64 * j) k w) (sym e) here))
+          (λ ne. part.word i d (omega arith))
+          (cases_eq i n);
+      whole_is = next_whole;
+    }
+
     -- a word more in the place of another
     pub PositionsPart-set : n < length words → PositionsPart table shapes k (n + 1) (set words n w) next
     PositionsPart-set lt_all = record {
@@ -102,3 +113,12 @@ NonePart-set n words w lt_all none zero_here = record {
 -- a union of 0 is one of two words of 0
 pub none-or : (a b : ℕ) → bit_or a b ≡ 0 → (a ≡ 0) × (b ≡ 0)
 none-or a b e = (omega (arith, le_or_l a b), omega (arith, le_or_r a b))
+
+-- a position set of two places says the same of both
+pub alive-at_both : (table : Table) (shapes : List Shape) (k m : ℕ) (words : List PositionWord) (d : PositionWord) → IsPositionSet table shapes k words → IsPositionSet table shapes m words
+    → (n : ℕ) → n ≤ length shapes → IsAlive table shapes n m → IsAlive table shapes n k
+alive-at_both table shapes k m words d here there n le alive =
+    let lt : n / 64 < length words = omega (arith, here.count) in
+    let one : IsBitSet (get_or words (n / 64) d).alive (n % 64) ↔ IsAlive table shapes n k = rw (word_of n) at ((here.word (n / 64) d lt).alive.alive (n % 64) (omega arith) (omega arith)) in
+    let other : IsBitSet (get_or words (n / 64) d).alive (n % 64) ↔ IsAlive table shapes n m = rw (word_of n) at ((there.word (n / 64) d lt).alive.alive (n % 64) (omega arith) (omega arith)) in
+    one.0 (other.1 alive)

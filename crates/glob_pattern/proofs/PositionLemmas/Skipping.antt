@@ -1,16 +1,17 @@
 -- Characters that keep the position set.
-use Rattle.std.proofs.Common.{◌≡◌, ℕ, zero, suc, ◌+◌, ◌-◌, ◌*◌, ◌^◌, ◌<◌, ◌≤◌, ◌↔◌, ◌⊎◌, Bool, true, false, not, IsTrue, List, length, bit_and, count_ones, refl, inl, inr, ⊎_elim, arith, mul-add}
+use Rattle.std.proofs.Common.{◌≡◌, ℕ, zero, suc, ◌+◌, ◌-◌, ◌*◌, ◌^◌, ◌<◌, ◌≤◌, ◌↔◌, ◌⊎◌, Bool, true, false, not, IsTrue, List, length, bit_and, count_ones, refl, sym, inl, inr, ⊎_elim, arith, mul-add}
 use Rattle.std.proofs.Math.Nat.{mul-le-mul_right}
-use Rattle.std.proofs.lemmas.Bool.{cases_eq}
+use Rattle.std.proofs.lemmas.Bool.{cases_eq, false≢true}
 use Rattle.std.proofs.lemmas.Nat.{zero_from_ones}
 use Rattle.std.specs.Int.{IsBitSet, trailing_zeros, w64}
 use Rattle.glob_pattern.specs.Matching.Splits.{Table}
-use Rattle.glob_pattern.specs.Private.Positions.{AreShapeMasks, AliveWord, TakenWord}
+use Rattle.glob_pattern.specs.Private.Positions.{AreShapeMasks, AliveWord, TakenWord, IsPositionSet, AnswersAlike, KeepsPositions}
 use Rattle.glob_pattern.proofs.BitLemmas.LowestBits.{lowest_set}
 use Rattle.glob_pattern.proofs.BitLemmas.SetBits.{IsBitSet-zero}
 use Rattle.glob_pattern.proofs.PositionLemmas.PositionWords.{TakenWord-asked}
 use Rattle.glob_pattern.specs.declared.matcher.Shape.{Shape}
 use Rattle.glob_pattern.specs.declared.matcher.shape_masks.ShapeMasks.{ShapeMasks}
+use Rattle.glob_pattern.specs.declared.matcher.many_words.PositionWord.{PositionWord}
 
 -- the position set is the same after n characters that the same tokens take, if it is so after each of them
 pub AliveWord-kept : (table : Table) (shapes : List Shape) (masks : ShapeMasks) → AreShapeMasks shapes 0 (length shapes) masks → (positions took k n : ℕ)
@@ -49,3 +50,23 @@ room-left shapes asked characters old new few forward within =
     let parts : characters - new + (new - old) ≡ characters - old = omega arith in
     let both : shapes * (characters - new + (new - old)) ≡ shapes * (characters - new) + shapes * (new - old) = mul-add shapes (characters - new) (new - old) in
     omega (arith, rw parts at both, mul-le-mul_right (new - old) few)
+
+-- a position set that characters keep, after which no component begins, and others where `across` says so, too
+keeps-either : (shapes : List Shape) (words : List PositionWord) (across opening : Bool) → KeepsPositions shapes false words → (IsTrue across → KeepsPositions shapes true words)
+    → (across ≡ false → opening ≡ false) → KeepsPositions shapes opening words
+keeps-either shapes words across false closed opened inside = closed
+keeps-either shapes words true true closed opened inside = opened refl
+keeps-either shapes words false true closed opened inside = absurd (false≢true (sym (inside refl)))
+
+-- is kept by n of them
+pub positions-kept : (table : Table) (shapes : List Shape) (words : List PositionWord) (across : Bool) (k n : ℕ)
+    → KeepsPositions shapes false words → (IsTrue across → KeepsPositions shapes true words)
+    → ((m : ℕ) → k ≤ m → m < k + n → AnswersAlike table m words)
+    → (across ≡ false → (m : ℕ) → k < m → m ≤ k + n → table.opens m ≡ false)
+    → IsPositionSet table shapes k words → IsPositionSet table shapes (k + n) words
+positions-kept table shapes words across k zero closed opened answers inside here =
+    let at : k + 0 ≡ k = omega arith in rw at here
+positions-kept table shapes words across k (suc n) closed opened answers inside here =
+    let before = positions-kept table shapes words across k n closed opened (λ m le lt. answers m le (omega arith)) (λ e m lt le. inside e m lt (omega arith)) here in
+    let at : k + suc n ≡ k + n + 1 = omega arith in
+    rw at (keeps-either shapes words across (table.opens (k + n + 1)) closed opened (λ e. inside e (k + n + 1) (omega arith) (omega arith)) table (k + n) before refl (answers (k + n) (omega arith) (omega arith)))

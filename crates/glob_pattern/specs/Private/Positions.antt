@@ -1,6 +1,6 @@
 -- Positions among shapes as bits: words of 64 bits that say which shapes there are and what pieces they may have, and
 -- of leading shapes whether they are alive.
-use Rattle.std.specs.Prelude.{◌≡◌, ℕ, ◌+◌, ◌-◌, ◌*◌, ◌/◌, ◌<◌, ◌≤◌, ◌≢◌, ◌↔◌, Bool, List, length, slice_index_or, IsTrue}
+use Rattle.std.specs.Prelude.{◌≡◌, ℕ, ◌+◌, ◌-◌, ◌*◌, ◌/◌, ◌<◌, ◌≤◌, ◌≢◌, ◌↔◌, Bool, List, length, slice_index_or, bit_and, IsTrue}
 use Rattle.std.specs.Int.{IsBitSet}
 use Rattle.glob_pattern.specs.Matching.Splits.{Table}
 use Rattle.glob_pattern.specs.Private.Prefixes.{PrefixSplits, IsAlive, HasTaken}
@@ -57,3 +57,30 @@ pub record IsPositionSet (table : Table) (shapes : List Shape) (k : ℕ) (words 
   pub count : length words ≡ length shapes / 64 + 1
   pub word : (i : ℕ) (d : PositionWord) → i < length words
       → IsPositionWord table shapes (64 * i) k (slice_index_or words i d)
+
+-- the tokens of a word that are alive
+abbrev pub asked_of : PositionWord → ℕ
+asked_of word = bit_and word.alive word.masks.tokens
+
+-- those of them that took the last character
+abbrev pub answer_of : PositionWord → ℕ
+answer_of word = bit_and word.took (asked_of word)
+
+-- of the tokens of the word that are alive, exactly those that took the last character take that after place k
+pub record AnswersWord (table : Table) (start k : ℕ) (word : PositionWord) : Type 0 where
+  pub takes : (j : ℕ) → j < 64
+      → IsBitSet (answer_of word) j
+      ↔ (IsBitSet (asked_of word) j × IsTrue (table.takes (start + j) k))
+
+-- the same of all words, 64 tokens in each
+pub record AnswersAlike (table : Table) (k : ℕ) (words : List PositionWord) : Type 0 where
+  pub word : (i : ℕ) (d : PositionWord) → i < length words
+      → AnswersWord table (64 * i) k (slice_index_or words i d)
+
+-- The words are also the position set of the next place, if exactly the tokens that took the last character take the
+-- next one, and a component begins after it or not, as `opens` says.
+abbrev pub KeepsPositions : List Shape → (opens : Bool) → List PositionWord → Type 0
+KeepsPositions shapes opens words =
+    (table : Table) (k : ℕ) → IsPositionSet table shapes k words
+    → opens ≡ table.opens (k + 1) → AnswersAlike table k words
+    → IsPositionSet table shapes (k + 1) words

@@ -1,18 +1,24 @@
 //! Matching with any number of shapes, whose position set is a list of words.
-ghost use Rattle.std.specs.Prelude.{◌≡◌, ℕ, ◌+◌, ◌-◌, ◌*◌, ◌/◌, ◌^◌, ◌<◌, ◌≤◌, ◌↔◌, false, length, IfOk, IsTrue};
+ghost use Rattle.std.specs.Prelude.{◌≡◌, ℕ, ◌+◌, ◌-◌, ◌*◌, ◌/◌, ◌^◌, ◌<◌, ◌≤◌, ◌↔◌, false, length, IfOk, IsTrue, count_ones};
 ghost use Rattle.glob_pattern.specs.Matching.Splits.{Table, Splits};
 ghost use Rattle.glob_pattern.specs.Private.Prefixes.{IsAlive, IsTakenPrefix};
-ghost use Rattle.glob_pattern.specs.Private.Positions.{IsPositionSet};
+ghost use Rattle.std.specs.Int.{IsBitSet};
+ghost use Rattle.glob_pattern.specs.Private.Positions.{IsPositionSet, asked_of, answer_of, AnswersWord, AnswersAlike, KeepsPositions};
 
 use super::shape_masks::{ShapeMasks, last_before};
 use super::{Judge, Shape};
 use std::alloc::{AllocError, Allocator};
 
-/// Sixty-four neighbouring positions: the masks of the shapes after them, and which positions are alive.
+/// How many characters the first look ahead goes over.
+const LEAST_REACH: usize = 8;
+
+/// Sixty-four neighbouring positions: the masks of the shapes after them, which positions are alive, and which of the
+/// shapes' tokens took the last character.
 #[derive(Clone, Copy)]
 pub struct PositionWord {
     pub masks: ShapeMasks,
     pub alive: u64,
+    pub took: u64,
 }
 
 /// The position set of a place: a word for each 64 positions.
@@ -20,6 +26,10 @@ pub struct PositionWord {
 struct ManyWordSet<'a, A: Allocator> {
     shapes: &'a [Shape],
     words: Vec<PositionWord, A>,
+    // whether the last step left each word as it was
+    still: bool,
+    // how many characters the next look ahead goes over
+    reach: usize,
 }
 
 /// Whether the characters split, by a judge that has stepped over those of the first `prefix` shapes. Fails only if the
@@ -53,8 +63,42 @@ pub fn run_many_words<A: Allocator, J: Judge>(
         if !positions.step(judge) {
             return Ok(false);
         }
+        positions.skip(judge);
     }
     Ok(positions.is_whole())
+}
+
+impl PositionWord {
+    /// Of the tokens that are alive, those that took the last character.
+    #[inline(always)]
+    fn answer(self) -> u64
+        ensures { result ≡ answer_of self }
+    {
+        self.took & (self.alive & self.masks.tokens)
+    }
+
+    /// How many of the next characters, `most` at most, exactly the tokens take that took the last one. This is the word
+    /// of number `n`. Without tokens that are alive, it is `most`.
+    #[inline(always)]
+    fn alike<J: Judge>(self, judge: &J, n: usize, most: usize, across: bool) -> usize
+        requires within { J.place judge.now ≤ (J.table judge.now).characters }
+        requires tokens { (j : ℕ) → IsBitSet (asked_of self) j
+            → 64 * n + j < (J.table judge.now).tokens }
+        ensures most { result ≤ most }
+        ensures within { 0 < count_ones (asked_of self)
+            → J.place judge.now + result ≤ (J.table judge.now).characters }
+        ensures took { (k : ℕ) → J.place judge.now ≤ k → k < J.place judge.now + result
+            → AnswersWord (J.table judge.now) (64 * n) k self }
+        ensures inside { 0 < count_ones (asked_of self) → across ≡ false
+            → (k : ℕ) → J.place judge.now < k → k ≤ J.place judge.now + result
+            → (J.table judge.now).opens k ≡ false }
+    {
+        let asked = self.alive & self.masks.tokens;
+        if asked == 0 {
+            return most;
+        }
+        judge.alike(n, asked, self.answer(), most, across)
+    }
 }
 
 impl<'a, A: Allocator> ManyWordSet<'a, A> {
@@ -71,10 +115,19 @@ impl<'a, A: Allocator> ManyWordSet<'a, A> {
         for n in 0..count {
             let masks = ShapeMasks::new(shapes, 64 * n);
             let (alive, next) = masks.advance(last_before(prefix, 64 * n), opens, whole);
-            words.push(PositionWord { masks, alive })?;
+            words.push(PositionWord {
+                masks,
+                alive,
+                took: 0,
+            })?;
             whole = next;
         }
-        Ok(ManyWordSet { shapes, words })
+        Ok(ManyWordSet {
+            shapes,
+            words,
+            still: false,
+            reach: LEAST_REACH,
+        })
     }
 
     /// Goes from the position set of one place to that of the next, to which the judge has stepped. Returns whether any
@@ -106,15 +159,107 @@ impl<'a, A: Allocator> ManyWordSet<'a, A> {
         let opens = judge.opens();
         let mut whole = false;
         let mut any = 0;
+        let mut changed = 0;
         for n in 0..self.words.len() {
             let word = self.words[n];
             let took = judge.takes_each(n, word.alive & word.masks.tokens);
             let (alive, next) = word.masks.advance(took, opens, whole);
-            self.words[n] = PositionWord { alive, ..word };
+            self.words[n] = PositionWord {
+                alive,
+                took,
+                ..word
+            };
             whole = next;
             any |= alive;
+            changed |= (alive ^ word.alive) | (took ^ word.took);
         }
+        self.still = changed == 0;
         any != 0
+    }
+
+    /// Steps over characters that keep the position set.
+    #[inline(always)]
+    fn skip<J: Judge>(&mut self, judge: &mut J)
+        requires within { J.place judge.old ≤ (J.table judge.old).characters }
+        requires tokens { length self.old.shapes.now
+            ≤ (J.table judge.old).tokens }
+        requires room { J.count judge.old + length self.old.shapes.now
+            * ((J.table judge.old).characters - J.place judge.old) < 2 ^ 128 }
+        requires positions { IsPositionSet (J.table judge.old) self.old.shapes.now
+            (J.place judge.old) self.old.words.items }
+        ensures shapes { self.new.shapes.now ≡ self.old.shapes.now }
+        ensures positions { IsPositionSet (J.table judge.old) self.old.shapes.now
+            (J.place judge.new) self.new.words.items }
+        ensures alive { (n : ℕ) → n ≤ length self.old.shapes.now
+            → IsAlive (J.table judge.old) self.old.shapes.now n (J.place judge.new)
+            → IsAlive (J.table judge.old) self.old.shapes.now n (J.place judge.old) }
+        ensures most { J.count judge.new + length self.old.shapes.now
+            * ((J.table judge.old).characters - J.place judge.new)
+            ≤ J.count judge.old + length self.old.shapes.now
+            * ((J.table judge.old).characters - J.place judge.old) }
+        ensures least { J.count judge.old + J.place judge.new
+            ≤ J.count judge.new + J.place judge.old }
+        ensures forward { J.place judge.old ≤ J.place judge.new }
+        ensures within { J.place judge.new ≤ (J.table judge.old).characters }
+        ensures same { J.table judge.new ≡ J.table judge.old }
+    {
+        if !self.still || !self.keeps(false) {
+            return;
+        }
+        let across = self.keeps(true);
+        let (len, questions) = self.alike(&*judge, across);
+        if questions == 0 {
+            return;
+        }
+        self.reach = next_reach(self.reach, len);
+        judge.step_over(len, questions);
+    }
+
+    /// Whether this position set is that of the next place, too, if exactly the tokens that took the last character take
+    /// the next one. `opens`: a component begins after it.
+    fn keeps(&self, opens: bool) -> bool
+        ensures { IsTrue result
+            → KeepsPositions self.now.shapes.now opens self.now.words.items }
+    {
+        let mut whole = false;
+        for n in 0..self.words.len() {
+            let word = self.words[n];
+            let (alive, next) = word.masks.advance(word.answer(), opens, whole);
+            if alive != word.alive {
+                return false;
+            }
+            whole = next;
+        }
+        true
+    }
+
+    /// How many of the next characters exactly the tokens take that took the last one, as far as the set looks ahead, and
+    /// how many tokens are asked about each.
+    #[inline(always)]
+    fn alike<J: Judge>(&self, judge: &J, across: bool) -> (usize, u64)
+        requires within { J.place judge.now ≤ (J.table judge.now).characters }
+        requires tokens { length self.now.shapes.now
+            ≤ (J.table judge.now).tokens }
+        requires positions { IsPositionSet (J.table judge.now) self.now.shapes.now
+            (J.place judge.now) self.now.words.items }
+        ensures few { result.1 ≤ length self.now.shapes.now }
+        ensures within { 0 < result.1
+            → J.place judge.now + result.0 ≤ (J.table judge.now).characters }
+        ensures took { (k : ℕ) → J.place judge.now ≤ k → k < J.place judge.now + result.0
+            → AnswersAlike (J.table judge.now) k self.now.words.items }
+        ensures inside { 0 < result.1 → across ≡ false
+            → (k : ℕ) → J.place judge.now < k → k ≤ J.place judge.now + result.0
+            → (J.table judge.now).opens k ≡ false }
+    {
+        let mut len = self.reach;
+        let mut questions = 0u64;
+        for n in 0..self.words.len() {
+            let word = self.words[n];
+            let asked = word.alive & word.masks.tokens;
+            len = word.alike(judge, n, len, across);
+            questions = questions.saturating_add(u64::from(asked.count_ones()));
+        }
+        (len, questions)
     }
 
     /// Whether the characters split, as the position set of the last place says.
@@ -127,5 +272,15 @@ impl<'a, A: Allocator> ManyWordSet<'a, A> {
     {
         let end = self.shapes.len();
         (self.words[end / 64].alive >> (end % 64)) & 1 != 0
+    }
+}
+
+/// How many characters the next look ahead goes over, after one over `reach` characters that found `len`. So it goes over
+/// no more than twice what the last one found, or over a few.
+fn next_reach(reach: usize, len: usize) -> usize {
+    if len < reach {
+        LEAST_REACH
+    } else {
+        reach.saturating_mul(2)
     }
 }

@@ -1,4 +1,4 @@
-ghost use Rattle.std.specs.Prelude.{◌≡◌, ℕ, ◌+◌, ◌*◌, ◌^◌, ◌<◌, ◌≤◌, length, take, IsTrue, chars};
+ghost use Rattle.std.specs.Prelude.{◌≡◌, ℕ, ◌+◌, ◌*◌, ◌^◌, ◌<◌, ◌≤◌, ◌↔◌, false, length, take, IsTrue, chars};
 ghost use Rattle.std.specs.Str.{IsAscii};
 ghost use Rattle.std.specs.Int.{IsBitSet};
 ghost use Rattle.std.specs.Str.Iter.{chars_rest};
@@ -92,6 +92,38 @@ impl<'a, A: Allocator> TextJudge<'a, A> {
         let mut judge = TextJudge::new(tokens, masks, text, options);
         judge.takes_rests = true;
         judge
+    }
+
+    /// How many of the next bytes, `most` at most, are characters of ASCII that exactly those of `took` take, of the 64
+    /// tokens of a word that are asked. They end before a place where a component begins, unless `across` is true.
+    #[inline(always)]
+    fn leading_alike(&self, word: usize, asked: u64, took: u64, most: usize, across: bool) -> usize
+        requires { (j : ℕ)
+            → IsBitSet asked j → 64 * word + j < length self.now.tokens.now }
+        ensures most { result ≤ most }
+        ensures within { result ≤ length (chars_rest self.now.rest) }
+        ensures ascii { IsAscii (take result (chars_rest self.now.rest)) }
+        ensures place { place_before (chars self.now.text.now) (chars (chars_rest self.now.rest))
+            + result ≤ length (chars self.now.text.now) }
+        ensures took { let text = chars self.now.text.now in
+            let place = place_before text (chars (chars_rest self.now.rest)) in
+            (k : ℕ) → place ≤ k → k < place + result → (j : ℕ) → j < 64
+            → IsBitSet took j
+            ↔ (IsBitSet asked j × IsTrue
+            ((table_of self.now.options self.now.tokens.now text).takes (64 * word + j) k)) }
+        ensures inside { let text = chars self.now.text.now in
+            let place = place_before text (chars (chars_rest self.now.rest)) in
+            across ≡ false → (k : ℕ) → place < k → k ≤ place + result
+            → (table_of self.now.options self.now.tokens.now text).opens k ≡ false }
+    {
+        let dots = self.options.require_literal_leading_dot;
+        // Without tokens there are no masks. At a component start the dot rule may exclude a character.
+        if asked == 0 || (dots && self.opens) {
+            return 0;
+        }
+        let masks = self.masks;
+        let bytes = self.rest.as_str().as_bytes();
+        masks[word].taken_alike(bytes, most, asked, took, self.options, across && !dots)
     }
 
     /// Steps over the next `len` bytes, which are characters of ASCII. Returns how many it has stepped over.
@@ -207,16 +239,25 @@ impl<A: Allocator> Judge for TextJudge<'_, A> {
 
     #[inline(always)]
     fn skip(&mut self, asked: u64, took: u64, across: bool) {
-        let dots = self.options.require_literal_leading_dot;
-        // Without tokens there are no masks. At a component start the dot rule may exclude a character.
-        if asked == 0 || (dots && self.opens) {
-            return;
-        }
-        let masks = self.masks;
-        let bytes = self.rest.as_str().as_bytes();
-        let len = masks[0].taken_alike(bytes, asked, took, self.options, across && !dots);
+        let len = self.leading_alike(0, asked, took, usize::MAX, across);
         let passed = self.pass(len);
         self.count += u128::from(asked.count_ones()) * passed as u128;
+    }
+
+    #[inline(always)]
+    fn alike(&self, word: usize, asked: u64, took: u64, most: usize, across: bool) -> usize {
+        self.leading_alike(word, asked, took, most, across)
+    }
+
+    #[inline(always)]
+    fn step_over(&mut self, most: usize, questions: u64) {
+        let Some(bytes) = self.rest.as_str().as_bytes().get(..most) else {
+            return;
+        };
+        if bytes.is_ascii() {
+            let passed = self.pass(most);
+            self.count += u128::from(questions) * passed as u128;
+        }
     }
 
     #[inline(always)]

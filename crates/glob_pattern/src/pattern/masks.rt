@@ -114,17 +114,19 @@ impl TokenMasks {
         (asked & free & same & !self.mixed, asked & self.mixed)
     }
 
-    /// How many of the first bytes can be passed at once: each is of ASCII, and exactly those of `took`, of the tokens
-    /// that are asked, take it where no component begins. It ends before a `/`, unless `across` is true.
+    /// How many of the first bytes, `most` at most, can be passed at once: each is of ASCII, and exactly those of `took`,
+    /// of the tokens that are asked, take it where no component begins. It ends before a `/`, unless `across` is true.
     #[inline(always)]
     pub fn taken_alike(
         &self,
         bytes: &[u8],
+        most: usize,
         asked: u64,
         took: u64,
         options: MatchOptions,
         across: bool,
     ) -> usize
+        ensures most { result ≤ most }
         ensures within { result ≤ length bytes.now }
         ensures ascii { IsAscii (take result bytes.now) }
         ensures alike { (k : ℕ) → k < result
@@ -132,11 +134,12 @@ impl TokenMasks {
         ensures inside { across ≡ false → (k : ℕ) → k < result
             → slice_index_or bytes.now k 0 ≢ slash }
     {
-        let end = end_of_names(across);
+        let end = bytes.len().min(most);
+        let separator = end_of_names(across);
         let mut place = 0;
-        while place < bytes.len() {
+        while place < end {
             let byte = bytes[place];
-            if !byte.is_ascii() || byte == end {
+            if !byte.is_ascii() || byte == separator {
                 return place;
             }
             let (taken, left) = self.take_known(asked, options, false, byte as char);

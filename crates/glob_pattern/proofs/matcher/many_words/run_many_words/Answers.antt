@@ -22,16 +22,18 @@ loop-positions-preserved g c =
     let table : g.J.Judge.table c.step.new.self ≡ g.J.Judge.table c.args.judge.now = c.step.ensures.same ∙ i.same in
     let stepped = rw table at (c.step.ensures.stepped c.loop-positions-test.true) in
     let h = rw (table, i.shapes) at c.step-in-loop-positions.ensures in
+    let skipped = rw (h.same, h.shapes) at c.skip.ensures in
     let room = mul-left (length c.args.shapes.now) (g.J.Judge.table c.args.judge.now).characters (g.J.Judge.place c.loop-positions.judge) (omega (arith, stepped.0, stepped.1)) in
+    let least =
+    asked_more (g.J.Judge.table c.args.judge.now) c.args.shapes.now (g.J.Judge.place c.args.judge.now) (g.J.Judge.count c.args.judge.now) (g.J.Judge.place c.loop-positions.judge) (g.J.Judge.place c.step.new.self) (g.J.Judge.count c.loop-positions.judge) (g.J.Judge.count c.step-in-loop-positions.new.judge) stepped.0 (rw c.step.ensures.count at h.least) i.least in
     record {
-      shapes = h.shapes;
-      positions = rw h.place h.positions;
-      within = rw h.place stepped.1;
-      most = rw (h.place, stepped.0) (omega (arith, room, h.most, c.step.ensures.count, i.most));
-      least = rw h.place
-          (asked_more (g.J.Judge.table c.args.judge.now) c.args.shapes.now (g.J.Judge.place c.args.judge.now) (g.J.Judge.count c.args.judge.now) (g.J.Judge.place c.loop-positions.judge) (g.J.Judge.place c.step.new.self) (g.J.Judge.count c.loop-positions.judge) (g.J.Judge.count c.step-in-loop-positions.new.judge) stepped.0 (rw c.step.ensures.count at h.least) i.least);
-      monotone = omega (arith, h.monotone, i.monotone, c.step.ensures.count);
-      same = h.same;
+      shapes = skipped.shapes;
+      positions = skipped.positions;
+      within = skipped.within;
+      most = omega (arith, skipped.most, rw (h.place, stepped.0) at skipped.most, rw h.place at skipped.most, room, h.most, h.place, stepped.0, c.step.ensures.count, i.most);
+      least = λ n le alive. omega (arith, least n le (rw h.place at (skipped.alive n le alive)), skipped.least, h.place);
+      monotone = omega (arith, h.monotone, i.monotone, c.step.ensures.count, skipped.least, skipped.forward);
+      same = skipped.same;
     }
 
 pub returns-clause-least : goal.returns-clause-least

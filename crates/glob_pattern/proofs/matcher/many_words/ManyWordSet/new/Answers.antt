@@ -16,7 +16,7 @@ loop-n-preserved g c =
     let i = c.loop-n.invariant in
     let shapes = c.args.shapes.now in
     let start = 64 * c.loop-n.n in
-    let word : PositionWord = record { masks = c.new-masks.result; alive = c.advance-alive.result.0 } in
+    let word : PositionWord = record { masks = c.new-masks.result; alive = c.advance-alive.result.0; took = 0 } in
     record {
       count = rw c.in_ok-push.ensures.items (omega (arith, length_push c.loop-n.words.items word, i.count));
       positions = λ table reached at.

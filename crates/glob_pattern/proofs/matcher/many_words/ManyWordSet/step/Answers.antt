@@ -95,7 +95,7 @@ returns-clause-dead g c = λ none.
     let all : c.loop-n.n ≡ length words = omega (arith, i.count) in
     let zero_any : c.loop-n.any ≡ 0 = eqb-true c.loop-n.any 0 (not-false (nat_eq c.loop-n.any 0) none) in
     let positions = IsPositionSet-from_part table shapes (g.J.Judge.place c.args.judge.now) c.loop-n.n words c.loop-n.whole (i.count ∙ c.requires.positions.count) all i.part in
-    dead-from_zeros table shapes (g.J.Judge.place c.args.judge.now) words (record { masks = record { tokens = 0; growing = 0; bound = 0 }; alive = 0 }) positions (rw all at (i.none zero_any))
+    dead-from_zeros table shapes (g.J.Judge.place c.args.judge.now) words (record { masks = record { tokens = 0; growing = 0; bound = 0 }; alive = 0; took = 0 }) positions (rw all at (i.none zero_any))
 
 pub returns-clause-least : goal.returns-clause-least
 returns-clause-least g c = λ m le alive.

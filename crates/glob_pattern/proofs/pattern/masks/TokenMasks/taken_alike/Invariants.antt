@@ -5,6 +5,7 @@ use Rattle.glob_pattern.proofs.pattern.masks.TokenMasks.taken_alike.Given as goa
 
 abbrev pub invariant-loop-place : goal.invariant-loop-place
 invariant-loop-place l = record {
+  most : l.place ≤ l.most;
   within : l.place ≤ length l.bytes;
   alike : (k : ℕ) → k < l.place → IsAlike l.self l.asked l.took l.options (slice_index_or l.bytes k 0);
   inside : l.across ≡ false → (k : ℕ) → k < l.place → slice_index_or l.bytes k 0 ≢ slash;
