@@ -22,9 +22,9 @@ pub fn shapes_of<A: Allocator + Copy>(
 ) -> Result<Vec<Shape, A>, AllocError>
     ensures { IfOk result (λ shapes. shapes.items ≡ map shape_of tokens.now) }
 {
-    let mut shapes = Vec::with_capacity(alloc, tokens.len())?;
-    for token in tokens {
-        shapes.push(token.shape())?;
+    let mut shapes = vec![in alloc; Shape::One; tokens.len()]?;
+    for n in 0..tokens.len() {
+        shapes[n] = tokens[n].shape();
     }
     Ok(shapes)
 }
