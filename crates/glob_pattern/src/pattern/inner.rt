@@ -59,6 +59,7 @@ pub fn may_match_text<A: Allocator>(pattern: &Pattern<A>, str: &str, options: Ma
 /// With case too: few texts have them in another case alone, and these are told by the match.
 #[inline(never)]
 fn has_inner_text<A: Allocator>(pattern: &Pattern<A>, str: &str) -> bool
+    requires { 16 ≤ length str.now }
     ensures { result ≡ false → (o : MatchOptions)
         → ¬ (Matches o (chars pattern.now) (chars str.now)) }
 {

@@ -8,9 +8,10 @@ use std::simd::prelude::*;
 /// How many bytes are searched at once.
 const LANES: usize = 16;
 
-/// Whether the bytes have those of the stretch somewhere, where letters of ASCII in either case are the same. `rare` is
-/// the place of one of the stretch, which is searched for first.
+/// Whether the bytes, sixteen or more, have those of the stretch somewhere, where letters of ASCII in either case are the
+/// same. `rare` is the place of one of the stretch, which is searched for first.
 pub fn contains_small(bytes: &[u8], stretch: &[u8], rare: usize) -> bool
+    requires { 16 ≤ length bytes.now }
     ensures { ContainsSmall bytes.now stretch.now → IsTrue result }
 {
     if rare >= stretch.len() {
@@ -40,15 +41,17 @@ pub fn contains_small(bytes: &[u8], stretch: &[u8], rare: usize) -> bool
 /// How many bytes from place `from` on, at most sixteen, come before the first that is one of the two.
 #[inline(always)]
 fn before_either(bytes: &[u8], from: usize, one: u8, other: u8) -> usize
-    requires { from < length bytes.now }
+    requires long { 16 ≤ length bytes.now }
+    requires within { from < length bytes.now }
     ensures within { from + result ≤ length bytes.now }
     ensures none { (k : ℕ) → from ≤ k → k < from + result
         → (slice_index_or bytes.now k 0 ≢ one) × (slice_index_or bytes.now k 0 ≢ other) }
 {
     if bytes.len() - from < LANES {
-        return usize::from(bytes[from] != one && bytes[from] != other);
+        before_byte_at_end(bytes, from, one).min(before_byte_at_end(bytes, from, other))
+    } else {
+        before_byte(bytes, from, one).min(before_byte(bytes, from, other))
     }
-    before_byte(bytes, from, one).min(before_byte(bytes, from, other))
 }
 
 /// How many of the sixteen bytes from place `from` on come before the first that is `x`; all sixteen without one.
@@ -64,6 +67,26 @@ fn before_byte(bytes: &[u8], from: usize, x: u8) -> usize
         LANES
     } else {
         found.trailing_zeros() as usize
+    }
+}
+
+/// The same where fewer than sixteen bytes are left, by the last sixteen: those before place `from` do not count.
+#[inline(always)]
+fn before_byte_at_end(bytes: &[u8], from: usize, x: u8) -> usize
+    requires long { 16 ≤ length bytes.now }
+    requires within { from < length bytes.now }
+    requires last { length bytes.now < from + 16 }
+    ensures { result ≡ position_or_len (λ b. b == x) (drop from bytes.now) }
+{
+    let start = bytes.len() - LANES;
+    let found = u8x16::from_slice(&bytes[start..])
+        .simd_eq(u8x16::splat(x))
+        .to_bitmask();
+    let left = found >> (from - start);
+    if left == 0 {
+        bytes.len() - from
+    } else {
+        left.trailing_zeros() as usize
     }
 }
 
