@@ -148,12 +148,12 @@ pub trait Judge {
             → (table self.old).opens k ≡ false }
     {}
 
-    /// How many of the next characters, `most` at most, 64 tokens answer alike: exactly those of `took`, of the tokens of
-    /// `asked`, take each. Bit n of both is token 64 · `word` + n. They end before a place where a component begins,
+    /// How many of the next characters, `most` at most, 64 tokens answer alike: exactly those of `took`, of the tokens
+    /// of `asked`, take each. Bit n of both is token 64 · `word` + n. They end before a place where a component begins,
     /// unless `across` is true. It may return fewer. The judge stays at its place, and nothing is counted.
     ///
-    /// So after one `step`, over the `a` of `abc`, `alike(0, 0b1, 0b1, 8, false)` may return 2, if token 0 takes `b` and
-    /// `c`. Each bit of `asked` must be of a token in the list.
+    /// So after one `step`, over the `a` of `abc`, `alike(0, 0b1, 0b1, 8, false)` may return 2, if token 0 takes `b`
+    /// and `c`. Each bit of `asked` must be of a token in the list.
     ///
     /// This body returns 0. A judge that knows the answers of many characters at once may have its own, and then
     /// [`step_over`](Self::step_over), too.
@@ -175,9 +175,9 @@ pub trait Judge {
         0
     }
 
-    /// Steps over further characters, `most` at most, and raises the count by `questions` for each. So after one `step`,
-    /// over the `a` of `abc`, `step_over(2, 3)` may step over `b` and `c`; then the count rises by 6. So many characters
-    /// must be left, and the count must have room for them.
+    /// Steps over further characters, `most` at most, and raises the count by `questions` for each. So after one
+    /// `step`, over the `a` of `abc`, `step_over(2, 3)` may step over `b` and `c`; then the count rises by 6. So many
+    /// characters must be left, and the count must have room for them.
     ///
     /// This body steps over none.
     #[inline]

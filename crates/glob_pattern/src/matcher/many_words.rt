@@ -9,8 +9,11 @@ use super::shape_masks::{ShapeMasks, last_before};
 use super::{Judge, Shape};
 use std::alloc::{AllocError, Allocator};
 
-/// How many characters the first look ahead goes over.
+/// How many characters a look ahead goes over, at least.
 const LEAST_REACH: usize = 8;
+
+/// How many steps in a row have to leave the words as they are before a look ahead, at most.
+const MOST_PATIENCE: usize = 64;
 
 /// Sixty-four neighbouring positions: the masks of the shapes after them, which positions are alive, and which of the
 /// shapes' tokens took the last character.
@@ -26,9 +29,19 @@ pub struct PositionWord {
 struct ManyWordSet<'a, A: Allocator> {
     shapes: &'a [Shape],
     words: Vec<PositionWord, A>,
-    // whether the last step left each word as it was
-    still: bool,
-    // how many characters the next look ahead goes over
+    outlook: Outlook,
+}
+
+/// When to look ahead for characters that keep the position set, and how far. A look that finds few makes the next one
+/// come later; one that finds many makes it go further. So looks cost a small part of what the steps cost, or less than
+/// the steps that they save.
+#[derive(Clone, Copy)]
+struct Outlook {
+    // how many steps in a row have left each word as it was
+    still: usize,
+    // how many such steps the next look waits for
+    patience: usize,
+    // how many characters it goes over
     reach: usize,
 }
 
@@ -77,8 +90,8 @@ impl PositionWord {
         self.took & (self.alive & self.masks.tokens)
     }
 
-    /// How many of the next characters, `most` at most, exactly the tokens take that took the last one. This is the word
-    /// of number `n`. Without tokens that are alive, it is `most`.
+    /// How many of the next characters, `most` at most, exactly the tokens take that took the last one. This is the
+    /// word of number `n`. Without tokens that are alive, it is `most`.
     #[inline(always)]
     fn alike<J: Judge>(self, judge: &J, n: usize, most: usize, across: bool) -> usize
         requires within { J.place judge.now ≤ (J.table judge.now).characters }
@@ -125,8 +138,7 @@ impl<'a, A: Allocator> ManyWordSet<'a, A> {
         Ok(ManyWordSet {
             shapes,
             words,
-            still: false,
-            reach: LEAST_REACH,
+            outlook: Outlook::new(),
         })
     }
 
@@ -164,16 +176,14 @@ impl<'a, A: Allocator> ManyWordSet<'a, A> {
             let word = self.words[n];
             let took = judge.takes_each(n, word.alive & word.masks.tokens);
             let (alive, next) = word.masks.advance(took, opens, whole);
-            self.words[n] = PositionWord {
-                alive,
-                took,
-                ..word
-            };
+            let place = &mut self.words[n];
+            place.alive = alive;
+            place.took = took;
             whole = next;
             any |= alive;
-            changed |= (alive ^ word.alive) | (took ^ word.took);
+            changed |= alive ^ word.alive;
         }
-        self.still = changed == 0;
+        self.outlook = self.outlook.stepped(changed == 0);
         any != 0
     }
 
@@ -203,7 +213,7 @@ impl<'a, A: Allocator> ManyWordSet<'a, A> {
         ensures within { J.place judge.new ≤ (J.table judge.old).characters }
         ensures same { J.table judge.new ≡ J.table judge.old }
     {
-        if !self.still || !self.keeps(false) {
+        if !self.outlook.is_due() || !self.keeps(false) {
             return;
         }
         let across = self.keeps(true);
@@ -211,12 +221,12 @@ impl<'a, A: Allocator> ManyWordSet<'a, A> {
         if questions == 0 {
             return;
         }
-        self.reach = next_reach(self.reach, len);
+        self.outlook = self.outlook.looked(len);
         judge.step_over(len, questions);
     }
 
-    /// Whether this position set is that of the next place, too, if exactly the tokens that took the last character take
-    /// the next one. `opens`: a component begins after it.
+    /// Whether this position set is that of the next place, too, if exactly the tokens that took the last character
+    /// take the next one. `opens`: a component begins after it.
     fn keeps(&self, opens: bool) -> bool
         ensures { IsTrue result
             → KeepsPositions self.now.shapes.now opens self.now.words.items }
@@ -233,8 +243,8 @@ impl<'a, A: Allocator> ManyWordSet<'a, A> {
         true
     }
 
-    /// How many of the next characters exactly the tokens take that took the last one, as far as the set looks ahead, and
-    /// how many tokens are asked about each.
+    /// How many of the next characters exactly the tokens take that took the last one, as far as the set looks ahead,
+    /// and how many tokens are asked about each.
     #[inline(always)]
     fn alike<J: Judge>(&self, judge: &J, across: bool) -> (usize, u64)
         requires within { J.place judge.now ≤ (J.table judge.now).characters }
@@ -251,7 +261,7 @@ impl<'a, A: Allocator> ManyWordSet<'a, A> {
             → (k : ℕ) → J.place judge.now < k → k ≤ J.place judge.now + result.0
             → (J.table judge.now).opens k ≡ false }
     {
-        let mut len = self.reach;
+        let mut len = self.outlook.reach;
         let mut questions = 0u64;
         for n in 0..self.words.len() {
             let word = self.words[n];
@@ -275,12 +285,50 @@ impl<'a, A: Allocator> ManyWordSet<'a, A> {
     }
 }
 
-/// How many characters the next look ahead goes over, after one over `reach` characters that found `len`. So it goes over
-/// no more than twice what the last one found, or over a few.
-fn next_reach(reach: usize, len: usize) -> usize {
-    if len < reach {
-        LEAST_REACH
-    } else {
-        reach.saturating_mul(2)
+impl Outlook {
+    /// Before the first step.
+    fn new() -> Self {
+        Outlook {
+            still: 0,
+            patience: 1,
+            reach: LEAST_REACH,
+        }
+    }
+
+    /// After a further step, which left each word as it was or did not.
+    #[inline(always)]
+    fn stepped(self, same: bool) -> Self {
+        let still = if same {
+            self.still.saturating_add(1)
+        } else {
+            0
+        };
+        Outlook { still, ..self }
+    }
+
+    /// Whether to look ahead now.
+    #[inline(always)]
+    fn is_due(self) -> bool {
+        self.still >= self.patience
+    }
+
+    /// After a look that found so many characters.
+    #[inline(always)]
+    fn looked(self, len: usize) -> Self {
+        let patience = if len < LEAST_REACH {
+            self.patience.saturating_mul(2).min(MOST_PATIENCE)
+        } else {
+            1
+        };
+        let reach = if len < self.reach {
+            LEAST_REACH
+        } else {
+            self.reach.saturating_mul(2)
+        };
+        Outlook {
+            patience,
+            reach,
+            ..self
+        }
     }
 }

@@ -114,8 +114,9 @@ impl TokenMasks {
         (asked & free & same & !self.mixed, asked & self.mixed)
     }
 
-    /// How many of the first bytes, `most` at most, can be passed at once: each is of ASCII, and exactly those of `took`,
-    /// of the tokens that are asked, take it where no component begins. It ends before a `/`, unless `across` is true.
+    /// How many of the first bytes, `most` at most, can be passed at once: each is of ASCII, and exactly those of
+    /// `took`, of the tokens that are asked, take it where no component begins. It ends before a `/`, unless `across`
+    /// is true.
     #[inline(always)]
     pub fn taken_alike(
         &self,

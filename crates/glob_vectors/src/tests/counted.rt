@@ -98,7 +98,7 @@ fn questions(rt: &(impl Abort + AllocGlobal), pattern: &str, text: &str) -> Resu
 }
 
 /// Patterns, each with texts that it matches and texts that it does not.
-const COUNTED: [(Parts<'static>, &[Parts<'static>]); 8] = [
+const COUNTED: [(Parts<'static>, &[Parts<'static>]); 9] = [
     (&[("", 1)], &[&[], &[("a", 1)]]),
     (
         &[("abc", 1)],
@@ -130,6 +130,14 @@ const COUNTED: [(Parts<'static>, &[Parts<'static>]); 8] = [
     (
         &[("*a", 40), ("z", 1)],
         &[&[("a", 60)], &[("a", 60), ("z", 1)]],
+    ),
+    (
+        &[("*a", 70), ("z", 1)],
+        &[
+            &[("a", 200), ("z", 1)],
+            &[("a", 90), ("b", 60), ("ab", 9), ("a", 50), ("z", 1)],
+            &[("a", 90), ("/", 1), ("a", 80), ("\u{e9}", 5), ("a/z", 1)],
+        ],
     ),
 ];
 

@@ -8,7 +8,7 @@ use std::test::Fail;
 /// text is refused for its end alone, which is tested first: each row runs the matcher.
 type Row = (Parts<'static>, Parts<'static>, bool);
 
-const ROWS: [Row; 17] = [
+const ROWS: [Row; 20] = [
     (&[("*a", 60), ("[b]", 1)], &[("a", 200), ("/", 1)], false),
     (&[("*a", 60), ("[c]b", 1)], &[("a", 200), ("b", 1)], false),
     (&[("*a", 6), ("*[b]", 1)], &[("a", 40)], false),
@@ -28,6 +28,21 @@ const ROWS: [Row; 17] = [
     (
         &[("*", 1), ("x/", 40), ("**/y", 1)],
         &[("x/", 40), ("a/b/y", 1)],
+        true,
+    ),
+    (
+        &[("**/*", 1), ("a*", 70), ("b", 1)],
+        &[("x/", 90), ("a", 150), ("b", 1)],
+        true,
+    ),
+    (
+        &[("**/*", 1), ("a*", 70), ("b", 1)],
+        &[("x/", 90), ("a", 69), ("x", 90), ("b", 1)],
+        false,
+    ),
+    (
+        &[("*a", 40), ("/b", 1)],
+        &[("a", 90), ("c", 90), ("a/b", 1)],
         true,
     ),
 ];

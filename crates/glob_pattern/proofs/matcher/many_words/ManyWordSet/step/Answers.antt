@@ -1,5 +1,6 @@
-use Rattle.std.proofs.Common.{◌≡◌, ◌+◌, ◌-◌, ◌*◌, ◌<◌, ◌≤◌, ◌∙◌, nat_eq, length, count_ones, bit_and, ⊎_elim, arith, length-set}
+use Rattle.std.proofs.Common.{◌≡◌, ◌+◌, ◌-◌, ◌*◌, ◌<◌, ◌≤◌, ◌∙◌, nat_eq, length, count_ones, bit_and, sym, ap, ⊎_elim, arith, length-set}
 use Rattle.std.proofs.lemmas.Bool.{cases_eq, cases_lt, eqb-true, not-false}
+use Rattle.std.proofs.lemmas.List.{get_or_default}
 use Rattle.glob_pattern.specs.Private.Positions.{IsPositionWord}
 use Rattle.glob_pattern.proofs.PositionLemmas.PositionWords.{asked-within, ones-asked, ones-asked_word, TakenWord-asked, none_taken-from_none_asked, asked-for_alive, whole-later}
 use Rattle.glob_pattern.proofs.PositionLemmas.ManyWords.{PositionsPart-start, PositionsPart-set, PositionsRest-set, NonePart-set, none-or, dead-from_zeros, IsPositionSet-from_part}
@@ -64,10 +65,11 @@ loop-n-preserved g c =
     let start_le : start ≤ length shapes = omega (arith, i.count) in
     let alive = c.advance-alive.ensures.alive table shapes start place word.masks taken c.opens-opens.ensures (i.part.whole_is start_le) in
     let past = c.advance-alive.ensures.whole table shapes start place word.masks taken c.opens-opens.ensures (i.part.whole_is start_le) in
+    let same : c.index_mut-place.result.now ≡ c.index-word.result.now = c.index_mut-place.ensures.value ∙ (get_or_default words n _ c.index-word.result.now lt ∙ sym c.index-word.ensures) in
     record {
       shapes = i.shapes;
       count = length-set words n _ ∙ i.count;
-      part = PositionsPart-set table shapes place n words c.loop-n.whole i.part _ (record { masks = word.masks; alive = alive }) _ past lt;
+      part = rw (ap (λ w. w.masks) same) (PositionsPart-set table shapes place n words c.loop-n.whole i.part (record { masks = masks; alive = c.advance-alive.result.0; took = c.takes_each-took.result }) (record { masks = word.masks; alive = alive }) _ past lt);
       rest = PositionsRest-set table shapes (place - 1) n words _ i.rest;
       none = λ e. let both = none-or _ _ e in NonePart-set n words _ lt (i.none both.0) both.1;
       most_words = omega (arith, h.count, i.most_words, few_word);
