@@ -8,7 +8,7 @@ ghost use Rattle.glob_lines.specs.Private.Gathering.{IsGathered};
 use crate::fault::LineFault;
 use crate::line_feeds::line_end;
 use crate::watch::Watch;
-use glob_pattern::{MatchOptions, Pattern, may_match};
+use glob_pattern::{MatchOptions, Pattern, match_tested, may_match};
 use std::alloc::{AllocError, Allocator};
 use std::io::{self, Read, Write};
 use std::str;
@@ -161,12 +161,12 @@ fn line_matches<B: Allocator + Copy>(
 ) -> Result<bool, AllocError>
     ensures { IfOk result (λ yes. IsTrue yes ↔ LineMatches options pattern.now line.now) }
 {
-    // The beginning and the end of a line say of most that they do not match, and cost less than the test for UTF-8.
+    // These tests say of most lines that they do not match, and cost less than the test for UTF-8.
     if !may_match(pattern, line, options) {
         return Ok(false);
     }
     match str::from_utf8(line) {
-        Ok(text) => pattern.matches_with(text, options),
+        Ok(text) => match_tested(pattern, text, options),
         Err(_) => Ok(false),
     }
 }

@@ -23,9 +23,9 @@ use crate::matcher::{self, Judge, Shape, ShapeMasks};
 use crate::options::MatchOptions;
 use crate::token::Token;
 use crate::token::bracket::Bracket;
-pub use ends::may_match;
 use ends::{least_length, plain_end, plain_start};
-use inner::{Stretch, inner_text, may_match_text};
+pub use inner::may_match;
+use inner::{Stretch, inner_text};
 use judge::TextJudge;
 use masks::TokenMasks;
 use std::alloc::{AllocError, Allocator, Global};
@@ -200,19 +200,10 @@ impl<A: Allocator + Copy> Pattern<A> {
             (λ yes. IsTrue yes ↔ Matches options (chars self.now) (chars str.now)) }
         ensures short { IsShort (chars self.now) → IsOk result }
     {
-        if !may_match_text(self, str, options) {
-            Ok(false)
-        } else if options == MatchOptions::new() {
-            self.matches_by_new_options(str)
-        } else if options == MatchOptions::default() {
-            self.matches_by_default_options(str)
-        } else if options == separator_options() {
-            self.matches_by_separator_options(str)
-        } else if options == strict_options() {
-            self.matches_by_strict_options(str)
-        } else {
-            self.matches_under(str, options)
+        if !may_match(self, str.as_bytes(), options) {
+            return Ok(false);
         }
+        match_tested(self, str, options)
     }
 
     /// The answer of [`matches`](Self::matches) by a loop that is compiled for `MatchOptions::new()` alone.
@@ -323,6 +314,31 @@ impl<A: Allocator + Copy> Pattern<A> {
         ensures short { IsShort (chars self.now) → IsOk result }
     {
         self.matches_with(path.as_str(), options)
+    }
+}
+
+/// The answer of [`matches_with`](Pattern::matches_with), and its error, for a text that has passed [`may_match`]: the
+/// tests of that are not made again. So after `may_match` of `*.rs` and the bytes of `main.rs` it is `true`.
+#[inline(always)]
+pub fn match_tested<A: Allocator + Copy>(
+    pattern: &Pattern<A>,
+    str: &str,
+    options: MatchOptions,
+) -> Result<bool, AllocError>
+    ensures answer { IfOk result
+        (λ yes. IsTrue yes ↔ Matches options (chars pattern.now) (chars str.now)) }
+    ensures short { IsShort (chars pattern.now) → IsOk result }
+{
+    if options == MatchOptions::new() {
+        pattern.matches_by_new_options(str)
+    } else if options == MatchOptions::default() {
+        pattern.matches_by_default_options(str)
+    } else if options == separator_options() {
+        pattern.matches_by_separator_options(str)
+    } else if options == strict_options() {
+        pattern.matches_by_strict_options(str)
+    } else {
+        pattern.matches_under(str, options)
     }
 }
 

@@ -13,11 +13,10 @@ use crate::token::Token;
 use crate::token::bracket::Bracket;
 use std::alloc::Allocator;
 
-/// Whether a text of these bytes may be one that the pattern matches. Where the answer is `false` it is none: so for
-/// `*.rs` and the bytes of `main.c`. The bytes need not be UTF-8. The test looks at their number, the first and the last
-/// of them alone.
+/// Whether a text of these bytes may be one that the pattern matches, by their number, the first and the last of them
+/// alone. Where the answer is `false` it is none.
 #[inline(always)]
-pub fn may_match<A: Allocator>(pattern: &Pattern<A>, bytes: &[u8], options: MatchOptions) -> bool
+pub fn has_ends<A: Allocator>(pattern: &Pattern<A>, bytes: &[u8], options: MatchOptions) -> bool
     ensures { result ≡ false → IsTrue (is_utf8 bytes.now)
         → ¬ (Matches options (chars pattern.now) (chars bytes.now)) }
 {

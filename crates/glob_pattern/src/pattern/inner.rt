@@ -1,12 +1,12 @@
 //! Plain characters inside a pattern, which stand in each text that it matches.
 ghost use Rattle.std.specs.Prelude.{◌≡◌, ◌<◌, ◌≤◌, false, length, IsTrue, chars};
-ghost use Rattle.std.specs.Str.{IsUtf8};
+ghost use Rattle.std.specs.Str.{IsUtf8, is_utf8};
 ghost use Rattle.glob_pattern.specs.Matching.Texts.{Matches};
 ghost use Rattle.glob_pattern.specs.Private.PlainEnds.{HoldsPlain, BeginsPlain, HasPlain};
 
 use crate::options::MatchOptions;
 use crate::pattern::Pattern;
-use crate::pattern::ends::may_match;
+use crate::pattern::ends::has_ends;
 use crate::pattern::letters::{contains_small, rarest};
 use crate::token::Token;
 use crate::token::bracket::Bracket;
@@ -41,33 +41,35 @@ impl Stretch {
     };
 }
 
-/// Whether the pattern may match the text: whether the text begins and ends as the pattern does, and has the plain
-/// characters inside the pattern. Where the answer is `false` there is no match.
+/// Whether a text of these bytes may be one that the pattern matches: whether it begins and ends as the pattern does,
+/// and has the plain characters inside the pattern. Where the answer is `false` it is none: so for `*.rs` and the bytes
+/// of `main.c`. The bytes need not be UTF-8.
 #[inline(always)]
-pub fn may_match_text<A: Allocator>(pattern: &Pattern<A>, str: &str, options: MatchOptions) -> bool
-    ensures { result ≡ false → ¬ (Matches options (chars pattern.now) (chars str.now)) }
+pub fn may_match<A: Allocator>(pattern: &Pattern<A>, bytes: &[u8], options: MatchOptions) -> bool
+    ensures { result ≡ false → IsTrue (is_utf8 bytes.now)
+        → ¬ (Matches options (chars pattern.now) (chars bytes.now)) }
 {
-    if !may_match(pattern, str.as_bytes(), options) {
+    if !has_ends(pattern, bytes, options) {
         return false;
     }
     pattern.inner.start == pattern.inner.end
-        || str.len() < SHORTEST_TEXT
-        || has_inner_text(pattern, str)
+        || bytes.len() < SHORTEST_TEXT
+        || has_inner_text(pattern, bytes)
 }
 
-/// Whether the text has the plain characters inside the pattern, where letters of ASCII in either case are the same.
+/// Whether the bytes have the plain characters inside the pattern, where letters of ASCII in either case are the same.
 /// With case too: few texts have them in another case alone, and these are told by the match.
 #[inline(never)]
-fn has_inner_text<A: Allocator>(pattern: &Pattern<A>, str: &str) -> bool
-    requires { 16 ≤ length str.now }
-    ensures { result ≡ false → (o : MatchOptions)
-        → ¬ (Matches o (chars pattern.now) (chars str.now)) }
+fn has_inner_text<A: Allocator>(pattern: &Pattern<A>, bytes: &[u8]) -> bool
+    requires { 16 ≤ length bytes.now }
+    ensures { result ≡ false → IsTrue (is_utf8 bytes.now)
+        → (o : MatchOptions) → ¬ (Matches o (chars pattern.now) (chars bytes.now)) }
 {
     let text = pattern.text.as_str();
     let Some(stretch) = text.get(pattern.inner.start..pattern.inner.end) else {
         return true;
     };
-    contains_small(str.as_bytes(), stretch.as_bytes(), pattern.inner.rare)
+    contains_small(bytes, stretch.as_bytes(), pattern.inner.rare)
 }
 
 /// The longest stretch of bytes of the pattern that are plain tokens, neither its first nor its last ones: `config` in

@@ -7,7 +7,7 @@ use Rattle.glob_pattern.proofs.Counts.{length-chars}
 use Rattle.glob_pattern.proofs.MatchingLemmas.PlainEnds.{StartsSame-from_match, EndsSame-from_match}
 use Rattle.glob_pattern.proofs.MatchingLemmas.PlainTokens.{one_character_each}
 use Rattle.glob_pattern.proofs.MatchingLemmas.Tokens.{TokensMatch-by_pattern}
-use Rattle.glob_pattern.proofs.pattern.ends.may_match.Goals as goal
+use Rattle.glob_pattern.proofs.pattern.ends.has_ends.Goals as goal
 
 pub returns-then-not-starts_same : goal.returns-then-not-starts_same
 returns-then-not-starts_same g c = λ _ utf8 matches.
