@@ -1,7 +1,8 @@
 //! The texts of paths.
-ghost use Rattle.std.specs.Prelude.{◌≡◌, IfOk, string_bytes};
+ghost use Rattle.std.specs.Prelude.{◌≡◌, ◌++◌, ◌∷◌, [], if◌then◌else◌, IfOk, string_bytes};
 ghost use Rattle.std.specs.List.{list_all};
-ghost use Rattle.glob_text.specs.Characters.{dot};
+ghost use Rattle.std.specs.Path.{with_separator};
+ghost use Rattle.glob_text.specs.Characters.{dot, slash};
 ghost use Rattle.glob_text.specs.Pieces.{begins_with, pieces};
 ghost use Rattle.glob_tree.specs.Paths.{child as child_text, join as join_text, stays as stays_text, is_here as is_here_text};
 
@@ -27,11 +28,18 @@ pub fn join<A: Allocator>(alloc: A, dir: &str, name: &str) -> Result<String<A>, 
     let room = dir.len().saturating_add(1).saturating_add(name.len());
     let mut path = String::with_capacity(alloc, room)?;
     path.push_str(dir)?;
-    if !dir.is_empty() && !dir.ends_with('/') {
+    if needs_separator(dir) {
         path.push('/')?;
     }
     path.push_str(name)?;
     Ok(path)
+}
+
+/// Whether a separator stands between the path and a name.
+fn needs_separator(dir: &str) -> bool
+    ensures { with_separator dir.now ≡ (if result then dir.now ++ slash ∷ [] else dir.now) }
+{
+    !dir.is_empty() && !dir.ends_with('/')
 }
 
 /// Whether the path is `.`, and further pieces that stay there.
