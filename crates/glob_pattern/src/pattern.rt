@@ -1,6 +1,6 @@
 ghost use Rattle.std.specs.Prelude.{◌≡◌, ◌*◌, ◌≤◌, ◌↔◌, [], length, IsTrue, IsOk, IfOk, IfErr, chars};
 ghost use Rattle.glob_pattern.specs.Matching.Short.{IsShort};
-ghost use Rattle.glob_pattern.specs.Private.Masks.{AreAllMasks};
+ghost use Rattle.glob_pattern.specs.Private.Masks.{AreMasksInOrder};
 ghost use Rattle.std.specs.Path.{path_bytes};
 ghost use Rattle.glob_pattern.specs.Grammar.Units.{IsAccepted};
 ghost use Rattle.glob_pattern.specs.Grammar.Faults.{Refuses};
@@ -59,7 +59,7 @@ pub struct Pattern<A: Allocator = Global> {
     // bytes of the text that are plain tokens, neither the first nor the last ones
     inner: Stretch,
     alloc: A,
-    ghost masked: { AreAllMasks tokens.items masks.items },
+    ghost masked: { AreMasksInOrder tokens.items masks.items },
 }
 
 impl<A: Allocator> Model for Pattern<A> {
@@ -108,8 +108,9 @@ impl<A: Allocator + Copy> Pattern<A> {
         let tokens = grammar::read_tokens(alloc, pattern)?;
         let shapes = grammar::shapes_of(alloc, tokens.as_slice())?;
         let shape_masks = ShapeMasks::new(shapes.as_slice(), 0);
-        let masks = masks::masks_of(alloc, tokens.as_slice())?;
         let least = least_length(tokens.as_slice());
+        // Tokens of one character each are asked one by one, and never by their masks.
+        let masks = masks::masks_of(alloc, tokens.as_slice(), least < tokens.len())?;
         let plain_end = plain_end(pattern, tokens.as_slice());
         let plain_start = plain_start(pattern, tokens.as_slice());
         let inner = inner_text(pattern, tokens.as_slice());

@@ -1,5 +1,5 @@
 -- Which tokens take which characters of ASCII, as bits of words of 64.
-use Rattle.std.specs.Prelude.{◌≡◌, ◌≢◌, ℕ, ◌+◌, ◌*◌, ◌/◌, ◌<◌, ◌↔◌, Bool, true, false, ◌&&◌, ◌||◌, not, nat_le, List, length, slice_index_or, IsTrue}
+use Rattle.std.specs.Prelude.{◌≢◌, ℕ, ◌+◌, ◌*◌, ◌<◌, ◌↔◌, Bool, true, false, ◌&&◌, ◌||◌, not, nat_le, List, length, slice_index_or, IsTrue}
 use Rattle.glob_pattern.specs.Grammar.Tokens.{Token, is_deep}
 use Rattle.std.specs.Int.{IsBitSet}
 use Rattle.std.specs.List.{list_any}
@@ -115,9 +115,8 @@ pub record AreMasks (tokens : List Token) (start end : ℕ) (masks : TokenMasks)
   pub negated : IsMask tokens start end is_negated masks.negated
   pub mixed : IsMask tokens start end is_mixed_bracket masks.mixed
 
--- the masks of all tokens, 64 in each
-pub record AreAllMasks (tokens : List Token) (list : List TokenMasks) : Type 0 where
-  pub count : length list ≡ (length tokens + 63) / 64
+-- each is the masks of 64 tokens, the first ones those of the first 64
+pub record AreMasksInOrder (tokens : List Token) (list : List TokenMasks) : Type 0 where
   pub each : (i : ℕ) (d : TokenMasks) → i < length list
       → AreMasks tokens (64 * i) (length tokens) (slice_index_or list i d)
 

@@ -4,12 +4,12 @@ ghost use Rattle.std.specs.Int.{IsBitSet};
 ghost use Rattle.std.specs.Str.Iter.{chars_rest};
 ghost use Rattle.glob_pattern.specs.Private.Stepping.{StandsBefore, place_before};
 ghost use Rattle.glob_pattern.specs.Private.TextTable.{table_of};
-ghost use Rattle.glob_pattern.specs.Private.Masks.{AreAllMasks};
+ghost use Rattle.glob_pattern.specs.Private.Masks.{AreMasksInOrder};
 
 use crate::matcher::Judge;
 use crate::options::MatchOptions;
 use crate::pattern::character_judge::take_left;
-use crate::pattern::masks::TokenMasks;
+use crate::pattern::masks::{TokenMasks, take_known};
 use crate::token::Token;
 use crate::token::bracket::Bracket;
 use crate::token::taking::takes;
@@ -35,7 +35,7 @@ pub struct TextJudge<'a, A: Allocator> {
     takes_rests: bool,
     // the rest of the text for which it did
     passed: &'a str,
-    ghost masked: { AreAllMasks tokens.now masks.now },
+    ghost masked: { AreMasksInOrder tokens.now masks.now },
     ghost stands: { StandsBefore (chars text.now) (chars (chars_rest rest)) current opened opens },
     ghost counts: { count + length (chars passed.now) < 2 ^ 128 },
 }
@@ -49,7 +49,7 @@ impl<'a, A: Allocator> TextJudge<'a, A> {
         text: &'a str,
         options: MatchOptions,
     ) -> Self
-        requires { AreAllMasks tokens.now masks.now }
+        requires { AreMasksInOrder tokens.now masks.now }
         ensures tokens { result.tokens.now ≡ tokens.now }
         ensures text { result.text.now ≡ text.now }
         ensures options { result.options ≡ options }
@@ -81,7 +81,7 @@ impl<'a, A: Allocator> TextJudge<'a, A> {
         text: &'a str,
         options: MatchOptions,
     ) -> Self
-        requires { AreAllMasks tokens.now masks.now }
+        requires { AreMasksInOrder tokens.now masks.now }
         ensures tokens { result.tokens.now ≡ tokens.now }
         ensures text { result.text.now ≡ text.now }
         ensures options { result.options ≡ options }
@@ -117,11 +117,11 @@ impl<'a, A: Allocator> TextJudge<'a, A> {
             → (table_of self.now.options self.now.tokens.now text).opens k ≡ false }
     {
         let dots = self.options.require_literal_leading_dot;
-        // Without tokens there are no masks. At a component start the dot rule may exclude a character.
-        if asked == 0 || (dots && self.opens) {
+        let masks = self.masks;
+        // At a component start the dot rule may exclude a character.
+        if word >= masks.len() || (dots && self.opens) {
             return 0;
         }
-        let masks = self.masks;
         let bytes = self.rest.as_str().as_bytes();
         masks[word].taken_alike(bytes, most, asked, took, self.options, across && !dots)
     }
@@ -197,13 +197,9 @@ impl<A: Allocator> Judge for TextJudge<'_, A> {
 
     #[inline(always)]
     fn takes_each(&mut self, word: usize, asked: u64) -> u64 {
-        // The word after the last token has no masks.
-        if asked == 0 {
-            return 0;
-        }
         self.count += u128::from(asked.count_ones());
         let masks = self.masks;
-        let (took, left) = masks[word].take_known(asked, self.options, self.opened, self.current);
+        let (took, left) = take_known(masks, word, asked, self.options, self.opened, self.current);
         if left == 0 {
             return took;
         }

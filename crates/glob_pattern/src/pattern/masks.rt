@@ -1,5 +1,5 @@
 //! Masks: for each 64 tokens, which of them take each character of ASCII, and which are wildcards or brackets.
-ghost use Rattle.std.specs.Prelude.{◌≡◌, ◌≢◌, ℕ, ◌+◌, ◌<◌, ◌≤◌, ◌⊎◌, ◌↔◌, true, false, List, length, take, slice_index_or, IsTrue, IfOk};
+ghost use Rattle.std.specs.Prelude.{◌≡◌, ◌≢◌, ℕ, ◌+◌, ◌*◌, ◌<◌, ◌≤◌, ◌⊎◌, ◌↔◌, true, false, List, length, take, slice_index_or, IsTrue, IfOk};
 ghost use Rattle.std.specs.Str.{IsAscii};
 ghost use Rattle.glob_text.specs.Characters.{slash};
 ghost use Rattle.glob_pattern.specs.Grammar.Brackets.{holds};
@@ -8,7 +8,7 @@ ghost use Rattle.glob_pattern.specs.Matching.Options.{new_options};
 ghost use Rattle.glob_pattern.specs.Matching.Taking.{takes};
 ghost use Rattle.glob_pattern.specs.Grammar.Tokens.{Token as Kept, is_deep};
 ghost use Rattle.glob_pattern.specs.declared.token.Token.TheVariants.{Any};
-ghost use Rattle.glob_pattern.specs.Private.Masks.{is_any_or_run, is_bracket, is_negated, is_mixed_bracket, is_wide, is_excluded, IsPut, IsClear, AreKinds, AreMasks, AreAllMasks, IsAlike, TakesBit};
+ghost use Rattle.glob_pattern.specs.Private.Masks.{is_any_or_run, is_bracket, is_negated, is_mixed_bracket, is_wide, is_excluded, IsPut, IsClear, AreKinds, AreMasks, AreMasksInOrder, IsAlike, TakesBit};
 
 use crate::options::MatchOptions;
 use crate::token::Token;
@@ -33,20 +33,47 @@ pub struct TokenMasks {
     mixed: u64,
 }
 
-/// The masks of all tokens, 64 in each. Fails only if allocation fails.
+/// The masks of all tokens, 64 in each, or none if they are not used. Fails only if allocation fails.
 pub fn masks_of<A: Allocator + Copy>(
     alloc: A,
     tokens: &[Token<Bracket<A>>],
+    used: bool,
 ) -> Result<Vec<TokenMasks, A>, AllocError>
-    ensures { IfOk result (λ masks. AreAllMasks tokens.now masks.items) }
+    ensures { IfOk result (λ masks. AreMasksInOrder tokens.now masks.items) }
 {
-    let count = tokens.len().div_ceil(64);
+    let count = if used { tokens.len().div_ceil(64) } else { 0 };
     let mut masks = Vec::with_capacity(alloc, count)?;
     for n in 0..count {
         masks.push(TokenMasks::NONE)?;
         masks[n].fill(tokens, 64 * n);
     }
     Ok(masks)
+}
+
+/// Of the tokens of a word that are asked, those that take the character by the masks, and those that the masks do not
+/// decide. The word after the last token has no masks, nor has a pattern without `*` and `**`.
+#[inline(always)]
+pub fn take_known(
+    masks: &[TokenMasks],
+    word: usize,
+    asked: u64,
+    options: MatchOptions,
+    opening: bool,
+    c: char,
+) -> (u64, u64)
+    ensures left { (j : ℕ) → IsBitSet result.1 j → IsBitSet asked j }
+    ensures taken { (tokens : List Kept) → AreMasksInOrder tokens masks.now
+        → (j : ℕ) → j < 64 → IsBitSet result.0 j
+        → IsBitSet asked j × TakesBit options opening c tokens (64 * word) j }
+    ensures all { (tokens : List Kept) → AreMasksInOrder tokens masks.now
+        → (j : ℕ) → j < 64 → 64 * word + j < length tokens
+        → IsBitSet asked j → TakesBit options opening c tokens (64 * word) j
+        → IsBitSet result.0 j ⊎ IsBitSet result.1 j }
+{
+    match masks.get(word) {
+        Some(masks) => masks.take_known(asked, options, opening, c),
+        None => (0, asked),
+    }
 }
 
 impl TokenMasks {

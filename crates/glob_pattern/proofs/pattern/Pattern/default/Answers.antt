@@ -1,7 +1,7 @@
 use Rattle.std.proofs.Common.{[], refl, arith}
 use Rattle.std.proofs.lemmas.Str.{chars-nil}
 use Rattle.glob_pattern.specs.Grammar.Units.{HasTokens}
-use Rattle.glob_pattern.specs.Private.Masks.{AreAllMasks}
+use Rattle.glob_pattern.specs.Private.Masks.{AreMasksInOrder}
 use Rattle.glob_pattern.specs.Private.PlainEnds.{EndsPlain, HoldsPlain}
 use Rattle.glob_pattern.proofs.GrammarLemmas.PlainUnits.{StartsPlain-none}
 use Rattle.glob_pattern.proofs.pattern.Pattern.default.Goals as goal
@@ -11,8 +11,8 @@ HasTokens-nil : HasTokens [] []
 HasTokens-nil = ([], refl, refl)
 
 -- and no masks
-AreAllMasks-nil : AreAllMasks [] []
-AreAllMasks-nil = record { count = refl; each = λ i d lt. absurd (omega arith) }
+AreMasksInOrder-nil : AreMasksInOrder [] []
+AreMasksInOrder-nil = record { each = λ i d lt. absurd (omega arith) }
 
 -- nor a plain end
 EndsPlain-nil : EndsPlain [] [] 0
@@ -22,7 +22,7 @@ HoldsPlain-nil : HoldsPlain [] [] 0 0
 HoldsPlain-nil = record { plain = []; are = record { front = []; back = []; tokens_are = refl }; spelt = refl }
 
 pub invariant_of-result : goal.invariant_of-result
-invariant_of-result g c = (rw (c.new-2.ensures.items, c.new-4.ensures.items) AreAllMasks-nil, _)
+invariant_of-result g c = (rw (c.new-2.ensures.items, c.new-4.ensures.items) AreMasksInOrder-nil, _)
 
 pub invariant_of-result-2 : goal.invariant_of-result-2
 invariant_of-result-2 g c = (

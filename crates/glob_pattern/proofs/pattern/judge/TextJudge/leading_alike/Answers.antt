@@ -7,20 +7,9 @@ use Rattle.glob_pattern.specs.Matching.Taking.{takes}
 use Rattle.glob_pattern.specs.Private.Stepping.{place_before}
 use Rattle.glob_pattern.specs.Private.TextTable.{table_of}
 use Rattle.glob_pattern.specs.declared.token.Token.TheVariants.{Any}
-use Rattle.glob_pattern.proofs.BitLemmas.LowestBits.{lowest_set}
 use Rattle.glob_pattern.proofs.MatchingLemmas.Passing.{chars-leading_ascii, character-from_byte, opens-from_byte, takes-inside}
 use Rattle.glob_pattern.proofs.pattern.judge.TextJudge.leading_alike.Goals as goal
 use Rattle.glob_pattern.proofs.pattern.judge.TextJudge.leading_alike.Goals.{then-dots, else-dots, then-across, else-across}
-
-pub bounds-masks-word : goal.bounds-masks-word
-bounds-masks-word g c =
-    let lowest = lowest_set c.args.asked (omega (arith, c.if-asked-eq0.false)) (omega arith) in
-    omega (arith, c.requires _ lowest.1, c.args.self.now.masked.count)
-
-pub offset_bounds-masks-word : goal.offset_bounds-masks-word
-offset_bounds-masks-word g c =
-    let lowest = lowest_set c.args.asked (omega (arith, c.if-asked-eq0.false)) (omega arith) in
-    omega (arith, c.requires _ lowest.1, c.args.self.now.masked.count)
 
 pub returns-clause-took : goal.returns-clause-took
 unfolding table_of
@@ -36,8 +25,7 @@ returns-clause-took g c = λ k from below j lt.
     let byte = get_or bytes (k - place) 0 in
     let here : chars bytes ≡ drop place text = ap chars (c.as_bytes-bytes.ensures.value ∙ c.as_str.ensures) ∙ self.stands.left in
     let is = character-from_byte text bytes len place alike.within alike.ascii here k from below in
-    let lowest = lowest_set c.args.asked (omega (arith, c.if-asked-eq0.false)) (omega arith) in
-    let are = self.masked.each c.args.word _ (omega (arith, c.requires _ lowest.1, self.masked.count)) in
+    let are = self.masked.each c.args.word _ (omega arith) in
     let answer = (alike.alike (k - place) (omega (arith, from, below))).takes self.tokens.now start j are lt (c.requires j) in
     let token = get_or self.tokens.now (start + j) Any in
     let off : o.require_literal_leading_dot ≡ true → c.if-across.taken_alike ≡ false = λ dots. elim c.if-across.branch [
