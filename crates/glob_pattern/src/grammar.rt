@@ -64,8 +64,8 @@ fn characters_of<A: Allocator>(alloc: A, text: &str) -> Result<Vec<char, A>, All
     Ok(characters)
 }
 
-/// Writes each byte as a character. Returns whether all are of ASCII, and so spell these characters. The loop has no
-/// other way out, so that the compiler makes it one over sixteen bytes at a time.
+/// Writes each byte as a character. Returns whether all are of ASCII: only then are they the text's characters. The
+/// loop has no other way out, so that the compiler makes it one over sixteen bytes at a time.
 fn widen(bytes: &[u8], characters: &mut [char]) -> bool
     requires { length bytes.now ≡ length characters.old }
     ensures written { characters.new ≡ bytes.now }

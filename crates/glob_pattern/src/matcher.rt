@@ -175,9 +175,10 @@ pub trait Judge {
         0
     }
 
-    /// Steps over further characters, `most` at most, and raises the count by `questions` for each. So after one
-    /// `step`, over the `a` of `abc`, `step_over(2, 3)` may step over `b` and `c`; then the count rises by 6. So many
-    /// characters must be left, and the count must have room for them.
+    /// Steps over further characters, `most` at most, and raises the count by `questions` for each. At least `most`
+    /// characters must be left, as where [`alike`](Self::alike) found them, and the count must have room for them.
+    ///
+    /// So after one `step`, over the `a` of `abc`, `step_over(2, 3)` may step over `b` and `c`; then the count rises by 6.
     ///
     /// This body steps over none.
     #[inline]

@@ -44,6 +44,13 @@ is_negated Deep = false
 is_negated (Within entries) = false
 is_negated (Except entries) = true
 
+-- `A` and `z`, the first and the last letter of ASCII
+abbrev pub first_letter : ℕ
+first_letter = 65
+
+abbrev pub last_letter : ℕ
+last_letter = 122
+
 -- both are small letters of ASCII, or both are capital ones
 abbrev pub are_in_one_case : ℕ → ℕ → Bool
 are_in_one_case x y =
@@ -52,7 +59,7 @@ are_in_one_case x y =
 -- the entry is a range that may hold letters of ASCII, and whose ends are not two of them in the same case
 abbrev pub is_mixed : Entry → Bool
 is_mixed (Single x) = false
-is_mixed (Range x y) = nat_le 65 y && nat_le x 122 && not (are_in_one_case x y)
+is_mixed (Range x y) = nat_le first_letter y && nat_le x last_letter && not (are_in_one_case x y)
 
 -- an entry is such a range
 abbrev pub has_mixed : List Entry → Bool

@@ -37,7 +37,7 @@ struct ManyWordSet<'a, A: Allocator> {
 /// the steps that they save.
 #[derive(Clone, Copy)]
 struct Outlook {
-    // how many steps in a row have left each word as it was
+    // how many steps in a row, since the last look, have left each word as it was
     still: usize,
     // how many such steps the next look waits for
     patience: usize,
@@ -176,9 +176,9 @@ impl<'a, A: Allocator> ManyWordSet<'a, A> {
             let word = self.words[n];
             let took = judge.takes_each(n, word.alive & word.masks.tokens);
             let (alive, next) = word.masks.advance(took, opens, whole);
-            let place = &mut self.words[n];
-            place.alive = alive;
-            place.took = took;
+            let kept = &mut self.words[n];
+            kept.alive = alive;
+            kept.took = took;
             whole = next;
             any |= alive;
             changed |= alive ^ word.alive;
@@ -213,7 +213,11 @@ impl<'a, A: Allocator> ManyWordSet<'a, A> {
         ensures within { J.place judge.new ≤ (J.table judge.old).characters }
         ensures same { J.table judge.new ≡ J.table judge.old }
     {
-        if !self.outlook.is_due() || !self.keeps(false) {
+        if !self.outlook.is_due() {
+            return;
+        }
+        if !self.keeps(false) {
+            self.outlook = self.outlook.looked(0);
             return;
         }
         let across = self.keeps(true);
@@ -326,9 +330,9 @@ impl Outlook {
             self.reach.saturating_mul(2)
         };
         Outlook {
+            still: 0,
             patience,
             reach,
-            ..self
         }
     }
 }

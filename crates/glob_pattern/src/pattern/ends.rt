@@ -67,7 +67,8 @@ fn same_bytes(a: &[u8], b: &[u8], case_sensitive: bool) -> bool
     }
 }
 
-/// Whether the first bytes may be the same letter in either case: these differ by 32. Most texts are told by this.
+/// Whether the first bytes may be the same letter in either case: these differ by 32. Most texts that
+/// differ do so here.
 #[inline(always)]
 fn first_may_be_same(a: &[u8], b: &[u8]) -> bool
     ensures { map to_ascii_lowercase a.now ≡ map to_ascii_lowercase b.now → IsTrue result }

@@ -18,7 +18,7 @@ const SHORTEST: usize = 2;
 /// A stretch is cut to this many bytes, or a few less so that no character is cut.
 const LONGEST: usize = 32;
 
-/// Shorter texts are matched at once.
+/// Shorter texts are matched at once: the search by vectors needs so many bytes.
 const SHORTEST_TEXT: usize = 16;
 
 /// Bytes of a pattern's text that stand together.
@@ -93,16 +93,14 @@ pub fn inner_text<A: Allocator>(pattern: &str, tokens: &[Token<Bracket<A>>]) -> 
 
 /// Whether plain tokens of `SHORTEST` bytes or more stand between two others, without a leading `/`: in `a*bc?d`. Most
 /// patterns have none, and are spared the search for the longest.
-fn has_inner_plain<A: Allocator>(tokens: &[Token<Bracket<A>>]) -> bool
-    ensures { IsTrue result → 0 < length tokens.now }
-{
+fn has_inner_plain<A: Allocator>(tokens: &[Token<Bracket<A>>]) -> bool {
     let mut found = false;
     let mut inside = false;
-    let mut bytes = 0;
+    let mut bytes = 0usize;
     for token in tokens {
         if let Token::Plain(c) = token {
             if inside && (bytes > 0 || *c != '/') {
-                bytes = if c.is_ascii() { bytes + 1 } else { SHORTEST };
+                bytes = bytes.saturating_add(c.len_utf8());
             }
         } else {
             found |= bytes >= SHORTEST;

@@ -8,8 +8,8 @@ use std::simd::prelude::*;
 /// How many bytes are searched at once.
 const LANES: usize = 16;
 
-/// Whether the bytes, sixteen or more, have those of the stretch somewhere, where letters of ASCII in either case are the
-/// same. `rare` is the place of one of the stretch, which is searched for first.
+/// Whether the bytes, sixteen or more, have those of the stretch somewhere, where letters of ASCII in either case are
+/// the same. `rare` is the place of one of the stretch, which is searched for first.
 pub fn contains_small(bytes: &[u8], stretch: &[u8], rare: usize) -> bool
     requires { 16 ≤ length bytes.now }
     ensures { ContainsSmall bytes.now stretch.now → IsTrue result }

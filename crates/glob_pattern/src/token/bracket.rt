@@ -6,7 +6,7 @@ use std::alloc::{AllocError, Allocator, Global};
 use std::marker::Model;
 use std::slice;
 
-/// So many entries have room at once: those of most brackets, whose list then never grows.
+/// So many entries have room at once: those of most brackets with several, whose list then never grows.
 const FEW: usize = 16;
 
 /// An entry of a bracket.
@@ -30,8 +30,8 @@ impl Entry {
         }
     }
 
-    /// Whether the entry is a range that may hold letters of ASCII, and whose ends are not two of them in the same case:
-    /// so `0-z` and `A-z` are mixed, and `a-z`, `A-F` and `0-9` are not.
+    /// Whether the entry is a range that may hold letters of ASCII, and whose ends are not two of them in one case: so
+    /// `0-z` and `A-z` are mixed, and `a-z`, `A-F` and `0-9` are not.
     fn is_mixed(self) -> bool
         ensures { result ≡ is_mixed self }
     {

@@ -38,7 +38,10 @@ const BOTH_RULES: MatchOptions = MatchOptions {
 /// A pattern, a text, options, and whether the pattern matches the text under each of them.
 type Row = (&'static str, &'static str, &'static [MatchOptions], bool);
 
-const CASES: [Row; 25] = [
+const CASES: [Row; 28] = [
+    ("s*", "3a", &[ANY_CASE], false),
+    ("src/É*", "SRC/Éa", &[ANY_CASE], true),
+    ("src/É*", "src/éa", &[ANY_CASE], false),
     ("aBcDeFg", "aBcDeFg", &[ANY_CASE], true),
     ("aBcDeFg", "abcdefg", &[ANY_CASE], true),
     ("aBcDeFg", "ABCDEFG", &[ANY_CASE], true),
@@ -96,6 +99,28 @@ const RULES: [Row; 27] = [
     ("*", ".x", &[DOT], false),
 ];
 
+/// Characters that are tried in brackets without case.
+const TRIED: &'static str = "aMZz[_Bb@5-`K";
+
+/// Patterns with a bracket, and those of the tried characters that each matches without case.
+const BRACKETS: [(&'static str, &'static str); 15] = [
+    ("*[A-z]", "aMZz[_Bb`K"),
+    ("*[0-Z]", "MZB@5K"),
+    ("*[0-z]", "aMZz[_Bb@5`K"),
+    ("*[!A-Z]", "[_@5-`"),
+    ("*[!a-z]", "[_@5-`"),
+    ("*[a-Z]", "aMZzBbK"),
+    ("*[Z-a]", "aZ[_`"),
+    ("*[!0-Z]", "az[_b-`"),
+    ("*[a-f]", "aBb"),
+    ("*[C-M]", "MK"),
+    ("*[!k]", "aMZz[_Bb@5-`"),
+    ("*[--a]", "aMZ[_B@5-`K"),
+    ("*[@-b]", "aMZ[_Bb@`K"),
+    ("*[0-9_]", "_5"),
+    ("*[!0-9k-m]", "aZz[_Bb@-`"),
+];
+
 /// The pattern gives this answer for the text under the options.
 pub(super) fn check_match(
     rt: &impl Abort,
@@ -136,6 +161,18 @@ fn capital_letters_in_brackets(rt: HostRuntime) -> Result<(), Fail> {
         for c in 'A'..='Z' {
             let letter = format!(in rt.alloc(); "{c}")?;
             check_match(&rt, &pattern, letter.as_str(), ANY_CASE, true)?;
+        }
+    }
+    Ok(())
+}
+
+#[test]
+fn brackets_without_case(rt: HostRuntime) -> Result<(), Fail> {
+    for (text, held) in BRACKETS {
+        let pattern = Pattern::new(rt.alloc(), text)?;
+        for c in TRIED.chars() {
+            let tried = format!(in rt.alloc(); "{c}")?;
+            check_match(&rt, &pattern, tried.as_str(), ANY_CASE, held.contains(c))?;
         }
     }
     Ok(())

@@ -65,7 +65,7 @@ loop-n-preserved g c =
     let start_le : start ≤ length shapes = omega (arith, i.count) in
     let alive = c.advance-alive.ensures.alive table shapes start place word.masks taken c.opens-opens.ensures (i.part.whole_is start_le) in
     let past = c.advance-alive.ensures.whole table shapes start place word.masks taken c.opens-opens.ensures (i.part.whole_is start_le) in
-    let same : c.index_mut-place.result.now ≡ c.index-word.result.now = c.index_mut-place.ensures.value ∙ (get_or_default words n _ c.index-word.result.now lt ∙ sym c.index-word.ensures) in
+    let same : c.index_mut-kept.result.now ≡ c.index-word.result.now = c.index_mut-kept.ensures.value ∙ (get_or_default words n _ c.index-word.result.now lt ∙ sym c.index-word.ensures) in
     record {
       shapes = i.shapes;
       count = length-set words n _ ∙ i.count;
