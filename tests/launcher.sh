@@ -33,6 +33,10 @@ for below in $(sed -n "s/^$crate: //p" ../../crates.txt 2>/dev/null); do
 done
 [ ! -f "$ASKED.slow" ] || [ "$crate" = glob_text ] || { echo $$ >>"$ASKED.slow" && exec sleep 300; }
 [ "$(cat "$ASKED.wrong" 2>/dev/null)" != "$crate" ] || { echo 'error: wrong' && exit 1; }
+if [ $# != 1 ] && [ -f "$ASKED.held" ]; then
+    echo $$ >>"$ASKED.held"
+    while [ -f "$ASKED.held" ]; do sleep 0.1; done
+fi
 [ $# = 1 ] || sleep 0.5
 mkdir -p out/rlib && touch out/rlib/made
 [ "$1" != run ] || { printf '#!/bin/sh\necho "$@"\n' >out/glob_run && chmod +x out/glob_run; }
@@ -98,6 +102,106 @@ for wrong in glob_text glob_tree; do
         "error: wrong\nglob_run: the build of $wrong failed, as the lines above say\n"
 done
 rm "$work/asked.wrong"
+
+# until_there COMMAND..: waits until the command is well, for at most a minute
+until_there() {
+    local tries
+    for ((tries = 0; tries < 600; tries++)); do
+        "$@" 2>/dev/null && return
+        sleep 0.1
+    done
+    echo "not in a minute: $*"
+    return 1
+}
+
+# is_gone PID: whether the process is no more
+is_gone() { ! kill -0 "$1" 2>/dev/null; }
+
+crates="$work/a copy/crates" apart="$work/a copy/crates/glob_run/out/apart"
+
+anew
+rm -f "$work/asked"
+touch "$work/asked.held"
+"$program" match 'of the first' >"$work/first" 2>"$work/of_first" &
+first=$!
+until_there test -d "$apart/glob_tree/crates/glob_tree/out"
+"$program" match 'of the second' >"$work/second" 2>"$work/err" &
+second=$!
+until_there test -s "$work/err"
+TMPDIR=$work/missing "$program" match x >"$work/third" 2>&1
+third=$?
+# the rt of glob_lines, too, so that none begins while the file goes
+until_there sh -c '[ "$(wc -l <"$1")" = 2 ]' sh "$work/asked.held"
+ls -d "$apart"/glob_tree/crates/glob_tree/src >/dev/null && echo 'it stands apart' >"$work/still"
+rm "$work/asked.held"
+wait "$first"
+of_first=$?
+wait "$second"
+status=$?
+cat "$work/still" "$work/first" "$work/second" >"$work/out"
+echo "$of_first $third" >>"$work/out"
+[ ! -f "$work/asked" ] || LC_ALL=C sort "$work/asked" | tr '\n' ' ' >>"$work/out"
+check 'two calls at once build once, and a third that fails a check changes nothing' 0 \
+    "it stands apart\nmatch of the first\nmatch of the second\n0 2\n$all" \
+    'glob_run: another call is building the program. This one waits until that has ended\n'
+
+# cp as the rows need it: that of the sources of glob_tree takes a while, and copies of some arguments fail
+mkdir "$work/copies"
+cat >"$work/copies/cp" <<CP
+#!/bin/sh
+case "\$*" in
+    *apart/glob_tree/crates/glob_tree) [ ! -f "\$ASKED.copy" ] || { echo begun >>"\$ASKED.copy" && sleep 1; } ;;
+    \$FAILING)
+        # not before the rt that is to be ended is at work
+        while [ -f "\$ASKED.held" ] && [ ! -s "\$ASKED.held" ]; do sleep 0.1; done
+        echo "cp: it fails" >&2 && exit 1
+        ;;
+esac
+exec $(command -v cp) "\$@"
+CP
+chmod 755 "$work/copies" "$work/copies/cp"
+export FAILING=''
+
+for signal in TERM KILL; do
+    anew
+    run match x
+    echo kept >"$crates/glob_tree/out/kept"
+    touch "$crates/glob_tree/src/lib.rt" "$work/asked.copy"
+    PATH=$work/copies:$PATH "$program" match x >"$work/out" 2>"$work/err" &
+    started=$!
+    until_there test -s "$work/asked.copy"
+    kill -s "$signal" "$started"
+    { wait "$started"; } 2>/dev/null
+    status=$?
+    rm "$work/asked.copy"
+    cat "$crates/glob_tree/out/kept" >>"$work/out" 2>&1
+    "$program" match y >>"$work/out" 2>/dev/null
+    cat "$crates/glob_tree/out/kept" >>"$work/out" 2>&1
+    ls "$apart" >>"$work/out"
+    sed -i '/before it was built/!d' "$work/err"
+    ended=''
+    [ "$signal" = KILL ] || ended='glob_run: ended before it was built. The next call goes on from here\n'
+    check "ended by SIG$signal while it copies, all is kept" "$((128 + $(kill -l "$signal")))" \
+        'kept\nmatch y\nkept\n' "$ended"
+done
+
+anew
+rm -f "$work/asked"
+FAILING='-al *' PATH=$work/copies:$PATH run match x
+asked 'where no links can be, it copies' "match x\n$all"
+
+anew
+touch "$work/asked.held"
+FAILING='*apart/glob_lines*' PATH=$work/copies:$PATH run match x
+sed -i '/ of 7: /d; 1d' "$work/err"
+ls "$apart" >"$work/out"
+for worker in $(cat "$work/asked.held"); do
+    until_there is_gone "$worker" >>"$work/out"
+done
+wc -l <"$work/asked.held" >>"$work/out"
+rm "$work/asked.held"
+check 'a copy that fails ends each rt' 2 '1\n' \
+    'glob_run: cp: it fails. Mend this and call again: what is built is kept\n'
 
 # ended_by SIGNAL COMMAND..: runs the command until two rt are at work, ends it by the signal, and adds to the output how
 # many rt there were, and a line for each that goes on. The command is a job of its own, since a shell without jobs has
