@@ -5,6 +5,7 @@ pub mod Folded
 pub mod Literals
 pub mod Loosening
 pub mod Matched
+pub mod OneCharacterShapes
 pub mod Passing
 pub mod PiecesAndSplits
 pub mod PlainEnds

@@ -108,7 +108,7 @@ impl<A: Allocator + Copy> Pattern<A> {
         let tokens = grammar::read_tokens(alloc, pattern)?;
         let shapes = grammar::shapes_of(alloc, tokens.as_slice())?;
         let shape_masks = ShapeMasks::new(shapes.as_slice(), 0);
-        let least = least_length(tokens.as_slice());
+        let least = least_length(shapes.as_slice());
         // Tokens of one character each are asked one by one, and never by their masks.
         let masks = masks::masks_of(alloc, tokens.as_slice(), least < tokens.len())?;
         let plain_end = plain_end(pattern, tokens.as_slice());

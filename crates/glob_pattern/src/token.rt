@@ -1,5 +1,5 @@
 ghost use Rattle.std.specs.Prelude.{◌≡◌};
-ghost use Rattle.glob_pattern.specs.Grammar.Tokens.{is_deep, shape_of, takes_one};
+ghost use Rattle.glob_pattern.specs.Grammar.Tokens.{is_deep, shape_of};
 
 pub mod bracket;
 pub mod taking;
@@ -35,13 +35,6 @@ impl<A: Allocator> Token<Bracket<A>> {
             Token::Run => Shape::Run,
             Token::Deep => Shape::Deep,
         }
-    }
-
-    /// Whether it takes one character: it is neither `*` nor `**`.
-    pub fn takes_one(&self) -> bool
-        ensures { result ≡ takes_one self.now }
-    {
-        !matches!(self, Token::Run | Token::Deep)
     }
 
     /// Whether it is `**`.

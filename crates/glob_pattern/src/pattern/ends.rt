@@ -1,12 +1,14 @@
 //! What each text that a pattern matches begins with and ends in, and how long it is at least.
-ghost use Rattle.std.specs.Prelude.{◌≡◌, false, map, IsTrue, chars, count_by};
+ghost use Rattle.std.specs.Prelude.{◌≡◌, false, List, map, IsTrue, chars, count_by};
 ghost use Rattle.std.specs.Char.{to_ascii_lowercase};
 ghost use Rattle.std.specs.Str.{is_utf8};
-ghost use Rattle.glob_pattern.specs.Grammar.Tokens.{takes_one};
+ghost use Rattle.glob_pattern.specs.Grammar.Tokens.{Token as Kept, takes_one, shape_of};
+ghost use Rattle.glob_pattern.specs.Private.Patterns.{is_one};
 ghost use Rattle.glob_pattern.specs.Grammar.Units.{HasTokens};
 ghost use Rattle.glob_pattern.specs.Matching.Texts.{Matches};
 ghost use Rattle.glob_pattern.specs.Private.PlainEnds.{SameBytes, StartsPlain, StartsSame, EndsPlain, EndsSame};
 
+use crate::matcher::Shape;
 use crate::options::MatchOptions;
 use crate::pattern::Pattern;
 use crate::token::Token;
@@ -76,17 +78,25 @@ fn first_may_be_same(a: &[u8], b: &[u8]) -> bool
     a.is_empty() || b.is_empty() || a[0] % 32 == b[0] % 32
 }
 
-/// How many of the tokens take one character each: of those of `**/?a*` two.
-pub fn least_length<A: Allocator>(tokens: &[Token<Bracket<A>>]) -> usize
-    ensures { result ≡ count_by takes_one tokens.now }
+/// How many tokens take one character each, by their shapes: of those of `**/?a*` two.
+pub fn least_length(shapes: &[Shape]) -> usize
+    ensures { (tokens : List Kept) → shapes.now ≡ map shape_of tokens
+        → result ≡ count_by takes_one tokens }
 {
     let mut least = 0;
-    for token in tokens {
-        if token.takes_one() {
+    for shape in shapes {
+        if is_one(*shape) {
             least += 1;
         }
     }
     least
+}
+
+/// Whether a token of this shape takes one character.
+fn is_one(shape: Shape) -> bool
+    ensures { result ≡ is_one shape }
+{
+    matches!(shape, Shape::One)
 }
 
 /// How many bytes at the beginning of the pattern are plain tokens: in `src/*.rs` the four of `src/`.

@@ -91,21 +91,26 @@ pub fn inner_text<A: Allocator>(pattern: &str, tokens: &[Token<Bracket<A>>]) -> 
     Stretch::NONE
 }
 
-/// Whether plain tokens of `SHORTEST` bytes or more stand between two others, without a leading `/`: in `a*bc?d`. Most
+/// Whether plain tokens of two bytes or more stand between two others, without a leading `/`: in `a*bc?d`. Most
 /// patterns have none, and are spared the search for the longest.
 fn has_inner_plain<A: Allocator>(tokens: &[Token<Bracket<A>>]) -> bool {
     let mut found = false;
+    // after a token that is not plain
     let mut inside = false;
-    let mut bytes = 0usize;
+    // plain tokens since then: whether there are any, and whether they have two bytes or more
+    let mut begun = false;
+    let mut long = false;
     for token in tokens {
         if let Token::Plain(c) = token {
-            if inside && (bytes > 0 || *c != '/') {
-                bytes = bytes.saturating_add(c.len_utf8());
+            if begun || *c != '/' {
+                long = begun || !c.is_ascii();
+                begun = inside;
             }
         } else {
-            found |= bytes >= SHORTEST;
+            found |= long & inside;
             inside = true;
-            bytes = 0;
+            begun = false;
+            long = false;
         }
     }
     found
