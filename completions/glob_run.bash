@@ -26,8 +26,13 @@ _glob_run() {
     [ "${COMP_WORDS[1]} $last" != 'find -n' ] || return 0
     case $word in
     -*) mapfile -t COMPREPLY < <(compgen -W "$options" -- "$word") ;;
-    *) [ "${COMP_WORDS[1]}" != find ] || mapfile -t COMPREPLY < <(compgen -f -- "$word") ;;
+    *)
+        [ "${COMP_WORDS[1]}" = find ] || return 0
+        # Only these are names of files: a folder `match` makes no word of the program one.
+        compopt -o filenames 2>/dev/null || true
+        mapfile -t COMPREPLY < <(compgen -f -- "$word")
+        ;;
     esac
 }
 
-complete -o filenames -F _glob_run glob_run
+complete -F _glob_run glob_run

@@ -92,7 +92,8 @@ uint32_t glob_pattern_matches_text(struct glob_pattern *pattern, const char *tex
 
 /* Writes the pattern that stands for the text alone to `out`, which has room for `room` bytes, and its length to
  * `needed`. No zero byte follows it. The answer is GLOB_DONE, GLOB_OUT_OF_MEMORY, GLOB_NOT_UTF8, or GLOB_TOO_SHORT, and
- * then `needed` is the room that suffices. But for GLOB_DONE `out` is as it was. Three times `length` is always enough.
+ * then `needed` is the room that suffices. But for GLOB_DONE `out` is as it was. Three times `length` is enough,
+ * since a character becomes three at most.
  * The caller owes: `out`, `needed` and the text do not overlap. */
 uint32_t glob_pattern_escape(const char *text, size_t length, char *out, size_t room, size_t *needed);
 

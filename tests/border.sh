@@ -4,7 +4,7 @@
 # out, and said. Its last line is 'N passed, M failed'. Ended by a signal, it ends what it started.
 set -uo pipefail
 root=$(cd "$(dirname "$(readlink -f "${BASH_SOURCE[0]}")")/.." && pwd)
-work=$(mktemp -d)
+work=$(mktemp -d) || exit 2
 . "$root/tests/lib/ending.sh"
 end_all_by_signal
 trap 'rm -rf "$work"' EXIT

@@ -4,7 +4,7 @@
 # that fails, and last how many passed and failed.
 set -u
 root=$(cd "$(dirname "$(readlink -f "${BASH_SOURCE[0]}")")/.." && pwd)
-work=$(mktemp -d)
+work=$(mktemp -d) || exit 2
 trap 'chmod -R u+w "$work" && rm -rf "$work"' EXIT
 chmod 755 "$work"
 passed=0 failed=0
@@ -102,6 +102,12 @@ for wrong in glob_text glob_tree; do
         "error: wrong\nglob_run: the build of $wrong failed, as the lines above say\n"
 done
 rm "$work/asked.wrong"
+
+anew
+"$program" match x >"$work/out" 2>&-
+status=$?
+rm "$work/asked" && : >"$work/err"
+check 'the first call with standard error closed' 0 'match x\n' ''
 
 # until_there COMMAND..: waits until the command is well, for at most a minute
 until_there() {

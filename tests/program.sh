@@ -7,7 +7,7 @@ root=$(cd "$(dirname "$(readlink -f "${BASH_SOURCE[0]}")")/.." && pwd)
 program=$root/bin/glob_run
 # what the first call of the program builds, and what it starts
 binary=$root/crates/glob_run/out/glob_run
-work=$(mktemp -d)
+work=$(mktemp -d) || exit 2
 trap 'rm -rf "$work"' EXIT
 passed=0 failed=0
 
@@ -47,6 +47,32 @@ check 'a pattern that looks like an option' 2 '' 'usage: glob_run match [-i] [-s
 
 run escape 'a*'
 check 'an escaped text' 0 'a[*]\n' ''
+
+# The patterns of the README: options, a pattern, lines that match, and lines that do not.
+set -f
+while IFS='|' read -r options pattern yes no; do
+    printf '%s\n' $yes $no >"$work/in"
+    run match $options "$pattern" <"$work/in"
+    check "the lines that $options $pattern matches" 0 "$(printf '%s\\n' $yes)" ''
+done <<'ROWS'
+|main.rs|main.rs|Main.rs
+-i|main.rs|main.rs Main.rs|main.c
+|?at|cat Hat|at
+|*.rs|main.rs .rs src/main.rs|main.c
+-s|*.rs|main.rs .rs|src/main.rs
+|src/**/*.rs|src/main.rs src/a/b/c.rs|src.rs
+|src/**/[!_]*.rs|src/walk/x.rs src/walk/_x.rs|src/_x.rs
+-s|src/**/[!_]*.rs|src/walk/x.rs|src/walk/_x.rs
+|*|a .x a/.x|
+-d|*|a|.x a/.x
+|[a-c]x|ax bx cx|dx Ax
+-i|[a-c]x|ax Ax|dx
+|[!a-c]x|dx /x|ax
+-s|[!a-c]x|dx|ax /x
+|[*]|*|a
+|[]]|]|a
+ROWS
+set +f
 
 unfed --version
 check 'the version is the one at the top of the changelog' 0 "glob_run $(sed -n 's/^## //p' "$root/CHANGELOG.md" | head -1)\n" ''

@@ -31,7 +31,8 @@ impl Error for PatternError {}
 /// `Syntax`, at the place 0, and it prints as `Pattern syntax error near position 0: invalid range pattern`.
 #[derive(Debug, Drop)]
 pub enum PatternRefusal {
-    /// The text is not accepted, and this is its first fault from the left.
+    /// The text is not accepted, and this is its first fault from the left. From a walk it may be that of a component,
+    /// and its place then counts from the component's start.
     Syntax(PatternError),
     /// Out of memory: an allocation failed.
     Memory,

@@ -92,8 +92,8 @@ pub fn separator_rule_spares_names()
 {}
 
 /// A pattern matches names joined by `/`, under the separator rule, exactly where its components take the names: `**`
-/// any number of them, another component one. So `a/**/c` matches `a/b/c`, since `a` takes `a`, `**` takes `b` and `c`
-/// takes `c`.
+/// any number of them, but at the end at least one, and under the dot rule none that begins with a dot; another
+/// component one. So `a/**/c` matches `a/b/c`, since `a` takes `a`, `**` takes `b` and `c` takes `c`.
 pub fn components_match_level_by_level()
     ensures joined { JoinedMatchLevels }
     ensures rooted { RootedMatchLevels }

@@ -198,9 +198,9 @@ pub trait Judge {
 }
 
 /// Whether all characters of a judge split into pieces, one for each shape, where the token of the shape's number takes
-/// each character of its piece. So the shapes of `*a` split `bca` into `bc` and `a`. Each token is asked at most once
-/// for each character. The judge must not have stepped; it needs a token for each shape, and room in its count for
-/// shapes times characters. The error is a failed allocation; at most 63 shapes allocate nothing.
+/// each character of its piece. So the shapes of `*a` split `bca` into `bc` and `a`. The questions are at most shapes
+/// times characters. The judge must not have stepped; it needs a token for each shape, and room in its count for as
+/// many questions. The error is a failed allocation; with at most 63 shapes the call succeeds.
 #[inline(always)]
 pub fn run_positions<A: Allocator + Copy, J: Judge>(
     alloc: A,
@@ -223,7 +223,7 @@ pub fn run_positions<A: Allocator + Copy, J: Judge>(
     ensures monotone { J.count judge.old ≤ J.count judge.new }
     ensures same { J.table judge.new ≡ J.table judge.old }
 
-    // At most 63 shapes need no memory.
+    // With at most 63 shapes it succeeds.
     ensures small { length shapes.now < 64 → IsOk result }
 {
     run_known(alloc, shapes, None, judge)

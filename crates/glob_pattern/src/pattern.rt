@@ -56,7 +56,7 @@ pub struct Pattern<A: Allocator = Global> {
     plain_end: usize,
     // how many bytes at the beginning of the text are plain tokens
     plain_start: usize,
-    // bytes of the text that are plain tokens, neither the first nor the last ones
+    // bytes of the text that are plain tokens, mostly the longest between two others
     inner: Stretch,
     alloc: A,
     ghost masked: { AreMasksInOrder tokens.items masks.items },
@@ -179,8 +179,7 @@ impl<A: Allocator + Copy> Pattern<A> {
     /// Whether the pattern matches the whole text, with case and without the separator rule and the dot rule:
     /// [`matches_with`](Self::matches_with) under `MatchOptions::new()`. So `*.rs` matches `main.rs` and `src/main.rs`.
     ///
-    /// The error is a failed allocation. A pattern of at most 63 tokens (characters, wildcards and brackets) allocates
-    /// nothing.
+    /// The error is a failed allocation. With at most 63 tokens (characters, wildcards and brackets) the call succeeds.
     #[inline(always)]
     pub fn matches(&self, str: &str) -> Result<bool, AllocError>
         ensures answer { IfOk result
@@ -193,8 +192,7 @@ impl<A: Allocator + Copy> Pattern<A> {
     /// Whether the pattern matches the whole text: whether the text splits into one allowed piece for each token. So
     /// `*.rs` matches `src/main.rs`, and with the separator rule it does not.
     ///
-    /// The error is a failed allocation. A pattern of at most 63 tokens (characters, wildcards and brackets) allocates
-    /// nothing.
+    /// The error is a failed allocation. With at most 63 tokens (characters, wildcards and brackets) the call succeeds.
     #[inline(always)]
     pub fn matches_with(&self, str: &str, options: MatchOptions) -> Result<bool, AllocError>
         ensures answer { IfOk result
@@ -318,8 +316,9 @@ impl<A: Allocator + Copy> Pattern<A> {
     }
 }
 
-/// The answer of [`matches_with`](Pattern::matches_with), and its error, for a text that has passed [`may_match`]: the
-/// tests of that are not made again. So after `may_match` of `*.rs` and the bytes of `main.rs` it is `true`.
+/// The answer of [`matches_with`](Pattern::matches_with), and its error, without the tests of [`may_match`]: it is
+/// right for every text, and quicker for one that has passed them. So after `may_match` of `*.rs` and the bytes of
+/// `main.rs` it is `true`.
 #[inline(always)]
 pub fn match_tested<A: Allocator + Copy>(
     pattern: &Pattern<A>,

@@ -44,7 +44,7 @@ FindsPaths ms limit old new findings =
     × (findings.has_path ≡ has_any (paths given))
     × (findings.has_error ≡ has_unread given)
 
--- of the lines of all paths of the listing, the first n bytes were written, for some n
+-- of the lines of all paths of the listing, the first n bytes were added, for some n
 abbrev pub FindsSomeBytes : (listing : List Mark) → (old new : Option (List ℕ)) → Type 0
 FindsSomeBytes ms old new = AppendsSome old new (with_line_feeds (paths (items ms)))
 

@@ -83,8 +83,9 @@ fn find_status<T: Tree, S: LineSink, E: Write>(
 
 /// Walks the tree: each path is a line of `lines`, and each error a line on `errors`, after the paths before it.
 ///
-/// Over files `x` and `y`, `*` adds the lines `x` and `y`. With the limit 3 it adds none, and the walk's end is `Limit`.
-/// If the pattern is refused, `lines` stays as it was. If a line cannot be written, the first bytes of the lines were.
+/// Over files `x` and `y`, `*` adds the lines `x` and `y`. With the limit 3 it adds none, and the walk's end is
+/// `Limit`. If the pattern is refused, `lines` stays as it was. If a line cannot be written, `lines` has the first
+/// bytes of these lines.
 pub fn find_in<T: Tree, S: LineSink, E: Write>(
     alloc: T::Alloc,
     tree: T,

@@ -47,8 +47,9 @@ const UNMATCHED: u8 = 1;
 /// There was a fault.
 const FAULT: u8 = 2;
 
-/// Runs the program on the words after its name, and returns its exit status: 0 where something matched or a page was
-/// written, 1 where nothing matched, 2 at a fault or where a walk met an error. `find` walks the tree.
+/// Runs the program on the words after its name, and returns its exit status: 0 where something matched, a text was
+/// escaped or a page was written, 1 where nothing matched, 2 at a fault or where a walk met an error. `find` walks the
+/// tree.
 ///
 /// A fault is one line on `errors`; a fault of `errors` itself is dropped. A usage fault, or a fault of the pattern, leaves
 /// the output as it was. Tests, not clauses, show that neither the input nor the tree is asked then.

@@ -18,7 +18,8 @@ Quote a pattern: glob_run match '*.rs'. A shell would expand it otherwise.
 Options stand before the pattern:
   -i        ASCII letters in either case are the same. find still looks up a component without
             wildcards as it is written, unless ** stands right before it
-  -s        ?, * and brackets take no /. It changes nothing for find
+  -s        ?, * and brackets take no /. It changes nothing for find,
+            where names have no /
   -d        neither wildcards nor brackets take a . at the start of a component
   -n LIMIT  find spends at most LIMIT units: one for each lookup, listing and entry of a listing
   --        ends the options. A pattern or text that begins with - needs it
@@ -32,16 +33,16 @@ Patterns:
   [!a-c]    a character that is not from a to c
   [*]       a * alone. So are ?, [ and ] written: [?], [[] and []]
   Every other character stands for itself, also { } ^ ~ \\ and a ] outside of brackets.
-  The whole line or path has to match: *a* finds an a anywhere.
+  The whole line has to match, or for find each component a whole name: *a* takes an a anywhere.
   glob_run escape writes a text so that each of its characters stands for itself.
 
 Lines: match reads its input to the end before it writes anything. A line ends before a line feed.
 The last one may lack it, and is written with one. A carriage return belongs to its line, so *.rs
 does not match a line that ends in it. A line that is not UTF-8 never matches.
 
-Paths: find walks from the current directory, or from / if the pattern begins with that. Names come
-in ascending byte order. If the pattern ends in / or **, only directories match. A directory that
-cannot be listed is one line on standard error, and the walk goes on.
+Paths: find walks from the current directory, or from / if the pattern begins with that. Each
+directory's names come in ascending byte order. If the pattern ends in / or **, only directories
+match. A directory that cannot be listed is a line on standard error, and the walk goes on.
 
 Status:
   0         a line or path matched, a text was escaped, or this page or the version was written

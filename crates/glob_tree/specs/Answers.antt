@@ -20,13 +20,13 @@ abbrev pub entry_count : {A E : Type 0} → Result (Vec (Entry A) A) E → ℕ
 entry_count (Ok entries) = vec_len entries
 entry_count (Err e) = 0
 
--- these entries may be returned: those of the directory, each once and in any order
+-- these entries may be returned: those of the directory, each once and in any order; where there is none, any
 abbrev pub IsListAnswer : ListAnswer → List DirEntry → Type 0
 IsListAnswer (Entries entries) answer = IsPermutation entries answer
 IsListAnswer (Fails kind) answer = ⊥
 IsListAnswer NoDirectory answer = ⊤
 
--- an error of this kind may be returned
+-- an error of this kind may be returned: that of the directory; where there is none, any
 abbrev pub IsListFault : ListAnswer → ErrorKind → Type 0
 IsListFault (Entries entries) kind = ⊥
 IsListFault (Fails wanted) kind = kind ≡ wanted

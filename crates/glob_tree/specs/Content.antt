@@ -48,7 +48,7 @@ is_dir Other = false
 abbrev pub is_dir_at : Content → Key → Bool
 is_dir_at c k = unwrap_or (option_map is_dir (kind_at c k)) false
 
--- the names are proper, and the parent is a directory
+-- the names are UTF-8 and proper, and the parent is a directory
 abbrev pub is_placed : Content → Key × Kind → Bool
 is_placed c e = list_all (λ name. is_utf8 name && is_proper name) e.0 && is_dir_at c (parent_key e.0)
 
@@ -57,7 +57,8 @@ abbrev pub are_distinct : List (Key × Kind) → Bool
 are_distinct [] = true
 are_distinct (e ∷ es) = not (list_any (λ f. same_key e.0 f.0) es) && are_distinct es
 
--- The content is well formed: its root and current directory are directories, each key is in one, and none occurs twice.
+-- The content is well formed: its root and current directory are directories, each key is in one and has names that are
+-- UTF-8 and proper, and none occurs twice.
 unfoldable pub is_content : Content → Bool
 is_content c = is_dir_at c [] && is_dir_at c c.current && list_all (is_placed c) c.kinds && are_distinct c.kinds
 

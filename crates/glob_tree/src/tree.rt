@@ -27,7 +27,8 @@ pub struct Entry<A: Allocator = Global> {
     pub is_dir: bool,
 }
 
-/// Why a listing failed. That of a file has `Read`, with an I/O error of the kind `NotADirectory`.
+/// Why a listing failed. That of a file in a [`MemTree`](crate::MemTree) has `Read`, with an I/O error of the kind
+/// `NotADirectory`.
 #[derive(Debug, Drop)]
 pub enum ListError {
     /// The directory cannot be read, or there is none, for this reason.
@@ -40,11 +41,11 @@ pub enum ListError {
 ///
 /// Contracts see two things of a tree:
 ///
-/// - `tells` is its content, where that is known: what stands at each key, and the current directory. Each answer is then
-///   the content's, allocation failures aside, and no call changes the content. Where it is `None`, any answer may
-/// come.
-/// - `asks` counts what was asked: one for each `look`, and for each `list` one and one for each entry that it returns. A
-///   tree keeps the count in a field of type [`Asks`](crate::Asks).
+/// - `tells` is its content, where that is known: what stands at each key, and the current directory. Each answer is
+///   then the content's, allocation failures aside, and no call changes the content. Where a path leads to no
+///   directory, a listing may return any entries and any error. Where it is `None`, any answer may come.
+/// - `asks` counts what was asked: one for each `look`, and for each `list` one and one for each entry that it returns.
+///   A tree keeps the count in a field of type [`Asks`](crate::Asks).
 ///
 /// [`MemTree`](crate::MemTree) is a tree with a known content: `tree.look("/")` returns `Look::Dir`, and raises its
 /// `asks` by one.

@@ -41,9 +41,9 @@ impl Stretch {
     };
 }
 
-/// Whether a text of these bytes may be one that the pattern matches: whether it begins and ends as the pattern does,
-/// and has the plain characters inside the pattern. Where the answer is `false` it is none: so for `*.rs` and the bytes
-/// of `main.c`. The bytes need not be UTF-8.
+/// Whether a text of these bytes may be one that the pattern matches: whether it begins and ends in the plain
+/// characters of the pattern, is long enough, and from 16 bytes on has a stretch of those inside. Where the answer is
+/// `false` it is none: so for `*.rs` and the bytes of `main.c`. The bytes need not be UTF-8.
 #[inline(always)]
 pub fn may_match<A: Allocator>(pattern: &Pattern<A>, bytes: &[u8], options: MatchOptions) -> bool
     ensures { result ≡ false → IsTrue (is_utf8 bytes.now)
@@ -72,8 +72,8 @@ fn has_inner_text<A: Allocator>(pattern: &Pattern<A>, bytes: &[u8]) -> bool
     contains_small(bytes, stretch.as_bytes(), pattern.inner.rare)
 }
 
-/// The longest stretch of bytes of the pattern that are plain tokens, neither its first nor its last ones: `config` in
-/// `*config*`; or no bytes.
+/// Bytes of the pattern that are plain tokens, 2 to 32 of them, or none: mostly the longest between two other tokens,
+/// as `config` in `*config*`. A guess picks them, so of a pattern with brackets they may be others, or none.
 pub fn inner_text<A: Allocator>(pattern: &str, tokens: &[Token<Bracket<A>>]) -> Stretch
     ensures { HoldsPlain tokens.now pattern.now result.start result.end }
 {
@@ -102,6 +102,7 @@ fn has_inner_plain<A: Allocator>(tokens: &[Token<Bracket<A>>]) -> bool {
     let mut long = false;
     for token in tokens {
         if let Token::Plain(c) = token {
+            // The first ones of the pattern never count.
             if begun || *c != '/' {
                 long = begun || !c.is_ascii();
                 begun = inside;
