@@ -26,8 +26,8 @@ complete -c glob_run -n __glob_run_first -a find -d 'Write the paths of the disk
 complete -c glob_run -n __glob_run_first -a escape -d 'Write the pattern that stands for a text alone'
 complete -c glob_run -n __glob_run_first -s h -l help -d 'Write the page that teaches the program'
 complete -c glob_run -n __glob_run_first -l version -d 'Write the version'
-complete -c glob_run -n '__glob_run_options match find' -s i -d 'ASCII letters in either case are the same'
-complete -c glob_run -n '__glob_run_options match find' -s s -d 'Wildcards and brackets take no separator'
-complete -c glob_run -n '__glob_run_options match find' -s d -d 'Wildcards and brackets take no leading dot'
-complete -c glob_run -n '__glob_run_options find' -s n -x -d 'The most lookups, listings and entries'
+complete -c glob_run -n '__glob_run_options match find' -o i -d 'ASCII letters in either case are the same'
+complete -c glob_run -n '__glob_run_options match find' -o s -d 'Wildcards and brackets take no separator'
+complete -c glob_run -n '__glob_run_options match find' -o d -d 'Wildcards and brackets take no leading dot'
+complete -c glob_run -n '__glob_run_options find' -o n -x -d 'The most lookups, listings and entries'
 complete -c glob_run -n '__glob_run_options find' -F

@@ -24,6 +24,7 @@ COMPLETIONS = [
     ("glob_run m", "match"),
     ("glob_run --", "--help --version"),
     ("glob_run match -", "-- -d -i -s"),
+    ("glob_run match -i", "-i"),
     ("glob_run match -i -", "-- -d -i -s"),
     ("glob_run match -- -", ""),
     ("glob_run match a -", ""),
@@ -147,6 +148,13 @@ def completion_faults(line, wanted, folder):
     return [] if (offered, ran.stderr) == (wanted, "") else [f"{line}: {offered} {ran.stderr}"]
 
 
+def naming_faults():
+    """Whether bash takes all that is offered for names of files: then a folder `match` would make `match` a path."""
+    words = ["bash", "-c", '. "$1"; complete -p glob_run', "bash", ROOT / "completions/glob_run.bash"]
+    said = subprocess.run(words, capture_output=True, text=True).stdout
+    return [] if said == "complete -F _glob_run glob_run\n" else [f"bash: {said}"]
+
+
 def fish_faults(line, wanted, folder):
     """What fish offers otherwise than it should, and None where it cannot be had."""
     if not shutil.which("fish"):
@@ -222,6 +230,7 @@ def main():
         prefix, folder = Path(work, "prefix"), Path(work, "here")
         (folder / "folder").mkdir(parents=True)
         checks = [install_faults(prefix), lint(), refusal_faults([]), refusal_faults(["--help"])]
+        checks += [naming_faults()]
         checks += [completion_faults(*it, folder) for it in COMPLETIONS]
         checks += [fish_faults(line, FISH.get(line, wanted), folder) for line, wanted in COMPLETIONS]
         checks += zsh_faults(folder, Path(work))
