@@ -209,6 +209,10 @@ rm "$work/asked.held"
 check 'a copy that fails ends each rt' 2 '1\n' \
     'glob_run: cp: it fails. Mend this and call again: what is built is kept\n'
 
+# Under nohup, or in the background of a shell without jobs, signals are ignored, which a script cannot undo by itself.
+heeding=()
+! env --default-signal true 2>/dev/null || heeding=(env --default-signal)
+
 # ended_by SIGNAL COMMAND..: runs the command until two rt are at work, ends it by the signal, and adds to the output how
 # many rt there were, and a line for each that goes on. The command is a job of its own, since a shell without jobs has
 # those in its background ignore SIGINT. Only it gets the signal.
@@ -217,7 +221,7 @@ ended_by() {
     shift
     touch "$work/asked.slow"
     set -m
-    "$@" >"$work/out" 2>"$work/err" &
+    "${heeding[@]}" "$@" >"$work/out" 2>"$work/err" &
     started=$!
     set +m
     for ((tries = 0; tries < 600; tries++)); do
