@@ -48,7 +48,7 @@ check 'a pattern that looks like an option' 2 '' 'usage: glob_run match [-i] [-s
 run escape 'a*'
 check 'an escaped text' 0 'a[*]\n' ''
 
-# The patterns of the README: options, a pattern, lines that match, and lines that do not.
+# The patterns of the README and of the man page: options, a pattern, lines that match, and lines that do not.
 set -f
 while IFS='|' read -r options pattern yes no; do
     printf '%s\n' $yes $no >"$work/in"
@@ -71,6 +71,13 @@ done <<'ROWS'
 -s|[!a-c]x|dx|ax /x
 |[*]|*|a
 |[]]|]|a
+|[[]|[|a
+|[?]|?|a
+|**|a/b .x|
+|**/a|a b/a|ab
+|a/**|a/b|ab
+|a/**/b|a/b a/x/b|ab
+|{a,b}^]|{a,b}^]|a
 ROWS
 set +f
 
