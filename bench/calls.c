@@ -29,7 +29,7 @@ struct names {
     size_t length, room;
 };
 
-/* "./", and from BELOW on a path below the current directory; "./" itself stands before the names of that directory alone */
+/* "./", and from BELOW on a path below the current directory; "./" itself is before the names of that directory alone */
 enum { BELOW = 2 };
 static char path[BELOW + LONGEST] = "./";
 static char block[LARGE_BLOCK];

@@ -186,7 +186,7 @@ READS = [
     Case("read a bracket with n ranges", 100_000, "n", reads_text(bracket(span))),
 ]
 
-# A text that does not end as the plain end of its pattern is refused before it is walked. So each ends as it does.
+# A text whose end the last tokens of its pattern do not take is rejected before the match. So each ends as they do.
 MATCHES = [
     Case("match n `a` with n letters", MILLION, "n", matches(repeated("a"), repeated("a"), times=50)),
     Case("match n `?` with n letters", MILLION, "n", matches(repeated("?"), repeated("a"), times=50)),

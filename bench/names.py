@@ -27,7 +27,7 @@ SHUT = 12
 # The user and group without rights, as which both sides run where root runs this.
 NOBODY = 65534
 
-# Of what names are made. A piece that stands several times comes that much oftener.
+# Of what names are made. A piece that is there several times comes that much oftener.
 PIECES = (
     list("aabbccdeAABC0012")
     + ["README", "main", "lib", "src", "test", ".", ".", "..", "-", "_", " ", "  ", "~", "!", "^", "#", "$", "'", '"', "\\"]
@@ -118,7 +118,7 @@ def make_shut(directories):
 
 
 def escaped(text):
-    """The pattern that stands for a text alone."""
+    """The pattern that matches a text alone."""
     return "".join(f"[{character}]" if character in "?*[]" else character for character in text)
 
 

@@ -1,5 +1,5 @@
 #!/usr/bin/env python3
-"""Prints paths as they stand in trees of sources, one a line: the same ones at each call with the same number.
+"""Prints paths as they are in trees of sources, one a line: the same ones at each call with the same number.
 
 usage: paths.py COUNT
 """
@@ -12,7 +12,7 @@ SEED = 1979
 # How many folders a path has, from none to eight, and how often.
 DEPTHS = (4, 10, 18, 22, 18, 12, 8, 5, 3)
 
-# A name that stands several times comes that much oftener.
+# A name that is there several times comes that much oftener.
 FOLDERS = (
     "src src src src src src lib lib tests tests test docs include core util utils common api net io os walk parser"
     " grammar matcher storage client server handlers models views static assets images fonts locale examples benches"

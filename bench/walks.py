@@ -22,7 +22,7 @@ Cell = namedtuple("Cell", "busy clock peak calls")
 
 PATTERNS = ["**/*.txt", "*", "**", "*/*/*.rs"]
 
-# How deep a pattern leads, for the programs that are told a depth.
+# How deep a pattern leads, for the programs that take a depth.
 DEPTHS = {"**/*.txt": None, "*": 1, "**": None, "*/*/*.rs": 3}
 
 SUFFIXES = ["txt", "rs"]

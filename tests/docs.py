@@ -56,7 +56,7 @@ def lines_of(text):
 
 
 def quotes(page, number, source):
-    """Whether the block on the page stands in the source, line after line."""
+    """Whether the block on the page is in the source, line after line."""
     blocks = re.findall(r"```(?:rust|antt)\n(.*?)```", (ROOT / page).read_text(encoding="utf-8"), re.S)
     wanted, lines = lines_of(blocks[number]), lines_of((ROOT / source).read_text(encoding="utf-8"))
     starts = range(len(lines) - len(wanted) + 1)
@@ -114,7 +114,7 @@ def broken_links(page):
 
 
 def unknown_files(page):
-    """The names of sources on a page that end no path of the repository. One with NAME in it stands for many."""
+    """The names of sources on a page that end no path of the repository. One with NAME in it is not looked for."""
     text = re.sub(r"```.*?```", "", (ROOT / page).read_text(encoding="utf-8"), flags=re.S)
     names = re.findall(r"`([\w/.]+\.(?:rt|antt|md|py|sh|tsv))`", text)
     return [name for name in names if "NAME" not in name and not any(f"/{file}".endswith(f"/{name}") for file in FILES)]

@@ -21,7 +21,7 @@ anew() {
     done
 }
 
-# It runs in the folder of a crate, once those that the crate stands on are made. One that is built beside another takes a
+# It runs in the folder of a crate, once those that the crate depends on are made. One that is built beside another takes a
 # while. A run makes a program that writes its words.
 mkdir "$work/tools"
 cat >"$work/tools/rt" <<'RT'

@@ -22,7 +22,7 @@ DEEPEST = 4
 COMPONENTS = 6
 ODD_COMPONENTS = ["?", "??", ".*", ".", "..", "*.*", "[!.]*", "[.]*", ".?", "[!a]*", "*[ab]", "", ".[.]", "*a*b*"]
 
-# In a pattern, stands for the path of the folder that the tree's folder, `tree`, is in.
+# In a pattern, the path of the folder that the tree's folder, `tree`, is in.
 ABOVE = "\0"
 UNIT = re.compile(r"\*\*/|\*+|\?|\[!.[^]]*\]|\[[^!][^]]*\]|.", re.S)
 SETTINGS = ["", "d", "s", "sd", "i", "id", "is", "isd"]
@@ -80,7 +80,7 @@ def text_of(source, alphabet, most=6):
 
 
 def piece(source, alphabet, found):
-    """What a unit of a pattern may stand for."""
+    """What a unit of a pattern may be."""
     if found == "**/":
         return source.choice(["", "", "a/", "a/b/", ".a/", "/"])
     if found[0] == "*":

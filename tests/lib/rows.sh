@@ -1,7 +1,7 @@
 # What the rows of program.sh are made of. Sourced, with these set: $program and $binary, the program as a user calls it and as
 # it is built; $work, a folder; $passed and $failed, how many rows did.
 
-# check NAME STATUS OUTPUT FAULTS: compares $work/out, $work/err and $status, where \n stands for a line feed
+# check NAME STATUS OUTPUT FAULTS: compares $work/out, $work/err and $status, where \n is a line feed
 check() {
     printf '%b' "$3" >"$work/wanted"
     printf '%b' "$4" >"$work/faults"

@@ -2,7 +2,7 @@
 
 use glob::MatchOptions;
 
-/// The options that the letters of a word stand for.
+/// The options of the letters of a word.
 pub fn options_of(letters: &str) -> MatchOptions {
     let mut options = MatchOptions::new();
     options.case_sensitive = !letters.contains('i');

@@ -1,4 +1,3 @@
 pub mod Digits
 pub mod LowestBits
-pub mod PutBits
 pub mod SetBits

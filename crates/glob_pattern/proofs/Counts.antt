@@ -1,6 +1,6 @@
 -- How many characters there are.
-use Rattle.std.proofs.Common.{◌≡◌, ℕ, zero, suc, ◌+◌, ◌-◌, ◌*◌, ◌^◌, ◌<◌, ◌≤◌, List, [], ◌∷◌, length, arith, mul-add}
-use Rattle.std.proofs.Math.Nat.{mul-suc, suc-mul}
+use Rattle.std.proofs.Common.{◌≡◌, ℕ, zero, suc, ◌+◌, ◌-◌, ◌*◌, ◌^◌, ◌<◌, ◌≤◌, List, [], ◌∷◌, length, arith}
+use Rattle.std.proofs.Math.Nat.{mul-suc}
 use Rattle.std.specs.Str.{chars_after, continuation_len, lead_bits}
 use Rattle.std.specs.Str as str
 use Rattle.std.proofs.lemmas.Nat.{mul-lt}
@@ -34,13 +34,3 @@ room-after n characters place asked before after later within few count =
     let room = mul-left n characters (place - 1) (omega arith) in
     let next : place - 1 + 1 ≡ place = omega arith in
     omega (arith, rw next at room)
-
--- the asks for leading characters, one each, and the room for the others
-pub led_fits : (n characters lead : ℕ) → lead ≤ characters → (0 < lead → 0 < n) → lead + n * (characters - lead) ≤ n * characters
-led_fits zero characters zero le some = omega arith
-led_fits zero characters (suc lead) le some = absurd (omega (arith, some (omega arith)))
-led_fits (suc n) characters lead le some =
-    let whole : characters - lead + lead ≡ characters = omega arith in
-    let parts : suc n * (characters - lead + lead) ≡ suc n * (characters - lead) + suc n * lead = mul-add (suc n) (characters - lead) lead in
-    let first : suc n * lead ≡ n * lead + lead = suc-mul n lead in
-    omega (arith, rw whole at parts, first)

@@ -2,7 +2,6 @@ pub mod Accepted
 pub mod Accepting
 pub mod Closing
 pub mod Folding
-pub mod PlainUnits
 pub mod Reading
 pub mod Units
 pub mod WrittenUnits

@@ -1,5 +1,5 @@
-pub mod BothForms
-pub mod FormMasks
-pub mod KnownTakers
-pub mod Masks
-pub mod Painting
+pub mod Classes
+pub mod Known
+pub mod Listing
+pub mod Putting
+pub mod Words

@@ -1,9 +1,7 @@
-pub mod Advancing
 pub mod Alive
+pub mod LastOnes
 pub mod Prefixes
-pub mod Rests
-pub mod Skipping
-pub mod TakenPrefixes
-pub mod ManyWords
+pub mod Running
 pub mod Spreading
-pub mod PositionWords
+pub mod TakenPrefixes
+pub mod Words

@@ -1,9 +1,9 @@
 pub mod Brackets
-pub mod LoopOptions
-pub mod Masks
-pub mod Patterns
-pub mod PlainEnds
+pub mod CharMasks
+pub mod Compiled
+pub mod Needles
 pub mod Positions
 pub mod Prefixes
 pub mod Stepping
 pub mod TextTable
+pub mod Trims

@@ -1,42 +1,18 @@
-ghost use Rattle.std.specs.Prelude.{◌≡◌, ◌+◌, ◌<◌, ◌≤◌, List, [], ◌∷◌, ◌++◌, length, map, IsTrue, IfSome, IfOk, IfErr, OnOk};
+ghost use Rattle.std.specs.Prelude.{◌≡◌, ◌+◌, ◌<◌, ◌≤◌, List, [], ◌∷◌, ◌++◌, length, IsTrue, IfSome, IfOk, IfErr, OnOk};
 ghost use Rattle.std.specs.Str.{chars, IsAscii};
 ghost use Rattle.glob_text.specs.Text.{has, opens};
-ghost use Rattle.glob_pattern.specs.Grammar.Tokens.{Token as Kept, is_deep, ends_deep, tokens_of_units, shape_of};
+ghost use Rattle.glob_pattern.specs.Grammar.Tokens.{Token as Kept, is_deep, ends_deep, tokens_of_units};
 ghost use Rattle.glob_pattern.specs.Grammar.Units.{HasTokens};
 ghost use Rattle.glob_pattern.specs.Grammar.Faults.{Refuses, fault_at};
 ghost use Rattle.glob_pattern.specs.Computing.Reading.{stars_at, close_from, content_from, bracket_at, unit_at};
 
 use crate::error::{PatternError, PatternRefusal};
-use crate::matcher::Shape;
 use crate::token::Token;
 use crate::token::bracket::Bracket;
 use std::alloc::{AllocError, Allocator};
 
 /// So many tokens have room at once: those of most patterns, whose list then never grows.
 const FEW: usize = 128;
-
-/// The shapes of the tokens, in order. Fails only if allocation fails.
-pub fn shapes_of<A: Allocator + Copy>(
-    alloc: A,
-    tokens: &[Token<Bracket<A>>],
-) -> Result<Vec<Shape, A>, AllocError>
-    ensures { IfOk result (λ shapes. shapes.items ≡ map shape_of tokens.now) }
-{
-    let mut shapes = vec![in alloc; Shape::One; tokens.len()]?;
-    for n in 0..tokens.len() {
-        shapes[n] = tokens[n].shape();
-    }
-    Ok(shapes)
-}
-
-/// The same tokens on the same allocator. Fails only if allocation fails.
-pub fn clone_tokens<A: Allocator + Copy>(
-    tokens: &Vec<Token<Bracket<A>>, A>,
-) -> Result<Vec<Token<Bracket<A>>, A>, AllocError>
-    ensures { IfOk result (λ copies. copies.items ≡ tokens.now.items) }
-{
-    tokens.clone()
-}
 
 /// The tokens of a pattern. The error is the first fault of a text that is not accepted, or a failed allocation.
 pub fn read_tokens<A: Allocator + Copy>(
@@ -214,7 +190,7 @@ fn close_from(text: &[char], start: usize) -> Option<usize>
     None
 }
 
-/// The fault at a place where no unit stands: where it is, in characters, and what it is.
+/// The fault at a place where no unit starts: where it is, in characters, and what it is.
 fn fault_at(text: &[char], place: usize) -> PatternError
     requires { place < length text.now }
     ensures place { result.pos ≡ (fault_at text.now place).place }
@@ -256,7 +232,7 @@ fn has(text: &[char], place: usize, c: char) -> bool
     place < text.len() && text[place] == c
 }
 
-/// Whether a component begins at a place: it is the start, or `/` stands before it.
+/// Whether a component starts at a place: it is the start, or a `/` is before it.
 fn opens(text: &[char], place: usize) -> bool
     requires { place ≤ length text.now }
     ensures { result ≡ opens text.now place }

@@ -61,7 +61,7 @@ pub fn looser_rules_keep_a_match()
     ensures patterns { PatternsLoosened }
 {}
 
-/// A pattern without `?`, `*` and `[` stands for itself: `a]` matches `a]` alone, with case.
+/// A pattern without `?`, `*` and `[` matches itself: `a]` matches `a]` alone, case-sensitively.
 pub fn plain_pattern_matches_itself()
     ensures accepted { PlainAccepted }
     ensures same { PlainMatchesSame }
@@ -73,7 +73,8 @@ pub fn deep_tokens_match_as_one()
     ensures { FoldedMatchSame }
 {}
 
-/// An escaped text matches the text, whatever the rules: `[*]`, the escaped `*`, matches `*`, and with case alone.
+/// An escaped text matches the text, whatever the rules: `[*]`, the escaped `*`, matches `*`, and case-sensitively
+/// nothing else.
 pub fn escaped_text_matches_itself()
     ensures accepted { EscapedAccepted }
     ensures same { EscapedMatchesSame }

@@ -1,17 +1,12 @@
-ghost use Rattle.std.specs.Prelude.{◌≡◌, ℕ, ◌+◌, ◌-◌, ◌*◌, ◌^◌, ◌<◌, ◌≤◌, ◌↔◌, false, length, IsTrue, IsOk, IfOk, IfSome, count_ones};
-ghost use Rattle.glob_pattern.specs.Private.Positions.{AreShapeMasks};
-ghost use Rattle.glob_pattern.specs.Matching.Splits.{Table, TakesAll, Splits};
+ghost use Rattle.std.specs.Prelude.{◌≡◌, ℕ, ◌+◌, ◌-◌, ◌*◌, ◌^◌, ◌<◌, ◌≤◌, ◌↔◌, false, length, IsTrue, IsOk, IfOk, count_ones};
+ghost use Rattle.glob_pattern.specs.Matching.Splits.{Table, Splits};
 ghost use Rattle.std.specs.Int.{IsBitSet};
 
-mod many_words;
-mod one_word;
-mod prefix;
-mod shape_masks;
+mod positions;
+mod shape_word;
 
-use many_words::run_many_words;
-use one_word::run_one_word;
-use prefix::take_prefix;
-pub use shape_masks::ShapeMasks;
+pub use positions::{Span, decide};
+pub use shape_word::{ShapeWord, shape_words};
 use std::alloc::{AllocError, Allocator};
 
 /// Which pieces of a text a token may match. The shapes of `**/*a` are `Deep`, `Run` and `One`.
@@ -26,7 +21,7 @@ pub enum Shape {
 }
 
 /// Answers questions about a list of characters and a list of tokens, both numbered from 0: which token takes which
-/// character. A judge stands at a place: the number of characters that it has stepped over. It counts the questions.
+/// character. A judge is at a place: the number of characters that it has stepped over. It counts the questions.
 ///
 /// For the text `ab` and the tokens of `a*`, a judge returns true for `step()`, then for `takes(0)` and `takes(1)`.
 /// After another `step()` it returns false for `takes(0)` and true for `takes(1)`; then `asked()` is 4, and `step()`
@@ -49,7 +44,7 @@ pub trait Judge {
             → (place self.new ≡ place self.old)
             × ((table self.new).characters ≡ place self.old) };
 
-    /// Whether a component begins at the place of the judge: for the text `a/b` at the places 0 and 2.
+    /// Whether a component starts at the place of the judge: for the text `a/b` at the places 0 and 2.
     fn opens(&self) -> bool
         ensures { result ≡ (table self.now).opens (place self.now) };
 
@@ -64,19 +59,18 @@ pub trait Judge {
         ensures count { count self.new ≡ count self.old + 1 }
         ensures value { result ≡ (table self.old).takes token (place self.old - 1) };
 
-    /// Which of up to 64 tokens take the character last stepped over. Bit n of `asked` asks token 64 · `word` + n, and
-    /// the result has the bits of those that take the character. So `takes_each(1, 0b101)` asks tokens 64 and 66.
-    /// Raises the count by one for each bit of `asked`. `step` must have returned true before, each bit must be of a
-    /// token in the list, and the count must have room.
+    /// Which of up to 63 tokens take the character last stepped over. Bit n of `asked` asks token 63 · `word` + n, and
+    /// the result has the bits of those that take the character. So `takes_each(1, 0b101)` asks tokens 63 and 65.
+    /// Raises the count by one for each bit of `asked`. `step` must have returned true before, each bit must be below 63
+    /// and of a token in the list, and the count must have room.
     ///
     /// This body calls [`takes`](Self::takes) for one token after another. A judge that knows many answers at once may
     /// have its own.
     #[inline]
     fn takes_each(&mut self, word: usize, asked: u64) -> u64
         requires stepped { 0 < place self.old }
-        requires within { 64 * word + 64 ≤ 2 ^ 64 }
-        requires tokens { (j : ℕ)
-            → IsBitSet asked j → 64 * word + j < (table self.old).tokens }
+        requires tokens { (j : ℕ) → IsBitSet asked j
+            → (j < 63) × (63 * word + j < 2 ^ 64) × (63 * word + j < (table self.old).tokens) }
         requires room { count self.old + count_ones asked < 2 ^ 128 }
         ensures same { table self.new ≡ table self.old }
         ensures place { place self.new ≡ place self.old }
@@ -84,113 +78,19 @@ pub trait Judge {
         ensures took { (j : ℕ) → j < 64
             → IsBitSet result j
             ↔ (IsBitSet asked j
-            × IsTrue ((table self.old).takes (64 * word + j) (place self.old - 1))) }
+            × IsTrue ((table self.old).takes (63 * word + j) (place self.old - 1))) }
     {
         let mut left = asked;
         let mut took = 0u64;
         while left != 0 {
             let bit = left.trailing_zeros();
-            if self.takes(64 * word + bit as usize) {
+            if self.takes(63 * word + bit as usize) {
                 took |= 1 << bit;
             }
             left &= left - 1;
         }
         took
     }
-
-    /// Whether a token takes each character that the judge has not stepped over. Then the count rises by one for each
-    /// of them; the judge stays at its place. It may also return false where the token does take them. So for the text
-    /// `ab` and the token of `*` a judge may return true, and its count rises by 2. The token must be in the list, and
-    /// the count must have room.
-    ///
-    /// This body returns false. A judge that knows the answer without a question may have its own.
-    #[inline]
-    fn takes_rest(&mut self, token: usize) -> bool
-        requires token { token < (table self.old).tokens }
-        requires room { count self.old
-            + ((table self.old).characters - place self.old) < 2 ^ 128 }
-        ensures same { table self.new ≡ table self.old }
-        ensures place { place self.new ≡ place self.old }
-        ensures value { IsTrue result
-            → TakesAll (table self.old) token (place self.old) (table self.old).characters }
-        ensures asked { IsTrue result
-            → count self.new ≡ count self.old + ((table self.old).characters - place self.old) }
-        ensures unasked { result ≡ false → count self.new ≡ count self.old }
-    {
-        false
-    }
-
-    /// Steps over further characters, as many as the judge likes. Bit n of `asked` and of `took` is token n. A character
-    /// is stepped over only if exactly those of `took`, of the tokens of `asked`, take it, and a place where a component
-    /// begins is passed only if `across` is true. The count rises for each character by one for each bit of `asked`.
-    ///
-    /// So after one `step`, over the `a` of `abc`, `skip(0b1, 0b1, false)` may step over `b` and `c`, if token 0 takes
-    /// both. Each bit of `asked` must be of a token in the list, and the count must have room for all characters that
-    /// are left.
-    ///
-    /// This body steps over none. A judge that knows the answers of many characters at once may have its own.
-    #[inline]
-    fn skip(&mut self, asked: u64, took: u64, across: bool)
-        requires within { place self.old ≤ (table self.old).characters }
-        requires tokens { (j : ℕ) → IsBitSet asked j → j < (table self.old).tokens }
-        requires room { count self.old
-            + count_ones asked * ((table self.old).characters - place self.old) < 2 ^ 128 }
-        ensures same { table self.new ≡ table self.old }
-        ensures forward { place self.old ≤ place self.new }
-        ensures within { place self.new ≤ (table self.old).characters }
-        ensures count { count self.new
-            ≡ count self.old + count_ones asked * (place self.new - place self.old) }
-        ensures took { (k : ℕ) → place self.old ≤ k → k < place self.new
-            → (j : ℕ) → j < 64
-            → IsBitSet took j
-            ↔ (IsBitSet asked j × IsTrue ((table self.old).takes j k)) }
-        ensures inside { across ≡ false → (k : ℕ) → place self.old < k → k ≤ place self.new
-            → (table self.old).opens k ≡ false }
-    {}
-
-    /// How many of the next characters, `most` at most, 64 tokens answer alike: exactly those of `took`, of the tokens
-    /// of `asked`, take each. Bit n of both is token 64 · `word` + n. They end before a place where a component begins,
-    /// unless `across` is true. It may return fewer. The judge stays at its place, and nothing is counted.
-    ///
-    /// So after one `step`, over the `a` of `abc`, `alike(0, 0b1, 0b1, 8, false)` may return 2, if token 0 takes `b`
-    /// and `c`. Each bit of `asked` must be of a token in the list.
-    ///
-    /// This body returns 0. A judge that knows the answers of many characters at once may have its own, and then
-    /// [`step_over`](Self::step_over), too.
-    #[inline]
-    fn alike(&self, word: usize, asked: u64, took: u64, most: usize, across: bool) -> usize
-        requires within { place self.now ≤ (table self.now).characters }
-        requires tokens { (j : ℕ)
-            → IsBitSet asked j → 64 * word + j < (table self.now).tokens }
-        ensures most { result ≤ most }
-        ensures within { place self.now + result ≤ (table self.now).characters }
-        ensures took { (k : ℕ) → place self.now ≤ k → k < place self.now + result
-            → (j : ℕ) → j < 64
-            → IsBitSet took j
-            ↔ (IsBitSet asked j × IsTrue ((table self.now).takes (64 * word + j) k)) }
-        ensures inside { across ≡ false
-            → (k : ℕ) → place self.now < k → k ≤ place self.now + result
-            → (table self.now).opens k ≡ false }
-    {
-        0
-    }
-
-    /// Steps over further characters, `most` at most, and raises the count by `questions` for each. At least `most`
-    /// characters must be left, as where [`alike`](Self::alike) found them, and the count must have room for them.
-    ///
-    /// So after one `step`, over the `a` of `abc`, `step_over(2, 3)` may step over `b` and `c`; then the count rises by 6.
-    ///
-    /// This body steps over none.
-    #[inline]
-    fn step_over(&mut self, most: usize, questions: u64)
-        requires within { place self.old + most ≤ (table self.old).characters }
-        requires room { count self.old + questions * most < 2 ^ 128 }
-        ensures same { table self.new ≡ table self.old }
-        ensures forward { place self.old ≤ place self.new }
-        ensures most { place self.new ≤ place self.old + most }
-        ensures count { count self.new
-            ≡ count self.old + questions * (place self.new - place self.old) }
-    {}
 
     /// The count: how many questions were asked.
     fn asked(&self) -> u128
@@ -226,43 +126,16 @@ pub fn run_positions<A: Allocator + Copy, J: Judge>(
     // With at most 63 shapes it succeeds.
     ensures small { length shapes.now < 64 → IsOk result }
 {
-    run_known(alloc, shapes, None, judge)
-}
-
-/// [`run_positions`], by a caller that may have the masks of the first 64 shapes already.
-#[inline(always)]
-pub fn run_known<A: Allocator + Copy, J: Judge>(
-    alloc: A,
-    shapes: &[Shape],
-    known: Option<ShapeMasks>,
-    judge: &mut J,
-) -> Result<bool, AllocError>
-    requires known { IfSome known (AreShapeMasks shapes.now 0 (length shapes.now)) }
-    requires tokens { length shapes.now ≤ (J.table judge.old).tokens }
-    requires start { J.place judge.old ≡ 0 }
-    requires room { J.count judge.old
-        + length shapes.now * (J.table judge.old).characters < 2 ^ 128 }
-    ensures answer { IfOk result
-        (λ yes. IsTrue yes ↔ Splits (J.table judge.old) shapes.now) }
-    ensures most { J.count judge.new
-        ≤ J.count judge.old + length shapes.now * (J.table judge.old).characters }
-    ensures least { IfOk result
-        (λ yes. IsTrue yes
-        → J.count judge.old + (J.table judge.old).characters ≤ J.count judge.new) }
-    ensures monotone { J.count judge.old ≤ J.count judge.new }
-    ensures same { J.table judge.new ≡ J.table judge.old }
-    ensures small { length shapes.now < 64 → IsOk result }
-{
-    let Some(prefix) = take_prefix(shapes, judge) else {
-        return Ok(false);
-    };
-    if prefix == shapes.len() {
-        return Ok(!judge.step());
-    }
     if shapes.len() < 64 {
-        let masks = ShapeMasks::of(shapes, known);
-        Ok(run_one_word(shapes, masks, prefix, judge))
+        decide(
+            alloc,
+            shapes,
+            &[ShapeWord::new(shapes, 0)],
+            Span::all(shapes),
+            judge,
+        )
     } else {
-        run_many_words(alloc, shapes, prefix, judge)
+        let words = shape_words(alloc, shapes)?;
+        decide(alloc, shapes, words.as_slice(), Span::all(shapes), judge)
     }
 }

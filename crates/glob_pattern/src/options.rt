@@ -31,7 +31,7 @@ impl MatchOptions {
 impl Default for MatchOptions {
     ghost is_default = { λ options. options ≡ default_options };
 
-    /// Without case, the separator rule and the dot rule: so `A*` matches `a/b`.
+    /// Case-insensitive, without the separator rule and the dot rule: so `A*` matches `a/b`.
     fn default() -> Self {
         MatchOptions {
             case_sensitive: false,

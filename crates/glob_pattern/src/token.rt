@@ -8,7 +8,7 @@ use crate::matcher::Shape;
 use bracket::Bracket;
 use std::alloc::Allocator;
 
-/// What a unit of a pattern stands for. `C` is what stands in a bracket.
+/// A token: what a unit of a pattern means. `C` is the content of a bracket.
 #[derive(Clone, Debug, Drop)]
 pub enum Token<C> {
     /// A character.

@@ -56,6 +56,11 @@ impl<'a> TableJudge<'a> {
             count: 0,
         }
     }
+
+    /// How many characters it has stepped over.
+    pub fn place(&self) -> usize {
+        self.place
+    }
 }
 
 impl Judge for TableJudge<'_> {

@@ -11,6 +11,7 @@ mod memory_of_lines;
 mod options;
 mod plain_parts;
 mod printing;
+mod questions;
 mod readme;
 mod repeated;
 mod sizes;

@@ -32,7 +32,7 @@ fn compile(text: &str, times: u32) -> Result<u64> {
     Ok(count)
 }
 
-/// The pattern that a word stands for: its own text, or for `@FILE` that of the file.
+/// The pattern of a word: its own text, or for `@FILE` that of the file.
 fn pattern_text(word: &str) -> Result<String> {
     match word.strip_prefix('@') {
         Some(file) => Ok(fs::read_to_string(file)?),

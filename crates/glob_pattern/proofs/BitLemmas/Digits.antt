@@ -1,10 +1,10 @@
 -- Which binary digits of a word are 1, after the operations on words.
-use Rattle.std.proofs.Common.{◌≡◌, ℕ, suc, ◌+◌, ◌-◌, ◌*◌, ◌/◌, ◌%◌, ◌^◌, ◌<◌, ◌≤◌, ◌≢◌, ◌⊎◌, ◌↔◌, min, max, Bool, true, false, not, nat_eq, IsTrue, bit_and, bit_or, bit_xor, refl, sym, ap, ◌∙◌, inl, inr, ⊎_elim, arith, add-zero}
+use Rattle.std.proofs.Common.{◌≡◌, ℕ, suc, ◌+◌, ◌-◌, ◌*◌, ◌/◌, ◌%◌, ◌^◌, ◌<◌, ◌≢◌, ◌⊎◌, ◌↔◌, min, max, Bool, true, false, not, nat_eq, IsTrue, bit_and, bit_or, bit_xor, refl, sym, ap, ◌∙◌, inl, inr, ⊎_elim, arith, add-zero}
 use Rattle.std.specs.Int.{bit_at, bit_not, w64}
 use mir.Val.{bool_byte}
 use Rattle.std.proofs.lemmas.Bool.{cases_eq, false≢true, eqb-false, ne_eqb, not-true}
-use Rattle.std.proofs.lemmas.Nat.{one_shl, shr_split, and_le_r}
-use Rattle.std.proofs.lemmas.Nat.Bits.{bit_at-zero, bit_at_and, bit_at_or, bit_at_xor, bit_at_not, bit_at-lt, bit_at-pow_same, bit_at-pow_other, bit_at_cat_low, bit_at_above, bit_at_lowest, bit_at-suc, shr_and_one}
+use Rattle.std.proofs.lemmas.Nat.{one_shl, shr_split}
+use Rattle.std.proofs.lemmas.Nat.Bits.{bit_at-zero, bit_at_and, bit_at_or, bit_at_xor, bit_at_not, bit_at-lt, bit_at-pow_same, bit_at-pow_other, bit_at_cat_low, bit_at_lowest, bit_at-suc, shr_and_one}
 use Rattle.glob_pattern.proofs.PositionLemmas.Spreading.{spread, spread-low, spread-next}
 
 -- digit j of the word is 1
@@ -98,21 +98,6 @@ IsOne-closed word mask j lt =
     let same : bit_at (bit_or word (bit_xor ((bit_and word mask + mask) % 2 ^ 64) mask)) j ≡ bit_at (spread word mask 0) j =
     bit_at_or word _ j ∙ ap (max (bit_at word j)) (bit_at_xor _ mask j ∙ ap (λ x. (x + bit_at mask j) % 2) sum ∙ sym (bit_at_xor _ mask j)) ∙ sym (bit_at_or word _ j) in
     (λ h. sym same ∙ h, λ h. same ∙ h)
-
--- the bit that spreads past the end of a word
-pub spread_past : (word mask : ℕ) → word < 2 ^ 64 → mask < 2 ^ 64 → (2 ^ 64 ≤ bit_and word mask + mask) ↔ (IsOne mask 63 × IsOne (spread word mask 0) 63)
-spread_past word mask fits mask_fits =
-    let above : bit_at word 64 ≡ 0 = bit_at_above word 64 64 fits (omega arith) in
-    let mask_above : bit_at mask 64 ≡ 0 = bit_at_above mask 64 64 mask_fits (omega arith) in
-    let none : IsOne word 64 → ⊥ = λ s. omega arith in
-    let low : bit_and word mask ≤ mask = and_le_r word mask in
-    let next = IsOne-spread_next word mask 63 in
-    let or = IsOne-or word (bit_xor (bit_and word mask + mask + 0) mask) 64 in
-    let xor : bit_at (bit_xor (bit_and word mask + mask + 0) mask) 64 ≡ (bit_at (bit_and word mask + mask + 0) 64 + bit_at mask 64) % 2 = bit_at_xor _ mask 64 in
-    let high : bit_at (bit_and word mask + mask + 0) 64 ≡ (bit_and word mask + mask + 0) / 2 ^ 64 % 2 = refl in (
-      λ le. ⊎_elim (λ s. absurd (none s)) (λ both. both) (next.0 (or.1 (inr (omega arith)))),
-      λ both. ⊎_elim (λ s. absurd (none s)) (λ s. omega arith) (or.0 (next.1 (inr both))),
-    )
 
 -- what is left of a word moved down by 63 is its highest bit
 pub highest_set : (a : ℕ) → a < 2 ^ 64 → (a / 2 ^ 63 ≢ 0) ↔ IsOne a 63

@@ -1,5 +1,5 @@
 -- Which bits of a word are set, after the operations on words.
-use Rattle.std.proofs.Common.{◌≡◌, ℕ, suc, ◌+◌, ◌*◌, ◌/◌, ◌%◌, ◌^◌, ◌<◌, ◌≤◌, ◌≢◌, ◌⊎◌, ◌↔◌, Bool, not, nat_eq, IsTrue, bit_and, bit_or, bit_xor, sym, ◌∙◌, inl, inr, ⊎_elim, arith}
+use Rattle.std.proofs.Common.{◌≡◌, ℕ, suc, ◌+◌, ◌*◌, ◌/◌, ◌%◌, ◌^◌, ◌<◌, ◌≢◌, ◌⊎◌, ◌↔◌, Bool, not, nat_eq, IsTrue, bit_and, bit_or, bit_xor, sym, ◌∙◌, inl, inr, ⊎_elim, arith}
 use Rattle.std.specs.Int.{IsBitSet, bit_at, bit_not, w64}
 use mir.Val.{bool_byte}
 use Rattle.std.proofs.lemmas.Bool.{cases_eq, cases_lt}
@@ -97,28 +97,12 @@ IsBitSet-moved_next a low j lt = two_from (bit_or (a * 2 ^ 1 % 2 ^ 64) (bool_byt
 pub IsBitSet-closed : (word mask j : ℕ) → j < 64 → IsBitSet (bit_or word (bit_xor ((bit_and word mask + mask) % 2 ^ 64) mask)) j ↔ IsBitSet (spread word mask 0) j
 IsBitSet-closed word mask j lt = two_from (bit_or word (bit_xor ((bit_and word mask + mask) % 2 ^ 64) mask)) (spread word mask 0) j j (digits.IsOne-closed word mask j lt)
 
--- the bit that spreads past the end of a word
-pub spread_past : (word mask : ℕ) → word < 2 ^ 64 → mask < 2 ^ 64 → (2 ^ 64 ≤ bit_and word mask + mask) ↔ (IsBitSet mask 63 × IsBitSet (spread word mask 0) 63)
-spread_past word mask fits mask_fits =
-    let past = digits.spread_past word mask fits mask_fits in
-    let masked = IsBitSet-iff_one mask 63 in
-    let last = IsBitSet-iff_one (spread word mask 0) 63 in
-    (λ le. let (s, t) = past.0 le in (masked.1 s, last.1 t), λ (s, t). past.1 (masked.0 s, last.0 t))
-
 -- what is left of a word moved down by 63 is its highest bit
 pub highest_set : (a : ℕ) → a < 2 ^ 64 → (a / 2 ^ 63 ≢ 0) ↔ IsBitSet a 63
 highest_set a fits =
     let high = digits.highest_set a fits in
     let last = IsBitSet-iff_one a 63 in
     (λ ne. last.1 (high.0 ne), λ s. high.1 (last.0 s))
-
-pub IsBitSet-any_of_three : (a b c j : ℕ) → IsBitSet (bit_or (bit_or a b) c) j ↔ (IsBitSet a j ⊎ IsBitSet b j ⊎ IsBitSet c j)
-IsBitSet-any_of_three a b c j =
-    let two = IsBitSet-or a b j in
-    let all = IsBitSet-or (bit_or a b) c j in (
-      λ h. ⊎_elim (λ s. ⊎_elim inl (λ t. inr (inl t)) (two.0 s)) (λ s. inr (inr s)) (all.0 h),
-      λ h. all.1 (⊎_elim (λ s. inl (two.1 (inl s))) (λ others. ⊎_elim (λ s. inl (two.1 (inr s))) inr others) h),
-    )
 
 -- the test of a bit
 pub IsBitSet-test : (a j : ℕ) → IsTrue (not (nat_eq (bit_and (a / 2 ^ j) 1) 0)) ↔ IsBitSet a j

@@ -2,9 +2,9 @@
 use Rattle.std.proofs.Common.{◌≡◌, ℕ, ◌+◌, ◌-◌, ◌<◌, ◌≤◌, eqb, List, [], ◌∷◌, length, drop, get_or, Option, Some, None, Decides, refl, ap, sym, ◌∙◌, subst, inl, inr, arith}
 use Rattle.std.specs.Prelude.{◌==◌}
 use Rattle.std.specs.List.{position_from}
-use Rattle.std.proofs.lemmas.Bool.{cond_both, cases_lt, eqb-true, eqb-false, eq-eqb, ne_eqb}
+use Rattle.std.proofs.lemmas.Bool.{cond_both, cases_lt, eqb-true, eqb-false}
 use Rattle.std.proofs.lemmas.Bool.Decides.{Decides-and, Decides-ltb, Decides-eqb}
-use Rattle.std.proofs.lemmas.List.{drop_more, drop_all, length-drop}
+use Rattle.std.proofs.lemmas.List.{drop_more, length-drop}
 use Rattle.glob_pattern.specs.Grammar.Characters.{close_bracket}
 use Rattle.glob_text.specs.Text.{Text, Has}
 use Rattle.glob_pattern.specs.Grammar.Units.{NoCloseBetween, ClosesBefore}
@@ -73,13 +73,3 @@ IsFirstClose-same text i k (Some j) found first =
 pub close_from-ClosesBefore : (text : Text) (i e : ℕ) → ClosesBefore text i e → close_from text i ≡ Some (e - 1)
 close_from-ClosesBefore text i e closes =
     IsFirstClose-same text i (e - 1) (close_from text i) (IsFirstClose-close_from text i) (omega (arith, closes.0), closes.1, closes.2)
-
--- the search, one place on
-pub close_from-here : (text : Text) (i : ℕ) → i < length text → get_or text i 0 ≡ close_bracket → close_from text i ≡ Some i
-close_from-here text i within here = rw (drop_more text i 0 within, eq-eqb (get_or text i 0) close_bracket here) refl
-
-pub close_from-later : (text : Text) (i : ℕ) → i < length text → ¬ (get_or text i 0 ≡ close_bracket) → close_from text i ≡ close_from text (i + 1)
-close_from-later text i within other = rw (drop_more text i 0 within, ne_eqb (get_or text i 0) close_bracket other) refl
-
-pub close_from-end : (text : Text) (i : ℕ) → length text ≤ i → close_from text i ≡ None
-close_from-end text i past = rw (drop_all i text past) refl

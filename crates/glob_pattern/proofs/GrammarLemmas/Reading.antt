@@ -138,17 +138,10 @@ reading_of-IsFault text fault is =
 abbrev pub HasRead : Text → List Token → ℕ → Type 0
 HasRead text tokens f = (units : List Token) × UnitsBetween text 0 units f × (tokens ≡ tokens_of_units units)
 
-pub HasRead-start : (text : Text) → HasRead text [] 0
-HasRead-start text = ([], refl, refl)
-
 -- one more unit
 pub HasRead-more : (text : Text) (tokens more : List Token) (f : ℕ) (t : Token) (e : ℕ) → HasRead text tokens f → UnitAt text f t e → ((units : List Token) → tokens ≡ tokens_of_units units → more ≡ tokens_of_units (units ++ t ∷ [])) → HasRead text more e
 HasRead-more text tokens more f t e has unit pushed =
     (has.0 ++ t ∷ [], UnitsBetween-push text 0 has.0 f t e has.1 unit, pushed has.0 has.2)
-
--- all is read
-pub HasTokens-HasRead : (text : Text) (tokens : List Token) (f : ℕ) → HasRead text tokens f → f ≡ length text → HasTokens text tokens
-HasTokens-HasRead text tokens f has e = subst (HasRead text tokens) e has
 
 -- no unit is found
 pub IsFault-HasRead : (text : Text) (tokens : List Token) (f place : ℕ) (message : List ℕ) → HasRead text tokens f → f < length text → unit_at text f ≡ None → place ≡ (fault_at text f).place → message ≡ (fault_at text f).message → IsFault text (record { place = place; message = message })

@@ -1,18 +1,12 @@
 -- Stepping over several characters at once.
-use Rattle.std.proofs.Common.{◌≡◌, ℕ, suc, ◌+◌, ◌-◌, ◌<◌, ◌≤◌, Bool, true, false, slice_index, List, [], ◌∷◌, ◌++◌, length, take, drop, get_or, ◌==◌, refl, sym, ap, ◌∙◌, arith}
-use Rattle.std.proofs.Math.ListN.{get_or-append}
-use Rattle.std.proofs.lemmas.Bool.{false≢true, false_from_ne_true}
-use Rattle.std.proofs.lemmas.List.{take-append-drop, length-take-le, get_or-take, get_or-drop}
-use Rattle.std.proofs.lemmas.Str.{chars-append, chars-IsAscii, IsUtf8-from_ascii}
-use Rattle.std.specs.Str.{chars, IsAscii}
-use Rattle.glob_text.specs.Text.{Text, opens}
+use Rattle.std.proofs.Common.{◌≡◌, ℕ, suc, ◌+◌, ◌-◌, ◌<◌, ◌≤◌, Bool, List, [], ◌∷◌, ◌++◌, length, take, drop, get_or, ◌==◌, refl, sym, ap, ◌∙◌, arith}
+use Rattle.std.proofs.lemmas.List.{take-append-drop, length-take-le, get_or-take}
+use Rattle.std.proofs.lemmas.Str.{chars-append, chars-IsAscii, IsUtf8-from_ascii, IsCharBoundary-after_ascii}
+use Rattle.std.specs.Str.{chars, IsAscii, IsUtf8, IsCharBoundary}
+use Rattle.glob_text.specs.Text.{Text}
 use Rattle.glob_text.specs.Characters.{slash}
 use Rattle.glob_pattern.specs.Private.Stepping.{place_before, StandsBefore}
-use Rattle.glob_pattern.specs.Grammar.Tokens.{Token}
-use Rattle.glob_pattern.specs.Matching.Taking.{takes}
-use Rattle.glob_pattern.specs.declared.options.MatchOptions.{MatchOptions}
-use Rattle.glob_pattern.specs.declared.token.Token.TheVariants.{Plain, Any, Run, Deep, Within, Except}
-use Rattle.glob_pattern.proofs.MatchingLemmas.Stepping.{StandsBefore-step, place_before-step, opens-suc}
+use Rattle.glob_pattern.proofs.MatchingLemmas.Stepping.{StandsBefore-step, place_before-step}
 
 -- leading bytes of ASCII are characters
 pub chars-leading_ascii : (bytes : List ℕ) (n : ℕ) → IsAscii (take n bytes) → chars bytes ≡ take n bytes ++ chars (drop n bytes)
@@ -20,6 +14,13 @@ chars-leading_ascii bytes n ascii =
     ap chars (sym (take-append-drop n bytes))
     ∙ (chars-append (take n bytes) (drop n bytes) (IsUtf8-from_ascii (take n bytes) ascii)
     ∙ ap (λ front. front ++ chars (drop n bytes)) (chars-IsAscii (take n bytes) ascii))
+
+-- and a text may be cut after them
+pub boundary-after_ascii : (bytes : List ℕ) (n : ℕ) → IsUtf8 bytes → 0 < n → n ≤ length bytes → IsAscii (take n bytes) → IsCharBoundary bytes n
+boundary-after_ascii bytes n utf8 some within ascii =
+    let back : n - 1 + 1 ≡ n = omega arith in
+    let last : get_or bytes (n - 1) 0 < 128 = omega (arith, ascii (n - 1), get_or-take n bytes (n - 1) 0 (omega arith)) in
+    rw back at (IsCharBoundary-after_ascii bytes (n - 1) utf8 (omega arith) last)
 
 -- What a judge knows of its place after some characters more: of the last of them, and of the one before.
 pub record Passed (text front back : Text) (opening opened : Bool) : Type 0 where
@@ -71,35 +72,3 @@ Passed-from_bytes text bytes rest n current before opening opened some within as
       (rw long at passed.place) ∙ ap (λ t. place_before text t + n) (sym split),
       passed.within,
     )
-
-module _ (text : Text) (bytes : List ℕ) (n place : ℕ) (within : n ≤ length bytes) (ascii : IsAscii (take n bytes)) (here : chars bytes ≡ drop place text) where
-  -- each of the bytes is the character at its place
-  pub character-from_byte : (k : ℕ) → place ≤ k → k < place + n → slice_index text k ≡ get_or bytes (k - place) 0
-  character-from_byte k from below =
-      let at : place + (k - place) ≡ k = omega (arith, from) in
-      let long = length-take-le n bytes within in
-      let before : k - place < n = omega (arith, from, below) in
-      rw at at (sym (get_or-drop place text (k - place) 0))
-      ∙ (ap (λ t. get_or t (k - place) 0) (sym here ∙ chars-leading_ascii bytes n ascii)
-      ∙ (get_or-append (take n bytes) (chars (drop n bytes)) 0 (k - place) (omega (arith, before, long))
-      ∙ get_or-take n bytes (k - place) 0 before))
-
-  -- and says whether a component begins after it
-  pub opens-from_byte : (k : ℕ) → place < k → k ≤ place + n → opens text k ≡ (get_or bytes (k - place - 1) 0 == slash)
-  opens-from_byte k after within =
-      let next : k ≡ suc (k - 1) = omega (arith, after) in
-      let back : k - 1 - place ≡ k - place - 1 = omega arith in
-      ap (opens text) next ∙ (opens-suc text (k - 1) ∙ ap (λ c. c == slash) (rw back at (character-from_byte (k - 1) (omega (arith, after)) (omega (arith, after, within)))))
-
--- a character that no component begins with, or where dots do not matter, is taken as it is elsewhere
-dots_off : (o : MatchOptions) → (o.require_literal_leading_dot ≡ true → true ≡ false) → o.require_literal_leading_dot ≡ false
-dots_off o inside = false_from_ne_true _ (λ e. false≢true (sym (inside e)))
-
-pub takes-inside : (o : MatchOptions) (opening : Bool) (c : ℕ) (t : Token) → (o.require_literal_leading_dot ≡ true → opening ≡ false) → takes o opening c t ≡ takes o false c t
-takes-inside o false c t inside = refl
-takes-inside o true c (Plain x) inside = refl
-takes-inside o true c Any inside = rw (dots_off o inside) refl
-takes-inside o true c Run inside = rw (dots_off o inside) refl
-takes-inside o true c Deep inside = rw (dots_off o inside) refl
-takes-inside o true c (Within e) inside = rw (dots_off o inside) refl
-takes-inside o true c (Except e) inside = rw (dots_off o inside) refl

@@ -1,11 +1,7 @@
 -- Stepping through a text.
-use Rattle.std.proofs.Common.{◌≡◌, ℕ, suc, ◌+◌, ◌-◌, ◌<◌, ◌≤◌, Bool, false, ◌∷◌, length, drop, refl, arith, sym, ap, ◌∙◌, slice_index, get_or, ◌==◌, length-drop, List, ◌++◌, ⊎_elim}
+use Rattle.std.proofs.Common.{◌≡◌, ℕ, suc, ◌+◌, ◌-◌, ◌<◌, ◌≤◌, Bool, false, ◌∷◌, length, drop, refl, arith, sym, ap, ◌∙◌, slice_index, get_or, ◌==◌, length-drop}
 use Rattle.std.proofs.Math.Seq.{drop-cons}
-use Rattle.std.proofs.lemmas.Bool.{cases_eq, cases_lt, ne_eqb}
 use Rattle.std.proofs.lemmas.Bool.Decides.{nat_tests}
-use Rattle.std.proofs.lemmas.List.{get_or_past}
-use Rattle.std.proofs.lemmas.Str.{byte_from_char, char_from_byte}
-use lib.Utf8.{encode}
 use Rattle.glob_text.specs.Text.{Text, opens}
 use Rattle.glob_text.specs.Characters.{slash}
 use Rattle.glob_pattern.specs.Private.Stepping.{place_before, StandsBefore}
@@ -30,17 +26,6 @@ opens-suc text p =
     let back : suc p - 1 ≡ p = omega arith in
     let later : (suc p == 0) ≡ false = grind (arith, nat_tests) in
     rw (back, later) refl
-
--- the first byte says whether the first character is a slash
-pub slash-by_byte : (bytes rest : List ℕ) (c : ℕ) → bytes ≡ encode c ++ rest → (get_or bytes 0 0 == slash) ≡ (c == slash)
-slash-by_byte bytes rest c is =
-    ⊎_elim
-    (λ e. ap (λ d. d == slash) (byte_from_char bytes rest c is (omega arith)))
-    (λ ne. ne_eqb (get_or bytes 0 0) slash (λ e. ne (char_from_byte bytes rest c is (omega arith) (some e) ∙ e)) ∙ sym (ne_eqb c slash ne))
-    (cases_eq c slash)
-  where
-    some : get_or bytes 0 0 ≡ slash → 0 < length bytes
-    some e = ⊎_elim (λ lt. lt) (λ none. absurd (omega (arith, e, get_or_past bytes 0 0 none))) (cases_lt 0 (length bytes))
 
 -- one step on
 pub StandsBefore-step : (text rest : Text) (c current : ℕ) (opened opening : Bool)

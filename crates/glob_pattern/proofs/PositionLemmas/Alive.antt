@@ -173,9 +173,3 @@ module _ (table : Table) (shapes : List Shape) where
   asked_more from start k next old new at more before n le alive =
       let (m, within, was) = IsAlive-before n k le (rw (at, add-one) at alive) in
       omega (arith, more n le alive, before m within was)
-
-  -- where all characters split, each was asked about
-  pub asked_all : (from start k count : ℕ) → table.characters ≡ k → ((n : ℕ) → n ≤ length shapes → IsAlive table shapes n k → start + k ≤ count + from) → Splits table shapes → start + table.characters ≤ count + from
-  asked_all from start k count at asked split =
-      let alive : IsAlive table shapes (length shapes) k = subst (IsAlive table shapes (length shapes)) at (Splits-iff_alive.0 split) in
-      omega (arith, asked (length shapes) (omega arith) alive)

@@ -1,6 +1,6 @@
 -- Leading shapes of one character that have taken a character each, and places where nothing is alive.
-use Rattle.std.proofs.Common.{◌≡◌, ℕ, zero, suc, ◌+◌, ◌-◌, ◌<◌, ◌≤◌, ◌≢◌, ◌↔◌, Bool, true, false, not, List, length, get_or, IsTrue, refl, sym, subst, inl, inr, ⊎_elim, arith, add-one, below_more}
-use Rattle.std.proofs.lemmas.Bool.{cases_eq, cases_lt, false≢true}
+use Rattle.std.proofs.Common.{◌≡◌, ℕ, zero, suc, ◌+◌, ◌-◌, ◌<◌, ◌≤◌, ◌≢◌, ◌↔◌, List, length, get_or, IsTrue, sym, subst, inl, inr, ⊎_elim, arith, add-one, below_more}
+use Rattle.std.proofs.lemmas.Bool.{cases_lt}
 use Rattle.std.proofs.lemmas.List.{get_or_past}
 use Rattle.glob_pattern.specs.Matching.Splits.{Table, Splits}
 use Rattle.glob_pattern.specs.Private.Prefixes.{PrefixSplits, IsAlive, HasTaken, TakenByLast, IsTakenPrefix}
@@ -61,18 +61,6 @@ module _ (table : Table) (shapes : List Shape) where
         let e = (IsAlive-by_last n (omega arith)).0 a in
         none (subst (λ m. IsTrue (table.takes m k)) e t)
 
-    -- no token is left for the next character
-    none_left : k ≡ length shapes → (n : ℕ) → n < length shapes → HasTaken table shapes n (suc k) → ⊥
-    unfolding HasTaken
-    none_left all n lt (a, t) = let e = (IsAlive-by_last n (omega arith)).0 a in omega arith
-
-    -- the characters end here: they split where the shapes do too
-    Splits-by_last : table.characters ≡ k → Splits table shapes ↔ (length shapes ≡ k)
-    Splits-by_last end =
-        let split : Splits table shapes ↔ IsAlive table shapes (length shapes) table.characters = Splits-iff_alive table shapes in
-        let alive = IsAlive-by_last (length shapes) (omega arith) in
-        (λ h. alive.0 (subst (IsAlive table shapes (length shapes)) end (split.0 h)), λ e. split.1 (subst (IsAlive table shapes (length shapes)) (sym end) (alive.1 e)))
-
   -- where no token has taken a character, nothing is whole after it
   none_whole : (k : ℕ) → ((n : ℕ) → n < length shapes → HasTaken table shapes n (suc k) → ⊥) → (n : ℕ) → n ≤ length shapes → PrefixSplits table shapes n (suc k) → ⊥
   unfolding PrefixSplits
@@ -91,7 +79,7 @@ module _ (table : Table) (shapes : List Shape) where
   }
 
   -- where nothing is alive, nothing is later
-  IsDead-later : (m k : ℕ) → IsDead table shapes k → IsDead table shapes (m + k)
+  pub IsDead-later : (m k : ℕ) → IsDead table shapes k → IsDead table shapes (m + k)
   IsDead-later zero k dead = let e : k ≡ zero + k = omega arith in subst (IsDead table shapes) e dead
   IsDead-later (suc m) k dead =
       let before = IsDead-later m k dead in
@@ -121,29 +109,3 @@ module _ (table : Table) (shapes : List Shape) where
     -- or does not take it
     pub IsTakenPrefix-stuck : (IsTrue (table.takes n n) → ⊥) → n + 1 ≤ table.characters → Splits table shapes → ⊥
     IsTakenPrefix-stuck none le = dead-never_splits (suc n) (IsDead-from_none n (none_taken n reached.ones here reached.taken none)) (omega arith)
-
-    -- or there is none left
-    pub IsTakenPrefix-short : n < length shapes → table.characters ≡ n → Splits table shapes → ⊥
-    IsTakenPrefix-short lt end split = let e = (Splits-by_last n reached.ones here reached.taken end).0 split in omega arith
-
-  -- where all shapes are of one character, the characters split if no other is left
-  IsTakenPrefix-all : IsTakenPrefix table shapes (length shapes) → length shapes ≤ table.characters → Splits table shapes ↔ (table.characters ≡ length shapes)
-  IsTakenPrefix-all reached le =
-      let past : get_or shapes (length shapes) One ≡ One = get_or_past shapes (length shapes) One (omega arith) in
-      let left : length shapes < table.characters → Splits table shapes → ⊥ = λ lt.
-      dead-never_splits (suc (length shapes)) (IsDead-from_none (length shapes) (none_left (length shapes) reached.ones past reached.taken refl)) (omega arith) in (
-        λ split. ⊎_elim (λ e. e) (λ ne. absurd (left (omega arith) split)) (cases_eq table.characters (length shapes)),
-        λ e. (Splits-by_last (length shapes) reached.ones past reached.taken e).1 refl,
-      )
-
--- whether another character is left decides
-pub IsTakenPrefix-end : (table : Table) (shapes : List Shape) (stepped : Bool) → IsTakenPrefix table shapes (length shapes) → (stepped ≡ true → length shapes + 1 ≤ table.characters)
-    → (stepped ≡ false → table.characters ≡ length shapes) → IsTrue (not stepped) ↔ Splits table shapes
-IsTakenPrefix-end table shapes true reached more end =
-    let le = more refl in
-    let all = IsTakenPrefix-all table shapes reached (omega arith) in
-    (λ t. absurd (false≢true t), λ split. let e = all.0 split in absurd (omega arith))
-IsTakenPrefix-end table shapes false reached more end =
-    let e = end refl in
-    let all = IsTakenPrefix-all table shapes reached (omega arith) in
-    (λ t. all.1 e, λ split. refl)

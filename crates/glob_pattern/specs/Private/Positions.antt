@@ -1,86 +1,111 @@
--- Positions among shapes as bits: words of 64 bits that say which shapes there are and what pieces they may have, and
--- of leading shapes whether they are alive.
-use Rattle.std.specs.Prelude.{◌≡◌, ℕ, ◌+◌, ◌-◌, ◌*◌, ◌/◌, ◌<◌, ◌≤◌, ◌≢◌, ◌↔◌, Bool, List, length, slice_index_or, bit_and, IsTrue}
+-- Position sets as words of bits: each has 63 shapes, and its last bit is the position after them, the first one of the
+-- next word.
+use Rattle.std.specs.Prelude.{◌≡◌, ℕ, suc, ◌+◌, ◌-◌, ◌*◌, ◌^◌, ◌<◌, ◌≤◌, ◌≢◌, ◌↔◌, Bool, false, List, length, min, slice_index, slice_index_or, IsTrue}
 use Rattle.std.specs.Int.{IsBitSet}
-use Rattle.glob_pattern.specs.Matching.Splits.{Table}
-use Rattle.glob_pattern.specs.Private.Prefixes.{PrefixSplits, IsAlive, HasTaken}
+use Rattle.glob_pattern.specs.Matching.Splits.{Table, TakesAll}
+use Rattle.glob_pattern.specs.Private.Prefixes.{PrefixSplits, IsAlive, HasTaken, IsTakenPrefix, IsAskedSince}
 use Rattle.glob_pattern.specs.declared.matcher.Shape.{Shape}
 use Rattle.glob_pattern.specs.declared.matcher.Shape.TheVariants.{One, Deep}
-use Rattle.glob_pattern.specs.declared.matcher.shape_masks.ShapeMasks.{ShapeMasks}
-use Rattle.glob_pattern.specs.declared.matcher.many_words.PositionWord.{PositionWord}
+use Rattle.glob_pattern.specs.declared.matcher.positions.Span.{Span}
+use Rattle.glob_pattern.specs.declared.matcher.shape_word.ShapeWord.{ShapeWord}
 
--- Of the 64 shapes from number `start` on, the words say which stand before number `end`, which of these may have
--- pieces of any length, and which are deep and have others after them.
-pub record AreShapeMasks (shapes : List Shape) (start end : ℕ) (masks : ShapeMasks) : Type 0 where
-  pub tokens : (j : ℕ) → j < 64 → IsBitSet masks.tokens j ↔ (start + j < end)
-  pub growing : (j : ℕ) → j < 64
-      → IsBitSet masks.growing j ↔ ((start + j < end) × (slice_index_or shapes (start + j) One ≢ One))
-  pub bound : (j : ℕ) → j < 64
-      → IsBitSet masks.bound j
+-- the end of the word that begins at a number: 63 shapes on, or after the last
+abbrev pub word_end : List Shape → (start : ℕ) → ℕ
+word_end shapes start = min (start + 63) (length shapes)
+
+-- Of the shapes from number `start` up to `end`, the bits say which there are, which may have pieces of any length, and
+-- which are deep and have others after them.
+pub record HasShapes (shapes : List Shape) (start end : ℕ) (word : ShapeWord) : Type 0 where
+  pub tokens : (j : ℕ) → j < 64 → IsBitSet word.tokens j ↔ (start + j < end)
+  pub wildcards : (j : ℕ) → j < 64
+      → IsBitSet word.wildcards j ↔ ((start + j < end) × (slice_index_or shapes (start + j) One ≢ One))
+  pub recursive : (j : ℕ) → j < 64
+      → IsBitSet word.recursive j
       ↔ ((start + j < end) × (slice_index_or shapes (start + j) One ≡ Deep)
       × (start + j + 1 < length shapes))
 
--- the word says of the numbers of leading shapes from `start` on, 64 at most, whether they are alive at place k
-pub record AliveWord (table : Table) (shapes : List Shape) (start k word : ℕ) : Type 0 where
-  pub alive : (j : ℕ) → j < 64 → start + j ≤ length shapes
-      → IsBitSet word j ↔ IsAlive table shapes (start + j) k
+-- the bits are of the 63 shapes from number `start` on
+abbrev pub IsShapeWord : List Shape → (start : ℕ) → ShapeWord → Type 0
+IsShapeWord shapes start word = HasShapes shapes start (word_end shapes start) word
 
--- the word has the last shape, whose pieces may have any length
-pub record MayTakeRest (shapes : List Shape) (word : ℕ) : Type 0 where
-  pub some : 0 < length shapes
-  pub alive : IsBitSet word (length shapes - 1)
-  pub grows : slice_index_or shapes (length shapes - 1) One ≢ One
+-- the words are of all shapes, 63 in each
+pub record AreShapeWords (shapes : List Shape) (words : List ShapeWord) : Type 0 where
+  pub some : 0 < length words
+  pub all : length shapes ≤ 63 * length words
+  pub few : 63 * (length words - 1) ≤ length shapes
+  pub word : (i : ℕ) (d : ShapeWord) → i < length words → IsShapeWord shapes (63 * i) (slice_index_or words i d)
 
--- the word says of the tokens from number `start` on, 64 at most, whether they have taken the character before place k
-pub record TakenWord (table : Table) (shapes : List Shape) (start k word : ℕ) : Type 0 where
-  pub taken : (j : ℕ) → j < 64 → start + j < length shapes
-      → IsBitSet word j ↔ HasTaken table shapes (start + j) k
+-- the word says of the positions from `start` on whether they are alive at place k, and of its end whether it is whole
+pub record IsAliveWord (table : Table) (shapes : List Shape) (start k word : ℕ) : Type 0 where
+  pub alive : (j : ℕ) → start + j < word_end shapes start → IsBitSet word j ↔ IsAlive table shapes (start + j) k
+  pub whole : (j : ℕ) → start + j ≡ word_end shapes start
+      → IsBitSet word j ↔ PrefixSplits table shapes (word_end shapes start) k
 
--- What holds of the word of place k that masks are advanced to: `took` has the tokens that took the character before
--- place k, `opens` says whether place k opens, and `whole` whether the shapes before `start` split the characters up to
--- it.
-abbrev pub AfterAdvance : ShapeMasks → (took : ℕ) → (opens whole : Bool)
+-- the word says of the tokens from `start` on whether they have taken the character before place k
+pub record IsTakenWord (table : Table) (shapes : List Shape) (start k word : ℕ) : Type 0 where
+  pub taken : (j : ℕ) → start + j < word_end shapes start → IsBitSet word j ↔ HasTaken table shapes (start + j) k
+
+-- the words from number `low` up to `high` say what is alive at place k
+pub record AreAlive (table : Table) (shapes : List Shape) (k low high : ℕ) (alive : List ℕ) : Type 0 where
+  pub word : (i : ℕ) → low ≤ i → i < high → IsAliveWord table shapes (63 * i) k (slice_index alive i)
+
+-- What holds of the word of place k that a step leads to: `took` has the tokens that took the character before place k,
+-- `opens` says whether place k opens, and `whole` whether the shapes before `start` split the characters up to it.
+abbrev pub AfterStep : ShapeWord → (took : ℕ) → (opens whole : Bool)
     → (holds : Table → List Shape → (start k : ℕ) → Type 0) → Type 0
-AfterAdvance masks took opens whole holds =
+AfterStep word took opens whole holds =
     (table : Table) (shapes : List Shape) (start k : ℕ)
-    → AreShapeMasks shapes start (length shapes) masks
-    → TakenWord table shapes start k took → opens ≡ table.opens k
+    → start ≤ length shapes → IsShapeWord shapes start word
+    → IsTakenWord table shapes start k took → opens ≡ table.opens k
     → IsTrue whole ↔ PrefixSplits table shapes start k → holds table shapes start k
 
--- what a word of a position set says of the numbers of leading shapes from `start` on
-pub record IsPositionWord (table : Table) (shapes : List Shape) (start k : ℕ) (word : PositionWord) : Type 0 where
-  pub masks : AreShapeMasks shapes start (length shapes) word.masks
-  pub alive : AliveWord table shapes start k word.alive
+-- `keep` is no answer of tokens, or the word is alone, and the tokens of `keep` lead from it to itself where no
+-- component starts.
+abbrev pub Keeps : ShapeWord → (alone : Bool) → (alive keep : ℕ) → Type 0
+Keeps word alone alive keep =
+    ¬ (IsBitSet keep 63)
+    → IsTrue alone × AfterStep word keep false false (λ table shapes start k. IsAliveWord table shapes start k alive)
 
--- the words say of all numbers of leading shapes, 64 in each, whether they are alive at place k
-pub record IsPositionSet (table : Table) (shapes : List Shape) (k : ℕ) (words : List PositionWord) : Type 0 where
-  pub count : length words ≡ length shapes / 64 + 1
-  pub word : (i : ℕ) (d : PositionWord) → i < length words
-      → IsPositionWord table shapes (64 * i) k (slice_index_or words i d)
+-- the shape is in the first word, and the last before `end`, its pieces may have any length, and its token takes all
+-- characters
+pub record TakesRest (table : Table) (shapes : List Shape) (end n : ℕ) : Type 0 where
+  pub first : n < 63
+  pub last : suc n ≡ end
+  pub grows : slice_index_or shapes n One ≢ One
+  pub ends : slice_index_or shapes n One ≡ Deep → end ≡ length shapes
+  pub takes : TakesAll table n 0 table.characters
 
--- the tokens of a word that are alive
-abbrev pub asked_of : PositionWord → ℕ
-asked_of word = bit_and word.alive word.masks.tokens
+-- what a run over a span begins with, by a judge at place k that was asked `count` questions
+pub record CanRun (table : Table) (shapes : List Shape) (words : List ShapeWord) (span : Span) (k count : ℕ) : Type 0 where
+  pub shaped : AreShapeWords shapes words
+  pub tokens : length shapes ≤ table.tokens
+  pub place : k ≡ span.start
+  pub within : span.start ≤ table.characters
+  pub reached : IsTakenPrefix table shapes span.start
+  pub end : span.end ≤ length shapes
+  pub one : slice_index_or shapes span.end One ≡ One
+  pub enough : (j : ℕ) → IsBitSet span.enough j → TakesRest table shapes span.end j
+  pub room : count + length shapes * (table.characters - span.start) < 2 ^ 128
 
--- those of them that took the last character
-abbrev pub answer_of : PositionWord → ℕ
-answer_of word = bit_and word.took (asked_of word)
+-- A run that began at place `from`, when `first` questions were asked, is at place k after `count` questions, where the
+-- words say what is alive.
+pub record HasRun (table : Table) (shapes : List Shape) (from first k count : ℕ) (words : List ℕ) : Type 0 where
+  pub alive : AreAlive table shapes k 0 (length words) words
+  pub within : k ≤ table.characters
+  pub most : count + length shapes * (table.characters - k) ≤ first + length shapes * (table.characters - from)
+  pub least : IsAskedSince table shapes first from k count
+  pub monotone : first ≤ count
 
--- of the tokens of the word that are alive, exactly those that took the last character take that after place k
-pub record AnswersWord (table : Table) (start k : ℕ) (word : PositionWord) : Type 0 where
-  pub takes : (j : ℕ) → j < 64
-      → IsBitSet (answer_of word) j
-      ↔ (IsBitSet (asked_of word) j × IsTrue (table.takes (start + j) k))
+-- Tokens were asked about the character before place k, those from number `start` up to `end`, after `before` questions:
+-- at most one each, and one at least if one of them took it.
+pub record WereAsked (table : Table) (shapes : List Shape) (start end k before count : ℕ) : Type 0 where
+  pub monotone : before ≤ count
+  pub most : count ≤ before + (end - start)
+  pub least : (n : ℕ) → start ≤ n → n < end → HasTaken table shapes n k → before < count
 
--- the same of all words, 64 tokens in each
-pub record AnswersAlike (table : Table) (k : ℕ) (words : List PositionWord) : Type 0 where
-  pub word : (i : ℕ) (d : PositionWord) → i < length words
-      → AnswersWord table (64 * i) k (slice_index_or words i d)
-
--- The words are also the position set of the next place, if exactly the tokens that took the last character take the
--- next one, and a component begins after it or not, as `opens` says.
-abbrev pub KeepsPositions : List Shape → (opens : Bool) → List PositionWord → Type 0
-KeepsPositions shapes opens words =
-    (table : Table) (k : ℕ) → IsPositionSet table shapes k words
-    → opens ≡ table.opens (k + 1) → AnswersAlike table k words
-    → IsPositionSet table shapes (k + 1) words
+-- the tokens of the first word were asked about a further character, and `took` has those that took it
+pub record HasAsked (table : Table) (shapes : List Shape) (before took k count : ℕ) : Type 0 where
+  pub within : k ≤ table.characters
+  pub taken : IsTakenWord table shapes 0 k took
+  pub short : ¬ (IsBitSet took 63)
+  pub asked : WereAsked table shapes 0 (word_end shapes 0) k before count

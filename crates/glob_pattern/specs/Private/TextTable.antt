@@ -1,6 +1,5 @@
 -- The table of a pattern's tokens and a text: which token takes which character.
-use Rattle.std.specs.Prelude.{ℕ, Bool, ◌==◌, if◌then◌else◌, List, length, slice_index, slice_index_or}
-use Rattle.glob_text.specs.Characters.{slash}
+use Rattle.std.specs.Prelude.{ℕ, ◌+◌, Bool, List, length, slice_index, slice_index_or, IsTrue}
 use Rattle.glob_text.specs.Text.{Text, opens}
 use Rattle.glob_pattern.specs.Grammar.Tokens.{Token}
 use Rattle.glob_pattern.specs.Matching.Taking.{takes}
@@ -18,11 +17,7 @@ table_of o tokens text = record {
       takes o (opens text place) (slice_index text place) (slice_index_or tokens token Any);
 }
 
--- the table of a text of one character, before which a component begins or not
-unfoldable pub character_table : MatchOptions → List Token → (opening : Bool) → ℕ → Table
-character_table o tokens opening c = record {
-  characters = 1;
-  tokens = length tokens;
-  opens = λ place. if place == 0 then opening else c == slash;
-  takes = λ token place. takes o opening c (slice_index_or tokens token Any);
-}
+-- the token that is the j-th from `start` on takes the character
+abbrev pub TakesBit : MatchOptions → (opening : Bool) → ℕ → List Token → (start j : ℕ) → Type 0
+TakesBit o opening c tokens start j =
+    IsTrue (takes o opening c (slice_index_or tokens (start + j) Any))

@@ -6,7 +6,7 @@ use crate::pattern::Pattern;
 use std::alloc::{AllocError, Allocator};
 
 impl<A: Allocator> Pattern<A> {
-    /// The text as a pattern that matches it: each `?`, `*`, `[` and `]` stands in a bracket of its own, and every
+    /// The text as a pattern that matches it: each `?`, `*`, `[` and `]` is put in a bracket of its own, and every
     /// other character as it is. So `a[1].rs` becomes `a[[]1[]].rs`. Fails only if allocation fails.
     pub fn escape(alloc: A, s: &str) -> Result<String<A>, AllocError>
         ensures { IfOk result
@@ -36,7 +36,7 @@ fn count_special(text: &str) -> usize
     text.bytes().filter(|byte| is_special(*byte)).count()
 }
 
-/// What stands before the first special character, a bracket for it, and what follows it.
+/// The text before the first special character, a bracket for it, and what follows it.
 fn split_at_special(text: &str) -> Option<(&str, &'static str, &str)>
     ensures plain { IfNone result (escaped_text text.now ≡ text.now) }
     ensures split { IfSome result

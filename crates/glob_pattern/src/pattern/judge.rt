@@ -1,15 +1,17 @@
-ghost use Rattle.std.specs.Prelude.{◌≡◌, ℕ, ◌+◌, ◌*◌, ◌^◌, ◌<◌, ◌≤◌, ◌↔◌, false, length, take, IsTrue, chars};
-ghost use Rattle.std.specs.Str.{IsAscii};
+//! The judge of a text's characters and a pattern's tokens.
+ghost use Rattle.std.specs.Prelude.{◌≡◌, ℕ, ◌+◌, ◌-◌, ◌*◌, ◌^◌, ◌<◌, ◌≤◌, ◌↔◌, length, take, drop, ◌==◌, IsTrue, chars};
+ghost use Rattle.glob_text.specs.Characters.{slash};
 ghost use Rattle.std.specs.Int.{IsBitSet};
+ghost use Rattle.std.specs.Str.{IsAscii};
 ghost use Rattle.std.specs.Str.Iter.{chars_rest};
+ghost use Rattle.glob_pattern.specs.Matching.Taking as taking;
 ghost use Rattle.glob_pattern.specs.Private.Stepping.{StandsBefore, place_before};
-ghost use Rattle.glob_pattern.specs.Private.TextTable.{table_of};
-ghost use Rattle.glob_pattern.specs.Private.Masks.{AreMasksInOrder};
+ghost use Rattle.glob_pattern.specs.Private.TextTable.{table_of, TakesBit};
+ghost use Rattle.glob_pattern.specs.Private.CharMasks.{AreCharMasks};
 
 use crate::matcher::Judge;
 use crate::options::MatchOptions;
-use crate::pattern::character_judge::take_left;
-use crate::pattern::masks::{TokenMasks, take_known};
+use crate::pattern::char_masks::{BEYOND, CharMasks, class_of};
 use crate::token::Token;
 use crate::token::bracket::Bracket;
 use crate::token::taking::takes;
@@ -20,146 +22,88 @@ use std::str::Chars;
 #[derive(Drop)]
 pub struct TextJudge<'a, A: Allocator> {
     tokens: &'a [Token<Bracket<A>>],
-    masks: &'a [TokenMasks],
+    masks: &'a [CharMasks],
     options: MatchOptions,
     text: &'a str,
     rest: Chars<'a>,
-    // the character last stepped onto, and whether a component begins at its place
+    // the character last stepped over and the one before it: `/` comes before the text, too, since a component starts there
     current: char,
-    opened: bool,
-    // whether a component begins at the place after it
-    opens: bool,
-    // how often it was asked about one character
+    before: char,
     count: u128,
-    // whether `takes_rest` may answer yes
-    takes_rests: bool,
-    // the rest of the text for which it did
-    passed: &'a str,
-    ghost masked: { AreMasksInOrder tokens.now masks.now },
-    ghost stands: { StandsBefore (chars text.now) (chars (chars_rest rest)) current opened opens },
-    ghost counts: { count + length (chars passed.now) < 2 ^ 128 },
+    ghost masked: { AreCharMasks tokens.now masks.now },
+    ghost stands: { StandsBefore (chars text.now) (chars (chars_rest rest)) current (before == slash) (current == slash) },
 }
 
 impl<'a, A: Allocator> TextJudge<'a, A> {
-    /// Before the first character, with nothing asked.
+    /// A judge that has stepped over the first `start` bytes, which are ASCII characters, and was asked nothing.
     #[inline(always)]
     pub fn new(
         tokens: &'a [Token<Bracket<A>>],
-        masks: &'a [TokenMasks],
+        masks: &'a [CharMasks],
         text: &'a str,
+        start: usize,
         options: MatchOptions,
     ) -> Self
-        requires { AreMasksInOrder tokens.now masks.now }
+        requires masks { AreCharMasks tokens.now masks.now }
+        requires within { start ≤ length text.now }
+        requires ascii { IsAscii (take start text.now) }
         ensures tokens { result.tokens.now ≡ tokens.now }
         ensures text { result.text.now ≡ text.now }
         ensures options { result.options ≡ options }
-        ensures count { result.count + length (chars result.passed.now) ≡ 0 }
-        ensures start { place_before (chars text.now) (chars (chars_rest result.rest))
-            ≡ 0 }
+        ensures count { result.count ≡ 0 }
+        ensures start { place_before (chars text.now) (chars (chars_rest result.rest)) ≡ start }
     {
-        TextJudge {
+        let mut judge = TextJudge {
             tokens,
             masks,
             options,
             text,
             rest: text.chars(),
             current: '/',
-            opened: true,
-            opens: true,
+            before: '/',
             count: 0,
-            takes_rests: false,
-            passed: "",
-        }
-    }
-
-    /// The same, by a judge that need not be asked about each character: where a token takes all that are left, it may
-    /// say so at once.
-    #[inline(always)]
-    pub fn taking_rests(
-        tokens: &'a [Token<Bracket<A>>],
-        masks: &'a [TokenMasks],
-        text: &'a str,
-        options: MatchOptions,
-    ) -> Self
-        requires { AreMasksInOrder tokens.now masks.now }
-        ensures tokens { result.tokens.now ≡ tokens.now }
-        ensures text { result.text.now ≡ text.now }
-        ensures options { result.options ≡ options }
-        ensures count { result.count + length (chars result.passed.now) ≡ 0 }
-        ensures start { place_before (chars text.now) (chars (chars_rest result.rest))
-            ≡ 0 }
-    {
-        let mut judge = TextJudge::new(tokens, masks, text, options);
-        judge.takes_rests = true;
+        };
+        judge.pass(start);
         judge
     }
 
-    /// How many of the next bytes, `most` at most, are characters of ASCII that exactly those of `took` take, of the 64
-    /// tokens of a word that are asked. They end before a place where a component begins, unless `across` is true.
+    /// A copy of the options. For all that the compiler knows, a call that got `self.options` itself might change them,
+    /// and they would be read again at each character.
     #[inline(always)]
-    fn leading_alike(&self, word: usize, asked: u64, took: u64, most: usize, across: bool) -> usize
-        requires { (j : ℕ)
-            → IsBitSet asked j → 64 * word + j < length self.now.tokens.now }
-        ensures most { result ≤ most }
-        ensures within { result ≤ length (chars_rest self.now.rest) }
-        ensures ascii { IsAscii (take result (chars_rest self.now.rest)) }
-        ensures place { place_before (chars self.now.text.now) (chars (chars_rest self.now.rest))
-            + result ≤ length (chars self.now.text.now) }
-        ensures took { let text = chars self.now.text.now in
-            let place = place_before text (chars (chars_rest self.now.rest)) in
-            (k : ℕ) → place ≤ k → k < place + result → (j : ℕ) → j < 64
-            → IsBitSet took j
-            ↔ (IsBitSet asked j × IsTrue
-            ((table_of self.now.options self.now.tokens.now text).takes (64 * word + j) k)) }
-        ensures inside { let text = chars self.now.text.now in
-            let place = place_before text (chars (chars_rest self.now.rest)) in
-            across ≡ false → (k : ℕ) → place < k → k ≤ place + result
-            → (table_of self.now.options self.now.tokens.now text).opens k ≡ false }
+    fn options(&self) -> MatchOptions
+        ensures { result ≡ self.now.options }
     {
-        let dots = self.options.require_literal_leading_dot;
-        let masks = self.masks;
-        // At a component start the dot rule may exclude a character.
-        if word >= masks.len() || (dots && self.opens) {
-            return 0;
+        MatchOptions {
+            case_sensitive: self.options.case_sensitive,
+            require_literal_separator: self.options.require_literal_separator,
+            require_literal_leading_dot: self.options.require_literal_leading_dot,
         }
-        let bytes = self.rest.as_str().as_bytes();
-        masks[word].taken_alike(bytes, most, asked, took, self.options, across && !dots)
     }
 
-    /// Steps over the next `len` bytes, which are characters of ASCII. Returns how many it has stepped over.
+    /// Steps over the next `len` bytes, which are ASCII characters.
     #[inline(always)]
-    fn pass(&mut self, len: usize) -> usize
+    fn pass(&mut self, len: usize)
         requires within { len ≤ length (chars_rest self.old.rest) }
         requires ascii { IsAscii (take len (chars_rest self.old.rest)) }
-        ensures most { result ≤ len }
         ensures place { place_before (chars self.new.text.now) (chars (chars_rest self.new.rest))
-            ≡ place_before (chars self.old.text.now) (chars (chars_rest self.old.rest)) + result }
-        ensures within { place_before (chars self.new.text.now) (chars (chars_rest self.new.rest))
-            ≤ length (chars self.old.text.now) }
+            ≡ place_before (chars self.old.text.now) (chars (chars_rest self.old.rest)) + len }
         ensures tokens { self.new.tokens.now ≡ self.old.tokens.now }
-        ensures masks { self.new.masks.now ≡ self.old.masks.now }
         ensures text { self.new.text.now ≡ self.old.text.now }
         ensures options { self.new.options ≡ self.old.options }
         ensures count { self.new.count ≡ self.old.count }
-        ensures passed { self.new.passed.now ≡ self.old.passed.now }
     {
+        if len == 0 {
+            return;
+        }
         let left = self.rest.as_str();
         let bytes = left.as_bytes();
-        if len == 0 {
-            return 0;
-        }
-        let Some(rest) = left.get(len..) else {
-            return 0;
-        };
-        self.opened = if len == 1 {
-            self.opens
+        self.before = if len == 1 {
+            self.current
         } else {
-            bytes[len - 2] == b'/'
+            bytes[len - 2] as char
         };
-        self.opens = bytes[len - 1] == b'/';
         self.current = bytes[len - 1] as char;
-        self.rest = rest.chars();
-        len
+        self.rest = left[len..].chars();
     }
 }
 
@@ -169,102 +113,87 @@ impl<A: Allocator> Judge for TextJudge<'_, A> {
 
     ghost place = { λ j. place_before (chars j.text.now) (chars (chars_rest j.rest)) };
 
-    ghost count = { λ j. j.count + length (chars j.passed.now) };
+    ghost count = { λ j. j.count };
 
     #[inline(always)]
     fn step(&mut self) -> bool {
-        let left = self.rest.as_str();
+        // Named for the proof: what is left is UTF-8.
+        let _left = self.rest.as_str();
         let Some(c) = self.rest.next() else {
             return false;
         };
+        self.before = self.current;
         self.current = c;
-        self.opened = self.opens;
-        // Asked of the first byte and not of c: the answer is the same, and takes no branch.
-        self.opens = left.as_bytes()[0] == b'/';
         true
     }
 
     #[inline(always)]
     fn opens(&self) -> bool {
-        self.opens
+        self.current == '/'
     }
 
     #[inline(always)]
     fn takes(&mut self, token: usize) -> bool {
         self.count += 1;
-        takes(&self.tokens[token], self.options, self.opened, self.current)
+        takes(
+            &self.tokens[token],
+            self.options,
+            self.before == '/',
+            self.current,
+        )
     }
 
     #[inline(always)]
     fn takes_each(&mut self, word: usize, asked: u64) -> u64 {
         self.count += u128::from(asked.count_ones());
-        let masks = self.masks;
-        let (took, left) = take_known(masks, word, asked, self.options, self.opened, self.current);
+        let opening = self.before == '/';
+        let Some(masks) = self.masks.get(word) else {
+            // A pattern without wildcards has no masks.
+            let options = self.options();
+            return take_left(self.tokens, word, asked, options, opening, self.current);
+        };
+        let class = class_of(self.options, opening, self.current);
+        let took = asked & masks.masks[class];
+        if class != BEYOND {
+            return took;
+        }
+        let left = asked & masks.undecided;
         if left == 0 {
             return took;
         }
-        // A copy of the fields: for all that the compiler knows, a call that got self.options itself might change them,
-        // and the loop would read them again at each character.
-        let options = MatchOptions {
-            case_sensitive: self.options.case_sensitive,
-            require_literal_separator: self.options.require_literal_separator,
-            require_literal_leading_dot: self.options.require_literal_leading_dot,
-        };
-        took | take_left(self.tokens, word, left, options, self.opened, self.current)
-    }
-
-    #[inline(always)]
-    fn takes_rest(&mut self, token: usize) -> bool {
-        let options = self.options;
-        if !self.takes_rests
-            || options.require_literal_separator
-            || options.require_literal_leading_dot
-            || !self.passed.is_empty()
-        {
-            return false;
-        }
-        match self.tokens[token] {
-            Token::Run | Token::Deep => {
-                // Its characters are counted only in `asked`.
-                self.passed = self.rest.as_str();
-                true
-            }
-            _ => false,
-        }
-    }
-
-    #[inline(always)]
-    fn skip(&mut self, asked: u64, took: u64, across: bool) {
-        let len = self.leading_alike(0, asked, took, usize::MAX, across);
-        let passed = self.pass(len);
-        self.count += u128::from(asked.count_ones()) * passed as u128;
-    }
-
-    #[inline(always)]
-    fn alike(&self, word: usize, asked: u64, took: u64, most: usize, across: bool) -> usize {
-        self.leading_alike(word, asked, took, most, across)
-    }
-
-    #[inline(always)]
-    fn step_over(&mut self, most: usize, questions: u64) {
-        let Some(bytes) = self.rest.as_str().as_bytes().get(..most) else {
-            return;
-        };
-        if bytes.is_ascii() {
-            let passed = self.pass(most);
-            self.count += u128::from(questions) * passed as u128;
-        }
+        let options = self.options();
+        took | take_left(self.tokens, word, left, options, opening, self.current)
     }
 
     #[inline(always)]
     fn asked(&self) -> u128 {
-        self.count + characters_of(self.passed) as u128
+        self.count
     }
 }
 
-/// How many characters the text has.
-fn characters_of(text: &str) -> usize
-    ensures { result ≡ length (chars text.now) }
+/// Those of the tokens that are left, in a word of 63, that take the character, asked one by one.
+#[inline(never)]
+fn take_left<A: Allocator>(
+    tokens: &[Token<Bracket<A>>],
+    word: usize,
+    left: u64,
+    options: MatchOptions,
+    opening: bool,
+    c: char,
+) -> u64
+    requires { (j : ℕ) → IsBitSet left j
+        → (63 * word + j < 2 ^ 64) × (63 * word + j < length tokens.now) }
+    ensures { (j : ℕ) → j < 64 → IsBitSet result j
+        ↔ (IsBitSet left j × TakesBit options opening c tokens.now (63 * word) j) }
 {
-    text.chars().count()
+    let mut rest = left;
+    let mut took = 0u64;
+    while rest != 0 {
+        let bit = rest.trailing_zeros();
+        if takes(&tokens[63 * word + bit as usize], options, opening, c) {
+            took |= 1 << bit;
+        }
+        rest &= rest - 1;
+    }
+    took
 }

@@ -1,6 +1,5 @@
-ghost use Rattle.std.specs.Prelude.{◌≡◌, ℕ, true, IfOk};
-ghost use Rattle.glob_pattern.specs.Grammar.Brackets.{entries_of, is_same, in_range, in_folded_range, entry_holds, holds};
-ghost use Rattle.glob_pattern.specs.Private.Masks.{is_mixed, has_mixed};
+ghost use Rattle.std.specs.Prelude.{◌≡◌, IfOk};
+ghost use Rattle.glob_pattern.specs.Grammar.Brackets.{entries_of, is_same, in_folded_range, entry_holds, holds};
 
 use std::alloc::{AllocError, Allocator, Global};
 use std::marker::Model;
@@ -19,33 +18,6 @@ pub enum Entry {
 }
 
 impl Entry {
-    /// The first and the last character that the entry holds with case.
-    pub fn ends(self) -> (char, char)
-        ensures { (c : ℕ)
-            → entry_holds true c self ≡ in_range result.0 result.1 c }
-    {
-        match self {
-            Entry::Single(x) => (x, x),
-            Entry::Range(x, y) => (x, y),
-        }
-    }
-
-    /// Whether the entry is a range that may hold letters of ASCII, and whose ends are not two of them in one case: so
-    /// `0-z` and `A-z` are mixed, and `a-z`, `A-F` and `0-9` are not.
-    fn is_mixed(self) -> bool
-        ensures { result ≡ is_mixed self }
-    {
-        match self {
-            Entry::Single(_) => false,
-            Entry::Range(x, y) => {
-                'A' <= y
-                    && x <= 'z'
-                    && !(x.is_ascii_lowercase() && y.is_ascii_lowercase())
-                    && !(x.is_ascii_uppercase() && y.is_ascii_uppercase())
-            }
-        }
-    }
-
     /// Whether the entry holds `c`.
     fn holds(self, c: char, case_sensitive: bool) -> bool
         ensures { result ≡ entry_holds case_sensitive c self }
@@ -59,7 +31,7 @@ impl Entry {
     }
 }
 
-/// What stands in a bracket: its entries, in the order of the pattern.
+/// The content of a bracket: its entries, in the order of the pattern.
 #[derive(Debug, Drop)]
 pub struct Bracket<A: Allocator = Global> {
     entries: Entries<A>,
@@ -105,14 +77,7 @@ impl<A: Allocator> Bracket<A> {
         }
     }
 
-    /// Whether an entry is a mixed range.
-    pub fn has_mixed(&self) -> bool
-        ensures { result ≡ has_mixed self.now }
-    {
-        self.entries().iter().any(|entry| entry.is_mixed())
-    }
-
-    /// Whether an entry holds `c`. Without case, letters of ASCII in either case are the same.
+    /// Whether an entry holds `c`. Case-insensitively, ASCII letters in either case are the same.
     pub fn holds(&self, c: char, case_sensitive: bool) -> bool
         ensures { result ≡ holds case_sensitive c self.now }
     {
@@ -157,7 +122,7 @@ fn read_entries<A: Allocator>(alloc: A, content: &[char]) -> Result<Vec<Entry, A
     Ok(entries)
 }
 
-/// Whether `c` and `x` are the same character. Without case, two of ASCII are also the same if their lowercase forms
+/// Whether `c` and `x` are the same character. Case-insensitively, two of ASCII are also the same if their lowercase forms
 /// are.
 pub fn is_same(case_sensitive: bool, c: char, x: char) -> bool
     ensures { result ≡ is_same case_sensitive c x }

@@ -6,8 +6,31 @@ use crate::token::Token;
 use crate::token::bracket::{self, Bracket};
 use std::alloc::Allocator;
 
-/// Whether the token takes the character. `opening`: a component begins at its place.
+/// Whether the token takes the character. `opening`: a component starts at its place.
+#[inline(always)]
 pub fn takes<A: Allocator>(
+    token: &Token<Bracket<A>>,
+    options: MatchOptions,
+    opening: bool,
+    c: char,
+) -> bool
+    ensures { result ≡ taking.takes options opening c token.now }
+{
+    if let Token::Plain(x) = token {
+        return bracket::is_same(options.case_sensitive, c, *x);
+    }
+    // A copy of the fields, made here alone: a call needs the options in memory.
+    let copy = MatchOptions {
+        case_sensitive: options.case_sensitive,
+        require_literal_separator: options.require_literal_separator,
+        require_literal_leading_dot: options.require_literal_leading_dot,
+    };
+    takes_listed(token, copy, opening, c)
+}
+
+/// [`takes`], out of line: it is asked of tokens that are no plain character.
+#[inline(never)]
+fn takes_listed<A: Allocator>(
     token: &Token<Bracket<A>>,
     options: MatchOptions,
     opening: bool,

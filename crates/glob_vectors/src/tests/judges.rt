@@ -22,7 +22,7 @@ fn decided<R: Abort + AllocGlobal>(
 
 /// Shapes, the number of characters, the places that open, the tokens and characters that do not go together, and
 /// whether the characters split.
-type Row = (
+pub(super) type Row = (
     &'static [Shape],
     usize,
     &'static [usize],
@@ -30,7 +30,7 @@ type Row = (
     bool,
 );
 
-const ROWS: [Row; 7] = [
+pub(super) const ROWS: [Row; 7] = [
     (&[], 0, &[0], &[], true),
     (&[], 1, &[0], &[], false),
     (&[Shape::Deep, Shape::One], 2, &[0], &[], false),
@@ -60,11 +60,16 @@ fn written_rows(rt: HostRuntime) -> Result<(), Fail> {
 
 /// Numbers that look random, the same in each run.
 #[derive(Drop)]
-struct Random {
+pub(super) struct Random {
     state: u64,
 }
 
 impl Random {
+    /// The numbers of a seed, which is not 0.
+    pub(super) fn new(seed: u64) -> Self {
+        Random { state: seed }
+    }
+
     fn next(&mut self) -> u64 {
         self.state ^= self.state << 13;
         self.state ^= self.state >> 7;
@@ -73,13 +78,13 @@ impl Random {
     }
 
     /// Yes about once in so many times.
-    fn once_in(&mut self, times: u64) -> bool {
+    pub(super) fn once_in(&mut self, times: u64) -> bool {
         self.next() % times.max(1) == 0
     }
 }
 
 /// Places up to the number of characters, each of them every second time.
-fn some_places<R: AllocGlobal>(
+pub(super) fn some_places<R: AllocGlobal>(
     rt: &R,
     random: &mut Random,
     characters: usize,
@@ -94,7 +99,7 @@ fn some_places<R: AllocGlobal>(
 }
 
 /// Pairs of a token and a character, each of them every fourth time.
-fn some_pairs<R: AllocGlobal>(
+pub(super) fn some_pairs<R: AllocGlobal>(
     rt: &R,
     random: &mut Random,
     tokens: usize,
@@ -199,9 +204,7 @@ fn compare<R: Abort + AllocGlobal>(
 
 #[test]
 fn random_tables(rt: HostRuntime) -> Result<(), Fail> {
-    let mut random = Random {
-        state: 88_172_645_463_325_252,
-    };
+    let mut random = Random::new(88_172_645_463_325_252);
     let lists = all_lists(&rt)?;
     assert_eq!(rt; lists.len(), 121);
     let mut yes = 0u64;

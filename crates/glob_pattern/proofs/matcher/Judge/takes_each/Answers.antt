@@ -4,10 +4,20 @@ use Rattle.glob_pattern.proofs.BitLemmas.LowestBits.{lowest_set, IsBitSet-cleare
 use Rattle.glob_pattern.proofs.matcher.Judge.takes_each.Goals as goal
 use Rattle.glob_pattern.proofs.matcher.Judge.takes_each.Goals.{then-takes, else-takes}
 
+pub overflow_mul-word : goal.overflow_mul-word
+overflow_mul-word g c =
+    let lowest = lowest_set c.loop-left.left (omega arith) (omega arith) in
+    omega (arith, (c.requires.tokens _ (c.loop-left.invariant.within _ lowest.1)).1)
+
+pub overflow_add-word : goal.overflow_add-word
+overflow_add-word g c =
+    let lowest = lowest_set c.loop-left.left (omega arith) (omega arith) in
+    omega (arith, (c.requires.tokens _ (c.loop-left.invariant.within _ lowest.1)).1)
+
 pub takes-requires-clause-token : goal.takes-requires-clause-token
 takes-requires-clause-token g c =
     let lowest = lowest_set c.loop-left.left (omega arith) (omega arith) in
-    rw c.loop-left.invariant.same (c.requires.tokens _ (c.loop-left.invariant.within _ lowest.1))
+    rw c.loop-left.invariant.same (c.requires.tokens _ (c.loop-left.invariant.within _ lowest.1)).2
 
 pub takes-requires-clause-room : goal.takes-requires-clause-room
 takes-requires-clause-room g c =
@@ -22,7 +32,7 @@ loop-left-preserved g c =
     let lowest = lowest_set c.loop-left.left (omega arith) (omega arith) in
     let fewer = ones-cleared _ c.loop-left.left lowest.1 lowest.2 in
     let value = rw (i.same, i.place) at h.value in
-    let P : ℕ → Type 0 = λ j. IsTrue ((g.Self.Judge.table c.args.self.now).takes (64 * c.args.word + j) (g.Self.Judge.place c.args.self.now - 1)) in
+    let P : ℕ → Type 0 = λ j. IsTrue ((g.Self.Judge.table c.args.self.now).takes (63 * c.args.word + j) (g.Self.Judge.place c.args.self.now - 1)) in
     record {
       within = λ j s. i.within j ((IsBitSet-cleared _ c.loop-left.left lowest.1 lowest.2 j).0 s).0;
       took = took-more P c.args.asked c.loop-left.left c.loop-left.took c.if-takes.took _ lowest.1 lowest.2 i.within i.took

@@ -1,17 +1,15 @@
-use Rattle.std.proofs.Common.{subst, sym, ◌∙◌}
+use Rattle.std.proofs.Common.{subst}
 use Rattle.std.proofs.lemmas.Str.{chars_past_char}
 use Rattle.std.specs.Str.{IsUtf8}
 use Rattle.std.specs.Str.Iter.{chars_rest}
-use Rattle.glob_pattern.specs.Private.Stepping.{StandsBefore}
 use Rattle.glob_pattern.specs.Private.TextTable.{table_of}
-use Rattle.glob_pattern.proofs.MatchingLemmas.Stepping.{StandsBefore-step, place_before-step, slash-by_byte}
+use Rattle.glob_pattern.proofs.MatchingLemmas.Stepping.{StandsBefore-step, place_before-step}
 use Rattle.glob_pattern.proofs.pattern.judge.TextJudgeJudge.step.Goals as goal
 
 pub invariant_of-self-2 : goal.invariant_of-self-2
 invariant_of-self-2 g c =
     let e = chars_past_char (chars_rest c.args.self.now.rest) (chars_rest c.next.new.self) c.in-Some.c (subst IsUtf8 c.as_str-left.ensures c.as_str-left.utf8) c.in-Some.ensures.steps.0 in
-    let slash = slash-by_byte c.as_bytes.result.now (chars_rest c.next.new.self) c.in-Some.c (c.as_bytes.ensures.value ∙ (c.as_str-left.ensures ∙ c.in-Some.ensures.steps.0)) in
-    record { masked = c.args.self.now.masked; stands = subst (StandsBefore _ _ _ _) (sym slash) (StandsBefore-step _ _ _ _ _ _ (rw e at c.args.self.now.stands)); counts = c.args.self.now.counts }
+    record { masked = c.args.self.now.masked; stands = StandsBefore-step _ _ _ _ _ _ (rw e at c.args.self.now.stands) }
 
 pub returns-clause-stepped : goal.returns-clause-stepped
 unfolding table_of

@@ -1,32 +1,73 @@
-use Rattle.std.proofs.Common.{inl, inr, ⊎_elim}
+use Rattle.std.proofs.Common.{◌*◌, bit_and, get_or, inl, inr, ⊎_elim, sym, subst, ◌∙◌}
+use Rattle.glob_pattern.specs.Private.CharMasks.{IsCharMasks}
 use Rattle.glob_pattern.specs.Private.TextTable.{table_of}
-use Rattle.glob_pattern.proofs.BitLemmas.SetBits.{IsBitSet-zero, IsBitSet-or}
+use Rattle.glob_pattern.proofs.BitLemmas.SetBits.{IsBitSet-zero, IsBitSet-and, IsBitSet-or}
+use Rattle.glob_pattern.proofs.MaskLemmas.Known.{known-taken, taken-known}
 use Rattle.glob_pattern.proofs.pattern.judge.TextJudgeJudge.takes_each.Goals as goal
 
-pub take_left-requires-clause-tokens : goal.take_left-requires-clause-tokens
+pub take_left-requires : goal.take_left-requires
 unfolding table_of
-take_left-requires-clause-tokens g c = λ j s. c.requires.tokens j (c.take_known-took.ensures.left j s)
+take_left-requires g c = λ j a. let at = c.requires.tokens j a in (at.1, at.2)
+
+pub returns-in_default-clause-took : goal.returns-in_default-clause-took
+unfolding table_of
+returns-in_default-clause-took g c =
+    let stands = c.args.self.now.stands in
+    rw (← (stands.last c.requires.stepped), ← (stands.before c.requires.stepped)) (rw c.options-options.ensures at c.take_left.ensures)
+
+pub returns-then-class-ne-BEYOND-clause-took : goal.returns-then-class-ne-BEYOND-clause-took
+unfolding table_of
+returns-then-class-ne-BEYOND-clause-took g c = λ j lt.
+    let judge = c.args.self.now in
+    let stands = judge.stands in
+    let look = c.in-Some.ensures.lookup in
+    let here = subst (IsCharMasks judge.tokens.now (63 * c.args.word)) (sym look.1) (judge.masked.each c.args.word c.in-Some.masks.now look.3.0) in
+    rw (← (stands.last c.requires.stepped), ← (stands.before c.requires.stepped)) (
+      λ s. let a = ((IsBitSet-and c.args.asked _ j).0 s).0 in let at = c.requires.tokens j a in
+          (a, known-taken judge.options _ judge.current c.args.asked judge.tokens.now _ j c.in-Some.masks.now here at.0 at.2 (rw c.class_of-class.ensures at s)),
+      λ (a, t). let at = c.requires.tokens j a in ⊎_elim
+          (λ mask. rw c.class_of-class.ensures mask)
+          (λ (beyond, left). absurd (c.if-class-ne-BEYOND.true (c.class_of-class.ensures ∙ beyond)))
+          (taken-known judge.options _ judge.current c.args.asked judge.tokens.now _ j c.in-Some.masks.now here at.0 at.2 a t),
+    )
 
 pub returns-then-left-eq0-clause-took : goal.returns-then-left-eq0-clause-took
 unfolding table_of
 returns-then-left-eq0-clause-took g c = λ j lt.
     let judge = c.args.self.now in
     let stands = judge.stands in
-    let known = c.take_known-took.ensures in
+    let look = c.in-Some.ensures.lookup in
+    let here = subst (IsCharMasks judge.tokens.now (63 * c.args.word)) (sym look.1) (judge.masked.each c.args.word c.in-Some.masks.now look.3.0) in
     rw (← (stands.last c.requires.stepped), ← (stands.before c.requires.stepped)) (
-      λ s. known.taken judge.tokens.now judge.masked j lt s,
-      λ (a, t). ⊎_elim (λ s. s) (λ s. absurd (IsBitSet-zero j (rw c.if-left-eq0.true at s))) (known.all judge.tokens.now judge.masked j lt (c.requires.tokens j a) a t),
+      λ s. let a = ((IsBitSet-and c.args.asked _ j).0 s).0 in let at = c.requires.tokens j a in
+          (a, known-taken judge.options _ judge.current c.args.asked judge.tokens.now _ j c.in-Some.masks.now here at.0 at.2 (rw c.class_of-class.ensures at s)),
+      λ (a, t). let at = c.requires.tokens j a in ⊎_elim
+          (λ mask. rw c.class_of-class.ensures mask)
+          (λ (beyond, left). absurd (IsBitSet-zero j (rw c.if-left-eq0.true at left)))
+          (taken-known judge.options _ judge.current c.args.asked judge.tokens.now _ j c.in-Some.masks.now here at.0 at.2 a t),
     )
+
+pub take_left-requires-2 : goal.take_left-requires-2
+unfolding table_of
+take_left-requires-2 g c = λ j l. let at = c.requires.tokens j ((IsBitSet-and c.args.asked c.in-Some.masks.now.undecided j).0 l).0 in (at.1, at.2)
 
 pub returns-clause-took : goal.returns-clause-took
 unfolding table_of
 returns-clause-took g c = λ j lt.
     let judge = c.args.self.now in
     let stands = judge.stands in
-    let known = c.take_known-took.ensures in
-    let both = IsBitSet-or c.take_known-took.result.0 c.take_left.result j in
-    let left = c.take_left.ensures j lt in
+    let look = c.in-Some.ensures.lookup in
+    let here = subst (IsCharMasks judge.tokens.now (63 * c.args.word)) (sym look.1) (judge.masked.each c.args.word c.in-Some.masks.now look.3.0) in
+    let left = (rw c.options-options-2.ensures at c.take_left-2.ensures) j lt in
+    let or = IsBitSet-or (bit_and c.args.asked (get_or c.in-Some.masks.now.masks c.class_of-class.result 0)) c.take_left-2.result j in
     rw (← (stands.last c.requires.stepped), ← (stands.before c.requires.stepped)) (
-      λ s. ⊎_elim (λ s. known.taken judge.tokens.now judge.masked j lt s) (λ s. let (l, t) = left.0 s in (known.left j l, t)) (both.0 s),
-      λ (a, t). both.1 (⊎_elim inl (λ l. inr (left.1 (l, t))) (known.all judge.tokens.now judge.masked j lt (c.requires.tokens j a) a t)),
+      λ s. ⊎_elim
+          (λ s. let a = ((IsBitSet-and c.args.asked _ j).0 s).0 in let at = c.requires.tokens j a in
+          (a, known-taken judge.options _ judge.current c.args.asked judge.tokens.now _ j c.in-Some.masks.now here at.0 at.2 (rw c.class_of-class.ensures at s)))
+          (λ s. let (l, t) = left.0 s in (((IsBitSet-and c.args.asked c.in-Some.masks.now.undecided j).0 l).0, t))
+          (or.0 s),
+      λ (a, t). let at = c.requires.tokens j a in or.1 (⊎_elim
+          (λ mask. inl (rw c.class_of-class.ensures mask))
+          (λ (beyond, l). inr (left.1 (l, t)))
+          (taken-known judge.options _ judge.current c.args.asked judge.tokens.now _ j c.in-Some.masks.now here at.0 at.2 a t)),
     )

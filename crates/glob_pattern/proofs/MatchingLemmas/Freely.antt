@@ -1,0 +1,46 @@
+-- Wildcards where no rule applies.
+use Rattle.std.proofs.Common.{◌≡◌, ◌≢◌, ℕ, ◌+◌, ◌<◌, Bool, true, false, List, length, map, get_or, refl, ⊎_elim, zero-add, arith}
+use Rattle.std.proofs.lemmas.Bool.{cases_lt}
+use Rattle.std.proofs.lemmas.List.{get_or-map, length-map}
+use Rattle.std.specs.Int.{IsBitSet}
+use Rattle.glob_text.specs.Text.{Text, opens}
+use Rattle.glob_pattern.specs.Grammar.Tokens.{Token, shape_of}
+use Rattle.glob_pattern.specs.Matching.Taking.{takes}
+use Rattle.glob_pattern.specs.Private.Positions.{IsShapeWord, TakesRest}
+use Rattle.glob_pattern.specs.Private.TextTable.{table_of}
+use Rattle.glob_pattern.specs.declared.matcher.Shape.TheVariants.{One}
+use Rattle.glob_pattern.specs.declared.matcher.shape_word.ShapeWord.{ShapeWord}
+use Rattle.glob_pattern.specs.declared.options.MatchOptions.{MatchOptions}
+use Rattle.glob_pattern.specs.declared.token.Token.TheVariants.{Plain, Any, Run, Deep, Within, Except}
+
+-- a wildcard takes each character
+takes-freely : (o : MatchOptions) (opening : Bool) (c : ℕ) (t : Token) → o.require_literal_separator ≡ false → o.require_literal_leading_dot ≡ false
+    → shape_of t ≢ One → takes o opening c t ≡ true
+takes-freely o opening c (Plain x) slashes dots grows = absurd (grows refl)
+takes-freely o opening c Any slashes dots grows = absurd (grows refl)
+takes-freely o opening c Run slashes dots grows = rw (slashes, dots) refl
+takes-freely o opening c Deep slashes dots grows = rw dots refl
+takes-freely o opening c (Within e) slashes dots grows = absurd (grows refl)
+takes-freely o opening c (Except e) slashes dots grows = absurd (grows refl)
+
+-- a wildcard of the first word before `end` that may end anywhere takes the rest
+pub TakesRest-freely : (o : MatchOptions) (tokens : List Token) (text : Text) (word : ShapeWord) (end j : ℕ) → IsShapeWord (map shape_of tokens) 0 word
+    → o.require_literal_separator ≡ false → o.require_literal_leading_dot ≡ false
+    → j < 64 → j + 1 ≡ end → IsBitSet word.wildcards j → (IsBitSet word.recursive j → ⊥) → TakesRest (table_of o tokens text) (map shape_of tokens) end j
+unfolding table_of
+TakesRest-freely o tokens text word end j is slashes dots lt last wild free =
+    let shapes = map shape_of tokens in
+    let here = (is.wildcards j lt).0 wild in
+    let grows : get_or shapes j One ≢ One = rw (zero-add j) at here.1 in
+    let count = length-map tokens shape_of in
+    let shape : get_or shapes j One ≡ shape_of (get_or tokens j Any) = get_or-map shape_of tokens j Any One (omega (arith, here.0, count)) in
+    record {
+      first = omega (arith, here.0);
+      last = omega (arith, last);
+      grows = grows;
+      ends = λ deep. ⊎_elim
+          (λ more. absurd (free ((is.recursive j lt).1 (here.0, rw (zero-add j) deep, omega (arith, more)))))
+          (λ all. omega (arith, all, last, here.0))
+          (cases_lt end (length shapes));
+      takes = λ k from below. takes-freely o (opens text k) (get_or text k 0) (get_or tokens j Any) slashes dots (λ one. grows (rw shape one));
+    }

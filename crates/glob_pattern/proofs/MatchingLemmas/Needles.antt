@@ -1,0 +1,80 @@
+-- Each text that a pattern matches contains the pattern's needle, in either case.
+use Rattle.std.proofs.Common.{◌≡◌, ℕ, suc, ◌<◌, Bool, not, ◌&&◌, ◌==◌, List, [], ◌∷◌, ◌++◌, length, map, take, drop, IsTrue, ⊎_elim, refl, sym, ap, ap₂, subst, ◌∙◌, arith, chars, append_assoc}
+use Rattle.std.proofs.Math.Seq.{drop-append_seam, take-append_seam}
+use Rattle.std.proofs.lemmas.Bool.{or_cases, and_parts, eqb-true, ltb-true}
+use Rattle.std.proofs.lemmas.List.{length-append, length-map, map-append, take-append-drop}
+use Rattle.std.proofs.lemmas.Str.{encode_ascii, encodes-append, encodes-chars}
+use Rattle.std.specs.Char.{is_ascii, to_ascii_lowercase}
+use Rattle.std.specs.Str.{IsAscii, IsUtf8, encode_utf8_all}
+use lib.Utf8.{encode}
+use Rattle.glob_text.specs.Text.{Text}
+use Rattle.glob_pattern.specs.Grammar.Brackets.{is_same}
+use Rattle.glob_pattern.specs.Grammar.Tokens.{Token}
+use Rattle.glob_pattern.specs.Matching.Texts.{TokensMatch}
+use Rattle.glob_pattern.specs.Laws.{SameTexts, StandsIn}
+use Rattle.glob_pattern.specs.Private.Needles.{IsNeedle, StandsAt, ContainsSmall}
+use Rattle.glob_pattern.specs.declared.options.MatchOptions.{MatchOptions}
+use Rattle.glob_pattern.specs.declared.pattern.needle.Needle.{Needle}
+use Rattle.glob_pattern.specs.declared.token.Token.TheVariants.{Plain}
+use Rattle.glob_pattern.proofs.MatchingLemmas.PlainTokens.{plain_tokens_stand}
+
+-- a needle of some of the tokens is one of all
+pub IsNeedle-within : (tokens : List Token) (needle : Needle) (start n : ℕ) → IsNeedle (take n (drop start tokens)) needle → IsNeedle tokens needle
+IsNeedle-within tokens needle start n part = record {
+  front = take start tokens ++ part.front;
+  back = part.back ++ drop n (drop start tokens);
+  tokens_are =
+      let plain = map Plain (take needle.len needle.bytes) in
+      let split : tokens ≡ take start tokens ++ ((part.front ++ (plain ++ part.back)) ++ drop n (drop start tokens)) =
+      sym (take-append-drop start tokens) ∙ ap (λ ts. take start tokens ++ ts) (sym (take-append-drop n (drop start tokens)) ∙ ap (λ ts. ts ++ drop n (drop start tokens)) part.tokens_are) in
+      simp append_assoc (simp append_assoc at split);
+  ascii = part.ascii;
+}
+
+-- a character that is the same as one of ASCII is one byte, equal to it once capital letters are made small
+small-same : (case : Bool) (c x : ℕ) → x < 128 → IsTrue (is_same case c x) → map to_ascii_lowercase (encode c) ≡ to_ascii_lowercase x ∷ []
+small-same case c x low same =
+    ⊎_elim
+    (λ is. let e = eqb-true c x is in ap (map to_ascii_lowercase) (encode_ascii c (omega arith)) ∙ ap (λ y. to_ascii_lowercase y ∷ []) e)
+    (λ both.
+    let (ascii, small) = and_parts (not case && is_ascii c && is_ascii x) (to_ascii_lowercase c == to_ascii_lowercase x) both in
+    let first = (and_parts (not case) (is_ascii c) (and_parts (not case && is_ascii c) (is_ascii x) ascii).0).1 in
+    ap (map to_ascii_lowercase) (encode_ascii c (ltb-true c 128 first)) ∙ ap (λ y. y ∷ []) (eqb-true (to_ascii_lowercase c) (to_ascii_lowercase x) small))
+    (or_cases (c == x) (not case && is_ascii c && is_ascii x && to_ascii_lowercase c == to_ascii_lowercase x) same)
+
+-- and so for whole texts
+small-SameTexts : (case : Bool) (xs ys : Text) → IsAscii ys → SameTexts case xs ys → map to_ascii_lowercase (encode_utf8_all xs) ≡ map to_ascii_lowercase ys
+small-SameTexts case [] [] low same = refl
+small-SameTexts case [] (y ∷ ys) low same = absurd (omega arith)
+small-SameTexts case (x ∷ xs) [] low same = absurd (omega arith)
+small-SameTexts case (x ∷ xs) (y ∷ ys) low (lengths, each) =
+    map-append to_ascii_lowercase (encode x) (encode_utf8_all xs)
+    ∙ ap₂ (λ a b. a ++ b) (small-same case x y (low 0) (each 0 (omega arith)))
+    (small-SameTexts case xs ys (λ i. low (suc i)) (omega arith, λ k l. each (suc k) (omega arith)))
+
+-- where bytes split around the needle, it stands
+StandsAt-from_split : (before here after bytes needle : List ℕ) → bytes ≡ before ++ (here ++ after) → map to_ascii_lowercase here ≡ map to_ascii_lowercase needle
+    → StandsAt bytes needle (length before)
+StandsAt-from_split before here after bytes needle split small =
+    let long : length here ≡ length needle = sym (length-map here to_ascii_lowercase) ∙ ap length small ∙ length-map needle to_ascii_lowercase in
+    let cut : take (length needle) (drop (length before) bytes) ≡ here =
+    ap₂ (λ n xs. take n (drop (length before) xs)) (sym long) split ∙ ap (take (length here)) (drop-append_seam before (here ++ after)) ∙ take-append_seam here after in
+    record {
+      within = omega (arith, ap length split, length-append before (here ++ after), length-append here after);
+      small = ap (map to_ascii_lowercase) cut ∙ small;
+    }
+
+-- a text that the tokens match contains their needle
+pub ContainsSmall-from_needle : (o : MatchOptions) (tokens : List Token) (needle : Needle) (bytes : List ℕ) → IsNeedle tokens needle → IsUtf8 bytes
+    → TokensMatch o tokens (chars bytes) → ContainsSmall bytes (take needle.len needle.bytes)
+ContainsSmall-from_needle o tokens needle bytes is utf8 match =
+    let plain = take needle.len needle.bytes in
+    let stands : StandsIn o.case_sensitive is.front plain is.back (chars bytes) =
+    plain_tokens_stand o is.front plain is.back (chars bytes) (subst (λ ts. TokensMatch o ts (chars bytes)) is.tokens_are match) in
+    record {
+      offset = length (encode_utf8_all stands.before);
+      stands = StandsAt-from_split (encode_utf8_all stands.before) (encode_utf8_all stands.here) (encode_utf8_all stands.after) bytes plain
+          (sym (encodes-chars bytes utf8) ∙ ap encode_utf8_all stands.split ∙ encodes-append stands.before (stands.here ++ stands.after)
+          ∙ ap (λ xs. encode_utf8_all stands.before ++ xs) (encodes-append stands.here stands.after))
+          (small-SameTexts o.case_sensitive stands.here plain is.ascii stands.same);
+    }

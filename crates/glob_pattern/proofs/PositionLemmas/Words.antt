@@ -1,0 +1,225 @@
+-- Words of 63 shapes after a character, from the tokens that have taken it.
+use Rattle.std.proofs.Common.{◌≡◌, ℕ, zero, suc, ◌+◌, ◌-◌, ◌*◌, ◌%◌, ◌^◌, ◌<◌, ◌≤◌, ◌≢◌, ◌⊎◌, ◌↔◌, Bool, false, IsTrue, nat_eq, not, List, length, get_or, set, bit_and, bit_or, bit_xor, sym, subst, get_or-set_other, get_or-set_same, ◌/◌, inl, inr, ⊎_elim, arith, add-zero, add-suc}
+use mir.Val.{bool_byte}
+use Rattle.std.specs.Int.Count.{ones}
+use Rattle.std.proofs.lemmas.Bool.{cases_eq, cases_lt, eqb-true, eq-eqb, eqb-false, ne_eqb, not-true, false≢true}
+use Rattle.std.proofs.lemmas.Nat.{zero_from_ones}
+use Rattle.std.proofs.lemmas.List.{get_or_past}
+use Rattle.glob_pattern.specs.Matching.Splits.{Table}
+use Rattle.glob_pattern.specs.Private.Prefixes.{PrefixSplits, IsAlive, HasTaken, IsTakenPrefix}
+use Rattle.std.specs.Int.{IsBitSet}
+use Rattle.glob_pattern.specs.Private.Positions.{word_end, IsShapeWord, IsAliveWord, IsTakenWord, AreAlive}
+use Rattle.glob_pattern.proofs.PositionLemmas.Alive.{MayEnd, ComesAlive, ComesWhole, IsAlive-step, PrefixSplits-step}
+use Rattle.glob_pattern.proofs.PositionLemmas.TakenPrefixes.{IsDead-later}
+use Rattle.glob_pattern.proofs.PositionLemmas.Spreading.{spread}
+use Rattle.glob_pattern.proofs.BitLemmas.SetBits.{IsBitSet-cases, IsBitSet-or, IsBitSet-and, IsBitSet-zero, IsBitSet-spread_low, IsBitSet-spread_next, IsBitSet-moved_low, IsBitSet-moved_next, IsBitSet-closed, bit_below, highest_set}
+use Rattle.glob_pattern.proofs.BitLemmas.LowestBits.{ones_within}
+use Rattle.glob_pattern.specs.declared.matcher.Shape.{Shape}
+use Rattle.glob_pattern.specs.declared.matcher.Shape.TheVariants.{One, Deep}
+use Rattle.glob_pattern.specs.declared.matcher.shape_word.ShapeWord.{ShapeWord}
+
+-- what `ShapeWord::step` computes: the positions that pieces end at, and those that are whole
+abbrev pub begun_of : (ending : ℕ) (whole : Bool) → ℕ
+begun_of ending whole = bit_or (ending * 2 ^ 1 % 2 ^ 64) (bool_byte whole)
+
+abbrev pub closed_of : (begun wildcards : ℕ) → ℕ
+closed_of begun wildcards = bit_or begun (bit_xor ((bit_and begun wildcards + wildcards) % 2 ^ 64) wildcards)
+
+-- whether no shapes split the characters, at the start and later
+pub whole-at_start : (table : Table) (shapes : List Shape) (k : ℕ) → IsTrue (nat_eq k 0) ↔ PrefixSplits table shapes 0 k
+unfolding PrefixSplits
+whole-at_start table shapes k = (λ t. eqb-true k 0 t, λ h. eq-eqb k 0 h)
+
+pub whole-later : (table : Table) (shapes : List Shape) (k : ℕ) → 0 < k → IsTrue false ↔ PrefixSplits table shapes 0 k
+unfolding PrefixSplits
+whole-later table shapes k later = (λ t. absurd (false≢true t), λ h. absurd (omega (arith, h)))
+
+module _ (table : Table) (shapes : List Shape) (start : ℕ) (word : ShapeWord) (from : start ≤ length shapes) (are : IsShapeWord shapes start word) where
+  -- only tokens of the word are asked
+  pub asked-in_word : (alive : ℕ) → alive < 2 ^ 64 → (j : ℕ) → IsBitSet (bit_and alive word.tokens) j → (j < 63) × (start + j < length shapes)
+  asked-in_word alive fits j set =
+      let both = (IsBitSet-and alive word.tokens j).0 set in
+      let within = (are.tokens j (bit_below alive j fits both.0)).0 both.1 in (omega arith, omega arith)
+
+  pub ones-in_word : (alive : ℕ) → alive < 2 ^ 64 → ones (bit_and alive word.tokens) ≤ word_end shapes start - start
+  ones-in_word alive fits = ones_within (word_end shapes start - start) (bit_and alive word.tokens)
+      (λ j set. let within = asked-in_word alive fits j set in omega arith)
+
+  module _ (p alive took : ℕ) (answers : (j : ℕ) → j < 64 → IsBitSet took j ↔ (IsBitSet (bit_and alive word.tokens) j × IsTrue (table.takes (start + j) (p - 1)))) where
+    -- what the tokens answer that are alive
+    pub IsTakenWord-asked : 0 < p → IsAliveWord table shapes start (p - 1) alive → IsTakenWord table shapes start p took
+    unfolding HasTaken
+    IsTakenWord-asked later says =
+        let back : suc (p - 1) ≡ p = omega arith in
+        let taken : IsTakenWord table shapes start (suc (p - 1)) took = record {
+          taken = λ j within.
+              let here = says.alive j within in
+              let answer = answers j (omega arith) in
+              let and = IsBitSet-and alive word.tokens j in
+              let token = are.tokens j (omega arith) in (
+                λ s. let (a, t) = answer.0 s in (here.0 (and.0 a).0, t),
+                λ (a, t). answer.1 (and.1 (here.1 a, token.1 within), t),
+              );
+        } in
+        subst (λ q. IsTakenWord table shapes start q took) back taken
+
+    -- the last bit is of no token
+    pub answer-in_word : alive < 2 ^ 64 → IsBitSet took 63 → ⊥
+    answer-in_word fits set = let within = asked-in_word alive fits 63 ((answers 63 (omega arith)).0 set).0 in omega (arith, within.0)
+
+    -- where none was asked none has taken the character
+    pub none-taken_unasked : IsTakenWord table shapes start p took → ones (bit_and alive word.tokens) ≡ 0
+        → (n : ℕ) → start ≤ n → n < word_end shapes start → HasTaken table shapes n p → ⊥
+    none-taken_unasked taken none n le lt t =
+        let at : start + (n - start) ≡ n = omega arith in
+        let set = (taken.taken (n - start) (omega arith)).1 (rw at t) in
+        IsBitSet-zero (n - start) (rw (zero_from_ones (bit_and alive word.tokens) none) at ((answers (n - start) (omega arith)).0 set).0)
+
+  module _ (k took ending : ℕ) (opens whole : Bool) (taken : IsTakenWord table shapes start k took) (at : opens ≡ table.opens k) (first : IsTrue whole ↔ PrefixSplits table shapes start k)
+      (ends : (j : ℕ) → j < 64 → IsBitSet ending j ↔ (IsBitSet took j × (IsTrue opens ⊎ (IsBitSet word.recursive j → ⊥)))) where
+    wildcards-are : (j : ℕ) → start + j < word_end shapes start → IsBitSet word.wildcards j ↔ (get_or shapes (start + j) One ≢ One)
+    wildcards-are j within = let grows = are.wildcards j (omega arith) in (λ h. (grows.0 h).1, λ ne. grows.1 (within, ne))
+
+    -- the tokens of the word whose pieces may end
+    ending-may : (j : ℕ) → start + j < word_end shapes start
+        → IsBitSet ending j ↔ (HasTaken table shapes (start + j) k × (get_or shapes (start + j) One ≡ Deep → MayEnd table shapes (start + j) k))
+    ending-may j within =
+        let bound = are.recursive j (omega arith) in
+        let token = taken.taken j within in
+        let ending_bit = ends j (omega arith) in (
+          λ h. (token.0 (ending_bit.0 h).0, λ deep. ⊎_elim (λ here. inr (rw at at here)) (λ free. inl (last (λ more. free (bound.1 (within, deep, more))))) (ending_bit.0 h).1),
+          λ (took_it, may). ending_bit.1 (token.1 took_it, ⊎_elim (λ set. ⊎_elim (λ e. absurd (let lim = (bound.0 set).2 in omega arith)) (λ here. inl (rw at here)) (may (bound.0 set).1)) inr (IsBitSet-cases word.recursive j)),
+        )
+      where
+        last : (start + j + 1 < length shapes → ⊥) → suc (start + j) ≡ length shapes
+        last none = ⊎_elim (λ e. e) (λ ne. absurd (none (omega arith))) (cases_eq (suc (start + j)) (length shapes))
+
+    spread-whole : (j : ℕ) → start + j ≤ word_end shapes start → IsBitSet (spread (begun_of ending whole) word.wildcards 0) j ↔ PrefixSplits table shapes (start + j) k
+    spread-whole zero within =
+        let s = IsBitSet-spread_low (begun_of ending whole) word.wildcards in
+        let low = IsBitSet-moved_low ending whole in
+        rw (add-zero start) (λ h. first.0 (low.0 (s.0 h)), λ h. s.1 (low.1 (first.1 h)))
+    spread-whole (suc j) within =
+        let n_lt : start + j < word_end shapes start = omega arith in
+        let s = IsBitSet-spread_next (begun_of ending whole) word.wildcards j in
+        let next = IsBitSet-moved_next ending whole j (omega arith) in
+        let ih = spread-whole j (omega arith) in
+        let grows = wildcards-are j n_lt in
+        let ended = ending-may j n_lt in
+        let step : PrefixSplits table shapes (suc (start + j)) k ↔ ComesWhole table shapes (get_or shapes (start + j) One) (start + j) k = PrefixSplits-step table shapes (start + j) (omega arith) k in
+        rw add-suc (
+          λ h. step.1 (⊎_elim (λ b. inr (ended.0 (next.0 b))) (λ (g, c). inl (ih.0 c, grows.0 g)) (s.0 h)),
+          λ h. s.1 (⊎_elim (λ (w, g). inr (grows.1 g, ih.1 w)) (λ e. inl (next.1 (ended.1 e))) (step.0 h)),
+        )
+
+    closed-whole : (j : ℕ) → start + j ≤ word_end shapes start → IsBitSet (closed_of (begun_of ending whole) word.wildcards) j ↔ PrefixSplits table shapes (start + j) k
+    closed-whole j within =
+        let closed = IsBitSet-closed (begun_of ending whole) word.wildcards j (omega arith) in
+        let prefix = spread-whole j within in
+        (λ h. prefix.0 (closed.0 h), λ h. closed.1 (prefix.1 h))
+
+    -- what the word says after the character
+    pub IsAliveWord-stepped : IsAliveWord table shapes start k (bit_or (bit_and took word.wildcards) (closed_of (begun_of ending whole) word.wildcards))
+    IsAliveWord-stepped = record {
+      alive = λ j within.
+          let or = IsBitSet-or (bit_and took word.wildcards) (closed_of (begun_of ending whole) word.wildcards) j in
+          let and = IsBitSet-and took word.wildcards j in
+          let step : IsAlive table shapes (start + j) k ↔ ComesAlive table shapes (get_or shapes (start + j) One) (start + j) k = IsAlive-step table shapes (start + j) k in
+          let prefix = closed-whole j (omega arith) in
+          let grows = wildcards-are j within in
+          let token = taken.taken j within in (
+            λ h. step.1 (⊎_elim (λ s. let b = and.0 s in inr (token.0 b.0, grows.0 b.1)) (λ c. inl (prefix.0 c)) (or.0 h)),
+            λ h. or.1 (⊎_elim (λ w. inr (prefix.1 w)) (λ (t, g). inl (and.1 (token.1 t, grows.1 g))) (step.0 h)),
+          );
+      whole = λ j e.
+          let or = IsBitSet-or (bit_and took word.wildcards) (closed_of (begun_of ending whole) word.wildcards) j in
+          let and = IsBitSet-and took word.wildcards j in
+          let prefix = rw e at (closed-whole j (omega arith)) in (
+            λ h. ⊎_elim (λ s. absurd (let past = ((are.wildcards j (omega arith)).0 (and.0 s).1).0 in omega arith)) (λ c. prefix.0 c) (or.0 h),
+            λ w. or.1 (inr (prefix.1 w)),
+          );
+    }
+
+module _ (table : Table) (shapes : List Shape) (k n : ℕ) (alive : List ℕ) where
+  -- a word more
+  pub AreAlive-set : (w : ℕ) → AreAlive table shapes k 0 n alive → n < length alive → IsAliveWord table shapes (63 * n) k w → AreAlive table shapes k 0 (n + 1) (set alive n w)
+  AreAlive-set w part lt here = record {
+    word = λ i le below.
+        ⊎_elim
+        (λ e. let at : get_or (set alive n w) i 0 ≡ w = rw e (get_or-set_same alive n w 0 lt) in rw at (subst (λ j. IsAliveWord table shapes (63 * j) k w) (sym e) here))
+        (λ ne. rw (get_or-set_other alive n i w 0 ne) (part.word i (omega arith) (omega arith)))
+        (cases_eq i n);
+  }
+
+  -- and one fewer is left
+  pub AreAlive-left : (w high : ℕ) → AreAlive table shapes k n high alive → AreAlive table shapes k (n + 1) high (set alive n w)
+  AreAlive-left w high rest = record {
+    word = λ i le below.
+        let ne : i ≢ n = omega arith in
+        rw (get_or-set_other alive n i w 0 ne) (rest.word i (omega arith) below);
+  }
+
+  -- the last bit of the word before says whether the shapes before this word are whole
+  pub carry-whole : AreAlive table shapes k 0 n alive → 0 < n → 63 * n ≤ length shapes → (last : ℕ) → last < 2 ^ 64 → last ≡ get_or alive (n - 1) 0 → IsTrue (not (nat_eq (last / 2 ^ 63) 0)) ↔ PrefixSplits table shapes (63 * n) k
+  carry-whole part some le last fits at =
+      let start : 63 * (n - 1) + 63 ≡ 63 * n = omega arith in
+      let end : word_end shapes (63 * (n - 1)) ≡ 63 * n = omega arith in
+      let before = rw (sym at) at (part.word (n - 1) (omega arith) (omega arith)) in
+      let bit = before.whole 63 (omega (arith, start, end)) in
+      let high = highest_set last fits in (
+        λ t. rw (← end) (bit.0 (high.0 (eqb-false (last / 2 ^ 63) 0 (not-true (nat_eq (last / 2 ^ 63) 0) t)))),
+        λ w. rw (ne_eqb (last / 2 ^ 63) 0 (high.1 (bit.1 (rw end w)))) cc,
+      )
+
+-- the tokens of leading shapes that took a character each
+pub IsTakenWord-prefix : (table : Table) (shapes : List Shape) (start n word : ℕ) → IsTakenPrefix table shapes n
+    → ((j : ℕ) → j < 64 → IsBitSet word j ↔ (start + j + 1 ≡ n)) → IsTakenWord table shapes start n word
+IsTakenWord-prefix table shapes start n word reached bits = record {
+  taken = λ j within.
+      let bit = bits j (omega arith) in
+      let last = reached.taken.last (start + j) (omega arith) in
+      (λ s. last.1 (bit.0 s), λ t. bit.1 (last.0 t));
+}
+
+-- a word that is alone
+pub AreAlive-alone : (table : Table) (shapes : List Shape) (k : ℕ) (alive : List ℕ) → length alive ≡ 1 → IsAliveWord table shapes 0 k (get_or alive 0 0) → AreAlive table shapes k 0 (length alive) alive
+AreAlive-alone table shapes k alive alone says = record {
+  word = λ i le lt. let e : i ≡ 0 = omega arith in subst (λ m. IsAliveWord table shapes (63 * m) k (get_or alive m 0)) (sym e) says;
+}
+
+module _ (table : Table) (shapes : List Shape) (k : ℕ) (alive : List ℕ) (says : AreAlive table shapes k 0 (length alive) alive) where
+  -- a bit says whether its position is alive, where no longer piece may begin
+  pub position-in_word : (n i j : ℕ) → i < length alive → 63 * i + j ≡ n → j ≤ 63 → n ≤ length shapes → get_or shapes n One ≡ One → IsBitSet (get_or alive i 0) j ↔ IsAlive table shapes n k
+  position-in_word n i j lt at few le one =
+      let word = says.word i (omega arith) lt in
+      ⊎_elim
+      (λ inside. rw at at (word.alive j inside))
+      (λ outside.
+      let end : word_end shapes (63 * i) ≡ n = omega (arith, outside) in
+      let whole = rw end at (word.whole j (omega (arith, end, at))) in
+      let step : IsAlive table shapes n k ↔ ComesAlive table shapes (get_or shapes n One) n k = IsAlive-step table shapes n k in
+      (λ s. step.1 (inl (whole.0 s)), λ a. whole.1 (⊎_elim (λ w. w) (λ (t, grows). absurd (grows one)) (step.0 a))))
+      (cases_lt (63 * i + j) (word_end shapes (63 * i)))
+
+  -- where all words are 0, nothing is alive
+  none-in_words : length shapes ≤ 63 * length alive → 0 < length alive → ((i : ℕ) → i < length alive → get_or alive i 0 ≡ 0) → (n : ℕ) → n ≤ length shapes → IsAlive table shapes n k → ⊥
+  none-in_words all some none n le here =
+      ⊎_elim
+      (λ inside.
+      let at : 63 * (n / 63) + n % 63 ≡ n = omega arith in
+      let word = says.word (n / 63) (omega arith) (omega arith) in
+      let bit = (rw at at (word.alive (n % 63) (omega (arith, at, inside)))).1 here in
+      IsBitSet-zero (n % 63) (rw (none (n / 63) (omega arith)) at bit))
+      (λ last.
+      let i = (n - 1) / 63 in
+      let e : n ≡ length shapes = omega arith in
+      let bit = (position-in_word n i (n - 63 * i) (omega arith) (omega arith) (omega arith) le (get_or_past shapes n One (omega arith))).1 here in
+      IsBitSet-zero (n - 63 * i) (rw (none i (omega arith)) at bit))
+      (cases_lt n (length shapes))
+
+  -- so nothing is at the end
+  pub none-at_end : length shapes ≤ 63 * length alive → 0 < length alive → ((i : ℕ) → i < length alive → get_or alive i 0 ≡ 0) → k ≤ table.characters → (n : ℕ) → n ≤ length shapes → IsAlive table shapes n table.characters → ⊥
+  none-at_end all some none within n le here =
+      let e : table.characters - k + k ≡ table.characters = omega arith in
+      let dead = IsDead-later table shapes (table.characters - k) k (record { none = none-in_words all some none }) in
+      (rw e at dead).none n le here

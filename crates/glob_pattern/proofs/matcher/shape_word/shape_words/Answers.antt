@@ -1,0 +1,18 @@
+use Rattle.std.proofs.Common.{◌≡◌, ◌*◌, ◌++◌, ◌∷◌, [], get_or, ⊎_elim, sym, subst, arith}
+use Rattle.std.proofs.lemmas.Bool.{cases_eq}
+use Rattle.std.proofs.lemmas.List.{length-append, get_or_append_left, get_or_push}
+use Rattle.glob_pattern.specs.Private.Positions.{IsShapeWord}
+use Rattle.glob_pattern.proofs.matcher.shape_word.shape_words.Goals as goal
+
+pub loop-n-preserved : goal.loop-n-preserved
+loop-n-preserved g c =
+    let i = c.loop-n.invariant in
+    let words = c.loop-n.words.items in
+    rw c.in_ok-push.ensures.items (record {
+      count = omega (arith, length-append words (c.new.result ∷ []), i.count);
+      word = λ m d lt.
+          ⊎_elim
+          (λ e. let at : get_or (words ++ c.new.result ∷ []) m d ≡ c.new.result = get_or_push words c.new.result d m (omega (arith, e, i.count)) in rw at (subst (λ n. IsShapeWord c.args.shapes.now (63 * n) c.new.result) (sym e) c.new.ensures))
+          (λ ne. let at : get_or (words ++ c.new.result ∷ []) m d ≡ get_or words m d = get_or_append_left words (c.new.result ∷ []) d m (omega (arith, ne, lt, i.count)) in rw at (i.word m d (omega arith)))
+          (cases_eq m c.loop-n.n);
+    })

@@ -1,0 +1,135 @@
+-- Which of 63 neighbouring tokens take each class of characters.
+use Rattle.std.specs.Prelude.{◌≡◌, ◌≢◌, ℕ, ◌+◌, ◌*◌, ◌<◌, ◌≤◌, ◌↔◌, ◌⊎◌, Bool, true, false, ◌&&◌, not, nat_le, ◌==◌, if◌then◌else◌, List, length, slice_index_or, IsTrue}
+use Rattle.std.specs.Char.{is_ascii}
+use Rattle.std.specs.Int.{IsBitSet}
+use Rattle.std.specs.List.{list_any}
+use Rattle.glob_text.specs.Characters.{slash, dot}
+use Rattle.glob_pattern.specs.Grammar.Tokens.{Token}
+use Rattle.glob_pattern.specs.Matching.Taking.{takes, is_excluded_separator, is_excluded_dot}
+use Rattle.glob_pattern.specs.declared.options.MatchOptions.{MatchOptions}
+use Rattle.glob_pattern.specs.declared.pattern.char_masks.CharMasks.{CharMasks}
+use Rattle.glob_pattern.specs.declared.token.Token.TheVariants.{Plain, Any, Run, Deep, Within, Except}
+use Rattle.glob_pattern.specs.declared.token.bracket.Entry.{Entry}
+use Rattle.glob_pattern.specs.declared.token.bracket.Entry.TheVariants.{Single, Range}
+
+-- the first character beyond ASCII
+abbrev pub beyond : ℕ
+beyond = 128
+
+-- the class of a character of ASCII that no rule excludes from wildcards
+abbrev pub ascii_class : (case : Bool) → ℕ → ℕ
+ascii_class case c = if case then c else 128 + c
+
+-- the class of a character; `opening`: a component begins at its place
+abbrev pub class_of : MatchOptions → (opening : Bool) → ℕ → ℕ
+class_of o opening c =
+    if not (is_ascii c) then 258
+    else if is_excluded_separator o c then 256
+    else if is_excluded_dot o opening c then 257
+    else ascii_class o.case_sensitive c
+
+-- the mask of a class
+abbrev pub mask_at : List ℕ → (class : ℕ) → ℕ
+mask_at masks class = slice_index_or masks class 0
+
+-- with or without case, and neither rule
+abbrev pub case_options : (case : Bool) → MatchOptions
+case_options case = record {
+  case_sensitive = case;
+  require_literal_separator = false;
+  require_literal_leading_dot = false;
+}
+
+-- the last character of the entry is beyond ASCII
+abbrev pub is_beyond : Entry → Bool
+is_beyond (Single x) = nat_le beyond x
+is_beyond (Range x y) = nat_le beyond y
+
+-- The token is a character beyond ASCII, or a bracket with an entry that ends there: it is asked about each of them.
+abbrev pub is_undecided : Token → Bool
+is_undecided (Plain x) = nat_le beyond x
+is_undecided Any = false
+is_undecided Run = false
+is_undecided Deep = false
+is_undecided (Within entries) = list_any is_beyond entries
+is_undecided (Except entries) = list_any is_beyond entries
+
+-- the token takes a `/` that the separator rule excludes from wildcards
+abbrev pub takes_separator : Token → Bool
+takes_separator (Plain x) = x == slash
+takes_separator Any = false
+takes_separator Run = false
+takes_separator Deep = true
+takes_separator (Within entries) = false
+takes_separator (Except entries) = false
+
+-- the token takes a `.` that the dot rule excludes from wildcards
+abbrev pub takes_dot : Token → Bool
+takes_dot (Plain x) = x == dot
+takes_dot Any = false
+takes_dot Run = false
+takes_dot Deep = false
+takes_dot (Within entries) = false
+takes_dot (Except entries) = false
+
+-- where no rule applies, the token takes all characters but those that it lists: it is a wildcard or a `[!..]`
+abbrev pub takes_all_but_listed : Token → Bool
+takes_all_but_listed (Plain c) = false
+takes_all_but_listed Any = true
+takes_all_but_listed Run = true
+takes_all_but_listed Deep = true
+takes_all_but_listed (Within entries) = false
+takes_all_but_listed (Except entries) = true
+
+-- the token takes all characters beyond ASCII, and need not be asked about them
+abbrev pub takes_beyond : Token → Bool
+takes_beyond t = takes_all_but_listed t && not (is_undecided t)
+
+-- no token
+abbrev pub never : Token → Bool
+never t = false
+
+-- the new mask has this bit exactly if it is to be on, and the other bits of the old one
+pub record IsPut (old new bit : ℕ) (on : Bool) : Type 0 where
+  pub here : IsBitSet new bit ↔ IsTrue on
+  pub others : (j : ℕ) → j < 64 → j ≢ bit → IsBitSet new j ↔ IsBitSet old j
+
+-- the bit is put in the mask of a class that is listed, and another mask stays as it is
+pub record IsListed (old new bit : ℕ) (listed on : Bool) : Type 0 where
+  pub inside : listed ≡ true → IsPut old new bit on
+  pub outside : listed ≡ false → new ≡ old
+
+-- Of the tokens from number `start` up to `end`, the mask has the bits of those before number n that meet the first
+-- test, and of the others that meet the second.
+pub record IsMask (tokens : List Token) (start n end : ℕ) (first later : Token → Bool) (mask : ℕ) : Type 0 where
+  pub before : (j : ℕ) → j < 64 → start + j < n
+      → IsBitSet mask j ↔ IsTrue (first (slice_index_or tokens (start + j) Any))
+  pub after : (j : ℕ) → j < 64 → n ≤ start + j
+      → IsBitSet mask j
+      ↔ ((start + j < end) × IsTrue (later (slice_index_or tokens (start + j) Any)))
+
+-- The masks of the tokens from number `start` up to `end`, of which those before number n are done: each of the others
+-- is in the masks of all classes or of none.
+pub record AreMasks (tokens : List Token) (start n end : ℕ) (masks : CharMasks) : Type 0 where
+  pub ascii : (case : Bool) (c : ℕ) → c < 128
+      → IsMask tokens start n end (takes (case_options case) false c) takes_all_but_listed
+      (mask_at masks.masks (ascii_class case c))
+  pub separator : IsMask tokens start n end takes_separator takes_all_but_listed (mask_at masks.masks 256)
+  pub dot : IsMask tokens start n end takes_dot takes_all_but_listed (mask_at masks.masks 257)
+  pub beyond : IsMask tokens start n end takes_beyond takes_all_but_listed (mask_at masks.masks 258)
+  pub undecided : IsMask tokens start n end is_undecided never masks.undecided
+
+-- What the masks of the tokens from number `start` on say of a character, which is of ASCII where the token is
+-- undecided; such a token is not in the mask of the characters beyond ASCII.
+pub record IsCharMasks (tokens : List Token) (start : ℕ) (masks : CharMasks) : Type 0 where
+  pub takes : (o : MatchOptions) (opening : Bool) (c j : ℕ) → j < 63 → start + j < length tokens
+      → (c < 128) ⊎ ¬ (IsBitSet masks.undecided j)
+      → IsBitSet (mask_at masks.masks (class_of o opening c)) j
+      ↔ IsTrue (takes o opening c (slice_index_or tokens (start + j) Any))
+  pub undecided : (j : ℕ) → j < 64 → IsBitSet masks.undecided j
+      → ¬ (IsBitSet (mask_at masks.masks 258) j)
+
+-- each is the masks of 63 tokens, the first ones those of the first 63
+pub record AreCharMasks (tokens : List Token) (list : List CharMasks) : Type 0 where
+  pub each : (i : ℕ) (d : CharMasks) → i < length list
+      → IsCharMasks tokens (63 * i) (slice_index_or list i d)

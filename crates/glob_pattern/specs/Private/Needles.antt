@@ -1,0 +1,36 @@
+-- Bytes of a pattern that stand in each text that it matches.
+use Rattle.std.specs.Prelude.{◌≡◌, ℕ, ◌+◌, ◌<◌, ◌≤◌, List, ◌∷◌, ◌++◌, length, map, take, drop, slice_index_or}
+use Rattle.std.specs.Char.{to_ascii_lowercase}
+use Rattle.std.specs.Int.{bit_at}
+use Rattle.std.specs.Str.{IsAscii}
+use Rattle.glob_pattern.specs.Grammar.Tokens.{Token}
+use Rattle.glob_pattern.specs.declared.pattern.needle.Needle.{Needle}
+use Rattle.glob_pattern.specs.declared.token.Token.TheVariants.{Plain}
+
+-- the token at the index is a plain ASCII character
+pub record IsPlainAt (tokens : List Token) (index byte : ℕ) : Type 0 where
+  pub rest_is : drop index tokens ≡ Plain byte ∷ drop (index + 1) tokens
+  pub ascii : byte < 128
+
+-- neighbouring tokens are the bytes of the needle, which are ASCII
+pub record IsNeedle (tokens : List Token) (needle : Needle) : Type 0 where
+  pub front : List Token
+  pub back : List Token
+  pub tokens_are : tokens ≡ front ++ (map Plain (take needle.len needle.bytes) ++ back)
+  pub ascii : IsAscii (take needle.len needle.bytes)
+
+-- bit k is set if the kth byte from the place on is x once capital letters are made small
+pub record AreLanes (bytes : List ℕ) (from x lanes : ℕ) : Type 0 where
+  pub each : (k : ℕ) → k < 16 → from + k < length bytes
+      → to_ascii_lowercase (slice_index_or bytes (from + k) 0) ≡ to_ascii_lowercase x
+      → bit_at lanes k ≡ 1
+
+-- the needle stands at the offset, once capital letters are made small
+pub record StandsAt (bytes needle : List ℕ) (offset : ℕ) : Type 0 where
+  pub within : offset + length needle ≤ length bytes
+  pub small : map to_ascii_lowercase (take (length needle) (drop offset bytes)) ≡ map to_ascii_lowercase needle
+
+-- the needle stands at some offset
+pub record ContainsSmall (bytes needle : List ℕ) : Type 0 where
+  pub offset : ℕ
+  pub stands : StandsAt bytes needle offset

@@ -1,0 +1,135 @@
+//! The shapes of neighbouring tokens as bits, and one step of a position set over them.
+ghost use Rattle.std.specs.Prelude.{◌≡◌, ℕ, ◌+◌, ◌-◌, ◌<◌, ◌≤◌, ◌≢◌, ◌⊎◌, ◌↔◌, false, length, bit_and, IsTrue, IfOk};
+ghost use Rattle.std.specs.Int.{IsBitSet};
+ghost use Rattle.glob_pattern.specs.Private.Positions.{IsShapeWord, AreShapeWords, IsAliveWord, AfterStep};
+
+use super::Shape;
+use std::alloc::{AllocError, Allocator};
+
+/// The shapes of 63 neighbouring tokens, or fewer at the end: bit n is of the nth of them.
+#[derive(Clone, Copy)]
+pub struct ShapeWord {
+    /// The tokens that there are.
+    pub tokens: u64,
+    /// The wildcards, whose pieces may have any length.
+    pub wildcards: u64,
+    /// Recursive wildcards that other tokens follow: a piece that is not empty ends at a component start.
+    pub recursive: u64,
+}
+
+/// The words of all shapes, at least one. Fails only if allocation fails.
+pub fn shape_words<A: Allocator + Copy>(
+    alloc: A,
+    shapes: &[Shape],
+) -> Result<Vec<ShapeWord, A>, AllocError>
+    ensures { IfOk result (λ words. AreShapeWords shapes.now words.items) }
+{
+    let count = shapes.len().div_ceil(63).max(1);
+    let mut words = Vec::with_capacity(alloc, count)?;
+    for n in 0..count {
+        words.push(ShapeWord::new(shapes, 63 * n))?;
+    }
+    Ok(words)
+}
+
+impl ShapeWord {
+    /// The shapes from number `start` on.
+    pub fn new(shapes: &[Shape], start: usize) -> Self
+        requires { start ≤ length shapes.now }
+        ensures { IsShapeWord shapes.now start result }
+    {
+        let mut word = ShapeWord {
+            tokens: 0,
+            wildcards: 0,
+            recursive: 0,
+        };
+        for n in start..shapes.len().min(start.saturating_add(63)) {
+            word = word.with(n - start, shapes[n], n + 1 < shapes.len());
+        }
+        word
+    }
+
+    /// These shapes and one more, which has others after it or not.
+    fn with(self, bit: usize, shape: Shape, followed: bool) -> Self
+        requires { bit < 64 }
+        ensures tokens { (j : ℕ)
+            → IsBitSet result.tokens j ↔ (IsBitSet self.tokens j ⊎ (j ≡ bit)) }
+        ensures wildcards { (j : ℕ)
+            → IsBitSet result.wildcards j
+            ↔ (IsBitSet self.wildcards j ⊎ ((j ≡ bit) × (shape ≢ Shape.One))) }
+        ensures recursive { (j : ℕ) → IsBitSet result.recursive j
+            ↔ (IsBitSet self.recursive j ⊎ ((j ≡ bit) × (shape ≡ Shape.Deep) × IsTrue followed)) }
+    {
+        let mut word = self;
+        word.tokens = with_bit(self.tokens, bit);
+        match shape {
+            Shape::One => {}
+            Shape::Run => word.wildcards = with_bit(self.wildcards, bit),
+            Shape::Deep => {
+                word.wildcards = with_bit(self.wildcards, bit);
+                if followed {
+                    word.recursive = with_bit(self.recursive, bit);
+                }
+            }
+        }
+        word
+    }
+
+    /// The positions that are alive after a character, from the tokens that took it. `opens`: a component starts after
+    /// the character. `whole`: the shapes before the first of these split the characters up to there.
+    #[inline(always)]
+    pub fn step(self, took: u64, opens: bool, whole: bool) -> u64
+        ensures alive { AfterStep self took opens whole
+            (λ table shapes start k. IsAliveWord table shapes start k result) }
+
+        // Where no token took it whose piece must end at a component start, the same holds where none starts.
+        ensures unbound { bit_and took self.recursive ≡ 0 → AfterStep self took false whole
+            (λ table shapes start k. IsAliveWord table shapes start k result) }
+    {
+        // A piece that ends lets the next token begin. A wildcard that begins may be empty, so that the one after it
+        // begins, too: adding the mask of wildcards carries a bit through each run of them.
+        let ending = self.ending(took, opens);
+        let begun = (ending << 1) | u64::from(whole);
+        let sum = (begun & self.wildcards).wrapping_add(self.wildcards);
+        let closed = begun | (sum ^ self.wildcards);
+        (took & self.wildcards) | closed
+    }
+
+    /// The bit of the last token before number `end`, if its pieces may have any length and end anywhere.
+    #[inline(always)]
+    pub fn free_before(self, end: usize) -> u64
+        ensures { (j : ℕ) → j < 64 → IsBitSet result j → (j + 1 ≡ end)
+            × IsBitSet self.wildcards j × ¬ (IsBitSet self.recursive j) }
+    {
+        last_before(end, 0) & self.wildcards & !self.recursive
+    }
+
+    /// Of the tokens that took a character, those whose pieces may end after it.
+    #[inline(always)]
+    fn ending(self, took: u64, opens: bool) -> u64
+        ensures { (j : ℕ) → j < 64
+            → IsBitSet result j
+            ↔ (IsBitSet took j × (IsTrue opens ⊎ ¬ (IsBitSet self.recursive j))) }
+    {
+        if opens { took } else { took & !self.recursive }
+    }
+}
+
+/// The word with one more bit set.
+fn with_bit(word: u64, bit: usize) -> u64
+    requires { bit < 64 }
+    ensures { (j : ℕ) → IsBitSet result j ↔ (IsBitSet word j ⊎ (j ≡ bit)) }
+{
+    word | (1 << bit)
+}
+
+/// The bit of the last token before number `end`, in a word whose bit 0 is of token `start`.
+pub fn last_before(end: usize, start: usize) -> u64
+    ensures { (j : ℕ) → j < 64 → IsBitSet result j ↔ (start + j + 1 ≡ end) }
+{
+    if start < end && end - start <= 64 {
+        1 << (end - start - 1)
+    } else {
+        0
+    }
+}

@@ -1,0 +1,269 @@
+//! What a match reads of a pattern, and how a match goes: the ends of the text are compared, a needle is searched for,
+//! and what is left goes through the position sets.
+ghost use Rattle.std.specs.Prelude.{◌≡◌, ℕ, suc, ◌+◌, ◌-◌, ◌*◌, ◌<◌, ◌≤◌, ◌↔◌, [], length, map, IsTrue, IsOk, IfOk, MatchOption, chars};
+ghost use Rattle.std.specs.Str.{is_utf8};
+ghost use Rattle.std.specs.Int.{IsBitSet};
+ghost use Rattle.glob_pattern.specs.Grammar.Tokens.{shape_of};
+ghost use Rattle.glob_pattern.specs.Matching.Texts.{TokensMatch};
+ghost use Rattle.glob_pattern.specs.Private.Positions.{AreShapeWords, TakesRest};
+ghost use Rattle.glob_pattern.specs.Private.TextTable.{table_of};
+ghost use Rattle.glob_pattern.specs.Private.Trims.{IsTrim};
+ghost use Rattle.glob_text.specs.Text.{Text};
+
+use crate::matcher::{Judge, Shape, ShapeWord, Span, decide, shape_words};
+use crate::options::MatchOptions;
+use crate::pattern::char_masks::{CharMasks, masks_of};
+use crate::pattern::judge::TextJudge;
+use crate::pattern::needle::Needle;
+use crate::pattern::trim::{Trimmed, leading_ones, trailing_ones, trim};
+use crate::token::Token;
+use crate::token::bracket::Bracket;
+use std::alloc::{AllocError, Allocator};
+use std::marker::Model;
+use std::slice;
+
+/// What a match reads of a pattern's tokens, made once when it is parsed.
+#[derive(Drop)]
+pub struct Compiled<A: Allocator> {
+    tokens: Vec<Token<Bracket<A>>, A>,
+    // what the contracts of the matcher speak of
+    shapes: Vec<Shape, A>,
+    // the shapes as bits: those of the first 63 tokens, and if there are more tokens, those of all
+    first: ShapeWord,
+    words: Vec<ShapeWord, A>,
+    // none in a pattern without wildcards
+    masks: Vec<CharMasks, A>,
+    // how many tokens at the start and at the end take one character each
+    lead: usize,
+    trail: usize,
+    needle: Needle,
+}
+
+impl<A: Allocator> Model for Compiled<A> {
+    ghost use Rattle.std.specs.Prelude.{List};
+    ghost use Rattle.glob_pattern.specs.Grammar.Tokens.{Token};
+    ghost use Rattle.glob_pattern.specs.Private.Compiled.{IsCompiled};
+
+    ghost Value = { List Token };
+
+    ghost view = { λ c. c.tokens.items };
+
+    ghost invariant = { λ c. IsCompiled c.tokens.items c.shapes.items c.first c.words.items c.masks.items c.lead c.trail
+        c.needle };
+}
+
+impl<A: Allocator> Compiled<A> {
+    /// How many characters at the ends of the text are taken by tokens of one character each. `None`: one is not taken,
+    /// and the text does not match. The bytes need not be UTF-8.
+    #[inline(always)]
+    pub fn trim(&self, bytes: &[u8], options: MatchOptions) -> Option<Trimmed>
+        ensures { MatchOption result
+            (IsTrue (is_utf8 bytes.now) → ¬ (TokensMatch options self.now (chars bytes.now)))
+            (λ t. IsTrim options self.now bytes.now t.start t.end) }
+    {
+        trim(
+            self.tokens.as_slice(),
+            self.lead,
+            self.trail,
+            bytes,
+            options,
+        )
+    }
+
+    /// [`trim`](Self::trim), and then the search for the needle.
+    #[inline(always)]
+    pub fn prefilter(&self, bytes: &[u8], options: MatchOptions) -> Option<Trimmed>
+        ensures { MatchOption result
+            (IsTrue (is_utf8 bytes.now) → ¬ (TokensMatch options self.now (chars bytes.now)))
+            (λ t. IsTrim options self.now bytes.now t.start t.end) }
+    {
+        let trimmed = self.trim(bytes, options)?;
+        if self.needle.may_be_in(bytes) {
+            Some(trimmed)
+        } else {
+            None
+        }
+    }
+}
+
+impl<A: Allocator + Copy> Compiled<A> {
+    /// Compiles the tokens. Fails only if allocation fails.
+    pub fn new(alloc: A, tokens: Vec<Token<Bracket<A>>, A>) -> Result<Self, AllocError>
+        ensures { IfOk result (λ compiled. compiled ≡ tokens.items) }
+    {
+        let shapes = shapes_of(alloc, tokens.as_slice())?;
+        let lead = leading_ones(shapes.as_slice());
+        let trail = trailing_ones(shapes.as_slice(), lead);
+        let words = if shapes.len() < 64 {
+            Vec::new(alloc)
+        } else {
+            shape_words(alloc, shapes.as_slice())?
+        };
+        let masks = masks_of(alloc, tokens.as_slice(), lead < tokens.len())?;
+        let needle = Needle::of(&tokens.as_slice()[lead..tokens.len() - trail]);
+        Ok(Compiled {
+            first: ShapeWord::new(shapes.as_slice(), 0),
+            tokens,
+            shapes,
+            words,
+            masks,
+            lead,
+            trail,
+            needle,
+        })
+    }
+
+    /// No tokens. It allocates nothing.
+    pub fn empty(alloc: A) -> Self
+        ensures { result ≡ [] }
+    {
+        Compiled {
+            tokens: Vec::new(alloc),
+            shapes: Vec::new(alloc),
+            first: ShapeWord::new(&[], 0),
+            words: Vec::new(alloc),
+            masks: Vec::new(alloc),
+            lead: 0,
+            trail: 0,
+            needle: Needle::NONE,
+        }
+    }
+
+    /// The same on the same allocator. Fails only if allocation fails.
+    pub fn clone(&self) -> Result<Self, AllocError>
+        ensures { IfOk result (λ compiled. compiled ≡ self.now) }
+    {
+        Ok(Compiled {
+            tokens: clone_tokens(&self.tokens)?,
+            shapes: self.shapes.clone()?,
+            first: self.first,
+            words: self.words.clone()?,
+            masks: self.masks.clone()?,
+            lead: self.lead,
+            trail: self.trail,
+            needle: self.needle,
+        })
+    }
+
+    /// Whether the tokens match the text, of which [`trim`](Self::trim) has decided the ends. With at most 63 tokens the
+    /// call succeeds.
+    #[inline(never)]
+    pub fn matches(
+        &self,
+        text: &str,
+        options: MatchOptions,
+        trimmed: Trimmed,
+    ) -> Result<bool, AllocError>
+        requires { IsTrim options self.now text.now trimmed.start trimmed.end }
+        ensures answer { IfOk result
+            (λ yes. IsTrue yes ↔ TokensMatch options self.now (chars text.now)) }
+        ensures short { length self.now < 64 → IsOk result }
+    {
+        let front = &text[..text.len() - trimmed.end];
+        let end = self.shapes.len() - trimmed.end;
+        let span = Span {
+            start: trimmed.start,
+            end,
+            enough: self.enough(end, options),
+        };
+        let mut judge = TextJudge::new(
+            self.tokens.as_slice(),
+            self.masks.as_slice(),
+            front,
+            trimmed.start,
+            options,
+        );
+        decide(
+            *self.tokens.allocator(),
+            self.shapes.as_slice(),
+            self.words(),
+            span,
+            &mut judge,
+        )
+    }
+
+    /// Whether the tokens match the text, and how many questions it took. With at most 63 tokens the call succeeds.
+    #[inline(never)]
+    pub fn matches_counted(
+        &self,
+        text: &str,
+        options: MatchOptions,
+    ) -> Result<(bool, u128), AllocError>
+        ensures answer { IfOk result
+            (λ counted. IsTrue counted.0 ↔ TokensMatch options self.now (chars text.now)) }
+        ensures most { IfOk result
+            (λ counted. counted.1 ≤ length self.now * length (chars text.now)) }
+        ensures least { IfOk result
+            (λ counted. IsTrue counted.0 → length (chars text.now) ≤ counted.1) }
+        ensures short { length self.now < 64 → IsOk result }
+    {
+        let shapes = self.shapes.as_slice();
+        let mut judge = TextJudge::new(
+            self.tokens.as_slice(),
+            self.masks.as_slice(),
+            text,
+            0,
+            options,
+        );
+        let answer = decide(
+            *self.tokens.allocator(),
+            shapes,
+            self.words(),
+            Span::all(shapes),
+            &mut judge,
+        )?;
+        Ok((answer, judge.asked()))
+    }
+
+    /// The shapes as bits.
+    #[inline(always)]
+    fn words(&self) -> &[ShapeWord]
+        ensures words { AreShapeWords (map shape_of self.now) result.now }
+        ensures short { length self.now < 64 → length result.now ≡ 1 }
+    {
+        if self.shapes.len() < 64 {
+            slice::from_ref(&self.first)
+        } else {
+            self.words.as_slice()
+        }
+    }
+
+    /// The bit of the last token before number `end`, if it is a wildcard that takes all that is left of any text: once it
+    /// is alive, these tokens match.
+    #[inline(always)]
+    fn enough(&self, end: usize, options: MatchOptions) -> u64
+        ensures { (text : Text) (j : ℕ) → IsBitSet result j
+            → TakesRest (table_of options self.now text) (map shape_of self.now) end j }
+    {
+        if options.require_literal_separator
+            || options.require_literal_leading_dot
+            || self.shapes.len() >= 64
+        {
+            return 0;
+        }
+        self.first.free_before(end)
+    }
+}
+
+/// The shapes of the tokens, in order. Fails only if allocation fails.
+fn shapes_of<A: Allocator + Copy>(
+    alloc: A,
+    tokens: &[Token<Bracket<A>>],
+) -> Result<Vec<Shape, A>, AllocError>
+    ensures { IfOk result (λ shapes. shapes.items ≡ map shape_of tokens.now) }
+{
+    let mut shapes = vec![in alloc; Shape::One; tokens.len()]?;
+    for n in 0..tokens.len() {
+        shapes[n] = tokens[n].shape();
+    }
+    Ok(shapes)
+}
+
+/// The same tokens on the same allocator. Fails only if allocation fails.
+fn clone_tokens<A: Allocator + Copy>(
+    tokens: &Vec<Token<Bracket<A>>, A>,
+) -> Result<Vec<Token<Bracket<A>>, A>, AllocError>
+    ensures { IfOk result (λ copies. copies.items ≡ tokens.now.items) }
+{
+    tokens.clone()
+}

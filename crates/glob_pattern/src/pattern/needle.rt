@@ -1,0 +1,142 @@
+//! Bytes of a pattern that each text it matches contains, searched for sixteen offsets at a time.
+ghost use Rattle.std.specs.Prelude.{◌<◌, ◌≤◌, length, take, IsTrue, IfSome};
+ghost use Rattle.glob_pattern.specs.Private.Needles.{IsNeedle, IsPlainAt, AreLanes, StandsAt, ContainsSmall};
+
+use crate::token::Token;
+use crate::token::bracket::Bracket;
+use std::alloc::Allocator;
+use std::simd::prelude::*;
+
+/// How many offsets are searched at once, and how many bytes a needle has at most.
+const LANES: usize = 16;
+
+/// In this bit alone an ASCII letter in upper case differs from lower case.
+const CASE: u8 = 0x20;
+
+/// Bytes that each matching text contains, in either case.
+#[derive(Clone, Copy)]
+pub struct Needle {
+    bytes: [u8; LANES],
+    len: usize,
+}
+
+impl Needle {
+    /// No bytes.
+    pub const NONE: Needle = Needle {
+        bytes: [0; LANES],
+        len: 0,
+    };
+
+    /// The longest stretch of neighbouring plain ASCII tokens, cut to 16 bytes. If none has two or more, it is of no use,
+    /// and is not searched for.
+    pub fn of<A: Allocator>(tokens: &[Token<Bracket<A>>]) -> Needle
+        ensures { IsNeedle tokens.now result }
+    {
+        Needle::at_start(&tokens[longest_stretch(tokens)..])
+    }
+
+    /// The plain ASCII tokens that the tokens begin with, cut to 16 bytes.
+    fn at_start<A: Allocator>(tokens: &[Token<Bracket<A>>]) -> Needle
+        ensures { IsNeedle tokens.now result }
+    {
+        let mut bytes = [0; LANES];
+        let mut len = 0;
+        while len < LANES
+            && let Some(byte) = ascii_at(tokens, len)
+        {
+            bytes[len] = byte;
+            len += 1;
+        }
+        Needle { bytes, len }
+    }
+
+    /// Whether the bytes may contain the needle. A needle of one byte, which most texts contain, is not searched for,
+    /// nor are texts of fewer than 16 bytes searched.
+    #[inline(always)]
+    pub fn may_be_in(&self, bytes: &[u8]) -> bool
+        ensures { ContainsSmall bytes.now (take self.now.len self.now.bytes) → IsTrue result }
+    {
+        let Some(needle) = self.bytes.get(..self.len) else {
+            return true;
+        };
+        needle.len() < 2 || bytes.len() < LANES || may_hold(bytes, needle)
+    }
+}
+
+/// Where the longest stretch of plain ASCII tokens starts, if one has two or more.
+fn longest_stretch<A: Allocator>(tokens: &[Token<Bracket<A>>]) -> usize
+    ensures { result ≤ length tokens.now }
+{
+    let mut longest = 0;
+    let mut most = 1;
+    let mut start = 0;
+    for i in 0..tokens.len() {
+        if ascii_at(tokens, i).is_none() {
+            start = i + 1;
+        } else if i - start >= most {
+            most = i - start + 1;
+            longest = start;
+        }
+    }
+    longest
+}
+
+/// The token at an index as a byte, if it is a plain ASCII character.
+fn ascii_at<A: Allocator>(tokens: &[Token<Bracket<A>>], index: usize) -> Option<u8>
+    ensures { IfSome result (IsPlainAt tokens.now index) }
+{
+    match tokens.get(index)? {
+        Token::Plain(c) if c.is_ascii() => Some(*c as u8),
+        _ => None,
+    }
+}
+
+/// Whether the needle is in the bytes: only offsets are compared at which its first and its last byte are.
+#[inline(never)]
+fn may_hold(bytes: &[u8], needle: &[u8]) -> bool
+    requires long { 16 ≤ length bytes.now }
+    requires some { 0 < length needle.now }
+    requires few { length needle.now ≤ 16 }
+    ensures { ContainsSmall bytes.now needle.now → IsTrue result }
+{
+    let gap = needle.len() - 1;
+    let end = bytes.len() - gap;
+    let mut start = 0;
+    while start < end {
+        let first = same_lanes(bytes, start, needle[0]);
+        let found = first & same_lanes(bytes, start + gap, needle[gap]);
+        let before = (found.trailing_zeros() as usize).min(LANES);
+        start += before;
+        if before < LANES {
+            if stands_at(bytes, needle, start) {
+                return true;
+            }
+            start += 1;
+        }
+    }
+    false
+}
+
+/// Which of the sixteen bytes from an offset on are `x`, in either case for a letter: bit k is of the kth of them. Some
+/// others count too, as `[` does for `{`.
+#[inline(always)]
+fn same_lanes(bytes: &[u8], from: usize, x: u8) -> u64
+    requires long { 16 ≤ length bytes.now }
+    requires within { from < length bytes.now }
+    ensures { AreLanes bytes.now from x result }
+{
+    let start = from.min(bytes.len() - LANES);
+    let lanes = u8x16::from_slice(&bytes[start..]) | u8x16::splat(CASE);
+    lanes.simd_eq(u8x16::splat(x | CASE)).to_bitmask() >> (from - start)
+}
+
+/// Whether the needle is at the offset, in either case.
+#[inline(always)]
+fn stands_at(bytes: &[u8], needle: &[u8], offset: usize) -> bool
+    ensures { StandsAt bytes.now needle.now offset → IsTrue result }
+{
+    let Some(rest) = bytes.get(offset..) else {
+        return false;
+    };
+    rest.len() >= needle.len() && rest[..needle.len()].eq_ignore_ascii_case(needle)
+}
