@@ -126,12 +126,40 @@ fn check_units(rt: &(impl Abort + AllocGlobal), trial: Trial) -> Result<(), Fail
     Ok(())
 }
 
-#[test]
-fn patterns(rt: HostRuntime) -> Result<(), Fail> {
-    for trial in trials(&rt)? {
-        check_units(&rt, trial)?;
+/// The patterns of the sizes from one to another, both included. The largest sizes are tests of their own, as each test
+/// has a time limit: matching may cost tokens times characters.
+fn check_patterns(rt: &(impl Abort + AllocGlobal), from: usize, to: usize) -> Result<(), Fail> {
+    for trial in trials(rt)? {
+        if from <= trial.size && trial.size <= to {
+            check_units(rt, trial)?;
+        }
     }
     Ok(())
+}
+
+#[test]
+fn patterns(rt: HostRuntime) -> Result<(), Fail> {
+    check_patterns(&rt, 0, 32_769)
+}
+
+#[test]
+fn patterns_of_65_536(rt: HostRuntime) -> Result<(), Fail> {
+    check_patterns(&rt, 65_535, 65_537)
+}
+
+#[test]
+fn patterns_of_131_071(rt: HostRuntime) -> Result<(), Fail> {
+    check_patterns(&rt, 131_071, 131_071)
+}
+
+#[test]
+fn patterns_of_131_072(rt: HostRuntime) -> Result<(), Fail> {
+    check_patterns(&rt, 131_072, 131_072)
+}
+
+#[test]
+fn patterns_of_131_073(rt: HostRuntime) -> Result<(), Fail> {
+    check_patterns(&rt, 131_073, 131_073)
 }
 
 /// A bracket of this many entries matches the character, and not `%`.
