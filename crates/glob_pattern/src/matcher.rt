@@ -114,7 +114,7 @@ pub fn run_positions<A: Allocator + Copy, J: Judge>(
     ensures answer { IfOk result
         (λ yes. IsTrue yes ↔ Splits (J.table judge.old) shapes.now) }
 
-    // The questions: at most one for each token and character, and for a match at least one for each character.
+    // The questions: in all at most tokens times characters, and for a match at least one for each character.
     ensures most { J.count judge.new
         ≤ J.count judge.old + length shapes.now * (J.table judge.old).characters }
     ensures least { IfOk result
