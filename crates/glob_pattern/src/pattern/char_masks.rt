@@ -44,16 +44,19 @@ pub struct CharMasks {
 pub fn class_of(options: MatchOptions, opening: bool, c: char) -> usize
     ensures { result ≡ class_of options opening c }
 {
+    let first = if options.case_sensitive { 0 } else { 128 };
     if !c.is_ascii() {
         BEYOND
-    } else if options.require_literal_separator && c == '/' {
-        SEPARATOR
+    } else if c == '/' {
+        if options.require_literal_separator {
+            SEPARATOR
+        } else {
+            first + '/' as usize
+        }
     } else if is_excluded_dot(options, opening, c) {
         DOT
-    } else if options.case_sensitive {
-        c as usize
     } else {
-        128 + c as usize
+        first + c as usize
     }
 }
 
