@@ -67,19 +67,6 @@ impl<'a, A: Allocator> TextJudge<'a, A> {
         judge
     }
 
-    /// A copy of the options. For all that the compiler knows, a call that got `self.options` itself might change them,
-    /// and they would be read again at each character.
-    #[inline(always)]
-    fn options(&self) -> MatchOptions
-        ensures { result ≡ self.now.options }
-    {
-        MatchOptions {
-            case_sensitive: self.options.case_sensitive,
-            require_literal_separator: self.options.require_literal_separator,
-            require_literal_leading_dot: self.options.require_literal_leading_dot,
-        }
-    }
-
     /// Steps over the next `len` bytes, which are ASCII characters.
     #[inline(always)]
     fn pass(&mut self, len: usize)
@@ -149,7 +136,7 @@ impl<A: Allocator> Judge for TextJudge<'_, A> {
         let opening = self.before == '/';
         let Some(masks) = self.masks.get(word) else {
             // A pattern without wildcards has no masks.
-            let options = self.options();
+            let options = self.options;
             return take_left(self.tokens, word, asked, options, opening, self.current);
         };
         let class = class_of(self.options, opening, self.current);
@@ -161,7 +148,7 @@ impl<A: Allocator> Judge for TextJudge<'_, A> {
         if left == 0 {
             return took;
         }
-        let options = self.options();
+        let options = self.options;
         took | take_left(self.tokens, word, left, options, opening, self.current)
     }
 

@@ -13,7 +13,7 @@ pub returns-in_default-clause-took : goal.returns-in_default-clause-took
 unfolding table_of
 returns-in_default-clause-took g c =
     let stands = c.args.self.now.stands in
-    rw (← (stands.last c.requires.stepped), ← (stands.before c.requires.stepped)) (rw c.options-options.ensures at c.take_left.ensures)
+    rw (← (stands.last c.requires.stepped), ← (stands.before c.requires.stepped)) c.take_left.ensures
 
 pub returns-then-class-ne-BEYOND-clause-took : goal.returns-then-class-ne-BEYOND-clause-took
 unfolding table_of
@@ -58,7 +58,7 @@ returns-clause-took g c = λ j lt.
     let stands = judge.stands in
     let look = c.in-Some.ensures.lookup in
     let here = subst (IsCharMasks judge.tokens.now (63 * c.args.word)) (sym look.1) (judge.masked.each c.args.word c.in-Some.masks.now look.3.0) in
-    let left = (rw c.options-options-2.ensures at c.take_left-2.ensures) j lt in
+    let left = c.take_left-2.ensures j lt in
     let or = IsBitSet-or (bit_and c.args.asked (get_or c.in-Some.masks.now.masks c.class_of-class.result 0)) c.take_left-2.result j in
     rw (← (stands.last c.requires.stepped), ← (stands.before c.requires.stepped)) (
       λ s. ⊎_elim
