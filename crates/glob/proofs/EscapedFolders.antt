@@ -13,7 +13,7 @@ use Rattle.glob_pattern.specs.Matching.Taking.{takes}
 use Rattle.glob_pattern.specs.Grammar.Brackets.{is_same}
 use Rattle.glob.specs.PathOptions.{path_options}
 use Rattle.glob_pattern.specs.declared.token.bracket.Entry.TheVariants.{Single}
-use Rattle.glob_pattern.specs.declared.token.Token.TheVariants.{Plain, Run, Deep, Within}
+use Rattle.glob_pattern.specs.declared.token.Token.TheVariants.{Literal, AnySequence, Recursive, OneOf}
 use Rattle.glob_pattern.proofs.Places.{get_or-from_drop, length-at_drop, drop-after_piece, length-after_piece}
 use Rattle.glob_pattern.proofs.ComponentLemmas.Fits.{fits, one_then, many_then, closed_then}
 use Rattle.glob_pattern.proofs.ComponentLemmas.JoinedComponents.{is_match-units}
@@ -27,7 +27,7 @@ abbrev pub all_below : Text
 all_below = slash ∷ star ∷ star ∷ slash ∷ star ∷ []
 
 abbrev below_tokens : List Token
-below_tokens = Plain slash ∷ Deep ∷ Run ∷ []
+below_tokens = Literal slash ∷ Recursive ∷ AnySequence ∷ []
 
 -- the units of `/**/*`
 module _ (whole : Text) (f : ℕ) (at : drop f whole ≡ all_below) where
@@ -43,7 +43,7 @@ module _ (whole : Text) (f : ℕ) (at : drop f whole ≡ all_below) where
   other : (k i c : ℕ) → k ≡ f + i → i < 5 → slice_index all_below i ≢ c → ¬ (Has whole k c)
   other k i c e l differs has = differs (sym (stands_at k i (slice_index all_below i) e l refl).1 ∙ has.1)
 
-  deep : UnitAt whole (f + 1) Deep (f + 4)
+  deep : UnitAt whole (f + 1) Recursive (f + 4)
   deep = (
     (
       (λ k low high. ⊎_elim (λ one. stands_at k 1 star (omega arith) (omega arith) refl) (λ two. stands_at k 2 star (omega arith) (omega arith) refl) (cases_lt k (f + 2))),
@@ -54,7 +54,7 @@ module _ (whole : Text) (f : ℕ) (at : drop f whole ≡ all_below) where
     inr (omega arith, stands_at (f + 1 + 2) 3 slash (omega arith) (omega arith) refl),
   )
 
-  run : UnitAt whole (f + 4) Run (f + 5)
+  run : UnitAt whole (f + 4) AnySequence (f + 5)
   run = (
     (
       (λ k low high. stands_at k 4 star (omega arith) (omega arith) refl),
@@ -88,7 +88,7 @@ units-written (c ∷ cs) whole f e h =
 fits-escaped : (x : ℕ) (ts : List Token) (b : Bool) (cs : Text)
     → fits path_options (escaped_token x ∷ ts) b cs ≡ one_then path_options (escaped_token x) (fits path_options ts) b cs
 fits-escaped x ts b cs =
-    cond_both (is_special x) (Within (Single x ∷ [])) (Plain x) (λ t. fits path_options (t ∷ ts) b cs ≡ one_then path_options t (fits path_options ts) b cs) (λ _. refl) (λ _. refl)
+    cond_both (is_special x) (OneOf (Single x ∷ [])) (Literal x) (λ t. fits path_options (t ∷ ts) b cs ≡ one_then path_options t (fits path_options ts) b cs) (λ _. refl) (λ _. refl)
 
 same_character : (c x : ℕ) → is_same true c x ≡ true → c ≡ x
 same_character c x h = ⊎_elim (λ e. eqb-true c x e) (λ never. absurd (false≢true never)) (or_cases (c == x) false h)
@@ -118,9 +118,9 @@ either : (e m c : Bool) → (m || c) ≡ true → ((not e && true) && m || (e &&
 either true m c h = h
 either false m c h = h
 
-any_fits : (b : Bool) (text : Text) → fits path_options (Deep ∷ Run ∷ []) b text ≡ true
+any_fits : (b : Bool) (text : Text) → fits path_options (Recursive ∷ AnySequence ∷ []) b text ≡ true
 any_fits b [] = refl
-any_fits b (c ∷ cs) = either (c == slash) (many_then path_options Run (fits path_options []) (c == slash) cs) (closed_then path_options Deep (fits path_options (Run ∷ [])) (c == slash) cs) (any_fits (c == slash) cs)
+any_fits b (c ∷ cs) = either (c == slash) (many_then path_options AnySequence (fits path_options []) (c == slash) cs) (closed_then path_options Recursive (fits path_options (AnySequence ∷ [])) (c == slash) cs) (any_fits (c == slash) cs)
 
 -- what `/**/*` takes: a separator and any text
 slash_fits : (b : Bool) (text : Text) → fits path_options below_tokens b text ≡ true → (rest : Text) × (text ≡ slash ∷ rest)

@@ -13,7 +13,7 @@ use Rattle.glob_pattern.specs.Matching.Texts.{TokensMatch, Matches}
 use Rattle.glob_pattern.specs.Escaping.{escaped_text}
 use Rattle.glob_pattern.specs.Computing.Deciding.{tokens_match, is_match}
 use Rattle.glob_pattern.specs.declared.options.MatchOptions.{MatchOptions}
-use Rattle.glob_pattern.specs.declared.token.Token.TheVariants.{Plain}
+use Rattle.glob_pattern.specs.declared.token.Token.TheVariants.{Literal}
 
 -- the second options have the case of the first, and no rule that the first lack
 abbrev pub IsLooser : MatchOptions → MatchOptions → Type 0
@@ -117,7 +117,7 @@ RootedMatchLevels =
     → is_match (with_separator_rule o) (slash ∷ join_with_byte slash (t ∷ ts)) (slash ∷ join_with_byte slash (n ∷ ns))
     ≡ takes_names o (is_match o) (t ∷ ts) (n ∷ ns)
 
--- Plain characters stand in a text, the same with or without case: first in it if nothing is before their tokens, and
+-- Literal characters stand in a text, the same with or without case: first in it if nothing is before their tokens, and
 -- last if nothing is after them.
 pub record StandsIn (case : Bool) (front : List Token) (plain : Text) (back : List Token) (text : Text) : Type 0 where
   pub before : Text
@@ -132,7 +132,7 @@ pub record StandsIn (case : Bool) (front : List Token) (plain : Text) (back : Li
 abbrev pub PlainTokensStand : Type 0
 PlainTokensStand =
     (o : MatchOptions) (front : List Token) (plain : Text) (back : List Token) (text : Text)
-    → TokensMatch o (front ++ (map Plain plain ++ back)) text
+    → TokensMatch o (front ++ (map Literal plain ++ back)) text
     → StandsIn o.case_sensitive front plain back text
 
 -- a text is at least as long as there are tokens of one character

@@ -1,7 +1,7 @@
 ghost use Rattle.std.specs.Prelude.{◌≡◌, ◌+◌, ◌<◌, ◌≤◌, List, [], ◌∷◌, ◌++◌, length, IsTrue, IfSome, IfOk, IfErr, OnOk};
 ghost use Rattle.std.specs.Str.{chars, IsAscii};
 ghost use Rattle.glob_text.specs.Text.{has, opens};
-ghost use Rattle.glob_pattern.specs.Grammar.Tokens.{Token as Kept, is_deep, ends_deep, tokens_of_units};
+ghost use Rattle.glob_pattern.specs.Grammar.Tokens.{Token as Kept, is_recursive, ends_recursive, tokens_of_units};
 ghost use Rattle.glob_pattern.specs.Grammar.Units.{HasTokens};
 ghost use Rattle.glob_pattern.specs.Grammar.Faults.{Refuses, fault_at};
 ghost use Rattle.glob_pattern.specs.Computing.Reading.{stars_at, close_from, content_from, bracket_at, unit_at};
@@ -86,7 +86,7 @@ fn push_unit<A: Allocator>(
         → tokens.old.items ≡ tokens_of_units units
         → tokens.new.items ≡ tokens_of_units (units ++ token ∷ [])) }
 {
-    if token.is_deep() && ends_deep(tokens.as_slice()) {
+    if token.is_recursive() && ends_recursive(tokens.as_slice()) {
         return Ok(());
     }
     tokens.push(token)?;
@@ -94,11 +94,11 @@ fn push_unit<A: Allocator>(
 }
 
 /// Whether the last token is `**`.
-fn ends_deep<A: Allocator>(tokens: &[Token<Bracket<A>>]) -> bool
-    ensures { result ≡ ends_deep tokens.now }
+fn ends_recursive<A: Allocator>(tokens: &[Token<Bracket<A>>]) -> bool
+    ensures { result ≡ ends_recursive tokens.now }
 {
     match tokens {
-        [.., last] => last.is_deep(),
+        [.., last] => last.is_recursive(),
         [] => false,
     }
 }
@@ -114,13 +114,13 @@ fn unit_at<A: Allocator + Copy>(
 {
     let c = text[place];
     if c == '?' {
-        Ok(Some((Token::Any, place + 1)))
+        Ok(Some((Token::AnyChar, place + 1)))
     } else if c == '*' {
         Ok(stars_at(text, place))
     } else if c == '[' {
         bracket_at(alloc, text, place)
     } else {
-        Ok(Some((Token::Plain(c), place + 1)))
+        Ok(Some((Token::Literal(c), place + 1)))
     }
 }
 
@@ -130,13 +130,13 @@ fn stars_at<A: Allocator>(text: &[char], place: usize) -> Option<(Token<Bracket<
     ensures { result ≡ stars_at text.now place }
 {
     if !has(text, place + 1, '*') {
-        Some((Token::Run, place + 1))
+        Some((Token::AnySequence, place + 1))
     } else if has(text, place + 2, '*') || !opens(text, place) {
         None
     } else if has(text, place + 2, '/') {
-        Some((Token::Deep, place + 3))
+        Some((Token::Recursive, place + 3))
     } else if place + 2 == text.len() {
-        Some((Token::Deep, place + 2))
+        Some((Token::Recursive, place + 2))
     } else {
         None
     }
@@ -153,10 +153,10 @@ fn bracket_at<A: Allocator + Copy>(
 {
     if has(text, place + 1, '!') {
         let found = content_from(alloc, text, place + 2)?;
-        Ok(found.map(|(bracket, end)| (Token::Except(bracket), end)))
+        Ok(found.map(|(bracket, end)| (Token::NoneOf(bracket), end)))
     } else {
         let found = content_from(alloc, text, place + 1)?;
-        Ok(found.map(|(bracket, end)| (Token::Within(bracket), end)))
+        Ok(found.map(|(bracket, end)| (Token::OneOf(bracket), end)))
     }
 }
 

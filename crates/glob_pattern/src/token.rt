@@ -1,5 +1,5 @@
 ghost use Rattle.std.specs.Prelude.{◌≡◌};
-ghost use Rattle.glob_pattern.specs.Grammar.Tokens.{is_deep, shape_of};
+ghost use Rattle.glob_pattern.specs.Grammar.Tokens.{is_recursive, shape_of};
 
 pub mod bracket;
 pub mod taking;
@@ -12,17 +12,17 @@ use std::alloc::Allocator;
 #[derive(Clone, Debug, Drop)]
 pub enum Token<C> {
     /// A character.
-    Plain(char),
+    Literal(char),
     /// `?`, any one character.
-    Any,
+    AnyChar,
     /// `*`, any number of characters.
-    Run,
+    AnySequence,
     /// `**`, the recursive wildcard: any number of whole path components.
-    Deep,
+    Recursive,
     /// `[..]`, a character that the bracket holds.
-    Within(C),
+    OneOf(C),
     /// `[!..]`, a character that the bracket does not hold.
-    Except(C),
+    NoneOf(C),
 }
 
 impl<A: Allocator> Token<Bracket<A>> {
@@ -31,16 +31,16 @@ impl<A: Allocator> Token<Bracket<A>> {
         ensures { result ≡ shape_of self.now }
     {
         match self {
-            Token::Plain(_) | Token::Any | Token::Within(_) | Token::Except(_) => Shape::One,
-            Token::Run => Shape::Run,
-            Token::Deep => Shape::Deep,
+            Token::Literal(_) | Token::AnyChar | Token::OneOf(_) | Token::NoneOf(_) => Shape::One,
+            Token::AnySequence => Shape::Run,
+            Token::Recursive => Shape::Deep,
         }
     }
 
     /// Whether it is `**`.
-    pub fn is_deep(&self) -> bool
-        ensures { result ≡ is_deep self.now }
+    pub fn is_recursive(&self) -> bool
+        ensures { result ≡ is_recursive self.now }
     {
-        matches!(self, Token::Deep)
+        matches!(self, Token::Recursive)
     }
 }

@@ -8,7 +8,7 @@ use Rattle.glob_text.specs.Text.{Text}
 use Rattle.glob_pattern.specs.Grammar.Tokens.{Token}
 use Rattle.glob_pattern.specs.Matching.Taking.{takes}
 use Rattle.glob_pattern.specs.declared.options.MatchOptions.{MatchOptions}
-use Rattle.glob_pattern.specs.declared.token.Token.TheVariants.{Plain, Any, Run, Deep, Within, Except}
+use Rattle.glob_pattern.specs.declared.token.Token.TheVariants.{Literal, AnyChar, AnySequence, Recursive, OneOf, NoneOf}
 use Rattle.glob_pattern.proofs.MatchingLemmas.Case.{same-slash}
 use Rattle.glob_pattern.proofs.ComponentLemmas.Fits.{After, one_then, many_then, fits}
 use Rattle.glob_pattern.specs.Matching.Components.{with_separator_rule}
@@ -34,12 +34,12 @@ abbrev pub Shuns : MatchOptions → Token → Type 0
 Shuns o t = (b : Bool) → takes (with_separator_rule o) b slash t ≡ false
 
 pub shuns : (o : MatchOptions) (t : Token) → is_inner t ≡ true → Shuns o t
-shuns o (Plain c) h b = (same-slash o.case_sensitive c (not-true (c == slash) h)).0
-shuns o Any h b = refl
-shuns o Run h b = refl
-shuns o Deep h b = absurd (false≢true h)
-shuns o (Within entries) h b = refl
-shuns o (Except entries) h b = refl
+shuns o (Literal c) h b = (same-slash o.case_sensitive c (not-true (c == slash) h)).0
+shuns o AnyChar h b = refl
+shuns o AnySequence h b = refl
+shuns o Recursive h b = absurd (false≢true h)
+shuns o (OneOf entries) h b = refl
+shuns o (NoneOf entries) h b = refl
 
 -- what is after a text without separators, a separator and a rest
 abbrev pub Cuts : (rest : Bool) → Text → (after next : After) → Type 0
@@ -86,39 +86,39 @@ Falls-many o t after fall b (c ∷ n) h =
     ∙ and_no (takes (with_separator_rule o) b c t)
 
 -- the separator
-Cuts-slash : (o : MatchOptions) (r : Text) (vs : List Token) → Cuts (fits (with_separator_rule o) vs true r) r (fits (with_separator_rule o) (Plain slash ∷ vs)) (fits (with_separator_rule o) [])
+Cuts-slash : (o : MatchOptions) (r : Text) (vs : List Token) → Cuts (fits (with_separator_rule o) vs true r) r (fits (with_separator_rule o) (Literal slash ∷ vs)) (fits (with_separator_rule o) [])
 Cuts-slash o r vs b [] h = refl
 Cuts-slash o r vs b (c ∷ n) h =
     ap (λ x. x && fits (with_separator_rule o) vs (c == slash) (n ++ slash ∷ r)) (same-slash o.case_sensitive c (no_slash_parts c n h).0).1
 
-Falls-slash : (o : MatchOptions) (vs : List Token) → Falls (fits (with_separator_rule o) (Plain slash ∷ vs))
+Falls-slash : (o : MatchOptions) (vs : List Token) → Falls (fits (with_separator_rule o) (Literal slash ∷ vs))
 Falls-slash o vs b [] h = refl
 Falls-slash o vs b (c ∷ n) h =
     ap (λ x. x && fits (with_separator_rule o) vs (c == slash) n) (same-slash o.case_sensitive c (no_slash_parts c n h).0).1
 
 -- the tokens of a component, a separator, and further tokens
-pub cut : (o : MatchOptions) (ts vs : List Token) → list_all is_inner ts ≡ true → (r : Text) → Cuts (fits (with_separator_rule o) vs true r) r (fits (with_separator_rule o) (ts ++ Plain slash ∷ vs)) (fits (with_separator_rule o) ts)
+pub cut : (o : MatchOptions) (ts vs : List Token) → list_all is_inner ts ≡ true → (r : Text) → Cuts (fits (with_separator_rule o) vs true r) r (fits (with_separator_rule o) (ts ++ Literal slash ∷ vs)) (fits (with_separator_rule o) ts)
 cut o [] vs h r = Cuts-slash o r vs
-cut o (Plain x ∷ ts) vs h r = let both = and_parts (is_inner (Plain x)) (list_all is_inner ts) h in
-    Cuts-one o (Plain x) (shuns o (Plain x) both.0) (fits (with_separator_rule o) vs true r) r (fits (with_separator_rule o) (ts ++ Plain slash ∷ vs)) (fits (with_separator_rule o) ts) (cut o ts vs both.1 r)
-cut o (Any ∷ ts) vs h r =
-    Cuts-one o Any (shuns o Any refl) (fits (with_separator_rule o) vs true r) r (fits (with_separator_rule o) (ts ++ Plain slash ∷ vs)) (fits (with_separator_rule o) ts) (cut o ts vs h r)
-cut o (Run ∷ ts) vs h r =
-    Cuts-many o Run (shuns o Run refl) (fits (with_separator_rule o) vs true r) r (fits (with_separator_rule o) (ts ++ Plain slash ∷ vs)) (fits (with_separator_rule o) ts) (cut o ts vs h r)
-cut o (Deep ∷ ts) vs h r = absurd (false≢true h)
-cut o (Within entries ∷ ts) vs h r =
-    Cuts-one o (Within entries) (shuns o (Within entries) refl) (fits (with_separator_rule o) vs true r) r (fits (with_separator_rule o) (ts ++ Plain slash ∷ vs)) (fits (with_separator_rule o) ts) (cut o ts vs h r)
-cut o (Except entries ∷ ts) vs h r =
-    Cuts-one o (Except entries) (shuns o (Except entries) refl) (fits (with_separator_rule o) vs true r) r (fits (with_separator_rule o) (ts ++ Plain slash ∷ vs)) (fits (with_separator_rule o) ts) (cut o ts vs h r)
+cut o (Literal x ∷ ts) vs h r = let both = and_parts (is_inner (Literal x)) (list_all is_inner ts) h in
+    Cuts-one o (Literal x) (shuns o (Literal x) both.0) (fits (with_separator_rule o) vs true r) r (fits (with_separator_rule o) (ts ++ Literal slash ∷ vs)) (fits (with_separator_rule o) ts) (cut o ts vs both.1 r)
+cut o (AnyChar ∷ ts) vs h r =
+    Cuts-one o AnyChar (shuns o AnyChar refl) (fits (with_separator_rule o) vs true r) r (fits (with_separator_rule o) (ts ++ Literal slash ∷ vs)) (fits (with_separator_rule o) ts) (cut o ts vs h r)
+cut o (AnySequence ∷ ts) vs h r =
+    Cuts-many o AnySequence (shuns o AnySequence refl) (fits (with_separator_rule o) vs true r) r (fits (with_separator_rule o) (ts ++ Literal slash ∷ vs)) (fits (with_separator_rule o) ts) (cut o ts vs h r)
+cut o (Recursive ∷ ts) vs h r = absurd (false≢true h)
+cut o (OneOf entries ∷ ts) vs h r =
+    Cuts-one o (OneOf entries) (shuns o (OneOf entries) refl) (fits (with_separator_rule o) vs true r) r (fits (with_separator_rule o) (ts ++ Literal slash ∷ vs)) (fits (with_separator_rule o) ts) (cut o ts vs h r)
+cut o (NoneOf entries ∷ ts) vs h r =
+    Cuts-one o (NoneOf entries) (shuns o (NoneOf entries) refl) (fits (with_separator_rule o) vs true r) r (fits (with_separator_rule o) (ts ++ Literal slash ∷ vs)) (fits (with_separator_rule o) ts) (cut o ts vs h r)
 
-pub fall : (o : MatchOptions) (ts vs : List Token) → list_all is_inner ts ≡ true → Falls (fits (with_separator_rule o) (ts ++ Plain slash ∷ vs))
+pub fall : (o : MatchOptions) (ts vs : List Token) → list_all is_inner ts ≡ true → Falls (fits (with_separator_rule o) (ts ++ Literal slash ∷ vs))
 fall o [] vs h = Falls-slash o vs
-fall o (Plain x ∷ ts) vs h = Falls-one o (Plain x) (fits (with_separator_rule o) (ts ++ Plain slash ∷ vs)) (fall o ts vs (and_parts (is_inner (Plain x)) (list_all is_inner ts) h).1)
-fall o (Any ∷ ts) vs h = Falls-one o Any (fits (with_separator_rule o) (ts ++ Plain slash ∷ vs)) (fall o ts vs h)
-fall o (Run ∷ ts) vs h = Falls-many o Run (fits (with_separator_rule o) (ts ++ Plain slash ∷ vs)) (fall o ts vs h)
-fall o (Deep ∷ ts) vs h = absurd (false≢true h)
-fall o (Within entries ∷ ts) vs h = Falls-one o (Within entries) (fits (with_separator_rule o) (ts ++ Plain slash ∷ vs)) (fall o ts vs h)
-fall o (Except entries ∷ ts) vs h = Falls-one o (Except entries) (fits (with_separator_rule o) (ts ++ Plain slash ∷ vs)) (fall o ts vs h)
+fall o (Literal x ∷ ts) vs h = Falls-one o (Literal x) (fits (with_separator_rule o) (ts ++ Literal slash ∷ vs)) (fall o ts vs (and_parts (is_inner (Literal x)) (list_all is_inner ts) h).1)
+fall o (AnyChar ∷ ts) vs h = Falls-one o AnyChar (fits (with_separator_rule o) (ts ++ Literal slash ∷ vs)) (fall o ts vs h)
+fall o (AnySequence ∷ ts) vs h = Falls-many o AnySequence (fits (with_separator_rule o) (ts ++ Literal slash ∷ vs)) (fall o ts vs h)
+fall o (Recursive ∷ ts) vs h = absurd (false≢true h)
+fall o (OneOf entries ∷ ts) vs h = Falls-one o (OneOf entries) (fits (with_separator_rule o) (ts ++ Literal slash ∷ vs)) (fall o ts vs h)
+fall o (NoneOf entries ∷ ts) vs h = Falls-one o (NoneOf entries) (fits (with_separator_rule o) (ts ++ Literal slash ∷ vs)) (fall o ts vs h)
 
 -- the tokens of a component take no text with a separator
 abbrev Stops : Text → After → Type 0
@@ -139,10 +139,10 @@ stop o [] h r = Stops-nothing
     Stops-nothing : Stops r (fits (with_separator_rule o) [])
     Stops-nothing b [] = refl
     Stops-nothing b (c ∷ n) = refl
-stop o (Plain x ∷ ts) h r = let both = and_parts (is_inner (Plain x)) (list_all is_inner ts) h in
-    Stops-one o (Plain x) (shuns o (Plain x) both.0) r (fits (with_separator_rule o) ts) (stop o ts both.1 r)
-stop o (Any ∷ ts) h r = Stops-one o Any (shuns o Any refl) r (fits (with_separator_rule o) ts) (stop o ts h r)
-stop o (Run ∷ ts) h r = Stops-many o Run (shuns o Run refl) r (fits (with_separator_rule o) ts) (stop o ts h r)
-stop o (Deep ∷ ts) h r = absurd (false≢true h)
-stop o (Within entries ∷ ts) h r = Stops-one o (Within entries) (shuns o (Within entries) refl) r (fits (with_separator_rule o) ts) (stop o ts h r)
-stop o (Except entries ∷ ts) h r = Stops-one o (Except entries) (shuns o (Except entries) refl) r (fits (with_separator_rule o) ts) (stop o ts h r)
+stop o (Literal x ∷ ts) h r = let both = and_parts (is_inner (Literal x)) (list_all is_inner ts) h in
+    Stops-one o (Literal x) (shuns o (Literal x) both.0) r (fits (with_separator_rule o) ts) (stop o ts both.1 r)
+stop o (AnyChar ∷ ts) h r = Stops-one o AnyChar (shuns o AnyChar refl) r (fits (with_separator_rule o) ts) (stop o ts h r)
+stop o (AnySequence ∷ ts) h r = Stops-many o AnySequence (shuns o AnySequence refl) r (fits (with_separator_rule o) ts) (stop o ts h r)
+stop o (Recursive ∷ ts) h r = absurd (false≢true h)
+stop o (OneOf entries ∷ ts) h r = Stops-one o (OneOf entries) (shuns o (OneOf entries) refl) r (fits (with_separator_rule o) ts) (stop o ts h r)
+stop o (NoneOf entries ∷ ts) h r = Stops-one o (NoneOf entries) (shuns o (NoneOf entries) refl) r (fits (with_separator_rule o) ts) (stop o ts h r)

@@ -6,7 +6,7 @@ use Rattle.glob_pattern.specs.Grammar.Tokens.{Token}
 use Rattle.glob_pattern.specs.Matching.Taking.{takes}
 use Rattle.glob_pattern.specs.Computing.Deciding.{characters_with_openings, first_answer, one_character_answers, run_answers, component_answers, tokens_answers, tokens_match}
 use Rattle.glob_pattern.specs.declared.options.MatchOptions.{MatchOptions}
-use Rattle.glob_pattern.specs.declared.token.Token.TheVariants.{Plain, Any, Run, Deep, Within, Except}
+use Rattle.glob_pattern.specs.declared.token.Token.TheVariants.{Literal, AnyChar, AnySequence, Recursive, OneOf, NoneOf}
 use Rattle.glob_pattern.proofs.MatchingLemmas.Rests.{tokens_match_rest, first_answer-joined_answers, first_answer-one_character_answers, first_answer-run_answers, first_answer-component_answers}
 use Rattle.glob_text.specs.Pieces.{is_empty}
 
@@ -31,13 +31,13 @@ closed_then o t next b (c ∷ cs) = takes o b c t && ((c == slash && next (c == 
 
 abbrev pub fits : MatchOptions → List Token → After
 fits o [] b cs = is_empty cs
-fits o (Plain x ∷ ts) b cs = one_then o (Plain x) (fits o ts) b cs
-fits o (Any ∷ ts) b cs = one_then o Any (fits o ts) b cs
-fits o (Run ∷ ts) b cs = many_then o Run (fits o ts) b cs
-fits o (Deep ∷ []) b cs = many_then o Deep (fits o []) b cs
-fits o (Deep ∷ t ∷ ts) b cs = fits o (t ∷ ts) b cs || closed_then o Deep (fits o (t ∷ ts)) b cs
-fits o (Within entries ∷ ts) b cs = one_then o (Within entries) (fits o ts) b cs
-fits o (Except entries ∷ ts) b cs = one_then o (Except entries) (fits o ts) b cs
+fits o (Literal x ∷ ts) b cs = one_then o (Literal x) (fits o ts) b cs
+fits o (AnyChar ∷ ts) b cs = one_then o AnyChar (fits o ts) b cs
+fits o (AnySequence ∷ ts) b cs = many_then o AnySequence (fits o ts) b cs
+fits o (Recursive ∷ []) b cs = many_then o Recursive (fits o []) b cs
+fits o (Recursive ∷ t ∷ ts) b cs = fits o (t ∷ ts) b cs || closed_then o Recursive (fits o (t ∷ ts)) b cs
+fits o (OneOf entries ∷ ts) b cs = one_then o (OneOf entries) (fits o ts) b cs
+fits o (NoneOf entries ∷ ts) b cs = one_then o (NoneOf entries) (fits o ts) b cs
 
 -- what the rests say and what `fits` says are the same, at each text
 abbrev Agree : MatchOptions → List Token → Type 0
@@ -66,15 +66,15 @@ Agree-closed o t ts next b (c ∷ cs) =
 pub agree : (o : MatchOptions) (ts : List Token) → Agree o ts
 agree o [] b [] = refl
 agree o [] b (c ∷ cs) = refl
-agree o (Plain x ∷ ts) b cs = Agree-one o (Plain x) ts (agree o ts) b cs
-agree o (Any ∷ ts) b cs = Agree-one o Any ts (agree o ts) b cs
-agree o (Run ∷ ts) b cs = Agree-many o Run ts (agree o ts) b cs
-agree o (Deep ∷ []) b cs = Agree-many o Deep [] (agree o []) b cs
-agree o (Deep ∷ t ∷ ts) b cs =
-    first_answer-joined_answers (tokens_answers o (t ∷ ts) (characters_with_openings b cs)) (component_answers o Deep (characters_with_openings b cs) (tokens_answers o (t ∷ ts) (characters_with_openings b cs)))
-    ∙ ap₂ (λ x y. x || y) (agree o (t ∷ ts) b cs) (Agree-closed o Deep (t ∷ ts) (agree o (t ∷ ts)) b cs)
-agree o (Within entries ∷ ts) b cs = Agree-one o (Within entries) ts (agree o ts) b cs
-agree o (Except entries ∷ ts) b cs = Agree-one o (Except entries) ts (agree o ts) b cs
+agree o (Literal x ∷ ts) b cs = Agree-one o (Literal x) ts (agree o ts) b cs
+agree o (AnyChar ∷ ts) b cs = Agree-one o AnyChar ts (agree o ts) b cs
+agree o (AnySequence ∷ ts) b cs = Agree-many o AnySequence ts (agree o ts) b cs
+agree o (Recursive ∷ []) b cs = Agree-many o Recursive [] (agree o []) b cs
+agree o (Recursive ∷ t ∷ ts) b cs =
+    first_answer-joined_answers (tokens_answers o (t ∷ ts) (characters_with_openings b cs)) (component_answers o Recursive (characters_with_openings b cs) (tokens_answers o (t ∷ ts) (characters_with_openings b cs)))
+    ∙ ap₂ (λ x y. x || y) (agree o (t ∷ ts) b cs) (Agree-closed o Recursive (t ∷ ts) (agree o (t ∷ ts)) b cs)
+agree o (OneOf entries ∷ ts) b cs = Agree-one o (OneOf entries) ts (agree o ts) b cs
+agree o (NoneOf entries ∷ ts) b cs = Agree-one o (NoneOf entries) ts (agree o ts) b cs
 
 -- the decider is `fits`
 pub tokens_match-fits : (o : MatchOptions) (ts : List Token) (cs : Text) → tokens_match o ts cs ≡ fits o ts true cs

@@ -12,7 +12,7 @@ use Rattle.glob_pattern.specs.Grammar.Tokens.{Token, tokens_of_units}
 use Rattle.glob_pattern.specs.Grammar.Units.{UnitAt, UnitsBetween, HasUnits}
 use Rattle.glob_pattern.specs.Computing.Deciding.{tokens_match, match_of_reading, is_match}
 use Rattle.glob_pattern.specs.declared.options.MatchOptions.{MatchOptions}
-use Rattle.glob_pattern.specs.declared.token.Token.TheVariants.{Plain, Any, Run, Deep, Within, Except}
+use Rattle.glob_pattern.specs.declared.token.Token.TheVariants.{Literal, AnyChar, AnySequence, Recursive, OneOf, NoneOf}
 use Rattle.glob_pattern.proofs.GrammarLemmas.Accepting.{units_of_accepted}
 use Rattle.glob_pattern.proofs.GrammarLemmas.Reading.{reading_of-HasTokens}
 use Rattle.glob_pattern.proofs.MatchingLemmas.Folded.{folded_match_same}
@@ -55,10 +55,10 @@ two_stars (x ∷ y ∷ z ∷ zs) a b l = absurd (omega arith)
 
 -- a unit of a component that is not `**`
 inner-unit : (t : Text) → has_no_slash t ≡ true → (t ≢ star ∷ star ∷ []) → (f : ℕ) (u : Token) (e : ℕ) → UnitAt t f u e → is_inner u ≡ true
-inner-unit t plain other f (Plain c) e unit = not_from_false (c == slash) (ne_eqb c slash (no_slash_at t f c plain unit.0))
-inner-unit t plain other f Any e unit = refl
-inner-unit t plain other f Run e unit = refl
-inner-unit t plain other f Deep e unit = ⊎_elim
+inner-unit t plain other f (Literal c) e unit = not_from_false (c == slash) (ne_eqb c slash (no_slash_at t f c plain unit.0))
+inner-unit t plain other f AnyChar e unit = refl
+inner-unit t plain other f AnySequence e unit = refl
+inner-unit t plain other f Recursive e unit = ⊎_elim
     (λ first.
     let z : f ≡ 0 = eqb-true f 0 first in
     ⊎_elim
@@ -66,8 +66,8 @@ inner-unit t plain other f Deep e unit = ⊎_elim
     (λ more. absurd (no_slash_at t (f + 2) slash plain more.1 refl)) unit.2)
     (λ after. let at = unit.0.0 f (omega arith) (omega arith) in absurd (no_slash_at t (f - 1) slash plain (omega arith, eqb-true (slice_index t (f - 1)) slash after) refl))
     (or_cases (f == 0) (slice_index t (f - 1) == slash) unit.1)
-inner-unit t plain other f (Within entries) e unit = refl
-inner-unit t plain other f (Except entries) e unit = refl
+inner-unit t plain other f (OneOf entries) e unit = refl
+inner-unit t plain other f (NoneOf entries) e unit = refl
 
 inner-units : (t : Text) → has_no_slash t ≡ true → (t ≢ star ∷ star ∷ []) → (f : ℕ) (us : List Token) (e : ℕ) → UnitsBetween t f us e → list_all is_inner us ≡ true
 inner-units t plain other f [] e units = refl
@@ -177,7 +177,7 @@ rooted_takes o t ts n ns all flat =
     let found = has_parts o t ts all in
     let rest : Text = join_with_byte slash (t ∷ ts) in
     let first_answer : Text = slash ∷ rest in
-    is_match-units (with_separator_rule o) first_answer (slash ∷ join_with_byte slash (n ∷ ns)) (Plain slash ∷ joined_tokens (found.first ∷ found.others)) (
+    is_match-units (with_separator_rule o) first_answer (slash ∷ join_with_byte slash (n ∷ ns)) (Literal slash ∷ joined_tokens (found.first ∷ found.others)) (
       1,
       UnitAt-plain first_answer rest 0 slash ((λ x. omega arith), (λ x. omega arith), (λ x. omega arith)) refl,
       joined-units first_answer t ts (found.first ∷ found.others) 1 found.are refl (omega arith) refl,

@@ -9,7 +9,7 @@ use Rattle.glob_text.specs.Text.{Text, Has, opens, between}
 use Rattle.glob_pattern.specs.Grammar.Brackets.{entries_of}
 use Rattle.glob_pattern.specs.Grammar.Tokens.{Token}
 use Rattle.glob_pattern.specs.Grammar.Units.{ClosesBefore, UnitAt, UnitsBetween}
-use Rattle.glob_pattern.specs.declared.token.Token.TheVariants.{Plain, Any, Run, Deep, Within, Except}
+use Rattle.glob_pattern.specs.declared.token.Token.TheVariants.{Literal, AnyChar, AnySequence, Recursive, OneOf, NoneOf}
 use Rattle.glob_pattern.proofs.Places.{get_or-at_drop, get_or-in_piece, length-after_piece, length-at_drop, length-at_end, drop-after_piece, drop-at_drop}
 use Rattle.glob_pattern.proofs.GrammarLemmas.Units.{UnitAt-within}
 use Rattle.glob_pattern.proofs.GrammarLemmas.WrittenUnits.{UnitAt-plain}
@@ -78,9 +78,9 @@ module _ (first_answer piece : Text) (p : ℕ) (s : Stands first_answer piece p)
       )
 
   UnitAt-in : (f : ℕ) (t : Token) (e : ℕ) → is_inner t ≡ true → UnitAt piece f t e → UnitAt first_answer (p + f) t (p + e)
-  UnitAt-in f (Plain c) e inner unit = (Has-in f c unit.0, unit.1, unit.2, unit.3, omega arith)
-  UnitAt-in f Any e inner unit = (Has-in f question_mark unit.0, omega arith)
-  UnitAt-in f Run e inner unit =
+  UnitAt-in f (Literal c) e inner unit = (Has-in f c unit.0, unit.1, unit.2, unit.3, omega arith)
+  UnitAt-in f AnyChar e inner unit = (Has-in f question_mark unit.0, omega arith)
+  UnitAt-in f AnySequence e inner unit =
       let at : Has piece f star = unit.0.0 f (omega arith) (omega arith) in (
         (
           λ k low high. let here : p + f ≡ k = omega arith in moved (p + f) k star here (Has-in f star at),
@@ -99,9 +99,9 @@ module _ (first_answer piece : Text) (p : ℕ) (s : Stands first_answer piece p)
           let back : p + f - 1 ≡ p + (f - 1) = omega arith in
           none (omega arith) (Has-out (f - 1) star (omega arith) (moved (p + f - 1) (p + (f - 1)) star back has)))
           (cases_lt f 1)
-  UnitAt-in f Deep e inner unit = absurd (false≢true inner)
-  UnitAt-in f (Within entries) e inner unit =
-      let l = UnitAt-within piece f (Within entries) e unit in
+  UnitAt-in f Recursive e inner unit = absurd (false≢true inner)
+  UnitAt-in f (OneOf entries) e inner unit =
+      let l = UnitAt-within piece f (OneOf entries) e unit in
       let next : p + f + 1 ≡ p + (f + 1) = omega arith in
       let second : p + f + 2 ≡ p + (f + 2) = omega arith in
       let last : p + e - 1 ≡ p + (e - 1) = omega (arith, l) in (
@@ -110,8 +110,8 @@ module _ (first_answer piece : Text) (p : ℕ) (s : Stands first_answer piece p)
         subst (λ k. ClosesBefore first_answer k (p + e)) (sym second) (Closes-in (f + 2) e l.1 unit.2),
         unit.3 ∙ ap entries_of (sym (between-in (f + 1) (e - 1) (omega arith)) ∙ ap₂ (λ i j. between first_answer i j) (sym next) (sym last)),
       )
-  UnitAt-in f (Except entries) e inner unit =
-      let l = UnitAt-within piece f (Except entries) e unit in
+  UnitAt-in f (NoneOf entries) e inner unit =
+      let l = UnitAt-within piece f (NoneOf entries) e unit in
       let next : p + f + 1 ≡ p + (f + 1) = omega arith in
       let second : p + f + 2 ≡ p + (f + 2) = omega arith in
       let third : p + f + 3 ≡ p + (f + 3) = omega arith in
@@ -129,7 +129,7 @@ module _ (first_answer piece : Text) (p : ℕ) (s : Stands first_answer piece p)
       (p + m, UnitAt-in f t m both.0 unit, UnitsBetween-in m ts e both.1 units)
 
   -- `**`
-  UnitAt-deep : piece ≡ star ∷ star ∷ [] → (rest : Text) → s.rest ≡ rest → (e : ℕ) → ((rest ≡ []) × (e ≡ p + 2)) ⊎ ((r : Text) × (rest ≡ slash ∷ r) × (e ≡ p + 3)) → UnitAt first_answer p Deep e
+  UnitAt-deep : piece ≡ star ∷ star ∷ [] → (rest : Text) → s.rest ≡ rest → (e : ℕ) → ((rest ≡ []) × (e ≡ p + 2)) ⊎ ((r : Text) × (rest ≡ slash ∷ r) × (e ≡ p + 3)) → UnitAt first_answer p Recursive e
   UnitAt-deep is rest same e ends =
       let l : length piece ≡ 2 = ap length is in
       let first : Has piece 0 star = (omega arith, ap (λ t. slice_index t 0) is) in
@@ -195,7 +195,7 @@ joined-units first_answer t (u ∷ us) (Level vs ∷ q ∷ ps) p are at within o
     let s : Stands first_answer t p = record { rest = slash ∷ join_with_byte slash (u ∷ us); at = at; ends = inr (join_with_byte slash (u ∷ us), refl); within = within; opening = opening } in
     let on : drop (p + length t) first_answer ≡ slash ∷ join_with_byte slash (u ∷ us) = drop-after_piece first_answer t s.rest p at in
     let z : p + 0 ≡ p = omega arith in
-    UnitsBetween-append first_answer p vs (Plain slash ∷ joined_tokens (q ∷ ps)) (p + length t) (length first_answer)
+    UnitsBetween-append first_answer p vs (Literal slash ∷ joined_tokens (q ∷ ps)) (p + length t) (length first_answer)
     (subst (λ k. UnitsBetween first_answer k vs (p + length t)) z (UnitsBetween-in first_answer t p s 0 vs (length t) are.2 are.0)) (
       p + length t + 1,
       UnitAt-plain first_answer (join_with_byte slash (u ∷ us)) (p + length t) slash ((λ x. omega arith), (λ x. omega arith), (λ x. omega arith)) on,

@@ -7,7 +7,7 @@ use Rattle.glob_text.specs.Characters.{slash}
 use Rattle.glob_text.specs.Text.{Text}
 use Rattle.glob_pattern.specs.Grammar.Tokens.{Token}
 use Rattle.glob_pattern.specs.declared.options.MatchOptions.{MatchOptions}
-use Rattle.glob_pattern.specs.declared.token.Token.TheVariants.{Plain, Deep}
+use Rattle.glob_pattern.specs.declared.token.Token.TheVariants.{Literal, Recursive}
 use Rattle.glob_pattern.proofs.ComponentLemmas.Fits.{closed_then, fits}
 use Rattle.glob_pattern.specs.Matching.Components.{with_separator_rule, is_open}
 use Rattle.glob_pattern.proofs.ComponentLemmas.Parts.{is_inner, Part, Levels, Level, is_level, joined_tokens, reaches}
@@ -16,14 +16,14 @@ use Rattle.glob_pattern.proofs.ComponentLemmas.WholeNames.{admits-open, closed-c
 
 -- components have tokens
 tokens_some : (p : Part) (ps : List Part) → is_level p ≡ true → (t : Token) × (ts : List Token) × (joined_tokens (p ∷ ps) ≡ t ∷ ts)
-tokens_some Levels ps h = (Deep, joined_tokens ps, refl)
+tokens_some Levels ps h = (Recursive, joined_tokens ps, refl)
 tokens_some (Level []) ps h = absurd (false≢true h)
 tokens_some (Level (t ∷ ts)) [] h = (t, ts, refl)
-tokens_some (Level (t ∷ ts)) (p ∷ ps) h = (t, ts ++ Plain slash ∷ joined_tokens (p ∷ ps), refl)
+tokens_some (Level (t ∷ ts)) (p ∷ ps) h = (t, ts ++ Literal slash ∷ joined_tokens (p ∷ ps), refl)
 
 fits-deep : (o : MatchOptions) (us : List Token) (t : Token) (ts : List Token) → us ≡ t ∷ ts → (b : Bool) (cs : Text)
-    → fits o (Deep ∷ us) b cs ≡ (fits o us b cs || closed_then o Deep (fits o us) b cs)
-fits-deep o us t ts e b cs = subst (λ vs. fits o (Deep ∷ vs) b cs ≡ (fits o vs b cs || closed_then o Deep (fits o vs) b cs)) (sym e) refl
+    → fits o (Recursive ∷ us) b cs ≡ (fits o us b cs || closed_then o Recursive (fits o us) b cs)
+fits-deep o us t ts e b cs = subst (λ vs. fits o (Recursive ∷ vs) b cs ≡ (fits o vs b cs || closed_then o Recursive (fits o vs) b cs)) (sym e) refl
 
 -- what the tokens of some components say of names, at least one
 abbrev Reach : MatchOptions → List Part → Type 0

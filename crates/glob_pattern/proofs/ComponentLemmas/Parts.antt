@@ -9,17 +9,17 @@ use Rattle.glob_pattern.specs.Grammar.Tokens.{Token}
 use Rattle.glob_pattern.specs.Grammar.Units.{HasUnits}
 use Rattle.glob_pattern.specs.Matching.Components.{run_to_end, run_before, name_before, with_separator_rule}
 use Rattle.glob_pattern.specs.declared.options.MatchOptions.{MatchOptions}
-use Rattle.glob_pattern.specs.declared.token.Token.TheVariants.{Plain, Any, Run, Deep, Within, Except}
+use Rattle.glob_pattern.specs.declared.token.Token.TheVariants.{Literal, AnyChar, AnySequence, Recursive, OneOf, NoneOf}
 use Rattle.glob_pattern.proofs.ComponentLemmas.Fits.{fits}
 
 -- the token may stand in a component: it is not deep and not `/`
 abbrev pub is_inner : Token → Bool
-is_inner (Plain c) = not (c == slash)
-is_inner Any = true
-is_inner Run = true
-is_inner Deep = false
-is_inner (Within entries) = true
-is_inner (Except entries) = true
+is_inner (Literal c) = not (c == slash)
+is_inner AnyChar = true
+is_inner AnySequence = true
+is_inner Recursive = false
+is_inner (OneOf entries) = true
+is_inner (NoneOf entries) = true
 
 -- a component: `**`, or the tokens of another
 pub data Part : Type 0 where
@@ -37,9 +37,9 @@ is_level (Level ts) = not (is_nil ts) && list_all is_inner ts
 -- the units of the pattern of which these are the components
 abbrev pub joined_tokens : List Part → List Token
 joined_tokens [] = []
-joined_tokens (Levels ∷ ps) = Deep ∷ joined_tokens ps
+joined_tokens (Levels ∷ ps) = Recursive ∷ joined_tokens ps
 joined_tokens (Level ts ∷ []) = ts
-joined_tokens (Level ts ∷ p ∷ ps) = ts ++ Plain slash ∷ joined_tokens (p ∷ ps)
+joined_tokens (Level ts ∷ p ∷ ps) = ts ++ Literal slash ∷ joined_tokens (p ∷ ps)
 
 -- the components take the names
 abbrev pub reaches : MatchOptions → List Part → List Text → Bool

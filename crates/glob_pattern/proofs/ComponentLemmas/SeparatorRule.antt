@@ -11,7 +11,7 @@ use Rattle.glob_pattern.specs.Computing.Reading.{reading_of}
 use Rattle.glob_pattern.specs.Computing.Deciding.{match_of_reading, is_match}
 use Rattle.glob_pattern.specs.Matching.Components.{with_separator_rule}
 use Rattle.glob_pattern.specs.declared.options.MatchOptions.{MatchOptions}
-use Rattle.glob_pattern.specs.declared.token.Token.TheVariants.{Plain, Any, Run, Deep, Within, Except}
+use Rattle.glob_pattern.specs.declared.token.Token.TheVariants.{Literal, AnyChar, AnySequence, Recursive, OneOf, NoneOf}
 use Rattle.glob_pattern.proofs.ComponentLemmas.Fits.{After, one_then, many_then, closed_then, fits, tokens_match-fits}
 use Rattle.glob_pattern.proofs.ComponentLemmas.FirstSeparator.{no_slash_parts}
 use Rattle.glob_pattern.specs.Grammar.Brackets.{holds}
@@ -22,13 +22,13 @@ kept true x e = refl
 kept false x e = sym e
 
 takes-kept : (o : MatchOptions) (b : Bool) (c : ℕ) (t : Token) → (c == slash) ≡ false → takes o b c t ≡ takes (with_separator_rule o) b c t
-takes-kept o b c (Plain x) e = refl
-takes-kept o b c Any e = ap (λ k. not k && not (is_excluded_dot o b c)) (kept o.require_literal_separator (c == slash) e)
-takes-kept o b c Run e = ap (λ k. not k && not (is_excluded_dot o b c)) (kept o.require_literal_separator (c == slash) e)
-takes-kept o b c Deep e = refl
-takes-kept o b c (Within entries) e =
+takes-kept o b c (Literal x) e = refl
+takes-kept o b c AnyChar e = ap (λ k. not k && not (is_excluded_dot o b c)) (kept o.require_literal_separator (c == slash) e)
+takes-kept o b c AnySequence e = ap (λ k. not k && not (is_excluded_dot o b c)) (kept o.require_literal_separator (c == slash) e)
+takes-kept o b c Recursive e = refl
+takes-kept o b c (OneOf entries) e =
     ap (λ k. not k && not (is_excluded_dot o b c) && holds o.case_sensitive c entries) (kept o.require_literal_separator (c == slash) e)
-takes-kept o b c (Except entries) e =
+takes-kept o b c (NoneOf entries) e =
     ap (λ k. not k && not (is_excluded_dot o b c) && not (holds o.case_sensitive c entries)) (kept o.require_literal_separator (c == slash) e)
 
 abbrev Alike : After → After → Type 0
@@ -53,14 +53,14 @@ Alike-closed o t f g same b (c ∷ cs) h =
 
 alike : (o : MatchOptions) (ts : List Token) → Alike (fits o ts) (fits (with_separator_rule o) ts)
 alike o [] = λ b cs h. refl
-alike o (Plain x ∷ ts) = Alike-one o (Plain x) (fits o ts) (fits (with_separator_rule o) ts) (alike o ts)
-alike o (Any ∷ ts) = Alike-one o Any (fits o ts) (fits (with_separator_rule o) ts) (alike o ts)
-alike o (Run ∷ ts) = Alike-many o Run (fits o ts) (fits (with_separator_rule o) ts) (alike o ts)
-alike o (Deep ∷ []) = Alike-many o Deep (fits o []) (fits (with_separator_rule o) []) (alike o [])
-alike o (Deep ∷ t ∷ ts) = λ b cs h.
-    ap₂ (λ x y. x || y) (alike o (t ∷ ts) b cs h) (Alike-closed o Deep (fits o (t ∷ ts)) (fits (with_separator_rule o) (t ∷ ts)) (alike o (t ∷ ts)) b cs h)
-alike o (Within entries ∷ ts) = Alike-one o (Within entries) (fits o ts) (fits (with_separator_rule o) ts) (alike o ts)
-alike o (Except entries ∷ ts) = Alike-one o (Except entries) (fits o ts) (fits (with_separator_rule o) ts) (alike o ts)
+alike o (Literal x ∷ ts) = Alike-one o (Literal x) (fits o ts) (fits (with_separator_rule o) ts) (alike o ts)
+alike o (AnyChar ∷ ts) = Alike-one o AnyChar (fits o ts) (fits (with_separator_rule o) ts) (alike o ts)
+alike o (AnySequence ∷ ts) = Alike-many o AnySequence (fits o ts) (fits (with_separator_rule o) ts) (alike o ts)
+alike o (Recursive ∷ []) = Alike-many o Recursive (fits o []) (fits (with_separator_rule o) []) (alike o [])
+alike o (Recursive ∷ t ∷ ts) = λ b cs h.
+    ap₂ (λ x y. x || y) (alike o (t ∷ ts) b cs h) (Alike-closed o Recursive (fits o (t ∷ ts)) (fits (with_separator_rule o) (t ∷ ts)) (alike o (t ∷ ts)) b cs h)
+alike o (OneOf entries ∷ ts) = Alike-one o (OneOf entries) (fits o ts) (fits (with_separator_rule o) ts) (alike o ts)
+alike o (NoneOf entries ∷ ts) = Alike-one o (NoneOf entries) (fits o ts) (fits (with_separator_rule o) ts) (alike o ts)
 
 -- A text without separators is matched under the separator rule exactly where it is matched without it.
 pub separator_rule_free : (o : MatchOptions) (pattern text : Text) → has_no_slash text ≡ true → is_match (with_separator_rule o) pattern text ≡ is_match o pattern text

@@ -6,7 +6,7 @@ use Rattle.glob_pattern.specs.Grammar.Characters.{star, question_mark, open_brac
 use Rattle.glob_text.specs.Characters.{slash, dot}
 use Rattle.glob_text.specs.Text.{Text, between}
 use Rattle.glob_pattern.specs.Grammar.Brackets.{is_same, entries_of}
-use Rattle.glob_pattern.specs.Grammar.Tokens.{Token, is_deep}
+use Rattle.glob_pattern.specs.Grammar.Tokens.{Token, is_recursive}
 use Rattle.glob_pattern.specs.Grammar.Units.{UnitAt, HasTokens}
 use Rattle.glob_pattern.specs.Matching.Taking.{is_excluded_separator, is_excluded_dot, is_free}
 use Rattle.glob_pattern.specs.Matching.Texts.{Matches}
@@ -14,7 +14,7 @@ use Rattle.glob_pattern.specs.Escaping.{is_special, escaped_character, escaped_t
 use Rattle.glob_pattern.specs.Laws.{SameTexts, EscapedAccepted, EscapedMatchesSame, EscapedMatchesItself}
 use Rattle.glob_pattern.specs.declared.options.MatchOptions.{MatchOptions}
 use Rattle.glob_pattern.specs.declared.token.bracket.Entry.TheVariants.{Single}
-use Rattle.glob_pattern.specs.declared.token.Token.TheVariants.{Plain, Within}
+use Rattle.glob_pattern.specs.declared.token.Token.TheVariants.{Literal, OneOf}
 use Rattle.glob_pattern.proofs.GrammarLemmas.Accepting.{accepted_by_tokens}
 use Rattle.glob_pattern.proofs.Places.{get_or-at_drop, drop-at_drop, length-at_drop}
 use Rattle.glob_pattern.proofs.GrammarLemmas.WrittenUnits.{WritesUnit, HasTokens-written, UnitAt-plain, tokens-from_Matches}
@@ -24,11 +24,11 @@ use Rattle.glob_pattern.proofs.MatchingLemmas.PlainPatterns.{TokensAreUnique, Sa
 
 -- the token of a bracket with one character
 abbrev bracketed : ℕ → Token
-bracketed c = Within (Single c ∷ [])
+bracketed c = OneOf (Single c ∷ [])
 
 -- the token of an escaped character
 abbrev pub escaped_token : ℕ → Token
-escaped_token c = cond (is_special c) (bracketed c) (Plain c)
+escaped_token c = cond (is_special c) (bracketed c) (Literal c)
 
 -- which characters are special
 is_special-tells : (c : ℕ) → IsTrue (is_special c) → (((c ≡ question_mark) ⊎ (c ≡ star)) ⊎ (c ≡ open_bracket)) ⊎ (c ≡ close_bracket)
@@ -69,13 +69,13 @@ UnitAt-bracketed whole rest f c special e =
 pub escaped_text-writes : (c : ℕ) → WritesUnit escaped_character escaped_token c
 escaped_text-writes c whole rest f = by (is_special c) refl
   where
-    by : (b : Bool) → is_special c ≡ b → drop f whole ≡ cond b (open_bracket ∷ c ∷ close_bracket ∷ []) (c ∷ []) ++ rest → UnitAt whole f (cond b (bracketed c) (Plain c)) (f + length (cond b (open_bracket ∷ c ∷ close_bracket ∷ []) (c ∷ [])))
+    by : (b : Bool) → is_special c ≡ b → drop f whole ≡ cond b (open_bracket ∷ c ∷ close_bracket ∷ []) (c ∷ []) ++ rest → UnitAt whole f (cond b (bracketed c) (Literal c)) (f + length (cond b (open_bracket ∷ c ∷ close_bracket ∷ []) (c ∷ [])))
     by true special e = UnitAt-bracketed whole rest f c special e
     by false other e = UnitAt-plain whole rest f c (not_special c other) e
 
 -- no escaped character is a deep run
-escaped_token-shallow : (c : ℕ) → IsFalse (is_deep (escaped_token c))
-escaped_token-shallow c = cond_both (is_special c) (bracketed c) (Plain c) (λ t. IsFalse (is_deep t)) (λ h. refl) (λ h. refl)
+escaped_token-shallow : (c : ℕ) → IsFalse (is_recursive (escaped_token c))
+escaped_token-shallow c = cond_both (is_special c) (bracketed c) (Literal c) (λ t. IsFalse (is_recursive t)) (λ h. refl) (λ h. refl)
 
 -- the tokens of an escaped text
 pub HasTokens-escaped_text : (text : Text) → HasTokens (escaped_text text) (map escaped_token text)
@@ -131,7 +131,7 @@ bracketed-literal o x special = (
 -- an escaped character stands for itself
 pub escaped_text-literal : (o : MatchOptions) (x : ℕ) → IsLiteral o (escaped_token x) x
 escaped_text-literal o x =
-    cond_both (is_special x) (bracketed x) (Plain x) (λ t. IsLiteral o t x) (bracketed-literal o x) (λ other. (refl, λ opening c. refl))
+    cond_both (is_special x) (bracketed x) (Literal x) (λ t. IsLiteral o t x) (bracketed-literal o x) (λ other. (refl, λ opening c. refl))
 
 -- an escaped text matches the texts that are the same as it
 pub escaped_matches_same : TokensAreUnique → EscapedMatchesSame

@@ -16,7 +16,7 @@ use Rattle.glob_pattern.specs.Computing.Deciding.{tokens_match, is_match}
 use Rattle.glob_pattern.specs.Escaping.{escaped_text}
 use Rattle.glob_pattern.specs.Laws.{IsPlain, SameTexts}
 use Rattle.glob_pattern.specs.declared.options.MatchOptions.{MatchOptions}
-use Rattle.glob_pattern.specs.declared.token.Token.TheVariants.{Plain, Any, Run, Deep}
+use Rattle.glob_pattern.specs.declared.token.Token.TheVariants.{Literal, AnyChar, AnySequence, Recursive}
 use Rattle.glob_pattern.proofs.Examples.Options.{options, new}
 use Rattle.glob_pattern.proofs.GrammarLemmas.Accepted.{one_fault, no_fault}
 use Rattle.glob_pattern.proofs.MatchingLemmas.Computed.{tokens_by_reading, accepted_by_reading, fault_by_reading, refused_by_reading, match_by_computing, no_match_by_computing}
@@ -39,7 +39,7 @@ bracket_is_refused : reading_of (codes "[") ≡ Err fault_of_bracket
 unfolding units_from
 bracket_is_refused = refl
 
-two_runs_are_one_token : reading_of (codes "**/**") ≡ Ok (Deep ∷ [])
+two_runs_are_one_token : reading_of (codes "**/**") ≡ Ok (Recursive ∷ [])
 unfolding units_from
 two_runs_are_one_token = refl
 
@@ -48,7 +48,7 @@ different_letters e = eqb-false 97 65 refl (ap (λ text. slice_index text 0) e)
 
 -- laws of reading
 
-two_runs_are_two_units : ¬ (HasUnits (codes "**/**") (Deep ∷ []))
+two_runs_are_two_units : ¬ (HasUnits (codes "**/**") (Recursive ∷ []))
 two_runs_are_two_units has =
     let end : has.0 ≡ 5 = has.2 in
     ⊎_elim (λ last. let short : has.0 ≡ 2 = last.0 in omega arith) (λ inner. let short : has.0 ≡ 3 = inner.0 in omega arith) has.1.2
@@ -56,7 +56,7 @@ two_runs_are_two_units has =
 -- `reading_answers_tokens`, with units in place of tokens: `**/**` is read as one `**`, and has two units
 units_are_not_what_is_read :
     ¬ ((text : Text) (tokens : List Token) → (reading_of text ≡ Ok tokens) ↔ HasUnits text tokens)
-units_are_not_what_is_read claim = two_runs_are_two_units ((claim (codes "**/**") (Deep ∷ [])).0 two_runs_are_one_token)
+units_are_not_what_is_read claim = two_runs_are_two_units ((claim (codes "**/**") (Recursive ∷ [])).0 two_runs_are_one_token)
 
 -- `reading_answers_fault`, with any fault if the text is not accepted: that of `[` is at place 0, and not at place 1
 one_fault_alone_is_read :
@@ -72,16 +72,16 @@ the_next_unit_is_another :
     ¬ ((text : Text) (f : ℕ) (t u : Token) (e m : ℕ) → UnitAt text f t e → UnitAt text e u m → (t ≡ u) × (e ≡ m))
 the_next_unit_is_another claim =
     let plain : (97 ≢ question_mark) × (97 ≢ star) × (97 ≢ open_bracket) = (eqb-false 97 question_mark refl, eqb-false 97 star refl, eqb-false 97 open_bracket refl) in
-    let first : UnitAt (codes "aa") 0 (Plain 97) 1 = ((omega arith, refl), plain.0, plain.1, plain.2, refl) in
-    let second : UnitAt (codes "aa") 1 (Plain 97) 2 = ((omega arith, refl), plain.0, plain.1, plain.2, refl) in
-    eqb-false 1 2 refl (claim (codes "aa") 0 (Plain 97) (Plain 97) 1 2 first second).1
+    let first : UnitAt (codes "aa") 0 (Literal 97) 1 = ((omega arith, refl), plain.0, plain.1, plain.2, refl) in
+    let second : UnitAt (codes "aa") 1 (Literal 97) 2 = ((omega arith, refl), plain.0, plain.1, plain.2, refl) in
+    eqb-false 1 2 refl (claim (codes "aa") 0 (Literal 97) (Literal 97) 1 2 first second).1
 
 -- `one_way_of_units`, of units and tokens: `**/**` has two units and one token
 units_are_not_the_tokens :
     ¬ ((text : Text) (units others : List Token) → HasUnits text units → HasTokens text others → units ≡ others)
 units_are_not_the_tokens claim =
-    let has : HasTokens (codes "**/**") (Deep ∷ []) = tokens_by_reading (codes "**/**") (Deep ∷ []) two_runs_are_one_token in
-    let same : has.0 ≡ Deep ∷ [] = claim (codes "**/**") has.0 (Deep ∷ []) has.1 has in
+    let has : HasTokens (codes "**/**") (Recursive ∷ []) = tokens_by_reading (codes "**/**") (Recursive ∷ []) two_runs_are_one_token in
+    let same : has.0 ≡ Recursive ∷ [] = claim (codes "**/**") has.0 (Recursive ∷ []) has.1 has in
     two_runs_are_two_units (subst (HasUnits (codes "**/**")) same has.1)
 
 -- `one_list_of_tokens`, of tokens and units: the same example
@@ -107,7 +107,7 @@ tokens_may_be_fewer_than_characters :
     ¬ ((text : Text) (tokens : List Token) → HasTokens text tokens → length text ≤ length tokens)
 unfolding units_from
 tokens_may_be_fewer_than_characters claim =
-    let longer : 2 ≤ 1 = claim (codes "**") (Deep ∷ []) (tokens_by_reading (codes "**") (Deep ∷ []) refl) in omega arith
+    let longer : 2 ≤ 1 = claim (codes "**") (Recursive ∷ []) (tokens_by_reading (codes "**") (Recursive ∷ []) refl) in omega arith
 
 -- laws of the rules
 
@@ -152,8 +152,8 @@ the_separator_rule_loses_a_match claim =
 the_separator_rule_loses_a_match_of_tokens : ¬ (TokensKept MayAddSeparatorRule)
 unfolding tokens_match
 the_separator_rule_loses_a_match_of_tokens claim =
-    false≢true ((Decides-TokensMatch separator_rule (Run ∷ []) (codes "/")).1
-    (claim new separator_rule (refl, (λ h. absurd (false≢true h)), (λ h. h)) (Run ∷ []) (codes "/") ((Decides-TokensMatch new (Run ∷ []) (codes "/")).0 refl)))
+    false≢true ((Decides-TokensMatch separator_rule (AnySequence ∷ []) (codes "/")).1
+    (claim new separator_rule (refl, (λ h. absurd (false≢true h)), (λ h. h)) (AnySequence ∷ []) (codes "/") ((Decides-TokensMatch new (AnySequence ∷ []) (codes "/")).0 refl)))
 
 -- if the dot rule may be added: `*` does not match `.` any more
 the_dot_rule_loses_a_match : ¬ (PatternsKept MayAddDotRule)
@@ -210,14 +210,14 @@ other_neighbours_do_not_match_as_one :
     ¬ ((o : MatchOptions) (t : Token) (text : Text) → (TokensMatch o (t ∷ t ∷ []) text ↔ TokensMatch o (t ∷ []) text))
 unfolding tokens_match
 other_neighbours_do_not_match_as_one claim =
-    false≢true ((Decides-TokensMatch new (Any ∷ Any ∷ []) (codes "a")).1 ((claim new Any (codes "a")).1 ((Decides-TokensMatch new (Any ∷ []) (codes "a")).0 refl)))
+    false≢true ((Decides-TokensMatch new (AnyChar ∷ AnyChar ∷ []) (codes "a")).1 ((claim new AnyChar (codes "a")).1 ((Decides-TokensMatch new (AnyChar ∷ []) (codes "a")).0 refl)))
 
 -- the same law, of the tokens of other units: no tokens match the empty text, and `?` does not
 other_tokens_match_otherwise :
     ¬ ((o : MatchOptions) (units others : List Token) (text : Text) → (TokensMatch o units text ↔ TokensMatch o (tokens_of_units others) text))
 unfolding tokens_match
 other_tokens_match_otherwise claim =
-    false≢true ((Decides-TokensMatch new (Any ∷ []) []).1 ((claim new [] (Any ∷ []) []).0 ((Decides-TokensMatch new [] []).0 refl)))
+    false≢true ((Decides-TokensMatch new (AnyChar ∷ []) []).1 ((claim new [] (AnyChar ∷ []) []).0 ((Decides-TokensMatch new [] []).0 refl)))
 
 -- `matching_is_decided`: `patterns`, where pattern and text trade places: `?` matches `a`, and `a` does not match `?`
 pattern_and_text_do_not_trade_places :
@@ -240,7 +240,7 @@ LevelsMatch AreParts are_names whole =
 joined_without_the_separator_rule_match_more : ¬ (LevelsMatch AreComponents (list_all has_no_slash) (λ o. o))
 unfolding is_match tokens_match units_from
 joined_without_the_separator_rule_match_more claim =
-    false≢true (sym (claim new (codes "*") [] (codes "a") (codes "b" ∷ []) ((accepted_by_reading (codes "*") (Run ∷ []) refl, refl, refl), tt) refl))
+    false≢true (sym (claim new (codes "*") [] (codes "a") (codes "b" ∷ []) ((accepted_by_reading (codes "*") (AnySequence ∷ []) refl, refl, refl), tt) refl))
 
 -- of any texts as components: `a/b` matches `a/b`, and as a component takes one name alone
 a_component_holds_no_separator : ¬ (LevelsMatch (λ ts. Unit {0}) (list_all has_no_slash) with_separator_rule)
@@ -252,4 +252,4 @@ a_component_holds_no_separator claim =
 a_name_holds_no_separator : ¬ (LevelsMatch AreComponents (λ names. true) with_separator_rule)
 unfolding is_match tokens_match units_from
 a_name_holds_no_separator claim =
-    false≢true (claim new (codes "*") [] (codes "/") [] ((accepted_by_reading (codes "*") (Run ∷ []) refl, refl, refl), tt) refl)
+    false≢true (claim new (codes "*") [] (codes "/") [] ((accepted_by_reading (codes "*") (AnySequence ∷ []) refl, refl, refl), tt) refl)

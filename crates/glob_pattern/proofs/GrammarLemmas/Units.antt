@@ -12,7 +12,7 @@ use Rattle.glob_text.specs.Text.{has}
 use Rattle.glob_pattern.specs.Grammar.Faults.{NoUnitAt}
 use Rattle.glob_pattern.specs.Computing.Reading.{stars_at, close_from, bracket_from, bracket_at, unit_at}
 use Rattle.glob_pattern.specs.declared.token.bracket.Entry.{Entry}
-use Rattle.glob_pattern.specs.declared.token.Token.TheVariants.{Plain, Any, Run, Deep, Within, Except}
+use Rattle.glob_pattern.specs.declared.token.Token.TheVariants.{Literal, AnyChar, AnySequence, Recursive, OneOf, NoneOf}
 use Rattle.glob_pattern.proofs.GrammarLemmas.Closing.{Decides-has, IsFirstClose, IsFirstClose-close_from, close_from-ClosesBefore}
 
 -- no star stands right before a star at place f
@@ -29,31 +29,31 @@ Has-same text k c d first second = sym first.1 ∙ second.1
 
 -- A unit has a character, and ends within the text.
 pub UnitAt-within : (text : Text) (f : ℕ) (t : Token) (e : ℕ) → UnitAt text f t e → (f < e) × (e ≤ length text)
-UnitAt-within text f (Plain c) e unit = (omega arith, omega arith)
-UnitAt-within text f Any e unit = (omega arith, omega arith)
-UnitAt-within text f Run e unit = let at = unit.0.0 f (omega arith) (omega arith) in (omega arith, omega arith)
-UnitAt-within text f Deep e unit =
+UnitAt-within text f (Literal c) e unit = (omega arith, omega arith)
+UnitAt-within text f AnyChar e unit = (omega arith, omega arith)
+UnitAt-within text f AnySequence e unit = let at = unit.0.0 f (omega arith) (omega arith) in (omega arith, omega arith)
+UnitAt-within text f Recursive e unit =
     let at = unit.0.0 (f + 1) (omega arith) (omega arith) in
     elim unit.2 [ inl last ↦ (omega arith, omega arith) | inr slashed ↦ (omega arith, omega arith) ]
-UnitAt-within text f (Within entries) e unit = (omega arith, omega arith)
-UnitAt-within text f (Except entries) e unit = (omega arith, omega arith)
+UnitAt-within text f (OneOf entries) e unit = (omega arith, omega arith)
+UnitAt-within text f (NoneOf entries) e unit = (omega arith, omega arith)
 
 -- After a unit no star stands right before a star.
 pub IsClear-after : (text : Text) (f : ℕ) (t : Token) (e : ℕ) → UnitAt text f t e → IsClear text e
-IsClear-after text f (Plain c) e unit at positive before =
+IsClear-after text f (Literal c) e unit at positive before =
     unit.2 (Has-same text f c star unit.0 (Has-at text (e - 1) f star (omega arith) before))
-IsClear-after text f Any e unit at positive before =
+IsClear-after text f AnyChar e unit at positive before =
     let same = Has-same text f question_mark star unit.0 (Has-at text (e - 1) f star (omega arith) before) in absurd (omega arith)
-IsClear-after text f Run e unit at positive before = unit.0.1 (Has-at text e (f + 1) star unit.1 at)
-IsClear-after text f Deep e unit at positive before =
+IsClear-after text f AnySequence e unit at positive before = unit.0.1 (Has-at text e (f + 1) star unit.1 at)
+IsClear-after text f Recursive e unit at positive before =
     elim unit.2 [
       | inl last ↦ omega arith
       | inr slashed ↦
           let same = Has-same text (f + 2) slash star slashed.1 (Has-at text (e - 1) (f + 2) star (omega arith) before) in absurd (omega arith)
     ]
-IsClear-after text f (Within entries) e unit at positive before =
+IsClear-after text f (OneOf entries) e unit at positive before =
     let same = Has-same text (e - 1) close_bracket star unit.2.1 before in absurd (omega arith)
-IsClear-after text f (Except entries) e unit at positive before =
+IsClear-after text f (NoneOf entries) e unit at positive before =
     let same = Has-same text (e - 1) close_bracket star unit.2.1 before in absurd (omega arith)
 
 -- the unit that was found, if any, stands at place f
@@ -108,13 +108,13 @@ ClosesBefore-first text i k first =
     let e : k ≡ k + 1 - 1 = omega arith in
     (omega (arith, first.0), Has-at text k (k + 1 - 1) close_bracket e first.1, subst (NoCloseBetween text i) e first.2)
 
-Stands-Within : (text : Text) (f : ℕ) (found : Option ℕ) → Has text f open_bracket → ¬ (Has text (f + 1) exclamation_mark) → IsFirstClose text (f + 2) found → Stands text f (option_map (λ k. (Within (entries_of (between text (f + 1) k)), k + 1)) found)
+Stands-Within : (text : Text) (f : ℕ) (found : Option ℕ) → Has text f open_bracket → ¬ (Has text (f + 1) exclamation_mark) → IsFirstClose text (f + 2) found → Stands text f (option_map (λ k. (OneOf (entries_of (between text (f + 1) k)), k + 1)) found)
 Stands-Within text f None at mark first = tt
 Stands-Within text f (Some k) at mark first =
     let e : k ≡ k + 1 - 1 = omega arith in
     (at, mark, ClosesBefore-first text (f + 2) k first, ap (λ j. entries_of (between text (f + 1) j)) e)
 
-Stands-Except : (text : Text) (f : ℕ) (found : Option ℕ) → Has text f open_bracket → Has text (f + 1) exclamation_mark → IsFirstClose text (f + 3) found → Stands text f (option_map (λ k. (Except (entries_of (between text (f + 2) k)), k + 1)) found)
+Stands-Except : (text : Text) (f : ℕ) (found : Option ℕ) → Has text f open_bracket → Has text (f + 1) exclamation_mark → IsFirstClose text (f + 3) found → Stands text f (option_map (λ k. (NoneOf (entries_of (between text (f + 2) k)), k + 1)) found)
 Stands-Except text f None at mark first = tt
 Stands-Except text f (Some k) at mark first =
     let e : k ≡ k + 1 - 1 = omega arith in
@@ -152,15 +152,15 @@ pick b x y z e same = rw e same
 is_not : (text : Text) (f c d : ℕ) → Has text f c → c ≢ d → eqb (get_or text f 0) d ≡ false
 is_not text f c d at other = ne_eqb (get_or text f 0) d (λ e. other (sym at.1 ∙ e))
 
-stars_at-Deep : (text : Text) (f e : ℕ) → UnitAt text f Deep e → stars_at text f ≡ Some (Deep, e)
+stars_at-Deep : (text : Text) (f e : ℕ) → UnitAt text f Recursive e → stars_at text f ≡ Some (Recursive, e)
 stars_at-Deep text f e unit =
     skip _ _ _ _ (not_from_true _ (has-true text (f + 1) star (unit.0.0 (f + 1) (omega arith) (omega arith))))
     (skip _ _ _ _ (or_from _ _ (has-false text (f + 2) star unit.0.1) (not_from_true _ unit.1))
     (elim unit.2 [
       | inl last ↦
           skip _ _ _ _ (has-false text (f + 2) slash (λ at. omega arith))
-          (pick _ _ _ _ (eq-eqb (f + 2) (length text) (omega arith)) (ap (λ n. Some (Deep, n)) (sym last.0)))
-      | inr slashed ↦ pick _ _ _ _ (has-true text (f + 2) slash slashed.1) (ap (λ n. Some (Deep, n)) (sym slashed.0))
+          (pick _ _ _ _ (eq-eqb (f + 2) (length text) (omega arith)) (ap (λ n. Some (Recursive, n)) (sym last.0)))
+      | inr slashed ↦ pick _ _ _ _ (has-true text (f + 2) slash slashed.1) (ap (λ n. Some (Recursive, n)) (sym slashed.0))
     ]))
 
 -- a bracket that closes is found
@@ -172,32 +172,32 @@ bracket_from-ClosesBefore kind text i j e next closes =
 
 -- The unit that stands at a place is found there.
 pub unit_at-UnitAt : (text : Text) (f : ℕ) (t : Token) (e : ℕ) → UnitAt text f t e → unit_at text f ≡ Some (t, e)
-unit_at-UnitAt text f (Plain c) e unit =
+unit_at-UnitAt text f (Literal c) e unit =
     skip _ _ _ _ (is_not text f c question_mark unit.0 unit.1)
     (skip _ _ _ _ (is_not text f c star unit.0 unit.2)
-    (skip _ _ _ _ (is_not text f c open_bracket unit.0 unit.3) (ap (λ x. Some (Plain x, f + 1)) unit.0.1 ∙ ap (λ n. Some (Plain c, n)) (sym unit.4))))
-unit_at-UnitAt text f Any e unit =
-    pick _ _ _ _ (eq-eqb _ _ unit.0.1) (ap (λ n. Some (Any, n)) (sym unit.1))
-unit_at-UnitAt text f Run e unit =
+    (skip _ _ _ _ (is_not text f c open_bracket unit.0 unit.3) (ap (λ x. Some (Literal x, f + 1)) unit.0.1 ∙ ap (λ n. Some (Literal c, n)) (sym unit.4))))
+unit_at-UnitAt text f AnyChar e unit =
+    pick _ _ _ _ (eq-eqb _ _ unit.0.1) (ap (λ n. Some (AnyChar, n)) (sym unit.1))
+unit_at-UnitAt text f AnySequence e unit =
     let at = unit.0.0 f (omega arith) (omega arith) in
     skip _ _ _ _ (is_not text f star question_mark at (omega arith))
     (pick _ _ _ _ (eq-eqb _ _ at.1)
-    (pick _ _ _ _ (not_from_false _ (has-false text (f + 1) star unit.0.1)) (ap (λ n. Some (Run, n)) (sym unit.1))))
-unit_at-UnitAt text f Deep e unit =
+    (pick _ _ _ _ (not_from_false _ (has-false text (f + 1) star unit.0.1)) (ap (λ n. Some (AnySequence, n)) (sym unit.1))))
+unit_at-UnitAt text f Recursive e unit =
     let at = unit.0.0 f (omega arith) (omega arith) in
     skip _ _ _ _ (is_not text f star question_mark at (omega arith)) (pick _ _ _ _ (eq-eqb _ _ at.1) (stars_at-Deep text f e unit))
-unit_at-UnitAt text f (Within entries) e unit =
+unit_at-UnitAt text f (OneOf entries) e unit =
     skip _ _ _ _ (is_not text f open_bracket question_mark unit.0 (omega arith))
     (skip _ _ _ _ (is_not text f open_bracket star unit.0 (omega arith))
     (pick _ _ _ _ (eq-eqb _ _ unit.0.1)
     (skip _ _ _ _ (has-false text (f + 1) exclamation_mark unit.1)
-    (bracket_from-ClosesBefore Within text (f + 1) (f + 2) e (omega arith) unit.2 ∙ ap (λ x. Some (Within x, e)) (sym unit.3)))))
-unit_at-UnitAt text f (Except entries) e unit =
+    (bracket_from-ClosesBefore OneOf text (f + 1) (f + 2) e (omega arith) unit.2 ∙ ap (λ x. Some (OneOf x, e)) (sym unit.3)))))
+unit_at-UnitAt text f (NoneOf entries) e unit =
     skip _ _ _ _ (is_not text f open_bracket question_mark unit.0 (omega arith))
     (skip _ _ _ _ (is_not text f open_bracket star unit.0 (omega arith))
     (pick _ _ _ _ (eq-eqb _ _ unit.0.1)
     (pick _ _ _ _ (has-true text (f + 1) exclamation_mark unit.1)
-    (bracket_from-ClosesBefore Except text (f + 2) (f + 3) e (omega arith) unit.2 ∙ ap (λ x. Some (Except x, e)) (sym unit.3)))))
+    (bracket_from-ClosesBefore NoneOf text (f + 2) (f + 3) e (omega arith) unit.2 ∙ ap (λ x. Some (NoneOf x, e)) (sym unit.3)))))
 
 -- Where none is found, none stands.
 pub NoUnitAt-None : (text : Text) (f : ℕ) → unit_at text f ≡ None → NoUnitAt text f

@@ -3,11 +3,11 @@ use Rattle.std.proofs.Common.{◌≡◌, ℕ, suc, ◌+◌, ◌<◌, ◌≤◌, 
 use Rattle.std.proofs.lemmas.Bool.{and_left, cond-false}
 use Rattle.glob_text.specs.Text.{Text}
 use Rattle.glob_pattern.specs.Grammar.Characters.{star, question_mark, open_bracket}
-use Rattle.glob_pattern.specs.Grammar.Tokens.{Token, is_deep, begins_deep, tokens_of_units}
+use Rattle.glob_pattern.specs.Grammar.Tokens.{Token, is_recursive, begins_recursive, tokens_of_units}
 use Rattle.glob_pattern.specs.Grammar.Units.{UnitAt, UnitsBetween, HasUnits, HasTokens}
 use Rattle.glob_pattern.specs.Matching.Texts.{TokensMatch, Matches}
 use Rattle.glob_pattern.specs.declared.options.MatchOptions.{MatchOptions}
-use Rattle.glob_pattern.specs.declared.token.Token.TheVariants.{Plain}
+use Rattle.glob_pattern.specs.declared.token.Token.TheVariants.{Literal}
 use Rattle.glob_pattern.proofs.Places.{get_or-at_drop, length-at_drop, length-at_end, drop-after_piece, length-after_piece}
 
 -- wherever a character is written, the unit of its token stands
@@ -31,19 +31,19 @@ pub HasUnits-written : (written : ℕ → Text) (token : ℕ → Token) (cs : Te
 HasUnits-written written token cs each = UnitsBetween-written written token cs each (flat_map written cs) 0 refl (omega arith)
 
 -- tokens none of which is deep are not folded
-pub tokens_of_units-map : (token : ℕ → Token) → ((c : ℕ) → IsFalse (is_deep (token c))) → (cs : Text) → tokens_of_units (map token cs) ≡ map token cs
+pub tokens_of_units-map : (token : ℕ → Token) → ((c : ℕ) → IsFalse (is_recursive (token c))) → (cs : Text) → tokens_of_units (map token cs) ≡ map token cs
 tokens_of_units-map token shallow [] = refl
 tokens_of_units-map token shallow (c ∷ cs) =
     let ts : List Token = map token cs in
-    cond-false (is_deep (token c) && begins_deep ts) (tokens_of_units ts) (token c ∷ tokens_of_units ts) (and_left (is_deep (token c)) (begins_deep ts) (shallow c))
+    cond-false (is_recursive (token c) && begins_recursive ts) (tokens_of_units ts) (token c ∷ tokens_of_units ts) (and_left (is_recursive (token c)) (begins_recursive ts) (shallow c))
     ∙ ap (λ us. token c ∷ us) (tokens_of_units-map token shallow cs)
 
 -- and their tokens, where none is deep
-pub HasTokens-written : (written : ℕ → Text) (token : ℕ → Token) (cs : Text) → ((c : ℕ) → IsFalse (is_deep (token c))) → ((k : ℕ) → k < length cs → WritesUnit written token (slice_index cs k)) → HasTokens (flat_map written cs) (map token cs)
+pub HasTokens-written : (written : ℕ → Text) (token : ℕ → Token) (cs : Text) → ((c : ℕ) → IsFalse (is_recursive (token c))) → ((k : ℕ) → k < length cs → WritesUnit written token (slice_index cs k)) → HasTokens (flat_map written cs) (map token cs)
 HasTokens-written written token cs shallow each = (map token cs, HasUnits-written written token cs each, sym (tokens_of_units-map token shallow cs))
 
 -- a character that is no wildcard stands for itself
-pub UnitAt-plain : (whole rest : Text) (f c : ℕ) → (c ≢ question_mark) × (c ≢ star) × (c ≢ open_bracket) → drop f whole ≡ c ∷ rest → UnitAt whole f (Plain c) (f + 1)
+pub UnitAt-plain : (whole rest : Text) (f c : ℕ) → (c ≢ question_mark) × (c ≢ star) × (c ≢ open_bracket) → drop f whole ≡ c ∷ rest → UnitAt whole f (Literal c) (f + 1)
 UnitAt-plain whole rest f c plain e =
     let l : length whole ≡ f + suc (length rest) = length-at_drop whole rest f c e in
     ((omega arith, get_or-at_drop whole rest f c 0 e), plain.0, plain.1, plain.2, refl)

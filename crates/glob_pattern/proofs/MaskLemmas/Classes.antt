@@ -10,7 +10,7 @@ use Rattle.glob_pattern.specs.Grammar.Tokens.{Token}
 use Rattle.glob_pattern.specs.Matching.Taking.{takes, is_excluded_separator, is_excluded_dot}
 use Rattle.glob_pattern.specs.Private.CharMasks.{class_of, ascii_class, case_options, is_beyond, is_undecided, takes_all_but_listed, takes_separator, takes_dot, takes_beyond}
 use Rattle.glob_pattern.specs.declared.options.MatchOptions.{MatchOptions}
-use Rattle.glob_pattern.specs.declared.token.Token.TheVariants.{Plain, Any, Run, Deep, Within, Except}
+use Rattle.glob_pattern.specs.declared.token.Token.TheVariants.{Literal, AnyChar, AnySequence, Recursive, OneOf, NoneOf}
 use Rattle.glob_pattern.specs.declared.token.bracket.Entry.{Entry}
 use Rattle.glob_pattern.specs.declared.token.bracket.Entry.TheVariants.{Single, Range}
 
@@ -31,7 +31,7 @@ entry-within false c (Single x) high low = grind (arith, nat_tests)
 entry-within true c (Range x y) high low = grind (arith, nat_tests)
 entry-within false c (Range x y) high low = grind (arith, nat_tests)
 
-bracket-within : (case : Bool) (c : ℕ) (entries : List Entry) → 128 ≤ c → is_undecided (Within entries) ≡ false → holds case c entries ≡ false
+bracket-within : (case : Bool) (c : ℕ) (entries : List Entry) → 128 ≤ c → is_undecided (OneOf entries) ≡ false → holds case c entries ≡ false
 bracket-within case c [] high low = refl
 bracket-within case c (e ∷ entries) high low =
     let parts = or_parts (is_beyond e) _ low in
@@ -39,41 +39,41 @@ bracket-within case c (e ∷ entries) high low =
 
 -- where the token is not undecided, it takes all characters beyond ASCII or none
 pub takes-beyond : (case : Bool) (c : ℕ) → 128 ≤ c → (t : Token) → is_undecided t ≡ false → takes (case_options case) false c t ≡ takes_all_but_listed t
-takes-beyond case c high (Plain x) low = entry-within case c (Single x) high low
-takes-beyond case c high Any low = refl
-takes-beyond case c high Run low = refl
-takes-beyond case c high Deep low = refl
-takes-beyond case c high (Within e) low = bracket-within case c e high low
-takes-beyond case c high (Except e) low = ap not (bracket-within case c e high low)
+takes-beyond case c high (Literal x) low = entry-within case c (Single x) high low
+takes-beyond case c high AnyChar low = refl
+takes-beyond case c high AnySequence low = refl
+takes-beyond case c high Recursive low = refl
+takes-beyond case c high (OneOf e) low = bracket-within case c e high low
+takes-beyond case c high (NoneOf e) low = ap not (bracket-within case c e high low)
 
 module _ (o : MatchOptions) (opening : Bool) where
   -- where no rule excludes a character, the rules do not count
   pub takes-free : (c : ℕ) → is_excluded_separator o c ≡ false → is_excluded_dot o opening c ≡ false → (t : Token)
       → takes o opening c t ≡ takes (case_options o.case_sensitive) false c t
-  takes-free c s d (Plain x) = refl
-  takes-free c s d Any = rw (s, d) refl
-  takes-free c s d Run = rw (s, d) refl
-  takes-free c s d Deep = rw d refl
-  takes-free c s d (Within e) = rw (s, d) refl
-  takes-free c s d (Except e) = rw (s, d) refl
+  takes-free c s d (Literal x) = refl
+  takes-free c s d AnyChar = rw (s, d) refl
+  takes-free c s d AnySequence = rw (s, d) refl
+  takes-free c s d Recursive = rw d refl
+  takes-free c s d (OneOf e) = rw (s, d) refl
+  takes-free c s d (NoneOf e) = rw (s, d) refl
 
   -- where the separator rule excludes `/`, nothing else counts
   pub takes-slash : o.require_literal_separator ≡ true → (t : Token) → takes o opening slash t ≡ takes_separator t
-  takes-slash s (Plain x) = same-caseless o.case_sensitive slash x (omega arith)
-  takes-slash s Any = rw s refl
-  takes-slash s Run = rw s refl
-  takes-slash s Deep = rw (and-false (o.require_literal_leading_dot && opening)) refl
-  takes-slash s (Within e) = rw s refl
-  takes-slash s (Except e) = rw s refl
+  takes-slash s (Literal x) = same-caseless o.case_sensitive slash x (omega arith)
+  takes-slash s AnyChar = rw s refl
+  takes-slash s AnySequence = rw s refl
+  takes-slash s Recursive = rw (and-false (o.require_literal_leading_dot && opening)) refl
+  takes-slash s (OneOf e) = rw s refl
+  takes-slash s (NoneOf e) = rw s refl
 
   -- nor where the dot rule excludes `.`
   pub takes-dot : o.require_literal_leading_dot ≡ true → opening ≡ true → (t : Token) → takes o opening dot t ≡ takes_dot t
-  takes-dot d s (Plain x) = same-caseless o.case_sensitive dot x (omega arith)
-  takes-dot d s Any = rw (d, s) (and-false _)
-  takes-dot d s Run = rw (d, s) (and-false _)
-  takes-dot d s Deep = rw (d, s) refl
-  takes-dot d s (Within e) = rw (d, s) (ap (λ b. b && holds o.case_sensitive dot e) (and-false _))
-  takes-dot d s (Except e) = rw (d, s) (ap (λ b. b && not (holds o.case_sensitive dot e)) (and-false _))
+  takes-dot d s (Literal x) = same-caseless o.case_sensitive dot x (omega arith)
+  takes-dot d s AnyChar = rw (d, s) (and-false _)
+  takes-dot d s AnySequence = rw (d, s) (and-false _)
+  takes-dot d s Recursive = rw (d, s) refl
+  takes-dot d s (OneOf e) = rw (d, s) (ap (λ b. b && holds o.case_sensitive dot e) (and-false _))
+  takes-dot d s (NoneOf e) = rw (d, s) (ap (λ b. b && not (holds o.case_sensitive dot e)) (and-false _))
 
   class-at : (c : ℕ) (a s d : Bool) → is_ascii c ≡ a → is_excluded_separator o c ≡ s → is_excluded_dot o opening c ≡ d
       → class_of o opening c ≡ (if not a then 258 else if s then 256 else if d then 257 else ascii_class o.case_sensitive c)

@@ -7,7 +7,7 @@ use Rattle.std.specs.Int.{IsBitSet}
 use Rattle.glob_pattern.specs.Grammar.Tokens.{Token}
 use Rattle.glob_pattern.specs.Private.CharMasks.{mask_at, is_undecided, takes_all_but_listed, never, AreMasks, IsCharMasks, AreCharMasks, IsMask, IsPut}
 use Rattle.glob_pattern.specs.declared.pattern.char_masks.CharMasks.{CharMasks}
-use Rattle.glob_pattern.specs.declared.token.Token.TheVariants.{Any}
+use Rattle.glob_pattern.specs.declared.token.Token.TheVariants.{AnyChar}
 use Rattle.glob_pattern.proofs.BitLemmas.SetBits.{IsBitSet-zero}
 use Rattle.glob_pattern.proofs.MaskLemmas.Classes.{class-cases}
 
@@ -31,7 +31,7 @@ module _ (tokens : List Token) (start end : ℕ) where
   }
 
   -- what the mask says of the next token
-  pub IsMask-next : (n : ℕ) (first later : Token → Bool) (token : Token) (mask : ℕ) → start ≤ n → n < start + 63 → n < end → token ≡ get_or tokens n Any
+  pub IsMask-next : (n : ℕ) (first later : Token → Bool) (token : Token) (mask : ℕ) → start ≤ n → n < start + 63 → n < end → token ≡ get_or tokens n AnyChar
       → IsMask tokens start n end first later mask → IsBitSet mask (n - start) ↔ IsTrue (later token)
   IsMask-next n first later token mask from near within is mask_is =
       let at : start + (n - start) ≡ n = omega arith in
@@ -39,7 +39,7 @@ module _ (tokens : List Token) (start end : ℕ) where
       rw is (λ s. (bit.0 s).1, λ t. bit.1 (within, t))
 
   -- one token more
-  pub IsMask-more : (n : ℕ) (first later : Token → Bool) (token : Token) (old new : ℕ) → start ≤ n → token ≡ get_or tokens n Any
+  pub IsMask-more : (n : ℕ) (first later : Token → Bool) (token : Token) (old new : ℕ) → start ≤ n → token ≡ get_or tokens n AnyChar
       → IsMask tokens start n end first later old → IsPut old new (n - start) (first token) → IsMask tokens start (n + 1) end first later new
   IsMask-more n first later token old new from is mask_is put = record {
     before = λ j lt below.
@@ -69,7 +69,7 @@ pub IsCharMasks-all : (tokens : List Token) (start n : ℕ) (masks : CharMasks) 
     → ((j : ℕ) → j < 63 → start + j < length tokens → start + j < n) → IsCharMasks tokens start masks
 IsCharMasks-all tokens start n masks are all = record {
   takes = λ o opening c j lt below decided.
-      let t = get_or tokens (start + j) Any in
+      let t = get_or tokens (start + j) AnyChar in
       let gone = all j lt below in
       let bit : j < 64 = omega arith in
       let known : (c < 128) ⊎ (is_undecided t ≡ false) = ⊎_elim inl (λ none. inr (false_from_ne_true _ (λ is. none ((are.undecided.before j bit gone).1 is)))) decided in

@@ -15,7 +15,7 @@ use Rattle.glob_pattern.specs.Private.TextTable.{table_of}
 use Rattle.glob_pattern.specs.Computing.Deciding.{characters_with_openings, first_answer, one_character_answers, run_answers, component_answers, tokens_answers, tokens_match, match_of_reading, is_match}
 use Rattle.glob_pattern.specs.declared.options.MatchOptions.{MatchOptions}
 use Rattle.glob_pattern.specs.declared.matcher.Shape.TheVariants as shape
-use Rattle.glob_pattern.specs.declared.token.Token.TheVariants.{Plain, Any, Run, Deep, Within, Except}
+use Rattle.glob_pattern.specs.declared.token.Token.TheVariants.{Literal, AnyChar, AnySequence, Recursive, OneOf, NoneOf}
 use Rattle.glob_pattern.proofs.Places.{get_or-at_drop, drop-at_drop, length-at_drop, length-at_end}
 use Rattle.glob_pattern.proofs.MatchingLemmas.Splits.{SplitsMany, SplitsClosed, SplitsFrom-within, SplitsFrom-one, one-from_SplitsFrom, SplitsMany-within, SplitsClosed-within, SplitsMany-cases, SplitsMany-from, SplitsClosed-cases, SplitsClosed-from, SplitsFrom-last_deep, many-from_last_deep, SplitsFrom-deep, deep-from_SplitsFrom}
 use Rattle.glob_pattern.proofs.MatchingLemmas.PiecesAndSplits.{takes-at, Splits-from_TokensMatch, TokensMatch-from_Splits}
@@ -111,22 +111,22 @@ Decides-closed o all text n t ts e next (c ∷ cs) k b p q h =
 -- the decider's rests are decided, for the tokens from number n on
 pub Decides-rests : (o : MatchOptions) (all : List Token) (text : Text) (ts : List Token) (n : ℕ) → drop n all ≡ ts → RestsDecided o all text n ts
 Decides-rests o all text [] n e = Decides-none o all text n
-Decides-rests o all text (Plain c ∷ ts) n e = Decides-one o all text n (Plain c) ts e (Decides-rests o all text ts (n + 1) (drop-at_drop all ts n (Plain c) e))
-Decides-rests o all text (Any ∷ ts) n e = Decides-one o all text n Any ts e (Decides-rests o all text ts (n + 1) (drop-at_drop all ts n Any e))
-Decides-rests o all text (Run ∷ ts) n e = Decides-many o all text n Run ts e (Decides-rests o all text ts (n + 1) (drop-at_drop all ts n Run e))
-Decides-rests o all text (Deep ∷ []) n e = λ cs k b p q h.
+Decides-rests o all text (Literal c ∷ ts) n e = Decides-one o all text n (Literal c) ts e (Decides-rests o all text ts (n + 1) (drop-at_drop all ts n (Literal c) e))
+Decides-rests o all text (AnyChar ∷ ts) n e = Decides-one o all text n AnyChar ts e (Decides-rests o all text ts (n + 1) (drop-at_drop all ts n AnyChar e))
+Decides-rests o all text (AnySequence ∷ ts) n e = Decides-many o all text n AnySequence ts e (Decides-rests o all text ts (n + 1) (drop-at_drop all ts n AnySequence e))
+Decides-rests o all text (Recursive ∷ []) n e = λ cs k b p q h.
     let table : Table = table_of o all text in
     Decides-like _ (SplitsFrom-last_deep table n k) (many-from_last_deep table n k)
-    (Decides-many o all text n Deep [] e (Decides-rests o all text [] (n + 1) (drop-at_drop all [] n Deep e)) cs k b p q h)
-Decides-rests o all text (Deep ∷ t ∷ ts) n e =
+    (Decides-many o all text n Recursive [] e (Decides-rests o all text [] (n + 1) (drop-at_drop all [] n Recursive e)) cs k b p q h)
+Decides-rests o all text (Recursive ∷ t ∷ ts) n e =
     let table : Table = table_of o all text in
-    let next : RestsDecided o all text (n + 1) (t ∷ ts) = Decides-rests o all text (t ∷ ts) (n + 1) (drop-at_drop all (t ∷ ts) n Deep e) in
+    let next : RestsDecided o all text (n + 1) (t ∷ ts) = Decides-rests o all text (t ∷ ts) (n + 1) (drop-at_drop all (t ∷ ts) n Recursive e) in
     λ cs k b p q h.
-    Decides-at _ _ (first_answer-joined_answers (tokens_answers o (t ∷ ts) (characters_with_openings b cs)) (component_answers o Deep (characters_with_openings b cs) (tokens_answers o (t ∷ ts) (characters_with_openings b cs))))
+    Decides-at _ _ (first_answer-joined_answers (tokens_answers o (t ∷ ts) (characters_with_openings b cs)) (component_answers o Recursive (characters_with_openings b cs) (tokens_answers o (t ∷ ts) (characters_with_openings b cs))))
     (Decides-like _ (SplitsFrom-deep table n (shape_of t) (map shape_of ts) k) (deep-from_SplitsFrom table n (shape_of t) (map shape_of ts) k)
-    (Decides-or (tokens_match_rest o (t ∷ ts) (characters_with_openings b cs)) _ (next cs k b p q h) (Decides-closed o all text n Deep (t ∷ ts) e next cs k b p q h)))
-Decides-rests o all text (Within entries ∷ ts) n e = Decides-one o all text n (Within entries) ts e (Decides-rests o all text ts (n + 1) (drop-at_drop all ts n (Within entries) e))
-Decides-rests o all text (Except entries ∷ ts) n e = Decides-one o all text n (Except entries) ts e (Decides-rests o all text ts (n + 1) (drop-at_drop all ts n (Except entries) e))
+    (Decides-or (tokens_match_rest o (t ∷ ts) (characters_with_openings b cs)) _ (next cs k b p q h) (Decides-closed o all text n Recursive (t ∷ ts) e next cs k b p q h)))
+Decides-rests o all text (OneOf entries ∷ ts) n e = Decides-one o all text n (OneOf entries) ts e (Decides-rests o all text ts (n + 1) (drop-at_drop all ts n (OneOf entries) e))
+Decides-rests o all text (NoneOf entries ∷ ts) n e = Decides-one o all text n (NoneOf entries) ts e (Decides-rests o all text ts (n + 1) (drop-at_drop all ts n (NoneOf entries) e))
 
 -- the decider answers whether a text splits over the table of the tokens
 pub Decides-Splits : (o : MatchOptions) (tokens : List Token) (text : Text) → Decides (tokens_match o tokens text) (Splits (table_of o tokens text) (map shape_of tokens))

@@ -5,12 +5,12 @@ use Rattle.std.proofs.lemmas.Bool.{false≢true, and_parts, cond_both, cases_lt}
 use Rattle.std.specs.List.{concat}
 use Rattle.glob_text.specs.Characters.{slash}
 use Rattle.glob_text.specs.Text.{Text, opens}
-use Rattle.glob_pattern.specs.Grammar.Tokens.{Token, is_deep, begins_deep, tokens_of_units}
+use Rattle.glob_pattern.specs.Grammar.Tokens.{Token, is_recursive, begins_recursive, tokens_of_units}
 use Rattle.glob_pattern.specs.Matching.Taking.{takes}
 use Rattle.glob_pattern.specs.Matching.Texts.{TakesPiece, EndsInSlash, HasForm, AreAllowed, TokensMatch}
 use Rattle.glob_pattern.specs.Laws.{FoldedMatchSame}
 use Rattle.glob_pattern.specs.declared.options.MatchOptions.{MatchOptions}
-use Rattle.glob_pattern.specs.declared.token.Token.TheVariants.{Plain, Any, Run, Deep, Within, Except}
+use Rattle.glob_pattern.specs.declared.token.Token.TheVariants.{Literal, AnyChar, AnySequence, Recursive, OneOf, NoneOf}
 
 -- Pieces that are allowed for the first tokens, from any place on, can be cut anew into ones allowed for the second.
 abbrev AllowedAs : MatchOptions → Text → List Token → List Token → Type 0
@@ -35,7 +35,7 @@ TakesPiece-append o text t k xs ys first second i below =
         (subst (λ q. IsTrue (takes o (opens text q) (slice_index ys m) t)) at (second m within))
 
 -- two pieces of neighbouring deep tokens are one of a deep token
-HasForm-append : (ts : List Token) (xs ys : Text) → HasForm Deep (Deep ∷ ts) xs → HasForm Deep ts ys → HasForm Deep ts (xs ++ ys)
+HasForm-append : (ts : List Token) (xs ys : Text) → HasForm Recursive (Recursive ∷ ts) xs → HasForm Recursive ts ys → HasForm Recursive ts (xs ++ ys)
 HasForm-append ts xs ys first second =
     ⊎_elim (λ e. inl e) (λ closed. inr (⊎_elim empty (λ ends. inr (xs ++ ends.0, ap (λ zs. xs ++ zs) ends.1 ∙ sym (append_assoc xs ends.0 (slash ∷ [])))) closed)) second
   where
@@ -45,34 +45,34 @@ HasForm-append ts xs ys first second =
     empty : ys ≡ [] → (xs ++ ys ≡ []) ⊎ EndsInSlash (xs ++ ys)
     empty e =
         let alone : xs ++ ys ≡ xs = ap (λ zs. xs ++ zs) e ∙ append-nil xs in
-        ⊎_elim (λ none. absurd (no_token Deep ts none)) (⊎_elim (λ nil. inl (alone ∙ nil)) (λ ends. inr (ends.0, alone ∙ ends.1))) first
+        ⊎_elim (λ none. absurd (no_token Recursive ts none)) (⊎_elim (λ nil. inl (alone ∙ nil)) (λ ends. inr (ends.0, alone ∙ ends.1))) first
 
 -- two neighbouring deep tokens match what one matches
-two_deep-one : (o : MatchOptions) (text : Text) (ts : List Token) → AllowedAs o text (Deep ∷ Deep ∷ ts) (Deep ∷ ts)
+two_deep-one : (o : MatchOptions) (text : Text) (ts : List Token) → AllowedAs o text (Recursive ∷ Recursive ∷ ts) (Recursive ∷ ts)
 two_deep-one o text ts k [] h = absurd h
 two_deep-one o text ts k (xs ∷ []) h = absurd h.2
 two_deep-one o text ts k (xs ∷ ys ∷ pieces) (took, form, (took_next, form_next, rest)) =
     let at : k + length xs + length ys ≡ k + length (xs ++ ys) = omega (arith, length-append xs ys) in (
       (xs ++ ys) ∷ pieces,
       append_assoc xs ys (concat pieces),
-      (TakesPiece-append o text Deep k xs ys took took_next, HasForm-append ts xs ys form form_next, subst (λ q. AreAllowed o text q ts pieces) at rest),
+      (TakesPiece-append o text Recursive k xs ys took took_next, HasForm-append ts xs ys form form_next, subst (λ q. AreAllowed o text q ts pieces) at rest),
     )
 
 -- one deep token matches what two neighbouring ones match
-one_deep-two : (o : MatchOptions) (text : Text) (ts : List Token) → AllowedAs o text (Deep ∷ ts) (Deep ∷ Deep ∷ ts)
+one_deep-two : (o : MatchOptions) (text : Text) (ts : List Token) → AllowedAs o text (Recursive ∷ ts) (Recursive ∷ Recursive ∷ ts)
 one_deep-two o text ts k pieces h =
-    let none : (i : ℕ) → i < 0 → IsTrue (takes o (opens text (k + i)) (slice_index [] i) Deep) = λ i l. absurd (omega arith) in
+    let none : (i : ℕ) → i < 0 → IsTrue (takes o (opens text (k + i)) (slice_index [] i) Recursive) = λ i l. absurd (omega arith) in
     let at : k ≡ k + 0 = omega arith in
-    ([] ∷ pieces, refl, (none, inr (inl refl), subst (λ q. AreAllowed o text q (Deep ∷ ts) pieces) at h))
+    ([] ∷ pieces, refl, (none, inr (inl refl), subst (λ q. AreAllowed o text q (Recursive ∷ ts) pieces) at h))
 
 -- where no token follows before, none follows after
 HasForm-others : (t : Token) (ts us : List Token) (piece : Text) → (ts ≡ [] → us ≡ []) → HasForm t ts piece → HasForm t us piece
-HasForm-others (Plain c) ts us piece last h = h
-HasForm-others Any ts us piece last h = h
-HasForm-others Run ts us piece last h = h
-HasForm-others Deep ts us piece last h = ⊎_elim (λ e. inl (last e)) (λ closed. inr closed) h
-HasForm-others (Within entries) ts us piece last h = h
-HasForm-others (Except entries) ts us piece last h = h
+HasForm-others (Literal c) ts us piece last h = h
+HasForm-others AnyChar ts us piece last h = h
+HasForm-others AnySequence ts us piece last h = h
+HasForm-others Recursive ts us piece last h = ⊎_elim (λ e. inl (last e)) (λ closed. inr closed) h
+HasForm-others (OneOf entries) ts us piece last h = h
+HasForm-others (NoneOf entries) ts us piece last h = h
 
 -- the same token before tokens
 AllowedAs-cons : (o : MatchOptions) (text : Text) (t : Token) (ts us : List Token) → (ts ≡ [] → us ≡ []) → AllowedAs o text ts us → AllowedAs o text (t ∷ ts) (t ∷ us)
@@ -90,24 +90,24 @@ AllowedAs-trans o text ts us vs first second k pieces h =
     (last.0, last.1 ∙ found.1, last.2)
 
 -- a token that is deep
-deep-from_test : (t : Token) → IsTrue (is_deep t) → t ≡ Deep
-deep-from_test (Plain c) h = absurd (false≢true h)
-deep-from_test Any h = absurd (false≢true h)
-deep-from_test Run h = absurd (false≢true h)
-deep-from_test Deep h = refl
-deep-from_test (Within entries) h = absurd (false≢true h)
-deep-from_test (Except entries) h = absurd (false≢true h)
+deep-from_test : (t : Token) → IsTrue (is_recursive t) → t ≡ Recursive
+deep-from_test (Literal c) h = absurd (false≢true h)
+deep-from_test AnyChar h = absurd (false≢true h)
+deep-from_test AnySequence h = absurd (false≢true h)
+deep-from_test Recursive h = refl
+deep-from_test (OneOf entries) h = absurd (false≢true h)
+deep-from_test (NoneOf entries) h = absurd (false≢true h)
 
 -- tokens of which the first is deep
-deep-from_begin : (ts : List Token) → IsTrue (begins_deep ts) → (us : List Token) × (ts ≡ Deep ∷ us)
+deep-from_begin : (ts : List Token) → IsTrue (begins_recursive ts) → (us : List Token) × (ts ≡ Recursive ∷ us)
 deep-from_begin [] h = absurd (false≢true h)
 deep-from_begin (t ∷ ts) h = (ts, ap (λ u. u ∷ ts) (deep-from_test t h))
 
 -- two neighbouring deep tokens, known by the tests
-two_deep : (t : Token) (ts : List Token) → IsTrue (is_deep t && begins_deep ts) → (us : List Token) × (t ≡ Deep) × (ts ≡ Deep ∷ us)
+two_deep : (t : Token) (ts : List Token) → IsTrue (is_recursive t && begins_recursive ts) → (us : List Token) × (t ≡ Recursive) × (ts ≡ Recursive ∷ us)
 two_deep t ts h =
-    let begun : (us : List Token) × (ts ≡ Deep ∷ us) = deep-from_begin ts (and_parts (is_deep t) (begins_deep ts) h).1 in
-    (begun.0, deep-from_test t (and_parts (is_deep t) (begins_deep ts) h).0, begun.1)
+    let begun : (us : List Token) × (ts ≡ Recursive ∷ us) = deep-from_begin ts (and_parts (is_recursive t) (begins_recursive ts) h).1 in
+    (begun.0, deep-from_test t (and_parts (is_recursive t) (begins_recursive ts) h).0, begun.1)
 
 -- of no tokens and of no others are none folded
 tokens_of_units-nil : (ts : List Token) → ts ≡ [] → tokens_of_units ts ≡ []
@@ -117,32 +117,32 @@ tokens_of_units-nil ts e = ap tokens_of_units e
 nil-from_folded : (ts : List Token) → tokens_of_units ts ≡ [] → ts ≡ []
 nil-from_folded [] = λ e. refl
 nil-from_folded (t ∷ ts) =
-    cond_both (is_deep t && begins_deep ts) (tokens_of_units ts) (t ∷ tokens_of_units ts) (λ xs. xs ≡ [] → t ∷ ts ≡ [])
+    cond_both (is_recursive t && begins_recursive ts) (tokens_of_units ts) (t ∷ tokens_of_units ts) (λ xs. xs ≡ [] → t ∷ ts ≡ [])
     (λ both e. first (nil-from_folded ts e) both) second
   where
-    first : ts ≡ [] → IsTrue (is_deep t && begins_deep ts) → t ∷ ts ≡ []
-    first none both = let found : (us : List Token) × (t ≡ Deep) × (ts ≡ Deep ∷ us) = two_deep t ts both in cc (found.2)
+    first : ts ≡ [] → IsTrue (is_recursive t && begins_recursive ts) → t ∷ ts ≡ []
+    first none both = let found : (us : List Token) × (t ≡ Recursive) × (ts ≡ Recursive ∷ us) = two_deep t ts both in cc (found.2)
 
-    second : (is_deep t && begins_deep ts) ≡ false → t ∷ tokens_of_units ts ≡ [] → t ∷ ts ≡ []
+    second : (is_recursive t && begins_recursive ts) ≡ false → t ∷ tokens_of_units ts ≡ [] → t ∷ ts ≡ []
     second alone e = cc
 
 -- two neighbouring deep tokens against the second alone
-two_deep-second : (o : MatchOptions) (text : Text) (t : Token) (ts : List Token) → IsTrue (is_deep t && begins_deep ts) → AllowedAs o text (t ∷ ts) ts
+two_deep-second : (o : MatchOptions) (text : Text) (t : Token) (ts : List Token) → IsTrue (is_recursive t && begins_recursive ts) → AllowedAs o text (t ∷ ts) ts
 two_deep-second o text t ts both =
-    let found : (us : List Token) × (t ≡ Deep) × (ts ≡ Deep ∷ us) = two_deep t ts both in
+    let found : (us : List Token) × (t ≡ Recursive) × (ts ≡ Recursive ∷ us) = two_deep t ts both in
     subst₂ (λ u us. AllowedAs o text (u ∷ us) us) (sym found.1) (sym found.2) (two_deep-one o text found.0)
 
 -- and the other way round
-second-two_deep : (o : MatchOptions) (text : Text) (t : Token) (ts : List Token) → IsTrue (is_deep t && begins_deep ts) → AllowedAs o text ts (t ∷ ts)
+second-two_deep : (o : MatchOptions) (text : Text) (t : Token) (ts : List Token) → IsTrue (is_recursive t && begins_recursive ts) → AllowedAs o text ts (t ∷ ts)
 second-two_deep o text t ts both =
-    let found : (us : List Token) × (t ≡ Deep) × (ts ≡ Deep ∷ us) = two_deep t ts both in
+    let found : (us : List Token) × (t ≡ Recursive) × (ts ≡ Recursive ∷ us) = two_deep t ts both in
     subst₂ (λ u us. AllowedAs o text us (u ∷ us)) (sym found.1) (sym found.2) (one_deep-two o text found.0)
 
 -- what units match, their folding matches
 tokens_of_units-allowed : (o : MatchOptions) (text : Text) (units : List Token) → AllowedAs o text units (tokens_of_units units)
 tokens_of_units-allowed o text [] = λ k pieces h. (pieces, refl, h)
 tokens_of_units-allowed o text (t ∷ ts) =
-    cond_both (is_deep t && begins_deep ts) (tokens_of_units ts) (t ∷ tokens_of_units ts) (AllowedAs o text (t ∷ ts))
+    cond_both (is_recursive t && begins_recursive ts) (tokens_of_units ts) (t ∷ tokens_of_units ts) (AllowedAs o text (t ∷ ts))
     (λ both. AllowedAs-trans o text (t ∷ ts) ts (tokens_of_units ts) (two_deep-second o text t ts both) (tokens_of_units-allowed o text ts))
     (λ alone. AllowedAs-cons o text t ts (tokens_of_units ts) (tokens_of_units-nil ts) (tokens_of_units-allowed o text ts))
 
@@ -150,7 +150,7 @@ tokens_of_units-allowed o text (t ∷ ts) =
 allowed-from_folded : (o : MatchOptions) (text : Text) (units : List Token) → AllowedAs o text (tokens_of_units units) units
 allowed-from_folded o text [] = λ k pieces h. (pieces, refl, h)
 allowed-from_folded o text (t ∷ ts) =
-    cond_both (is_deep t && begins_deep ts) (tokens_of_units ts) (t ∷ tokens_of_units ts) (λ us. AllowedAs o text us (t ∷ ts))
+    cond_both (is_recursive t && begins_recursive ts) (tokens_of_units ts) (t ∷ tokens_of_units ts) (λ us. AllowedAs o text us (t ∷ ts))
     (λ both. AllowedAs-trans o text (tokens_of_units ts) ts (t ∷ ts) (allowed-from_folded o text ts) (second-two_deep o text t ts both))
     (λ alone. AllowedAs-cons o text t (tokens_of_units ts) ts (nil-from_folded ts) (allowed-from_folded o text ts))
 

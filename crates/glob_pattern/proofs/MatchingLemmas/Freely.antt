@@ -11,17 +11,17 @@ use Rattle.glob_pattern.specs.Private.TextTable.{table_of}
 use Rattle.glob_pattern.specs.declared.matcher.Shape.TheVariants.{One}
 use Rattle.glob_pattern.specs.declared.matcher.shape_word.ShapeWord.{ShapeWord}
 use Rattle.glob_pattern.specs.declared.options.MatchOptions.{MatchOptions}
-use Rattle.glob_pattern.specs.declared.token.Token.TheVariants.{Plain, Any, Run, Deep, Within, Except}
+use Rattle.glob_pattern.specs.declared.token.Token.TheVariants.{Literal, AnyChar, AnySequence, Recursive, OneOf, NoneOf}
 
 -- a wildcard takes each character
 takes-freely : (o : MatchOptions) (opening : Bool) (c : ℕ) (t : Token) → o.require_literal_separator ≡ false → o.require_literal_leading_dot ≡ false
     → shape_of t ≢ One → takes o opening c t ≡ true
-takes-freely o opening c (Plain x) slashes dots grows = absurd (grows refl)
-takes-freely o opening c Any slashes dots grows = absurd (grows refl)
-takes-freely o opening c Run slashes dots grows = rw (slashes, dots) refl
-takes-freely o opening c Deep slashes dots grows = rw dots refl
-takes-freely o opening c (Within e) slashes dots grows = absurd (grows refl)
-takes-freely o opening c (Except e) slashes dots grows = absurd (grows refl)
+takes-freely o opening c (Literal x) slashes dots grows = absurd (grows refl)
+takes-freely o opening c AnyChar slashes dots grows = absurd (grows refl)
+takes-freely o opening c AnySequence slashes dots grows = rw (slashes, dots) refl
+takes-freely o opening c Recursive slashes dots grows = rw dots refl
+takes-freely o opening c (OneOf e) slashes dots grows = absurd (grows refl)
+takes-freely o opening c (NoneOf e) slashes dots grows = absurd (grows refl)
 
 -- a wildcard of the first word before `end` that may end anywhere takes the rest
 pub TakesRest-freely : (o : MatchOptions) (tokens : List Token) (text : Text) (word : ShapeWord) (end j : ℕ) → IsShapeWord (map shape_of tokens) 0 word
@@ -33,7 +33,7 @@ TakesRest-freely o tokens text word end j is slashes dots lt last wild free =
     let here = (is.wildcards j lt).0 wild in
     let grows : get_or shapes j One ≢ One = rw (zero-add j) at here.1 in
     let count = length-map tokens shape_of in
-    let shape : get_or shapes j One ≡ shape_of (get_or tokens j Any) = get_or-map shape_of tokens j Any One (omega (arith, here.0, count)) in
+    let shape : get_or shapes j One ≡ shape_of (get_or tokens j AnyChar) = get_or-map shape_of tokens j AnyChar One (omega (arith, here.0, count)) in
     record {
       first = omega (arith, here.0);
       last = omega (arith, last);
@@ -42,5 +42,5 @@ TakesRest-freely o tokens text word end j is slashes dots lt last wild free =
           (λ more. absurd (free ((is.recursive j lt).1 (here.0, rw (zero-add j) deep, omega (arith, more)))))
           (λ all. omega (arith, all, last, here.0))
           (cases_lt end (length shapes));
-      takes = λ k from below. takes-freely o (opens text k) (get_or text k 0) (get_or tokens j Any) slashes dots (λ one. grows (rw shape one));
+      takes = λ k from below. takes-freely o (opens text k) (get_or text k 0) (get_or tokens j AnyChar) slashes dots (λ one. grows (rw shape one));
     }

@@ -11,7 +11,7 @@ use Rattle.glob_pattern.specs.Private.TextTable.{table_of}
 use Rattle.glob_pattern.specs.Laws.{SameTexts}
 use Rattle.glob_pattern.specs.declared.options.MatchOptions.{MatchOptions}
 use Rattle.glob_pattern.specs.declared.matcher.Shape.TheVariants as shape
-use Rattle.glob_pattern.specs.declared.token.Token.TheVariants.{Any}
+use Rattle.glob_pattern.specs.declared.token.Token.TheVariants.{AnyChar}
 use Rattle.glob_pattern.proofs.MatchingLemmas.Splits.{SplitsFrom-ones, ones-from_SplitsFrom}
 use Rattle.glob_pattern.proofs.MatchingLemmas.PiecesAndSplits.{Splits-from_TokensMatch, TokensMatch-from_Splits}
 
@@ -28,7 +28,7 @@ ones o token each (x ∷ xs) = ap₂ (λ s ss. s ∷ ss) (each x).0 (ones o toke
 literal-takes : (o : MatchOptions) (token : ℕ → Token) → ((x : ℕ) → IsLiteral o (token x) x) → (xs text : Text) (k : ℕ) → k < length xs → (table_of o (map token xs) text).takes k k ≡ is_same o.case_sensitive (slice_index text k) (slice_index xs k)
 unfolding table_of
 literal-takes o token each xs text k l =
-    ap (takes o (opens text k) (slice_index text k)) (get_or-map token xs k 0 Any l) ∙ (each (slice_index xs k)).1 (opens text k) (slice_index text k)
+    ap (takes o (opens text k) (slice_index text k)) (get_or-map token xs k 0 AnyChar l) ∙ (each (slice_index xs k)).1 (opens text k) (slice_index text k)
 
 -- where such tokens match a text, it is the same as theirs
 pub SameTexts-from_TokensMatch : (o : MatchOptions) (token : ℕ → Token) → ((x : ℕ) → IsLiteral o (token x) x) → (xs text : Text) → TokensMatch o (map token xs) text → SameTexts o.case_sensitive text xs

@@ -9,7 +9,7 @@ use Rattle.glob_pattern.specs.Matching.Taking.{is_excluded_separator, is_exclude
 use Rattle.glob_pattern.specs.Matching.Texts.{AreAllowed, TokensMatch}
 use Rattle.glob_pattern.specs.Laws.{IsLooser, TokensLoosened, PatternsLoosened}
 use Rattle.glob_pattern.specs.declared.options.MatchOptions.{MatchOptions}
-use Rattle.glob_pattern.specs.declared.token.Token.TheVariants.{Plain, Any, Run, Deep, Within, Except}
+use Rattle.glob_pattern.specs.declared.token.Token.TheVariants.{Literal, AnyChar, AnySequence, Recursive, OneOf, NoneOf}
 use Rattle.glob_pattern.proofs.MatchingLemmas.Matched.{match_by_tokens, tokens_of_match}
 
 -- where a test says no, one that says yes less often does
@@ -41,15 +41,15 @@ is_free-looser strict loose opening c less h =
 
 -- a token takes under looser rules what it takes under strict ones
 takes-looser : (strict loose : MatchOptions) (opening : Bool) (c : ℕ) (t : Token) → IsLooser strict loose → IsTrue (takes strict opening c t) → IsTrue (takes loose opening c t)
-takes-looser strict loose opening c (Plain x) less h = rw less.0 h
-takes-looser strict loose opening c Any less h = is_free-looser strict loose opening c less h
-takes-looser strict loose opening c Run less h = is_free-looser strict loose opening c less h
-takes-looser strict loose opening c Deep less h =
+takes-looser strict loose opening c (Literal x) less h = rw less.0 h
+takes-looser strict loose opening c AnyChar less h = is_free-looser strict loose opening c less h
+takes-looser strict loose opening c AnySequence less h = is_free-looser strict loose opening c less h
+takes-looser strict loose opening c Recursive less h =
     not-from_less (is_excluded_dot strict opening c) (is_excluded_dot loose opening c) (kept_dot-less strict loose opening c less) h
-takes-looser strict loose opening c (Within entries) less h =
+takes-looser strict loose opening c (OneOf entries) less h =
     let entries_of_nodes : IsTrue (is_free strict opening c) × IsTrue (holds strict.case_sensitive c entries) = and_parts _ _ h in
     and_from _ _ (is_free-looser strict loose opening c less entries_of_nodes.0) (subst (λ case. IsTrue (holds case c entries)) (sym less.0) entries_of_nodes.1)
-takes-looser strict loose opening c (Except entries) less h =
+takes-looser strict loose opening c (NoneOf entries) less h =
     let entries_of_nodes : IsTrue (is_free strict opening c) × IsTrue (not (holds strict.case_sensitive c entries)) = and_parts _ _ h in
     and_from _ _ (is_free-looser strict loose opening c less entries_of_nodes.0) (subst (λ case. IsTrue (not (holds case c entries))) (sym less.0) entries_of_nodes.1)
 

@@ -15,7 +15,7 @@ use Rattle.glob_pattern.specs.Laws.{SameTexts, StandsIn}
 use Rattle.glob_pattern.specs.Private.Needles.{IsNeedle, StandsAt, ContainsSmall}
 use Rattle.glob_pattern.specs.declared.options.MatchOptions.{MatchOptions}
 use Rattle.glob_pattern.specs.declared.pattern.needle.Needle.{Needle}
-use Rattle.glob_pattern.specs.declared.token.Token.TheVariants.{Plain}
+use Rattle.glob_pattern.specs.declared.token.Token.TheVariants.{Literal}
 use Rattle.glob_pattern.proofs.MatchingLemmas.PlainTokens.{plain_tokens_stand}
 
 -- a needle of some of the tokens is one of all
@@ -24,7 +24,7 @@ IsNeedle-within tokens needle start n part = record {
   front = take start tokens ++ part.front;
   back = part.back ++ drop n (drop start tokens);
   tokens_are =
-      let plain = map Plain (take needle.len needle.bytes) in
+      let plain = map Literal (take needle.len needle.bytes) in
       let split : tokens ≡ take start tokens ++ ((part.front ++ (plain ++ part.back)) ++ drop n (drop start tokens)) =
       sym (take-append-drop start tokens) ∙ ap (λ ts. take start tokens ++ ts) (sym (take-append-drop n (drop start tokens)) ∙ ap (λ ts. ts ++ drop n (drop start tokens)) part.tokens_are) in
       simp append_assoc (simp append_assoc at split);

@@ -11,14 +11,14 @@ use Rattle.glob_pattern.specs.Matching.Texts.{TakesPiece, EndsInSlash, HasForm, 
 use Rattle.glob_pattern.specs.Matching.Splits.{Table, MayReach, TakesAll, SplitsFrom, Splits}
 use Rattle.glob_pattern.specs.Private.TextTable.{table_of}
 use Rattle.glob_pattern.specs.declared.options.MatchOptions.{MatchOptions}
-use Rattle.glob_pattern.specs.declared.token.Token.TheVariants.{Plain, Any, Run, Deep, Within, Except}
+use Rattle.glob_pattern.specs.declared.token.Token.TheVariants.{Literal, AnyChar, AnySequence, Recursive, OneOf, NoneOf}
 use Rattle.glob_pattern.proofs.Places.{get_or-at_drop, drop-at_drop, length-at_end, drop-after_piece, get_or-in_piece, length-after_piece}
 use Rattle.glob_pattern.proofs.MatchingLemmas.Splits.{MayReach-le, SplitsFrom-within}
 
 -- what the table says of the token at number n
 pub takes-at : (o : MatchOptions) (all : List Token) (text : Text) (n k : ℕ) (t : Token) (ts : List Token) → drop n all ≡ t ∷ ts → (table_of o all text).takes n k ≡ takes o (opens text k) (slice_index text k) t
 unfolding table_of
-takes-at o all text n k t ts e = ap (takes o (opens text k) (slice_index text k)) (get_or-at_drop all ts n t Any e)
+takes-at o all text n k t ts e = ap (takes o (opens text k) (slice_index text k)) (get_or-at_drop all ts n t AnyChar e)
 
 -- a piece that the token takes is taken by the table
 pub TakesAll-from_piece : (o : MatchOptions) (all : List Token) (text piece rest : Text) (n i : ℕ) (t : Token) (ts : List Token) → drop n all ≡ t ∷ ts → drop i text ≡ piece ++ rest → TakesPiece o text t i piece → TakesAll (table_of o all text) n i (i + length piece)
@@ -67,16 +67,16 @@ EndsInSlash-from_opens text (x ∷ xs) rest i p h =
 -- a piece of the token's form reaches from its place to its end
 pub MayReach-from_form : (o : MatchOptions) (all : List Token) (text piece rest : Text) (i : ℕ) (t : Token) (ts : List Token) → drop i text ≡ piece ++ rest → HasForm t ts piece → MayReach (table_of o all text) (shape_of t) (map shape_of ts) i (i + length piece)
 unfolding table_of
-MayReach-from_form o all text piece rest i (Plain c) ts p h = omega arith
-MayReach-from_form o all text piece rest i Any ts p h = omega arith
-MayReach-from_form o all text piece rest i Run ts p h = omega arith
-MayReach-from_form o all text piece rest i Deep ts p h =
+MayReach-from_form o all text piece rest i (Literal c) ts p h = omega arith
+MayReach-from_form o all text piece rest i AnyChar ts p h = omega arith
+MayReach-from_form o all text piece rest i AnySequence ts p h = omega arith
+MayReach-from_form o all text piece rest i Recursive ts p h =
     (omega arith, ⊎_elim (λ e. inl (ap (map shape_of) e)) (λ others. inr (⊎_elim (λ e. inl (none e)) (λ e. inr (opens-after_slash text piece rest e.0 i p e.1)) others)) h)
   where
     none : piece ≡ [] → i + length piece ≡ i
     none e = let l : length piece ≡ 0 = ap length e in omega arith
-MayReach-from_form o all text piece rest i (Within entries) ts p h = omega arith
-MayReach-from_form o all text piece rest i (Except entries) ts p h = omega arith
+MayReach-from_form o all text piece rest i (OneOf entries) ts p h = omega arith
+MayReach-from_form o all text piece rest i (NoneOf entries) ts p h = omega arith
 
 -- where no shape follows, no token does
 no_tokens : (ts : List Token) → map shape_of ts ≡ [] → ts ≡ []
@@ -86,13 +86,13 @@ no_tokens (t ∷ ts) e = cc
 -- what reaches from a place to another is a piece of the token's form
 pub HasForm-from_reach : (o : MatchOptions) (all : List Token) (text piece rest : Text) (i : ℕ) (t : Token) (ts : List Token) → drop i text ≡ piece ++ rest → MayReach (table_of o all text) (shape_of t) (map shape_of ts) i (i + length piece) → HasForm t ts piece
 unfolding table_of
-HasForm-from_reach o all text piece rest i (Plain c) ts p h = omega arith
-HasForm-from_reach o all text piece rest i Any ts p h = omega arith
-HasForm-from_reach o all text piece rest i Run ts p h = tt
-HasForm-from_reach o all text piece rest i Deep ts p h =
+HasForm-from_reach o all text piece rest i (Literal c) ts p h = omega arith
+HasForm-from_reach o all text piece rest i AnyChar ts p h = omega arith
+HasForm-from_reach o all text piece rest i AnySequence ts p h = tt
+HasForm-from_reach o all text piece rest i Recursive ts p h =
     ⊎_elim (λ e. inl (no_tokens ts e)) (λ others. inr (⊎_elim (λ e. inl (nil_from_length piece (omega arith))) (λ e. EndsInSlash-from_opens text piece rest i p e) others)) h.1
-HasForm-from_reach o all text piece rest i (Within entries) ts p h = omega arith
-HasForm-from_reach o all text piece rest i (Except entries) ts p h = omega arith
+HasForm-from_reach o all text piece rest i (OneOf entries) ts p h = omega arith
+HasForm-from_reach o all text piece rest i (NoneOf entries) ts p h = omega arith
 
 -- allowed pieces that make up the text from place k on split it from there
 pub SplitsFrom-from_pieces : (o : MatchOptions) (all rest : List Token) (text : Text) (n k : ℕ) (pieces : List Text) → drop n all ≡ rest → drop k text ≡ concat pieces → k ≤ length text → AreAllowed o text k rest pieces → SplitsFrom (table_of o all text) n (map shape_of rest) k

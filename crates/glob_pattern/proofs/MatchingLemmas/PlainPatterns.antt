@@ -13,7 +13,7 @@ use Rattle.glob_pattern.specs.Grammar.Units.{HasTokens}
 use Rattle.glob_pattern.specs.Matching.Texts.{Matches}
 use Rattle.glob_pattern.specs.Laws.{IsPlain, SameTexts, PlainAccepted, PlainMatchesSame, PlainMatchesItself}
 use Rattle.glob_pattern.specs.declared.options.MatchOptions.{MatchOptions}
-use Rattle.glob_pattern.specs.declared.token.Token.TheVariants.{Plain}
+use Rattle.glob_pattern.specs.declared.token.Token.TheVariants.{Literal}
 use Rattle.glob_pattern.proofs.GrammarLemmas.Accepting.{accepted_by_tokens}
 use Rattle.glob_pattern.proofs.GrammarLemmas.WrittenUnits.{WritesUnit, HasTokens-written, UnitAt-plain, tokens-from_Matches}
 use Rattle.glob_pattern.proofs.MatchingLemmas.Matched.{match_by_tokens}
@@ -49,7 +49,7 @@ abbrev itself : ℕ → Text
 itself c = c ∷ []
 
 -- each character of a pattern without wildcards is a unit
-plain-writes : (pattern : Text) → IsPlain pattern → (k : ℕ) → k < length pattern → WritesUnit itself Plain (slice_index pattern k)
+plain-writes : (pattern : Text) → IsPlain pattern → (k : ℕ) → k < length pattern → WritesUnit itself Literal (slice_index pattern k)
 plain-writes pattern plain k l whole rest f e =
     UnitAt-plain whole rest f (slice_index pattern k) (not_wildcard _ (false_from_ne_true _ (λ h. false≢true (sym plain ∙ list_any_at is_wildcard pattern k 0 l h)))) e
 
@@ -58,27 +58,27 @@ flat_map-itself : (pattern : Text) → flat_map itself pattern ≡ pattern
 flat_map-itself pattern = flat_map_single (λ c. c) pattern ∙ map-id pattern
 
 -- the tokens of a pattern without wildcards are its characters
-pub HasTokens-plain : (pattern : Text) → IsPlain pattern → HasTokens pattern (map Plain pattern)
+pub HasTokens-plain : (pattern : Text) → IsPlain pattern → HasTokens pattern (map Literal pattern)
 HasTokens-plain pattern plain =
-    subst (λ text. HasTokens text (map Plain pattern)) (flat_map-itself pattern)
-    (HasTokens-written itself Plain pattern (λ c. refl) (plain-writes pattern plain))
+    subst (λ text. HasTokens text (map Literal pattern)) (flat_map-itself pattern)
+    (HasTokens-written itself Literal pattern (λ c. refl) (plain-writes pattern plain))
 
 -- a plain token stands for its character
-plain-literal : (o : MatchOptions) (x : ℕ) → IsLiteral o (Plain x) x
+plain-literal : (o : MatchOptions) (x : ℕ) → IsLiteral o (Literal x) x
 plain-literal o x = (refl, λ opening c. refl)
 
 -- its characters are its units
 pub plain_accepted : PlainAccepted
-plain_accepted pattern plain = accepted_by_tokens pattern (map Plain pattern) (HasTokens-plain pattern plain)
+plain_accepted pattern plain = accepted_by_tokens pattern (map Literal pattern) (HasTokens-plain pattern plain)
 
 -- a pattern without wildcards matches the texts that are the same as it
 pub plain_matches_same : TokensAreUnique → PlainMatchesSame
 plain_matches_same unique o pattern text plain =
-    let tokens : List Token = map Plain pattern in
+    let tokens : List Token = map Literal pattern in
     let has : HasTokens pattern tokens = HasTokens-plain pattern plain in (
-      (λ m. SameTexts-from_TokensMatch o Plain (plain-literal o) pattern text
+      (λ m. SameTexts-from_TokensMatch o Literal (plain-literal o) pattern text
           (tokens-from_Matches o pattern text tokens (λ others h. unique pattern others tokens h has) m)),
-      (λ s. match_by_tokens o pattern text tokens has (TokensMatch-from_SameTexts o Plain (plain-literal o) pattern text s)),
+      (λ s. match_by_tokens o pattern text tokens has (TokensMatch-from_SameTexts o Literal (plain-literal o) pattern text s)),
     )
 
 -- with case, that is the pattern alone

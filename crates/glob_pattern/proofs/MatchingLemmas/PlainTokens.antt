@@ -10,7 +10,7 @@ use Rattle.glob_pattern.specs.Grammar.Tokens.{Token, takes_one}
 use Rattle.glob_pattern.specs.Matching.Texts.{AreAllowed, TokensMatch}
 use Rattle.glob_pattern.specs.Laws.{SameTexts, PlainTokensStand, OneCharacterEach}
 use Rattle.glob_pattern.specs.declared.options.MatchOptions.{MatchOptions}
-use Rattle.glob_pattern.specs.declared.token.Token.TheVariants.{Plain, Any, Run, Deep, Within, Except}
+use Rattle.glob_pattern.specs.declared.token.Token.TheVariants.{Literal, AnyChar, AnySequence, Recursive, OneOf, NoneOf}
 
 -- The pieces of tokens are pieces of the first ones, and then allowed pieces of those after them.
 AfterFront : MatchOptions → Text → ℕ → List Token → List Token → List Text → Type 0
@@ -47,7 +47,7 @@ PlainFirst case plain back pieces =
     × SameTexts case here plain × (back ≡ [] → after ≡ [])
 
 plain-first : (o : MatchOptions) (text : Text) (k : ℕ) (plain : Text) (back : List Token) (pieces : List Text)
-    → AreAllowed o text k (map Plain plain ++ back) pieces → PlainFirst o.case_sensitive plain back pieces
+    → AreAllowed o text k (map Literal plain ++ back) pieces → PlainFirst o.case_sensitive plain back pieces
 unfolding PlainFirst
 plain-first o text k [] [] [] a = ([], [], refl, (refl, λ i l. absurd (omega arith)), λ e. refl)
 plain-first o text k [] [] (piece ∷ pieces) a = absurd a
@@ -63,7 +63,7 @@ plain-first o text k (c ∷ cs) back ((d ∷ ds) ∷ pieces) (took, form, others
 pub plain_tokens_stand : PlainTokensStand
 unfolding AfterFront PlainFirst TokensMatch
 plain_tokens_stand o front plain back text (pieces, e, allowed) =
-    let (before, others, split, rest, first) = allowed-after_front o text 0 front (map Plain plain ++ back) pieces allowed in
+    let (before, others, split, rest, first) = allowed-after_front o text 0 front (map Literal plain ++ back) pieces allowed in
     let (here, after, next, same, last) = plain-first o text (0 + length (concat before)) plain back others rest in
     record {
       before = concat before;
@@ -84,18 +84,18 @@ ones-allowed : (o : MatchOptions) (text : Text) (k : ℕ) (tokens : List Token) 
 ones-allowed o text k [] [] a = omega arith
 ones-allowed o text k [] (piece ∷ pieces) a = absurd a
 ones-allowed o text k (t ∷ ts) [] a = absurd a
-ones-allowed o text k (Plain c ∷ ts) (piece ∷ pieces) (took, form, others) =
-    omega (arith, counted (Plain c) ts, length-append piece (concat pieces), ones-allowed o text (k + length piece) ts pieces others)
-ones-allowed o text k (Any ∷ ts) (piece ∷ pieces) (took, form, others) =
-    omega (arith, counted Any ts, length-append piece (concat pieces), ones-allowed o text (k + length piece) ts pieces others)
-ones-allowed o text k (Run ∷ ts) (piece ∷ pieces) (took, form, others) =
-    omega (arith, counted Run ts, length-append piece (concat pieces), ones-allowed o text (k + length piece) ts pieces others)
-ones-allowed o text k (Deep ∷ ts) (piece ∷ pieces) (took, form, others) =
-    omega (arith, counted Deep ts, length-append piece (concat pieces), ones-allowed o text (k + length piece) ts pieces others)
-ones-allowed o text k (Within entries ∷ ts) (piece ∷ pieces) (took, form, others) =
-    omega (arith, counted (Within entries) ts, length-append piece (concat pieces), ones-allowed o text (k + length piece) ts pieces others)
-ones-allowed o text k (Except entries ∷ ts) (piece ∷ pieces) (took, form, others) =
-    omega (arith, counted (Except entries) ts, length-append piece (concat pieces), ones-allowed o text (k + length piece) ts pieces others)
+ones-allowed o text k (Literal c ∷ ts) (piece ∷ pieces) (took, form, others) =
+    omega (arith, counted (Literal c) ts, length-append piece (concat pieces), ones-allowed o text (k + length piece) ts pieces others)
+ones-allowed o text k (AnyChar ∷ ts) (piece ∷ pieces) (took, form, others) =
+    omega (arith, counted AnyChar ts, length-append piece (concat pieces), ones-allowed o text (k + length piece) ts pieces others)
+ones-allowed o text k (AnySequence ∷ ts) (piece ∷ pieces) (took, form, others) =
+    omega (arith, counted AnySequence ts, length-append piece (concat pieces), ones-allowed o text (k + length piece) ts pieces others)
+ones-allowed o text k (Recursive ∷ ts) (piece ∷ pieces) (took, form, others) =
+    omega (arith, counted Recursive ts, length-append piece (concat pieces), ones-allowed o text (k + length piece) ts pieces others)
+ones-allowed o text k (OneOf entries ∷ ts) (piece ∷ pieces) (took, form, others) =
+    omega (arith, counted (OneOf entries) ts, length-append piece (concat pieces), ones-allowed o text (k + length piece) ts pieces others)
+ones-allowed o text k (NoneOf entries ∷ ts) (piece ∷ pieces) (took, form, others) =
+    omega (arith, counted (NoneOf entries) ts, length-append piece (concat pieces), ones-allowed o text (k + length piece) ts pieces others)
 
 -- a text is at least as long as there are tokens of one character
 pub one_character_each : OneCharacterEach

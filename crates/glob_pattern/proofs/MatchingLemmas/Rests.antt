@@ -5,7 +5,7 @@ use Rattle.glob_pattern.specs.Grammar.Tokens.{Token}
 use Rattle.glob_pattern.specs.Matching.Taking.{takes}
 use Rattle.glob_pattern.specs.Computing.Deciding.{first_answer, later_answers, is_taken, one_character_answers, run_answers, component_answers, joined_answers, tokens_answers}
 use Rattle.glob_pattern.specs.declared.options.MatchOptions.{MatchOptions}
-use Rattle.glob_pattern.specs.declared.token.Token.TheVariants.{Plain, Any, Run, Deep, Within, Except}
+use Rattle.glob_pattern.specs.declared.token.Token.TheVariants.{Literal, AnyChar, AnySequence, Recursive, OneOf, NoneOf}
 
 -- the tokens match the placed characters
 abbrev pub tokens_match_rest : MatchOptions → List Token → List (Bool × ℕ) → Bool
@@ -24,15 +24,15 @@ first_answer-joined_answers (b ∷ bs) cs = refl
 -- the rests after the first are those of the characters after the first
 pub later_answers-tokens_answers : (o : MatchOptions) (ts : List Token) (x : Bool × ℕ) (xs : List (Bool × ℕ)) → later_answers (tokens_answers o ts (x ∷ xs)) ≡ tokens_answers o ts xs
 later_answers-tokens_answers o [] x xs = refl
-later_answers-tokens_answers o (Plain c ∷ ts) x xs = ap (one_character_answers o (Plain c) xs) (later_answers-tokens_answers o ts x xs)
-later_answers-tokens_answers o (Any ∷ ts) x xs = ap (one_character_answers o Any xs) (later_answers-tokens_answers o ts x xs)
-later_answers-tokens_answers o (Run ∷ ts) x xs = ap (run_answers o Run xs) (later_answers-tokens_answers o ts x xs)
-later_answers-tokens_answers o (Deep ∷ []) x xs = ap (run_answers o Deep xs) (later_answers-tokens_answers o [] x xs)
-later_answers-tokens_answers o (Deep ∷ t ∷ ts) x xs =
-    later_answers-joined_answers (tokens_answers o (t ∷ ts) (x ∷ xs)) (component_answers o Deep (x ∷ xs) (tokens_answers o (t ∷ ts) (x ∷ xs)))
-    ∙ ap (λ rs. joined_answers rs (component_answers o Deep xs rs)) (later_answers-tokens_answers o (t ∷ ts) x xs)
-later_answers-tokens_answers o (Within entries ∷ ts) x xs = ap (one_character_answers o (Within entries) xs) (later_answers-tokens_answers o ts x xs)
-later_answers-tokens_answers o (Except entries ∷ ts) x xs = ap (one_character_answers o (Except entries) xs) (later_answers-tokens_answers o ts x xs)
+later_answers-tokens_answers o (Literal c ∷ ts) x xs = ap (one_character_answers o (Literal c) xs) (later_answers-tokens_answers o ts x xs)
+later_answers-tokens_answers o (AnyChar ∷ ts) x xs = ap (one_character_answers o AnyChar xs) (later_answers-tokens_answers o ts x xs)
+later_answers-tokens_answers o (AnySequence ∷ ts) x xs = ap (run_answers o AnySequence xs) (later_answers-tokens_answers o ts x xs)
+later_answers-tokens_answers o (Recursive ∷ []) x xs = ap (run_answers o Recursive xs) (later_answers-tokens_answers o [] x xs)
+later_answers-tokens_answers o (Recursive ∷ t ∷ ts) x xs =
+    later_answers-joined_answers (tokens_answers o (t ∷ ts) (x ∷ xs)) (component_answers o Recursive (x ∷ xs) (tokens_answers o (t ∷ ts) (x ∷ xs)))
+    ∙ ap (λ rs. joined_answers rs (component_answers o Recursive xs rs)) (later_answers-tokens_answers o (t ∷ ts) x xs)
+later_answers-tokens_answers o (OneOf entries ∷ ts) x xs = ap (one_character_answers o (OneOf entries) xs) (later_answers-tokens_answers o ts x xs)
+later_answers-tokens_answers o (NoneOf entries ∷ ts) x xs = ap (one_character_answers o (NoneOf entries) xs) (later_answers-tokens_answers o ts x xs)
 
 -- a first token that takes one character
 pub first_answer-one_character_answers : (o : MatchOptions) (t : Token) (ts : List Token) (x : Bool × ℕ) (xs : List (Bool × ℕ)) → first_answer (one_character_answers o t (x ∷ xs) (tokens_answers o ts (x ∷ xs))) ≡ (is_taken o t x && tokens_match_rest o ts xs)

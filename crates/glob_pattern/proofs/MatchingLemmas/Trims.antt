@@ -17,7 +17,7 @@ use Rattle.glob_pattern.specs.Private.Trims.{HasOnes, IsTrim}
 use Rattle.glob_pattern.specs.declared.matcher.Shape.{Shape}
 use Rattle.glob_pattern.specs.declared.matcher.Shape.TheVariants.{One}
 use Rattle.glob_pattern.specs.declared.options.MatchOptions.{MatchOptions}
-use Rattle.glob_pattern.specs.declared.token.Token.TheVariants.{Plain, Any, Run, Deep, Within, Except}
+use Rattle.glob_pattern.specs.declared.token.Token.TheVariants.{Literal, AnyChar, AnySequence, Recursive, OneOf, NoneOf}
 use Rattle.glob_pattern.proofs.MatchingLemmas.Passing.{chars-leading_ascii}
 use Rattle.glob_pattern.proofs.MatchingLemmas.PiecesAndSplits.{Splits-from_TokensMatch, TokensMatch-from_Splits}
 use Rattle.glob_pattern.proofs.MatchingLemmas.Stepping.{opens-suc}
@@ -32,19 +32,19 @@ excluded_alike o false c free = refl
 
 -- so each token takes it alike at all places
 takes_alike : (o : MatchOptions) (opening : Bool) (c : ℕ) (t : Token) → is_excluded_dot o true c ≡ false → takes o opening c t ≡ takes o false c t
-takes_alike o opening c (Plain x) free = refl
-takes_alike o opening c Any free = rw (excluded_alike o opening c free) refl
-takes_alike o opening c Run free = rw (excluded_alike o opening c free) refl
-takes_alike o opening c Deep free = rw (excluded_alike o opening c free) refl
-takes_alike o opening c (Within e) free = rw (excluded_alike o opening c free) refl
-takes_alike o opening c (Except e) free = rw (excluded_alike o opening c free) refl
+takes_alike o opening c (Literal x) free = refl
+takes_alike o opening c AnyChar free = rw (excluded_alike o opening c free) refl
+takes_alike o opening c AnySequence free = rw (excluded_alike o opening c free) refl
+takes_alike o opening c Recursive free = rw (excluded_alike o opening c free) refl
+takes_alike o opening c (OneOf e) free = rw (excluded_alike o opening c free) refl
+takes_alike o opening c (NoneOf e) free = rw (excluded_alike o opening c free) refl
 
 -- two texts that begin with the same characters have the same tables before the place after them
 table_of-same : (o : MatchOptions) (tokens : List Token) (text other : Text) (n : ℕ) → ((j : ℕ) → j < n → slice_index text j ≡ slice_index other j)
     → SameBefore (table_of o tokens text) (table_of o tokens other) n
 unfolding table_of
 table_of-same o tokens text other n same = record {
-  takes = λ t j lt. ap₂ (λ opening c. takes o opening c (get_or tokens t Any)) (opens_same j (omega arith)) (same j lt);
+  takes = λ t j lt. ap₂ (λ opening c. takes o opening c (get_or tokens t AnyChar)) (opens_same j (omega arith)) (same j lt);
   opens = opens_same;
 }
   where
@@ -185,8 +185,8 @@ module _ (o : MatchOptions) (tokens : List Token) (bytes : List ℕ) (start end 
 -- the next first token, and the character that it is compared with
 module _ (o : MatchOptions) (tokens : List Token) (bytes : List ℕ) (start lead : ℕ) (t : Token) (trim : IsTrim o tokens bytes start 0) (ones : HasOnes (map shape_of tokens) lead 0)
     (some : start < lead) (within : start < length bytes) (low : get_or bytes start 0 < 128) (at : t ≡ get_or tokens start t) where
-  token_first : t ≡ get_or tokens start Any
-  token_first = get_or_read tokens start t (omega (arith, ones.within, length-map tokens shape_of)) at Any
+  token_first : t ≡ get_or tokens start AnyChar
+  token_first = get_or_read tokens start t (omega (arith, ones.within, length-map tokens shape_of)) at AnyChar
 
   -- it takes the character
   pub IsTrim-first : takes o (opens bytes start) (get_or bytes start 0) t ≡ true → IsTrim o tokens bytes (start + 1) 0
@@ -217,10 +217,10 @@ module _ (o : MatchOptions) (tokens : List Token) (bytes : List ℕ) (start lead
 module _ (o : MatchOptions) (tokens : List Token) (bytes : List ℕ) (start end trail : ℕ) (t : Token) (trim : IsTrim o tokens bytes start end) (ones : HasOnes (map shape_of tokens) start trail)
     (some : end < trail) (within : start + end < length bytes) (low : get_or bytes (length bytes - 1 - end) 0 < 128)
     (free : is_excluded_dot o true (get_or bytes (length bytes - 1 - end) 0) ≡ false) (at : t ≡ get_or tokens (length tokens - 1 - end) t) where
-  token_last : t ≡ get_or tokens (length tokens - 1 - end) Any
-  token_last = get_or_read tokens (length tokens - 1 - end) t (omega (arith, ones.within, length-map tokens shape_of)) at Any
+  token_last : t ≡ get_or tokens (length tokens - 1 - end) AnyChar
+  token_last = get_or_read tokens (length tokens - 1 - end) t (omega (arith, ones.within, length-map tokens shape_of)) at AnyChar
 
-  alike_last : (opening : Bool) → takes o opening (get_or bytes (length bytes - 1 - end) 0) (get_or tokens (length tokens - 1 - end) Any) ≡ takes o false (get_or bytes (length bytes - 1 - end) 0) t
+  alike_last : (opening : Bool) → takes o opening (get_or bytes (length bytes - 1 - end) 0) (get_or tokens (length tokens - 1 - end) AnyChar) ≡ takes o false (get_or bytes (length bytes - 1 - end) 0) t
   alike_last opening = rw (sym token_last) (takes_alike o opening (get_or bytes (length bytes - 1 - end) 0) t free)
 
   -- it takes the character

@@ -7,7 +7,7 @@ use Rattle.glob_pattern.specs.Matching.Taking.{takes}
 use Rattle.glob_pattern.specs.Grammar.Faults.{Fault}
 use Rattle.glob_pattern.specs.Computing.Reading.{reading_of}
 use Rattle.glob_pattern.specs.declared.options.MatchOptions.{MatchOptions}
-use Rattle.glob_pattern.specs.declared.token.Token.TheVariants.{Plain, Any, Run, Deep, Within, Except}
+use Rattle.glob_pattern.specs.declared.token.Token.TheVariants.{Literal, AnyChar, AnySequence, Recursive, OneOf, NoneOf}
 
 -- the characters of a text, each with whether a component begins at its place
 abbrev pub characters_with_openings : (opening : Bool) → Text → List (Bool × ℕ)
@@ -72,13 +72,13 @@ joined_answers (x ∷ xs) bs = (x || first_answer bs) ∷ joined_answers xs (lat
 -- any token, before the tokens `others` that match the `rests`
 abbrev pub token_answers : MatchOptions → Token → (others : List Token) → List (Bool × ℕ)
     → (rests : List Bool) → List Bool
-token_answers o (Plain c) others xs rests = one_character_answers o (Plain c) xs rests
-token_answers o Any others xs rests = one_character_answers o Any xs rests
-token_answers o Run others xs rests = run_answers o Run xs rests
-token_answers o Deep [] xs rests = run_answers o Deep xs rests
-token_answers o Deep (t ∷ ts) xs rests = joined_answers rests (component_answers o Deep xs rests)
-token_answers o (Within entries) others xs rests = one_character_answers o (Within entries) xs rests
-token_answers o (Except entries) others xs rests = one_character_answers o (Except entries) xs rests
+token_answers o (Literal c) others xs rests = one_character_answers o (Literal c) xs rests
+token_answers o AnyChar others xs rests = one_character_answers o AnyChar xs rests
+token_answers o AnySequence others xs rests = run_answers o AnySequence xs rests
+token_answers o Recursive [] xs rests = run_answers o Recursive xs rests
+token_answers o Recursive (t ∷ ts) xs rests = joined_answers rests (component_answers o Recursive xs rests)
+token_answers o (OneOf entries) others xs rests = one_character_answers o (OneOf entries) xs rests
+token_answers o (NoneOf entries) others xs rests = one_character_answers o (NoneOf entries) xs rests
 
 -- the tokens match each suffix or not
 abbrev pub tokens_answers : MatchOptions → List Token → List (Bool × ℕ) → List Bool

@@ -8,15 +8,15 @@ use Rattle.glob_pattern.specs.Grammar.Brackets.{entries_of}
 use Rattle.glob_pattern.specs.Grammar.Tokens.{Token, tokens_of_units}
 use Rattle.glob_pattern.specs.Grammar.Faults.{Fault, fault_at}
 use Rattle.glob_pattern.specs.declared.token.bracket.Entry.{Entry}
-use Rattle.glob_pattern.specs.declared.token.Token.TheVariants.{Plain, Any, Run, Deep, Within, Except}
+use Rattle.glob_pattern.specs.declared.token.Token.TheVariants.{Literal, AnyChar, AnySequence, Recursive, OneOf, NoneOf}
 
 -- the stars at place f as a unit: its token and where it ends
 abbrev pub stars_at : Text → ℕ → Option (Token × ℕ)
 stars_at text f =
-    if not (has text (f + 1) star) then Some (Run, f + 1)
+    if not (has text (f + 1) star) then Some (AnySequence, f + 1)
     else if has text (f + 2) star || not (opens text f) then None
-    else if has text (f + 2) slash then Some (Deep, f + 3)
-    else if f + 2 == length text then Some (Deep, f + 2)
+    else if has text (f + 2) slash then Some (Recursive, f + 3)
+    else if f + 2 == length text then Some (Recursive, f + 2)
     else None
 
 -- the place of the first `]` from place i on
@@ -36,16 +36,16 @@ bracket_from kind text i =
 -- the bracket at place f as a unit
 abbrev pub bracket_at : Text → ℕ → Option (Token × ℕ)
 bracket_at text f =
-    if has text (f + 1) exclamation_mark then bracket_from Except text (f + 2)
-    else bracket_from Within text (f + 1)
+    if has text (f + 1) exclamation_mark then bracket_from NoneOf text (f + 2)
+    else bracket_from OneOf text (f + 1)
 
 -- the unit at place f, which is before the end and has no star right before it
 abbrev pub unit_at : Text → ℕ → Option (Token × ℕ)
 unit_at text f =
-    if slice_index text f == question_mark then Some (Any, f + 1)
+    if slice_index text f == question_mark then Some (AnyChar, f + 1)
     else if slice_index text f == star then stars_at text f
     else if slice_index text f == open_bracket then bracket_at text f
-    else Some (Plain (slice_index text f), f + 1)
+    else Some (Literal (slice_index text f), f + 1)
 
 -- a token before those that were read
 abbrev pub reading_with_first : Token → Result (List Token) Fault → Result (List Token) Fault

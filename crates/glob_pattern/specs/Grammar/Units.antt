@@ -5,7 +5,7 @@ use Rattle.glob_pattern.specs.Grammar.Characters.{star, question_mark, open_brac
 use Rattle.glob_text.specs.Text.{Text, Has, opens, between}
 use Rattle.glob_pattern.specs.Grammar.Brackets.{entries_of}
 use Rattle.glob_pattern.specs.Grammar.Tokens.{Token, tokens_of_units}
-use Rattle.glob_pattern.specs.declared.token.Token.TheVariants.{Plain, Any, Run, Deep, Within, Except}
+use Rattle.glob_pattern.specs.declared.token.Token.TheVariants.{Literal, AnyChar, AnySequence, Recursive, OneOf, NoneOf}
 
 -- Exactly n stars stand together from place f on: there is none right before or after them.
 abbrev pub StarsAt : Text → ℕ → ℕ → Type 0
@@ -24,20 +24,20 @@ ClosesBefore text i e = (i < e) × Has text (e - 1) close_bracket × NoCloseBetw
 
 -- the unit of this token stands from place f up to place e
 abbrev pub UnitAt : Text → ℕ → Token → ℕ → Type 0
-UnitAt text f (Plain c) e =
+UnitAt text f (Literal c) e =
     Has text f c × (c ≢ question_mark) × (c ≢ star) × (c ≢ open_bracket) × (e ≡ f + 1)
-UnitAt text f Any e = Has text f question_mark × (e ≡ f + 1)
-UnitAt text f Run e = StarsAt text f 1 × (e ≡ f + 1)
+UnitAt text f AnyChar e = Has text f question_mark × (e ≡ f + 1)
+UnitAt text f AnySequence e = StarsAt text f 1 × (e ≡ f + 1)
 -- a `/` that follows belongs to the unit
-UnitAt text f Deep e =
+UnitAt text f Recursive e =
     StarsAt text f 2 × IsTrue (opens text f)
     × (((e ≡ f + 2) × (e ≡ length text)) ⊎ ((e ≡ f + 3) × Has text (f + 2) slash))
 -- `[`, a character that is not `!`, further ones that are not `]`, and `]`
-UnitAt text f (Within entries) e =
+UnitAt text f (OneOf entries) e =
     Has text f open_bracket × (¬ (Has text (f + 1) exclamation_mark)) × ClosesBefore text (f + 2) e
     × (entries ≡ entries_of (between text (f + 1) (e - 1)))
 -- `[!`, a character, further ones that are not `]`, and `]`
-UnitAt text f (Except entries) e =
+UnitAt text f (NoneOf entries) e =
     Has text f open_bracket × Has text (f + 1) exclamation_mark × ClosesBefore text (f + 3) e
     × (entries ≡ entries_of (between text (f + 2) (e - 1)))
 

@@ -4,7 +4,7 @@ use Rattle.glob_text.specs.Characters.{slash, dot}
 use Rattle.glob_pattern.specs.Grammar.Brackets.{is_same, holds}
 use Rattle.glob_pattern.specs.Grammar.Tokens.{Token}
 use Rattle.glob_pattern.specs.declared.options.MatchOptions.{MatchOptions}
-use Rattle.glob_pattern.specs.declared.token.Token.TheVariants.{Plain, Any, Run, Deep, Within, Except}
+use Rattle.glob_pattern.specs.declared.token.Token.TheVariants.{Literal, AnyChar, AnySequence, Recursive, OneOf, NoneOf}
 
 -- the separator rule excludes c from wildcards: it is a `/`
 abbrev pub is_excluded_separator : MatchOptions → ℕ → Bool
@@ -20,9 +20,9 @@ is_free o opening c = not (is_excluded_separator o c) && not (is_excluded_dot o 
 
 -- the token takes the character c; `opening`: a component begins at its place
 abbrev pub takes : MatchOptions → (opening : Bool) → ℕ → Token → Bool
-takes o opening c (Plain x) = is_same o.case_sensitive c x
-takes o opening c Any = is_free o opening c
-takes o opening c Run = is_free o opening c
-takes o opening c Deep = not (is_excluded_dot o opening c)
-takes o opening c (Within entries) = is_free o opening c && holds o.case_sensitive c entries
-takes o opening c (Except entries) = is_free o opening c && not (holds o.case_sensitive c entries)
+takes o opening c (Literal x) = is_same o.case_sensitive c x
+takes o opening c AnyChar = is_free o opening c
+takes o opening c AnySequence = is_free o opening c
+takes o opening c Recursive = not (is_excluded_dot o opening c)
+takes o opening c (OneOf entries) = is_free o opening c && holds o.case_sensitive c entries
+takes o opening c (NoneOf entries) = is_free o opening c && not (holds o.case_sensitive c entries)

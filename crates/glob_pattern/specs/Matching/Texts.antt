@@ -7,7 +7,7 @@ use Rattle.glob_pattern.specs.Grammar.Tokens.{Token}
 use Rattle.glob_pattern.specs.Matching.Taking.{takes}
 use Rattle.glob_pattern.specs.Grammar.Units.{HasTokens}
 use Rattle.glob_pattern.specs.declared.options.MatchOptions.{MatchOptions}
-use Rattle.glob_pattern.specs.declared.token.Token.TheVariants.{Plain, Any, Run, Deep, Within, Except}
+use Rattle.glob_pattern.specs.declared.token.Token.TheVariants.{Literal, AnyChar, AnySequence, Recursive, OneOf, NoneOf}
 
 -- the token takes each character of the piece, which stands from place k of the text on
 abbrev pub TakesPiece : MatchOptions → Text → Token → ℕ → Text → Type 0
@@ -21,12 +21,12 @@ EndsInSlash piece = (front : Text) × (piece ≡ front ++ slash ∷ [])
 -- The form of a token's piece, where `others` are the tokens after it: one character; for `*` any number of them; for
 -- `**` too, but if tokens follow, the piece is empty or ends in `/`.
 abbrev pub HasForm : Token → (others : List Token) → Text → Type 0
-HasForm (Plain c) others piece = length piece ≡ 1
-HasForm Any others piece = length piece ≡ 1
-HasForm Run others piece = Unit {0}
-HasForm Deep others piece = (others ≡ []) ⊎ (piece ≡ []) ⊎ EndsInSlash piece
-HasForm (Within entries) others piece = length piece ≡ 1
-HasForm (Except entries) others piece = length piece ≡ 1
+HasForm (Literal c) others piece = length piece ≡ 1
+HasForm AnyChar others piece = length piece ≡ 1
+HasForm AnySequence others piece = Unit {0}
+HasForm Recursive others piece = (others ≡ []) ⊎ (piece ≡ []) ⊎ EndsInSlash piece
+HasForm (OneOf entries) others piece = length piece ≡ 1
+HasForm (NoneOf entries) others piece = length piece ≡ 1
 
 -- the pieces, from place k of the text on, are one a token, and each is allowed
 abbrev pub AreAllowed : MatchOptions → Text → ℕ → List Token → List Text → Type 0

@@ -8,7 +8,7 @@ use Rattle.glob_pattern.specs.Grammar.Tokens.{Token}
 use Rattle.glob_pattern.specs.Matching.Taking.{takes, is_excluded_separator, is_excluded_dot}
 use Rattle.glob_pattern.specs.declared.options.MatchOptions.{MatchOptions}
 use Rattle.glob_pattern.specs.declared.pattern.char_masks.CharMasks.{CharMasks}
-use Rattle.glob_pattern.specs.declared.token.Token.TheVariants.{Plain, Any, Run, Deep, Within, Except}
+use Rattle.glob_pattern.specs.declared.token.Token.TheVariants.{Literal, AnyChar, AnySequence, Recursive, OneOf, NoneOf}
 use Rattle.glob_pattern.specs.declared.token.bracket.Entry.{Entry}
 use Rattle.glob_pattern.specs.declared.token.bracket.Entry.TheVariants.{Single, Range}
 
@@ -47,39 +47,39 @@ is_beyond (Range x y) = nat_le beyond y
 
 -- The token is a character beyond ASCII, or a bracket with an entry that ends there: it is asked about each of them.
 abbrev pub is_undecided : Token → Bool
-is_undecided (Plain x) = nat_le beyond x
-is_undecided Any = false
-is_undecided Run = false
-is_undecided Deep = false
-is_undecided (Within entries) = list_any is_beyond entries
-is_undecided (Except entries) = list_any is_beyond entries
+is_undecided (Literal x) = nat_le beyond x
+is_undecided AnyChar = false
+is_undecided AnySequence = false
+is_undecided Recursive = false
+is_undecided (OneOf entries) = list_any is_beyond entries
+is_undecided (NoneOf entries) = list_any is_beyond entries
 
 -- the token takes a `/` that the separator rule excludes from wildcards
 abbrev pub takes_separator : Token → Bool
-takes_separator (Plain x) = x == slash
-takes_separator Any = false
-takes_separator Run = false
-takes_separator Deep = true
-takes_separator (Within entries) = false
-takes_separator (Except entries) = false
+takes_separator (Literal x) = x == slash
+takes_separator AnyChar = false
+takes_separator AnySequence = false
+takes_separator Recursive = true
+takes_separator (OneOf entries) = false
+takes_separator (NoneOf entries) = false
 
 -- the token takes a `.` that the dot rule excludes from wildcards
 abbrev pub takes_dot : Token → Bool
-takes_dot (Plain x) = x == dot
-takes_dot Any = false
-takes_dot Run = false
-takes_dot Deep = false
-takes_dot (Within entries) = false
-takes_dot (Except entries) = false
+takes_dot (Literal x) = x == dot
+takes_dot AnyChar = false
+takes_dot AnySequence = false
+takes_dot Recursive = false
+takes_dot (OneOf entries) = false
+takes_dot (NoneOf entries) = false
 
 -- where no rule applies, the token takes all characters but those that it lists: it is a wildcard or a `[!..]`
 abbrev pub takes_all_but_listed : Token → Bool
-takes_all_but_listed (Plain c) = false
-takes_all_but_listed Any = true
-takes_all_but_listed Run = true
-takes_all_but_listed Deep = true
-takes_all_but_listed (Within entries) = false
-takes_all_but_listed (Except entries) = true
+takes_all_but_listed (Literal c) = false
+takes_all_but_listed AnyChar = true
+takes_all_but_listed AnySequence = true
+takes_all_but_listed Recursive = true
+takes_all_but_listed (OneOf entries) = false
+takes_all_but_listed (NoneOf entries) = true
 
 -- the token takes all characters beyond ASCII, and need not be asked about them
 abbrev pub takes_beyond : Token → Bool
@@ -103,10 +103,10 @@ pub record IsListed (old new bit : ℕ) (listed on : Bool) : Type 0 where
 -- test, and of the others that meet the second.
 pub record IsMask (tokens : List Token) (start n end : ℕ) (first later : Token → Bool) (mask : ℕ) : Type 0 where
   pub before : (j : ℕ) → j < 64 → start + j < n
-      → IsBitSet mask j ↔ IsTrue (first (slice_index_or tokens (start + j) Any))
+      → IsBitSet mask j ↔ IsTrue (first (slice_index_or tokens (start + j) AnyChar))
   pub after : (j : ℕ) → j < 64 → n ≤ start + j
       → IsBitSet mask j
-      ↔ ((start + j < end) × IsTrue (later (slice_index_or tokens (start + j) Any)))
+      ↔ ((start + j < end) × IsTrue (later (slice_index_or tokens (start + j) AnyChar)))
 
 -- The masks of the tokens from number `start` up to `end`, of which those before number n are done: each of the others
 -- is in the masks of all classes or of none.
@@ -125,7 +125,7 @@ pub record IsCharMasks (tokens : List Token) (start : ℕ) (masks : CharMasks) :
   pub takes : (o : MatchOptions) (opening : Bool) (c j : ℕ) → j < 63 → start + j < length tokens
       → (c < 128) ⊎ ¬ (IsBitSet masks.undecided j)
       → IsBitSet (mask_at masks.masks (class_of o opening c)) j
-      ↔ IsTrue (takes o opening c (slice_index_or tokens (start + j) Any))
+      ↔ IsTrue (takes o opening c (slice_index_or tokens (start + j) AnyChar))
   pub undecided : (j : ℕ) → j < 64 → IsBitSet masks.undecided j
       → ¬ (IsBitSet (mask_at masks.masks 258) j)
 

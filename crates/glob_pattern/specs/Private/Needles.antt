@@ -5,18 +5,18 @@ use Rattle.std.specs.Int.{bit_at}
 use Rattle.std.specs.Str.{IsAscii}
 use Rattle.glob_pattern.specs.Grammar.Tokens.{Token}
 use Rattle.glob_pattern.specs.declared.pattern.needle.Needle.{Needle}
-use Rattle.glob_pattern.specs.declared.token.Token.TheVariants.{Plain}
+use Rattle.glob_pattern.specs.declared.token.Token.TheVariants.{Literal}
 
 -- the token at the index is a plain ASCII character
 pub record IsPlainAt (tokens : List Token) (index byte : ℕ) : Type 0 where
-  pub rest_is : drop index tokens ≡ Plain byte ∷ drop (index + 1) tokens
+  pub rest_is : drop index tokens ≡ Literal byte ∷ drop (index + 1) tokens
   pub ascii : byte < 128
 
 -- neighbouring tokens are the bytes of the needle, which are ASCII
 pub record IsNeedle (tokens : List Token) (needle : Needle) : Type 0 where
   pub front : List Token
   pub back : List Token
-  pub tokens_are : tokens ≡ front ++ (map Plain (take needle.len needle.bytes) ++ back)
+  pub tokens_are : tokens ≡ front ++ (map Literal (take needle.len needle.bytes) ++ back)
   pub ascii : IsAscii (take needle.len needle.bytes)
 
 -- bit k is set if the kth byte from the place on is x once capital letters are made small

@@ -5,7 +5,7 @@ use Rattle.glob_pattern.specs.Grammar.Tokens.{Token}
 use Rattle.glob_pattern.specs.Matching.Taking.{takes}
 use Rattle.glob_pattern.specs.Matching.Splits.{Table}
 use Rattle.glob_pattern.specs.declared.options.MatchOptions.{MatchOptions}
-use Rattle.glob_pattern.specs.declared.token.Token.TheVariants.{Any}
+use Rattle.glob_pattern.specs.declared.token.Token.TheVariants.{AnyChar}
 
 -- No question is asked past the last token or the last character.
 unfoldable pub table_of : MatchOptions → List Token → Text → Table
@@ -14,10 +14,10 @@ table_of o tokens text = record {
   tokens = length tokens;
   opens = opens text;
   takes = λ token place.
-      takes o (opens text place) (slice_index text place) (slice_index_or tokens token Any);
+      takes o (opens text place) (slice_index text place) (slice_index_or tokens token AnyChar);
 }
 
 -- the token that is the j-th from `start` on takes the character
 abbrev pub TakesBit : MatchOptions → (opening : Bool) → ℕ → List Token → (start j : ℕ) → Type 0
 TakesBit o opening c tokens start j =
-    IsTrue (takes o opening c (slice_index_or tokens (start + j) Any))
+    IsTrue (takes o opening c (slice_index_or tokens (start + j) AnyChar))

@@ -7,7 +7,7 @@ use Rattle.glob_pattern.specs.Matching.Taking.{takes}
 use Rattle.glob_pattern.specs.declared.matcher.Shape.{Shape}
 use Rattle.glob_pattern.specs.declared.matcher.Shape.TheVariants.{One}
 use Rattle.glob_pattern.specs.declared.options.MatchOptions.{MatchOptions}
-use Rattle.glob_pattern.specs.declared.token.Token.TheVariants.{Any}
+use Rattle.glob_pattern.specs.declared.token.Token.TheVariants.{AnyChar}
 
 -- the first `lead` shapes and the last `trail` are of one character, and they do not overlap
 pub record HasOnes (shapes : List Shape) (lead trail : ℕ) : Type 0 where
@@ -23,7 +23,7 @@ pub record IsTrim (o : MatchOptions) (tokens : List Token) (bytes : List ℕ) (s
   pub front : IsAscii (take start bytes)
   pub back : IsAscii (drop (length bytes - end) bytes)
   pub first : (j : ℕ) → j < start
-      → IsTrue (takes o (opens bytes j) (slice_index bytes j) (slice_index_or tokens j Any))
+      → IsTrue (takes o (opens bytes j) (slice_index bytes j) (slice_index_or tokens j AnyChar))
   pub last : (i : ℕ) → i < end → (opening : Bool)
       → IsTrue (takes o opening (slice_index bytes (length bytes - 1 - i))
-      (slice_index_or tokens (length tokens - 1 - i) Any))
+      (slice_index_or tokens (length tokens - 1 - i) AnyChar))

@@ -155,9 +155,9 @@ fn takes_separator<A: Allocator>(token: &Token<Bracket<A>>) -> bool
     ensures { result ≡ takes_separator token.now }
 {
     match token {
-        Token::Plain(x) => *x == '/',
-        Token::Deep => true,
-        Token::Any | Token::Run | Token::Within(_) | Token::Except(_) => false,
+        Token::Literal(x) => *x == '/',
+        Token::Recursive => true,
+        Token::AnyChar | Token::AnySequence | Token::OneOf(_) | Token::NoneOf(_) => false,
     }
 }
 
@@ -165,14 +165,14 @@ fn takes_separator<A: Allocator>(token: &Token<Bracket<A>>) -> bool
 fn takes_dot<A: Allocator>(token: &Token<Bracket<A>>) -> bool
     ensures { result ≡ takes_dot token.now }
 {
-    matches!(token, Token::Plain('.'))
+    matches!(token, Token::Literal('.'))
 }
 
 /// Whether the token takes all characters but those it lists, where no rule applies: it is a wildcard or a `[!..]`.
 fn takes_all_but_listed<A: Allocator>(token: &Token<Bracket<A>>) -> bool
     ensures { result ≡ takes_all_but_listed token.now }
 {
-    !matches!(token, Token::Plain(_) | Token::Within(_))
+    !matches!(token, Token::Literal(_) | Token::OneOf(_))
 }
 
 /// Sets the bit in the masks of the characters of ASCII that the token takes where no rule applies, and in no others.
@@ -189,10 +189,10 @@ fn list_token<A: Allocator>(masks: &mut [u64; 259], bit: usize, token: &Token<Br
     ensures others { (r : ℕ) → 256 ≤ r → mask_at masks.new r ≡ mask_at masks.old r }
 {
     match token {
-        Token::Plain(x) => list_one(masks, bit, *x, true),
-        Token::Any | Token::Run | Token::Deep => {}
-        Token::Within(bracket) => list_all(masks, bit, bracket.entries(), true),
-        Token::Except(bracket) => list_all(masks, bit, bracket.entries(), false),
+        Token::Literal(x) => list_one(masks, bit, *x, true),
+        Token::AnyChar | Token::AnySequence | Token::Recursive => {}
+        Token::OneOf(bracket) => list_all(masks, bit, bracket.entries(), true),
+        Token::NoneOf(bracket) => list_all(masks, bit, bracket.entries(), false),
     }
 }
 
@@ -202,9 +202,9 @@ fn is_undecided<A: Allocator>(token: &Token<Bracket<A>>) -> bool
     ensures { result ≡ is_undecided token.now }
 {
     match token {
-        Token::Plain(x) => !x.is_ascii(),
-        Token::Any | Token::Run | Token::Deep => false,
-        Token::Within(bracket) | Token::Except(bracket) => end_beyond(bracket.entries()),
+        Token::Literal(x) => !x.is_ascii(),
+        Token::AnyChar | Token::AnySequence | Token::Recursive => false,
+        Token::OneOf(bracket) | Token::NoneOf(bracket) => end_beyond(bracket.entries()),
     }
 }
 

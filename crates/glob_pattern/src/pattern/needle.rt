@@ -86,7 +86,7 @@ fn ascii_at<A: Allocator>(tokens: &[Token<Bracket<A>>], index: usize) -> Option<
     ensures { IfSome result (IsPlainAt tokens.now index) }
 {
     match tokens.get(index)? {
-        Token::Plain(c) if c.is_ascii() => Some(*c as u8),
+        Token::Literal(c) if c.is_ascii() => Some(*c as u8),
         _ => None,
     }
 }

@@ -16,7 +16,7 @@ pub fn takes<A: Allocator>(
 ) -> bool
     ensures { result ≡ taking.takes options opening c token.now }
 {
-    if let Token::Plain(x) = token {
+    if let Token::Literal(x) = token {
         return bracket::is_same(options.case_sensitive, c, *x);
     }
     // A copy of the fields, made here alone: a call needs the options in memory.
@@ -39,13 +39,13 @@ fn takes_listed<A: Allocator>(
     ensures { result ≡ taking.takes options opening c token.now }
 {
     match token {
-        Token::Plain(x) => bracket::is_same(options.case_sensitive, c, *x),
-        Token::Any | Token::Run => is_free(options, opening, c),
-        Token::Deep => !is_excluded_dot(options, opening, c),
-        Token::Within(bracket) => {
+        Token::Literal(x) => bracket::is_same(options.case_sensitive, c, *x),
+        Token::AnyChar | Token::AnySequence => is_free(options, opening, c),
+        Token::Recursive => !is_excluded_dot(options, opening, c),
+        Token::OneOf(bracket) => {
             is_free(options, opening, c) && bracket.holds(c, options.case_sensitive)
         }
-        Token::Except(bracket) => {
+        Token::NoneOf(bracket) => {
             is_free(options, opening, c) && !bracket.holds(c, options.case_sensitive)
         }
     }

@@ -2,7 +2,7 @@ use Rattle.std.proofs.Common.{◌≡◌, ℕ, ◌+◌, ◌*◌, ◌∙◌, get_o
 use Rattle.std.specs.Int.{trailing_zeros, w64}
 use Rattle.std.proofs.lemmas.List.{get_or_default}
 use Rattle.glob_pattern.specs.Matching.Taking.{takes}
-use Rattle.glob_pattern.specs.declared.token.Token.TheVariants.{Any}
+use Rattle.glob_pattern.specs.declared.token.Token.TheVariants.{AnyChar}
 use Rattle.std.proofs.lemmas.Bool.{false≢true}
 use Rattle.glob_pattern.specs.Private.TextTable.{TakesBit}
 use Rattle.glob_pattern.proofs.BitLemmas.LowestBits.{lowest_set, IsBitSet-cleared, took-more, next-taken, next-left}
@@ -35,8 +35,8 @@ loop-rest-preserved g c =
     let rest = c.loop-rest.rest in
     let lowest = lowest_set rest (omega arith) (omega arith) in
     let within = (c.requires _ (i.within _ lowest.1)).1 in
-    let value : c.takes.result ≡ takes c.args.options c.args.opening c.args.c (get_or c.args.tokens.now (63 * c.args.word + trailing_zeros w64 rest) Any) =
-    c.takes.ensures ∙ ap (takes c.args.options c.args.opening c.args.c) (c.index-tokens-word.is ∙ get_or_default c.args.tokens.now _ _ Any within) in
+    let value : c.takes.result ≡ takes c.args.options c.args.opening c.args.c (get_or c.args.tokens.now (63 * c.args.word + trailing_zeros w64 rest) AnyChar) =
+    c.takes.ensures ∙ ap (takes c.args.options c.args.opening c.args.c) (c.index-tokens-word.is ∙ get_or_default c.args.tokens.now _ _ AnyChar within) in
     let P : ℕ → Type 0 = λ j. TakesBit c.args.options c.args.opening c.args.c c.args.tokens.now (63 * c.args.word) j in
     record {
       within = λ j s. i.within j ((IsBitSet-cleared _ rest lowest.1 lowest.2 j).0 s).0;

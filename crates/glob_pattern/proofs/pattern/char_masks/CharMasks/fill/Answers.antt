@@ -2,7 +2,7 @@ use Rattle.std.proofs.Common.{◌≡◌, ℕ, ◌<◌, ◌≤◌, Bool, get_or, 
 use Rattle.std.proofs.lemmas.List.{get_or_default, get_or-replicate}
 use Rattle.glob_pattern.specs.Grammar.Tokens.{Token}
 use Rattle.glob_pattern.specs.Private.CharMasks.{ascii_class, mask_at, takes_all_but_listed, IsMask, AreMasks}
-use Rattle.glob_pattern.specs.declared.token.Token.TheVariants.{Any}
+use Rattle.glob_pattern.specs.declared.token.Token.TheVariants.{AnyChar}
 use Rattle.glob_pattern.proofs.MaskLemmas.Classes.{ascii_class-below}
 use Rattle.glob_pattern.proofs.MaskLemmas.Words.{IsMask-zero, IsMask-first, IsMask-next, IsMask-more, IsCharMasks-all}
 use Rattle.glob_pattern.proofs.pattern.char_masks.CharMasks.fill.Goals as goal
@@ -38,7 +38,7 @@ loop-n-preserved g c =
     let end = c.min-end.result in
     let token = c.index-tokens-n.result in
     let from : start ≤ n = omega arith in
-    let is : token ≡ get_or tokens n Any = c.index-tokens-n.is ∙ get_or_default tokens n _ _ (omega arith) in
+    let is : token ≡ get_or tokens n AnyChar = c.index-tokens-n.is ∙ get_or_default tokens n _ _ (omega arith) in
     let before = c.loop-n.invariant in
     let put = c.add.ensures in
     record {

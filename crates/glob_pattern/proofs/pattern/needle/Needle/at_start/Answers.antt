@@ -3,16 +3,16 @@ use Rattle.std.proofs.lemmas.List.{length-set, map-append, take_more_set}
 use Rattle.std.proofs.lemmas.Str.Ascii.{IsAscii-push}
 use Rattle.glob_pattern.specs.Grammar.Tokens.{Token}
 use Rattle.glob_pattern.specs.Private.Needles.{IsPlainAt}
-use Rattle.glob_pattern.specs.declared.token.Token.TheVariants.{Plain}
+use Rattle.glob_pattern.specs.declared.token.Token.TheVariants.{Literal}
 use Rattle.glob_pattern.proofs.pattern.needle.Needle.at_start.Goals as goal
 
 -- one more token is plain
-one_more : (tokens : List Token) (bytes : List ℕ) (n byte : ℕ) → n < length bytes → tokens ≡ map Plain (take n bytes) ++ drop n tokens → IsPlainAt tokens n byte
-    → tokens ≡ map Plain (take (n + 1) (set bytes n byte)) ++ drop (n + 1) tokens
+one_more : (tokens : List Token) (bytes : List ℕ) (n byte : ℕ) → n < length bytes → tokens ≡ map Literal (take n bytes) ++ drop n tokens → IsPlainAt tokens n byte
+    → tokens ≡ map Literal (take (n + 1) (set bytes n byte)) ++ drop (n + 1) tokens
 one_more tokens bytes n byte within e plain =
-    e ∙ ap (λ ts. map Plain (take n bytes) ++ ts) plain.rest_is
-    ∙ sym (append_assoc (map Plain (take n bytes)) (Plain byte ∷ []) (drop (n + 1) tokens))
-    ∙ ap (λ ts. ts ++ drop (n + 1) tokens) (sym (ap (map Plain) (take_more_set bytes n byte within) ∙ map-append Plain (take n bytes) (byte ∷ [])))
+    e ∙ ap (λ ts. map Literal (take n bytes) ++ ts) plain.rest_is
+    ∙ sym (append_assoc (map Literal (take n bytes)) (Literal byte ∷ []) (drop (n + 1) tokens))
+    ∙ ap (λ ts. ts ++ drop (n + 1) tokens) (sym (ap (map Literal) (take_more_set bytes n byte within) ∙ map-append Literal (take n bytes) (byte ∷ [])))
 
 pub loop-len-preserved : goal.loop-len-preserved
 loop-len-preserved g c = record {

@@ -1,7 +1,0 @@
-use Rattle.std.proofs.Common.{sym, ◌∙◌}
-use Rattle.glob_pattern.proofs.GrammarLemmas.Folding.{ends_deep-last}
-use Rattle.glob_pattern.proofs.grammar.ends_deep.Goals as goal
-
-pub returns-in-len1-up : goal.returns-in-len1-up
-returns-in-len1-up g c =
-    c.is_deep.ensures ∙ sym (ends_deep-last c.args.tokens.now c.last-item.result c.in-len1-up.len_at_least c.last-item.is)
