@@ -9,6 +9,9 @@ pub use positions::{Span, decide};
 pub use shape_word::{ShapeWord, shape_words};
 use std::alloc::{AllocError, Allocator};
 
+/// How many tokens a word of 64 bits has: there is one more position than tokens.
+pub const WORD: usize = 63;
+
 /// Which pieces of a text a token may match. The shapes of `**/*a` are `Deep`, `Run` and `One`.
 #[derive(Clone, Copy, Debug, PartialEq, Eq)]
 pub enum Shape {
@@ -84,7 +87,7 @@ pub trait Judge {
         let mut took = 0u64;
         while left != 0 {
             let bit = left.trailing_zeros();
-            if self.takes(63 * word + bit as usize) {
+            if self.takes(WORD * word + bit as usize) {
                 took |= 1 << bit;
             }
             left &= left - 1;
@@ -126,7 +129,7 @@ pub fn run_positions<A: Allocator + Copy, J: Judge>(
     // With at most 63 shapes it succeeds.
     ensures small { length shapes.now < 64 → IsOk result }
 {
-    if shapes.len() < 64 {
+    if shapes.len() <= WORD {
         decide(
             alloc,
             shapes,

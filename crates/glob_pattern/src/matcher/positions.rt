@@ -7,7 +7,7 @@ ghost use Rattle.glob_pattern.specs.Private.Prefixes.{IsAlive, IsTakenPrefix};
 ghost use Rattle.glob_pattern.specs.Private.Positions.{word_end, IsShapeWord, AreShapeWords, IsAliveWord, AreAlive, AfterStep, Keeps, CanRun, WereAsked, HasAsked};
 
 use super::shape_word::{ShapeWord, last_before};
-use super::{Judge, Shape};
+use super::{Judge, Shape, WORD};
 use std::alloc::{AllocError, Allocator};
 
 /// Which part of the shapes a run goes over.
@@ -168,9 +168,9 @@ fn begin(shapes: &[Shape], words: &[ShapeWord], start: usize, opens: bool, alive
 {
     let mut whole = start == 0;
     for n in 0..alive.len() {
-        let word = words[n].step(last_before(start, 63 * n), opens, whole);
+        let word = words[n].step(last_before(start, WORD * n), opens, whole);
         alive[n] = word;
-        whole = word >> 63 != 0;
+        whole = word >> WORD != 0;
     }
 }
 
@@ -185,8 +185,8 @@ fn is_alive(shapes: &[Shape], alive: &[u64], position: usize) -> bool
         → AreAlive table shapes.now k 0 (length alive.now) alive.now
         → IsTrue result ↔ IsAlive table shapes.now position k }
 {
-    let word = position.saturating_sub(1) / 63;
-    (alive[word] >> (position - 63 * word)) & 1 != 0
+    let word = position.saturating_sub(1) / WORD;
+    (alive[word] >> (position - WORD * word)) & 1 != 0
 }
 
 /// Steps the words after the first, which is of the judge's place already. Returns the union of all words.
@@ -224,7 +224,7 @@ fn step_rest<J: Judge>(
     for n in 1..alive.len() {
         let word = words[n];
         let took = judge.takes_each(n, alive[n] & word.tokens);
-        last = word.step(took, opens, last >> 63 != 0);
+        last = word.step(took, opens, last >> WORD != 0);
         alive[n] = last;
         any |= last;
     }

@@ -3,7 +3,7 @@ ghost use Rattle.std.specs.Prelude.{◌≡◌, ℕ, ◌+◌, ◌-◌, ◌<◌, �
 ghost use Rattle.std.specs.Int.{IsBitSet};
 ghost use Rattle.glob_pattern.specs.Private.Positions.{IsShapeWord, AreShapeWords, IsAliveWord, AfterStep};
 
-use super::Shape;
+use super::{Shape, WORD};
 use std::alloc::{AllocError, Allocator};
 
 /// The shapes of 63 neighbouring tokens, or fewer at the end: bit n is of the nth of them.
@@ -24,10 +24,10 @@ pub fn shape_words<A: Allocator + Copy>(
 ) -> Result<Vec<ShapeWord, A>, AllocError>
     ensures { IfOk result (λ words. AreShapeWords shapes.now words.items) }
 {
-    let count = shapes.len().div_ceil(63).max(1);
+    let count = shapes.len().div_ceil(WORD).max(1);
     let mut words = Vec::with_capacity(alloc, count)?;
     for n in 0..count {
-        words.push(ShapeWord::new(shapes, 63 * n))?;
+        words.push(ShapeWord::new(shapes, WORD * n))?;
     }
     Ok(words)
 }
@@ -43,7 +43,7 @@ impl ShapeWord {
             wildcards: 0,
             recursive: 0,
         };
-        for n in start..shapes.len().min(start.saturating_add(63)) {
+        for n in start..shapes.len().min(start.saturating_add(WORD)) {
             word = word.with(n - start, shapes[n], n + 1 < shapes.len());
         }
         word

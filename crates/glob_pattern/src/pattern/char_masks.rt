@@ -11,14 +11,12 @@ ghost use Rattle.glob_pattern.specs.Private.CharMasks.{is_beyond, never, takes_s
 ghost use Rattle.glob_pattern.specs.Private.CharMasks.{takes_all_but_listed};
 ghost use Rattle.glob_pattern.specs.declared.token.bracket.Entry.TheVariants.{Range};
 
+use crate::matcher::WORD;
 use crate::options::MatchOptions;
 use crate::token::Token;
 use crate::token::bracket::{Bracket, Entry};
 use crate::token::taking::is_excluded_dot;
 use std::alloc::{AllocError, Allocator};
-
-/// Tokens in a word: bit n is of the nth of them. The matcher needs one more position than tokens, so they are 63.
-pub const WIDTH: usize = 63;
 
 /// The class of a `/` that the separator rule excludes from wildcards.
 const SEPARATOR: usize = 256;
@@ -68,15 +66,11 @@ pub fn masks_of<A: Allocator + Copy>(
 ) -> Result<Vec<CharMasks, A>, AllocError>
     ensures { IfOk result (λ masks. AreCharMasks tokens.now masks.items) }
 {
-    let count = if used {
-        tokens.len().div_ceil(WIDTH)
-    } else {
-        0
-    };
+    let count = if used { tokens.len().div_ceil(WORD) } else { 0 };
     let mut masks = Vec::with_capacity(alloc, count)?;
     for n in 0..count {
         masks.push(CharMasks::NONE)?;
-        masks[n].fill(tokens, WIDTH * n);
+        masks[n].fill(tokens, WORD * n);
     }
     Ok(masks)
 }
@@ -93,7 +87,7 @@ impl CharMasks {
         requires { start ≤ length tokens.now }
         ensures { IsCharMasks tokens.now start self.new }
     {
-        let end = tokens.len().min(start.saturating_add(WIDTH));
+        let end = tokens.len().min(start.saturating_add(WORD));
         let others = takers_of_others(tokens, start, end);
         self.masks = [others; 259];
         self.undecided = 0;

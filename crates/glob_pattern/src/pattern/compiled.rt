@@ -10,7 +10,7 @@ ghost use Rattle.glob_pattern.specs.Private.TextTable.{table_of};
 ghost use Rattle.glob_pattern.specs.Private.Trims.{IsTrim};
 ghost use Rattle.glob_text.specs.Text.{Text};
 
-use crate::matcher::{Judge, Shape, ShapeWord, Span, decide, shape_words};
+use crate::matcher::{Judge, Shape, ShapeWord, Span, WORD, decide, shape_words};
 use crate::options::MatchOptions;
 use crate::pattern::char_masks::{CharMasks, masks_of};
 use crate::pattern::judge::TextJudge;
@@ -94,7 +94,7 @@ impl<A: Allocator + Copy> Compiled<A> {
         let shapes = shapes_of(alloc, tokens.as_slice())?;
         let lead = leading_ones(shapes.as_slice());
         let trail = trailing_ones(shapes.as_slice(), lead);
-        let words = if shapes.len() < 64 {
+        let words = if shapes.len() <= WORD {
             Vec::new(alloc)
         } else {
             shape_words(alloc, shapes.as_slice())?
@@ -221,7 +221,7 @@ impl<A: Allocator + Copy> Compiled<A> {
         ensures words { AreShapeWords (map shape_of self.now) result.now }
         ensures short { length self.now < 64 → length result.now ≡ 1 }
     {
-        if self.shapes.len() < 64 {
+        if self.shapes.len() <= WORD {
             slice::from_ref(&self.first)
         } else {
             self.words.as_slice()
@@ -237,7 +237,7 @@ impl<A: Allocator + Copy> Compiled<A> {
     {
         if options.require_literal_separator
             || options.require_literal_leading_dot
-            || self.shapes.len() >= 64
+            || self.shapes.len() > WORD
         {
             return 0;
         }

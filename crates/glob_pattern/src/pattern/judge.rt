@@ -9,7 +9,7 @@ ghost use Rattle.glob_pattern.specs.Private.Stepping.{StandsBefore, place_before
 ghost use Rattle.glob_pattern.specs.Private.TextTable.{table_of, TakesBit};
 ghost use Rattle.glob_pattern.specs.Private.CharMasks.{AreCharMasks};
 
-use crate::matcher::Judge;
+use crate::matcher::{Judge, WORD};
 use crate::options::MatchOptions;
 use crate::pattern::char_masks::{BEYOND, CharMasks, class_of};
 use crate::token::Token;
@@ -177,7 +177,7 @@ fn take_left<A: Allocator>(
     let mut took = 0u64;
     while rest != 0 {
         let bit = rest.trailing_zeros();
-        if takes(&tokens[63 * word + bit as usize], options, opening, c) {
+        if takes(&tokens[WORD * word + bit as usize], options, opening, c) {
             took |= 1 << bit;
         }
         rest &= rest - 1;

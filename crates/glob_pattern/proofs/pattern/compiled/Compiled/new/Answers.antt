@@ -2,13 +2,13 @@ use Rattle.std.proofs.Common.{◌<◌, length, arith}
 use Rattle.glob_pattern.specs.Private.Positions.{AreShapeWords}
 use Rattle.glob_pattern.proofs.MatchingLemmas.Needles.{IsNeedle-within}
 use Rattle.glob_pattern.proofs.pattern.compiled.Compiled.new.Goals as goal
-use Rattle.glob_pattern.proofs.pattern.compiled.Compiled.new.Goals.{then-len-lt64, else-len-lt64+in_ok-words}
+use Rattle.glob_pattern.proofs.pattern.compiled.Compiled.new.Goals.{then-len-le-WORD, else-len-le-WORD+in_ok-words}
 
 pub invariant_of-result : goal.invariant_of-result
 invariant_of-result g c =
-    let words : 63 < length c.in_ok-shapes.shapes.items → AreShapeWords c.in_ok-shapes.shapes.items c.if-len-lt64.words.items = elim c.if-len-lt64.branch [
-      | then-len-lt64 w ↦ λ more. absurd (omega (arith, more, w.if-len-lt64.true, c.len.ensures))
-      | else-len-lt64+in_ok-words w ↦ λ more. rw w.words-is (rw w.as_slice-else-len-lt64.ensures.value at w.in_ok-words.ensures)
+    let words : 63 < length c.in_ok-shapes.shapes.items → AreShapeWords c.in_ok-shapes.shapes.items c.if-len-le-WORD.words.items = elim c.if-len-le-WORD.branch [
+      | then-len-le-WORD w ↦ λ more. absurd (omega (arith, more, w.if-len-le-WORD.true, c.len.ensures))
+      | else-len-le-WORD+in_ok-words w ↦ λ more. rw w.words-is (rw w.as_slice-else-len-le-WORD.ensures.value at w.in_ok-words.ensures)
     ] in
     record {
       shaped = rw c.as_slice.ensures.value at c.in_ok-shapes.ensures;
