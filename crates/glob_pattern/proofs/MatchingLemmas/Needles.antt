@@ -1,11 +1,11 @@
 -- Each text that a pattern matches contains the pattern's needle, in either case.
-use Rattle.std.proofs.Common.{◌≡◌, ℕ, suc, ◌<◌, Bool, not, ◌&&◌, ◌==◌, List, [], ◌∷◌, ◌++◌, length, map, take, drop, IsTrue, ⊎_elim, refl, sym, ap, ap₂, subst, ◌∙◌, arith, chars, append_assoc}
+use Rattle.std.proofs.Common.{◌≡◌, ℕ, suc, ◌+◌, ◌⊎◌, Bool, not, ◌&&◌, ◌==◌, List, [], ◌∷◌, ◌++◌, length, map, take, drop, IsTrue, ⊎_elim, refl, sym, ap, ap₂, subst, ◌∙◌, arith, chars, append_assoc, append-nil}
 use Rattle.std.proofs.Math.Seq.{drop-append_seam, take-append_seam}
 use Rattle.std.proofs.lemmas.Bool.{or_cases, and_parts, eqb-true, ltb-true}
 use Rattle.std.proofs.lemmas.List.{length-append, length-map, map-append, take-append-drop}
 use Rattle.std.proofs.lemmas.Str.{encode_ascii, encodes-append, encodes-chars}
 use Rattle.std.specs.Char.{is_ascii, to_ascii_lowercase}
-use Rattle.std.specs.Str.{IsAscii, IsUtf8, encode_utf8_all}
+use Rattle.std.specs.Str.{IsUtf8, encode_utf8_all}
 use lib.Utf8.{encode}
 use Rattle.glob_text.specs.Text.{Text}
 use Rattle.glob_pattern.specs.Grammar.Brackets.{is_same}
@@ -23,34 +23,71 @@ pub IsNeedle-within : (tokens : List Token) (needle : Needle) (start n : ℕ) �
 IsNeedle-within tokens needle start n part = record {
   front = take start tokens ++ part.front;
   back = part.back ++ drop n (drop start tokens);
+  plain = part.plain;
   tokens_are =
-      let plain = map Literal (take needle.len needle.bytes) in
-      let split : tokens ≡ take start tokens ++ ((part.front ++ (plain ++ part.back)) ++ drop n (drop start tokens)) =
+      let split : tokens ≡ take start tokens ++ ((part.front ++ (map Literal part.plain ++ part.back)) ++ drop n (drop start tokens)) =
       sym (take-append-drop start tokens) ∙ ap (λ ts. take start tokens ++ ts) (sym (take-append-drop n (drop start tokens)) ∙ ap (λ ts. ts ++ drop n (drop start tokens)) part.tokens_are) in
       simp append_assoc (simp append_assoc at split);
-  ascii = part.ascii;
+  bytes_are = part.bytes_are;
 }
 
--- a character that is the same as one of ASCII is one byte, equal to it once capital letters are made small
-small-same : (case : Bool) (c x : ℕ) → x < 128 → IsTrue (is_same case c x) → map to_ascii_lowercase (encode c) ≡ to_ascii_lowercase x ∷ []
-small-same case c x low same =
+-- the tokens before an offset end in those of the needle
+abbrev pub EndsIn : List Token → ℕ → Needle → Type 0
+EndsIn tokens i needle = (is : IsNeedle tokens needle) × (is.back ≡ drop i tokens)
+
+pub EndsIn-none : (tokens : List Token) (i : ℕ) (needle : Needle) → needle.len ≡ 0 → EndsIn tokens i needle
+EndsIn-none tokens i needle none =
+    (record { front = take i tokens; plain = []; back = drop i tokens; tokens_are = sym (take-append-drop i tokens); bytes_are = ap (λ n. take n needle.bytes) none }, refl)
+
+-- one more plain token may be added, or stand alone
+pub EndsIn-with : (tokens : List Token) (i c : ℕ) (needle with : Needle) → drop i tokens ≡ Literal c ∷ drop (i + 1) tokens → EndsIn tokens i needle
+    → (take with.len with.bytes ≡ take needle.len needle.bytes ++ encode c) ⊎ (take with.len with.bytes ≡ encode c) → EndsIn tokens (i + 1) with
+EndsIn-with tokens i c needle with next (is, back) =
     ⊎_elim
-    (λ is. let e = eqb-true c x is in ap (map to_ascii_lowercase) (encode_ascii c (omega arith)) ∙ ap (λ y. to_ascii_lowercase y ∷ []) e)
+    (λ added. (
+      record {
+        front = is.front;
+        plain = is.plain ++ c ∷ [];
+        back = drop (i + 1) tokens;
+        tokens_are = is.tokens_are ∙ ap (λ ts. is.front ++ (map Literal is.plain ++ ts)) (back ∙ next)
+            ∙ ap (λ ts. is.front ++ ts) (sym (ap (λ ts. ts ++ drop (i + 1) tokens) (map-append Literal is.plain (c ∷ [])) ∙ append_assoc (map Literal is.plain) (Literal c ∷ []) (drop (i + 1) tokens)));
+        bytes_are = added ∙ ap₂ (λ a b. a ++ b) is.bytes_are (sym (append-nil (encode c))) ∙ sym (encodes-append is.plain (c ∷ []));
+      },
+      refl,
+    ))
+    (λ alone. (
+      record {
+        front = take i tokens;
+        plain = c ∷ [];
+        back = drop (i + 1) tokens;
+        tokens_are = sym (take-append-drop i tokens) ∙ ap (λ ts. take i tokens ++ ts) next;
+        bytes_are = alone ∙ sym (append-nil (encode c));
+      },
+      refl,
+    ))
+
+-- characters that are the same have the same bytes once capital letters are made small
+small-same : (case : Bool) (c x : ℕ) → IsTrue (is_same case c x) → map to_ascii_lowercase (encode c) ≡ map to_ascii_lowercase (encode x)
+small-same case c x same =
+    ⊎_elim
+    (λ is. ap (λ y. map to_ascii_lowercase (encode y)) (eqb-true c x is))
     (λ both.
     let (ascii, small) = and_parts (not case && is_ascii c && is_ascii x) (to_ascii_lowercase c == to_ascii_lowercase x) both in
-    let first = (and_parts (not case) (is_ascii c) (and_parts (not case && is_ascii c) (is_ascii x) ascii).0).1 in
-    ap (map to_ascii_lowercase) (encode_ascii c (ltb-true c 128 first)) ∙ ap (λ y. y ∷ []) (eqb-true (to_ascii_lowercase c) (to_ascii_lowercase x) small))
+    let (first, second) = and_parts (not case && is_ascii c) (is_ascii x) ascii in
+    ap (map to_ascii_lowercase) (encode_ascii c (ltb-true c 128 (and_parts (not case) (is_ascii c) first).1))
+    ∙ ap (λ y. y ∷ []) (eqb-true (to_ascii_lowercase c) (to_ascii_lowercase x) small)
+    ∙ sym (ap (map to_ascii_lowercase) (encode_ascii x (ltb-true x 128 second))))
     (or_cases (c == x) (not case && is_ascii c && is_ascii x && to_ascii_lowercase c == to_ascii_lowercase x) same)
 
 -- and so for whole texts
-small-SameTexts : (case : Bool) (xs ys : Text) → IsAscii ys → SameTexts case xs ys → map to_ascii_lowercase (encode_utf8_all xs) ≡ map to_ascii_lowercase ys
-small-SameTexts case [] [] low same = refl
-small-SameTexts case [] (y ∷ ys) low same = absurd (omega arith)
-small-SameTexts case (x ∷ xs) [] low same = absurd (omega arith)
-small-SameTexts case (x ∷ xs) (y ∷ ys) low (lengths, each) =
+small-SameTexts : (case : Bool) (xs ys : Text) → SameTexts case xs ys → map to_ascii_lowercase (encode_utf8_all xs) ≡ map to_ascii_lowercase (encode_utf8_all ys)
+small-SameTexts case [] [] same = refl
+small-SameTexts case [] (y ∷ ys) same = absurd (omega arith)
+small-SameTexts case (x ∷ xs) [] same = absurd (omega arith)
+small-SameTexts case (x ∷ xs) (y ∷ ys) (lengths, each) =
     map-append to_ascii_lowercase (encode x) (encode_utf8_all xs)
-    ∙ ap₂ (λ a b. a ++ b) (small-same case x y (low 0) (each 0 (omega arith)))
-    (small-SameTexts case xs ys (λ i. low (suc i)) (omega arith, λ k l. each (suc k) (omega arith)))
+    ∙ ap₂ (λ a b. a ++ b) (small-same case x y (each 0 (omega arith))) (small-SameTexts case xs ys (omega arith, λ k l. each (suc k) (omega arith)))
+    ∙ sym (map-append to_ascii_lowercase (encode y) (encode_utf8_all ys))
 
 -- where bytes split around the needle, it stands
 StandsAt-from_split : (before here after bytes needle : List ℕ) → bytes ≡ before ++ (here ++ after) → map to_ascii_lowercase here ≡ map to_ascii_lowercase needle
@@ -68,13 +105,12 @@ StandsAt-from_split before here after bytes needle split small =
 pub ContainsSmall-from_needle : (o : MatchOptions) (tokens : List Token) (needle : Needle) (bytes : List ℕ) → IsNeedle tokens needle → IsUtf8 bytes
     → TokensMatch o tokens (chars bytes) → ContainsSmall bytes (take needle.len needle.bytes)
 ContainsSmall-from_needle o tokens needle bytes is utf8 match =
-    let plain = take needle.len needle.bytes in
-    let stands : StandsIn o.case_sensitive is.front plain is.back (chars bytes) =
-    plain_tokens_stand o is.front plain is.back (chars bytes) (subst (λ ts. TokensMatch o ts (chars bytes)) is.tokens_are match) in
+    let stands : StandsIn o.case_sensitive is.front is.plain is.back (chars bytes) =
+    plain_tokens_stand o is.front is.plain is.back (chars bytes) (subst (λ ts. TokensMatch o ts (chars bytes)) is.tokens_are match) in
     record {
       offset = length (encode_utf8_all stands.before);
-      stands = StandsAt-from_split (encode_utf8_all stands.before) (encode_utf8_all stands.here) (encode_utf8_all stands.after) bytes plain
+      stands = StandsAt-from_split (encode_utf8_all stands.before) (encode_utf8_all stands.here) (encode_utf8_all stands.after) bytes (take needle.len needle.bytes)
           (sym (encodes-chars bytes utf8) ∙ ap encode_utf8_all stands.split ∙ encodes-append stands.before (stands.here ++ stands.after)
           ∙ ap (λ xs. encode_utf8_all stands.before ++ xs) (encodes-append stands.here stands.after))
-          (small-SameTexts o.case_sensitive stands.here plain is.ascii stands.same);
+          (small-SameTexts o.case_sensitive stands.here is.plain stands.same ∙ ap (map to_ascii_lowercase) (sym is.bytes_are));
     }

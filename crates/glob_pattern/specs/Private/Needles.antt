@@ -1,23 +1,19 @@
 -- Bytes of a pattern that stand in each text that it matches.
-use Rattle.std.specs.Prelude.{◌≡◌, ℕ, ◌+◌, ◌<◌, ◌≤◌, List, ◌∷◌, ◌++◌, length, map, take, drop, slice_index_or}
+use Rattle.std.specs.Prelude.{◌≡◌, ℕ, ◌+◌, ◌<◌, ◌≤◌, List, ◌++◌, length, map, take, drop, encode_utf8_all, slice_index_or}
 use Rattle.std.specs.Char.{to_ascii_lowercase}
 use Rattle.std.specs.Int.{bit_at}
-use Rattle.std.specs.Str.{IsAscii}
+use Rattle.glob_text.specs.Text.{Text}
 use Rattle.glob_pattern.specs.Grammar.Tokens.{Token}
 use Rattle.glob_pattern.specs.declared.pattern.needle.Needle.{Needle}
 use Rattle.glob_pattern.specs.declared.token.Token.TheVariants.{Literal}
 
--- the token at the index is a plain ASCII character
-pub record IsPlainAt (tokens : List Token) (index byte : ℕ) : Type 0 where
-  pub rest_is : drop index tokens ≡ Literal byte ∷ drop (index + 1) tokens
-  pub ascii : byte < 128
-
--- neighbouring tokens are the bytes of the needle, which are ASCII
+-- neighbouring tokens are plain characters, of which the needle has the bytes
 pub record IsNeedle (tokens : List Token) (needle : Needle) : Type 0 where
   pub front : List Token
+  pub plain : Text
   pub back : List Token
-  pub tokens_are : tokens ≡ front ++ (map Literal (take needle.len needle.bytes) ++ back)
-  pub ascii : IsAscii (take needle.len needle.bytes)
+  pub tokens_are : tokens ≡ front ++ (map Literal plain ++ back)
+  pub bytes_are : take needle.len needle.bytes ≡ encode_utf8_all plain
 
 -- bit k is set if the kth byte from the place on is x once capital letters are made small
 pub record AreLanes (bytes : List ℕ) (from x lanes : ℕ) : Type 0 where

@@ -1,6 +1,6 @@
 //! Bytes of a pattern that each text it matches contains, searched for sixteen offsets at a time.
-ghost use Rattle.std.specs.Prelude.{◌<◌, ◌≤◌, length, take, IsTrue, IfSome};
-ghost use Rattle.glob_pattern.specs.Private.Needles.{IsNeedle, IsPlainAt, AreLanes, StandsAt, ContainsSmall};
+ghost use Rattle.std.specs.Prelude.{◌≡◌, ◌<◌, ◌≤◌, ◌⊎◌, ◌++◌, length, take, encode_utf8, IsTrue};
+ghost use Rattle.glob_pattern.specs.Private.Needles.{IsNeedle, AreLanes, StandsAt, ContainsSmall};
 
 use crate::token::Token;
 use crate::token::bracket::Bracket;
@@ -27,26 +27,42 @@ impl Needle {
         len: 0,
     };
 
-    /// The longest stretch of neighbouring plain ASCII tokens, cut to 16 bytes. If none has two or more, it is of no use,
-    /// and is not searched for.
+    /// The UTF-8 of the longest stretch of neighbouring literals, of which one past 16 bytes is cut into pieces. If
+    /// none has two bytes or more, it is of no use, and is not searched for.
     pub fn of<A: Allocator>(tokens: &[Token<Bracket<A>>]) -> Needle
         ensures { IsNeedle tokens.now result }
     {
-        Needle::at_start(&tokens[longest_stretch(tokens)..])
+        let mut longest = Needle::NONE;
+        let mut needle = Needle::NONE;
+        for token in tokens {
+            needle = match token {
+                Token::Literal(c) => needle.with(*c),
+                _ => Needle::NONE,
+            };
+            if needle.len > longest.len {
+                longest = needle;
+            }
+        }
+        longest
     }
 
-    /// The plain ASCII tokens that the tokens begin with, cut to 16 bytes.
-    fn at_start<A: Allocator>(tokens: &[Token<Bracket<A>>]) -> Needle
-        ensures { IsNeedle tokens.now result }
+    /// The bytes and the character after them, or the character alone if these are more than 16 bytes.
+    fn with(self, c: char) -> Needle
+        requires few { self.len ≤ 16 }
+        ensures few { result.len ≤ 16 }
+        ensures bytes { (take result.len result.bytes ≡ take self.len self.bytes ++ encode_utf8 c)
+            ⊎ (take result.len result.bytes ≡ encode_utf8 c) }
     {
-        let mut bytes = [0; LANES];
-        let mut len = 0;
-        while len < LANES
-            && let Some(byte) = ascii_at(tokens, len)
-        {
-            bytes[len] = byte;
-            len += 1;
-        }
+        let mut buffer = [0; 4];
+        let char = c.encode_utf8(&mut buffer).as_bytes();
+        let mut bytes = self.bytes;
+        let start = if self.len + char.len() > LANES {
+            0
+        } else {
+            self.len
+        };
+        let len = start + char.len();
+        bytes[start..len].copy_from_slice(char);
         Needle { bytes, len }
     }
 
@@ -60,34 +76,6 @@ impl Needle {
             return true;
         };
         needle.len() < 2 || bytes.len() < LANES || may_hold(bytes, needle)
-    }
-}
-
-/// Where the longest stretch of plain ASCII tokens starts, if one has two or more.
-fn longest_stretch<A: Allocator>(tokens: &[Token<Bracket<A>>]) -> usize
-    ensures { result ≤ length tokens.now }
-{
-    let mut longest = 0;
-    let mut most = 1;
-    let mut start = 0;
-    for i in 0..tokens.len() {
-        if ascii_at(tokens, i).is_none() {
-            start = i + 1;
-        } else if i - start >= most {
-            most = i - start + 1;
-            longest = start;
-        }
-    }
-    longest
-}
-
-/// The token at an index as a byte, if it is a plain ASCII character.
-fn ascii_at<A: Allocator>(tokens: &[Token<Bracket<A>>], index: usize) -> Option<u8>
-    ensures { IfSome result (IsPlainAt tokens.now index) }
-{
-    match tokens.get(index)? {
-        Token::Literal(c) if c.is_ascii() => Some(*c as u8),
-        _ => None,
     }
 }
 
