@@ -5,8 +5,10 @@ pub mod Naming
 pub mod Opening
 pub mod Stacking
 pub mod Stepping
-pub mod Taking
+pub mod Coursing
+pub mod Driving
 pub mod Gathering
+pub mod Telling
 pub mod Reading
 pub mod Literals
 pub mod SameTexts

@@ -1,4 +1,5 @@
 pub mod Components
+pub mod Courses
 pub mod GlobCauses
 pub mod GlobErrors
 pub mod Goal
@@ -7,6 +8,8 @@ pub mod Listing
 pub mod Marks
 pub mod Order
 pub mod Private
+pub mod Questions
 pub mod WalkGoals
+pub mod Told
 pub mod Walks
 pub mod Words

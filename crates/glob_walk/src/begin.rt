@@ -1,15 +1,19 @@
 //! How a walk begins.
-ghost use Rattle.std.specs.Prelude.{◌≡◌, None, Some, IfOk, IfErr};
+ghost use Rattle.std.specs.Prelude.{◌≡◌, [], None, Some, IfOk, IfErr};
 ghost use Rattle.glob_tree.specs.Content.{Content};
 ghost use Rattle.glob_tree.specs.Answers.{IsTold};
 ghost use Rattle.glob_walk.specs.Components.{start as start_text, walk_fault};
+ghost use Rattle.glob_walk.specs.Courses.{IsFreshCourse, left_of};
 ghost use Rattle.glob_walk.specs.Listing.{listing};
+ghost use Rattle.glob_walk.specs.Told.{HasTold};
 ghost use Rattle.glob_walk.specs.Walks.{IsFresh, RefusesWith};
 
+use crate::course::Course;
 use crate::paths::Paths;
 use crate::plan::Plan;
 use glob_pattern::{MatchOptions, PatternRefusal};
 use glob_tree::Tree;
+use std::alloc::Allocator;
 
 /// Walks `tree` after the components of a pattern, with at most `limit` units of work: one for each lookup, one for
 /// each listing, and one for each entry of a listing. Nothing is looked up before the first call of `next`.
@@ -20,7 +24,6 @@ use glob_tree::Tree;
 /// A pattern with a fault is refused with `Syntax`: the fault of the whole text, or else that of the first component
 /// that has one, as where a bracket holds `/`. Its place counts characters, from the start of the text or of that
 /// component: for `x/a[/]b` it is 1. Any pattern may be refused with `Memory`. The tree is then dropped.
-#[tactic(auto, using(crate::proofs::WalkLemmas::Merging::merged_listing))]
 pub fn glob_in<T: Tree>(
     alloc: T::Alloc,
     tree: T,
@@ -34,9 +37,30 @@ pub fn glob_in<T: Tree>(
     ensures listing { (c : Content) → IsTold (T.tells tree) c
         → IfOk result (λ p. p.left ≡ Some (listing c options pattern.now)) }
 {
+    let course = course_in(alloc, pattern, options, limit)?;
+    Ok(Paths::new(tree, course))
+}
+
+/// A walk without a tree, after the components of a pattern: whoever calls its `next` answers what it asks. Its limit, its
+/// refusals and what it gives are those of [`glob_in`].
+#[tactic(auto, using(crate::proofs::WalkLemmas::Merging::merged_listing))]
+pub fn course_in<A: Allocator + Copy>(
+    alloc: A,
+    pattern: &str,
+    options: MatchOptions,
+    limit: u64,
+) -> Result<Course<A>, PatternRefusal>
+    ensures accepted { IfOk result (λ _. walk_fault pattern.now ≡ None) }
+    ensures refused { IfErr result (RefusesWith (walk_fault pattern.now)) }
+    ensures fresh { IfOk result (IsFreshCourse limit) }
+    ensures listing { IfOk result
+        (λ walk. (c : Content) → left_of c walk ≡ listing c options pattern.now) }
+    ensures begun { IfOk result
+        (λ walk. (c : Content) → HasTold (listing c options pattern.now) c [] walk) }
+{
     let plan = Plan::read(alloc, pattern, options)?;
     let start = String::from_str(alloc, start(pattern))?;
-    Ok(Paths::new(tree, plan, start, limit))
+    Ok(Course::new(plan, start, limit))
 }
 
 /// The path at which a walk starts: the root, or the current directory.

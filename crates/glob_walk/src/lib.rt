@@ -2,6 +2,7 @@
 #![tactic(auto)]
 
 mod begin;
+mod course;
 mod disk;
 mod error;
 mod frame;
@@ -18,7 +19,8 @@ mod turn;
 mod walk;
 mod walker;
 
-pub use begin::glob_in;
+pub use begin::{course_in, glob_in};
+pub use course::{Course, Step};
 pub use disk::{Disk, glob, glob_with};
 pub use error::{GlobCause, GlobError, GlobResult};
 pub use paths::Paths;

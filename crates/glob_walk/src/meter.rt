@@ -1,101 +1,60 @@
-//! A tree that is asked within a limit.
+//! The limit of a walk, and what is charged to it.
 //!
 //! Each unit is charged before the question that it pays for, and a question that the limit does not allow is not asked.
-//! Only the entries of a listing are charged after it, since they cannot be counted before. All that a walk asks of its
-//! tree is asked here.
-ghost use Rattle.std.specs.Prelude.{◌≡◌, ◌+◌, ◌≤◌, IfOk, IfErr, vec_len, IsPermutation};
+//! Only the entries of a listing are charged after it, since they cannot be counted before.
+ghost use Rattle.std.specs.Prelude.{◌≡◌, ◌+◌, ◌<◌, ◌≤◌, true, false, vec_len, IsPermutation};
 ghost use Rattle.std.specs.List.Sorted.{IsSortedByKey};
 ghost use Rattle.std.specs.Cmp.Lexicographic.{slice_cmp};
 ghost use Rattle.std.specs.Ordering.{nat_cmp};
-ghost use Rattle.glob_tree.specs.Content.{Content, look_result, list_result};
-ghost use Rattle.glob_tree.specs.Answers.{IsTold, entries_of};
-ghost use Rattle.glob_walk.specs.Private.Meters.{IsExact, ListCounts, IsInOrder, IsUnlisted, IsStopped};
 
-use glob_tree::{Entry, ListError, Look, Tree};
+use glob_tree::Entry;
 use std::alloc::Allocator;
-use std::io;
 
-/// A tree, and how many units of a limit were spent on it: never more than the limit.
-#[derive(Drop)]
-pub struct Meter<T> {
-    pub tree: T,
+/// How many units of a limit were spent: never more than the limit.
+#[derive(Clone, Copy)]
+pub struct Meter {
     pub limit: u64,
     pub spent: u64,
 }
 
-/// Why a path was not looked up: no unit was left, or there was an allocation failure.
-#[derive(Drop)]
-pub enum Stop {
-    Limit,
-    Memory,
-}
-
-/// Why a directory was not listed: the tree refused, the units that were left do not pay for it, or there was an
-/// allocation failure.
-#[derive(Drop)]
-pub enum Unlisted {
-    Read(io::Error),
-    Limit,
-    Memory,
-}
-
-impl<T: Tree> Meter<T> {
-    /// Looks a path up, for one unit. With no unit left the tree is not asked.
-    pub fn look(&mut self, path: &str) -> Result<Look, Stop>
+impl Meter {
+    /// Charges one unit, if one is left.
+    pub fn charge(&mut self) -> bool
         requires { self.old.spent ≤ self.old.limit }
-        ensures told { T.tells self.new.tree ≡ T.tells self.old.tree }
-        ensures counts { IsExact T.asks self.old self.new }
-        ensures one { IfOk result (λ _. self.new.spent ≡ self.old.spent + 1) }
-        ensures seen { IfOk result
-            (λ seen. (c : Content) → IsTold (T.tells self.old.tree) c
-            → seen ≡ look_result c path.now) }
-        ensures stop { IfErr result (IsStopped self.old self.new) }
+        ensures limit { self.new.limit ≡ self.old.limit }
+        ensures within { self.new.spent ≤ self.new.limit }
+        ensures charged { result ≡ true → self.new.spent ≡ self.old.spent + 1 }
+        ensures refused { result ≡ false
+            → (self.new.spent ≡ self.old.spent) × (self.old.spent ≡ self.old.limit) }
     {
         if self.spent >= self.limit {
-            return Err(Stop::Limit);
+            return false;
         }
         self.spent += 1;
-        self.tree.look(path).map_err(|_| Stop::Memory)
+        true
     }
 
-    /// Lists a directory, for one unit and one for each entry: its entries, in ascending byte order of names. With no unit
-    /// left the tree is not asked; where the entries pass the limit, all of it is spent and they are dropped.
-    pub fn list(&mut self, path: &str) -> Result<Vec<Entry<T::Alloc>, T::Alloc>, Unlisted>
+    /// Charges a unit for each of `count` entries. Where they pass the limit, all of it is spent.
+    pub fn charge_entries(&mut self, count: usize) -> bool
         requires { self.old.spent ≤ self.old.limit }
-        ensures told { T.tells self.new.tree ≡ T.tells self.old.tree }
-        ensures counts { IfOk result (λ _. IsExact T.asks self.old self.new) }
-        ensures units { IfOk result
-            (λ entries. self.new.spent ≡ self.old.spent + 1 + vec_len entries) }
-        ensures failed { IfErr result (λ e. ListCounts T.asks self.old e self.new) }
-        ensures entries { IfOk result
-            (λ v. (c : Content) → IsTold (T.tells self.old.tree) c
-            → IsInOrder (list_result c path.now) (entries_of v.items)) }
-        ensures fault { IfErr result
-            (λ e. (c : Content) → IsTold (T.tells self.old.tree) c
-            → IsUnlisted (list_result c path.now) self.old.spent self.old.limit e) }
+        ensures limit { self.new.limit ≡ self.old.limit }
+        ensures within { self.new.spent ≤ self.new.limit }
+        ensures charged { result ≡ true → self.new.spent ≡ self.old.spent + count }
+        ensures refused { result ≡ false
+            → (self.new.spent ≡ self.old.limit) × (self.old.limit < self.old.spent + count) }
     {
-        if self.spent >= self.limit {
-            return Err(Unlisted::Limit);
-        }
-        self.spent += 1;
-        let mut entries = match self.tree.list(path) {
-            Ok(entries) => entries,
-            Err(ListError::Read(e)) => return Err(Unlisted::Read(e)),
-            Err(ListError::Memory) => return Err(Unlisted::Memory),
-        };
-        let count = entries.len() as u64;
+        let count = count as u64;
         if count > self.limit - self.spent {
             self.spent = self.limit;
-            return Err(Unlisted::Limit);
+            return false;
         }
         self.spent += count;
-        sort_entries(&mut entries);
-        Ok(entries)
+        true
     }
 }
 
 /// Sorts entries by the bytes of their names, in place.
-fn sort_entries<A: Allocator>(entries: &mut Vec<Entry<A>, A>)
+pub fn sort_entries<A: Allocator>(entries: &mut Vec<Entry<A>, A>)
     ensures permutation { IsPermutation entries.old.items entries.new.items }
     ensures len { vec_len entries.new ≡ vec_len entries.old }
     ensures sorted { IsSortedByKey (λ e. e.name) (slice_cmp nat_cmp) entries.new.items }

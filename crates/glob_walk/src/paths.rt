@@ -1,16 +1,12 @@
 //! The items of a walk, one after another.
-ghost use Rattle.std.specs.Prelude.{◌≡◌, ◌≤◌, ◌+◌, true, Some, string_bytes};
+ghost use Rattle.std.specs.Prelude.{◌≡◌, ◌≤◌, ◌+◌, Some};
 ghost use Rattle.glob_tree.specs.Content.{Content};
 ghost use Rattle.glob_tree.specs.Answers.{IsTold};
-ghost use Rattle.glob_walk.specs.Listing.{look_up, enter};
+ghost use Rattle.glob_walk.specs.Courses.{IsFreshCourse, left_of};
 ghost use Rattle.glob_walk.specs.Walks.{IsFresh};
 
+use crate::course::{Course, Step};
 use crate::error::GlobResult;
-use crate::meter::Meter;
-use crate::plan::Plan;
-use crate::stack::Stack;
-use crate::task::{Sight, Task, Wanted};
-use crate::walker::Walker;
 use glob_tree::Tree;
 use std::marker::Model;
 
@@ -21,58 +17,39 @@ use std::marker::Model;
 /// an allocation failure. After a refusal, and after the first `None`, only `None` follows.
 #[derive(Drop)]
 pub struct Paths<T: Tree> {
-    walker: Walker<T>,
-    /// How many items were given: up to one more than the limit, so it may be 2^64.
-    given: u128,
-    over: bool,
+    tree: T,
+    course: Course<T::Alloc>,
 }
 
 impl<T: Tree> Model for Paths<T> {
     ghost use Rattle.std.specs.Prelude.{option_map};
-    ghost use Rattle.glob_walk.specs.Private.Walking.{IsGood};
+    ghost use Rattle.glob_walk.specs.Courses.{left_of};
+    ghost use Rattle.glob_walk.specs.Private.Walking.{IsDriven};
     ghost use Rattle.glob_walk.specs.Walks.{Walking};
-    ghost use Rattle.glob_walk.specs.Private.Stacks.{left};
 
     ghost Value = { Walking T };
 
     ghost view = { λ p. record {
-      tree = p.walker.meter.tree;
-      limit = p.walker.meter.limit;
-      spent = p.walker.meter.spent;
-      given = p.given;
-      over = p.over;
-      left = option_map (λ c. left c p.walker.stack) (T.tells p.walker.meter.tree);
+      tree = p.tree;
+      limit = p.course.limit;
+      spent = p.course.spent;
+      given = p.course.given;
+      over = p.course.over;
+      left = option_map (λ c. left_of c p.course) (T.tells p.tree);
     } };
 
-    ghost invariant = { λ p. IsGood T.tells p.walker.meter p.walker.stack p.given p.over };
+    ghost invariant = { λ p. IsDriven T.tells p.tree p.course };
 }
 
 impl<T: Tree> Paths<T> {
-    /// A walk from a path, which is looked up first.
-    pub(crate) fn new(tree: T, plan: Plan<T::Alloc>, start: String<T::Alloc>, limit: u64) -> Self
-        ensures fresh { IsFresh tree limit result }
+    /// The tree answers a walk that has done nothing yet.
+    pub(crate) fn new(tree: T, course: Course<T::Alloc>) -> Self
+        requires { IsFreshCourse course.limit course }
+        ensures fresh { IsFresh tree course.limit result }
         ensures left { (c : Content) → IsTold (T.tells tree) c
-            → result.left ≡ Some (look_up c
-            (λ seen. true) (enter c plan.options plan.directories plan.parts.items)
-            (string_bytes start)) }
+            → result.left ≡ Some (left_of c course) }
     {
-        let frames = Vec::new(plan.alloc);
-        let next = Some(Task {
-            path: start,
-            part: 0,
-            sight: Sight::Unseen(Wanted::Any),
-        });
-        let stack = Stack { plan, next, frames };
-        let meter = Meter {
-            tree,
-            limit,
-            spent: 0,
-        };
-        Paths {
-            walker: Walker { meter, stack },
-            given: 0,
-            over: false,
-        }
+        Paths { tree, course }
     }
 
     /// How many units of work were charged: never more than the limit. It is 0 before the first call of `next`.
@@ -80,7 +57,7 @@ impl<T: Tree> Paths<T> {
         ensures spent { result ≡ self.now.spent }
         ensures within { result ≤ self.now.limit }
     {
-        self.walker.meter.spent
+        self.course.spent()
     }
 
     /// How many items `next` gave, a refusal too: at most one more than `spent`. After two paths it is 2.
@@ -88,14 +65,14 @@ impl<T: Tree> Paths<T> {
         ensures given { result ≡ self.now.given }
         ensures few { result ≤ self.now.spent + 1 }
     {
-        self.given
+        self.course.given()
     }
 
     /// The tree, as the walk leaves it.
     pub(crate) fn into_tree(self) -> T
         ensures { result ≡ self.tree }
     {
-        self.walker.meter.tree
+        self.tree
     }
 }
 
@@ -118,12 +95,20 @@ impl<T: Tree> Iterator for Paths<T> {
     /// unit of work does not fit the limit; and `Memory` at an allocation failure. After the last two only `None`
     /// follows.
     fn next(&mut self) -> Option<GlobResult<T::Alloc>> {
-        if self.over {
-            return None;
+        let mut step = self.course.next();
+        loop {
+            step = match step {
+                Step::Look => {
+                    let seen = self.tree.look(self.course.path());
+                    self.course.looked(seen)
+                }
+                Step::List => {
+                    let listed = self.tree.list(self.course.path());
+                    self.course.listed(listed)
+                }
+                Step::Item(item) => return Some(item),
+                Step::Done => return None,
+            };
         }
-        let turn = self.walker.take_turn();
-        self.given += turn.item_count();
-        self.over = turn.is_last();
-        turn.into_item(self.walker.stack.plan.alloc)
     }
 }

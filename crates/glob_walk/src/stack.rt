@@ -8,7 +8,8 @@
 ghost use Rattle.std.specs.Prelude.{◌≡◌, ◌+◌, ◌<◌, ◌≤◌, ◌++◌, true, false, [], None, IfOk, OnOk, vec_len};
 ghost use Rattle.glob_tree.specs.Content.{Content};
 ghost use Rattle.glob_walk.specs.Private.Frames.{frame_marks, unmet, IsFrameSound};
-ghost use Rattle.glob_walk.specs.Private.Stacks.{left, weight, frame_weight, ready, IsWithin, IsSound};
+ghost use Rattle.glob_walk.specs.Private.Tasks.{question_of};
+ghost use Rattle.glob_walk.specs.Private.Stacks.{left, weight, ready, IsWithin, IsSound};
 
 use crate::frame::Frame;
 use crate::plan::Plan;
@@ -39,6 +40,7 @@ impl<A: Allocator + Copy> Stack<A> {
             (λ more. more ≡ false → (c : Content) → left c self.old ≡ []) }
         ensures falls { IfOk result (λ more. more ≡ true → weight self.new < weight self.old) }
         ensures ready { OnOk result (ready self.new ≤ ready self.old) }
+        ensures free { OnOk result (question_of self.new.next ≡ None) }
         ensures within { OnOk result (IsWithin self.new) }
         ensures sound { OnOk result ((c : Content) → IsSound c self.old → IsSound c self.new) }
     {
@@ -68,9 +70,9 @@ impl<A: Allocator + Copy> Stack<A> {
         requires within { IsWithin self.old }
         requires part { frame.part < vec_len self.old.plan.parts }
         ensures plan { self.new.plan ≡ self.old.plan }
+        ensures next { self.new.next ≡ None }
         ensures left { OnOk result ((c : Content)
             → left c self.new ≡ frame_marks c self.old.plan frame ++ left c self.old) }
-        ensures weight { OnOk result (weight self.new ≤ weight self.old + frame_weight frame) }
         ensures ready { OnOk result (ready self.new ≤ ready self.old + unmet frame) }
         ensures within { IsWithin self.new }
         ensures sound { OnOk result ((c : Content) → IsFrameSound c frame → IsSound c self.old

@@ -25,8 +25,12 @@ pub enum Wanted {
 pub enum Sight {
     /// Nothing: it is to be looked up.
     Unseen(Wanted),
+    /// Nothing yet: its look was charged and is asked for, and the answer is awaited.
+    Looking(Wanted),
     /// It is there, and this says whether it is a directory: it is to be entered, or given.
     Seen(bool),
+    /// It is a directory, and its listing was charged and is asked for: for `**`, or for a component with wildcards.
+    Listing(bool),
 }
 
 /// One thing to do: a path, and the number of the component that is met at it. Past the last component none is left, and

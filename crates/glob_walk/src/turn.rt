@@ -1,9 +1,10 @@
 //! What a turn of a walk comes to.
-ghost use Rattle.std.specs.Prelude.{◌≡◌, option_map};
-ghost use Rattle.glob_walk.specs.Private.Walking.{turn_outcome};
-ghost use Rattle.glob_walk.specs.Walks.{outcome, is_last, item_number};
+ghost use Rattle.std.specs.Prelude.{◌≡◌};
+ghost use Rattle.glob_walk.specs.Private.Walking.{turn_outcome, is_last_turn, IsStepOf};
+ghost use Rattle.glob_walk.specs.Walks.{item_number};
 
-use crate::error::{GlobError, GlobResult};
+use crate::course::Step;
+use crate::error::GlobError;
 use std::alloc::Allocator;
 use std::io;
 use std::path::PathBuf;
@@ -13,6 +14,10 @@ use std::path::PathBuf;
 pub enum Turn<A: Allocator> {
     /// Neither a path nor an error: the walk goes on.
     Went,
+    /// A look at the task's path is asked for, and was charged.
+    Look,
+    /// A listing of the task's path is asked for, and was charged for the directory itself.
+    List,
     /// A path that the pattern leads to.
     Path(String<A>),
     /// The path of a directory that could not be listed, and why. The walk goes on after it.
@@ -31,31 +36,33 @@ impl<A: Allocator> Turn<A> {
         ensures { result ≡ item_number (turn_outcome self.now) }
     {
         match self {
-            Turn::Went | Turn::Done => 0,
+            Turn::Went | Turn::Look | Turn::List | Turn::Done => 0,
             Turn::Path(_) | Turn::Unread(..) | Turn::Limit(_) | Turn::Memory => 1,
         }
     }
 
-    /// Whether no item follows it, where it stopped the loop. `Went` never does.
+    /// Whether no item follows it.
     pub fn is_last(&self) -> bool
-        ensures { result ≡ is_last (turn_outcome self.now) }
+        ensures { result ≡ is_last_turn self.now }
     {
         match self {
-            Turn::Path(_) | Turn::Unread(..) => false,
-            Turn::Went | Turn::Done | Turn::Limit(_) | Turn::Memory => true,
+            Turn::Went | Turn::Look | Turn::List | Turn::Path(_) | Turn::Unread(..) => false,
+            Turn::Done | Turn::Limit(_) | Turn::Memory => true,
         }
     }
 
-    /// The item that it comes to.
-    pub fn into_item(self, alloc: A) -> Option<GlobResult<A>>
-        ensures { option_map outcome result ≡ turn_outcome self }
+    /// The step that it comes to, where it stopped the loop.
+    pub fn into_step(self, alloc: A) -> Step<A>
+        ensures { IsStepOf self result }
     {
         match self {
-            Turn::Went | Turn::Done => None,
-            Turn::Path(path) => Some(Ok(PathBuf::from(path))),
-            Turn::Unread(path, e) => Some(Err(GlobError::read(PathBuf::from(path), e))),
-            Turn::Limit(path) => Some(Err(GlobError::limit(PathBuf::from(path)))),
-            Turn::Memory => Some(Err(GlobError::memory(alloc))),
+            Turn::Look => Step::Look,
+            Turn::List => Step::List,
+            Turn::Went | Turn::Done => Step::Done,
+            Turn::Path(path) => Step::Item(Ok(PathBuf::from(path))),
+            Turn::Unread(path, e) => Step::Item(Err(GlobError::read(PathBuf::from(path), e))),
+            Turn::Limit(path) => Step::Item(Err(GlobError::limit(PathBuf::from(path)))),
+            Turn::Memory => Step::Item(Err(GlobError::memory(alloc))),
         }
     }
 }

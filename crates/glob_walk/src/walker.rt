@@ -1,12 +1,12 @@
 //! The turns of a walk.
 //!
 //! A walk has a [`Stack`]: one [`Task`] or none, and below it the directories that it is in, one [`Frame`] for each. A
-//! turn does the task: it looks up one path, lists one directory, or gives one path. Where there is no task, a turn takes
-//! one step in the directory on top, and that step may make the next task. What a turn asks of the tree, its [`Meter`]
-//! charges first.
+//! turn does the task: it asks for a look at one path, or for the listing of one directory, or gives one path. Where there
+//! is no task, a turn takes one step in the directory on top, and that step may make the next task. What a turn asks for,
+//! the [`Meter`] is charged for first. The task that asks stays on the stack until it is answered.
 //!
-//! So nothing calls itself: a walk is a loop of turns. It ends because a turn that gives nothing leaves fewer turns, by
-//! what is left of the limit and by the steps that are left in the directories.
+//! Nothing here reads a file: whoever drives the walk answers. And nothing calls itself: a walk is a loop of turns. It comes
+//! to a question or an item because a turn that does neither leaves less weight in the stack.
 //!
 //! The written listing is what a walk does, mark by mark. Each method of [`Walker`] has the same contract, `TurnsTo`: what
 //! was left of the listing begins with what the turn charged and gave, and what the stack then stands for is the rest.
@@ -16,28 +16,30 @@ ghost use Rattle.glob_walk.specs.Marks.{Work};
 ghost use Rattle.glob_walk.specs.Components.{component_kind, Literal};
 ghost use Rattle.glob_walk.specs.declared.plan.Plan.{Plan as PlanOf};
 ghost use Rattle.glob_tree.specs.Looks.{is_directory as is_directory_look};
-ghost use Rattle.glob_walk.specs.Private.Tasks.{task_marks, enter_from, IsOpened, sight_marks, next_marks, next_ready, IsNextSound};
-ghost use Rattle.glob_walk.specs.Private.Stacks.{next_weight, IsWithin};
-ghost use Rattle.glob_walk.specs.Private.Turns.{TurnsTo, with_task};
-ghost use Rattle.glob_walk.specs.Private.Walking.{turn_outcome};
-ghost use Rattle.glob_walk.specs.Walks.{is_last};
+ghost use Rattle.glob_tree.specs.Answers.{entry_count};
+ghost use Rattle.glob_walk.specs.Questions.{IsSomeContent, IsLook, IsList, IsSeenIn, IsListedIn};
+ghost use Rattle.glob_walk.specs.Private.Tasks.{task_marks, enter_from, IsOpened, sight_marks, next_marks, next_ready, IsNextSound, IsNextOpened, question_of};
+ghost use Rattle.glob_walk.specs.Private.Stacks.{next_weight, weight, IsWithin};
+ghost use Rattle.glob_walk.specs.Private.Walking.{is_last_turn};
+ghost use Rattle.glob_walk.specs.Private.Turns.{TurnsTo, with_task, AreListedAt, IsAnswer, IsAnswered, answer_count};
 
+use crate::course::Answer;
 use crate::frame::{Frame, Place};
-use crate::meter::{Meter, Stop, Unlisted};
+use crate::meter::{Meter, sort_entries};
 use crate::part::{Part, PartKind, is_special};
 use crate::path_text::child;
 use crate::plan::Plan;
 use crate::stack::Stack;
 use crate::task::{Sight, Task, Wanted};
 use crate::turn::Turn;
-use glob_tree::{Look, Tree};
+use glob_tree::{Entry, ListError, Look};
 use std::alloc::{AllocError, Allocator};
 
-/// A tree that is asked within a limit, and what a walk over it has still to do.
+/// A limit, and what a walk has still to do.
 #[derive(Drop)]
-pub struct Walker<T: Tree> {
-    pub meter: Meter<T>,
-    pub stack: Stack<T::Alloc>,
+pub struct Walker<A: Allocator> {
+    pub meter: Meter,
+    pub stack: Stack<A>,
 }
 
 /// Whether the answer to a look is that of a directory.
@@ -65,6 +67,7 @@ fn task_after_look<A: Allocator>(
         → IsNextSound c result }
     ensures weight { next_weight result ≤ 2 }
     ensures ready { (plan : PlanOf A) → next_ready plan result ≤ 1 }
+    ensures free { question_of result ≡ None }
 {
     if !wanted.is_met(seen) {
         return None;
@@ -73,45 +76,66 @@ fn task_after_look<A: Allocator>(
     Some(Task { path, part, sight })
 }
 
-impl<T: Tree> Walker<T> {
-    /// Looks a path up, for one unit, and leaves the task that follows, if any. It is one question to the tree.
-    fn look_up(&mut self, path: String<T::Alloc>, part: usize, wanted: Wanted) -> Turn<T::Alloc>
+impl<A: Allocator + Copy> Walker<A> {
+    /// Asks for a look at a path, for one unit.
+    fn look(&mut self, path: String<A>, part: usize, wanted: Wanted) -> Turn<A>
         requires limit { self.old.meter.spent ≤ self.old.meter.limit }
         requires none { self.old.stack.next ≡ None }
         requires within { IsWithin self.old.stack }
-        ensures { TurnsTo T.asks T.tells
+        ensures stops { result ≢ Turn.Went }
+        ensures turn { TurnsTo IsSomeContent 0
             self.old.meter (with_task path part (Sight.Unseen wanted) self.old.stack) result
             self.new.meter self.new.stack }
     {
-        let seen = match self.meter.look(path.as_str()) {
-            Ok(seen) => seen,
-            Err(Stop::Limit) => return Turn::Limit(path),
-            Err(Stop::Memory) => return Turn::Memory,
-        };
-        self.stack.next = task_after_look(path, part, wanted, seen);
-        Turn::Went
+        if !self.meter.charge() {
+            return Turn::Limit(path);
+        }
+        let sight = Sight::Looking(wanted);
+        self.stack.next = Some(Task { path, part, sight });
+        Turn::Look
     }
 
-    /// Lists a directory for component `part`, for one unit and one for each entry, and puts it on the stack with its first
-    /// place; `run` says whether that component is `**`. It is one question to the tree. A listing of n entries pays for
-    /// 8 * (n + 1) turns, and brings at most 3 * (2n + 2) + 1: three for each step, since a step may make a task of weight
-    /// 2, and one for the directory.
-    fn list(&mut self, path: String<T::Alloc>, part: usize, run: bool) -> Turn<T::Alloc>
+    /// Asks for the listing of a directory for component `part`, for one unit; `run` says whether that component is `**`.
+    fn list(&mut self, path: String<A>, part: usize, run: bool) -> Turn<A>
         requires limit { self.old.meter.spent ≤ self.old.meter.limit }
         requires none { self.old.stack.next ≡ None }
         requires within { IsWithin self.old.stack }
         requires part { part < vec_len self.old.stack.plan.parts }
         requires opens { IsOpened run (drop part self.old.stack.plan.parts.items) }
-        ensures { TurnsTo T.asks T.tells
+        ensures stops { result ≢ Turn.Went }
+        ensures turn { TurnsTo IsSomeContent 0
             self.old.meter (with_task path part (Sight.Seen true) self.old.stack) result
             self.new.meter self.new.stack }
     {
-        let entries = match self.meter.list(path.as_str()) {
-            Ok(entries) => entries,
-            Err(Unlisted::Read(e)) => return Turn::Unread(path, e),
-            Err(Unlisted::Limit) => return Turn::Limit(path),
-            Err(Unlisted::Memory) => return Turn::Memory,
-        };
+        if !self.meter.charge() {
+            return Turn::Limit(path);
+        }
+        let sight = Sight::Listing(run);
+        self.stack.next = Some(Task { path, part, sight });
+        Turn::List
+    }
+
+    /// Charges the entries of a directory that was listed, and puts it on the stack with its first place.
+    fn open(
+        &mut self,
+        path: String<A>,
+        part: usize,
+        run: bool,
+        mut entries: Vec<Entry<A>, A>,
+    ) -> Turn<A>
+        requires limit { self.old.meter.spent ≤ self.old.meter.limit }
+        requires none { self.old.stack.next ≡ None }
+        requires within { IsWithin self.old.stack }
+        requires part { part < vec_len self.old.stack.plan.parts }
+        requires opens { IsOpened run (drop part self.old.stack.plan.parts.items) }
+        ensures { TurnsTo (AreListedAt (string_bytes path) entries.items) (vec_len entries)
+            self.old.meter (with_task path part (Sight.Listing run) self.old.stack) result
+            self.new.meter self.new.stack }
+    {
+        if !self.meter.charge_entries(entries.len()) {
+            return Turn::Limit(path);
+        }
+        sort_entries(&mut entries);
         // Before `..` if the component begins with a dot, as `**` never does.
         let place = if self.stack.plan.is_dotted(part) {
             Place::Parent
@@ -133,11 +157,12 @@ impl<T: Tree> Walker<T> {
     /// Meets the components from number `part` on at a path that is there. If none is left, the path is given. A literal
     /// one is joined to the path, and to look that up is the next task. For `**` and for a component with wildcards the
     /// directory is listed; nothing comes of what is no directory.
-    fn enter(&mut self, path: String<T::Alloc>, part: usize, is_dir: bool) -> Turn<T::Alloc>
+    fn enter(&mut self, path: String<A>, part: usize, is_dir: bool) -> Turn<A>
         requires limit { self.old.meter.spent ≤ self.old.meter.limit }
         requires none { self.old.stack.next ≡ None }
         requires within { IsWithin self.old.stack }
-        ensures { TurnsTo T.asks T.tells
+        ensures falls { result ≡ Turn.Went → weight self.new.stack < weight self.old.stack + 2 }
+        ensures turn { TurnsTo IsSomeContent 0
             self.old.meter (with_task path part (Sight.Seen is_dir) self.old.stack) result
             self.new.meter self.new.stack }
     {
@@ -178,10 +203,12 @@ impl<T: Tree> Walker<T> {
 
     /// One turn: does the task if there is one, and else takes one step in the directory on top. It calls nothing that
     /// calls it.
-    pub fn turn(&mut self) -> Turn<T::Alloc>
+    fn turn(&mut self) -> Turn<A>
         requires limit { self.old.meter.spent ≤ self.old.meter.limit }
         requires within { IsWithin self.old.stack }
-        ensures { TurnsTo T.asks T.tells
+        requires free { question_of self.old.stack.next ≡ None }
+        ensures falls { result ≡ Turn.Went → weight self.new.stack < weight self.old.stack }
+        ensures turn { TurnsTo IsSomeContent 0
             self.old.meter self.old.stack result
             self.new.meter self.new.stack }
     {
@@ -194,18 +221,19 @@ impl<T: Tree> Walker<T> {
         };
         let Task { path, part, sight } = task;
         match sight {
-            Sight::Unseen(wanted) => self.look_up(path, part, wanted),
+            Sight::Unseen(wanted) => self.look(path, part, wanted),
             Sight::Seen(is_dir) => self.enter(path, part, is_dir),
+            Sight::Looking(_) | Sight::Listing(_) => unreachable!(),
         }
     }
 
-    /// Turns until there is an item, or none is left. It ends because each turn that goes on lowers `turns_left`: eight
-    /// for each unit of the limit that is not spent, and the weight of the stack.
-    pub fn turn_to_item(&mut self) -> Turn<T::Alloc>
+    /// Turns until there is a question or an item, or nothing is left.
+    fn turns(&mut self) -> Turn<A>
         requires limit { self.old.meter.spent ≤ self.old.meter.limit }
         requires within { IsWithin self.old.stack }
+        requires free { question_of self.old.stack.next ≡ None }
         ensures stops { result ≢ Turn.Went }
-        ensures turn { TurnsTo T.asks T.tells
+        ensures turn { TurnsTo IsSomeContent 0
             self.old.meter self.old.stack result
             self.new.meter self.new.stack }
     {
@@ -217,19 +245,106 @@ impl<T: Tree> Walker<T> {
         }
     }
 
-    /// The turn that [`turn_to_item`](Walker::turn_to_item) ends with. Where no item follows it, as after a refusal, nothing
-    /// stays on the stack, since a walk that is over may be kept for long.
-    pub fn take_turn(&mut self) -> Turn<T::Alloc>
+    /// Takes the answer to the question that is open: what comes of it at once.
+    fn hear(&mut self, answer: Answer<A>) -> Turn<A>
         requires limit { self.old.meter.spent ≤ self.old.meter.limit }
         requires within { IsWithin self.old.stack }
-        ensures stops { result ≢ Turn.Went }
-        ensures turn { TurnsTo T.asks T.tells
+        requires opened { IsNextOpened self.old.stack.plan.parts.items self.old.stack.next }
+        requires answer { IsAnswer (question_of self.old.stack.next) answer }
+        ensures { TurnsTo (IsAnswered (question_of self.old.stack.next) answer)
+            (answer_count answer)
             self.old.meter self.old.stack result
             self.new.meter self.new.stack }
-        ensures cleared { is_last (turn_outcome result) ≡ true
+    {
+        match answer {
+            Answer::Nothing => Turn::Went,
+            Answer::Look(seen) => self.see(seen),
+            Answer::List(listed) => self.read(listed),
+        }
+    }
+
+    /// Takes the answer to a look, and leaves the task that follows, if any.
+    fn see(&mut self, answer: Result<Look, AllocError>) -> Turn<A>
+        requires limit { self.old.meter.spent ≤ self.old.meter.limit }
+        requires within { IsWithin self.old.stack }
+        requires asked { IsLook (question_of self.old.stack.next) }
+        ensures { TurnsTo (IsSeenIn (question_of self.old.stack.next) answer) 0
+            self.old.meter self.old.stack result
+            self.new.meter self.new.stack }
+    {
+        let Ok(seen) = answer else {
+            return Turn::Memory;
+        };
+        let Some(task) = self.stack.next.take() else {
+            unreachable!()
+        };
+        let Task { path, part, sight } = task;
+        let Sight::Looking(wanted) = sight else {
+            unreachable!()
+        };
+        self.stack.next = task_after_look(path, part, wanted, seen);
+        Turn::Went
+    }
+
+    /// Takes the answer to a listing.
+    fn read(&mut self, answer: Result<Vec<Entry<A>, A>, ListError>) -> Turn<A>
+        requires limit { self.old.meter.spent ≤ self.old.meter.limit }
+        requires within { IsWithin self.old.stack }
+        requires opened { IsNextOpened self.old.stack.plan.parts.items self.old.stack.next }
+        requires asked { IsList (question_of self.old.stack.next) }
+        ensures { TurnsTo (IsListedIn (question_of self.old.stack.next) answer)
+            (entry_count answer)
+            self.old.meter self.old.stack result
+            self.new.meter self.new.stack }
+    {
+        let Some(task) = self.stack.next.take() else {
+            unreachable!()
+        };
+        let Task { path, part, sight } = task;
+        let Sight::Listing(run) = sight else {
+            unreachable!()
+        };
+        match answer {
+            Ok(entries) => self.open(path, part, run, entries),
+            Err(ListError::Read(e)) => Turn::Unread(path, e),
+            Err(ListError::Memory) => Turn::Memory,
+        }
+    }
+
+    /// Takes the answer to the question that is open, or `Nothing` where none is, and goes on to the next question or item.
+    fn go_on(&mut self, answer: Answer<A>) -> Turn<A>
+        requires limit { self.old.meter.spent ≤ self.old.meter.limit }
+        requires within { IsWithin self.old.stack }
+        requires opened { IsNextOpened self.old.stack.plan.parts.items self.old.stack.next }
+        requires answer { IsAnswer (question_of self.old.stack.next) answer }
+        ensures stops { result ≢ Turn.Went }
+        ensures turn { TurnsTo (IsAnswered (question_of self.old.stack.next) answer)
+            (answer_count answer)
+            self.old.meter self.old.stack result
+            self.new.meter self.new.stack }
+    {
+        match self.hear(answer) {
+            Turn::Went => self.turns(),
+            turn => turn,
+        }
+    }
+
+    /// The turn that [`go_on`](Walker::go_on) ends with. Where no item follows it, as after a refusal, nothing stays on the
+    /// stack, since a walk that is over may be kept for long.
+    pub fn resume(&mut self, answer: Answer<A>) -> Turn<A>
+        requires limit { self.old.meter.spent ≤ self.old.meter.limit }
+        requires within { IsWithin self.old.stack }
+        requires opened { IsNextOpened self.old.stack.plan.parts.items self.old.stack.next }
+        requires answer { IsAnswer (question_of self.old.stack.next) answer }
+        ensures stops { result ≢ Turn.Went }
+        ensures turn { TurnsTo (IsAnswered (question_of self.old.stack.next) answer)
+            (answer_count answer)
+            self.old.meter self.old.stack result
+            self.new.meter self.new.stack }
+        ensures cleared { is_last_turn result ≡ true
             → (self.new.stack.next ≡ None) × (self.new.stack.frames.items ≡ []) }
     {
-        let turn = self.turn_to_item();
+        let turn = self.go_on(answer);
         if turn.is_last() {
             self.stack.clear();
         }
@@ -255,6 +370,7 @@ fn literal_task<A: Allocator + Copy>(
         (λ task. (c : Content)
         → enter_from c plan.now part path.now is_dir ≡ task_marks c plan.now task) }
     ensures weight { IfOk result (λ task. next_weight (Some task) ≡ 1) }
+    ensures free { IfOk result (λ task. question_of (Some task) ≡ None) }
     ensures ready { IfOk result (λ task. next_ready plan.now (Some task) ≡ 0) }
     ensures sound { IfOk result (λ task. (c : Content) → IsNextSound c (Some task)) }
 {

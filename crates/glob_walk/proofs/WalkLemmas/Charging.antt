@@ -1,5 +1,5 @@
--- What is left where nothing was charged.
-use Rattle.std.proofs.Common.{◌≡◌, ℕ, ◌+◌, ◌≤◌, Bool, true, false, cond, List, [], ◌∷◌, ◌++◌, Option, refl, ap, sym, subst, ◌∙◌, arith}
+-- What is left where nothing was charged, and turns after one another.
+use Rattle.std.proofs.Common.{◌≡◌, ℕ, ◌+◌, ◌≤◌, Bool, true, false, cond, List, [], ◌∷◌, ◌++◌, Option, None, Some, refl, ap, sym, subst, ◌∙◌, arith}
 use Rattle.std.proofs.lemmas.Bool.{cond-true, cond-false}
 use Rattle.std.specs.Prelude.{string_bytes}
 use Rattle.std.specs.IoError.{error_kind}
@@ -9,11 +9,18 @@ use Rattle.glob_walk.specs.Marks.{Mark, Work, Give, Found, Unread}
 use Rattle.glob_walk.specs.declared.meter.Meter.{Meter}
 use Rattle.glob_walk.specs.declared.turn.Turn.{Turn}
 use Rattle.glob_walk.specs.declared.turn.Turn.TheVariants as turn
-use Rattle.glob_walk.specs.Private.Meters.{IsExact}
 use Rattle.glob_tree.specs.Content.{Content}
 use Rattle.glob_walk.specs.declared.stack.Stack.{Stack}
-use Rattle.glob_walk.specs.Private.Stacks.{left, weight, ready, IsSound}
-use Rattle.glob_walk.specs.Private.Turns.{TurnOf, TurnCounts, IfGoing, TurnsTo, listed_items}
+use Rattle.glob_walk.specs.declared.task.Task.{Task}
+use Rattle.glob_walk.specs.declared.task.Sight.{Sight}
+use Rattle.glob_walk.specs.declared.task.Sight.TheVariants as sight
+use Rattle.glob_walk.specs.declared.course.Answer.{Answer}
+use Rattle.glob_walk.specs.declared.course.Answer.TheVariants as answer
+use Rattle.glob_walk.specs.Questions.{Question, LookAt, ListAt, IsLook, IsSomeContent, question_path}
+use Rattle.glob_walk.specs.Courses.{AsksNext}
+use Rattle.glob_walk.specs.Private.Tasks.{question_of, sight_question, IsNextOpened, IsSightOpened}
+use Rattle.glob_walk.specs.Private.Stacks.{left, ready, IsWithin, IsSound}
+use Rattle.glob_walk.specs.Private.Turns.{TurnOf, TurnCounts, IfGoing, TurnsTo, IsAnswered, listed_items}
 use Rattle.glob_walk.specs.Walks.{Charges, works}
 
 pub uncharged : (left new : List Mark) (spent : ℕ) → left ≡ new → Charges left spent new spent
@@ -37,45 +44,119 @@ Charges-trans a b d s t u h k = record {
   units = omega (arith, h.units, k.units, length-append h.paths k.paths);
 }
 
+pub AsksNext-after : (a b d : List Mark) (s t u : ℕ) (path : Text) → Charges a s b t → AsksNext b t path d u → AsksNext a s path d u
+AsksNext-after a b d s t u path h k = record { before = k.before; charges = Charges-trans a b (Work path ∷ d) s t k.before h k.charges; unit = k.unit }
+
+-- the unit of a question is a charge like any other
+pub Charges-asked : (a d : List Mark) (s u : ℕ) (path : Text) → AsksNext a s path d u → Charges a s d u
+Charges-asked a d s u path h = Charges-trans a (Work path ∷ d) d s h.before u h.charges (record { paths = path ∷ []; front = refl; units = h.unit })
+
 -- a turn after others that only charged
-pub TurnOf-after : {A : Type 0} (first mid new : List Mark) (s t u : ℕ) (r : Turn A) → Charges first s mid t → TurnOf mid t r new u → TurnOf first s r new u
-TurnOf-after first mid new s t u turn.Went h k = Charges-trans first mid new s t u h k
-TurnOf-after first mid new s t u (turn.Path p) h k = Charges-trans first mid (Give (Found (string_bytes p)) ∷ new) s t u h k
-TurnOf-after first mid new s t u (turn.Unread p e) h k = Charges-trans first mid (Give (Unread (string_bytes p) (error_kind e)) ∷ new) s t u h k
-TurnOf-after first mid new s t u (turn.Limit p) h k = record { rest = k.rest; charges = Charges-trans first mid (Work (string_bytes p) ∷ k.rest) s t u h k.charges }
-TurnOf-after first mid new s t u turn.Memory h k = tt
-TurnOf-after first mid new s t u turn.Done h k = (Charges-trans first mid new s t u h k.0, k.1)
+pub TurnOf-after : {A : Type 0} (first mid new : List Mark) (s t u : ℕ) (q : Option Question) (r : Turn A) → Charges first s mid t → TurnOf mid t r q new u → TurnOf first s r q new u
+TurnOf-after first mid new s t u q turn.Went h k = Charges-trans first mid new s t u h k
+TurnOf-after first mid new s t u q turn.Look h k = AsksNext-after first mid new s t u (question_path q) h k
+TurnOf-after first mid new s t u q turn.List h k = AsksNext-after first mid new s t u (question_path q) h k
+TurnOf-after first mid new s t u q (turn.Path p) h k = Charges-trans first mid (Give (Found (string_bytes p)) ∷ new) s t u h k
+TurnOf-after first mid new s t u q (turn.Unread p e) h k = Charges-trans first mid (Give (Unread (string_bytes p) (error_kind e)) ∷ new) s t u h k
+TurnOf-after first mid new s t u q (turn.Limit p) h k = record { rest = k.rest; charges = Charges-trans first mid (Work (string_bytes p) ∷ k.rest) s t u h k.charges }
+TurnOf-after first mid new s t u q turn.Memory h k = tt
+TurnOf-after first mid new s t u q turn.Done h k = (Charges-trans first mid new s t u h k.0, k.1)
 
-pub IsExact-trans : {X : Type 0} (asks : X → ℕ) (a b d : Meter X) → IsExact asks a b → IsExact asks b d → IsExact asks a d
-IsExact-trans asks a b d h k = record { limit = k.limit ∙ h.limit; grows = omega (arith, h.grows, k.grows); within = k.within; asked = omega (arith, h.asked, k.asked) }
-
-pub TurnCounts-after : {X A : Type 0} (asks : X → ℕ) (a b d : Meter X) (r : Turn A) → IsExact asks a b → TurnCounts asks b r d → TurnCounts asks a r d
-TurnCounts-after asks a b d turn.Went h k = IsExact-trans asks a b d h k
-TurnCounts-after asks a b d (turn.Path p) h k = IsExact-trans asks a b d h k
-TurnCounts-after asks a b d (turn.Unread p e) h k = IsExact-trans asks a b d h k
-TurnCounts-after asks a b d (turn.Limit p) h k = record { limit = k.limit ∙ h.limit; grows = omega (arith, h.grows, k.grows); at = k.at; asked = omega (arith, h.asked, k.asked) }
-TurnCounts-after asks a b d turn.Memory h k = IsExact-trans asks a b d h k
-TurnCounts-after asks a b d turn.Done h k = IsExact-trans asks a b d h k
+TurnCounts-after : {A : Type 0} (n : ℕ) (a b d : Meter) (r : Turn A) → b.spent ≡ a.spent + n → TurnCounts 0 b r d → TurnCounts n a r d
+TurnCounts-after n a b d turn.Went h k = omega (arith, h, k)
+TurnCounts-after n a b d turn.Look h k = omega (arith, h, k)
+TurnCounts-after n a b d turn.List h k = omega (arith, h, k)
+TurnCounts-after n a b d (turn.Path p) h k = omega (arith, h, k)
+TurnCounts-after n a b d (turn.Unread p e) h k = omega (arith, h, k)
+TurnCounts-after n a b d (turn.Limit p) h k = (k.0, omega (arith, h, k.1), omega (arith, h, k.2))
+TurnCounts-after n a b d turn.Memory h k = omega (arith, h, k)
+TurnCounts-after n a b d turn.Done h k = omega (arith, h, k)
 
 pub IfGoing-map : {A P Q : Type 0} (r : Turn A) → (P → Q) → IfGoing r P → IfGoing r Q
 IfGoing-map turn.Went f h = f h
+IfGoing-map turn.Look f h = f h
+IfGoing-map turn.List f h = f h
 IfGoing-map (turn.Path p) f h = f h
 IfGoing-map (turn.Unread p e) f h = f h
 IfGoing-map (turn.Limit p) f h = tt
 IfGoing-map turn.Memory f h = tt
 IfGoing-map turn.Done f h = f h
 
+-- no turn at all
+pub TurnsTo-none : {A : Type 0} (Fits : Content → Type 0) (m : Meter) (s : Stack A) → m.spent ≤ m.limit → IsWithin s → question_of s.next ≡ None → TurnsTo Fits 0 m s turn.Went m s
+TurnsTo-none Fits m s fits within free = record {
+  limit = refl;
+  fits = fits;
+  counts = omega arith;
+  plan = refl;
+  within = within;
+  asks = free;
+  ready = omega arith;
+  sound = λ c f h. h;
+  takes = λ c f h. uncharged (left c s) (left c s) m.spent refl;
+}
+
+-- a turn after one that went on
+pub TurnsTo-after : {A : Type 0} (Fits : Content → Type 0) (Fits' : Content → Type 0) (n : ℕ) (a b d : Meter) (s s1 s2 : Stack A) (t : Turn A)
+    → ((c : Content) → Fits c → Fits' c) → TurnsTo Fits n a s turn.Went b s1 → TurnsTo Fits' 0 b s1 t d s2 → TurnsTo Fits n a s t d s2
+TurnsTo-after Fits Fits' n a b d s s1 s2 t fit h k = record {
+  limit = k.limit ∙ h.limit;
+  fits = k.fits;
+  counts = TurnCounts-after n a b d t (omega (arith, h.counts)) k.counts;
+  plan = k.plan ∙ h.plan;
+  within = k.within;
+  asks = k.asks;
+  ready = let more = h.ready in IfGoing-map t (λ (r : ready s2 + listed_items t + b.spent ≤ ready s1 + d.spent). omega (arith, r, more)) k.ready;
+  sound = IfGoing-map t (λ f c w u. f c (fit c w) (h.sound c w u)) k.sound;
+  takes = λ c w u. TurnOf-after (left c s) (left c s1) (left c s2) a.spent b.spent d.spent (question_of s2.next) t (h.takes c w u) (k.takes c (fit c w) (h.sound c w u));
+}
+
 -- a turn of a stack is one of each stack that stands for the same
-pub TurnsTo-same : {X A : Type 0} (asks : X → ℕ) (tells : X → Option Content) (old new : Meter X) (s s0 s' : Stack A) (t : Turn A)
-    → s0.plan ≡ s.plan → weight s0 ≤ weight s → ready s0 ≤ ready s → ((c : Content) → IsSound c s → IsSound c s0) → ((c : Content) → left c s ≡ left c s0)
-    → TurnsTo asks tells old s0 t new s' → TurnsTo asks tells old s t new s'
-TurnsTo-same asks tells old new s s0 s' t plan weighs waits sound same h = record {
-  told = h.told;
+pub TurnsTo-same : {A : Type 0} (Fits : Content → Type 0) (n : ℕ) (old new : Meter) (s s0 s' : Stack A) (t : Turn A)
+    → s0.plan ≡ s.plan → ready s0 ≤ ready s → ((c : Content) → IsSound c s → IsSound c s0) → ((c : Content) → left c s ≡ left c s0)
+    → TurnsTo Fits n old s0 t new s' → TurnsTo Fits n old s t new s'
+TurnsTo-same Fits n old new s s0 s' t plan waits sound same h = record {
+  limit = h.limit;
+  fits = h.fits;
   counts = h.counts;
   plan = h.plan ∙ plan;
   within = h.within;
-  falls = λ went. let less = h.falls went in omega (arith, less, weighs);
+  asks = h.asks;
   ready = IfGoing-map t (λ (r : ready s' + listed_items t + old.spent ≤ ready s0 + new.spent). omega (arith, r, waits)) h.ready;
-  sound = IfGoing-map t (λ f c told k. f c told (sound c k)) h.sound;
-  takes = λ c told k. subst (λ ms. TurnOf ms old.spent t (left c s') new.spent) (sym (same c)) (h.takes c told (sound c k));
+  sound = IfGoing-map t (λ f c w k. f c w (sound c k)) h.sound;
+  takes = λ c w k. subst (λ ms. TurnOf ms old.spent t (question_of s'.next) (left c s') new.spent) (sym (same c)) (h.takes c w (sound c k));
 }
+
+-- a task that asks for no listing
+pub opened-free : {A : Type 0} (ts : List Text) (next : Option (Task A)) → question_of next ≡ None → IsNextOpened ts next
+opened-free ts None h = tt
+opened-free {A} ts (Some t) h = of_sight t.sight h
+  where
+    of_sight : (s : Sight) → sight_question (string_bytes t.path) s ≡ None → IsSightOpened ts t.part s
+    of_sight (sight.Unseen w) h = tt
+    of_sight (sight.Seen d) h = tt
+    of_sight (sight.Looking w) h = tt
+    of_sight (sight.Listing run) h = absurd (some_none h)
+      where
+        some_none : Some (ListAt (string_bytes t.path)) ≡ None → ⊥
+        some_none e = absurd (cc)
+
+pub opened-look : {A : Type 0} (ts : List Text) (next : Option (Task A)) → IsLook (question_of next) → IsNextOpened ts next
+opened-look ts None h = tt
+opened-look {A} ts (Some t) h = of_sight t.sight h
+  where
+    of_sight : (s : Sight) → IsLook (sight_question (string_bytes t.path) s) → IsSightOpened ts t.part s
+    of_sight (sight.Unseen w) h = tt
+    of_sight (sight.Seen d) h = tt
+    of_sight (sight.Looking w) h = tt
+    of_sight (sight.Listing run) h = absurd h
+
+-- a content that answers is well formed
+pub IsAnswered-content : {A : Type 0} (q : Option Question) (a : Answer A) (c : Content) → IsAnswered q a c → IsSomeContent c
+IsAnswered-content q answer.Nothing c h = h
+IsAnswered-content (Some (LookAt p)) (answer.Look r) c h = h.0
+IsAnswered-content (Some (ListAt p)) (answer.Look r) c h = absurd h
+IsAnswered-content None (answer.Look r) c h = absurd h
+IsAnswered-content (Some (ListAt p)) (answer.List r) c h = h.0
+IsAnswered-content (Some (LookAt p)) (answer.List r) c h = absurd h
+IsAnswered-content None (answer.List r) c h = absurd h

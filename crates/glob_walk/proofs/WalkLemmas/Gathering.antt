@@ -15,11 +15,11 @@ use Rattle.glob_walk.specs.declared.walk.End.TheVariants as end
 use Rattle.glob_walk.proofs.ListingLemmas.Marks.{items-append, cost-append, front-append}
 use Rattle.glob_walk.proofs.WalkLemmas.Stepping.{append_none}
 
-items-works : (ps : List Text) → items (works ps) ≡ []
+pub items-works : (ps : List Text) → items (works ps) ≡ []
 items-works [] = refl
 items-works (p ∷ ps) = items-works ps
 
-cost-works : (ps : List Text) → cost (works ps) ≡ length ps
+pub cost-works : (ps : List Text) → cost (works ps) ≡ length ps
 cost-works [] = refl
 cost-works (p ∷ ps) = ap suc (cost-works ps)
 

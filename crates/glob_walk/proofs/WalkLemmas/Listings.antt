@@ -1,5 +1,5 @@
 -- What a tree lists, in order.
-use Rattle.std.proofs.Common.{◌≡◌, ℕ, ◌+◌, ◌-◌, ◌<◌, List, [], ◌∷◌, length, get_or, Option, Some, None, refl, ap, subst, ◌∙◌, arith}
+use Rattle.std.proofs.Common.{◌≡◌, ℕ, ◌+◌, ◌<◌, List, [], ◌∷◌, length, get_or, Option, Some, None, refl, ap, subst, ◌∙◌, arith}
 use Rattle.std.specs.Prelude.{map}
 use Rattle.std.specs.List.Sorted.{IsPermutation, IsSortedByKey}
 use Rattle.std.specs.Cmp.Lexicographic.{slice_cmp}
@@ -55,7 +55,7 @@ in_order {A} c w path es sorted answer moved up = of_answer (list_result c path)
     of_answer NoDirectory e h = tt
 
 pub is_cut : {A : Type 0} (c : Content) (path : Text) (es : List (Entry A)) (spent limit : ℕ) → IsListAnswer (list_result c path) (entries_of es)
-    → limit - (spent + 1) < length es → IsCut (list_result c path) spent limit
+    → limit < spent + length es → IsCut (list_result c path) spent limit
 is_cut {A} c path es spent limit answer few = of_answer (list_result c path) answer
   where
     of_answer : (a : ListAnswer) → IsListAnswer a (entries_of es) → IsCut a spent limit

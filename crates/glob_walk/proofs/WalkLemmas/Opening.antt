@@ -1,6 +1,6 @@
 -- What comes of a directory that is listed.
-use Rattle.std.proofs.Common.{◌≡◌, ℕ, zero, suc, ◌+◌, ◌-◌, ◌*◌, ◌<◌, ◌≤◌, Bool, true, false, cond, List, [], ◌∷◌, ◌++◌, length, drop, replicate, refl, ap, sym, subst, ◌∙◌, arith, append_assoc}
-use Rattle.std.specs.Prelude.{flat_map, Contains}
+use Rattle.std.proofs.Common.{◌≡◌, ℕ, zero, suc, ◌+◌, ◌-◌, ◌<◌, ◌≤◌, Bool, true, false, cond, List, [], ◌∷◌, ◌++◌, length, drop, replicate, refl, ap, sym, subst, ◌∙◌, arith, append_assoc}
+use Rattle.std.specs.Prelude.{flat_map, Contains, Option, Some, string_bytes}
 use Rattle.std.specs.Path.{cur_dir, parent_dir}
 use Rattle.std.specs.declared.io.ErrorKind.{ErrorKind}
 use Rattle.glob_text.specs.Text.{Text}
@@ -18,8 +18,13 @@ use Rattle.glob_walk.proofs.ListingLemmas.Descending.{enter-wild, enter-recursiv
 use Rattle.glob_walk.specs.declared.plan.Plan.{Plan}
 use Rattle.glob_walk.specs.declared.frame.Place.{Place}
 use Rattle.glob_walk.specs.declared.frame.Place.TheVariants.{Parent, At}
-use Rattle.glob_walk.specs.Private.Tasks.{enter_from, IsOpened}
-use Rattle.glob_walk.specs.Private.Frames.{take_at, first_of, entries_marks, special_marks, special_after, place_marks, place_steps, place_unmet, first_place, IsEntrySound}
+use Rattle.glob_walk.specs.Private.Tasks.{enter_from, sight_marks, next_marks, sight_question, question_of, IsOpened, IsSightOpened, IsNextOpened, IsSightSound, IsNextSound}
+use Rattle.glob_walk.specs.Private.Stacks.{left, frames_marks}
+use Rattle.glob_walk.specs.declared.stack.Stack.{Stack}
+use Rattle.glob_walk.specs.declared.task.Task.{Task}
+use Rattle.glob_walk.specs.declared.task.Sight.TheVariants.{Listing}
+use Rattle.glob_walk.specs.Questions.{Question, ListAt}
+use Rattle.glob_walk.specs.Private.Frames.{take_at, first_of, entries_marks, special_marks, special_after, place_marks, place_unmet, first_place, IsEntrySound}
 use Rattle.glob_walk.specs.Private.Meters.{IsInOrder, IsCut}
 use Rattle.glob_tree.specs.Answers.{IsListFault}
 use Rattle.glob_tree.proofs.ContentLemmas.Sorting.{Contains-sorted_entries}
@@ -92,18 +97,18 @@ works-append [] qs = refl
 works-append (p ∷ ps) qs = ap (λ ms. Work p ∷ ms) (works-append ps qs)
 
 -- the limit does not reach all of the units
-pub stops_within : (n : ℕ) (path : Text) (rest : List Mark) (spent limit : ℕ) → spent ≤ limit → limit < spent + suc n
-    → StopsAt (works (replicate (suc n) path) ++ rest) spent path limit
+stops_within : (n : ℕ) (path : Text) (rest : List Mark) (spent limit : ℕ) → spent ≤ limit → limit < spent + n
+    → StopsAt (works (replicate n path) ++ rest) spent path limit
 stops_within n path rest spent limit h few =
     let k : ℕ = limit - spent in
-    let e : suc n ≡ k + suc (n - k) = omega (arith, h, few) in
+    let e : n ≡ k + suc (n - k - 1) = omega (arith, h, few) in
     record {
-      rest = works (replicate (n - k) path) ++ rest;
+      rest = works (replicate (n - k - 1) path) ++ rest;
       charges = record {
         paths = replicate k path;
-        front = ap (λ m. works (replicate m path) ++ rest) e ∙ ap (λ ps. works ps ++ rest) (replicate_split k (n - k) path)
-            ∙ ap (λ ms. ms ++ rest) (works-append (replicate k path) (path ∷ replicate (n - k) path))
-            ∙ append_assoc (works (replicate k path)) (Work path ∷ works (replicate (n - k) path)) rest;
+        front = ap (λ m. works (replicate m path) ++ rest) e ∙ ap (λ ps. works ps ++ rest) (replicate_split k (n - k - 1) path)
+            ∙ ap (λ ms. ms ++ rest) (works-append (replicate k path) (path ∷ replicate (n - k - 1) path))
+            ∙ append_assoc (works (replicate k path)) (Work path ∷ works (replicate (n - k - 1) path)) rest;
         units = omega (arith, h, length-replicate k path);
       };
     }
@@ -183,22 +188,25 @@ module _ {A : Type 0} (c : Content) (w : IsContent c) (plan : Plan A) (run : Boo
       ∙ ap (λ as'. works (replicate (suc (length as')) path) ++ place_marks c plan run part path as' (first_place (drop part plan.parts.items))) (sym (subst (λ a. IsInOrder a answer) is order)))
       (λ kind is. absurd (subst (λ a. IsInOrder a answer) is order))
 
-  pub opened_cut : (rest : List Mark) (spent limit : ℕ) → spent ≤ limit → IsCut (list_result c path) spent limit → StopsAt (enter_from c plan part path true ++ rest) spent path limit
+  -- the unit of the listing comes first
+  pub opened_unit : enter_from c plan part path true ≡ Work path ∷ drop 1 (enter_from c plan part path true)
+  opened_unit = by_listing
+      (λ es is. lists (Entries es) is ∙ ap (λ ms. Work path ∷ drop 1 ms) (sym (lists (Entries es) is)))
+      (λ kind is. lists (Fails kind) is ∙ ap (λ ms. Work path ∷ drop 1 ms) (sym (lists (Fails kind) is)))
+
+  pub opened_cut : (rest : List Mark) (spent limit : ℕ) → spent ≤ limit → IsCut (list_result c path) spent limit
+      → StopsAt (drop 1 (enter_from c plan part path true) ++ rest) spent path limit
   opened_cut rest spent limit h cut = by_listing
       (λ es is.
-      let after : List Mark = leading ++ flat_map (λ e. each e.0 e.1) (sorted_entries es) in
-      let few : limit < spent + 1 + length es = subst (λ a. IsCut a spent limit) is cut in
+      let flat : List Mark = flat_map (λ e. each e.0 e.1) (sorted_entries es) in
+      let few : limit < spent + length es = subst (λ a. IsCut a spent limit) is cut in
       subst (λ ms. StopsAt ms spent path limit)
-      (sym (append_assoc (works (replicate (suc (length es)) path)) after rest)
+      (sym (append_assoc (works (replicate (length es) path)) (leading ++ flat) rest)
       ∙ ap (λ ms. ms ++ rest)
-      (ap (λ ms. Work path ∷ (ms ++ after)) (sym (works_replicate (length es) path))
-      ∙ sym (lists (Entries es) is ∙ ap (λ ms. Work path ∷ ms) (append_assoc (replicate (length es) (Work path)) leading (flat_map (λ e. each e.0 e.1) (sorted_entries es))))))
-      (stops_within (length es) path (after ++ rest) spent limit h (omega (arith, few))))
-      (λ kind is.
-      let few : limit < spent + 1 = subst (λ a. IsCut a spent limit) is cut in
-      subst (λ ms. StopsAt ms spent path limit)
-      (ap (λ ms. ms ++ rest) (sym (lists (Fails kind) is)))
-      (stops_within 0 path (Give (Unread path kind) ∷ rest) spent limit h (omega (arith, few))))
+      (ap (λ ms. ms ++ (leading ++ flat)) (sym (works_replicate (length es) path))
+      ∙ sym (ap (drop 1) (lists (Entries es) is) ∙ append_assoc (replicate (length es) (Work path)) leading flat)))
+      (stops_within (length es) path ((leading ++ flat) ++ rest) spent limit h (omega (arith, few))))
+      (λ kind is. absurd (subst (λ a. IsCut a spent limit) is cut))
 
   pub opened_sound : (answer : List DirEntry) → IsInOrder (list_result c path) answer → (e : DirEntry) → Contains answer e → IsEntrySound c path e
   opened_sound answer order e in' directory =
@@ -213,17 +221,37 @@ module _ {A : Type 0} (c : Content) (w : IsContent c) (plan : Plan A) (run : Boo
       of_answer k at (Unreadable wanted held is) = absurd (subst (λ a. IsInOrder a answer) is order)
 
   pub opened_charges : (answer : List DirEntry) → IsInOrder (list_result c path) answer → (place : Place) (rest new : List Mark) (spent spent' : ℕ)
-      → place ≡ first_place (drop part plan.parts.items) → new ≡ place_marks c plan run part path answer place ++ rest → spent' ≡ spent + 1 + length answer
-      → Charges (enter_from c plan part path true ++ rest) spent new spent'
+      → place ≡ first_place (drop part plan.parts.items) → new ≡ place_marks c plan run part path answer place ++ rest → spent' ≡ spent + length answer
+      → Charges (drop 1 (enter_from c plan part path true) ++ rest) spent new spent'
   opened_charges answer order place rest new spent spent' at is units = record {
-    paths = replicate (suc (length answer)) path;
-    front = ap (λ ms. ms ++ rest) (opened_entries answer order)
-        ∙ append_assoc (works (replicate (suc (length answer)) path)) (place_marks c plan run part path answer (first_place (drop part plan.parts.items))) rest
-        ∙ ap (λ ms. works (replicate (suc (length answer)) path) ++ ms) (sym (is ∙ ap (λ p. place_marks c plan run part path answer p ++ rest) at));
+    paths = replicate (length answer) path;
+    front = ap (λ ms. drop 1 ms ++ rest) (opened_entries answer order)
+        ∙ append_assoc (works (replicate (length answer) path)) (place_marks c plan run part path answer (first_place (drop part plan.parts.items))) rest
+        ∙ ap (λ ms. works (replicate (length answer) path) ++ ms) (sym (is ∙ ap (λ p. place_marks c plan run part path answer p ++ rest) at));
     units = omega (arith, units, length-replicate (length answer) path);
   }
 
--- a directory begins with two steps for each entry, and one for each of the special names
-pub first_steps : (n : ℕ) (dotted : Bool) (p : Place) → p ≡ cond dotted Parent (At 0) → (place_steps n p ≤ 2 * n + 2) × (place_unmet n p ≤ n)
-first_steps n true p is = subst (λ q. (place_steps n q ≤ 2 * n + 2) × (place_unmet n q ≤ n)) (sym is) (omega arith, omega arith)
-first_steps n false p is = subst (λ q. (place_steps n q ≤ 2 * n + 2) × (place_unmet n q ≤ n)) (sym is) (omega arith, omega arith)
+-- a directory begins with no more entries unmet than it has
+pub first_unmet : (n : ℕ) (dotted : Bool) (p : Place) → p ≡ cond dotted Parent (At 0) → place_unmet n p ≤ n
+first_unmet n true p is = subst (λ q. place_unmet n q ≤ n) (sym is) (omega arith)
+first_unmet n false p is = subst (λ q. place_unmet n q ≤ n) (sym is) (omega arith)
+
+-- a listing that failed leaves its error
+pub listed_fault : {A : Type 0} (c : Content) (w : IsContent c) (plan : Plan A) (run : Bool) (part : ℕ) (path : Text) (opens : IsOpened run (drop part plan.parts.items))
+    (d : is_directory (look_result c path) ≡ true) (kind : ErrorKind) → IsListFault (list_result c path) kind → drop 1 (enter_from c plan part path true) ≡ Give (Unread path kind) ∷ []
+listed_fault c w plan run part path opens d kind fault = ap (drop 1) (opened_fault c w plan run part path opens d kind fault)
+
+-- the task of a stack awaits a listing
+module _ {A : Type 0} (c : Content) (s : Stack A) (t : Task A) (run : Bool) (next : s.next ≡ Some t) (listing : t.sight ≡ Listing run) where
+  pub listed_answer : (P : Option Question → Type 0) → P (question_of s.next) → P (Some (ListAt (string_bytes t.path)))
+  listed_answer P h = subst P (ap question_of next ∙ ap (sight_question (string_bytes t.path)) listing) h
+
+  pub unread_left : IsContent c → IsNextOpened s.plan.parts.items s.next → IsNextSound c s.next → (kind : ErrorKind) → IsListFault (list_result c (string_bytes t.path)) kind
+      → left c s ≡ Give (Unread (string_bytes t.path) kind) ∷ frames_marks c s.plan s.frames.items
+  unread_left w opened sound kind fault =
+      let rest = frames_marks c s.plan s.frames.items in
+      let o : IsSightOpened s.plan.parts.items t.part (Listing run) = subst (IsSightOpened s.plan.parts.items t.part) listing (subst (IsNextOpened s.plan.parts.items) next opened) in
+      let d : IsSightSound c (string_bytes t.path) (Listing run) = subst (IsSightSound c (string_bytes t.path)) listing (subst (IsNextSound c) next sound) in
+      ap (λ n. next_marks c s.plan n ++ rest) next
+      ∙ ap (λ x. sight_marks c s.plan t.part (string_bytes t.path) x ++ rest) listing
+      ∙ ap (λ ms. ms ++ rest) (listed_fault c w s.plan run t.part (string_bytes t.path) o.1 d kind fault)

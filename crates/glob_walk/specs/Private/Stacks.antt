@@ -23,6 +23,8 @@ left c s = next_marks c s.plan s.next ++ frames_marks c s.plan s.frames.items
 abbrev pub sight_weight : Sight → ℕ
 sight_weight (sight.Unseen w) = 1
 sight_weight (sight.Seen d) = 2
+sight_weight (sight.Looking w) = 0
+sight_weight (sight.Listing run) = 0
 
 abbrev pub next_weight : {A : Type 0} → Option (Task A) → ℕ
 next_weight None = 0
@@ -31,7 +33,7 @@ next_weight (Some t) = sight_weight t.sight
 abbrev pub frame_weight : {A : Type 0} → Frame A → ℕ
 frame_weight f = 3 * steps_left f + 1
 
--- a bound on the turns before the next unit
+-- a bound on the turns before the next question or item
 abbrev pub weight : {A : Type 0} → Stack A → ℕ
 weight s = next_weight s.next + sum_by frame_weight s.frames.items
 

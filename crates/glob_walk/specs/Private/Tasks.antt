@@ -1,5 +1,5 @@
 -- What a task stands for in the written listing.
-use Rattle.std.specs.Prelude.{◌≡◌, ℕ, Bool, true, false, if◌then◌else◌, List, [], ◌∷◌, length, drop, Option, Some, None, string_bytes, nat_le}
+use Rattle.std.specs.Prelude.{◌≡◌, ℕ, ◌<◌, Bool, true, false, if◌then◌else◌, List, [], ◌∷◌, length, drop, Option, Some, None, string_bytes, nat_le}
 use Rattle.glob_text.specs.Text.{Text}
 use Rattle.glob_walk.specs.Marks.{Mark}
 use Rattle.glob_tree.specs.Content.{Content, look_result}
@@ -7,6 +7,7 @@ use Rattle.glob_walk.specs.Components.{Recursive, Wild, component_kind, begins_r
 use Rattle.glob_text.specs.Pieces.{begins_with}
 use Rattle.glob_text.specs.Characters.{dot}
 use Rattle.glob_walk.specs.Listing.{enter, look_up}
+use Rattle.glob_walk.specs.Questions.{Question, LookAt, ListAt}
 use Rattle.glob_tree.specs.Looks.{is_there, is_directory}
 use Rattle.glob_tree.specs.declared.tree.Look.{Look}
 use Rattle.glob_walk.specs.declared.plan.Plan.{Plan}
@@ -30,6 +31,9 @@ enter_from c plan part = enter c plan.options plan.directories (drop part plan.p
 abbrev pub sight_marks : {A : Type 0} → Content → Plan A → ℕ → Text → Sight → List Mark
 sight_marks c plan part path (sight.Unseen w) = look_up c (is_wanted w) (enter_from c plan part) path
 sight_marks c plan part path (sight.Seen d) = enter_from c plan part path d
+sight_marks c plan part path (sight.Looking w) =
+    if is_wanted w (look_result c path) then enter_from c plan part path (is_directory (look_result c path)) else []
+sight_marks c plan part path (sight.Listing run) = drop 1 (enter_from c plan part path true)
 
 abbrev pub task_marks : {A : Type 0} → Content → Plan A → Task A → List Mark
 task_marks c plan t = sight_marks c plan t.part (string_bytes t.path) t.sight
@@ -42,6 +46,8 @@ next_marks c plan (Some t) = task_marks c plan t
 abbrev pub IsSightSound : Content → Text → Sight → Type 0
 IsSightSound c path (sight.Unseen w) = Unit {0}
 IsSightSound c path (sight.Seen d) = d ≡ true → is_directory (look_result c path) ≡ true
+IsSightSound c path (sight.Looking w) = Unit {0}
+IsSightSound c path (sight.Listing run) = is_directory (look_result c path) ≡ true
 
 abbrev pub IsNextSound : {A : Type 0} → Content → Option (Task A) → Type 0
 IsNextSound c None = Unit {0}
@@ -51,6 +57,8 @@ IsNextSound c (Some t) = IsSightSound c (string_bytes t.path) t.sight
 abbrev pub sight_ready : Bool → Sight → ℕ
 sight_ready last (sight.Unseen w) = 0
 sight_ready last (sight.Seen d) = if last then 1 else 0
+sight_ready last (sight.Looking w) = 1
+sight_ready last (sight.Listing run) = 1
 
 abbrev pub next_ready : {A : Type 0} → Plan A → Option (Task A) → ℕ
 next_ready plan None = 0
@@ -61,6 +69,28 @@ abbrev pub IsOpened : Bool → List Text → Type 0
 IsOpened run [] = ⊥
 IsOpened false (t ∷ ts) = component_kind t ≡ Wild
 IsOpened true (t ∷ ts) = (component_kind t ≡ Recursive) × (begins_recursive ts ≡ false)
+
+-- what is asked for, where a task awaits an answer
+abbrev pub sight_question : Text → Sight → Option Question
+sight_question path (sight.Unseen w) = None
+sight_question path (sight.Seen d) = None
+sight_question path (sight.Looking w) = Some (LookAt path)
+sight_question path (sight.Listing run) = Some (ListAt path)
+
+abbrev pub question_of : {A : Type 0} → Option (Task A) → Option Question
+question_of None = None
+question_of (Some t) = sight_question (string_bytes t.path) t.sight
+
+-- a directory whose listing is asked for is one of a component
+abbrev pub IsSightOpened : List Text → ℕ → Sight → Type 0
+IsSightOpened ts part (sight.Unseen w) = Unit {0}
+IsSightOpened ts part (sight.Seen d) = Unit {0}
+IsSightOpened ts part (sight.Looking w) = Unit {0}
+IsSightOpened ts part (sight.Listing run) = (part < length ts) × IsOpened run (drop part ts)
+
+abbrev pub IsNextOpened : {A : Type 0} → List Text → Option (Task A) → Type 0
+IsNextOpened ts None = Unit {0}
+IsNextOpened ts (Some t) = IsSightOpened ts t.part t.sight
 
 -- the first component begins with a dot
 abbrev pub is_dotted : List Text → Bool

@@ -1,32 +1,46 @@
 -- One turn of a walk, against the written listing.
-use Rattle.std.specs.Prelude.{◌≡◌, ℕ, ◌+◌, ◌*◌, ◌-◌, ◌≤◌, ◌<◌, Option, Some, List, [], ◌∷◌, String, string_bytes, ⊤}
+use Rattle.std.specs.Prelude.{◌≡◌, ℕ, ◌+◌, ◌≤◌, Option, Some, None, List, [], ◌∷◌, String, string_bytes, ⊤}
 use Rattle.std.specs.IoError.{error_kind}
+use Rattle.glob_text.specs.Text.{Text}
 use Rattle.glob_walk.specs.Marks.{Mark, Give, Found, Unread}
 use Rattle.glob_walk.specs.declared.meter.Meter.{Meter}
 use Rattle.glob_walk.specs.declared.turn.Turn.{Turn}
 use Rattle.glob_walk.specs.declared.turn.Turn.TheVariants as turn
+use Rattle.glob_walk.specs.declared.course.Answer.{Answer}
+use Rattle.glob_walk.specs.declared.course.Answer.TheVariants as answer
+use Rattle.glob_walk.specs.Questions.{Question, IsLook, IsList, IsSomeContent, IsSeenIn, IsListedIn, question_path}
+use Rattle.glob_walk.specs.Courses.{AsksNext}
 use Rattle.glob_walk.specs.Walks.{Charges, StopsAt}
-use Rattle.glob_tree.specs.Content.{Content}
-use Rattle.glob_tree.specs.Answers.{IsTold}
+use Rattle.glob_tree.specs.Content.{Content, list_result}
+use Rattle.glob_tree.specs.Answers.{IsListAnswer, entries_of, entry_count}
+use Rattle.glob_tree.specs.declared.tree.Entry.{Entry}
 use Rattle.glob_walk.specs.declared.stack.Stack.{Stack}
 use Rattle.glob_walk.specs.declared.task.Sight.{Sight}
-use Rattle.glob_walk.specs.Private.Stacks.{left, weight, ready, IsWithin, IsSound}
-use Rattle.glob_walk.specs.Private.Meters.{IsExact, IsAtLimit}
+use Rattle.glob_walk.specs.Private.Tasks.{question_of, IsNextOpened}
+use Rattle.glob_walk.specs.Private.Stacks.{left, ready, IsWithin, IsSound}
 
--- what a turn takes from the front of what was left
-abbrev pub TurnOf : {A : Type 0} → List Mark → ℕ → Turn A → List Mark → ℕ → Type 0
-TurnOf old spent turn.Went new spent' = Charges old spent new spent'
-TurnOf old spent (turn.Path p) new spent' = Charges old spent (Give (Found (string_bytes p)) ∷ new) spent'
-TurnOf old spent (turn.Unread p e) new spent' =
+-- what a turn takes from the front of what was left, and what is then asked for
+abbrev pub TurnOf : {A : Type 0} → List Mark → ℕ → Turn A → Option Question → List Mark → ℕ → Type 0
+TurnOf old spent turn.Went q new spent' = Charges old spent new spent'
+TurnOf old spent turn.Look q new spent' = AsksNext old spent (question_path q) new spent'
+TurnOf old spent turn.List q new spent' = AsksNext old spent (question_path q) new spent'
+TurnOf old spent (turn.Path p) q new spent' = Charges old spent (Give (Found (string_bytes p)) ∷ new) spent'
+TurnOf old spent (turn.Unread p e) q new spent' =
     Charges old spent (Give (Unread (string_bytes p) (error_kind e)) ∷ new) spent'
-TurnOf old spent (turn.Limit p) new spent' = StopsAt old spent (string_bytes p) spent'
-TurnOf old spent turn.Memory new spent' = ⊤
-TurnOf old spent turn.Done new spent' = Charges old spent new spent' × (new ≡ [])
+TurnOf old spent (turn.Limit p) q new spent' = StopsAt old spent (string_bytes p) spent'
+TurnOf old spent turn.Memory q new spent' = ⊤
+TurnOf old spent turn.Done q new spent' = Charges old spent new spent' × (new ≡ [])
 
--- the counts of a turn, over every tree
-abbrev pub TurnCounts : {X A : Type 0} → (X → ℕ) → Meter X → Turn A → Meter X → Type 0
-TurnCounts asks old (turn.Limit p) new = IsAtLimit asks old new
-TurnCounts asks old _ new = IsExact asks old new
+-- the unit of a question
+abbrev pub turn_units : {A : Type 0} → Turn A → ℕ
+turn_units turn.Look = 1
+turn_units turn.List = 1
+turn_units _ = 0
+
+-- the counts of a turn, where so many entries were answered
+abbrev pub TurnCounts : {A : Type 0} → ℕ → Meter → Turn A → Meter → Type 0
+TurnCounts n old (turn.Limit p) new = (new.spent ≡ new.limit) × (new.limit ≤ old.spent + n) × (old.spent ≤ new.spent)
+TurnCounts n old t new = new.spent ≡ old.spent + n + turn_units t
 
 -- the items of the listing that a turn gives; a refusal is none
 abbrev pub listed_items : {A : Type 0} → Turn A → ℕ
@@ -34,35 +48,60 @@ listed_items (turn.Path p) = 1
 listed_items (turn.Unread p e) = 1
 listed_items _ = 0
 
--- a bound on the turns that are left: a unit of the limit may bring eight
-abbrev pub turns_left : {X A : Type 0} → Meter X → Stack A → ℕ
-turns_left meter s = 8 * (meter.limit - meter.spent) + weight s
-
 -- the walk is not ended by a refusal
 abbrev pub IfGoing : {A : Type 0} → Turn A → Type 0 → Type 0
 IfGoing (turn.Limit p) P = ⊤
 IfGoing turn.Memory P = ⊤
 IfGoing _ P = P
 
--- A turn takes a walk from one meter and stack to others. `sound` and `takes` are of a tree with a known content, and
--- the rest of every tree.
-pub record TurnsTo {X A : Type 0} (asks : X → ℕ) (tells : X → Option Content) (old : Meter X) (s : Stack A)
-    (t : Turn A) (new : Meter X) (s' : Stack A) : Type 0 where
-  -- the tree tells the same content, and was asked what was charged
-  pub told : tells new.tree ≡ tells old.tree
-  pub counts : TurnCounts asks old t new
+-- what is asked for after a turn
+abbrev pub IsAskedBy : {A : Type 0} → Turn A → Stack A → Type 0
+IsAskedBy turn.Look s = IsLook (question_of s.next)
+IsAskedBy turn.List s = IsList (question_of s.next) × IsNextOpened s.plan.parts.items s.next
+IsAskedBy (turn.Limit p) s = ⊤
+IsAskedBy turn.Memory s = ⊤
+IsAskedBy _ s = question_of s.next ≡ None
+
+-- A turn takes a walk from one meter and stack to others, where so many entries were answered. `sound` and `takes` are of
+-- the contents that fit the answer, and the rest of every answer.
+pub record TurnsTo {A : Type 0} (Fits : Content → Type 0) (n : ℕ) (old : Meter) (s : Stack A) (t : Turn A) (new : Meter)
+    (s' : Stack A) : Type 0 where
+  pub limit : new.limit ≡ old.limit
+  pub fits : new.spent ≤ new.limit
+  pub counts : TurnCounts n old t new
   pub plan : s'.plan ≡ s.plan
   pub within : IfGoing t (IsWithin s')
-  -- a turn that goes on leaves fewer turns
-  pub falls : t ≡ turn.Went → turns_left new s' < turns_left old s
+  pub asks : IsAskedBy t s'
   -- the items that may come before the next unit are as many as before, and one more for each unit that was charged
   pub ready : IfGoing t (ready s' + listed_items t + old.spent ≤ ready s + new.spent)
   -- what is said to be a directory stays one
-  pub sound : IfGoing t ((c : Content) → IsTold (tells old.tree) c → IsSound c s → IsSound c s')
+  pub sound : IfGoing t ((c : Content) → Fits c → IsSound c s → IsSound c s')
   -- what was left begins with what the turn takes
-  pub takes : (c : Content) → IsTold (tells old.tree) c → IsSound c s
-      → TurnOf (left c s) old.spent t (left c s') new.spent
+  pub takes : (c : Content) → Fits c → IsSound c s
+      → TurnOf (left c s) old.spent t (question_of s'.next) (left c s') new.spent
 
 -- the stack, with this to do first
 abbrev pub with_task : {A : Type 0} → String A → ℕ → Sight → Stack A → Stack A
 with_task path part sight s = record s { next = Some (record { path = path; part = part; sight = sight }) }
+
+-- the content lists these entries at the path
+abbrev pub AreListedAt : {A : Type 0} → Text → List (Entry A) → Content → Type 0
+AreListedAt path es c = IsSomeContent c × IsListAnswer (list_result c path) (entries_of es)
+
+-- the answer is one to what is asked for
+abbrev pub IsAnswer : {A : Type 0} → Option Question → Answer A → Type 0
+IsAnswer q answer.Nothing = q ≡ None
+IsAnswer q (answer.Look r) = IsLook q
+IsAnswer q (answer.List r) = IsList q
+
+-- the content answers so
+abbrev pub IsAnswered : {A : Type 0} → Option Question → Answer A → Content → Type 0
+IsAnswered q answer.Nothing c = IsSomeContent c
+IsAnswered q (answer.Look r) c = IsSeenIn q r c
+IsAnswered q (answer.List r) c = IsListedIn q r c
+
+-- how many entries were answered
+abbrev pub answer_count : {A : Type 0} → Answer A → ℕ
+answer_count answer.Nothing = 0
+answer_count (answer.Look r) = 0
+answer_count (answer.List r) = entry_count r

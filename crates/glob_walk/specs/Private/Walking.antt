@@ -1,5 +1,5 @@
 -- What is true of a walk between two items.
-use Rattle.std.specs.Prelude.{◌≡◌, ℕ, ◌+◌, ◌≤◌, ◌<◌, ◌^◌, Bool, false, Option, Some, None, string_bytes}
+use Rattle.std.specs.Prelude.{◌≡◌, ℕ, ◌+◌, ◌≤◌, ◌<◌, ◌^◌, Bool, true, false, Option, Some, None, string_bytes}
 use Rattle.std.specs.IoError.{error_kind}
 use Rattle.glob_tree.specs.Content.{Content}
 use Rattle.glob_tree.specs.Answers.{IsTold}
@@ -11,31 +11,62 @@ use Rattle.glob_walk.specs.declared.turn.Turn.{Turn}
 use Rattle.glob_walk.specs.declared.turn.Turn.TheVariants as turn
 use Rattle.glob_walk.specs.declared.walk.End.{End}
 use Rattle.glob_walk.specs.declared.walk.End.TheVariants as end
-use Rattle.glob_walk.specs.Private.Stacks.{ready, IsWithin, IsSound}
+use Rattle.glob_walk.specs.Private.Tasks.{question_of, IsNextOpened}
+use Rattle.glob_walk.specs.Private.Stacks.{ready, IsWithin}
+use Rattle.glob_walk.specs.declared.course.Step.{Step}
+use Rattle.glob_walk.specs.Courses.{Coursing, Agrees, Saying, AsksLook, AsksList, Says, Ends, saying}
 
 -- what is true of a walk that is not over
-pub record IsUnderWay {X A : Type 0} (tells : X → Option Content) (meter : Meter X) (stack : Stack A)
-    (given : ℕ) : Type 0 where
+pub record IsUnderWay {A : Type 0} (meter : Meter) (stack : Stack A) (given : ℕ) : Type 0 where
   pub within : IsWithin stack
   pub ready : given + ready stack ≤ meter.spent
-  pub sound : (c : Content) → IsTold (tells meter.tree) c → IsSound c stack
+  pub opened : IsNextOpened stack.plan.parts.items stack.next
 
--- what is true of a walk between two items, over or not
-pub record IsGood {X A : Type 0} (tells : X → Option Content) (meter : Meter X) (stack : Stack A)
-    (given : ℕ) (over : Bool) : Type 0 where
+-- what is true of a walk between two steps, over or not
+pub record IsGood {A : Type 0} (meter : Meter) (stack : Stack A) (given : ℕ) (over : Bool) : Type 0 where
   pub limit : meter.spent ≤ meter.limit
   pub fits : meter.limit < 2 ^ 64
   pub few : given ≤ meter.spent + 1
-  pub going : over ≡ false → IsUnderWay tells meter stack given
+  pub going : over ≡ false → IsUnderWay meter stack given
+  pub ended : over ≡ true → question_of stack.next ≡ None
 
 -- what a turn that ends a run says
 abbrev pub turn_outcome : {A : Type 0} → Turn A → Option Outcome
 turn_outcome turn.Went = None
+turn_outcome turn.Look = None
+turn_outcome turn.List = None
 turn_outcome (turn.Path p) = Some (Gives (Found (string_bytes p)))
 turn_outcome (turn.Unread p e) = Some (Gives (Unread (string_bytes p) (error_kind e)))
 turn_outcome (turn.Limit p) = Some (LimitAt (string_bytes p))
 turn_outcome turn.Memory = Some NoMemory
 turn_outcome turn.Done = None
+
+abbrev pub turn_saying : {A : Type 0} → Turn A → Saying
+turn_saying turn.Went = Ends
+turn_saying turn.Look = AsksLook
+turn_saying turn.List = AsksList
+turn_saying (turn.Path p) = Says (Gives (Found (string_bytes p)))
+turn_saying (turn.Unread p e) = Says (Gives (Unread (string_bytes p) (error_kind e)))
+turn_saying (turn.Limit p) = Says (LimitAt (string_bytes p))
+turn_saying turn.Memory = Says NoMemory
+turn_saying turn.Done = Ends
+
+-- no item follows
+abbrev pub is_last_turn : {A : Type 0} → Turn A → Bool
+is_last_turn turn.Done = true
+is_last_turn (turn.Limit p) = true
+is_last_turn turn.Memory = true
+is_last_turn _ = false
+
+-- the step of a turn
+abbrev pub IsStepOf : {A : Type 0} → Turn A → Step A → Type 0
+IsStepOf t s = saying s ≡ turn_saying t
+
+-- What is true of a walk over a tree between two items: no question is open, and each answer so far was that of the tree's
+-- content.
+pub record IsDriven {X A : Type 0} (tells : X → Option Content) (tree : X) (course : Coursing A) : Type 0 where
+  pub free : course.asked ≡ None
+  pub agrees : (c : Content) → IsTold (tells tree) c → course.over ≡ false → Agrees c course
 
 -- the end of a walk that gave a refusal
 abbrev pub refusal_end : Outcome → Option End

@@ -1,12 +1,12 @@
 //! The tasks that come of the places in a directory.
 //!
 //! Each place leaves at most one task, and a child's path is made only with its task.
-ghost use Rattle.std.specs.Prelude.{◌≡◌, ◌+◌, ◌<◌, IfOk, string_bytes, if◌then◌else◌, vec_len};
+ghost use Rattle.std.specs.Prelude.{◌≡◌, ◌+◌, ◌<◌, None, IfOk, string_bytes, if◌then◌else◌, vec_len};
 ghost use Rattle.glob_tree.specs.Content.{Content};
 ghost use Rattle.glob_walk.specs.Listing.{is_entered as is_entered_entry};
 ghost use Rattle.glob_text.specs.Text.{Text};
 ghost use Rattle.glob_walk.specs.Private.Parts.{takes_name};
-ghost use Rattle.glob_walk.specs.Private.Tasks.{next_marks, next_ready, IsNextSound};
+ghost use Rattle.glob_walk.specs.Private.Tasks.{next_marks, next_ready, question_of, IsNextSound};
 ghost use Rattle.glob_walk.specs.Private.Frames.{first_part, first_marks, second_marks, met_marks, special_marks, IsEntrySound};
 
 use crate::frame::Frame;
@@ -29,6 +29,7 @@ impl<A: Allocator + Copy> Frame<A> {
             (λ task. (c : Content)
             → special_marks c plan.now self.now.part (string_bytes self.now.path) name.now
             ≡ next_marks c plan.now task) }
+        ensures free { IfOk result (λ task. question_of task ≡ None) }
         ensures ready { IfOk result (λ task. next_ready plan.now task ≡ 0) }
         ensures sound { IfOk result (λ task. (c : Content) → IsNextSound c task) }
     {
@@ -56,6 +57,7 @@ impl<A: Allocator + Copy> Frame<A> {
             (λ task. (c : Content)
             → first_marks c plan.now self.now (entry.now.name, entry.now.is_dir)
             ≡ next_marks c plan.now task) }
+        ensures free { IfOk result (λ task. question_of task ≡ None) }
         ensures sound { IfOk result
             (λ task. (c : Content)
             → IsEntrySound c (string_bytes self.now.path) (entry.now.name, entry.now.is_dir)
@@ -83,6 +85,7 @@ impl<A: Allocator + Copy> Frame<A> {
             (λ task. (c : Content)
             → second_marks c plan.now self.now (entry.now.name, entry.now.is_dir)
             ≡ next_marks c plan.now task) }
+        ensures free { IfOk result (λ task. question_of task ≡ None) }
         ensures ready { IfOk result (λ task. next_ready plan.now task ≡ 0) }
         ensures sound { IfOk result
             (λ task. (c : Content)

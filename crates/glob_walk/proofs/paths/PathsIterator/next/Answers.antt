@@ -1,30 +1,38 @@
-use Rattle.std.proofs.Common.{rules, ◌+◌, ◌≤◌, ◌^◌, sym, arith, subst}
-use Rattle.glob_walk.specs.Private.Walking.{IsGood, turn_outcome}
-use Rattle.glob_walk.specs.Walks.{item_number}
-use Rattle.glob_walk.proofs.WalkLemmas.Taking.{IsGood-after, goes_at, goes_over, one_item}
+use Rattle.std.proofs.Common.{rules, ◌≡◌, ◌+◌, ap, arith, subst}
+use Rattle.glob_tree.specs.Answers.{entry_count}
+use Rattle.glob_walk.specs.Courses.{Says, Ends, saying, units_said}
+use Rattle.glob_walk.specs.Questions.{IsSeenIn, IsListedIn}
+use Rattle.glob_walk.specs.Walks.{outcome}
+use Rattle.glob_walk.proofs.WalkLemmas.Driving.{Drives, Drives-first, Drives-after, Drives-last, seen_fits, listed_fits}
 use Rattle.glob_walk.proofs.paths.PathsIterator.next.Goals as goal
 
-pub overflow_add-self : goal.overflow_add-self
-overflow_add-self g c =
-    let one : c.item_count.result ≤ 1 = subst (λ n. n ≤ 1) (sym c.item_count.ensures) (one_item c.take_turn-turn.result) in
-    let few = c.self.invariant.few in
-    let fits = c.self.invariant.fits in
-    let limit = c.self.invariant.limit in
-    let small : c.self.inside.given + c.item_count.result ≤ 2 ^ 64 + 1 = omega (arith, one, few, fits, limit) in
-    search rules
+pub loop-step-init : goal.loop-step-init
+loop-step-init g c =
+    Drives-first g.T.Tree.asks g.T.Tree.tells c.args.self.now c.self.inside.tree c.self.inside.course c.next-step.new.self (saying c.next-step.result) c.self.view_is c.self.invariant c.next-step.ensures.steps
 
-pub invariant_of-self : goal.invariant_of-self
-invariant_of-self g c =
-    subst (λ n. IsGood g.T.Tree.tells c.take_turn-turn.new.self.meter c.take_turn-turn.new.self.stack (c.self.inside.given + n) c.is_last-self-inside.result) (sym c.item_count.ensures)
-    (subst (λ b. IsGood g.T.Tree.tells c.take_turn-turn.new.self.meter c.take_turn-turn.new.self.stack (c.self.inside.given + item_number (turn_outcome c.take_turn-turn.result)) b) (sym c.is_last-self-inside.ensures)
-    (IsGood-after g.T.Tree.asks g.T.Tree.tells c.self.inside.walker.meter c.take_turn-turn.new.self.meter c.self.inside.walker.stack c.take_turn-turn.new.self.stack c.self.inside.given c.self.invariant.fits (c.self.invariant.going c.if-self.false) c.take_turn-turn.result c.take_turn-turn.ensures.stops c.take_turn-turn.ensures.turn))
+pub returns-in-Item-clause-steps : goal.returns-in-Item-clause-steps
+returns-in-Item-clause-steps g c =
+    Drives-last g.T.Tree.asks g.T.Tree.tells c.args.self.now c.loop-step.self-inside.tree c.loop-step.self-inside.course (Says (outcome c.in-Item.item)) (omega arith)
+    (subst (λ s. Drives g.T.Tree.asks g.T.Tree.tells c.args.self.now c.loop-step.self-inside.tree c.loop-step.self-inside.course (saying s)) c.in-Item.is c.loop-step.invariant)
 
-pub returns-clause-steps : goal.returns-clause-steps
-returns-clause-steps g c =
-    goes_at g.T.Tree.asks g.T.Tree.tells c.self.inside.walker.meter c.take_turn-turn.new.self.meter c.self.inside.walker.stack c.take_turn-turn.new.self.stack c.self.inside.given c.self.inside.over c.if-self.false
-    c.self.invariant.fits (c.self.invariant.going c.if-self.false) c.take_turn-turn.result c.args.self.now _ c.item_count.result c.is_last-self-inside.result
-    c.self.view_is c.into_item.ensures c.item_count.ensures c.is_last-self-inside.ensures c.take_turn-turn.ensures.stops c.take_turn-turn.ensures.turn
+pub returns-in-Done-clause-steps : goal.returns-in-Done-clause-steps
+returns-in-Done-clause-steps g c =
+    Drives-last g.T.Tree.asks g.T.Tree.tells c.args.self.now c.loop-step.self-inside.tree c.loop-step.self-inside.course Ends (omega arith)
+    (subst (λ s. Drives g.T.Tree.asks g.T.Tree.tells c.args.self.now c.loop-step.self-inside.tree c.loop-step.self-inside.course (saying s)) c.in-Done.is c.loop-step.invariant)
 
-pub returns-then-self-clause-steps : goal.returns-then-self-clause-steps
-returns-then-self-clause-steps g c =
-    goes_over g.T.Tree.asks g.T.Tree.tells c.self.inside.walker.meter c.self.inside.walker.stack c.self.inside.given c.self.inside.over c.if-self.true c.args.self.now c.self.view_is c.self.invariant
+pub loop-step-preserved-in-Look : goal.loop-step-preserved-in-Look
+loop-step-preserved-in-Look g c =
+    let course = c.loop-step.self-inside.course in
+    let asks : units_said (saying c.loop-step.step) ≡ 1 = ap (λ s. units_said (saying s)) c.in-Look.is in
+    let more : g.T.Tree.asks c.look-seen.new.self ≡ g.T.Tree.asks c.loop-step.self-inside.tree + 1 + 0 = let m = c.look-seen.ensures.asks in omega (arith, m) in
+    Drives-after g.T.Tree.asks g.T.Tree.tells c.args.self.now c.loop-step.self-inside.tree c.look-seen.new.self course c.looked.new.self (saying c.loop-step.step) (saying c.looked.result)
+    0 (IsSeenIn course.asked c.look-seen.result) asks c.loop-step.invariant more c.look-seen.ensures.content
+    (λ x told. seen_fits course.asked c.look-seen.result x c.path.result.now (search rules) c.path.ensures told.1 (c.look-seen.ensures.seen x told)) c.looked.ensures.steps
+
+pub loop-step-preserved : goal.loop-step-preserved
+loop-step-preserved g c =
+    let course = c.loop-step.self-inside.course in
+    let asks : units_said (saying c.loop-step.step) ≡ 1 = ap (λ s. units_said (saying s)) c.in-List.is in
+    Drives-after g.T.Tree.asks g.T.Tree.tells c.args.self.now c.loop-step.self-inside.tree c.list-listed.new.self course c.listed.new.self (saying c.loop-step.step) (saying c.listed.result)
+    (entry_count c.list-listed.result) (IsListedIn course.asked c.list-listed.result) asks c.loop-step.invariant c.list-listed.ensures.asks c.list-listed.ensures.content
+    (λ x told. listed_fits course.asked c.list-listed.result x c.path-in-List.result.now (search rules) c.path-in-List.ensures told.1 (c.list-listed.ensures.entries x told) (c.list-listed.ensures.fails x told)) c.listed.ensures.steps

@@ -13,6 +13,8 @@ use Rattle.glob_walk.proofs.stack.Stack.go_on.Goals as goal
 sight-light : (s : Sight) → sight_weight s ≤ 2
 sight-light (sight.Unseen w) = omega arith
 sight-light (sight.Seen d) = omega arith
+sight-light (sight.Looking w) = omega arith
+sight-light (sight.Listing run) = omega arith
 
 next-light : {A : Type 0} (next : Option (Task A)) → next_weight next ≤ 2
 next-light None = omega arith

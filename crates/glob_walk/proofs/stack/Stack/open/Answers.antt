@@ -3,7 +3,7 @@ use Rattle.std.specs.List.{All, sum_by}
 use Rattle.std.proofs.lemmas.List.Elements.{All-push}
 use Rattle.std.proofs.lemmas.List.Sums.{sum_by_push}
 use Rattle.glob_walk.specs.Private.Frames.{frame_marks, is_done, unmet, IsFrameSound}
-use Rattle.glob_walk.specs.Private.Stacks.{left, frames_marks, frame_weight}
+use Rattle.glob_walk.specs.Private.Stacks.{left, frames_marks}
 use Rattle.glob_walk.proofs.WalkLemmas.Stacking.{done_marks, left_none, frames_last}
 use Rattle.glob_walk.proofs.stack.Stack.open.Goals as goal
 
@@ -11,9 +11,6 @@ pub returns-then-is_done-clause-left : goal.returns-then-is_done-clause-left
 returns-then-is_done-clause-left g c = λ c'.
     let done : is_done c.args.frame ≡ true = sym c.is_done.ensures ∙ c.if-is_done.true in
     sym (ap (λ ms. ms ++ left c' c.args.self.now) (done_marks c' c.args.self.now.plan c.args.frame done))
-
-pub returns-then-is_done-clause-weight : goal.returns-then-is_done-clause-weight
-returns-then-is_done-clause-weight g c = omega arith
 
 pub returns-then-is_done-clause-ready : goal.returns-then-is_done-clause-ready
 returns-then-is_done-clause-ready g c = omega arith
@@ -27,12 +24,6 @@ returns-clause-left g c = λ c'.
     ∙ ap (frames_marks c' c.args.self.now.plan) c.in_ok-push.ensures.items
     ∙ frames_last c' c.args.self.now.plan c.args.self.now.frames.items c.args.frame
     ∙ ap (λ ms. frame_marks c' c.args.self.now.plan c.args.frame ++ ms) (left_none c' c.args.self.now c.requires.none)
-
-pub returns-clause-weight : goal.returns-clause-weight
-returns-clause-weight g c =
-    let more : sum_by frame_weight c.push.new.self.items ≡ sum_by frame_weight c.args.self.now.frames.items + frame_weight c.args.frame =
-    ap (sum_by frame_weight) c.in_ok-push.ensures.items ∙ sum_by_push frame_weight c.args.self.now.frames.items c.args.frame in
-    omega (arith, more)
 
 pub returns-clause-ready : goal.returns-clause-ready
 returns-clause-ready g c =

@@ -1,0 +1,262 @@
+-- What a step takes.
+use Rattle.std.proofs.Common.{◌≡◌, ◌≢◌, ℕ, ◌+◌, ◌≤◌, ◌<◌, ◌^◌, length, Bool, true, false, [], Option, Some, None, refl, ap, sym, subst, ◌∙◌, arith}
+use Rattle.std.specs.Prelude.{string_bytes, sum_by, nat_le}
+use Rattle.std.specs.List.{All}
+use Rattle.std.proofs.lemmas.List.Elements.{All-from_recursion}
+use Rattle.std.proofs.lemmas.Bool.{both_ways}
+use Rattle.glob_tree.specs.Content.{Content}
+use Rattle.glob_walk.specs.Questions.{Question}
+use Rattle.glob_walk.specs.Courses.{Coursing, Saying, StepGoes, Ends}
+use Rattle.glob_walk.specs.Walks.{Charges, item_number}
+use Rattle.glob_walk.specs.declared.meter.Meter.{Meter}
+use Rattle.glob_walk.specs.declared.stack.Stack.{Stack}
+use Rattle.glob_walk.specs.declared.turn.Turn.{Turn}
+use Rattle.glob_walk.specs.declared.turn.Turn.TheVariants as turn
+use Rattle.glob_walk.specs.declared.course.Answer.{Answer}
+use Rattle.glob_walk.specs.declared.course.Answer.TheVariants as answer
+use Rattle.glob_walk.specs.Private.Stacks.{left, ready, IsWithin, IsSound}
+use Rattle.glob_walk.specs.Private.Tasks.{next_ready, sight_ready, question_of, IsNextSound, IsSightSound, IsNextOpened, IsSightOpened}
+use Rattle.glob_walk.specs.Private.Frames.{unmet, is_done, IsFrameSound}
+use Rattle.glob_walk.specs.declared.task.Task.{Task}
+use Rattle.glob_walk.specs.declared.task.Sight.TheVariants.{Unseen}
+use Rattle.glob_walk.specs.declared.task.Wanted.TheVariants.{Any}
+use Rattle.glob_walk.specs.Private.Turns.{TurnsTo, TurnCounts, IsAnswer, IsAnswered, answer_count}
+use Rattle.glob_walk.specs.Private.Walking.{IsUnderWay, IsGood, turn_outcome, turn_saying, is_last_turn}
+use Rattle.glob_walk.proofs.WalkLemmas.Charging.{opened-free, opened-look}
+
+pub one_item : {A : Type 0} (t : Turn A) → item_number (turn_outcome t) ≤ 1
+one_item turn.Went = omega arith
+one_item turn.Look = omega arith
+one_item turn.List = omega arith
+one_item (turn.Path p) = omega arith
+one_item (turn.Unread p e) = omega arith
+one_item (turn.Limit p) = omega arith
+one_item turn.Memory = omega arith
+one_item turn.Done = omega arith
+
+pub grows : {A : Type 0} (n : ℕ) (m m' : Meter) (t : Turn A) → TurnCounts n m t m' → m.spent ≤ m'.spent
+grows n m m' turn.Went h = omega (arith, h)
+grows n m m' turn.Look h = omega (arith, h)
+grows n m m' turn.List h = omega (arith, h)
+grows n m m' (turn.Path p) h = omega (arith, h)
+grows n m m' (turn.Unread p e) h = omega (arith, h)
+grows n m m' (turn.Limit p) h = h.2
+grows n m m' turn.Memory h = omega (arith, h)
+grows n m m' turn.Done h = omega (arith, h)
+
+-- what contracts see of it
+abbrev pub view : {A : Type 0} → Meter → Stack A → ℕ → Bool → Coursing A
+view m s given over = record { limit = m.limit; spent = m.spent; given = given; over = over; asked = question_of s.next; todo = s }
+
+-- nothing is left on the stack
+abbrev pub IsCleared : {A : Type 0} → Stack A → Type 0
+IsCleared s = (s.next ≡ None) × (s.frames.items ≡ [])
+
+cleared_sound : {A : Type 0} (c : Content) (s : Stack A) → IsCleared s → IsSound c s
+cleared_sound c s h = record {
+  next = subst (IsNextSound c) (sym h.0) tt;
+  frames = subst (All (IsFrameSound c)) (sym h.1) (All-from_recursion (IsFrameSound c) [] tt);
+}
+
+module _ {A : Type 0} (Fits : Content → Type 0) (n : ℕ) (m m' : Meter) (s s' : Stack A) (given : ℕ) (fits : m.limit < 2 ^ 64) (w : IsUnderWay m s given) where
+  going : (t : Turn A) (k : ℕ) → m'.limit ≡ m.limit → m'.spent ≤ m'.limit → IsWithin s' → ready s' + k + m.spent ≤ ready s + m'.spent → IsNextOpened s'.plan.parts.items s'.next
+      → IsGood m' s' (given + k) false
+  going t k same within in' more opened = record {
+    limit = within;
+    fits = subst (λ n. n < 2 ^ 64) (sym same) fits;
+    few = omega (arith, w.ready, more);
+    going = λ _. record { within = in'; ready = omega (arith, w.ready, more); opened = opened };
+    ended = λ yes'. absurd (both_ways false refl yes');
+  }
+
+  over : (k : ℕ) → k ≤ 1 → m'.limit ≡ m.limit → m.spent ≤ m'.spent → m'.spent ≤ m'.limit → question_of s'.next ≡ None → IsGood m' s' (given + k) true
+  over k one same more limit free = record {
+    limit = limit;
+    fits = subst (λ n. n < 2 ^ 64) (sym same) fits;
+    few = omega (arith, w.ready, one, more);
+    going = λ h. absurd (both_ways true h refl);
+    ended = λ _. free;
+  }
+
+  pub IsGood-after : (t : Turn A) → t ≢ turn.Went → TurnsTo Fits n m s t m' s' → (is_last_turn t ≡ true → IsCleared s')
+      → IsGood m' s' (given + item_number (turn_outcome t)) (is_last_turn t)
+  IsGood-after turn.Went stops r cleared = absurd (stops refl)
+  IsGood-after turn.Look stops r cleared = going turn.Look 0 r.limit r.fits r.within r.ready (opened-look s'.plan.parts.items s'.next r.asks)
+  IsGood-after turn.List stops r cleared = going turn.List 0 r.limit r.fits r.within r.ready r.asks.1
+  IsGood-after (turn.Path p) stops r cleared = going (turn.Path p) 1 r.limit r.fits r.within r.ready (opened-free s'.plan.parts.items s'.next r.asks)
+  IsGood-after (turn.Unread p e) stops r cleared = going (turn.Unread p e) 1 r.limit r.fits r.within r.ready (opened-free s'.plan.parts.items s'.next r.asks)
+  IsGood-after (turn.Limit p) stops r cleared = over 1 (omega arith) r.limit (grows n m m' (turn.Limit p) r.counts) r.fits (ap question_of (cleared refl).0)
+  IsGood-after turn.Memory stops r cleared = over 1 (omega arith) r.limit (grows {A = A} n m m' turn.Memory r.counts) r.fits (ap question_of (cleared refl).0)
+  IsGood-after turn.Done stops r cleared = over 0 (omega arith) r.limit (grows {A = A} n m m' turn.Done r.counts) r.fits r.asks
+
+  goes : (t : Turn A) → t ≢ turn.Went → TurnsTo Fits n m s t m' s' → (is_last_turn t ≡ true → IsCleared s')
+      → StepGoes Fits n (view m s given false) (turn_saying t) (view m' s' (given + item_number (turn_outcome t)) (is_last_turn t))
+  goes turn.Went stops r cleared = absurd (stops refl)
+  goes turn.Look stops r cleared = record {
+    counts = record {
+      limit = r.limit;
+      grows = grows {A = A} n m m' turn.Look r.counts;
+      within = r.fits;
+      charged = r.counts;
+      given = refl;
+      few = (IsGood-after turn.Look stops r cleared).few;
+      asks = r.asks;
+      ends = refl;
+      stays = λ yes'. absurd (both_ways false refl yes');
+    };
+    takes = λ c f no h. record { agrees = r.sound c f h; takes = r.takes c f h };
+  }
+  goes turn.List stops r cleared = record {
+    counts = record {
+      limit = r.limit;
+      grows = grows {A = A} n m m' turn.List r.counts;
+      within = r.fits;
+      charged = r.counts;
+      given = refl;
+      few = (IsGood-after turn.List stops r cleared).few;
+      asks = r.asks.0;
+      ends = refl;
+      stays = λ yes'. absurd (both_ways false refl yes');
+    };
+    takes = λ c f no h. record { agrees = r.sound c f h; takes = r.takes c f h };
+  }
+  goes (turn.Path p) stops r cleared = record {
+    counts = record {
+      limit = r.limit;
+      grows = grows n m m' (turn.Path p) r.counts;
+      within = r.fits;
+      charged = r.counts;
+      given = refl;
+      few = (IsGood-after (turn.Path p) stops r cleared).few;
+      asks = r.asks;
+      ends = refl;
+      stays = λ yes'. absurd (both_ways false refl yes');
+    };
+    takes = λ c f no h. record { agrees = r.sound c f h; takes = r.takes c f h };
+  }
+  goes (turn.Unread p e) stops r cleared = record {
+    counts = record {
+      limit = r.limit;
+      grows = grows n m m' (turn.Unread p e) r.counts;
+      within = r.fits;
+      charged = r.counts;
+      given = refl;
+      few = (IsGood-after (turn.Unread p e) stops r cleared).few;
+      asks = r.asks;
+      ends = refl;
+      stays = λ yes'. absurd (both_ways false refl yes');
+    };
+    takes = λ c f no h. record { agrees = r.sound c f h; takes = r.takes c f h };
+  }
+  goes (turn.Limit p) stops r cleared = record {
+    counts = record {
+      limit = r.limit;
+      grows = r.counts.2;
+      within = r.fits;
+      charged = (r.counts.0, r.counts.1);
+      given = refl;
+      few = (IsGood-after (turn.Limit p) stops r cleared).few;
+      asks = ap question_of (cleared refl).0;
+      ends = refl;
+      stays = λ yes'. absurd (both_ways false refl yes');
+    };
+    takes = λ c f no h. record { agrees = cleared_sound c s' (cleared refl); takes = r.takes c f h };
+  }
+  goes turn.Memory stops r cleared = record {
+    counts = record {
+      limit = r.limit;
+      grows = grows {A = A} n m m' turn.Memory r.counts;
+      within = r.fits;
+      charged = r.counts;
+      given = refl;
+      few = (IsGood-after turn.Memory stops r cleared).few;
+      asks = ap question_of (cleared refl).0;
+      ends = refl;
+      stays = λ yes'. absurd (both_ways false refl yes');
+    };
+    takes = λ c f no h. record { agrees = cleared_sound c s' (cleared refl); takes = r.takes c f h };
+  }
+  goes turn.Done stops r cleared = record {
+    counts = record {
+      limit = r.limit;
+      grows = grows {A = A} n m m' turn.Done r.counts;
+      within = r.fits;
+      charged = r.counts;
+      given = refl;
+      few = (IsGood-after turn.Done stops r cleared).few;
+      asks = r.asks;
+      ends = refl;
+      stays = λ yes'. absurd (both_ways false refl yes');
+    };
+    takes = λ c f no h. record {
+      agrees = r.sound c f h;
+      takes = let t = r.takes c f h in (subst (λ ms. Charges (left c s) m.spent ms m'.spent) t.1 t.0, t.1);
+    };
+  }
+
+-- a step, with what is known of its parts
+pub goes_at : {A : Type 0} (n : ℕ) (m m' : Meter) (s s' : Stack A) (given : ℕ) (over' : Bool) (a : Answer A) (v : Coursing A) → view m s given over' ≡ v → over' ≡ false → m.limit < 2 ^ 64 → IsUnderWay m s given
+    → (t : Turn A) (x : Saying) (k : ℕ) (b : Bool) → x ≡ turn_saying t → k ≡ item_number (turn_outcome t) → b ≡ is_last_turn t → t ≢ turn.Went
+    → TurnsTo (IsAnswered (question_of s.next) a) n m s t m' s' → (is_last_turn t ≡ true → IsCleared s') → StepGoes (IsAnswered v.asked a) n v x (view m' s' (given + k) b)
+goes_at {A} n m m' s s' given over' a v e going' fits w t x k b xs ks bs stops r cleared =
+    subst (λ u. StepGoes (IsAnswered u.asked a) n u x (view m' s' (given + k) b)) e
+    (subst (λ o. StepGoes (IsAnswered (question_of s.next) a) n (view m s given o) x (view m' s' (given + k) b)) (sym going')
+    (subst (λ y. StepGoes (IsAnswered (question_of s.next) a) n (view m s given false) y (view m' s' (given + k) b)) (sym xs)
+    (subst (λ y. StepGoes (IsAnswered (question_of s.next) a) n (view m s given false) (turn_saying t) (view m' s' (given + y) b)) (sym ks)
+    (subst (λ y. StepGoes (IsAnswered (question_of s.next) a) n (view m s given false) (turn_saying t) (view m' s' (given + item_number (turn_outcome t)) y)) (sym bs)
+    (goes (IsAnswered (question_of s.next) a) n m m' s s' given fits w t stops r cleared)))))
+
+-- without a question there is no answer
+none_answered : {A : Type 0} (q : Option Question) (a : Answer A) → q ≡ None → IsAnswer q a → answer_count a ≡ 0
+none_answered q answer.Nothing free h = refl
+none_answered q (answer.Look r) free h = refl
+none_answered q (answer.List r) free h = absurd (subst (λ x. IsAnswer x (answer.List r)) free h)
+
+-- a walk that is over stays as it is
+pub goes_over : {A : Type 0} (m : Meter) (s : Stack A) (given : ℕ) (over' : Bool) → over' ≡ true → (a : Answer A) (v : Coursing A) → view m s given over' ≡ v → IsGood m s given over' → IsAnswer v.asked a
+    → StepGoes (IsAnswered v.asked a) (answer_count a) v Ends v
+goes_over m s given over' yes' a v e good answers =
+    subst (λ x. IsAnswer x.asked a → StepGoes (IsAnswered x.asked a) (answer_count a) x Ends x) e
+    (λ fits.
+    let free = good.ended yes' in
+    let none = none_answered (question_of s.next) a free fits in
+    record {
+      counts = record {
+        limit = refl;
+        grows = omega arith;
+        within = good.limit;
+        charged = omega (arith, none);
+        given = omega arith;
+        few = good.few;
+        asks = free;
+        ends = yes';
+        stays = λ _. (refl, refl);
+      };
+      takes = λ c f no h. absurd (both_ways over' no yes');
+    }) answers
+
+-- a walk that has done nothing yet
+pub IsGood-fresh : {A : Type 0} (m : Meter) (s : Stack A) (t : Task A) → m.spent ≡ 0 → m.limit < 2 ^ 64 → s.next ≡ Some t → t.sight ≡ Unseen Any → s.frames.items ≡ [] → IsGood m s 0 false
+IsGood-fresh m s t none fits next unseen empty =
+    let none_ready : next_ready s.plan s.next ≡ 0 = ap (next_ready s.plan) next ∙ ap (sight_ready (nat_le (length s.plan.parts.items) t.part)) unseen in
+    let none_unmet : sum_by unmet s.frames.items ≡ 0 = ap (sum_by unmet) empty in
+    record {
+      limit = omega (arith, none);
+      fits = fits;
+      few = omega arith;
+      going = λ _. record {
+        within = record {
+          parts = subst (All (λ f. f.part < length s.plan.parts.items)) (sym empty) (All-from_recursion (λ f. f.part < length s.plan.parts.items) [] tt);
+          going = subst (All (λ f. is_done f ≡ false)) (sym empty) (All-from_recursion (λ f. is_done f ≡ false) [] tt);
+        };
+        ready = omega (arith, none_ready, none_unmet);
+        opened = subst (IsNextOpened s.plan.parts.items) (sym next) (subst (IsSightOpened s.plan.parts.items t.part) (sym unseen) tt);
+      };
+      ended = λ yes'. absurd (both_ways false refl yes');
+    }
+
+pub sound-fresh : {A : Type 0} (c : Content) (s : Stack A) (t : Task A) → s.next ≡ Some t → t.sight ≡ Unseen Any → s.frames.items ≡ [] → IsSound c s
+sound-fresh c s t next unseen empty = record {
+  next = subst (IsNextSound c) (sym next) (subst (IsSightSound c (string_bytes t.path)) (sym unseen) tt);
+  frames = subst (All (IsFrameSound c)) (sym empty) (All-from_recursion (IsFrameSound c) [] tt);
+}

@@ -1,0 +1,251 @@
+-- A walk over a tree, which answers the questions.
+use Rattle.std.proofs.Common.{◌≡◌, ℕ, ◌+◌, ◌-◌, ◌*◌, ◌≤◌, ◌<◌, Bool, true, false, List, [], ◌∷◌, Option, Some, None, Result, refl, ap, sym, subst, ◌∙◌, arith}
+use Rattle.std.specs.Prelude.{option_map, IfOk, IfErr, Vec}
+use Rattle.std.proofs.lemmas.Bool.{both_ways}
+use Rattle.glob_text.specs.Text.{Text}
+use Rattle.glob_tree.specs.Content.{Content, look_result, list_result}
+use Rattle.glob_tree.specs.Answers.{IsTold, IsListAnswer, IsListError, entries_of}
+use Rattle.glob_tree.specs.declared.tree.Look.{Look}
+use Rattle.glob_tree.specs.declared.tree.Entry.{Entry}
+use Rattle.glob_tree.specs.declared.tree.ListError.{ListError}
+use Rattle.glob_walk.specs.Marks.{Mark, Work, Give}
+use Rattle.glob_walk.specs.Questions.{Question, LookAt, ListAt, IsLook, IsList, IsSomeContent, IsSeenIn, IsListedIn, question_path}
+use Rattle.glob_walk.specs.Courses.{Coursing, Agrees, Saying, AsksLook, AsksList, Says, Ends, StepCounts, StepGoes, TakesStep, IsCharged, IsAskedAfter, left_of, outcome_said, is_last_said, units_said}
+use Rattle.glob_walk.specs.Walks.{Gives, LimitAt, NoMemory, Walking, Charges, TakesFront, IsAsked, Takes, Goes, is_last, item_number}
+use Rattle.glob_walk.specs.Private.Walking.{IsDriven}
+use Rattle.glob_walk.proofs.WalkLemmas.Charging.{Charges-trans, Charges-asked, AsksNext-after}
+
+-- what contracts see of it
+abbrev pub seen_walk : {X A : Type 0} → (X → Option Content) → X → Coursing A → Walking X
+seen_walk tells t c = record {
+  tree = t;
+  limit = c.limit;
+  spent = c.spent;
+  given = c.given;
+  over = c.over;
+  left = option_map (λ x. left_of x c) (tells t);
+}
+
+-- what was asked of the tree, by what was charged; the question that is open was not asked yet
+abbrev pub IsAskedSo : {X A : Type 0} → (X → ℕ) → Walking X → Saying → X → Coursing A → Type 0
+IsAskedSo asks v (Says (LimitAt p)) t c = (c.spent ≡ c.limit) × (asks v.tree + c.spent ≤ asks t + v.spent)
+IsAskedSo asks v s t c = asks t + units_said s + v.spent ≡ asks v.tree + c.spent
+
+-- what the steps since one item took, over a content
+pub record DriveTakes {X A : Type 0} (v : Walking X) (c : Coursing A) (s : Saying) (x : Content) : Type 0 where
+  pub old_left : List Mark
+  pub had : v.left ≡ Some old_left
+  pub agrees : Agrees x c
+  pub takes : TakesStep old_left v.spent s c.asked (left_of x c) c.spent
+
+-- the steps of a walk since one item
+pub record Drives {X A : Type 0} (asks : X → ℕ) (tells : X → Option Content) (v : Walking X) (t : X) (c : Coursing A) (s : Saying) : Type 0 where
+  pub limit : c.limit ≡ v.limit
+  pub grows : v.spent ≤ c.spent
+  pub within : c.spent ≤ c.limit
+  pub given : c.given ≡ v.given + item_number (outcome_said s)
+  pub few : c.given ≤ c.spent + 1
+  pub asks_next : IsAskedAfter s c.asked
+  pub ends : c.over ≡ is_last_said s
+  pub stays : v.over ≡ true → (s ≡ Ends) × (seen_walk tells t c ≡ v)
+  pub told : tells t ≡ tells v.tree
+  pub asked : IsAskedSo asks v s t c
+  pub takes : (x : Content) → IsTold (tells v.tree) x → v.over ≡ false → DriveTakes v c s x
+
+TakesStep-after : (first mid new : List Mark) (a b d : ℕ) (s : Saying) (q : Option Question) → Charges first a mid b → TakesStep mid b s q new d → TakesStep first a s q new d
+TakesStep-after first mid new a b d AsksLook q h k = AsksNext-after first mid new a b d (question_path q) h k
+TakesStep-after first mid new a b d AsksList q h k = AsksNext-after first mid new a b d (question_path q) h k
+TakesStep-after first mid new a b d (Says (Gives item)) q h k = Charges-trans first mid (Give item ∷ new) a b d h k
+TakesStep-after first mid new a b d (Says (LimitAt p)) q h k = record { rest = k.rest; charges = Charges-trans first mid (Work p ∷ k.rest) a b d h k.charges }
+TakesStep-after first mid new a b d (Says NoMemory) q h k = tt
+TakesStep-after first mid new a b d Ends q h k = (Charges-trans first mid [] a b d h k.0, k.1)
+
+module _ {X A : Type 0} (asks : X → ℕ) (tells : X → Option Content) where
+  first : (t0 : X) (c0 c : Coursing A) (s : Saying) → IsDriven tells t0 c0 → StepGoes IsSomeContent 0 c0 s c → Drives asks tells (seen_walk tells t0 c0) t0 c s
+  first t0 c0 c s d h = record {
+    limit = h.counts.limit;
+    grows = h.counts.grows;
+    within = h.counts.within;
+    given = h.counts.given;
+    few = h.counts.few;
+    asks_next = h.counts.asks;
+    ends = h.counts.ends;
+    stays = λ over. let r = h.counts.stays over in (r.0, ap (seen_walk tells t0) r.1);
+    told = refl;
+    asked = by_saying s h.counts.charged;
+    takes = λ x told going.
+        let a = h.takes x told.1 going (d.agrees x told going) in
+        let f : Content → List Mark = λ y. left_of y c0 in
+        record { old_left = left_of x c0; had = ap (option_map f) told.0; agrees = a.agrees; takes = a.takes };
+  }
+    where
+      by_saying : (s : Saying) → IsCharged 0 c0 s c → IsAskedSo asks (seen_walk tells t0 c0) s t0 c
+      by_saying AsksLook e = omega (arith, e)
+      by_saying AsksList e = omega (arith, e)
+      by_saying (Says (Gives item)) e = omega (arith, e)
+      by_saying (Says (LimitAt p)) e = (e.0, omega (arith, e.0, e.1))
+      by_saying (Says NoMemory) e = omega (arith, e)
+      by_saying Ends e = omega (arith, e)
+
+  pub Drives-first : (v : Walking X) (t0 : X) (c0 c : Coursing A) (s : Saying) → seen_walk tells t0 c0 ≡ v → IsDriven tells t0 c0 → StepGoes IsSomeContent 0 c0 s c → Drives asks tells v t0 c s
+  Drives-first v t0 c0 c s e d h = subst (λ u. Drives asks tells u t0 c s) e (first t0 c0 c s d h)
+
+module _ {X A : Type 0} (asks : X → ℕ) (tells : X → Option Content) (v : Walking X) where
+  -- the question that was open is answered
+  pub Drives-after : (t t' : X) (c c' : Coursing A) (s s' : Saying) (n : ℕ) (Fits : Content → Type 0) → units_said s ≡ 1 → Drives asks tells v t c s
+      → asks t' ≡ asks t + 1 + n → tells t' ≡ tells t → ((x : Content) → IsTold (tells t) x → Fits x) → StepGoes Fits n c s' c' → Drives asks tells v t' c' s'
+  Drives-after t t' c c' s s' n Fits question h more same fits k = record {
+    limit = k.counts.limit ∙ h.limit;
+    grows = omega (arith, h.grows, k.counts.grows);
+    within = k.counts.within;
+    given = omega (arith, k.counts.given, h.given, none s question);
+    few = k.counts.few;
+    asks_next = k.counts.asks;
+    ends = k.counts.ends;
+    stays = λ over. absurd (asking s question (h.stays over).0);
+    told = same ∙ h.told;
+    asked = by_saying s' (asked_before s question h.asked) k.counts.charged;
+    takes = λ x told going.
+        let a = h.takes x told going in
+        let b = k.takes x (fits x (h.told ∙ told.0, told.1)) (h.ends ∙ lasting s question) a.agrees in
+        record {
+          old_left = a.old_left;
+          had = a.had;
+          agrees = b.agrees;
+          takes = TakesStep-after a.old_left (left_of x c) (left_of x c') v.spent c.spent c'.spent s' c'.asked (charged_before s question x a.old_left a.takes) b.takes;
+        };
+  }
+    where
+      none : (s : Saying) → units_said s ≡ 1 → item_number (outcome_said s) ≡ 0
+      none AsksLook q = refl
+      none AsksList q = refl
+      none (Says o) q = absurd (omega (arith, q))
+      none Ends q = refl
+
+      asking : (s : Saying) → units_said s ≡ 1 → s ≡ Ends → ⊥
+      asking s q e = let z : units_said s ≡ 0 = ap units_said e in omega (arith, z, q)
+
+      lasting : (s : Saying) → units_said s ≡ 1 → is_last_said s ≡ false
+      lasting AsksLook q = refl
+      lasting AsksList q = refl
+      lasting (Says o) q = absurd (omega (arith, q))
+      lasting Ends q = absurd (omega (arith, q))
+
+      asked_before : (s : Saying) → units_said s ≡ 1 → IsAskedSo asks v s t c → asks t + 1 + v.spent ≡ asks v.tree + c.spent
+      asked_before AsksLook q e = e
+      asked_before AsksList q e = e
+      asked_before (Says o) q e = absurd (omega (arith, q))
+      asked_before Ends q e = absurd (omega (arith, q))
+
+      by_saying : (s : Saying) → asks t + 1 + v.spent ≡ asks v.tree + c.spent → IsCharged n c s c' → IsAskedSo asks v s t' c'
+      by_saying AsksLook b e = omega (arith, b, e, more)
+      by_saying AsksList b e = omega (arith, b, e, more)
+      by_saying (Says (Gives item)) b e = omega (arith, b, e, more)
+      by_saying (Says (LimitAt p)) b e = (e.0, omega (arith, b, e.0, e.1, more))
+      by_saying (Says NoMemory) b e = omega (arith, b, e, more)
+      by_saying Ends b e = omega (arith, b, e, more)
+
+      charged_before : (s : Saying) → units_said s ≡ 1 → (x : Content) (old : List Mark) → TakesStep old v.spent s c.asked (left_of x c) c.spent → Charges old v.spent (left_of x c) c.spent
+      charged_before AsksLook q x old h = Charges-asked old (left_of x c) v.spent c.spent (question_path c.asked) h
+      charged_before AsksList q x old h = Charges-asked old (left_of x c) v.spent c.spent (question_path c.asked) h
+      charged_before (Says o) q x old h = absurd (omega (arith, q))
+      charged_before Ends q x old h = absurd (omega (arith, q))
+
+  -- an item, or the end
+  pub Drives-last : (t : X) (c : Coursing A) (s : Saying) → units_said s ≡ 0 → Drives asks tells v t c s → Goes asks tells v (outcome_said s) (seen_walk tells t c)
+  Drives-last t c s item h = record {
+    counts = record {
+      limit = h.limit;
+      grows = h.grows;
+      within = h.within;
+      given = h.given;
+      few = h.few;
+      asked = by_saying s item h.asked;
+      ends = h.ends ∙ lasts s item;
+      stays = λ over. let r = h.stays over in (ap outcome_said r.0, r.1);
+    };
+    told = h.told;
+    takes = λ x told. by_over v.over refl x told;
+  }
+    where
+      lasts : (s : Saying) → units_said s ≡ 0 → is_last_said s ≡ is_last (outcome_said s)
+      lasts AsksLook q = absurd (omega (arith, q))
+      lasts AsksList q = absurd (omega (arith, q))
+      lasts (Says o) q = refl
+      lasts Ends q = refl
+
+      by_saying : (s : Saying) → units_said s ≡ 0 → IsAskedSo asks v s t c → IsAsked asks v (outcome_said s) (seen_walk tells t c)
+      by_saying AsksLook q e = absurd (omega (arith, q))
+      by_saying AsksList q e = absurd (omega (arith, q))
+      by_saying (Says (Gives item)) q e = omega (arith, e)
+      by_saying (Says (LimitAt p)) q e = e
+      by_saying (Says NoMemory) q e = omega (arith, e)
+      by_saying Ends q e = omega (arith, e)
+
+      taken : (s : Saying) → units_said s ≡ 0 → (x : Content) (old : List Mark) → TakesStep old v.spent s c.asked (left_of x c) c.spent → TakesFront old v.spent (outcome_said s) (left_of x c) c.spent
+      taken AsksLook q x old k = absurd (omega (arith, q))
+      taken AsksList q x old k = absurd (omega (arith, q))
+      taken (Says o) q x old k = k
+      taken Ends q x old k = k
+
+      has' : (x : Content) → IsTold (tells v.tree) x → option_map (λ y. left_of y c) (tells t) ≡ Some (left_of x c)
+      has' x told = let f : Content → List Mark = λ y. left_of y c in ap (option_map f) (h.told ∙ told.0)
+
+      by_over : (b : Bool) → v.over ≡ b → (x : Content) → IsTold (tells v.tree) x → Takes tells v (outcome_said s) (seen_walk tells t c) x
+      by_over false e x told =
+          let a = h.takes x told e in
+          record {
+            told = (h.told ∙ told.0, told.1);
+            old_left = a.old_left;
+            new_left = left_of x c;
+            had = a.had;
+            has = has' x told;
+            takes = λ going. taken s item x a.old_left a.takes;
+          }
+      by_over true e x told = record {
+        told = (h.told ∙ told.0, told.1);
+        old_left = left_of x c;
+        new_left = left_of x c;
+        had = ap (λ w. w.left) (sym (h.stays e).1) ∙ has' x told;
+        has = has' x told;
+        takes = λ going. absurd (both_ways v.over going e);
+      }
+
+  pub IsDriven-last : (t : X) (c : Coursing A) (s : Saying) → units_said s ≡ 0 → Drives asks tells v t c s → IsDriven tells t c
+  IsDriven-last t c s item h = record {
+    free = free s item h.asks_next;
+    agrees = λ x told going. (h.takes x (sym h.told ∙ told.0, told.1) (of_first v.over refl going)).agrees;
+  }
+    where
+      free : (s : Saying) → units_said s ≡ 0 → IsAskedAfter s c.asked → c.asked ≡ None
+      free AsksLook q e = absurd (omega (arith, q))
+      free AsksList q e = absurd (omega (arith, q))
+      free (Says o) q e = e
+      free Ends q e = e
+
+      of_first : (b : Bool) → v.over ≡ b → c.over ≡ false → v.over ≡ false
+      of_first false e going = e
+      of_first true e going = ap (λ w. w.over) (sym (h.stays e).1) ∙ going
+
+-- an answer leaves fewer questions within the limit
+pub fewer : {A : Type 0} (n : ℕ) (c c' : Coursing A) (s s' : Saying) → units_said s ≡ 1 → StepCounts n c s' c' → 2 * (c'.limit - c'.spent) + units_said s' < 2 * (c.limit - c.spent) + units_said s
+fewer {A} n c c' s s' question h = by_saying s' h.charged
+  where
+    by_saying : (x : Saying) → IsCharged n c x c' → 2 * (c'.limit - c'.spent) + units_said x < 2 * (c.limit - c.spent) + units_said s
+    by_saying AsksLook e = omega (arith, question, h.limit, h.within, e)
+    by_saying AsksList e = omega (arith, question, h.limit, h.within, e)
+    by_saying (Says o) e = omega (arith, question, h.limit, h.within, h.grows)
+    by_saying Ends e = omega (arith, question, h.limit, h.within, h.grows)
+
+-- the tree's answers are those of its content
+pub seen_fits : {E : Type 0} (q : Option Question) (r : Result Look E) (x : Content) (p : Text) → IsLook q → p ≡ question_path q → IsSomeContent x → IfOk r (λ seen. seen ≡ look_result x p) → IsSeenIn q r x
+seen_fits None r x p look is w h = absurd look
+seen_fits (Some (LookAt path)) r x p look is w h = (w, subst (λ y. IfOk r (λ seen. seen ≡ look_result x y)) is h)
+seen_fits (Some (ListAt path)) r x p look is w h = absurd look
+
+pub listed_fits : {A : Type 0} (q : Option Question) (r : Result (Vec (Entry A) A) ListError) (x : Content) (p : Text) → IsList q → p ≡ question_path q → IsSomeContent x
+    → IfOk r (λ v. IsListAnswer (list_result x p) (entries_of v.items)) → IfErr r (λ e. IsListError (list_result x p) e) → IsListedIn q r x
+listed_fits None r x p list is w h k = absurd list
+listed_fits (Some (LookAt path)) r x p list is w h k = absurd list
+listed_fits (Some (ListAt path)) r x p list is w h k =
+    (w, subst (λ y. IfOk r (λ v. IsListAnswer (list_result x y) (entries_of v.items))) is h, subst (λ y. IfErr r (λ e. IsListError (list_result x y) e)) is k)

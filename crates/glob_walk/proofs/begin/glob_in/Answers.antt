@@ -1,0 +1,5 @@
+use Rattle.std.proofs.Common.{Some, ap, ◌∙◌}
+use Rattle.glob_walk.proofs.begin.glob_in.Goals as goal
+
+pub returns-clause-listing : goal.returns-clause-listing
+returns-clause-listing g c = λ x told. c.new.ensures.left x told ∙ ap Some (c.in_ok-course.ensures.listing x)

@@ -1,0 +1,42 @@
+use Rattle.std.proofs.Common.{rules, ◌+◌, ◌≤◌, ◌^◌, sym, arith, subst}
+use Rattle.glob_walk.specs.Private.Walking.{IsGood, turn_outcome}
+use Rattle.glob_walk.specs.Private.Tasks.{question_of}
+use Rattle.glob_walk.specs.Private.Turns.{IsAnswer, IsAnswered, answer_count}
+use Rattle.glob_walk.specs.Walks.{item_number}
+use Rattle.glob_walk.proofs.WalkLemmas.Coursing.{IsGood-after, goes_at, goes_over, one_item}
+use Rattle.glob_walk.proofs.course.Course.resume.Goals as goal
+
+pub returns-then-self : goal.returns-then-self
+returns-then-self g c = record { steps = goes_over c.self.inside.walker.meter c.self.inside.walker.stack c.self.inside.given c.self.inside.over c.if-self.true c.args.answer c.args.self.now c.self.view_is c.self.invariant c.requires.answer }
+
+pub resume-turn-requires-clause-within : goal.resume-turn-requires-clause-within
+resume-turn-requires-clause-within g c = (c.self.invariant.going c.if-self.false).within
+
+pub resume-turn-requires-clause-opened : goal.resume-turn-requires-clause-opened
+resume-turn-requires-clause-opened g c = (c.self.invariant.going c.if-self.false).opened
+
+pub resume-turn-requires-clause-answer : goal.resume-turn-requires-clause-answer
+resume-turn-requires-clause-answer g c = subst (λ v. IsAnswer v.asked c.args.answer) (sym c.self.view_is) c.requires.answer
+
+pub overflow_add-self : goal.overflow_add-self
+overflow_add-self g c =
+    let one : c.item_count.result ≤ 1 = subst (λ n. n ≤ 1) (sym c.item_count.ensures) (one_item c.resume-turn.result) in
+    let few = c.self.invariant.few in
+    let fits = c.self.invariant.fits in
+    let limit = c.self.invariant.limit in
+    let small : c.self.inside.given + c.item_count.result ≤ 2 ^ 64 + 1 = omega (arith, one, few, fits, limit) in
+    search rules
+
+pub invariant_of-self : goal.invariant_of-self
+invariant_of-self g c =
+    subst (λ n. IsGood c.resume-turn.new.self.meter c.resume-turn.new.self.stack (c.self.inside.given + n) c.is_last-self-inside.result) (sym c.item_count.ensures)
+    (subst (λ b. IsGood c.resume-turn.new.self.meter c.resume-turn.new.self.stack (c.self.inside.given + item_number (turn_outcome c.resume-turn.result)) b) (sym c.is_last-self-inside.ensures)
+    (IsGood-after (IsAnswered (question_of c.self.inside.walker.stack.next) c.args.answer) (answer_count c.args.answer) c.self.inside.walker.meter c.resume-turn.new.self.meter c.self.inside.walker.stack c.resume-turn.new.self.stack c.self.inside.given c.self.invariant.fits (c.self.invariant.going c.if-self.false)
+    c.resume-turn.result c.resume-turn.ensures.stops c.resume-turn.ensures.turn c.resume-turn.ensures.cleared))
+
+pub returns : goal.returns
+returns g c = record {
+  steps = goes_at (answer_count c.args.answer) c.self.inside.walker.meter c.resume-turn.new.self.meter c.self.inside.walker.stack c.resume-turn.new.self.stack c.self.inside.given c.self.inside.over c.args.answer c.args.self.now
+      c.self.view_is c.if-self.false c.self.invariant.fits (c.self.invariant.going c.if-self.false) c.resume-turn.result _ c.item_count.result c.is_last-self-inside.result
+      c.into_step.ensures c.item_count.ensures c.is_last-self-inside.ensures c.resume-turn.ensures.stops c.resume-turn.ensures.turn c.resume-turn.ensures.cleared;
+}

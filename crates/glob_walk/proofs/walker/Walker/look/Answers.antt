@@ -1,0 +1,28 @@
+use Rattle.std.proofs.Common.{rules, [], refl}
+use Rattle.glob_walk.proofs.walker.Walker.look.Goals as goal
+
+pub returns-then-not-charge-clause-turn : goal.returns-then-not-charge-clause-turn
+returns-then-not-charge-clause-turn g c = record {
+  limit = search rules;
+  fits = search rules;
+  counts = search rules;
+  plan = search rules;
+  within = tt;
+  asks = tt;
+  ready = tt;
+  sound = tt;
+  takes = λ c' w h. record { rest = _; charges = record { paths = []; front = refl; units = search rules } };
+}
+
+pub returns-clause-turn : goal.returns-clause-turn
+returns-clause-turn g c = record {
+  limit = search rules;
+  fits = search rules;
+  counts = search rules;
+  plan = search rules;
+  within = record { parts = c.requires.within.parts; going = c.requires.within.going };
+  asks = tt;
+  ready = search rules;
+  sound = λ c' w h. record { next = tt; frames = h.frames };
+  takes = λ c' w h. record { before = c.args.self.now.meter.spent; charges = record { paths = []; front = refl; units = search rules }; unit = search rules };
+}

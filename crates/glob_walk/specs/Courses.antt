@@ -1,0 +1,126 @@
+-- A walk that asks its caller: what contracts see of it, and what each of its steps does.
+use Rattle.std.specs.Prelude.{◌≡◌, ℕ, ◌+◌, ◌≤◌, Bool, true, false, List, ◌∷◌, Option, Some, None}
+use Rattle.glob_text.specs.Text.{Text}
+use Rattle.glob_tree.specs.Content.{Content}
+use Rattle.glob_walk.specs.Marks.{Mark, Work}
+use Rattle.glob_walk.specs.Private.Stacks.{left, IsSound}
+use Rattle.glob_walk.specs.Questions.{Question, IsLook, IsList, question_path}
+use Rattle.glob_walk.specs.Walks.{Outcome, LimitAt, Charges, TakesFront, outcome, is_last, item_number}
+use Rattle.glob_walk.specs.declared.stack.Stack.{Stack}
+use Rattle.glob_walk.specs.declared.course.Step.{Step}
+use Rattle.glob_walk.specs.declared.course.Step.TheVariants as step
+
+-- what contracts see of a walk that asks its caller
+pub record Coursing (A : Type 0) : Type 0 where
+  pub limit : ℕ
+  -- the units of work that were charged, that of an open question too
+  pub spent : ℕ
+  -- the items that were given, a refusal too
+  pub given : ℕ
+  -- only `Done` follows
+  pub over : Bool
+  -- the question that is open
+  pub asked : Option Question
+  -- what is still to do
+  pub todo : Stack A
+
+-- what is left of the written listing over a content; of an open question the unit is charged
+abbrev pub left_of : {A : Type 0} → Content → Coursing A → List Mark
+left_of c walk = left c walk.todo
+
+-- It holds of each content at first, and each answer that is that of a content keeps it of that content.
+abbrev pub Agrees : {A : Type 0} → Content → Coursing A → Type 0
+Agrees c walk = IsSound c walk.todo
+
+-- a walk that has done nothing yet
+pub record IsFreshCourse {A : Type 0} (most : ℕ) (walk : Coursing A) : Type 0 where
+  pub limit : walk.limit ≡ most
+  pub spent : walk.spent ≡ 0
+  pub given : walk.given ≡ 0
+  pub over : walk.over ≡ false
+  pub asked : walk.asked ≡ None
+  pub agrees : (c : Content) → Agrees c walk
+
+-- What a step says: that a look or a listing is asked for, an item or a refusal, or that nothing is left.
+pub data Saying : Type 0 where
+  AsksLook : Saying
+  AsksList : Saying
+  Says : Outcome → Saying
+  Ends : Saying
+
+abbrev pub saying : {A : Type 0} → Step A → Saying
+saying step.Look = AsksLook
+saying step.List = AsksList
+saying (step.Item item) = Says (outcome item)
+saying step.Done = Ends
+
+-- the item of a step
+abbrev pub outcome_said : Saying → Option Outcome
+outcome_said AsksLook = None
+outcome_said AsksList = None
+outcome_said (Says o) = Some o
+outcome_said Ends = None
+
+-- only `Done` follows
+abbrev pub is_last_said : Saying → Bool
+is_last_said AsksLook = false
+is_last_said AsksList = false
+is_last_said (Says o) = is_last (Some o)
+is_last_said Ends = true
+
+-- the unit of a question
+abbrev pub units_said : Saying → ℕ
+units_said AsksLook = 1
+units_said AsksList = 1
+units_said (Says o) = 0
+units_said Ends = 0
+
+-- the question that is open after a step
+abbrev pub IsAskedAfter : Saying → Option Question → Type 0
+IsAskedAfter AsksLook q = IsLook q
+IsAskedAfter AsksList q = IsList q
+IsAskedAfter (Says o) q = q ≡ None
+IsAskedAfter Ends q = q ≡ None
+
+-- What is charged where so many entries were answered: a unit for each, and one for the next question. At a limit refusal
+-- all of the limit is spent, and it does not pay for the entries and one unit more.
+abbrev pub IsCharged : {A : Type 0} → ℕ → Coursing A → Saying → Coursing A → Type 0
+IsCharged n old (Says (LimitAt path)) new = (new.spent ≡ new.limit) × (new.limit ≤ old.spent + n)
+IsCharged n old s new = new.spent ≡ old.spent + n + units_said s
+
+-- whatever was answered: what a step does to the counts
+pub record StepCounts {A : Type 0} (n : ℕ) (old : Coursing A) (s : Saying) (new : Coursing A) : Type 0 where
+  pub limit : new.limit ≡ old.limit
+  pub grows : old.spent ≤ new.spent
+  pub within : new.spent ≤ new.limit
+  pub charged : IsCharged n old s new
+  pub given : new.given ≡ old.given + item_number (outcome_said s)
+  pub few : new.given ≤ new.spent + 1
+  pub asks : IsAskedAfter s new.asked
+  pub ends : new.over ≡ is_last_said s
+  pub stays : old.over ≡ true → (s ≡ Ends) × (new ≡ old)
+
+-- the next unit is at the path, and it and the ones before it are charged
+pub record AsksNext (left : List Mark) (spent : ℕ) (path : Text) (after : List Mark) (spent' : ℕ) : Type 0 where
+  pub before : ℕ
+  pub charges : Charges left spent (Work path ∷ after) before
+  pub unit : spent' ≡ before + 1
+
+-- what a step takes from the front of what was left
+abbrev pub TakesStep : (old : List Mark) → (spent : ℕ) → Saying → Option Question → (new : List Mark) → (spent' : ℕ)
+    → Type 0
+TakesStep old spent AsksLook q new spent' = AsksNext old spent (question_path q) new spent'
+TakesStep old spent AsksList q new spent' = AsksNext old spent (question_path q) new spent'
+TakesStep old spent (Says o) q new spent' = TakesFront old spent (Some o) new spent'
+TakesStep old spent Ends q new spent' = TakesFront old spent None new spent'
+
+-- Over a content: the answers so far are still its own, and the step is the next of its written listing.
+pub record StepTakes {A : Type 0} (old : Coursing A) (s : Saying) (new : Coursing A) (c : Content) : Type 0 where
+  pub agrees : Agrees c new
+  pub takes : TakesStep (left_of c old) old.spent s new.asked (left_of c new) new.spent
+
+-- What one step does: the counts whatever was answered, and the rest over each content that has answered as the caller did.
+pub record StepGoes {A : Type 0} (Fits : Content → Type 0) (n : ℕ) (old : Coursing A) (s : Saying) (new : Coursing A)
+    : Type 0 where
+  pub counts : StepCounts n old s new
+  pub takes : (c : Content) → Fits c → old.over ≡ false → Agrees c old → StepTakes old s new c
