@@ -20,7 +20,7 @@
 //!
 //! [`glob`] walks the file system and gives each path that a pattern leads to; [`glob_with`] takes options. [`glob_in`]
 //! walks any [`Tree`] within a limit, item by item, and [`walk_in`] gathers a whole walk. [`MemTree`] is a tree in memory,
-//! and [`Disk`] the file system.
+//! and [`Disk`] the file system. A [`WalkMachine`] is a walk without a tree, whose questions any program answers.
 //!
 //! A call that makes or grows something takes its allocator, and reports an allocation failure as an error.
 #![tactic(auto)]
@@ -33,6 +33,6 @@ pub use glob_pattern::{
 };
 pub use glob_tree::{Asks, Entry, ListError, Look, MemTree, Name, Tree, TreeRefusal};
 pub use glob_walk::{
-    Disk, End, GlobCause, GlobError, GlobResult, Paths, Walk, glob, glob_in, glob_with, is_plain,
-    walk_in,
+    Disk, End, GlobCause, GlobError, GlobResult, Paths, Step, Walk, WalkMachine, glob, glob_in,
+    glob_with, is_plain, walk_in,
 };

@@ -1,15 +1,15 @@
 pub mod Components
-pub mod Courses
+pub mod Driven
 pub mod GlobCauses
 pub mod GlobErrors
 pub mod Goal
 pub mod Laws
 pub mod Listing
+pub mod Machines
 pub mod Marks
 pub mod Order
 pub mod Private
 pub mod Questions
 pub mod WalkGoals
-pub mod Told
 pub mod Walks
 pub mod Words

@@ -1,19 +1,15 @@
 //! How a walk begins.
-ghost use Rattle.std.specs.Prelude.{◌≡◌, [], None, Some, IfOk, IfErr};
+ghost use Rattle.std.specs.Prelude.{◌≡◌, None, Some, IfOk, IfErr};
 ghost use Rattle.glob_tree.specs.Content.{Content};
 ghost use Rattle.glob_tree.specs.Answers.{IsTold};
-ghost use Rattle.glob_walk.specs.Components.{start as start_text, walk_fault};
-ghost use Rattle.glob_walk.specs.Courses.{IsFreshCourse, left_of};
+ghost use Rattle.glob_walk.specs.Components.{walk_fault};
 ghost use Rattle.glob_walk.specs.Listing.{listing};
-ghost use Rattle.glob_walk.specs.Told.{HasTold};
 ghost use Rattle.glob_walk.specs.Walks.{IsFresh, RefusesWith};
 
-use crate::course::Course;
+use crate::machine::WalkMachine;
 use crate::paths::Paths;
-use crate::plan::Plan;
 use glob_pattern::{MatchOptions, PatternRefusal};
 use glob_tree::Tree;
-use std::alloc::Allocator;
 
 /// Walks `tree` after the components of a pattern, with at most `limit` units of work: one for each lookup, one for
 /// each listing, and one for each entry of a listing. Nothing is looked up before the first call of `next`.
@@ -37,35 +33,6 @@ pub fn glob_in<T: Tree>(
     ensures listing { (c : Content) → IsTold (T.tells tree) c
         → IfOk result (λ p. p.left ≡ Some (listing c options pattern.now)) }
 {
-    let course = course_in(alloc, pattern, options, limit)?;
-    Ok(Paths::new(tree, course))
-}
-
-/// A walk without a tree, after the components of a pattern: whoever calls its `next` answers what it asks. Its limit, its
-/// refusals and what it gives are those of [`glob_in`].
-#[tactic(auto, using(crate::proofs::WalkLemmas::Merging::merged_listing))]
-pub fn course_in<A: Allocator + Copy>(
-    alloc: A,
-    pattern: &str,
-    options: MatchOptions,
-    limit: u64,
-) -> Result<Course<A>, PatternRefusal>
-    ensures accepted { IfOk result (λ _. walk_fault pattern.now ≡ None) }
-    ensures refused { IfErr result (RefusesWith (walk_fault pattern.now)) }
-    ensures fresh { IfOk result (IsFreshCourse limit) }
-    ensures listing { IfOk result
-        (λ walk. (c : Content) → left_of c walk ≡ listing c options pattern.now) }
-    ensures begun { IfOk result
-        (λ walk. (c : Content) → HasTold (listing c options pattern.now) c [] walk) }
-{
-    let plan = Plan::read(alloc, pattern, options)?;
-    let start = String::from_str(alloc, start(pattern))?;
-    Ok(Course::new(plan, start, limit))
-}
-
-/// The path at which a walk starts: the root, or the current directory.
-fn start(pattern: &str) -> &'static str
-    ensures { result.now ≡ start_text pattern.now }
-{
-    if pattern.starts_with('/') { "/" } else { "." }
+    let machine = WalkMachine::new(alloc, pattern, options, limit)?;
+    Ok(Paths::new(tree, machine))
 }

@@ -2,11 +2,11 @@
 #![tactic(auto)]
 
 mod begin;
-mod course;
 mod disk;
 mod error;
 mod frame;
 pub mod laws;
+mod machine;
 mod meter;
 mod part;
 mod path_text;
@@ -19,10 +19,10 @@ mod turn;
 mod walk;
 mod walker;
 
-pub use begin::{course_in, glob_in};
-pub use course::{Course, Step};
+pub use begin::glob_in;
 pub use disk::{Disk, glob, glob_with};
 pub use error::{GlobCause, GlobError, GlobResult};
+pub use machine::{Step, WalkMachine};
 pub use paths::Paths;
 pub use plain::is_plain;
 pub use walk::{End, Walk, walk_in};

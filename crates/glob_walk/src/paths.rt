@@ -2,11 +2,11 @@
 ghost use Rattle.std.specs.Prelude.{◌≡◌, ◌≤◌, ◌+◌, Some};
 ghost use Rattle.glob_tree.specs.Content.{Content};
 ghost use Rattle.glob_tree.specs.Answers.{IsTold};
-ghost use Rattle.glob_walk.specs.Courses.{IsFreshCourse, left_of};
+ghost use Rattle.glob_walk.specs.Machines.{IsFreshMachine, left_of};
 ghost use Rattle.glob_walk.specs.Walks.{IsFresh};
 
-use crate::course::{Course, Step};
 use crate::error::GlobResult;
+use crate::machine::{Step, WalkMachine};
 use glob_tree::Tree;
 use std::marker::Model;
 
@@ -18,12 +18,12 @@ use std::marker::Model;
 #[derive(Drop)]
 pub struct Paths<T: Tree> {
     tree: T,
-    course: Course<T::Alloc>,
+    machine: WalkMachine<T::Alloc>,
 }
 
 impl<T: Tree> Model for Paths<T> {
     ghost use Rattle.std.specs.Prelude.{option_map};
-    ghost use Rattle.glob_walk.specs.Courses.{left_of};
+    ghost use Rattle.glob_walk.specs.Machines.{left_of};
     ghost use Rattle.glob_walk.specs.Private.Walking.{IsDriven};
     ghost use Rattle.glob_walk.specs.Walks.{Walking};
 
@@ -31,25 +31,25 @@ impl<T: Tree> Model for Paths<T> {
 
     ghost view = { λ p. record {
       tree = p.tree;
-      limit = p.course.limit;
-      spent = p.course.spent;
-      given = p.course.given;
-      over = p.course.over;
-      left = option_map (λ c. left_of c p.course) (T.tells p.tree);
+      limit = p.machine.limit;
+      spent = p.machine.spent;
+      given = p.machine.given;
+      over = p.machine.over;
+      left = option_map (λ c. left_of c p.machine) (T.tells p.tree);
     } };
 
-    ghost invariant = { λ p. IsDriven T.tells p.tree p.course };
+    ghost invariant = { λ p. IsDriven T.tells p.tree p.machine };
 }
 
 impl<T: Tree> Paths<T> {
     /// The tree answers a walk that has done nothing yet.
-    pub(crate) fn new(tree: T, course: Course<T::Alloc>) -> Self
-        requires { IsFreshCourse course.limit course }
-        ensures fresh { IsFresh tree course.limit result }
+    pub(crate) fn new(tree: T, machine: WalkMachine<T::Alloc>) -> Self
+        requires { IsFreshMachine machine.limit machine }
+        ensures fresh { IsFresh tree machine.limit result }
         ensures left { (c : Content) → IsTold (T.tells tree) c
-            → result.left ≡ Some (left_of c course) }
+            → result.left ≡ Some (left_of c machine) }
     {
-        Paths { tree, course }
+        Paths { tree, machine }
     }
 
     /// How many units of work were charged: never more than the limit. It is 0 before the first call of `next`.
@@ -57,7 +57,7 @@ impl<T: Tree> Paths<T> {
         ensures spent { result ≡ self.now.spent }
         ensures within { result ≤ self.now.limit }
     {
-        self.course.spent()
+        self.machine.spent()
     }
 
     /// How many items `next` gave, a refusal too: at most one more than `spent`. After two paths it is 2.
@@ -65,7 +65,7 @@ impl<T: Tree> Paths<T> {
         ensures given { result ≡ self.now.given }
         ensures few { result ≤ self.now.spent + 1 }
     {
-        self.course.given()
+        self.machine.given()
     }
 
     /// The tree, as the walk leaves it.
@@ -95,16 +95,16 @@ impl<T: Tree> Iterator for Paths<T> {
     /// unit of work does not fit the limit; and `Memory` at an allocation failure. After the last two only `None`
     /// follows.
     fn next(&mut self) -> Option<GlobResult<T::Alloc>> {
-        let mut step = self.course.next();
+        let mut step = self.machine.next();
         loop {
             step = match step {
                 Step::Look => {
-                    let seen = self.tree.look(self.course.path());
-                    self.course.looked(seen)
+                    let seen = self.tree.look(self.machine.path());
+                    self.machine.looked(seen)
                 }
                 Step::List => {
-                    let listed = self.tree.list(self.course.path());
-                    self.course.listed(listed)
+                    let listed = self.tree.list(self.machine.path());
+                    self.machine.listed(listed)
                 }
                 Step::Item(item) => return Some(item),
                 Step::Done => return None,

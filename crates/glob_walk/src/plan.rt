@@ -5,7 +5,7 @@
 //! changes while the walk goes on.
 ghost use Rattle.std.specs.Prelude.{◌≡◌, ◌+◌, ◌<◌, ◌≤◌, [], ◌∷◌, true, None, IfOk, IfErr, MatchOption, OnSome, IfNone, drop, vec_len};
 ghost use Rattle.glob_text.specs.Pieces.{pieces};
-ghost use Rattle.glob_walk.specs.Components.{components, first_fault, walk_fault, wants_directories, without_root, without_end_separator};
+ghost use Rattle.glob_walk.specs.Components.{components, first_fault, start as start_text, walk_fault, wants_directories, without_root, without_end_separator};
 ghost use Rattle.glob_walk.specs.Private.Merging.{merged, are_merged};
 ghost use Rattle.glob_walk.specs.Walks.{RefusesWith};
 
@@ -92,6 +92,13 @@ fn read_parts<A: Allocator + Copy>(alloc: A, text: &str) -> Result<Vec<Part<A>, 
         after_run = is_run;
     }
     Ok(parts)
+}
+
+/// The path at which a walk starts: the root, or the current directory.
+pub fn start(pattern: &str) -> &'static str
+    ensures { result.now ≡ start_text pattern.now }
+{
+    if pattern.starts_with('/') { "/" } else { "." }
 }
 
 /// The text of the components: what follows the root, without one separator at its end.

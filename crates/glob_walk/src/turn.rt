@@ -3,8 +3,8 @@ ghost use Rattle.std.specs.Prelude.{◌≡◌};
 ghost use Rattle.glob_walk.specs.Private.Walking.{turn_outcome, is_last_turn, IsStepOf};
 ghost use Rattle.glob_walk.specs.Walks.{item_number};
 
-use crate::course::Step;
 use crate::error::GlobError;
+use crate::machine::Step;
 use std::alloc::Allocator;
 use std::io;
 use std::path::PathBuf;

@@ -23,8 +23,8 @@ ghost use Rattle.glob_walk.specs.Private.Stacks.{next_weight, weight, IsWithin};
 ghost use Rattle.glob_walk.specs.Private.Walking.{is_last_turn};
 ghost use Rattle.glob_walk.specs.Private.Turns.{TurnsTo, with_task, AreListedAt, IsAnswer, IsAnswered, answer_count};
 
-use crate::course::Answer;
 use crate::frame::{Frame, Place};
+use crate::machine::Answer;
 use crate::meter::{Meter, sort_entries};
 use crate::part::{Part, PartKind, is_special};
 use crate::path_text::child;

@@ -14,10 +14,10 @@ use Rattle.glob_walk.specs.declared.stack.Stack.{Stack}
 use Rattle.glob_walk.specs.declared.task.Task.{Task}
 use Rattle.glob_walk.specs.declared.task.Sight.{Sight}
 use Rattle.glob_walk.specs.declared.task.Sight.TheVariants as sight
-use Rattle.glob_walk.specs.declared.course.Answer.{Answer}
-use Rattle.glob_walk.specs.declared.course.Answer.TheVariants as answer
+use Rattle.glob_walk.specs.declared.machine.Answer.{Answer}
+use Rattle.glob_walk.specs.declared.machine.Answer.TheVariants as answer
 use Rattle.glob_walk.specs.Questions.{Question, LookAt, ListAt, IsLook, IsSomeContent, question_path}
-use Rattle.glob_walk.specs.Courses.{AsksNext}
+use Rattle.glob_walk.specs.Machines.{AsksNext}
 use Rattle.glob_walk.specs.Private.Tasks.{question_of, sight_question, IsNextOpened, IsSightOpened}
 use Rattle.glob_walk.specs.Private.Stacks.{left, ready, IsWithin, IsSound}
 use Rattle.glob_walk.specs.Private.Turns.{TurnOf, TurnCounts, IfGoing, TurnsTo, IsAnswered, listed_items}

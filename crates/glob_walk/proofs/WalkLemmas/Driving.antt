@@ -10,13 +10,13 @@ use Rattle.glob_tree.specs.declared.tree.Entry.{Entry}
 use Rattle.glob_tree.specs.declared.tree.ListError.{ListError}
 use Rattle.glob_walk.specs.Marks.{Mark, Work, Give}
 use Rattle.glob_walk.specs.Questions.{Question, LookAt, ListAt, IsLook, IsList, IsSomeContent, IsSeenIn, IsListedIn, question_path}
-use Rattle.glob_walk.specs.Courses.{Coursing, Agrees, Saying, AsksLook, AsksList, Says, Ends, StepCounts, StepGoes, TakesStep, IsCharged, IsAskedAfter, left_of, outcome_said, is_last_said, units_said}
+use Rattle.glob_walk.specs.Machines.{MachineState, Agrees, Saying, AsksLook, AsksList, Says, Ends, StepCounts, StepGoes, TakesStep, IsCharged, IsAskedAfter, left_of, outcome_said, is_last_said, units_said}
 use Rattle.glob_walk.specs.Walks.{Gives, LimitAt, NoMemory, Walking, Charges, TakesFront, IsAsked, Takes, Goes, is_last, item_number}
 use Rattle.glob_walk.specs.Private.Walking.{IsDriven}
 use Rattle.glob_walk.proofs.WalkLemmas.Charging.{Charges-trans, Charges-asked, AsksNext-after}
 
 -- what contracts see of it
-abbrev pub seen_walk : {X A : Type 0} → (X → Option Content) → X → Coursing A → Walking X
+abbrev pub seen_walk : {X A : Type 0} → (X → Option Content) → X → MachineState A → Walking X
 seen_walk tells t c = record {
   tree = t;
   limit = c.limit;
@@ -27,19 +27,19 @@ seen_walk tells t c = record {
 }
 
 -- what was asked of the tree, by what was charged; the question that is open was not asked yet
-abbrev pub IsAskedSo : {X A : Type 0} → (X → ℕ) → Walking X → Saying → X → Coursing A → Type 0
+abbrev pub IsAskedSo : {X A : Type 0} → (X → ℕ) → Walking X → Saying → X → MachineState A → Type 0
 IsAskedSo asks v (Says (LimitAt p)) t c = (c.spent ≡ c.limit) × (asks v.tree + c.spent ≤ asks t + v.spent)
 IsAskedSo asks v s t c = asks t + units_said s + v.spent ≡ asks v.tree + c.spent
 
 -- what the steps since one item took, over a content
-pub record DriveTakes {X A : Type 0} (v : Walking X) (c : Coursing A) (s : Saying) (x : Content) : Type 0 where
+pub record DriveTakes {X A : Type 0} (v : Walking X) (c : MachineState A) (s : Saying) (x : Content) : Type 0 where
   pub old_left : List Mark
   pub had : v.left ≡ Some old_left
   pub agrees : Agrees x c
   pub takes : TakesStep old_left v.spent s c.asked (left_of x c) c.spent
 
 -- the steps of a walk since one item
-pub record Drives {X A : Type 0} (asks : X → ℕ) (tells : X → Option Content) (v : Walking X) (t : X) (c : Coursing A) (s : Saying) : Type 0 where
+pub record Drives {X A : Type 0} (asks : X → ℕ) (tells : X → Option Content) (v : Walking X) (t : X) (c : MachineState A) (s : Saying) : Type 0 where
   pub limit : c.limit ≡ v.limit
   pub grows : v.spent ≤ c.spent
   pub within : c.spent ≤ c.limit
@@ -61,7 +61,7 @@ TakesStep-after first mid new a b d (Says NoMemory) q h k = tt
 TakesStep-after first mid new a b d Ends q h k = (Charges-trans first mid [] a b d h k.0, k.1)
 
 module _ {X A : Type 0} (asks : X → ℕ) (tells : X → Option Content) where
-  first : (t0 : X) (c0 c : Coursing A) (s : Saying) → IsDriven tells t0 c0 → StepGoes IsSomeContent 0 c0 s c → Drives asks tells (seen_walk tells t0 c0) t0 c s
+  first : (t0 : X) (c0 c : MachineState A) (s : Saying) → IsDriven tells t0 c0 → StepGoes IsSomeContent 0 c0 s c → Drives asks tells (seen_walk tells t0 c0) t0 c s
   first t0 c0 c s d h = record {
     limit = h.counts.limit;
     grows = h.counts.grows;
@@ -87,12 +87,12 @@ module _ {X A : Type 0} (asks : X → ℕ) (tells : X → Option Content) where
       by_saying (Says NoMemory) e = omega (arith, e)
       by_saying Ends e = omega (arith, e)
 
-  pub Drives-first : (v : Walking X) (t0 : X) (c0 c : Coursing A) (s : Saying) → seen_walk tells t0 c0 ≡ v → IsDriven tells t0 c0 → StepGoes IsSomeContent 0 c0 s c → Drives asks tells v t0 c s
+  pub Drives-first : (v : Walking X) (t0 : X) (c0 c : MachineState A) (s : Saying) → seen_walk tells t0 c0 ≡ v → IsDriven tells t0 c0 → StepGoes IsSomeContent 0 c0 s c → Drives asks tells v t0 c s
   Drives-first v t0 c0 c s e d h = subst (λ u. Drives asks tells u t0 c s) e (first t0 c0 c s d h)
 
 module _ {X A : Type 0} (asks : X → ℕ) (tells : X → Option Content) (v : Walking X) where
   -- the question that was open is answered
-  pub Drives-after : (t t' : X) (c c' : Coursing A) (s s' : Saying) (n : ℕ) (Fits : Content → Type 0) → units_said s ≡ 1 → Drives asks tells v t c s
+  pub Drives-after : (t t' : X) (c c' : MachineState A) (s s' : Saying) (n : ℕ) (Fits : Content → Type 0) → units_said s ≡ 1 → Drives asks tells v t c s
       → asks t' ≡ asks t + 1 + n → tells t' ≡ tells t → ((x : Content) → IsTold (tells t) x → Fits x) → StepGoes Fits n c s' c' → Drives asks tells v t' c' s'
   Drives-after t t' c c' s s' n Fits question h more same fits k = record {
     limit = k.counts.limit ∙ h.limit;
@@ -152,7 +152,7 @@ module _ {X A : Type 0} (asks : X → ℕ) (tells : X → Option Content) (v : W
       charged_before Ends q x old h = absurd (omega (arith, q))
 
   -- an item, or the end
-  pub Drives-last : (t : X) (c : Coursing A) (s : Saying) → units_said s ≡ 0 → Drives asks tells v t c s → Goes asks tells v (outcome_said s) (seen_walk tells t c)
+  pub Drives-last : (t : X) (c : MachineState A) (s : Saying) → units_said s ≡ 0 → Drives asks tells v t c s → Goes asks tells v (outcome_said s) (seen_walk tells t c)
   Drives-last t c s item h = record {
     counts = record {
       limit = h.limit;
@@ -211,7 +211,7 @@ module _ {X A : Type 0} (asks : X → ℕ) (tells : X → Option Content) (v : W
         takes = λ going. absurd (both_ways v.over going e);
       }
 
-  pub IsDriven-last : (t : X) (c : Coursing A) (s : Saying) → units_said s ≡ 0 → Drives asks tells v t c s → IsDriven tells t c
+  pub IsDriven-last : (t : X) (c : MachineState A) (s : Saying) → units_said s ≡ 0 → Drives asks tells v t c s → IsDriven tells t c
   IsDriven-last t c s item h = record {
     free = free s item h.asks_next;
     agrees = λ x told going. (h.takes x (sym h.told ∙ told.0, told.1) (of_first v.over refl going)).agrees;
@@ -228,7 +228,7 @@ module _ {X A : Type 0} (asks : X → ℕ) (tells : X → Option Content) (v : W
       of_first true e going = ap (λ w. w.over) (sym (h.stays e).1) ∙ going
 
 -- an answer leaves fewer questions within the limit
-pub fewer : {A : Type 0} (n : ℕ) (c c' : Coursing A) (s s' : Saying) → units_said s ≡ 1 → StepCounts n c s' c' → 2 * (c'.limit - c'.spent) + units_said s' < 2 * (c.limit - c.spent) + units_said s
+pub fewer : {A : Type 0} (n : ℕ) (c c' : MachineState A) (s s' : Saying) → units_said s ≡ 1 → StepCounts n c s' c' → 2 * (c'.limit - c'.spent) + units_said s' < 2 * (c.limit - c.spent) + units_said s
 fewer {A} n c c' s s' question h = by_saying s' h.charged
   where
     by_saying : (x : Saying) → IsCharged n c x c' → 2 * (c'.limit - c'.spent) + units_said x < 2 * (c.limit - c.spent) + units_said s

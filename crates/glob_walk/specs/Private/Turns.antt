@@ -6,10 +6,10 @@ use Rattle.glob_walk.specs.Marks.{Mark, Give, Found, Unread}
 use Rattle.glob_walk.specs.declared.meter.Meter.{Meter}
 use Rattle.glob_walk.specs.declared.turn.Turn.{Turn}
 use Rattle.glob_walk.specs.declared.turn.Turn.TheVariants as turn
-use Rattle.glob_walk.specs.declared.course.Answer.{Answer}
-use Rattle.glob_walk.specs.declared.course.Answer.TheVariants as answer
+use Rattle.glob_walk.specs.declared.machine.Answer.{Answer}
+use Rattle.glob_walk.specs.declared.machine.Answer.TheVariants as answer
 use Rattle.glob_walk.specs.Questions.{Question, IsLook, IsList, IsSomeContent, IsSeenIn, IsListedIn, question_path}
-use Rattle.glob_walk.specs.Courses.{AsksNext}
+use Rattle.glob_walk.specs.Machines.{AsksNext}
 use Rattle.glob_walk.specs.Walks.{Charges, StopsAt}
 use Rattle.glob_tree.specs.Content.{Content, list_result}
 use Rattle.glob_tree.specs.Answers.{IsListAnswer, entries_of, entry_count}

@@ -13,8 +13,8 @@ use Rattle.glob_walk.specs.declared.walk.End.{End}
 use Rattle.glob_walk.specs.declared.walk.End.TheVariants as end
 use Rattle.glob_walk.specs.Private.Tasks.{question_of, IsNextOpened}
 use Rattle.glob_walk.specs.Private.Stacks.{ready, IsWithin}
-use Rattle.glob_walk.specs.declared.course.Step.{Step}
-use Rattle.glob_walk.specs.Courses.{Coursing, Agrees, Saying, AsksLook, AsksList, Says, Ends, saying}
+use Rattle.glob_walk.specs.declared.machine.Step.{Step}
+use Rattle.glob_walk.specs.Machines.{MachineState, Agrees, Saying, AsksLook, AsksList, Says, Ends, saying}
 
 -- what is true of a walk that is not over
 pub record IsUnderWay {A : Type 0} (meter : Meter) (stack : Stack A) (given : ℕ) : Type 0 where
@@ -64,9 +64,9 @@ IsStepOf t s = saying s ≡ turn_saying t
 
 -- What is true of a walk over a tree between two items: no question is open, and each answer so far was that of the tree's
 -- content.
-pub record IsDriven {X A : Type 0} (tells : X → Option Content) (tree : X) (course : Coursing A) : Type 0 where
-  pub free : course.asked ≡ None
-  pub agrees : (c : Content) → IsTold (tells tree) c → course.over ≡ false → Agrees c course
+pub record IsDriven {X A : Type 0} (tells : X → Option Content) (tree : X) (machine : MachineState A) : Type 0 where
+  pub free : machine.asked ≡ None
+  pub agrees : (c : Content) → IsTold (tells tree) c → machine.over ≡ false → Agrees c machine
 
 -- the end of a walk that gave a refusal
 abbrev pub refusal_end : Outcome → Option End

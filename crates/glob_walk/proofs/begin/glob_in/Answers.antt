@@ -2,4 +2,4 @@ use Rattle.std.proofs.Common.{Some, ap, ◌∙◌}
 use Rattle.glob_walk.proofs.begin.glob_in.Goals as goal
 
 pub returns-clause-listing : goal.returns-clause-listing
-returns-clause-listing g c = λ x told. c.new.ensures.left x told ∙ ap Some (c.in_ok-course.ensures.listing x)
+returns-clause-listing g c = λ x told. c.new-2.ensures.left x told ∙ ap Some (c.in_ok-machine.ensures.listing x)

@@ -1,6 +1,6 @@
 use Rattle.std.proofs.Common.{rules, ◌≡◌, ◌+◌, ap, arith, subst}
 use Rattle.glob_tree.specs.Answers.{entry_count}
-use Rattle.glob_walk.specs.Courses.{Says, Ends, saying, units_said}
+use Rattle.glob_walk.specs.Machines.{Says, Ends, saying, units_said}
 use Rattle.glob_walk.specs.Questions.{IsSeenIn, IsListedIn}
 use Rattle.glob_walk.specs.Walks.{outcome}
 use Rattle.glob_walk.proofs.WalkLemmas.Driving.{Drives, Drives-first, Drives-after, Drives-last, seen_fits, listed_fits}
@@ -8,31 +8,31 @@ use Rattle.glob_walk.proofs.paths.PathsIterator.next.Goals as goal
 
 pub loop-step-init : goal.loop-step-init
 loop-step-init g c =
-    Drives-first g.T.Tree.asks g.T.Tree.tells c.args.self.now c.self.inside.tree c.self.inside.course c.next-step.new.self (saying c.next-step.result) c.self.view_is c.self.invariant c.next-step.ensures.steps
+    Drives-first g.T.Tree.asks g.T.Tree.tells c.args.self.now c.self.inside.tree c.self.inside.machine c.next-step.new.self (saying c.next-step.result) c.self.view_is c.self.invariant c.next-step.ensures.steps
 
 pub returns-in-Item-clause-steps : goal.returns-in-Item-clause-steps
 returns-in-Item-clause-steps g c =
-    Drives-last g.T.Tree.asks g.T.Tree.tells c.args.self.now c.loop-step.self-inside.tree c.loop-step.self-inside.course (Says (outcome c.in-Item.item)) (omega arith)
-    (subst (λ s. Drives g.T.Tree.asks g.T.Tree.tells c.args.self.now c.loop-step.self-inside.tree c.loop-step.self-inside.course (saying s)) c.in-Item.is c.loop-step.invariant)
+    Drives-last g.T.Tree.asks g.T.Tree.tells c.args.self.now c.loop-step.self-inside.tree c.loop-step.self-inside.machine (Says (outcome c.in-Item.item)) (omega arith)
+    (subst (λ s. Drives g.T.Tree.asks g.T.Tree.tells c.args.self.now c.loop-step.self-inside.tree c.loop-step.self-inside.machine (saying s)) c.in-Item.is c.loop-step.invariant)
 
 pub returns-in-Done-clause-steps : goal.returns-in-Done-clause-steps
 returns-in-Done-clause-steps g c =
-    Drives-last g.T.Tree.asks g.T.Tree.tells c.args.self.now c.loop-step.self-inside.tree c.loop-step.self-inside.course Ends (omega arith)
-    (subst (λ s. Drives g.T.Tree.asks g.T.Tree.tells c.args.self.now c.loop-step.self-inside.tree c.loop-step.self-inside.course (saying s)) c.in-Done.is c.loop-step.invariant)
+    Drives-last g.T.Tree.asks g.T.Tree.tells c.args.self.now c.loop-step.self-inside.tree c.loop-step.self-inside.machine Ends (omega arith)
+    (subst (λ s. Drives g.T.Tree.asks g.T.Tree.tells c.args.self.now c.loop-step.self-inside.tree c.loop-step.self-inside.machine (saying s)) c.in-Done.is c.loop-step.invariant)
 
 pub loop-step-preserved-in-Look : goal.loop-step-preserved-in-Look
 loop-step-preserved-in-Look g c =
-    let course = c.loop-step.self-inside.course in
+    let machine = c.loop-step.self-inside.machine in
     let asks : units_said (saying c.loop-step.step) ≡ 1 = ap (λ s. units_said (saying s)) c.in-Look.is in
     let more : g.T.Tree.asks c.look-seen.new.self ≡ g.T.Tree.asks c.loop-step.self-inside.tree + 1 + 0 = let m = c.look-seen.ensures.asks in omega (arith, m) in
-    Drives-after g.T.Tree.asks g.T.Tree.tells c.args.self.now c.loop-step.self-inside.tree c.look-seen.new.self course c.looked.new.self (saying c.loop-step.step) (saying c.looked.result)
-    0 (IsSeenIn course.asked c.look-seen.result) asks c.loop-step.invariant more c.look-seen.ensures.content
-    (λ x told. seen_fits course.asked c.look-seen.result x c.path.result.now (search rules) c.path.ensures told.1 (c.look-seen.ensures.seen x told)) c.looked.ensures.steps
+    Drives-after g.T.Tree.asks g.T.Tree.tells c.args.self.now c.loop-step.self-inside.tree c.look-seen.new.self machine c.looked.new.self (saying c.loop-step.step) (saying c.looked.result)
+    0 (IsSeenIn machine.asked c.look-seen.result) asks c.loop-step.invariant more c.look-seen.ensures.content
+    (λ x told. seen_fits machine.asked c.look-seen.result x c.path.result.now (search rules) c.path.ensures told.1 (c.look-seen.ensures.seen x told)) c.looked.ensures.steps
 
 pub loop-step-preserved : goal.loop-step-preserved
 loop-step-preserved g c =
-    let course = c.loop-step.self-inside.course in
+    let machine = c.loop-step.self-inside.machine in
     let asks : units_said (saying c.loop-step.step) ≡ 1 = ap (λ s. units_said (saying s)) c.in-List.is in
-    Drives-after g.T.Tree.asks g.T.Tree.tells c.args.self.now c.loop-step.self-inside.tree c.list-listed.new.self course c.listed.new.self (saying c.loop-step.step) (saying c.listed.result)
-    (entry_count c.list-listed.result) (IsListedIn course.asked c.list-listed.result) asks c.loop-step.invariant c.list-listed.ensures.asks c.list-listed.ensures.content
-    (λ x told. listed_fits course.asked c.list-listed.result x c.path-in-List.result.now (search rules) c.path-in-List.ensures told.1 (c.list-listed.ensures.entries x told) (c.list-listed.ensures.fails x told)) c.listed.ensures.steps
+    Drives-after g.T.Tree.asks g.T.Tree.tells c.args.self.now c.loop-step.self-inside.tree c.list-listed.new.self machine c.listed.new.self (saying c.loop-step.step) (saying c.listed.result)
+    (entry_count c.list-listed.result) (IsListedIn machine.asked c.list-listed.result) asks c.loop-step.invariant c.list-listed.ensures.asks c.list-listed.ensures.content
+    (λ x told. listed_fits machine.asked c.list-listed.result x c.path-in-List.result.now (search rules) c.path-in-List.ensures told.1 (c.list-listed.ensures.entries x told) (c.list-listed.ensures.fails x told)) c.listed.ensures.steps

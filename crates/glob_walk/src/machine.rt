@@ -1,35 +1,37 @@
 //! A walk that asks its caller, and reads nothing itself.
-ghost use Rattle.std.specs.Prelude.{◌≡◌, ◌≤◌, ◌+◌, true, List, None, string_bytes};
+ghost use Rattle.std.specs.Prelude.{◌≡◌, ◌≤◌, ◌+◌, true, List, [], None, IfOk, IfErr, string_bytes};
 ghost use Rattle.glob_tree.specs.Answers.{entry_count};
 ghost use Rattle.glob_tree.specs.Content.{Content};
-ghost use Rattle.glob_walk.specs.Courses.{IsFreshCourse, StepGoes, left_of, saying};
-ghost use Rattle.glob_walk.specs.Listing.{look_up, enter};
+ghost use Rattle.glob_walk.specs.Machines.{IsFreshMachine, StepGoes, left_of, saying};
+ghost use Rattle.glob_walk.specs.Components.{walk_fault};
+ghost use Rattle.glob_walk.specs.Listing.{listing, look_up, enter};
 ghost use Rattle.glob_walk.specs.Marks.{Item, Mark};
-ghost use Rattle.glob_walk.specs.Told.{HasTold, TellsNext};
+ghost use Rattle.glob_walk.specs.Driven.{HasGiven, GivesNext};
+ghost use Rattle.glob_walk.specs.Walks.{RefusesWith};
 ghost use Rattle.glob_walk.specs.Private.Turns.{IsAnswer, IsAnswered, answer_count};
 ghost use Rattle.glob_walk.specs.Questions.{IsLook, IsList, IsListedIn, IsSeenIn, IsSomeContent, question_path};
 
 use crate::error::GlobResult;
 use crate::meter::Meter;
-use crate::plan::Plan;
+use crate::plan::{Plan, start};
 use crate::stack::Stack;
 use crate::task::{Sight, Task, Wanted};
 use crate::walker::Walker;
+use glob_pattern::{MatchOptions, PatternRefusal};
 use glob_tree::{Entry, ListError, Look};
 use std::alloc::{AllocError, Allocator, Global};
 use std::marker::Model;
 
-/// What a walk does next. Over files `x` and `y`, that of `*` asks for a look at `.`, then for the listing of `.`, and then
-/// gives `x`, `y` and `Done`.
+/// What a walk does next.
 #[derive(Drop)]
 pub enum Step<A: Allocator = Global> {
-    /// It asks what [`path`](Course::path) leads to: [`looked`](Course::looked) answers.
+    /// It asks what [`path`](WalkMachine::path) leads to, and [`looked`](WalkMachine::looked) answers.
     Look,
-    /// It asks for the entries of the directory at [`path`](Course::path): [`listed`](Course::listed) answers.
+    /// It asks for the entries of the directory at [`path`](WalkMachine::path), and [`listed`](WalkMachine::listed) answers.
     List,
-    /// It gives an item: a path, or an error.
+    /// It gives an item: a path, or an error. After an error with the cause `Limit` or `Memory` only `Done` follows.
     Item(GlobResult<A>),
-    /// Nothing is left.
+    /// Nothing is left: each further call of [`next`](WalkMachine::next) returns it again.
     Done,
 }
 
@@ -44,26 +46,37 @@ pub(crate) enum Answer<A: Allocator> {
     List(Result<Vec<Entry<A>, A>, ListError>),
 }
 
-/// A walk that asks its caller what it has to know, and reads no file itself. Whoever drives it answers each question, from
-/// a file system, an archive, over a network, or later.
+/// A walk without a tree: it asks its questions one by one, and whoever drives it answers them from a file system, an
+/// archive or a network, at once or later. [`Paths`](crate::Paths) is a loop that answers them from a
+/// [`Tree`](glob_tree::Tree).
 ///
-/// The questions and items are those of the written listing, one after another, as long as each answer is that of one
-/// content: the items given are a beginning of its items, and at `Done` they are all of them. Whatever is answered, a walk
-/// asks for no more than its limit, and comes to an end.
+/// ```text
+/// let mut machine = WalkMachine::new(alloc, "*", MatchOptions::new(), 100)?;
+/// machine.next()                  // Step::Look, where machine.path() is "."
+/// machine.looked(Ok(Look::Dir))   // Step::List, where machine.path() is "."
+/// machine.listed(Ok(entries))     // of files `y` and `x`: Step::Item(Ok("x"))
+/// machine.next()                  // Step::Item(Ok("y"))
+/// machine.next()                  // Step::Done; machine.spent() is 4
+/// ```
+///
+/// As long as each answer is that of one content, its questions and items are those of the written listing, one after
+/// another: the items so far are a beginning of all of them, and at `Done` all. Whatever is answered, it charges a unit for
+/// each question before it asks it, and one for each entry that is answered, gives at most one item more than it charged
+/// units, never charges more than its limit, and so comes to an end.
 #[derive(Drop)]
-pub struct Course<A: Allocator = Global> {
+pub struct WalkMachine<A: Allocator = Global> {
     walker: Walker<A>,
     /// How many items were given: up to one more than the limit, so it may be 2^64.
     given: u128,
     over: bool,
 }
 
-impl<A: Allocator> Model for Course<A> {
-    ghost use Rattle.glob_walk.specs.Courses.{Coursing};
+impl<A: Allocator> Model for WalkMachine<A> {
+    ghost use Rattle.glob_walk.specs.Machines.{MachineState};
     ghost use Rattle.glob_walk.specs.Private.Walking.{IsGood};
     ghost use Rattle.glob_walk.specs.Private.Tasks.{question_of};
 
-    ghost Value = { Coursing A };
+    ghost Value = { MachineState A };
 
     ghost view = { λ w. record {
       limit = w.walker.meter.limit;
@@ -77,10 +90,32 @@ impl<A: Allocator> Model for Course<A> {
     ghost invariant = { λ w. IsGood w.walker.meter w.walker.stack w.given w.over };
 }
 
-impl<A: Allocator + Copy> Course<A> {
+impl<A: Allocator + Copy> WalkMachine<A> {
+    /// A walk after the components of a pattern, with at most `limit` units of work, as [`glob_in`](crate::glob_in) has it,
+    /// and refused as there. It has asked nothing.
+    #[tactic(auto, using(crate::proofs::WalkLemmas::Merging::merged_listing))]
+    pub fn new(
+        alloc: A,
+        pattern: &str,
+        options: MatchOptions,
+        limit: u64,
+    ) -> Result<Self, PatternRefusal>
+        ensures accepted { IfOk result (λ _. walk_fault pattern.now ≡ None) }
+        ensures refused { IfErr result (RefusesWith (walk_fault pattern.now)) }
+        ensures fresh { IfOk result (IsFreshMachine limit) }
+        ensures listing { IfOk result
+            (λ walk. (c : Content) → left_of c walk ≡ listing c options pattern.now) }
+        ensures begun { IfOk result
+            (λ walk. (c : Content) → HasGiven (listing c options pattern.now) c [] walk) }
+    {
+        let plan = Plan::read(alloc, pattern, options)?;
+        let start = String::from_str(alloc, start(pattern))?;
+        Ok(WalkMachine::from_plan(plan, start, limit))
+    }
+
     /// A walk from a path, which is looked up first.
-    pub(crate) fn new(plan: Plan<A>, start: String<A>, limit: u64) -> Self
-        ensures fresh { IsFreshCourse limit result }
+    fn from_plan(plan: Plan<A>, start: String<A>, limit: u64) -> Self
+        ensures fresh { IsFreshMachine limit result }
         ensures left { (c : Content) → left_of c result ≡ look_up c
             (λ seen. true) (enter c plan.options plan.directories plan.parts.items)
             (string_bytes start) }
@@ -93,45 +128,46 @@ impl<A: Allocator + Copy> Course<A> {
         });
         let stack = Stack { plan, next, frames };
         let meter = Meter { limit, spent: 0 };
-        Course {
+        WalkMachine {
             walker: Walker { meter, stack },
             given: 0,
             over: false,
         }
     }
 
-    /// The next step, where no question is open.
+    /// The next step, where no question is open: at first, and after an item.
     pub fn next(&mut self) -> Step<A>
         requires free { self.old.asked ≡ None }
         ensures steps { StepGoes IsSomeContent 0 self.old (saying result) self.new }
-        ensures told { (c : Content) → (all : List Mark) → (given : List Item) → IsSomeContent c
-            → HasTold all c given self.old → TellsNext all c given (saying result) self.new }
+        ensures driven { (c : Content) → (all : List Mark) → (given : List Item) → IsSomeContent c
+            → HasGiven all c given self.old → GivesNext all c given (saying result) self.new }
     {
         self.resume(Answer::Nothing)
     }
 
-    /// Answers the look that is asked for, and gives the next step. The error says that there was no memory to look, and
-    /// ends the walk.
+    /// Answers the look that is asked for, and returns the next step. `Err` says that there was no memory to look: the step
+    /// is then an error with the cause `Memory`, and the walk is over.
     pub fn looked(&mut self, seen: Result<Look, AllocError>) -> Step<A>
         requires asked { IsLook self.old.asked }
         ensures steps { StepGoes (IsSeenIn self.old.asked seen) 0
             self.old (saying result) self.new }
-        ensures told { (c : Content) → (all : List Mark) → (given : List Item)
+        ensures driven { (c : Content) → (all : List Mark) → (given : List Item)
             → IsSeenIn self.old.asked seen c
-            → HasTold all c given self.old → TellsNext all c given (saying result) self.new }
+            → HasGiven all c given self.old → GivesNext all c given (saying result) self.new }
     {
         self.resume(Answer::Look(seen))
     }
 
-    /// Answers the listing that is asked for, with its entries in any order, and gives the next step. Where it is an error
-    /// with the cause `Read`, that is the next item, and the walk goes on; `Memory` ends it.
+    /// Answers the listing that is asked for, with its entries in any order, and returns the next step. After
+    /// `Err(ListError::Read(e))` that is an error with the path, `e` and the cause `Read`, and the walk goes on; after
+    /// `Err(ListError::Memory)` it is one with the cause `Memory`, and the walk is over.
     pub fn listed(&mut self, listed: Result<Vec<Entry<A>, A>, ListError>) -> Step<A>
         requires asked { IsList self.old.asked }
         ensures steps { StepGoes (IsListedIn self.old.asked listed) (entry_count listed)
             self.old (saying result) self.new }
-        ensures told { (c : Content) → (all : List Mark) → (given : List Item)
+        ensures driven { (c : Content) → (all : List Mark) → (given : List Item)
             → IsListedIn self.old.asked listed c
-            → HasTold all c given self.old → TellsNext all c given (saying result) self.new }
+            → HasGiven all c given self.old → GivesNext all c given (saying result) self.new }
     {
         self.resume(Answer::List(listed))
     }
@@ -152,7 +188,7 @@ impl<A: Allocator + Copy> Course<A> {
     }
 }
 
-impl<A: Allocator> Course<A> {
+impl<A: Allocator> WalkMachine<A> {
     /// The path that is asked for, and the empty text where no question is open.
     pub fn path(&self) -> &str
         ensures { result.now ≡ question_path self.now.asked }

@@ -1,6 +1,6 @@
 use Rattle.std.proofs.Common.{rules, refl}
-use Rattle.glob_walk.proofs.WalkLemmas.Coursing.{IsGood-fresh, sound-fresh}
-use Rattle.glob_walk.proofs.course.Course.new.Goals as goal
+use Rattle.glob_walk.proofs.WalkLemmas.MachineSteps.{IsGood-fresh, sound-fresh}
+use Rattle.glob_walk.proofs.machine.WalkMachine.from_plan.Goals as goal
 
 pub invariant_of-result : goal.invariant_of-result
 invariant_of-result g c = IsGood-fresh _ _ _ refl (search rules) refl refl (search rules)

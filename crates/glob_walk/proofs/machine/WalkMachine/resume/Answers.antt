@@ -3,8 +3,8 @@ use Rattle.glob_walk.specs.Private.Walking.{IsGood, turn_outcome}
 use Rattle.glob_walk.specs.Private.Tasks.{question_of}
 use Rattle.glob_walk.specs.Private.Turns.{IsAnswer, IsAnswered, answer_count}
 use Rattle.glob_walk.specs.Walks.{item_number}
-use Rattle.glob_walk.proofs.WalkLemmas.Coursing.{IsGood-after, goes_at, goes_over, one_item}
-use Rattle.glob_walk.proofs.course.Course.resume.Goals as goal
+use Rattle.glob_walk.proofs.WalkLemmas.MachineSteps.{IsGood-after, goes_at, goes_over, one_item}
+use Rattle.glob_walk.proofs.machine.WalkMachine.resume.Goals as goal
 
 pub returns-then-self : goal.returns-then-self
 returns-then-self g c = record { steps = goes_over c.self.inside.walker.meter c.self.inside.walker.stack c.self.inside.given c.self.inside.over c.if-self.true c.args.answer c.args.self.now c.self.view_is c.self.invariant c.requires.answer }

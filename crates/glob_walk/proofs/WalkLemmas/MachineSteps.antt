@@ -6,14 +6,14 @@ use Rattle.std.proofs.lemmas.List.Elements.{All-from_recursion}
 use Rattle.std.proofs.lemmas.Bool.{both_ways}
 use Rattle.glob_tree.specs.Content.{Content}
 use Rattle.glob_walk.specs.Questions.{Question}
-use Rattle.glob_walk.specs.Courses.{Coursing, Saying, StepGoes, Ends}
+use Rattle.glob_walk.specs.Machines.{MachineState, Saying, StepGoes, Ends}
 use Rattle.glob_walk.specs.Walks.{Charges, item_number}
 use Rattle.glob_walk.specs.declared.meter.Meter.{Meter}
 use Rattle.glob_walk.specs.declared.stack.Stack.{Stack}
 use Rattle.glob_walk.specs.declared.turn.Turn.{Turn}
 use Rattle.glob_walk.specs.declared.turn.Turn.TheVariants as turn
-use Rattle.glob_walk.specs.declared.course.Answer.{Answer}
-use Rattle.glob_walk.specs.declared.course.Answer.TheVariants as answer
+use Rattle.glob_walk.specs.declared.machine.Answer.{Answer}
+use Rattle.glob_walk.specs.declared.machine.Answer.TheVariants as answer
 use Rattle.glob_walk.specs.Private.Stacks.{left, ready, IsWithin, IsSound}
 use Rattle.glob_walk.specs.Private.Tasks.{next_ready, sight_ready, question_of, IsNextSound, IsSightSound, IsNextOpened, IsSightOpened}
 use Rattle.glob_walk.specs.Private.Frames.{unmet, is_done, IsFrameSound}
@@ -45,7 +45,7 @@ grows n m m' turn.Memory h = omega (arith, h)
 grows n m m' turn.Done h = omega (arith, h)
 
 -- what contracts see of it
-abbrev pub view : {A : Type 0} → Meter → Stack A → ℕ → Bool → Coursing A
+abbrev pub view : {A : Type 0} → Meter → Stack A → ℕ → Bool → MachineState A
 view m s given over = record { limit = m.limit; spent = m.spent; given = given; over = over; asked = question_of s.next; todo = s }
 
 -- nothing is left on the stack
@@ -195,7 +195,7 @@ module _ {A : Type 0} (Fits : Content → Type 0) (n : ℕ) (m m' : Meter) (s s'
   }
 
 -- a step, with what is known of its parts
-pub goes_at : {A : Type 0} (n : ℕ) (m m' : Meter) (s s' : Stack A) (given : ℕ) (over' : Bool) (a : Answer A) (v : Coursing A) → view m s given over' ≡ v → over' ≡ false → m.limit < 2 ^ 64 → IsUnderWay m s given
+pub goes_at : {A : Type 0} (n : ℕ) (m m' : Meter) (s s' : Stack A) (given : ℕ) (over' : Bool) (a : Answer A) (v : MachineState A) → view m s given over' ≡ v → over' ≡ false → m.limit < 2 ^ 64 → IsUnderWay m s given
     → (t : Turn A) (x : Saying) (k : ℕ) (b : Bool) → x ≡ turn_saying t → k ≡ item_number (turn_outcome t) → b ≡ is_last_turn t → t ≢ turn.Went
     → TurnsTo (IsAnswered (question_of s.next) a) n m s t m' s' → (is_last_turn t ≡ true → IsCleared s') → StepGoes (IsAnswered v.asked a) n v x (view m' s' (given + k) b)
 goes_at {A} n m m' s s' given over' a v e going' fits w t x k b xs ks bs stops r cleared =
@@ -213,7 +213,7 @@ none_answered q (answer.Look r) free h = refl
 none_answered q (answer.List r) free h = absurd (subst (λ x. IsAnswer x (answer.List r)) free h)
 
 -- a walk that is over stays as it is
-pub goes_over : {A : Type 0} (m : Meter) (s : Stack A) (given : ℕ) (over' : Bool) → over' ≡ true → (a : Answer A) (v : Coursing A) → view m s given over' ≡ v → IsGood m s given over' → IsAnswer v.asked a
+pub goes_over : {A : Type 0} (m : Meter) (s : Stack A) (given : ℕ) (over' : Bool) → over' ≡ true → (a : Answer A) (v : MachineState A) → view m s given over' ≡ v → IsGood m s given over' → IsAnswer v.asked a
     → StepGoes (IsAnswered v.asked a) (answer_count a) v Ends v
 goes_over m s given over' yes' a v e good answers =
     subst (λ x. IsAnswer x.asked a → StepGoes (IsAnswered x.asked a) (answer_count a) x Ends x) e

@@ -7,11 +7,11 @@ use Rattle.glob_walk.specs.Private.Stacks.{left, IsSound}
 use Rattle.glob_walk.specs.Questions.{Question, IsLook, IsList, question_path}
 use Rattle.glob_walk.specs.Walks.{Outcome, LimitAt, Charges, TakesFront, outcome, is_last, item_number}
 use Rattle.glob_walk.specs.declared.stack.Stack.{Stack}
-use Rattle.glob_walk.specs.declared.course.Step.{Step}
-use Rattle.glob_walk.specs.declared.course.Step.TheVariants as step
+use Rattle.glob_walk.specs.declared.machine.Step.{Step}
+use Rattle.glob_walk.specs.declared.machine.Step.TheVariants as step
 
 -- what contracts see of a walk that asks its caller
-pub record Coursing (A : Type 0) : Type 0 where
+pub record MachineState (A : Type 0) : Type 0 where
   pub limit : ℕ
   -- the units of work that were charged, that of an open question too
   pub spent : ℕ
@@ -25,15 +25,15 @@ pub record Coursing (A : Type 0) : Type 0 where
   pub todo : Stack A
 
 -- what is left of the written listing over a content; of an open question the unit is charged
-abbrev pub left_of : {A : Type 0} → Content → Coursing A → List Mark
+abbrev pub left_of : {A : Type 0} → Content → MachineState A → List Mark
 left_of c walk = left c walk.todo
 
 -- It holds of each content at first, and each answer that is that of a content keeps it of that content.
-abbrev pub Agrees : {A : Type 0} → Content → Coursing A → Type 0
+abbrev pub Agrees : {A : Type 0} → Content → MachineState A → Type 0
 Agrees c walk = IsSound c walk.todo
 
 -- a walk that has done nothing yet
-pub record IsFreshCourse {A : Type 0} (most : ℕ) (walk : Coursing A) : Type 0 where
+pub record IsFreshMachine {A : Type 0} (most : ℕ) (walk : MachineState A) : Type 0 where
   pub limit : walk.limit ≡ most
   pub spent : walk.spent ≡ 0
   pub given : walk.given ≡ 0
@@ -84,12 +84,12 @@ IsAskedAfter Ends q = q ≡ None
 
 -- What is charged where so many entries were answered: a unit for each, and one for the next question. At a limit refusal
 -- all of the limit is spent, and it does not pay for the entries and one unit more.
-abbrev pub IsCharged : {A : Type 0} → ℕ → Coursing A → Saying → Coursing A → Type 0
+abbrev pub IsCharged : {A : Type 0} → ℕ → MachineState A → Saying → MachineState A → Type 0
 IsCharged n old (Says (LimitAt path)) new = (new.spent ≡ new.limit) × (new.limit ≤ old.spent + n)
 IsCharged n old s new = new.spent ≡ old.spent + n + units_said s
 
 -- whatever was answered: what a step does to the counts
-pub record StepCounts {A : Type 0} (n : ℕ) (old : Coursing A) (s : Saying) (new : Coursing A) : Type 0 where
+pub record StepCounts {A : Type 0} (n : ℕ) (old : MachineState A) (s : Saying) (new : MachineState A) : Type 0 where
   pub limit : new.limit ≡ old.limit
   pub grows : old.spent ≤ new.spent
   pub within : new.spent ≤ new.limit
@@ -115,12 +115,12 @@ TakesStep old spent (Says o) q new spent' = TakesFront old spent (Some o) new sp
 TakesStep old spent Ends q new spent' = TakesFront old spent None new spent'
 
 -- Over a content: the answers so far are still its own, and the step is the next of its written listing.
-pub record StepTakes {A : Type 0} (old : Coursing A) (s : Saying) (new : Coursing A) (c : Content) : Type 0 where
+pub record StepTakes {A : Type 0} (old : MachineState A) (s : Saying) (new : MachineState A) (c : Content) : Type 0 where
   pub agrees : Agrees c new
   pub takes : TakesStep (left_of c old) old.spent s new.asked (left_of c new) new.spent
 
 -- What one step does: the counts whatever was answered, and the rest over each content that has answered as the caller did.
-pub record StepGoes {A : Type 0} (Fits : Content → Type 0) (n : ℕ) (old : Coursing A) (s : Saying) (new : Coursing A)
+pub record StepGoes {A : Type 0} (Fits : Content → Type 0) (n : ℕ) (old : MachineState A) (s : Saying) (new : MachineState A)
     : Type 0 where
   pub counts : StepCounts n old s new
   pub takes : (c : Content) → Fits c → old.over ≡ false → Agrees c old → StepTakes old s new c
