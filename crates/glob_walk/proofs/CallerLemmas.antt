@@ -9,7 +9,7 @@ use Rattle.glob_walk.specs.Goal.{is_plain, is_readable, ReachesGoal, GivesGoal}
 use Rattle.glob_walk.specs.Marks.{Mark, Item, items, cost, front, paths, IsBeginning}
 use Rattle.glob_walk.specs.Order.{IsOrderly}
 use Rattle.glob_walk.specs.WalkGoals.{Answers, given_items, WalksPlainly, FindsGoal, FindsExactly, FindsInOrder}
-use Rattle.glob_walk.specs.Walks.{AreItems, HasNoRefusal, IsWalk, IsWalkAsked}
+use Rattle.glob_walk.specs.Walks.{AreItems, IsCutShort, HasNoRefusal, IsWalk, IsWalkAsked}
 use Rattle.glob_walk.specs.declared.error.GlobError.{GlobError}
 use Rattle.glob_walk.specs.declared.walk.End.{End}
 use Rattle.glob_walk.specs.declared.walk.End.TheVariants.{Done, Limit, Memory}
@@ -58,7 +58,7 @@ module _ {A : Type 0} (answers : List (Result (PathBuf A) (GlobError A))) where
     limited_walk walk = walk
 
     -- A walk that ran out of memory has a beginning of the items.
-    pub stopped_walk : IsWalk ms limit Memory spent answers → (is : List Item) × AreItems answers is × IsBeginning is (items ms)
+    pub stopped_walk : IsWalk ms limit Memory spent answers → (is : List Item) × AreItems answers is × IsBeginning is (items ms) × IsCutShort ms spent is
     unfolding IsWalk
     stopped_walk walk = walk
 

@@ -3,7 +3,7 @@ use Rattle.std.specs.Prelude.{◌≡◌, ◌<◌, false, List, [], ◌∷◌, �
 use Rattle.glob_tree.specs.Content.{Content}
 use Rattle.glob_walk.specs.Machines.{MachineState, Agrees, Saying, AsksLook, AsksList, Says, Ends, left_of}
 use Rattle.glob_walk.specs.Marks.{Mark, Item, items, cost, front}
-use Rattle.glob_walk.specs.Walks.{Gives, LimitAt, NoMemory}
+use Rattle.glob_walk.specs.Walks.{Gives, LimitAt, NoMemory, IsCutShort}
 
 -- These items were given. They and the units that were charged are a beginning of the written listing, and what is left of
 -- the walk is the rest.
@@ -15,13 +15,13 @@ pub record HasGiven {A : Type 0} (listing : List Mark) (c : Content) (given : Li
   pub units : walk.spent ≡ cost done
   pub same : given ≡ items done
 
--- What the next step makes of it: a question keeps it, an item is the next one, `Done` says that it was all, and a limit
--- refusal that the limit does not suffice.
+-- What the next step makes of it: a question keeps it, an item is the next one, `Done` says that it was all, a limit
+-- refusal that the limit does not suffice, and one for want of memory that what was charged begins the listing.
 abbrev pub GivesNext : {A : Type 0} → List Mark → Content → List Item → Saying → MachineState A → Type 0
 GivesNext listing c given AsksLook walk = HasGiven listing c given walk
 GivesNext listing c given AsksList walk = HasGiven listing c given walk
 GivesNext listing c given (Says (Gives item)) walk = HasGiven listing c (given ++ item ∷ []) walk
 GivesNext listing c given (Says (LimitAt path)) walk =
     (walk.spent ≡ walk.limit) × (walk.limit < cost listing) × (given ≡ items (front walk.limit listing))
-GivesNext listing c given (Says NoMemory) walk = Unit {0}
+GivesNext listing c given (Says NoMemory) walk = IsCutShort listing walk.spent given
 GivesNext listing c given Ends walk = (given ≡ items listing) × (walk.spent ≡ cost listing)

@@ -1,3 +1,4 @@
+pub mod Aims
 pub mod Components
 pub mod Driven
 pub mod GlobCauses

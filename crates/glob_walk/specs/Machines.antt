@@ -2,6 +2,7 @@
 use Rattle.std.specs.Prelude.{◌≡◌, ℕ, ◌+◌, ◌≤◌, Bool, true, false, List, ◌∷◌, Option, Some, None}
 use Rattle.glob_text.specs.Text.{Text}
 use Rattle.glob_tree.specs.Content.{Content}
+use Rattle.glob_walk.specs.Aims.{Aim, listing_of}
 use Rattle.glob_walk.specs.Marks.{Mark, Work}
 use Rattle.glob_walk.specs.Private.Stacks.{left, IsSound}
 use Rattle.glob_walk.specs.Questions.{Question, IsLook, IsList, question_path}
@@ -21,6 +22,8 @@ pub record MachineState (A : Type 0) : Type 0 where
   pub over : Bool
   -- the question that is open
   pub asked : Option Question
+  -- what it looks for
+  pub aim : Aim
   -- what is still to do
   pub todo : Stack A
 
@@ -40,6 +43,7 @@ pub record IsFreshMachine {A : Type 0} (most : ℕ) (walk : MachineState A) : Ty
   pub over : walk.over ≡ false
   pub asked : walk.asked ≡ None
   pub agrees : (c : Content) → Agrees c walk
+  pub whole : (c : Content) → left_of c walk ≡ listing_of c walk.aim
 
 -- What a step says: that a look or a listing is asked for, an item or a refusal, or that nothing is left.
 pub data Saying : Type 0 where
@@ -91,6 +95,7 @@ IsCharged n old s new = new.spent ≡ old.spent + n + units_said s
 -- whatever was answered: what a step does to the counts
 pub record StepCounts {A : Type 0} (n : ℕ) (old : MachineState A) (s : Saying) (new : MachineState A) : Type 0 where
   pub limit : new.limit ≡ old.limit
+  pub aim : new.aim ≡ old.aim
   pub grows : old.spent ≤ new.spent
   pub within : new.spent ≤ new.limit
   pub charged : IsCharged n old s new

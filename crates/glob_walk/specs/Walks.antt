@@ -9,6 +9,7 @@ use Rattle.glob_pattern.specs.declared.error.PatternRefusal.{PatternRefusal}
 use Rattle.glob_pattern.specs.declared.error.PatternRefusal.TheVariants as refusal
 use Rattle.glob_tree.specs.Content.{Content}
 use Rattle.glob_tree.specs.Answers.{IsTold}
+use Rattle.glob_walk.specs.Aims.{Aim, listing_of}
 use Rattle.glob_walk.specs.GlobErrors.{path_of, error_of, cause_of}
 use Rattle.glob_walk.specs.Marks.{Mark, Work, Give, Item, Found, Unread, items, cost, front, IsBeginning}
 use Rattle.glob_walk.specs.declared.error.GlobCause.{GlobCause}
@@ -49,6 +50,8 @@ HasNoRefusal answers = (is : List Item) × AreItems answers is
 -- what contracts see of a walk over a tree of the type X
 pub record Walking (X : Type 0) : Type 0 where
   pub tree : X
+  -- what it looks for
+  pub aim : Aim
   pub limit : ℕ
   -- the units of work that were charged
   pub spent : ℕ
@@ -88,6 +91,7 @@ IsAsked asks old _ new = asks new.tree + old.spent ≡ asks old.tree + new.spent
 pub record Counts {X : Type 0} (asks : X → ℕ) (old : Walking X) (answer : Option Outcome)
     (new : Walking X) : Type 0 where
   pub limit : new.limit ≡ old.limit
+  pub aim : new.aim ≡ old.aim
   pub grows : old.spent ≤ new.spent
   pub within : new.spent ≤ new.limit
   pub given : new.given ≡ old.given + item_number answer
@@ -111,13 +115,24 @@ pub record StopsAt (left : List Mark) (spent : ℕ) (path : Text) (spent' : ℕ)
   pub rest : List Mark
   pub charges : Charges left spent (Work path ∷ rest) spent'
 
+-- units were charged, and what comes after them is not said
+pub record BreaksOff (left : List Mark) (spent : ℕ) (spent' : ℕ) : Type 0 where
+  pub rest : List Mark
+  pub charges : Charges left spent rest spent'
+
 -- what a call of `next` takes from the front of what was left
 abbrev pub TakesFront : (old : List Mark) → (spent : ℕ) → Option Outcome → (new : List Mark) → (spent' : ℕ)
     → Type 0
 TakesFront old spent None new spent' = Charges old spent [] spent' × (new ≡ [])
 TakesFront old spent (Some (Gives item)) new spent' = Charges old spent (Give item ∷ new) spent'
 TakesFront old spent (Some (LimitAt path)) new spent' = StopsAt old spent path spent'
-TakesFront old spent (Some NoMemory) new spent' = ⊤
+TakesFront old spent (Some NoMemory) new spent' = BreaksOff old spent spent'
+
+-- what was charged and given, and what is left, come to all of a written listing
+pub record IsUpTo (listing : List Mark) (spent : ℕ) (left : List Mark) : Type 0 where
+  pub done : List Mark
+  pub whole : listing ≡ done ++ left
+  pub units : spent ≡ cost done
 
 -- Over a tree with a known content: what one call of `next` takes from what is left of the written listing, as long as
 -- the walk is not over.
@@ -128,6 +143,7 @@ pub record Takes {X : Type 0} (tells : X → Option Content) (old : Walking X) (
   pub new_left : List Mark
   pub had : old.left ≡ Some old_left
   pub has : new.left ≡ Some new_left
+  pub upto : old.over ≡ false → IsUpTo (listing_of c old.aim) old.spent old_left
   pub takes : old.over ≡ false → TakesFront old_left old.spent answer new_left new.spent
 
 -- what one call of `next` does
@@ -137,14 +153,25 @@ pub record Goes {X : Type 0} (asks : X → ℕ) (tells : X → Option Content) (
   pub told : tells new.tree ≡ tells old.tree
   pub takes : (c : Content) → IsTold (tells old.tree) c → Takes tells old answer new c
 
+-- What was charged begins the listing, and its items are these, but for the last one that may have found no room.
+pub record IsCutShort (listing : List Mark) (spent : ℕ) (is : List Item) : Type 0 where
+  pub done : List Mark
+  pub rest : List Mark
+  pub lost : List Item
+  pub whole : listing ≡ done ++ rest
+  pub units : spent ≡ cost done
+  pub given : items done ≡ is ++ lost
+  pub few : length lost ≤ 1
+
 -- A whole walk within a limit, over a tree with a known content and this listing: all of it, with its cost; or the items
--- before the first unit that does not fit; or, without memory, a beginning of the items.
+-- before the first unit that does not fit; or, without memory, a beginning of the items, up to what was charged.
 unfoldable pub IsWalk : {A : Type 0} → (listing : List Mark) → (limit : ℕ) → End → (spent : ℕ)
     → List (Result (PathBuf A) (GlobError A)) → Type 0
 IsWalk ms limit end.Done spent answers = (cost ms ≤ limit) × (spent ≡ cost ms) × AreItems answers (items ms)
 IsWalk ms limit end.Limit spent answers =
     (limit < cost ms) × (spent ≡ limit) × AreItems answers (items (front limit ms))
-IsWalk ms limit end.Memory spent answers = (is : List Item) × AreItems answers is × IsBeginning is (items ms)
+IsWalk ms limit end.Memory spent answers = (is : List Item) × AreItems answers is
+    × IsBeginning is (items ms) × IsCutShort ms spent is
 
 -- the tree was asked what the walk charged; where it ends at its limit at least that, and the limit is spent
 unfoldable pub IsWalkAsked : (limit : ℕ) → (asks : ℕ) → End → (spent : ℕ) → (asks' : ℕ) → Type 0

@@ -2,6 +2,7 @@
 ghost use Rattle.std.specs.Prelude.{◌≡◌, None, Some, IfOk, IfErr};
 ghost use Rattle.glob_tree.specs.Content.{Content};
 ghost use Rattle.glob_tree.specs.Answers.{IsTold};
+ghost use Rattle.glob_walk.specs.Aims.{listing_of};
 ghost use Rattle.glob_walk.specs.Components.{walk_fault};
 ghost use Rattle.glob_walk.specs.Listing.{listing};
 ghost use Rattle.glob_walk.specs.Walks.{IsFresh, RefusesWith};
@@ -30,6 +31,8 @@ pub fn glob_in<T: Tree>(
     ensures accepted { IfOk result (λ _. walk_fault pattern.now ≡ None) }
     ensures refused { IfErr result (RefusesWith (walk_fault pattern.now)) }
     ensures fresh { IfOk result (IsFresh tree limit) }
+    ensures aim { IfOk result
+        (λ p. (c : Content) → listing_of c p.aim ≡ listing c options pattern.now) }
     ensures listing { (c : Content) → IsTold (T.tells tree) c
         → IfOk result (λ p. p.left ≡ Some (listing c options pattern.now)) }
 {

@@ -1,7 +1,11 @@
 //! The real file system.
 ghost use Rattle.std.specs.Prelude.{◌≡◌, ◌+◌, ◌-◌, ◌^◌, None, IfOk, IfErr};
+ghost use Rattle.glob_pattern.specs.Matching.Options.{new_options};
 ghost use Rattle.glob_tree.specs.Answers.{entry_count};
+ghost use Rattle.glob_tree.specs.Content.{Content};
+ghost use Rattle.glob_walk.specs.Aims.{listing_of};
 ghost use Rattle.glob_walk.specs.Components.{walk_fault};
+ghost use Rattle.glob_walk.specs.Listing.{listing};
 ghost use Rattle.glob_walk.specs.Walks.{IsFresh, RefusesWith};
 
 use crate::begin::glob_in;
@@ -208,6 +212,8 @@ pub fn glob<R: Files + Drop, A: Allocator + Copy>(
     ensures accepted { IfOk result (λ _. walk_fault pattern.now ≡ None) }
     ensures refused { IfErr result (RefusesWith (walk_fault pattern.now)) }
     ensures fresh { IfOk result (IsFresh 0 (2 ^ 64 - 1)) }
+    ensures aim { IfOk result
+        (λ p. (c : Content) → listing_of c p.aim ≡ listing c new_options pattern.now) }
 {
     glob_with(rt, alloc, pattern, MatchOptions::new())
 }
@@ -223,6 +229,8 @@ pub fn glob_with<R: Files + Drop, A: Allocator + Copy>(
     ensures accepted { IfOk result (λ _. walk_fault pattern.now ≡ None) }
     ensures refused { IfErr result (RefusesWith (walk_fault pattern.now)) }
     ensures fresh { IfOk result (IsFresh 0 (2 ^ 64 - 1)) }
+    ensures aim { IfOk result
+        (λ p. (c : Content) → listing_of c p.aim ≡ listing c options pattern.now) }
 {
     glob_in(alloc, Disk::new(rt, alloc), pattern, options, u64::MAX)
 }

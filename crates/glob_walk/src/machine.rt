@@ -1,19 +1,22 @@
 //! A walk that asks its caller, and reads nothing itself.
-ghost use Rattle.std.specs.Prelude.{◌≡◌, ◌≤◌, ◌+◌, true, List, [], None, IfOk, IfErr, string_bytes};
+ghost use Rattle.std.specs.Prelude.{◌≡◌, ◌≤◌, ◌+◌, true, List, [], None, IfOk, IfErr, string_bytes, if◌then◌else◌};
+ghost use Rattle.std.specs.Path.{root_dir, cur_dir};
 ghost use Rattle.glob_tree.specs.Answers.{entry_count};
 ghost use Rattle.glob_tree.specs.Content.{Content};
+ghost use Rattle.glob_walk.specs.Aims.{listing_of};
 ghost use Rattle.glob_walk.specs.Machines.{IsFreshMachine, StepGoes, left_of, saying};
 ghost use Rattle.glob_walk.specs.Components.{walk_fault};
-ghost use Rattle.glob_walk.specs.Listing.{listing, look_up, enter};
+ghost use Rattle.glob_walk.specs.Listing.{listing};
 ghost use Rattle.glob_walk.specs.Marks.{Item, Mark};
 ghost use Rattle.glob_walk.specs.Driven.{HasGiven, GivesNext};
 ghost use Rattle.glob_walk.specs.Walks.{RefusesWith};
+ghost use Rattle.glob_walk.specs.Private.Stacks.{aim_of};
 ghost use Rattle.glob_walk.specs.Private.Turns.{IsAnswer, IsAnswered, answer_count};
 ghost use Rattle.glob_walk.specs.Questions.{IsLook, IsList, IsListedIn, IsSeenIn, IsSomeContent, question_path};
 
 use crate::error::GlobResult;
 use crate::meter::Meter;
-use crate::plan::{Plan, start};
+use crate::plan::Plan;
 use crate::stack::Stack;
 use crate::task::{Sight, Task, Wanted};
 use crate::walker::Walker;
@@ -72,8 +75,10 @@ pub struct WalkMachine<A: Allocator = Global> {
 }
 
 impl<A: Allocator> Model for WalkMachine<A> {
+    ghost use Rattle.glob_walk.specs.Aims.{listing_of};
     ghost use Rattle.glob_walk.specs.Machines.{MachineState};
     ghost use Rattle.glob_walk.specs.Private.Walking.{IsGood};
+    ghost use Rattle.glob_walk.specs.Private.Stacks.{aim_of};
     ghost use Rattle.glob_walk.specs.Private.Tasks.{question_of};
 
     ghost Value = { MachineState A };
@@ -84,6 +89,7 @@ impl<A: Allocator> Model for WalkMachine<A> {
       given = w.given;
       over = w.over;
       asked = question_of w.walker.stack.next;
+      aim = aim_of w.walker.stack.plan;
       todo = w.walker.stack;
     } };
 
@@ -93,7 +99,6 @@ impl<A: Allocator> Model for WalkMachine<A> {
 impl<A: Allocator + Copy> WalkMachine<A> {
     /// A walk after the components of a pattern, with at most `limit` units of work, as [`glob_in`](crate::glob_in) has it,
     /// and refused as there. It has asked nothing.
-    #[tactic(auto, using(crate::proofs::WalkLemmas::Merging::merged_listing))]
     pub fn new(
         alloc: A,
         pattern: &str,
@@ -105,20 +110,21 @@ impl<A: Allocator + Copy> WalkMachine<A> {
         ensures fresh { IfOk result (IsFreshMachine limit) }
         ensures listing { IfOk result
             (λ walk. (c : Content) → left_of c walk ≡ listing c options pattern.now) }
+        ensures aim { IfOk result
+            (λ walk. (c : Content) → listing_of c walk.aim ≡ listing c options pattern.now) }
         ensures begun { IfOk result
             (λ walk. (c : Content) → HasGiven (listing c options pattern.now) c [] walk) }
     {
         let plan = Plan::read(alloc, pattern, options)?;
-        let start = String::from_str(alloc, start(pattern))?;
+        let start = String::from_str(alloc, plan.start())?;
         Ok(WalkMachine::from_plan(plan, start, limit))
     }
 
-    /// A walk from a path, which is looked up first.
+    /// A walk after a plan from its start, which is looked up first.
     fn from_plan(plan: Plan<A>, start: String<A>, limit: u64) -> Self
+        requires start { string_bytes start ≡ (if plan.rooted then root_dir else cur_dir) }
         ensures fresh { IsFreshMachine limit result }
-        ensures left { (c : Content) → left_of c result ≡ look_up c
-            (λ seen. true) (enter c plan.options plan.directories plan.parts.items)
-            (string_bytes start) }
+        ensures aim { result.aim ≡ aim_of plan }
     {
         let frames = Vec::new(plan.alloc);
         let next = Some(Task {

@@ -31,6 +31,7 @@ impl<T: Tree> Model for Paths<T> {
 
     ghost view = { λ p. record {
       tree = p.tree;
+      aim = p.machine.aim;
       limit = p.machine.limit;
       spent = p.machine.spent;
       given = p.machine.given;
@@ -46,6 +47,7 @@ impl<T: Tree> Paths<T> {
     pub(crate) fn new(tree: T, machine: WalkMachine<T::Alloc>) -> Self
         requires { IsFreshMachine machine.limit machine }
         ensures fresh { IsFresh tree machine.limit result }
+        ensures aim { result.aim ≡ machine.aim }
         ensures left { (c : Content) → IsTold (T.tells tree) c
             → result.left ≡ Some (left_of c machine) }
     {

@@ -3,9 +3,10 @@
 //! A plan is a pattern that was read once, before the walk: its components in order, each with its kind, the options, and
 //! whether directories alone are given. Neighbouring `**` mean what one of them means, and are read as one. Nothing of it
 //! changes while the walk goes on.
-ghost use Rattle.std.specs.Prelude.{◌≡◌, ◌+◌, ◌<◌, ◌≤◌, [], ◌∷◌, true, None, IfOk, IfErr, MatchOption, OnSome, IfNone, drop, vec_len};
+ghost use Rattle.std.specs.Prelude.{◌≡◌, ◌+◌, ◌<◌, ◌≤◌, [], ◌∷◌, true, None, IfOk, IfErr, MatchOption, OnSome, IfNone, drop, vec_len, if◌then◌else◌};
+ghost use Rattle.std.specs.Path.{root_dir, cur_dir};
 ghost use Rattle.glob_text.specs.Pieces.{pieces};
-ghost use Rattle.glob_walk.specs.Components.{components, first_fault, start as start_text, walk_fault, wants_directories, without_root, without_end_separator};
+ghost use Rattle.glob_walk.specs.Components.{components, first_fault, has_root, walk_fault, wants_directories, without_root, without_end_separator};
 ghost use Rattle.glob_walk.specs.Private.Merging.{merged, are_merged};
 ghost use Rattle.glob_walk.specs.Walks.{RefusesWith};
 
@@ -21,6 +22,8 @@ pub struct Plan<A: Allocator> {
     pub parts: Vec<Part<A>, A>,
     /// How names are matched.
     pub options: MatchOptions,
+    /// Whether it begins at the root, and not at the current directory.
+    pub rooted: bool,
     /// Whether directories alone are given.
     pub directories: bool,
     /// Where the walk takes its memory from.
@@ -34,6 +37,7 @@ impl<A: Allocator + Copy> Plan<A> {
     pub fn read(alloc: A, pattern: &str, options: MatchOptions) -> Result<Self, PatternRefusal>
         ensures parts { IfOk result (λ plan. plan.parts.items ≡ merged (components pattern.now)) }
         ensures options { IfOk result (λ plan. plan.options ≡ options) }
+        ensures rooted { IfOk result (λ plan. plan.rooted ≡ has_root pattern.now) }
         ensures directories { IfOk result
             (λ plan. plan.directories ≡ wants_directories pattern.now) }
         ensures accepted { IfOk result (λ _. walk_fault pattern.now ≡ None) }
@@ -45,6 +49,7 @@ impl<A: Allocator + Copy> Plan<A> {
         Ok(Plan {
             parts,
             options,
+            rooted: begins_with_separator(pattern),
             directories: ends_in_separator(pattern),
             alloc,
         })
@@ -53,6 +58,13 @@ impl<A: Allocator + Copy> Plan<A> {
 
 impl<A: Allocator> Plan<A> {
     ghost use Rattle.glob_walk.specs.Private.Tasks.{is_dotted};
+
+    /// The path at which the walk starts: the root, or the current directory.
+    pub fn start(&self) -> &'static str
+        ensures { result.now ≡ (if self.now.rooted then root_dir else cur_dir) }
+    {
+        if self.rooted { "/" } else { "." }
+    }
 
     /// The component with the number, counted from 0; `None` past the last.
     pub fn component(&self, part: usize) -> Option<&Part<A>>
@@ -94,13 +106,6 @@ fn read_parts<A: Allocator + Copy>(alloc: A, text: &str) -> Result<Vec<Part<A>, 
     Ok(parts)
 }
 
-/// The path at which a walk starts: the root, or the current directory.
-pub fn start(pattern: &str) -> &'static str
-    ensures { result.now ≡ start_text pattern.now }
-{
-    if pattern.starts_with('/') { "/" } else { "." }
-}
-
 /// The text of the components: what follows the root, without one separator at its end.
 pub fn past_root(pattern: &str) -> &str
     ensures { result.now ≡ without_end_separator (without_root pattern.now) }
@@ -109,6 +114,13 @@ pub fn past_root(pattern: &str) -> &str
         Some(rest) => without_end(rest),
         None => without_end(pattern),
     }
+}
+
+/// Whether the first character is a separator.
+fn begins_with_separator(text: &str) -> bool
+    ensures { result ≡ has_root text.now }
+{
+    text.starts_with('/')
 }
 
 /// Whether the last character is a separator.

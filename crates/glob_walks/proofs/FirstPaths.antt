@@ -7,12 +7,14 @@ use Rattle.std.specs.declared.path.buf.PathBuf.{PathBuf}
 use Rattle.glob.specs.Answers.{IsTold}
 use Rattle.glob.specs.Content.{Content}
 use Rattle.glob.specs.GlobErrors.{cause_of}
-use Rattle.glob.specs.Marks.{Mark, Give, Item, Found, Unread, items, paths}
+use Rattle.glob.specs.Marks.{Mark, Work, Give, Item, Found, Unread, cost, items, paths}
 use Rattle.glob.specs.Text.{Text}
-use Rattle.glob.specs.Walks.{Outcome, Gives, LimitAt, NoMemory, error_outcome, works, Walking, Goes, Charges}
+use Rattle.glob.specs.Walks.{Outcome, Gives, LimitAt, NoMemory, error_outcome, works, Walking, Goes, Charges, TakesFront}
 use Rattle.glob_walk.specs.declared.error.GlobCause.{GlobCause}
 use Rattle.glob_walk.specs.declared.error.GlobCause.TheVariants as cause
 use Rattle.glob_walk.specs.declared.error.GlobError.{GlobError}
+use Rattle.glob_walk.proofs.ListingLemmas.Marks.{items-append, cost-append}
+use Rattle.glob_walk.proofs.WalkLemmas.Gathering.{items-works, cost-works}
 use Rattle.glob_walk.proofs.WalkLemmas.Stepping.{append_none}
 
 -- the path that an answer gives, if it gives one
@@ -27,10 +29,6 @@ error_gives_no_path cause.Read e = refl
 error_gives_no_path cause.Memory e = refl
 error_gives_no_path cause.Limit e = refl
 
-items-past-works : (ps : List Text) (ms : List Mark) → items (works ps ++ ms) ≡ items ms
-items-past-works [] ms = refl
-items-past-works (p ∷ ps) ms = items-past-works ps ms
-
 paths-of-item : (item : Item) (is : List Item) → paths (item ∷ is) ≡ given_paths (Gives item) ++ paths is
 paths-of-item (Found path) is = refl
 paths-of-item (Unread path kind) is = refl
@@ -42,11 +40,46 @@ not_true false refuted = refl
 not_none : (o : Outcome) → Some o ≡ None → ⊥
 not_none o h = absurd (cc)
 
--- the found paths and those of what is left
-pub record Left (ms : List Mark) (found : List Text) (left : Option (List Mark)) : Type 0 where
+paths-append : (is js : List Item) → paths (is ++ js) ≡ paths is ++ paths js
+paths-append [] js = refl
+paths-append (Found path ∷ is) js = ap (λ xs. path ∷ xs) (paths-append is js)
+paths-append (Unread path kind ∷ is) js = paths-append is js
+
+-- the marks that were taken give the found paths, and these are left
+pub record Taken (ms : List Mark) (found : List Text) (spent spent' : ℕ) (rest : List Mark) : Type 0 where
+  pub done : List Mark
+  pub whole : ms ≡ done ++ rest
+  pub given : paths (items done) ≡ found
+  pub units : spent' ≡ spent + cost done
+
+-- so the found paths, and then those that are left, are all of them
+pub taken-all : (ms : List Mark) (found : List Text) (spent spent' : ℕ) (rest : List Mark) → Taken ms found spent spent' rest → paths (items ms) ≡ found ++ paths (items rest)
+taken-all ms found spent spent' rest t =
+    ap (λ xs. paths (items xs)) t.whole ∙ ap paths (items-append t.done rest) ∙ paths-append (items t.done) (items rest) ∙ ap (λ xs. xs ++ paths (items rest)) t.given
+
+module _ (ms : List Mark) (found : List Text) (first spent spent' : ℕ) (rest : List Mark) (t : Taken ms found first spent rest) where
+  pub taken-charged : (after : List Mark) → Charges rest spent after spent' → Taken ms found first spent' after
+  taken-charged after k = record {
+    done = t.done ++ works k.paths;
+    whole = t.whole ∙ ap (λ xs. t.done ++ xs) k.front ∙ sym (append_assoc t.done (works k.paths) after);
+    given = ap paths (items-append t.done (works k.paths) ∙ ap (λ xs. items t.done ++ xs) (items-works k.paths) ∙ append_none (items t.done)) ∙ t.given;
+    units = omega (arith, t.units, k.units, cost-append t.done (works k.paths), cost-works k.paths);
+  }
+
+pub taken-item : (ms : List Mark) (found : List Text) (first spent : ℕ) (item : Item) (after : List Mark) → Taken ms found first spent (Give item ∷ after) → Taken ms (found ++ given_paths (Gives item)) first spent after
+taken-item ms found first spent item after t = record {
+  done = t.done ++ Give item ∷ [];
+  whole = t.whole ∙ sym (append_assoc t.done (Give item ∷ []) after);
+  given = ap paths (items-append t.done (Give item ∷ [])) ∙ paths-append (items t.done) (item ∷ []) ∙ ap (λ xs. xs ++ paths (item ∷ [])) t.given
+      ∙ ap (λ xs. found ++ xs) (paths-of-item item [] ∙ append_none (given_paths (Gives item)));
+  units = omega (arith, t.units, cost-append t.done (Give item ∷ []));
+}
+
+-- what was taken, and what is left
+pub record Left (ms : List Mark) (found : List Text) (spent spent' : ℕ) (left : Option (List Mark)) : Type 0 where
   pub rest : List Mark
   pub is : left ≡ Some rest
-  pub all : paths (items ms) ≡ found ++ paths (items rest)
+  pub taken : Taken ms found spent spent' rest
 
 -- the paths that were found of a walk so far
 pub record Finds {X : Type 0} (tells : X → Option Content) (first : Walking X) (found : List Text) (now : Walking X) : Type 0 where
@@ -54,45 +87,45 @@ pub record Finds {X : Type 0} (tells : X → Option Content) (first : Walking X)
   pub limit : now.limit ≡ first.limit
   pub grows : first.spent ≤ now.spent
   pub begins : (c : Content) → IsTold (tells first.tree) c → (ms : List Mark) → first.left ≡ Some ms
-      → (rest : List Text) × (paths (items ms) ≡ found ++ rest)
+      → (rest : List Mark) × Taken ms found first.spent now.spent rest
   pub going : now.over ≡ false → (c : Content) → IsTold (tells first.tree) c → (ms : List Mark) → first.left ≡ Some ms
-      → Left ms found now.left
+      → Left ms found first.spent now.spent now.left
 
 pub Finds-none : {X : Type 0} (tells : X → Option Content) (first : Walking X) → Finds tells first [] first
 Finds-none tells first = record {
   told = refl;
   limit = refl;
   grows = omega arith;
-  begins = λ c h ms is. (paths (items ms), refl);
-  going = λ on c h ms is. record { rest = ms; is = is; all = refl };
+  begins = λ c h ms is. (ms, record { done = []; whole = refl; given = refl; units = omega arith });
+  going = λ on c h ms is. record { rest = ms; is = is; taken = record { done = []; whole = refl; given = refl; units = omega arith } };
 }
 
 module _ {X : Type 0} (asks : X → ℕ) (tells : X → Option Content) (first now new : Walking X) (found : List Text) (f : Finds tells first found now) where
   going : (o : Outcome) → Goes asks tells now (Some o) new → now.over ≡ false
   going o goes = not_true now.over (λ h. not_none o (goes.counts.stays h).0)
 
-  left : (item : Item) → Goes asks tells now (Some (Gives item)) new → (c : Content) → IsTold (tells first.tree) c → (ms : List Mark) → first.left ≡ Some ms
-      → Left ms (found ++ given_paths (Gives item)) new.left
-  left item goes c h ms is =
-      let on = going (Gives item) goes in
-      let l = f.going on c h ms is in
-      let t = goes.takes c (f.told ∙ h.0, h.1) in
-      let took : Charges t.old_left now.spent (Give item ∷ t.new_left) new.spent = t.takes on in
-      let same : l.rest ≡ t.old_left = same_Some l.rest t.old_left (sym l.is ∙ t.had) in
-      let given : items l.rest ≡ item ∷ items t.new_left = ap items (same ∙ took.front) ∙ items-past-works took.paths (Give item ∷ t.new_left) in
-      record {
-        rest = t.new_left;
-        is = t.has;
-        all = l.all ∙ ap (λ xs. found ++ paths xs) given ∙ ap (λ xs. found ++ xs) (paths-of-item item (items t.new_left))
-            ∙ sym (append_assoc found (given_paths (Gives item)) (paths (items t.new_left)));
-      }
+  -- what an answer takes from what was left
+  module _ (o : Option Outcome) (goes : Goes asks tells now o new) (on : now.over ≡ false) (c : Content) (h : IsTold (tells first.tree) c) (ms : List Mark) (is : first.left ≡ Some ms) where
+    fronted : (next : List Mark) × (new.left ≡ Some next) × (old : List Mark) × Taken ms found first.spent now.spent old × TakesFront old now.spent o next new.spent
+    fronted =
+        let l = f.going on c h ms is in
+        let t = goes.takes c (f.told ∙ h.0, h.1) in
+        let same : l.rest ≡ t.old_left = same_Some l.rest t.old_left (sym l.is ∙ t.had) in
+        (t.new_left, t.has, t.old_left, subst (Taken ms found first.spent now.spent) same l.taken, t.takes on)
 
-  stopped : new.over ≡ true → tells new.tree ≡ tells now.tree → new.limit ≡ now.limit → now.spent ≤ new.spent → Finds tells first (found ++ []) new
-  stopped over told limit grows = subst (λ xs. Finds tells first xs new) (sym (append_none found)) (record {
-    told = told ∙ f.told;
-    limit = limit ∙ f.limit;
-    grows = omega (arith, grows, f.grows);
-    begins = f.begins;
+  left : (item : Item) → Goes asks tells now (Some (Gives item)) new → (c : Content) → IsTold (tells first.tree) c → (ms : List Mark) → first.left ≡ Some ms
+      → Left ms (found ++ given_paths (Gives item)) first.spent new.spent new.left
+  left item goes c h ms is =
+      let (next, has, old, t, k) = fronted (Some (Gives item)) goes (going (Gives item) goes) c h ms is in
+      record { rest = next; is = has; taken = taken-item ms found first.spent new.spent item next (taken-charged ms found first.spent now.spent new.spent old t (Give item ∷ next) k) }
+
+  stopped : (o : Outcome) → Goes asks tells now (Some o) new → new.over ≡ true
+      → ((c : Content) → IsTold (tells first.tree) c → (ms : List Mark) → first.left ≡ Some ms → (rest : List Mark) × Taken ms found first.spent new.spent rest) → Finds tells first (found ++ []) new
+  stopped o goes over took = subst (λ xs. Finds tells first xs new) (sym (append_none found)) (record {
+    told = goes.told ∙ f.told;
+    limit = goes.counts.limit ∙ f.limit;
+    grows = let more = goes.counts.grows in omega (arith, more, f.grows);
+    begins = took;
     going = λ on. absurd (cc);
   })
 
@@ -102,11 +135,27 @@ module _ {X : Type 0} (asks : X → ℕ) (tells : X → Option Content) (first n
     told = goes.told ∙ f.told;
     limit = goes.counts.limit ∙ f.limit;
     grows = omega (arith, goes.counts.grows, f.grows);
-    begins = λ c h ms is. let l = left item goes c h ms is in (paths (items l.rest), l.all);
+    begins = λ c h ms is. let l = left item goes c h ms is in (l.rest, l.taken);
     going = λ on. left item goes;
   }
-  Finds-answer (LimitAt path) goes = stopped goes.counts.ends goes.told goes.counts.limit goes.counts.grows
-  Finds-answer NoMemory goes = stopped goes.counts.ends goes.told goes.counts.limit goes.counts.grows
+  Finds-answer (LimitAt path) goes = stopped (LimitAt path) goes goes.counts.ends (λ c h ms is.
+      let (next, has, old, t, k) = fronted (Some (LimitAt path)) goes (going (LimitAt path) goes) c h ms is in
+      (Work path ∷ k.rest, taken-charged ms found first.spent now.spent new.spent old t (Work path ∷ k.rest) k.charges))
+  Finds-answer NoMemory goes = stopped NoMemory goes goes.counts.ends (λ c h ms is.
+      let (next, has, old, t, k) = fronted (Some NoMemory) goes (going NoMemory goes) c h ms is in
+      (k.rest, taken-charged ms found first.spent now.spent new.spent old t k.rest k.charges))
+
+  -- nothing more comes
+  pub Finds-end : Goes asks tells now None new → (c : Content) → IsTold (tells first.tree) c → (ms : List Mark) → first.left ≡ Some ms → (rest : List Mark) × Taken ms found first.spent new.spent rest
+  Finds-end goes c h ms is = by_over now.over refl
+    where
+      by_over : (b : Bool) → now.over ≡ b → (rest : List Mark) × Taken ms found first.spent new.spent rest
+      by_over true e =
+          let (rest, t) = f.begins c h ms is in
+          (rest, subst (λ n. Taken ms found first.spent n rest) (sym (ap (λ w. w.spent) (goes.counts.stays e).1)) t)
+      by_over false e =
+          let (next, has, old, t, k) = fronted None goes e c h ms is in
+          ([], taken-charged ms found first.spent now.spent new.spent old t [] k.0)
 
   -- an error is passed over
   pub Finds-error : {A : Type 0} (e : GlobError A) → Goes asks tells now (Some (error_outcome (cause_of e) e)) new → Finds tells first found new

@@ -3,15 +3,15 @@ ghost use Rattle.std.specs.Prelude.{◌≡◌, ◌<◌, ◌≤◌, true, false, 
 ghost use Rattle.glob.specs.Answers.{IsTold};
 ghost use Rattle.glob.specs.Content.{Content};
 ghost use Rattle.glob.specs.Marks.{Mark};
-ghost use Rattle.glob_walks.specs.FirstPaths.{AreFirstPaths, LeavesOthers};
+ghost use Rattle.glob_walks.specs.FirstPaths.{AreAllSoFar, AreFirstPaths, LeavesOthers};
 
 use glob::{Paths, Tree};
 use std::alloc::AllocError;
 use std::path::PathBuf;
 
 /// The first paths of a walk: `most` of them, or fewer where the walk is over. Errors are passed over, and a refusal ends
-/// it. As long as the walk is not over, what is left of it gives exactly the paths that were not found. It fails only
-/// where memory for the list runs out.
+/// it. They are all the paths in what the walk has charged, also where it is over; as long as it is not, what is left of
+/// it gives exactly the others. It fails only where memory for the list runs out.
 pub fn first_paths<T: Tree>(
     alloc: T::Alloc,
     paths: &mut Paths<T>,
@@ -21,6 +21,9 @@ pub fn first_paths<T: Tree>(
     ensures first { (c : Content) → IsTold (T.tells paths.old.tree) c → (ms : List Mark)
         → paths.old.left ≡ Some ms
         → IfOk result (λ found. AreFirstPaths ms found.items) }
+    ensures taken { (c : Content) → IsTold (T.tells paths.old.tree) c → (ms : List Mark)
+        → paths.old.left ≡ Some ms
+        → IfOk result (λ found. AreAllSoFar ms paths.old.spent found.items paths.new.spent) }
     ensures none_skipped { (c : Content) → IsTold (T.tells paths.old.tree) c → (ms : List Mark)
         → paths.old.left ≡ Some ms → paths.new.over ≡ false
         → IfOk result (λ found. LeavesOthers ms found.items paths.new.left) }

@@ -21,10 +21,14 @@ use Rattle.glob_walk.specs.Machines.{AsksNext}
 use Rattle.glob_walk.specs.Private.Tasks.{question_of, sight_question, IsNextOpened, IsSightOpened}
 use Rattle.glob_walk.specs.Private.Stacks.{left, ready, IsWithin, IsSound}
 use Rattle.glob_walk.specs.Private.Turns.{TurnOf, TurnCounts, IfGoing, TurnsTo, IsAnswered, listed_items}
-use Rattle.glob_walk.specs.Walks.{Charges, works}
+use Rattle.glob_walk.specs.Walks.{Charges, BreaksOff, works}
 
 pub uncharged : (left new : List Mark) (spent : ℕ) → left ≡ new → Charges left spent new spent
 uncharged left new spent e = record { paths = []; front = e; units = omega arith }
+
+-- nothing was charged before memory was not found
+pub breaks_off : (left : List Mark) (spent spent' : ℕ) → spent' ≡ spent → BreaksOff left spent spent'
+breaks_off left spent spent' same = record { rest = left; charges = record { paths = []; front = refl; units = omega (arith, same) } }
 
 -- a mark that is left or not
 pub if_given : (b : Bool) (marks rest : List Mark) (m : Mark) → marks ≡ cond b (m ∷ []) [] → b ≡ true → marks ++ rest ≡ m ∷ rest
@@ -59,7 +63,7 @@ TurnOf-after first mid new s t u q turn.List h k = AsksNext-after first mid new 
 TurnOf-after first mid new s t u q (turn.Path p) h k = Charges-trans first mid (Give (Found (string_bytes p)) ∷ new) s t u h k
 TurnOf-after first mid new s t u q (turn.Unread p e) h k = Charges-trans first mid (Give (Unread (string_bytes p) (error_kind e)) ∷ new) s t u h k
 TurnOf-after first mid new s t u q (turn.Limit p) h k = record { rest = k.rest; charges = Charges-trans first mid (Work (string_bytes p) ∷ k.rest) s t u h k.charges }
-TurnOf-after first mid new s t u q turn.Memory h k = tt
+TurnOf-after first mid new s t u q turn.Memory h k = record { rest = k.rest; charges = Charges-trans first mid k.rest s t u h k.charges }
 TurnOf-after first mid new s t u q turn.Done h k = (Charges-trans first mid new s t u h k.0, k.1)
 
 TurnCounts-after : {A : Type 0} (n : ℕ) (a b d : Meter) (r : Turn A) → b.spent ≡ a.spent + n → TurnCounts 0 b r d → TurnCounts n a r d

@@ -8,17 +8,20 @@ use Rattle.glob_tree.specs.Answers.{IsTold, IsListAnswer, IsListError, entries_o
 use Rattle.glob_tree.specs.declared.tree.Look.{Look}
 use Rattle.glob_tree.specs.declared.tree.Entry.{Entry}
 use Rattle.glob_tree.specs.declared.tree.ListError.{ListError}
-use Rattle.glob_walk.specs.Marks.{Mark, Work, Give}
+use Rattle.glob_walk.specs.Aims.{listing_of}
+use Rattle.glob_walk.specs.Marks.{Mark, Work, Give, cost}
 use Rattle.glob_walk.specs.Questions.{Question, LookAt, ListAt, IsLook, IsList, IsSomeContent, IsSeenIn, IsListedIn, question_path}
 use Rattle.glob_walk.specs.Machines.{MachineState, Agrees, Saying, AsksLook, AsksList, Says, Ends, StepCounts, StepGoes, TakesStep, IsCharged, IsAskedAfter, left_of, outcome_said, is_last_said, units_said}
-use Rattle.glob_walk.specs.Walks.{Gives, LimitAt, NoMemory, Walking, Charges, TakesFront, IsAsked, Takes, Goes, is_last, item_number}
+use Rattle.glob_walk.specs.Walks.{Gives, LimitAt, NoMemory, Walking, Charges, IsUpTo, TakesFront, IsAsked, Takes, Goes, is_last, item_number}
 use Rattle.glob_walk.specs.Private.Walking.{IsDriven}
+use Rattle.glob_walk.proofs.WalkLemmas.Gathering.{IsUpTo-item}
 use Rattle.glob_walk.proofs.WalkLemmas.Charging.{Charges-trans, Charges-asked, AsksNext-after}
 
 -- what contracts see of it
 abbrev pub seen_walk : {X A : Type 0} → (X → Option Content) → X → MachineState A → Walking X
 seen_walk tells t c = record {
   tree = t;
+  aim = c.aim;
   limit = c.limit;
   spent = c.spent;
   given = c.given;
@@ -36,11 +39,13 @@ pub record DriveTakes {X A : Type 0} (v : Walking X) (c : MachineState A) (s : S
   pub old_left : List Mark
   pub had : v.left ≡ Some old_left
   pub agrees : Agrees x c
+  pub upto : IsUpTo (listing_of x v.aim) v.spent old_left
   pub takes : TakesStep old_left v.spent s c.asked (left_of x c) c.spent
 
 -- the steps of a walk since one item
 pub record Drives {X A : Type 0} (asks : X → ℕ) (tells : X → Option Content) (v : Walking X) (t : X) (c : MachineState A) (s : Saying) : Type 0 where
   pub limit : c.limit ≡ v.limit
+  pub aim : c.aim ≡ v.aim
   pub grows : v.spent ≤ c.spent
   pub within : c.spent ≤ c.limit
   pub given : c.given ≡ v.given + item_number (outcome_said s)
@@ -57,13 +62,14 @@ TakesStep-after first mid new a b d AsksLook q h k = AsksNext-after first mid ne
 TakesStep-after first mid new a b d AsksList q h k = AsksNext-after first mid new a b d (question_path q) h k
 TakesStep-after first mid new a b d (Says (Gives item)) q h k = Charges-trans first mid (Give item ∷ new) a b d h k
 TakesStep-after first mid new a b d (Says (LimitAt p)) q h k = record { rest = k.rest; charges = Charges-trans first mid (Work p ∷ k.rest) a b d h k.charges }
-TakesStep-after first mid new a b d (Says NoMemory) q h k = tt
+TakesStep-after first mid new a b d (Says NoMemory) q h k = record { rest = k.rest; charges = Charges-trans first mid k.rest a b d h k.charges }
 TakesStep-after first mid new a b d Ends q h k = (Charges-trans first mid [] a b d h k.0, k.1)
 
 module _ {X A : Type 0} (asks : X → ℕ) (tells : X → Option Content) where
   first : (t0 : X) (c0 c : MachineState A) (s : Saying) → IsDriven tells t0 c0 → StepGoes IsSomeContent 0 c0 s c → Drives asks tells (seen_walk tells t0 c0) t0 c s
   first t0 c0 c s d h = record {
     limit = h.counts.limit;
+    aim = h.counts.aim;
     grows = h.counts.grows;
     within = h.counts.within;
     given = h.counts.given;
@@ -76,7 +82,7 @@ module _ {X A : Type 0} (asks : X → ℕ) (tells : X → Option Content) where
     takes = λ x told going.
         let a = h.takes x told.1 going (d.agrees x told going) in
         let f : Content → List Mark = λ y. left_of y c0 in
-        record { old_left = left_of x c0; had = ap (option_map f) told.0; agrees = a.agrees; takes = a.takes };
+        record { old_left = left_of x c0; had = ap (option_map f) told.0; agrees = a.agrees; upto = d.upto x told going; takes = a.takes };
   }
     where
       by_saying : (s : Saying) → IsCharged 0 c0 s c → IsAskedSo asks (seen_walk tells t0 c0) s t0 c
@@ -96,6 +102,7 @@ module _ {X A : Type 0} (asks : X → ℕ) (tells : X → Option Content) (v : W
       → asks t' ≡ asks t + 1 + n → tells t' ≡ tells t → ((x : Content) → IsTold (tells t) x → Fits x) → StepGoes Fits n c s' c' → Drives asks tells v t' c' s'
   Drives-after t t' c c' s s' n Fits question h more same fits k = record {
     limit = k.counts.limit ∙ h.limit;
+    aim = k.counts.aim ∙ h.aim;
     grows = omega (arith, h.grows, k.counts.grows);
     within = k.counts.within;
     given = omega (arith, k.counts.given, h.given, none s question);
@@ -112,6 +119,7 @@ module _ {X A : Type 0} (asks : X → ℕ) (tells : X → Option Content) (v : W
           old_left = a.old_left;
           had = a.had;
           agrees = b.agrees;
+          upto = a.upto;
           takes = TakesStep-after a.old_left (left_of x c) (left_of x c') v.spent c.spent c'.spent s' c'.asked (charged_before s question x a.old_left a.takes) b.takes;
         };
   }
@@ -156,6 +164,7 @@ module _ {X A : Type 0} (asks : X → ℕ) (tells : X → Option Content) (v : W
   Drives-last t c s item h = record {
     counts = record {
       limit = h.limit;
+      aim = h.aim;
       grows = h.grows;
       within = h.within;
       given = h.given;
@@ -200,6 +209,7 @@ module _ {X A : Type 0} (asks : X → ℕ) (tells : X → Option Content) (v : W
             new_left = left_of x c;
             had = a.had;
             has = has' x told;
+            upto = λ going. a.upto;
             takes = λ going. taken s item x a.old_left a.takes;
           }
       by_over true e x told = record {
@@ -208,6 +218,7 @@ module _ {X A : Type 0} (asks : X → ℕ) (tells : X → Option Content) (v : W
         new_left = left_of x c;
         had = ap (λ w. w.left) (sym (h.stays e).1) ∙ has' x told;
         has = has' x told;
+        upto = λ going. absurd (both_ways v.over going e);
         takes = λ going. absurd (both_ways v.over going e);
       }
 
@@ -215,8 +226,20 @@ module _ {X A : Type 0} (asks : X → ℕ) (tells : X → Option Content) (v : W
   IsDriven-last t c s item h = record {
     free = free s item h.asks_next;
     agrees = λ x told going. (h.takes x (sym h.told ∙ told.0, told.1) (of_first v.over refl going)).agrees;
+    upto = λ x told going.
+        let a = h.takes x (sym h.told ∙ told.0, told.1) (of_first v.over refl going) in
+        subst (λ aim. IsUpTo (listing_of x aim) c.spent (left_of x c)) (sym h.aim) (up_to s item (h.ends) going x a.old_left a.upto a.takes);
   }
     where
+      up_to : (s : Saying) → units_said s ≡ 0 → c.over ≡ is_last_said s → c.over ≡ false → (x : Content) (old : List Mark) → IsUpTo (listing_of x v.aim) v.spent old → TakesStep old v.spent s c.asked (left_of x c) c.spent
+          → IsUpTo (listing_of x v.aim) c.spent (left_of x c)
+      up_to AsksLook q e going x old u k = absurd (omega (arith, q))
+      up_to AsksList q e going x old u k = absurd (omega (arith, q))
+      up_to (Says (Gives item)) q e going x old u k = IsUpTo-item (listing_of x v.aim) old (left_of x c) v.spent c.spent item u k
+      up_to (Says (LimitAt p)) q e going x old u k = absurd (both_ways c.over going e)
+      up_to (Says NoMemory) q e going x old u k = absurd (both_ways c.over going e)
+      up_to Ends q e going x old u k = absurd (both_ways c.over going e)
+
       free : (s : Saying) → units_said s ≡ 0 → IsAskedAfter s c.asked → c.asked ≡ None
       free AsksLook q e = absurd (omega (arith, q))
       free AsksList q e = absurd (omega (arith, q))

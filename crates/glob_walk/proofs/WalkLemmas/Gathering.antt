@@ -3,12 +3,12 @@ use Rattle.std.proofs.Common.{◌≡◌, ℕ, ◌+◌, ◌-◌, ◌≤◌, suc, 
 use Rattle.std.proofs.lemmas.List.{map-append}
 use Rattle.std.specs.declared.path.buf.PathBuf.{PathBuf}
 use Rattle.glob_text.specs.Text.{Text}
-use Rattle.glob_walk.specs.Marks.{Mark, Work, Give, Item, items, cost, front}
+use Rattle.glob_walk.specs.Marks.{Mark, Work, Give, Item, items, cost, front, IsBeginning}
 use Rattle.std.proofs.lemmas.Option.{same_Some}
 use Rattle.glob_tree.specs.Content.{Content}
 use Rattle.glob_tree.specs.Answers.{IsTold}
 use Rattle.glob_walk.specs.Private.Walking.{refusal_end}
-use Rattle.glob_walk.specs.Walks.{Outcome, Gives, LimitAt, NoMemory, outcome, AreItems, Charges, StopsAt, works, IsWalk, IsWalkAsked, HasNoRefusal, Walking, IsFresh, Goes, TakesFront}
+use Rattle.glob_walk.specs.Walks.{Outcome, Gives, LimitAt, NoMemory, outcome, AreItems, Charges, StopsAt, BreaksOff, IsUpTo, IsCutShort, works, IsWalk, IsWalkAsked, HasNoRefusal, Walking, IsFresh, Goes, TakesFront}
 use Rattle.glob_walk.specs.declared.walk.End.{End}
 use Rattle.glob_walk.specs.declared.error.GlobError.{GlobError}
 use Rattle.glob_walk.specs.declared.walk.End.TheVariants as end
@@ -22,6 +22,16 @@ items-works (p ∷ ps) = items-works ps
 pub cost-works : (ps : List Text) → cost (works ps) ≡ length ps
 cost-works [] = refl
 cost-works (p ∷ ps) = ap suc (cost-works ps)
+
+-- an item more
+pub IsUpTo-item : (listing old new : List Mark) (spent spent' : ℕ) (item : Item) → IsUpTo listing spent old → Charges old spent (Give item ∷ new) spent' → IsUpTo listing spent' new
+IsUpTo-item listing old new spent spent' item u c =
+    let done : List Mark = u.done ++ works c.paths in
+    record {
+      done = done ++ Give item ∷ [];
+      whole = u.whole ∙ ap (λ xs. u.done ++ xs) c.front ∙ sym (append_assoc u.done (works c.paths) (Give item ∷ new)) ∙ sym (append_assoc done (Give item ∷ []) new);
+      units = omega (arith, u.units, c.units, cost-append u.done (works c.paths), cost-works c.paths, cost-append done (Give item ∷ []));
+    }
 
 -- what was gathered, and what is left
 pub record Gathered {A : Type 0} (ms : List Mark) (spent : ℕ) (answers : List (Result (PathBuf A) (GlobError A))) (rest : List Mark) : Type 0 where
@@ -77,10 +87,47 @@ module _ {A : Type 0} (ms : List Mark) (spent spent' : ℕ) (answers : List (Res
       ap (front limit) whole ∙ front-append limit done (Work path ∷ stop.rest) (omega (arith, at, units)) ∙ ap (λ n. done ++ front n (Work path ∷ stop.rest)) none ∙ append_none done in
       (omega (arith, costs, at, units), at, g.given ∙ ap (map Gives) (sym (ap items cut ∙ same)))
 
+  begins : IsBeginning (items g.done) (items ms)
+  begins = (items rest, ap items g.whole ∙ items-append g.done rest)
+
   -- memory was not found
-  pub IsWalk-memory : (limit : ℕ) → IsWalk ms limit end.Memory spent' answers
+  pub IsWalk-memory : (limit : ℕ) → BreaksOff rest spent spent' → IsWalk ms limit end.Memory spent' answers
   unfolding IsWalk
-  IsWalk-memory limit = (items g.done, g.given, (items rest, ap items g.whole ∙ items-append g.done rest))
+  IsWalk-memory limit off =
+      let (paths, whole, units, same) = charged off.rest off.charges in (
+        items g.done,
+        g.given,
+        begins,
+        record {
+          done = g.done ++ works paths;
+          rest = off.rest;
+          lost = [];
+          whole = whole;
+          units = units;
+          given = same ∙ sym (append_none (items g.done));
+          few = omega arith;
+        },
+      )
+
+  -- the last item was not kept
+  pub IsWalk-lost : (limit : ℕ) (item : Item) (new : List Mark) → Charges rest spent (Give item ∷ new) spent' → IsWalk ms limit end.Memory spent' answers
+  unfolding IsWalk
+  IsWalk-lost limit item new c =
+      let (paths, whole, units, same) = charged (Give item ∷ new) c in
+      let done : List Mark = g.done ++ works paths in (
+        items g.done,
+        g.given,
+        begins,
+        record {
+          done = done ++ Give item ∷ [];
+          rest = new;
+          lost = item ∷ [];
+          whole = whole ∙ sym (append_assoc done (Give item ∷ []) new);
+          units = omega (arith, units, cost-append done (Give item ∷ []));
+          given = items-append done (Give item ∷ []) ∙ ap (λ is. is ++ item ∷ []) same;
+          few = omega arith;
+        },
+      )
 
 -- a walk from its beginning on, of which only items were gathered
 pub record Gathers {X A : Type 0} (asks : X → ℕ) (tells : X → Option Content) (first : Walking X) (answers : List (Result (PathBuf A) (GlobError A))) (now : Walking X) : Type 0 where
@@ -176,8 +223,16 @@ module _ {X A : Type 0} (asks : X → ℕ) (tells : X → Option Content) (first
     few = omega (arith, g.few, goes.counts.grows);
     walk = λ c h ms is.
         let (rest, had, got) = g.walk c h ms is in
-        IsWalk-memory ms now.spent new.spent answers rest got first.limit;
+        let (next, has, takes) = taken (Some o) goes c h rest had in
+        by_outcome o ms rest next got takes;
   }
+    where
+      by_outcome : (o : Outcome) (ms rest next : List Mark) → Gathered ms now.spent answers rest → TakesFront rest now.spent (Some o) next new.spent
+          → IsWalk ms first.limit end.Memory new.spent answers
+      by_outcome (Gives item) ms rest next got k = IsWalk-lost ms now.spent new.spent answers rest got first.limit item next k
+      by_outcome (LimitAt path) ms rest next got k =
+          IsWalk-memory ms now.spent new.spent answers rest got first.limit (record { rest = Work path ∷ k.rest; charges = k.charges })
+      by_outcome NoMemory ms rest next got k = IsWalk-memory ms now.spent new.spent answers rest got first.limit k
 
   ends_limit : (path : Text) → Goes asks tells now (Some (LimitAt path)) new → Ends asks tells first end.Limit answers new
   unfolding IsWalkAsked

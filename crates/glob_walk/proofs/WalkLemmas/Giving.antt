@@ -60,7 +60,18 @@ gives_next {A} Fits n listing c given old s new step fits h = by_saying s step
         let cut : front new.limit listing ≡ done =
         ap (front new.limit) whole ∙ front-append new.limit done (Work path ∷ stop.rest) (omega (arith, at, units)) ∙ ap (λ n. done ++ front n (Work path ∷ stop.rest)) none ∙ append_none done in
         (at, omega (arith, costs, at, units), same ∙ ap items (sym cut))
-    by_saying (Says NoMemory) k = tt
+    by_saying (Says NoMemory) k =
+        let t = k.takes c fits h.going h.agrees in
+        let (ps, whole, units, same) = charged t.takes.rest new.spent t.takes.charges in
+        record {
+          done = h.done ++ works ps;
+          rest = t.takes.rest;
+          lost = [];
+          whole = whole;
+          units = units;
+          given = sym same ∙ sym (append_none given);
+          few = omega arith;
+        }
     by_saying Ends k =
         let t = k.takes c fits h.going h.agrees in
         let (ps, whole, units, same) = charged [] new.spent t.takes.0 in

@@ -1,10 +1,13 @@
 -- What a step takes.
-use Rattle.std.proofs.Common.{◌≡◌, ◌≢◌, ℕ, ◌+◌, ◌≤◌, ◌<◌, ◌^◌, length, Bool, true, false, [], Option, Some, None, refl, ap, sym, subst, ◌∙◌, arith}
+use Rattle.std.proofs.Common.{◌≡◌, ◌≢◌, ℕ, ◌+◌, ◌≤◌, ◌<◌, ◌^◌, length, Bool, true, false, cond, [], ◌++◌, Option, Some, None, refl, ap, sym, subst, ◌∙◌, arith}
 use Rattle.std.specs.Prelude.{string_bytes, sum_by, nat_le}
 use Rattle.std.specs.List.{All}
+use Rattle.std.specs.Path.{root_dir, cur_dir}
 use Rattle.std.proofs.lemmas.List.Elements.{All-from_recursion}
 use Rattle.std.proofs.lemmas.Bool.{both_ways}
 use Rattle.glob_tree.specs.Content.{Content}
+use Rattle.glob_walk.specs.Aims.{listing_of}
+use Rattle.glob_walk.specs.Listing.{look_up, enter}
 use Rattle.glob_walk.specs.Questions.{Question}
 use Rattle.glob_walk.specs.Machines.{MachineState, Saying, StepGoes, Ends}
 use Rattle.glob_walk.specs.Walks.{Charges, item_number}
@@ -14,14 +17,15 @@ use Rattle.glob_walk.specs.declared.turn.Turn.{Turn}
 use Rattle.glob_walk.specs.declared.turn.Turn.TheVariants as turn
 use Rattle.glob_walk.specs.declared.machine.Answer.{Answer}
 use Rattle.glob_walk.specs.declared.machine.Answer.TheVariants as answer
-use Rattle.glob_walk.specs.Private.Stacks.{left, ready, IsWithin, IsSound}
-use Rattle.glob_walk.specs.Private.Tasks.{next_ready, sight_ready, question_of, IsNextSound, IsSightSound, IsNextOpened, IsSightOpened}
+use Rattle.glob_walk.specs.Private.Stacks.{aim_of, frames_marks, left, ready, IsWithin, IsSound}
+use Rattle.glob_walk.specs.Private.Tasks.{enter_from, sight_marks, task_marks, next_marks, next_ready, sight_ready, question_of, IsNextSound, IsSightSound, IsNextOpened, IsSightOpened}
 use Rattle.glob_walk.specs.Private.Frames.{unmet, is_done, IsFrameSound}
 use Rattle.glob_walk.specs.declared.task.Task.{Task}
 use Rattle.glob_walk.specs.declared.task.Sight.TheVariants.{Unseen}
 use Rattle.glob_walk.specs.declared.task.Wanted.TheVariants.{Any}
 use Rattle.glob_walk.specs.Private.Turns.{TurnsTo, TurnCounts, IsAnswer, IsAnswered, answer_count}
 use Rattle.glob_walk.specs.Private.Walking.{IsUnderWay, IsGood, turn_outcome, turn_saying, is_last_turn}
+use Rattle.glob_walk.proofs.WalkLemmas.Stepping.{append_none}
 use Rattle.glob_walk.proofs.WalkLemmas.Charging.{opened-free, opened-look}
 
 pub one_item : {A : Type 0} (t : Turn A) → item_number (turn_outcome t) ≤ 1
@@ -46,7 +50,7 @@ grows n m m' turn.Done h = omega (arith, h)
 
 -- what contracts see of it
 abbrev pub view : {A : Type 0} → Meter → Stack A → ℕ → Bool → MachineState A
-view m s given over = record { limit = m.limit; spent = m.spent; given = given; over = over; asked = question_of s.next; todo = s }
+view m s given over = record { limit = m.limit; spent = m.spent; given = given; over = over; asked = question_of s.next; aim = aim_of s.plan; todo = s }
 
 -- nothing is left on the stack
 abbrev pub IsCleared : {A : Type 0} → Stack A → Type 0
@@ -95,6 +99,7 @@ module _ {A : Type 0} (Fits : Content → Type 0) (n : ℕ) (m m' : Meter) (s s'
   goes turn.Look stops r cleared = record {
     counts = record {
       limit = r.limit;
+      aim = ap aim_of r.plan;
       grows = grows {A = A} n m m' turn.Look r.counts;
       within = r.fits;
       charged = r.counts;
@@ -109,6 +114,7 @@ module _ {A : Type 0} (Fits : Content → Type 0) (n : ℕ) (m m' : Meter) (s s'
   goes turn.List stops r cleared = record {
     counts = record {
       limit = r.limit;
+      aim = ap aim_of r.plan;
       grows = grows {A = A} n m m' turn.List r.counts;
       within = r.fits;
       charged = r.counts;
@@ -123,6 +129,7 @@ module _ {A : Type 0} (Fits : Content → Type 0) (n : ℕ) (m m' : Meter) (s s'
   goes (turn.Path p) stops r cleared = record {
     counts = record {
       limit = r.limit;
+      aim = ap aim_of r.plan;
       grows = grows n m m' (turn.Path p) r.counts;
       within = r.fits;
       charged = r.counts;
@@ -137,6 +144,7 @@ module _ {A : Type 0} (Fits : Content → Type 0) (n : ℕ) (m m' : Meter) (s s'
   goes (turn.Unread p e) stops r cleared = record {
     counts = record {
       limit = r.limit;
+      aim = ap aim_of r.plan;
       grows = grows n m m' (turn.Unread p e) r.counts;
       within = r.fits;
       charged = r.counts;
@@ -151,6 +159,7 @@ module _ {A : Type 0} (Fits : Content → Type 0) (n : ℕ) (m m' : Meter) (s s'
   goes (turn.Limit p) stops r cleared = record {
     counts = record {
       limit = r.limit;
+      aim = ap aim_of r.plan;
       grows = r.counts.2;
       within = r.fits;
       charged = (r.counts.0, r.counts.1);
@@ -165,6 +174,7 @@ module _ {A : Type 0} (Fits : Content → Type 0) (n : ℕ) (m m' : Meter) (s s'
   goes turn.Memory stops r cleared = record {
     counts = record {
       limit = r.limit;
+      aim = ap aim_of r.plan;
       grows = grows {A = A} n m m' turn.Memory r.counts;
       within = r.fits;
       charged = r.counts;
@@ -179,6 +189,7 @@ module _ {A : Type 0} (Fits : Content → Type 0) (n : ℕ) (m m' : Meter) (s s'
   goes turn.Done stops r cleared = record {
     counts = record {
       limit = r.limit;
+      aim = ap aim_of r.plan;
       grows = grows {A = A} n m m' turn.Done r.counts;
       within = r.fits;
       charged = r.counts;
@@ -223,6 +234,7 @@ goes_over m s given over' yes' a v e good answers =
     record {
       counts = record {
         limit = refl;
+        aim = refl;
         grows = omega arith;
         within = good.limit;
         charged = omega (arith, none);
@@ -254,6 +266,16 @@ IsGood-fresh m s t none fits next unseen empty =
       };
       ended = λ yes'. absurd (both_ways false refl yes');
     }
+
+pub left-fresh : {A : Type 0} (c : Content) (s : Stack A) (t : Task A) → s.next ≡ Some t → t.sight ≡ Unseen Any → t.part ≡ 0 → s.frames.items ≡ []
+    → string_bytes t.path ≡ cond s.plan.rooted root_dir cur_dir → left c s ≡ listing_of c (aim_of s.plan)
+left-fresh c s t next unseen part empty at =
+    ap (λ n. next_marks c s.plan n ++ frames_marks c s.plan s.frames.items) next
+    ∙ ap (λ fs. task_marks c s.plan t ++ frames_marks c s.plan fs) empty
+    ∙ append_none (task_marks c s.plan t)
+    ∙ ap (λ x. sight_marks c s.plan t.part (string_bytes t.path) x) unseen
+    ∙ ap (λ n. look_up c (λ seen. true) (enter_from c s.plan n) (string_bytes t.path)) part
+    ∙ ap (look_up c (λ seen. true) (enter c s.plan.options s.plan.directories s.plan.parts.items)) at
 
 pub sound-fresh : {A : Type 0} (c : Content) (s : Stack A) (t : Task A) → s.next ≡ Some t → t.sight ≡ Unseen Any → s.frames.items ≡ [] → IsSound c s
 sound-fresh c s t next unseen empty = record {

@@ -8,7 +8,11 @@ use Rattle.glob_text.specs.Text.{Text}
 use Rattle.glob_pattern.specs.Grammar.Characters.{star}
 use Rattle.glob_pattern.specs.declared.options.MatchOptions.{MatchOptions}
 use Rattle.glob_tree.specs.Content.{Content}
-use Rattle.glob_walk.specs.Components.{ComponentKind, Literal, Recursive, Wild, component_kind, components, is_literal, is_recursive, begins_recursive, start, wants_directories}
+use Rattle.glob_walk.specs.Components.{ComponentKind, Literal, Recursive, Wild, component_kind, components, is_literal, is_recursive, begins_recursive, has_root, start, wants_directories}
+use Rattle.std.specs.Path.{root_dir, cur_dir}
+use Rattle.glob_walk.specs.Aims.{listing_of}
+use Rattle.glob_walk.specs.declared.plan.Plan.{Plan}
+use Rattle.glob_walk.specs.Private.Stacks.{aim_of}
 use Rattle.glob_walk.specs.Listing.{by_name, by_match, descent, levels, enter, meet, match_at, look_up, listing}
 use Rattle.glob_walk.specs.Private.Merging.{merged, merged_after, are_merged}
 use Rattle.glob_walk.specs.Private.Tasks.{IsOpened}
@@ -147,3 +151,9 @@ pub merged_listing : (c : Content) (o : MatchOptions) (pattern : Text)
     → look_up c (λ seen. true) (enter c o (wants_directories pattern) (merged (components pattern))) (start pattern) ≡ listing c o pattern
 unfolding listing
 merged_listing c o pattern = ap (λ next. look_up c (λ seen. true) next (start pattern)) (enter-merged c o (wants_directories pattern) (components pattern))
+
+-- so the plan of a pattern looks for its listing
+pub aim_listing : {A : Type 0} (c : Content) (o : MatchOptions) (pattern : Text) (plan : Plan A) → plan.options ≡ o → plan.rooted ≡ has_root pattern → plan.directories ≡ wants_directories pattern
+    → plan.parts.items ≡ merged (components pattern) → listing_of c (aim_of plan) ≡ listing c o pattern
+aim_listing c o pattern plan options rooted directories parts =
+    (λ i. look_up c (λ seen. true) (enter c (options i) (directories i) (parts i)) (cond (rooted i) root_dir cur_dir)) ∙ merged_listing c o pattern

@@ -1,6 +1,7 @@
 -- What a walk has still to do, as a part of the written listing.
 use Rattle.std.specs.Prelude.{◌≡◌, false, ℕ, ◌+◌, ◌*◌, ◌<◌, List, ◌++◌, length, reverse, flat_map, Option, Some, None, sum_by}
 use Rattle.std.specs.List.{All}
+use Rattle.glob_walk.specs.Aims.{Aim}
 use Rattle.glob_walk.specs.Marks.{Mark}
 use Rattle.glob_tree.specs.Content.{Content}
 use Rattle.glob_walk.specs.declared.plan.Plan.{Plan}
@@ -11,6 +12,15 @@ use Rattle.glob_walk.specs.declared.frame.Frame.{Frame}
 use Rattle.glob_walk.specs.declared.stack.Stack.{Stack}
 use Rattle.glob_walk.specs.Private.Tasks.{next_marks, next_ready, IsNextSound}
 use Rattle.glob_walk.specs.Private.Frames.{frame_marks, is_done, steps_left, unmet, IsFrameSound}
+
+-- what a walk by the plan looks for
+abbrev pub aim_of : {A : Type 0} → Plan A → Aim
+aim_of plan = record {
+  options = plan.options;
+  rooted = plan.rooted;
+  components = plan.parts.items;
+  directories = plan.directories;
+}
 
 -- the last directory first
 abbrev pub frames_marks : {A : Type 0} → Content → Plan A → List (Frame A) → List Mark

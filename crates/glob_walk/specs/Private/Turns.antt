@@ -10,7 +10,7 @@ use Rattle.glob_walk.specs.declared.machine.Answer.{Answer}
 use Rattle.glob_walk.specs.declared.machine.Answer.TheVariants as answer
 use Rattle.glob_walk.specs.Questions.{Question, IsLook, IsList, IsSomeContent, IsSeenIn, IsListedIn, question_path}
 use Rattle.glob_walk.specs.Machines.{AsksNext}
-use Rattle.glob_walk.specs.Walks.{Charges, StopsAt}
+use Rattle.glob_walk.specs.Walks.{Charges, StopsAt, BreaksOff}
 use Rattle.glob_tree.specs.Content.{Content, list_result}
 use Rattle.glob_tree.specs.Answers.{IsListAnswer, entries_of, entry_count}
 use Rattle.glob_tree.specs.declared.tree.Entry.{Entry}
@@ -28,7 +28,7 @@ TurnOf old spent (turn.Path p) q new spent' = Charges old spent (Give (Found (st
 TurnOf old spent (turn.Unread p e) q new spent' =
     Charges old spent (Give (Unread (string_bytes p) (error_kind e)) ∷ new) spent'
 TurnOf old spent (turn.Limit p) q new spent' = StopsAt old spent (string_bytes p) spent'
-TurnOf old spent turn.Memory q new spent' = ⊤
+TurnOf old spent turn.Memory q new spent' = BreaksOff old spent spent'
 TurnOf old spent turn.Done q new spent' = Charges old spent new spent' × (new ≡ [])
 
 -- the unit of a question

@@ -3,8 +3,9 @@ use Rattle.std.specs.Prelude.{◌≡◌, ℕ, ◌+◌, ◌≤◌, ◌<◌, ◌^�
 use Rattle.std.specs.IoError.{error_kind}
 use Rattle.glob_tree.specs.Content.{Content}
 use Rattle.glob_tree.specs.Answers.{IsTold}
+use Rattle.glob_walk.specs.Aims.{listing_of}
 use Rattle.glob_walk.specs.Marks.{Found, Unread}
-use Rattle.glob_walk.specs.Walks.{Outcome, Gives, LimitAt, NoMemory}
+use Rattle.glob_walk.specs.Walks.{Outcome, Gives, LimitAt, NoMemory, IsUpTo}
 use Rattle.glob_walk.specs.declared.meter.Meter.{Meter}
 use Rattle.glob_walk.specs.declared.stack.Stack.{Stack}
 use Rattle.glob_walk.specs.declared.turn.Turn.{Turn}
@@ -14,7 +15,7 @@ use Rattle.glob_walk.specs.declared.walk.End.TheVariants as end
 use Rattle.glob_walk.specs.Private.Tasks.{question_of, IsNextOpened}
 use Rattle.glob_walk.specs.Private.Stacks.{ready, IsWithin}
 use Rattle.glob_walk.specs.declared.machine.Step.{Step}
-use Rattle.glob_walk.specs.Machines.{MachineState, Agrees, Saying, AsksLook, AsksList, Says, Ends, saying}
+use Rattle.glob_walk.specs.Machines.{MachineState, Agrees, left_of, Saying, AsksLook, AsksList, Says, Ends, saying}
 
 -- what is true of a walk that is not over
 pub record IsUnderWay {A : Type 0} (meter : Meter) (stack : Stack A) (given : ℕ) : Type 0 where
@@ -67,6 +68,8 @@ IsStepOf t s = saying s ≡ turn_saying t
 pub record IsDriven {X A : Type 0} (tells : X → Option Content) (tree : X) (machine : MachineState A) : Type 0 where
   pub free : machine.asked ≡ None
   pub agrees : (c : Content) → IsTold (tells tree) c → machine.over ≡ false → Agrees c machine
+  pub upto : (c : Content) → IsTold (tells tree) c → machine.over ≡ false
+      → IsUpTo (listing_of c machine.aim) machine.spent (left_of c machine)
 
 -- the end of a walk that gave a refusal
 abbrev pub refusal_end : Outcome → Option End

@@ -1,9 +1,19 @@
-use Rattle.std.proofs.Common.{rules, refl}
-use Rattle.glob_walk.proofs.WalkLemmas.MachineSteps.{IsGood-fresh, sound-fresh}
+use Rattle.std.proofs.Common.{rules, refl, Some}
+use Rattle.glob_walk.specs.declared.task.Sight.TheVariants.{Unseen}
+use Rattle.glob_walk.specs.declared.task.Wanted.TheVariants.{Any}
+use Rattle.glob_walk.proofs.WalkLemmas.MachineSteps.{IsGood-fresh, sound-fresh, left-fresh}
 use Rattle.glob_walk.proofs.machine.WalkMachine.from_plan.Goals as goal
 
 pub invariant_of-result : goal.invariant_of-result
 invariant_of-result g c = IsGood-fresh _ _ _ refl (search rules) refl refl (search rules)
 
 pub returns-clause-fresh : goal.returns-clause-fresh
-returns-clause-fresh g c = record { limit = refl; spent = refl; given = refl; over = refl; asked = refl; agrees = λ c'. sound-fresh c' _ _ refl refl (search rules) }
+returns-clause-fresh g c = record {
+  limit = refl;
+  spent = refl;
+  given = refl;
+  over = refl;
+  asked = refl;
+  agrees = λ c'. sound-fresh c' _ _ refl refl (search rules);
+  whole = λ c'. left-fresh c' (record { plan = c.args.plan; next = Some (record { path = c.args.start; part = 0; sight = Unseen Any }); frames = c.new-frames.result }) (record { path = c.args.start; part = 0; sight = Unseen Any }) refl refl refl (search rules) c.requires.start;
+}

@@ -3,7 +3,7 @@ use Rattle.glob_tree.specs.Answers.{entry_count}
 use Rattle.glob_walk.specs.Machines.{Says, Ends, saying, units_said}
 use Rattle.glob_walk.specs.Questions.{IsSeenIn, IsListedIn}
 use Rattle.glob_walk.specs.Walks.{outcome}
-use Rattle.glob_walk.proofs.WalkLemmas.Driving.{Drives, Drives-first, Drives-after, Drives-last, seen_fits, listed_fits}
+use Rattle.glob_walk.proofs.WalkLemmas.Driving.{Drives, Drives-first, Drives-after, Drives-last, IsDriven-last, seen_fits, listed_fits}
 use Rattle.glob_walk.proofs.paths.PathsIterator.next.Goals as goal
 
 pub loop-step-init : goal.loop-step-init
@@ -36,3 +36,8 @@ loop-step-preserved g c =
     Drives-after g.T.Tree.asks g.T.Tree.tells c.args.self.now c.loop-step.self-inside.tree c.list-listed.new.self machine c.listed.new.self (saying c.loop-step.step) (saying c.listed.result)
     (entry_count c.list-listed.result) (IsListedIn machine.asked c.list-listed.result) asks c.loop-step.invariant c.list-listed.ensures.asks c.list-listed.ensures.content
     (λ x told. listed_fits machine.asked c.list-listed.result x c.path-in-List.result.now (search rules) c.path-in-List.ensures told.1 (c.list-listed.ensures.entries x told) (c.list-listed.ensures.fails x told)) c.listed.ensures.steps
+
+pub invariant_of-self : goal.invariant_of-self
+invariant_of-self g c =
+    IsDriven-last g.T.Tree.asks g.T.Tree.tells c.args.self.now c.loop-step.self-inside.tree c.loop-step.self-inside.machine (Says (outcome c.in-Item.item)) (omega arith)
+    (subst (λ s. Drives g.T.Tree.asks g.T.Tree.tells c.args.self.now c.loop-step.self-inside.tree c.loop-step.self-inside.machine (saying s)) c.in-Item.is c.loop-step.invariant)

@@ -4,7 +4,7 @@ use Rattle.glob_walk.specs.Marks.{Give, Found}
 use Rattle.glob_walk.specs.Components.{component_kind, Recursive}
 use Rattle.glob_walk.specs.Private.Tasks.{enter_from, IsOpened, IsNextSound}
 use Rattle.glob_walk.specs.Private.Stacks.{frames_marks}
-use Rattle.glob_walk.proofs.WalkLemmas.Charging.{uncharged, if_given, if_not_given}
+use Rattle.glob_walk.proofs.WalkLemmas.Charging.{breaks_off, uncharged, if_given, if_not_given}
 use Rattle.glob_walk.proofs.WalkLemmas.Naming.{ended, opened_none}
 use Rattle.glob_walk.proofs.WalkLemmas.Merging.{opened_run}
 use Rattle.glob_walk.proofs.WalkLemmas.Stacking.{left_none}
@@ -95,4 +95,17 @@ returns-in_default-clause-turn g c = record {
       (if_not_given c.gives.result (enter_from c' c.args.self.now.stack.plan c.args.part (string_bytes c.args.path) c.args.is_dir) (frames_marks c' c.args.self.now.stack.plan c.args.self.now.stack.frames.items) (Give (Found (string_bytes c.args.path)))
       (ended c' c.args.self.now.stack.plan c.args.part (string_bytes c.args.path) c.args.is_dir c.in_default.ensures.rest ∙ ap (λ b. cond b (Give (Found (string_bytes c.args.path)) ∷ []) []) (sym c.gives.ensures)) c.if-gives.false
       ∙ left_none c' c.args.self.now.stack c.requires.none);
+}
+
+pub returns-in-Literal-clause-turn : goal.returns-in-Literal-clause-turn
+returns-in-Literal-clause-turn g c = record {
+  limit = search rules;
+  fits = search rules;
+  counts = search rules;
+  plan = search rules;
+  within = tt;
+  asks = tt;
+  ready = tt;
+  sound = tt;
+  takes = λ c' w h. breaks_off _ _ _ (search rules);
 }

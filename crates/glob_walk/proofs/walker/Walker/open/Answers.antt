@@ -1,10 +1,10 @@
-use Rattle.std.proofs.Common.{cond, true, rules, ◌≡◌, ◌+◌, ◌<◌, ◌++◌, length, drop, ap, sym, ◌∙◌, arith, subst}
+use Rattle.std.proofs.Common.{cond, true, refl, rules, ◌≡◌, ◌+◌, ◌<◌, ◌++◌, length, drop, ap, sym, ◌∙◌, arith, subst}
 use Rattle.std.specs.Prelude.{string_bytes, vec_len}
 use Rattle.glob_tree.specs.Answers.{entries_of}
 use Rattle.glob_tree.proofs.ContentLemmas.Contents.{IsContent-from_test}
 use Rattle.glob_walk.specs.Walks.{StopsAt}
 use Rattle.glob_walk.specs.Private.Tasks.{enter_from, next_ready, IsNextSound}
-use Rattle.glob_walk.specs.Private.Frames.{frame_marks}
+use Rattle.glob_walk.specs.Private.Frames.{frame_marks, place_marks}
 use Rattle.glob_walk.specs.Private.Stacks.{left, frames_marks}
 use Rattle.std.proofs.lemmas.Grind.{common_steps}
 use Rattle.glob_walk.specs.declared.frame.Place.TheVariants.{At, Parent}
@@ -62,4 +62,32 @@ returns-in-Ok g c =
           (place ∙ ap (λ b. cond b Parent (At 0)) c.is_dotted.ensures)
           (c.in-Ok.ensures.left c' ∙ ap (λ ms. frame_marks c' c.args.self.now.stack.plan (record { path = c.args.path; part = c.args.part; run = c.args.run; entries = c.sort_entries.new.entries; place = c.if-is_dotted.place }) ++ ms) (sym (left_none c' c.args.self.now.stack c.requires.none)))
           (let l : vec_len c.sort_entries.new.entries ≡ vec_len c.args.entries = c.sort_entries.ensures.len in grind (arith, common_steps, l, charged));
+    }
+
+pub returns-in-Err : goal.returns-in-Err
+returns-in-Err g c =
+    let place : c.if-is_dotted.place ≡ cond c.is_dotted.result Parent (At 0) = elim c.if-is_dotted.branch [ then-is_dotted w ↦ w.place-is ∙ sym (ap (λ b. cond b Parent (At 0)) w.if-is_dotted.true) | else-is_dotted w ↦ w.place-is ∙ sym (ap (λ b. cond b Parent (At 0)) w.if-is_dotted.false) ] in
+    let charged : c.charge_entries.new.self.spent ≡ c.args.self.now.meter.spent + vec_len c.args.entries = search rules in
+    record {
+      limit = search rules;
+      fits = search rules;
+      counts = search rules;
+      plan = search rules;
+      within = tt;
+      asks = tt;
+      ready = tt;
+      sound = tt;
+      takes = λ c' w h.
+          let plan = c.args.self.now.stack.plan in
+          let rest = frames_marks c' plan c.args.self.now.stack.frames.items in
+          record {
+            rest = place_marks c' plan c.args.run c.args.part (string_bytes c.args.path) (entries_of c.sort_entries.new.entries.items) c.if-is_dotted.place ++ rest;
+            charges = opened_charges c' (IsContent-from_test c' w.0) plan c.args.run c.args.part (string_bytes c.args.path) c.requires.opens h.next
+                (entries_of c.sort_entries.new.entries.items)
+                (in_order c' (IsContent-from_test c' w.0) (string_bytes c.args.path) c.args.entries.items c.sort_entries.new.entries.items w.1 c.sort_entries.ensures.permutation c.sort_entries.ensures.sorted)
+                c.if-is_dotted.place rest _ c.args.self.now.meter.spent c.charge_entries.new.self.spent
+                (place ∙ ap (λ b. cond b Parent (At 0)) c.is_dotted.ensures)
+                refl
+                (let l : vec_len c.sort_entries.new.entries ≡ vec_len c.args.entries = c.sort_entries.ensures.len in grind (arith, common_steps, l, charged));
+          };
     }

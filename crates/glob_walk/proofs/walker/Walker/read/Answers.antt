@@ -8,7 +8,7 @@ use Rattle.glob_tree.specs.declared.tree.ListError.TheVariants.{Read}
 use Rattle.glob_walk.specs.Marks.{Give, Unread}
 use Rattle.glob_walk.specs.Questions.{IsListedIn}
 use Rattle.glob_walk.specs.Private.Tasks.{IsNextSound}
-use Rattle.glob_walk.proofs.WalkLemmas.Charging.{uncharged}
+use Rattle.glob_walk.proofs.WalkLemmas.Charging.{breaks_off, uncharged}
 use Rattle.glob_walk.proofs.WalkLemmas.Opening.{listed_answer, unread_left}
 use Rattle.glob_walk.proofs.WalkLemmas.Stacking.{left_none}
 use Rattle.glob_walk.proofs.walker.Walker.read.Goals as goal
@@ -35,3 +35,16 @@ returns-in-Err-Read g c =
           (unread_left c' s t c.in-Listing.run' next c.in-Listing.is (IsContent-from_test c' fits.0) c.requires.opened h.next (error_kind c.in-Err-Read.e) fault
           ∙ ap (λ ms. Give (Unread (string_bytes t.path) (error_kind c.in-Err-Read.e)) ∷ ms) (left_none c' (record { plan = s.plan; next = c.take.new.self; frames = s.frames }) c.take.ensures.after));
     }
+
+pub returns-in-Err-Memory : goal.returns-in-Err-Memory
+returns-in-Err-Memory g c = record {
+  limit = search rules;
+  fits = search rules;
+  counts = search rules;
+  plan = search rules;
+  within = tt;
+  asks = tt;
+  ready = tt;
+  sound = tt;
+  takes = λ c' w h. breaks_off _ _ _ (search rules);
+}

@@ -1,7 +1,7 @@
 use Rattle.std.proofs.Common.{rules, refl, ◌≡◌, ◌++◌, None, ap, subst, sym, ◌∙◌}
 use Rattle.glob_walk.specs.Private.Tasks.{next_marks, IsNextSound}
 use Rattle.glob_walk.specs.Private.Stacks.{frames_marks}
-use Rattle.glob_walk.proofs.WalkLemmas.Charging.{uncharged}
+use Rattle.glob_walk.proofs.WalkLemmas.Charging.{breaks_off, uncharged}
 use Rattle.glob_walk.proofs.walker.Walker.turn.Goals as goal
 
 pub returns-in-Ok-true-clause-turn : goal.returns-in-Ok-true-clause-turn
@@ -40,3 +40,16 @@ returns-in-Ok-false-clause-turn g c =
         sym (c.in-Ok-false.ensures.left c') ∙ c.in-Ok-false.ensures.over (search rules) c',
       );
     }
+
+pub returns-in-Err-clause-turn : goal.returns-in-Err-clause-turn
+returns-in-Err-clause-turn g c = record {
+  limit = search rules;
+  fits = search rules;
+  counts = search rules;
+  plan = search rules;
+  within = tt;
+  asks = tt;
+  ready = tt;
+  sound = tt;
+  takes = λ c' w h. breaks_off _ _ _ (search rules);
+}
