@@ -1,3 +1,4 @@
+pub mod Beginning
 pub mod Charging
 pub mod Driving
 pub mod Entering

@@ -1,13 +1,12 @@
 //! A whole walk.
-ghost use Rattle.std.specs.Prelude.{◌≡◌, ◌+◌, ◌≤◌, [], length, List, None, Some, IfOk, IfErr};
+ghost use Rattle.std.specs.Prelude.{◌≡◌, ◌+◌, ◌≤◌, [], length, None, Some, Ok, Err, IfOk, IfErr};
 ghost use Rattle.glob_tree.specs.Content.{Content};
 ghost use Rattle.glob_tree.specs.Answers.{IsTold};
 ghost use Rattle.glob_walk.specs.Components.{walk_fault};
 ghost use Rattle.glob_walk.specs.Listing.{listing};
-ghost use Rattle.glob_walk.specs.Marks.{Mark};
-ghost use Rattle.glob_walk.specs.Private.Walking.{refusal_end};
+ghost use Rattle.glob_walk.specs.Private.Walking.{EndsAs, refusal_end};
 ghost use Rattle.glob_walk.specs.WalkGoals.{FindsGoal, FindsExactly, FindsInOrder};
-ghost use Rattle.glob_walk.specs.Walks.{outcome, HasNoRefusal, IsFresh, IsWalk, IsWalkAsked, RefusesWith};
+ghost use Rattle.glob_walk.specs.Walks.{outcome, HasNoRefusal, IsFresh, IsWalk, IsWalkAsked, RefusesWith, Walking};
 
 use crate::begin::glob_in;
 use crate::error::{GlobCause, GlobResult};
@@ -41,8 +40,9 @@ pub struct Walk<T: Tree> {
     pub tree: T,
 }
 
-/// The whole walk of [`glob_in`](crate::glob_in), with its refusals of patterns. A limit that does not suffice, and an
-/// allocation failure during the walk, stand in `end` and not in `items`.
+/// The whole walk of [`glob_in`](crate::glob_in), which alone refuses: so an error comes before the first lookup. A limit
+/// that does not suffice, and an allocation failure during the walk, are in `end` and not in `items`. With `End::Memory`
+/// the items are those of what was charged, but for at most the last one.
 ///
 /// A pattern is plain if no component is empty, `.` or `..`, and if each that has a wildcard and begins with a dot is
 /// right after a `**`. For a plain pattern, with case, over a tree with a known content, and where `end` is `Done`:
@@ -81,16 +81,42 @@ pub fn walk_in<T: Tree>(
     ensures orderly { IfOk result
         (λ walk. FindsInOrder (T.tells tree) options pattern.now walk.items.items) }
 {
-    let mut paths = glob_in(alloc, tree, pattern, options, limit)?;
+    walked(alloc, glob_in(alloc, tree, pattern, options, limit))
+}
+
+/// The whole of a walk that was begun, or the refusal of its pattern. Nothing else is refused, so a refusal comes before
+/// the first lookup.
+fn walked<T: Tree>(
+    alloc: T::Alloc,
+    begun: Result<Paths<T>, PatternRefusal>,
+) -> Result<Walk<T>, PatternRefusal>
+    requires fresh { IfOk begun (λ p. IsFresh p.tree p.limit p) }
+    ensures refused { IfErr result (λ e. begun ≡ Err e) }
+    ensures whole { IfOk result
+        (λ walk. (p : Walking T) × (begun ≡ Ok p)
+        × EndsAs T.asks T.tells p walk.end walk.spent walk.items.items walk.tree) }
+{
+    match begun {
+        Ok(paths) => Ok(whole(alloc, paths)),
+        Err(e) => Err(e),
+    }
+}
+
+/// The whole of a walk that has done nothing yet. It cannot fail.
+fn whole<T: Tree>(alloc: T::Alloc, mut paths: Paths<T>) -> Walk<T>
+    requires fresh { IsFresh paths.tree paths.limit paths }
+    ensures { EndsAs T.asks T.tells paths
+        result.end result.spent result.items.items result.tree }
+{
     let mut items = Vec::new(alloc);
     let end = gather(&mut paths, &mut items);
     let spent = paths.spent();
-    Ok(Walk {
+    Walk {
         items,
         end,
         spent,
         tree: paths.into_tree(),
-    })
+    }
 }
 
 /// Moves the items of a walk that has done nothing yet into a list, up to the end of the walk. It ends because `next`
@@ -98,15 +124,8 @@ pub fn walk_in<T: Tree>(
 fn gather<T: Tree>(paths: &mut Paths<T>, items: &mut Vec<GlobResult<T::Alloc>, T::Alloc>) -> End
     requires fresh { IsFresh paths.old.tree paths.old.limit paths.old }
     requires empty { items.old.items ≡ [] }
-    ensures within { paths.new.spent ≤ paths.old.limit }
-    ensures asked { IsWalkAsked paths.old.limit (T.asks paths.old.tree) result paths.new.spent
-        (T.asks paths.new.tree) }
-    ensures told { T.tells paths.new.tree ≡ T.tells paths.old.tree }
-    ensures items { HasNoRefusal items.new.items }
-    ensures few { length items.new.items ≤ paths.new.spent + 1 }
-    ensures walk { (c : Content) → IsTold (T.tells paths.old.tree) c → (ms : List Mark)
-        → paths.old.left ≡ Some ms
-        → IsWalk ms paths.old.limit result paths.new.spent items.new.items }
+    ensures { EndsAs T.asks T.tells paths.old
+        result paths.new.spent items.new.items paths.new.tree }
 {
     loop {
         let Some(item) = paths.next() else {

@@ -1,11 +1,13 @@
 -- What is true of a walk between two items.
-use Rattle.std.specs.Prelude.{◌≡◌, ℕ, ◌+◌, ◌≤◌, ◌<◌, ◌^◌, Bool, true, false, Option, Some, None, string_bytes}
+use Rattle.std.specs.Prelude.{◌≡◌, ℕ, ◌+◌, ◌≤◌, ◌<◌, ◌^◌, Bool, true, false, List, length, Option, Some, None, Result, string_bytes}
 use Rattle.std.specs.IoError.{error_kind}
+use Rattle.std.specs.declared.path.buf.PathBuf.{PathBuf}
 use Rattle.glob_tree.specs.Content.{Content}
 use Rattle.glob_tree.specs.Answers.{IsTold}
 use Rattle.glob_walk.specs.Aims.{listing_of}
-use Rattle.glob_walk.specs.Marks.{Found, Unread}
-use Rattle.glob_walk.specs.Walks.{Outcome, Gives, LimitAt, NoMemory, IsUpTo}
+use Rattle.glob_walk.specs.Marks.{Mark, Found, Unread}
+use Rattle.glob_walk.specs.Walks.{Outcome, Gives, LimitAt, NoMemory, IsUpTo, Walking, HasNoRefusal, IsWalk, IsWalkAsked}
+use Rattle.glob_walk.specs.declared.error.GlobError.{GlobError}
 use Rattle.glob_walk.specs.declared.meter.Meter.{Meter}
 use Rattle.glob_walk.specs.declared.stack.Stack.{Stack}
 use Rattle.glob_walk.specs.declared.turn.Turn.{Turn}
@@ -76,3 +78,14 @@ abbrev pub refusal_end : Outcome → Option End
 refusal_end (Gives item) = None
 refusal_end (LimitAt path) = Some end.Limit
 refusal_end NoMemory = Some end.Memory
+
+-- A walk that has done nothing yet, from its beginning to its end: its items, its units and its questions, and the tree.
+pub record EndsAs {X A : Type 0} (asks : X → ℕ) (tells : X → Option Content) (first : Walking X) (e : End) (spent : ℕ)
+    (answers : List (Result (PathBuf A) (GlobError A))) (tree : X) : Type 0 where
+  pub within : spent ≤ first.limit
+  pub asked : IsWalkAsked first.limit (asks first.tree) e spent (asks tree)
+  pub told : tells tree ≡ tells first.tree
+  pub items : HasNoRefusal answers
+  pub few : length answers ≤ spent + 1
+  pub walk : (c : Content) → IsTold (tells first.tree) c → (ms : List Mark) → first.left ≡ Some ms
+      → IsWalk ms first.limit e spent answers

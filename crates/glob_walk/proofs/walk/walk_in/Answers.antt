@@ -1,30 +1,45 @@
-use Rattle.std.proofs.Common.{ap, sym, subst, ◌∙◌}
+use Rattle.glob_walk.specs.Components.{walk_fault}
+use Rattle.std.proofs.Common.{◌≡◌, ◌+◌, ◌≤◌, None, Some, length}
 use Rattle.glob_walk.specs.Listing.{listing}
 use Rattle.glob_walk.specs.WalkGoals.{WalksPlainly, FindsGoal, FindsExactly, FindsInOrder}
-use Rattle.glob_walk.specs.Walks.{IsWalk}
+use Rattle.glob_walk.specs.Walks.{HasNoRefusal, IsFresh, IsWalk, IsWalkAsked, RefusesWith}
 use Rattle.glob_walk.proofs.GoalLemmas.Clauses.{plain_walk}
 use Rattle.glob_walk.proofs.GoalLemmas.WalkClauses.{walk_reaches_goal, walk_gives_goal, walk_is_orderly}
+use Rattle.glob_walk.proofs.WalkLemmas.Beginning.{if_ok, if_err, of_ok, of_err, begun_within, begun_asked, begun_told, begun_walk}
 use Rattle.glob_walk.proofs.walk.walk_in.Goals as goal
 
+pub returns-clause-accepted : goal.returns-clause-accepted
+returns-clause-accepted g c = if_ok _ _ c.walked.result (λ w b. of_ok _ c.glob_in.result b.0 b.1 c.glob_in.ensures.accepted) c.walked.ensures.whole
+
+pub returns-clause-refused : goal.returns-clause-refused
+returns-clause-refused g c = if_err _ _ c.walked.result (λ e is. of_err _ c.glob_in.result e is c.glob_in.ensures.refused) c.walked.ensures.refused
+
+pub returns-clause-within : goal.returns-clause-within
+returns-clause-within g c = if_ok _ _ c.walked.result (λ w b. begun_within g.T.Tree.asks g.T.Tree.tells b.0 w.end w.spent w.items.items w.tree b.2 c.args.tree c.args.limit (of_ok _ c.glob_in.result b.0 b.1 c.glob_in.ensures.fresh)) c.walked.ensures.whole
+
+pub returns-clause-asked : goal.returns-clause-asked
+returns-clause-asked g c = if_ok _ _ c.walked.result (λ w b. begun_asked g.T.Tree.asks g.T.Tree.tells b.0 w.end w.spent w.items.items w.tree b.2 c.args.tree c.args.limit (of_ok _ c.glob_in.result b.0 b.1 c.glob_in.ensures.fresh)) c.walked.ensures.whole
+
+pub returns-clause-told : goal.returns-clause-told
+returns-clause-told g c = if_ok _ _ c.walked.result (λ w b. begun_told g.T.Tree.asks g.T.Tree.tells b.0 w.end w.spent w.items.items w.tree b.2 c.args.tree c.args.limit (of_ok _ c.glob_in.result b.0 b.1 c.glob_in.ensures.fresh)) c.walked.ensures.whole
+
+pub returns-clause-items : goal.returns-clause-items
+returns-clause-items g c = if_ok _ _ c.walked.result (λ w b. b.2.items) c.walked.ensures.whole
+
+pub returns-clause-few : goal.returns-clause-few
+returns-clause-few g c = if_ok _ _ c.walked.result (λ w b. b.2.few) c.walked.ensures.whole
+
 pub returns-clause-walk : goal.returns-clause-walk
-returns-clause-walk g c = λ c' told.
-    let fresh = c.in_ok-paths.ensures.fresh in
-    let whole = c.gather-end.ensures.walk c' (ap g.T.Tree.tells fresh.tree ∙ told.0, told.1)
-    (listing c' c.args.options c.args.pattern.now) (c.in_ok-paths.ensures.listing c' told) in
-    subst (λ n. IsWalk (listing c' c.args.options c.args.pattern.now) c.args.limit c.gather-end.result n c.gather-end.new.items.items) (sym c.spent-spent.ensures.spent)
-    (subst (λ n. IsWalk (listing c' c.args.options c.args.pattern.now) n c.gather-end.result c.gather-end.new.paths.spent c.gather-end.new.items.items) fresh.limit whole)
+returns-clause-walk g c = λ t told. if_ok _ _ c.walked.result (λ w b. begun_walk g.T.Tree.asks g.T.Tree.tells b.0 w.end w.spent w.items.items w.tree b.2 c.args.tree c.args.limit (of_ok _ c.glob_in.result b.0 b.1 c.glob_in.ensures.fresh) t told (listing t c.args.options c.args.pattern.now) (of_ok _ c.glob_in.result b.0 b.1 (c.glob_in.ensures.listing t told))) c.walked.ensures.whole
 
 pub returns-clause-goal : goal.returns-clause-goal
 unfolding FindsGoal WalksPlainly
-returns-clause-goal g c = λ t plain. walk_reaches_goal t c.args.options c.args.pattern.now
-    (plain_walk _ t c.args.options c.args.pattern.now plain.0 c.utf8.pattern plain.1 plain.2) c.args.limit _ _ _ (returns-clause-walk g c t plain.0)
+returns-clause-goal g c = if_ok _ _ c.walked.result (λ w b t plain. walk_reaches_goal t c.args.options c.args.pattern.now (plain_walk _ t c.args.options c.args.pattern.now plain.0 c.utf8.pattern plain.1 plain.2) c.args.limit _ _ _ (begun_walk g.T.Tree.asks g.T.Tree.tells b.0 w.end w.spent w.items.items w.tree b.2 c.args.tree c.args.limit (of_ok _ c.glob_in.result b.0 b.1 c.glob_in.ensures.fresh) t plain.0 (listing t c.args.options c.args.pattern.now) (of_ok _ c.glob_in.result b.0 b.1 (c.glob_in.ensures.listing t plain.0)))) c.walked.ensures.whole
 
 pub returns-clause-exact : goal.returns-clause-exact
 unfolding FindsExactly WalksPlainly
-returns-clause-exact g c = λ t plain readable done. walk_gives_goal t c.args.options c.args.pattern.now
-    (plain_walk _ t c.args.options c.args.pattern.now plain.0 c.utf8.pattern plain.1 plain.2) c.args.limit _ _ _ (returns-clause-walk g c t plain.0) readable done
+returns-clause-exact g c = if_ok _ _ c.walked.result (λ w b t plain readable done. walk_gives_goal t c.args.options c.args.pattern.now (plain_walk _ t c.args.options c.args.pattern.now plain.0 c.utf8.pattern plain.1 plain.2) c.args.limit _ _ _ (begun_walk g.T.Tree.asks g.T.Tree.tells b.0 w.end w.spent w.items.items w.tree b.2 c.args.tree c.args.limit (of_ok _ c.glob_in.result b.0 b.1 c.glob_in.ensures.fresh) t plain.0 (listing t c.args.options c.args.pattern.now) (of_ok _ c.glob_in.result b.0 b.1 (c.glob_in.ensures.listing t plain.0))) readable done) c.walked.ensures.whole
 
 pub returns-clause-orderly : goal.returns-clause-orderly
 unfolding FindsInOrder WalksPlainly
-returns-clause-orderly g c = λ t plain. walk_is_orderly t c.args.options c.args.pattern.now
-    (plain_walk _ t c.args.options c.args.pattern.now plain.0 c.utf8.pattern plain.1 plain.2) c.args.limit _ _ _ (returns-clause-walk g c t plain.0)
+returns-clause-orderly g c = if_ok _ _ c.walked.result (λ w b t plain. walk_is_orderly t c.args.options c.args.pattern.now (plain_walk _ t c.args.options c.args.pattern.now plain.0 c.utf8.pattern plain.1 plain.2) c.args.limit _ _ _ (begun_walk g.T.Tree.asks g.T.Tree.tells b.0 w.end w.spent w.items.items w.tree b.2 c.args.tree c.args.limit (of_ok _ c.glob_in.result b.0 b.1 c.glob_in.ensures.fresh) t plain.0 (listing t c.args.options c.args.pattern.now) (of_ok _ c.glob_in.result b.0 b.1 (c.glob_in.ensures.listing t plain.0)))) c.walked.ensures.whole

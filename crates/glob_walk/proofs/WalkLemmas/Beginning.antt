@@ -1,0 +1,41 @@
+-- A whole walk, from what was begun.
+use Rattle.std.proofs.Common.{◌≡◌, ℕ, ◌≤◌, Option, Some, List, Result, Ok, Err, ap, subst, ◌∙◌}
+use Rattle.std.specs.Prelude.{IfOk, IfErr}
+use Rattle.std.specs.declared.path.buf.PathBuf.{PathBuf}
+use Rattle.glob_tree.specs.Answers.{IsTold}
+use Rattle.glob_tree.specs.Content.{Content}
+use Rattle.glob_walk.specs.Marks.{Mark}
+use Rattle.glob_walk.specs.Private.Walking.{EndsAs}
+use Rattle.glob_walk.specs.Walks.{Walking, IsFresh, IsWalk, IsWalkAsked}
+use Rattle.glob_walk.specs.declared.error.GlobError.{GlobError}
+use Rattle.glob_walk.specs.declared.walk.End.{End}
+
+-- what holds of a value holds of it in another way
+pub if_ok : {X E : Type 0} (P Q : X → Type 0) (r : Result X E) → ((x : X) → P x → Q x) → IfOk r P → IfOk r Q
+if_ok P Q (Ok x) f h = f x h
+if_ok P Q (Err e) f h = tt
+
+pub if_err : {X E : Type 0} (P Q : E → Type 0) (r : Result X E) → ((e : E) → P e → Q e) → IfErr r P → IfErr r Q
+if_err P Q (Ok x) f h = tt
+if_err P Q (Err e) f h = f e h
+
+-- what holds if there is a value, where there is one
+pub of_ok : {X E : Type 0} (P : X → Type 0) (r : Result X E) (x : X) → r ≡ Ok x → IfOk r P → P x
+of_ok P r x is h = subst (λ s. IfOk s P) is h
+
+pub of_err : {X E : Type 0} (P : E → Type 0) (r : Result X E) (e : E) → r ≡ Err e → IfErr r P → P e
+of_err P r e is h = subst (λ s. IfErr s P) is h
+
+module _ {X A : Type 0} (asks : X → ℕ) (tells : X → Option Content) (p : Walking X) (e : End) (spent : ℕ) (answers : List (Result (PathBuf A) (GlobError A))) (last : X)
+    (ends : EndsAs asks tells p e spent answers last) (tree : X) (limit : ℕ) (fresh : IsFresh tree limit p) where
+  pub begun_within : spent ≤ limit
+  begun_within = subst (λ n. spent ≤ n) fresh.limit ends.within
+
+  pub begun_asked : IsWalkAsked limit (asks tree) e spent (asks last)
+  begun_asked = subst (λ t. IsWalkAsked limit (asks t) e spent (asks last)) fresh.tree (subst (λ n. IsWalkAsked n (asks p.tree) e spent (asks last)) fresh.limit ends.asked)
+
+  pub begun_told : tells last ≡ tells tree
+  begun_told = ends.told ∙ ap tells fresh.tree
+
+  pub begun_walk : (c : Content) → IsTold (tells tree) c → (ms : List Mark) → p.left ≡ Some ms → IsWalk ms limit e spent answers
+  begun_walk c told ms is = subst (λ n. IsWalk ms n e spent answers) fresh.limit (ends.walk c (ap tells fresh.tree ∙ told.0, told.1) ms is)
