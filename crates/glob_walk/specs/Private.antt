@@ -1,7 +1,7 @@
+pub mod Forms
 pub mod Frames
 pub mod Merging
 pub mod Meters
-pub mod Parts
 pub mod Stacks
 pub mod Tasks
 pub mod Turns

@@ -2,13 +2,13 @@
 #![tactic(auto)]
 
 mod begin;
+mod component;
 mod disk;
 mod error;
 mod frame;
 pub mod laws;
 mod machine;
 mod meter;
-mod part;
 mod path_text;
 mod paths;
 mod plain;

@@ -5,7 +5,7 @@ ghost use Rattle.glob_walk.specs.Components.{walk_fault};
 ghost use Rattle.glob_walk.specs.Goal.{are_plain, is_plain, is_plain_component};
 ghost use Rattle.glob_walk.specs.Walks.{RefusesWith};
 
-use crate::part::{is_literal, is_recursive, is_special};
+use crate::component::{is_literal, is_recursive, is_special};
 use crate::path_text::begins_with_dot;
 use crate::plan::{Plan, past_root};
 use glob_pattern::{MatchOptions, PatternRefusal};

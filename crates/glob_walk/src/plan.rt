@@ -10,7 +10,7 @@ ghost use Rattle.glob_walk.specs.Components.{components, first_fault, has_root, 
 ghost use Rattle.glob_walk.specs.Private.Merging.{merged, are_merged};
 ghost use Rattle.glob_walk.specs.Walks.{RefusesWith};
 
-use crate::part::Part;
+use crate::component::Component;
 use crate::path_text::begins_with_dot;
 use glob_pattern::{MatchOptions, PatternRefusal};
 use std::alloc::Allocator;
@@ -19,7 +19,7 @@ use std::alloc::Allocator;
 #[derive(Drop)]
 pub struct Plan<A: Allocator> {
     /// The components. No two neighbours are `**`.
-    pub parts: Vec<Part<A>, A>,
+    pub parts: Vec<Component<A>, A>,
     /// How names are matched.
     pub options: MatchOptions,
     /// Whether it begins at the root, and not at the current directory.
@@ -44,7 +44,7 @@ impl<A: Allocator + Copy> Plan<A> {
         ensures refused { IfErr result (RefusesWith (walk_fault pattern.now)) }
     {
         // The whole first, so that a fault's place counts from the start of the pattern where the whole has one.
-        Part::check(alloc, pattern)?;
+        Component::check(alloc, pattern)?;
         let parts = read_parts(alloc, past_root(pattern))?;
         Ok(Plan {
             parts,
@@ -67,7 +67,7 @@ impl<A: Allocator> Plan<A> {
     }
 
     /// The component with the number, counted from 0; `None` past the last.
-    pub fn component(&self, part: usize) -> Option<&Part<A>>
+    pub fn component(&self, part: usize) -> Option<&Component<A>>
         ensures rest { MatchOption result (drop part self.now.parts.items ≡ [])
             (λ t. drop part self.now.parts.items ≡ t.now ∷ drop (part + 1) self.now.parts.items) }
         ensures within { OnSome result (part < vec_len self.now.parts) }
@@ -88,7 +88,10 @@ impl<A: Allocator> Plan<A> {
 }
 
 /// Reads the components of a text, which stand between separators. A `**` right after a `**` is left out.
-fn read_parts<A: Allocator + Copy>(alloc: A, text: &str) -> Result<Vec<Part<A>, A>, PatternRefusal>
+fn read_parts<A: Allocator + Copy>(
+    alloc: A,
+    text: &str,
+) -> Result<Vec<Component<A>, A>, PatternRefusal>
     ensures parts { IfOk result (λ parts. parts.items ≡ merged (pieces text.now)) }
     ensures accepted { IfOk result (λ _. first_fault (pieces text.now) ≡ None) }
     ensures refused { IfErr result (RefusesWith (first_fault (pieces text.now))) }
@@ -96,7 +99,7 @@ fn read_parts<A: Allocator + Copy>(alloc: A, text: &str) -> Result<Vec<Part<A>, 
     let mut parts = Vec::new(alloc);
     let mut after_run = false;
     for piece in text.split('/') {
-        let part = Part::read(alloc, piece)?;
+        let part = Component::read(alloc, piece)?;
         let is_run = part.is_recursive();
         if !(after_run && is_run) {
             parts.push(part)?;

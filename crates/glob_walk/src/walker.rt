@@ -23,10 +23,10 @@ ghost use Rattle.glob_walk.specs.Private.Stacks.{next_weight, weight, IsWithin};
 ghost use Rattle.glob_walk.specs.Private.Walking.{is_last_turn};
 ghost use Rattle.glob_walk.specs.Private.Turns.{TurnsTo, with_task, AreListedAt, IsAnswer, IsAnswered, answer_count};
 
+use crate::component::{Component, Kind, is_special};
 use crate::frame::{Frame, Place};
 use crate::machine::Answer;
 use crate::meter::{Meter, sort_entries};
-use crate::part::{Part, PartKind, is_special};
 use crate::path_text::child;
 use crate::plan::Plan;
 use crate::stack::Stack;
@@ -173,7 +173,7 @@ impl<A: Allocator + Copy> Walker<A> {
             return Turn::Went;
         };
         match component.kind() {
-            PartKind::Literal => match literal_task(
+            Kind::Literal => match literal_task(
                 &self.stack.plan,
                 component,
                 path.as_str(),
@@ -186,13 +186,13 @@ impl<A: Allocator + Copy> Walker<A> {
                 }
                 Err(_) => Turn::Memory,
             },
-            PartKind::Recursive => {
+            Kind::Recursive => {
                 if !is_dir {
                     return Turn::Went;
                 }
                 self.list(path, part, true)
             }
-            PartKind::Wild => {
+            Kind::Wild => {
                 if !is_dir {
                     return Turn::Went;
                 }
@@ -357,7 +357,7 @@ impl<A: Allocator + Copy> Walker<A> {
 #[tactic(auto, using(crate::proofs::WalkLemmas::Naming::literal_marks))]
 fn literal_task<A: Allocator + Copy>(
     plan: &Plan<A>,
-    component: &Part<A>,
+    component: &Component<A>,
     path: &str,
     part: usize,
     is_dir: bool,

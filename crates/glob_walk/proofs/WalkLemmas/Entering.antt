@@ -12,7 +12,7 @@ use Rattle.glob_tree.specs.Content.{Content}
 use Rattle.glob_walk.specs.Listing.{enter, meet, match_at, is_entered}
 use Rattle.glob_pattern.specs.declared.options.MatchOptions.{MatchOptions}
 use Rattle.glob_walk.specs.declared.plan.Plan.{Plan}
-use Rattle.glob_walk.specs.Private.Parts.{takes_name}
+use Rattle.glob_walk.specs.Private.Forms.{takes_name}
 use Rattle.glob_walk.specs.Private.Tasks.{enter_from}
 use Rattle.glob_walk.specs.Private.Frames.{first_of, first_part, met_marks}
 

@@ -17,7 +17,7 @@ use Rattle.glob_pattern.proofs.GrammarLemmas.Accepted.{one_reading}
 use Rattle.glob_pattern.proofs.MatchingLemmas.Computed.{match_decided}
 use Rattle.glob_pattern.proofs.MatchingLemmas.PlainPatterns.{plain_matches_same}
 use Rattle.glob_walk.specs.Components.{component_kind, Literal, Recursive, Wild, is_literal, is_recursive, matches_name}
-use Rattle.glob_walk.specs.Private.Parts.{same_texts, takes_name, text_fault}
+use Rattle.glob_walk.specs.Private.Forms.{same_texts, takes_name, text_fault}
 use Rattle.glob_walk.proofs.WalkLemmas.Reading.{IsPlain-literal}
 use Rattle.glob_walk.proofs.WalkLemmas.SameTexts.{Decides-same_texts}
 

@@ -25,7 +25,7 @@ use Rattle.std.proofs.lemmas.List.{take-append-drop}
 use Rattle.std.specs.Iterator.{Yields}
 use Rattle.std.specs.Option.{option_or}
 use Rattle.glob_walk.specs.Components.{components, first_fault, walk_fault, without_end_separator, without_root, is_literal}
-use Rattle.glob_walk.specs.Private.Parts.{text_fault}
+use Rattle.glob_walk.specs.Private.Forms.{text_fault}
 use Rattle.glob_walk.specs.Walks.{RefusesWith}
 
 -- a text that does not end in a separator stays as it is

@@ -14,7 +14,7 @@ use Rattle.glob_text.specs.Text.{Text}
 use Rattle.glob_pattern.specs.Grammar.Brackets.{is_same}
 use Rattle.glob_pattern.specs.Laws.{SameTexts}
 use Rattle.glob_pattern.proofs.MatchingLemmas.PlainPatterns.{SameTexts-with_case, SameTexts-itself}
-use Rattle.glob_walk.specs.Private.Parts.{same_texts}
+use Rattle.glob_walk.specs.Private.Forms.{same_texts}
 
 -- no byte is a letter of ASCII
 abbrev AreHigh : List ℕ → Type 0

@@ -13,7 +13,7 @@ use Rattle.glob_walk.specs.declared.plan.Plan.{Plan}
 use Rattle.glob_walk.specs.declared.frame.Frame.{Frame}
 use Rattle.glob_walk.specs.declared.frame.Place.{Place}
 use Rattle.glob_walk.specs.declared.frame.Place.TheVariants as place
-use Rattle.glob_walk.specs.Private.Parts.{takes_name}
+use Rattle.glob_walk.specs.Private.Forms.{takes_name}
 use Rattle.glob_walk.specs.Private.Tasks.{enter_from, is_dotted}
 
 -- what is made of an entry that is met: the components from number `at` on follow

@@ -5,12 +5,12 @@ ghost use Rattle.std.specs.Prelude.{◌≡◌, ◌+◌, ◌<◌, None, IfOk, str
 ghost use Rattle.glob_tree.specs.Content.{Content};
 ghost use Rattle.glob_walk.specs.Listing.{is_entered as is_entered_entry};
 ghost use Rattle.glob_text.specs.Text.{Text};
-ghost use Rattle.glob_walk.specs.Private.Parts.{takes_name};
+ghost use Rattle.glob_walk.specs.Private.Forms.{takes_name};
 ghost use Rattle.glob_walk.specs.Private.Tasks.{next_marks, next_ready, question_of, IsNextSound};
 ghost use Rattle.glob_walk.specs.Private.Frames.{first_part, first_marks, second_marks, met_marks, special_marks, IsEntrySound};
 
+use crate::component::Component;
 use crate::frame::Frame;
-use crate::part::Part;
 use crate::path_text::{begins_with_dot, child, join};
 use crate::plan::Plan;
 use crate::task::{Sight, Task, Wanted};
@@ -130,7 +130,7 @@ fn meet<A: Allocator + Copy>(
 /// The number `next`, if the component matches the name.
 fn match_at<A: Allocator + Copy>(
     plan: &Plan<A>,
-    component: &Part<A>,
+    component: &Component<A>,
     next: usize,
     name: &str,
 ) -> Result<Option<usize>, AllocError>

@@ -6,7 +6,7 @@ use Rattle.glob_text.specs.Characters.{slash}
 use Rattle.glob_text.specs.Pieces.{pieces}
 use Rattle.glob_walk.specs.Components.{first_fault, is_recursive}
 use Rattle.glob_walk.specs.Private.Merging.{merged, merged_after}
-use Rattle.glob_walk.specs.Private.Parts.{text_fault}
+use Rattle.glob_walk.specs.Private.Forms.{text_fault}
 use Rattle.glob_walk.specs.Walks.{RefusesWith}
 use Rattle.glob_walk.proofs.WalkLemmas.Merging.{merged-skip, merged-push}
 use Rattle.glob_walk.proofs.WalkLemmas.Reading.{split_at_turn, first_fault-push, RefusesWith-first, IfErr-from_known}

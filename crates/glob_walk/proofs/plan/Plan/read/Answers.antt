@@ -1,7 +1,7 @@
 use Rattle.std.proofs.Common.{false, sym, ap, subst, ◌∙◌}
 use Rattle.glob_text.specs.Pieces.{pieces}
 use Rattle.glob_walk.specs.Components.{first_fault}
-use Rattle.glob_walk.specs.Private.Parts.{text_fault}
+use Rattle.glob_walk.specs.Private.Forms.{text_fault}
 use Rattle.glob_walk.specs.Walks.{RefusesWith}
 use Rattle.glob_walk.proofs.WalkLemmas.Reading.{walk_fault-whole, walk_fault-components, IfErr-from_known}
 use Rattle.glob_walk.specs.Private.Merging.{are_merged}

@@ -8,15 +8,15 @@ use Rattle.glob_pattern.specs.declared.options.MatchOptions.{MatchOptions}
 use Rattle.glob_pattern.specs.Grammar.Faults.{Fault}
 use Rattle.glob_pattern.specs.Computing.Reading.{reading_of}
 use Rattle.glob_walk.specs.Components.{ComponentKind, Literal, Recursive, Wild, component_kind, is_recursive, matches_name}
-use Rattle.glob_walk.specs.declared.part.Form.{Form}
-use Rattle.glob_walk.specs.declared.part.Form.TheVariants as form
-use Rattle.glob_walk.specs.declared.part.PartKind.{PartKind}
-use Rattle.glob_walk.specs.declared.part.PartKind.TheVariants as part
+use Rattle.glob_walk.specs.declared.component.Form.{Form}
+use Rattle.glob_walk.specs.declared.component.Form.TheVariants as form
+use Rattle.glob_walk.specs.declared.component.Kind.{Kind}
+use Rattle.glob_walk.specs.declared.component.Kind.TheVariants as kind
 
-abbrev pub kind_told : PartKind → ComponentKind
-kind_told part.Literal = Literal
-kind_told part.Recursive = Recursive
-kind_told part.Wild = Wild
+abbrev pub kind_said : Kind → ComponentKind
+kind_said kind.Literal = Literal
+kind_said kind.Recursive = Recursive
+kind_said kind.Wild = Wild
 
 -- the component's text
 abbrev pub form_text : {A : Type 0} → Form A → Text

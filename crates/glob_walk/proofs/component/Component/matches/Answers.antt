@@ -1,9 +1,9 @@
 use Rattle.std.proofs.Common.{rules, ◌≡◌, ap, sym, ◌∙◌, true, false, subst}
 use Rattle.std.specs.Prelude.{IfOk}
 use Rattle.glob_walk.specs.Components.{Wild, component_kind, is_literal, is_recursive}
-use Rattle.glob_walk.specs.Private.Parts.{form_text, form_kind, takes_name}
+use Rattle.glob_walk.specs.Private.Forms.{form_text, form_kind, takes_name}
 use Rattle.glob_walk.proofs.WalkLemmas.Literals.{literal_kind, literal_recursive, wild_kind, takes_same, matches_name-literal, matches_name-result}
-use Rattle.glob_walk.proofs.part.Part.matches.Goals as goal
+use Rattle.glob_walk.proofs.component.Component.matches.Goals as goal
 
 pub returns-in-Literal : goal.returns-in-Literal
 returns-in-Literal g c =

@@ -3,7 +3,7 @@ ghost use Rattle.std.specs.Prelude.{◌≡◌, None, IfOk, IfErr};
 ghost use Rattle.std.specs.List.{list_any};
 ghost use Rattle.glob_pattern.specs.Grammar.Characters.{is_wildcard};
 ghost use Rattle.glob_walk.specs.Components.{component_kind, is_special_name, is_literal as is_literal_text, is_recursive as is_recursive_text};
-ghost use Rattle.glob_walk.specs.Private.Parts.{kind_told, same_texts, takes_name, text_fault};
+ghost use Rattle.glob_walk.specs.Private.Forms.{kind_said, same_texts, takes_name, text_fault};
 ghost use Rattle.glob_walk.specs.Walks.{RefusesWith};
 
 use glob_pattern::{MatchOptions, Pattern, PatternRefusal};
@@ -21,7 +21,7 @@ enum Form<A: Allocator> {
 
 /// How a component is met.
 #[derive(Clone, Copy)]
-pub enum PartKind {
+pub enum Kind {
     /// It has no wildcard, and its text is looked up.
     Literal,
     /// It is `**`, the recursive wildcard.
@@ -32,13 +32,13 @@ pub enum PartKind {
 
 /// A component of a pattern. Contracts see its text.
 #[derive(Drop)]
-pub struct Part<A: Allocator> {
+pub struct Component<A: Allocator> {
     form: Form<A>,
 }
 
-impl<A: Allocator> Model for Part<A> {
+impl<A: Allocator> Model for Component<A> {
     ghost use Rattle.std.specs.Prelude.{List, ℕ};
-    ghost use Rattle.glob_walk.specs.Private.Parts.{form_text, KeepsKind};
+    ghost use Rattle.glob_walk.specs.Private.Forms.{form_text, KeepsKind};
 
     ghost Value = { List ℕ };
 
@@ -47,15 +47,15 @@ impl<A: Allocator> Model for Part<A> {
     ghost invariant = { λ p. KeepsKind p.form };
 }
 
-impl<A: Allocator> Part<A> {
+impl<A: Allocator> Component<A> {
     /// How it is met.
-    pub fn kind(&self) -> PartKind
-        ensures { kind_told result ≡ component_kind self.now }
+    pub fn kind(&self) -> Kind
+        ensures { kind_said result ≡ component_kind self.now }
     {
         match &self.form {
-            Form::Literal(_) => PartKind::Literal,
-            Form::Recursive => PartKind::Recursive,
-            Form::Wild(_) => PartKind::Wild,
+            Form::Literal(_) => Kind::Literal,
+            Form::Recursive => Kind::Recursive,
+            Form::Wild(_) => Kind::Wild,
         }
     }
 
@@ -81,7 +81,7 @@ impl<A: Allocator> Part<A> {
     }
 }
 
-impl<A: Allocator + Copy> Part<A> {
+impl<A: Allocator + Copy> Component<A> {
     /// Reads a component. One with a fault is refused with it; and any may be refused with `Memory`.
     pub fn read(alloc: A, text: &str) -> Result<Self, PatternRefusal>
         ensures text { IfOk result (λ part. part ≡ text.now) }
@@ -95,7 +95,7 @@ impl<A: Allocator + Copy> Part<A> {
         } else {
             Form::Wild(compile(alloc, text)?)
         };
-        Ok(Part { form })
+        Ok(Component { form })
     }
 
     /// Refuses a text that has a fault, and keeps nothing of it. Any text with a wildcard may be refused with `Memory`.

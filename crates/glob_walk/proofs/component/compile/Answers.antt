@@ -1,5 +1,5 @@
 use Rattle.glob_walk.proofs.WalkLemmas.Reading.{accepted_result, refused_result}
-use Rattle.glob_walk.proofs.part.compile.Goals as goal
+use Rattle.glob_walk.proofs.component.compile.Goals as goal
 
 pub returns-clause-accepted : goal.returns-clause-accepted
 returns-clause-accepted g c = accepted_result c.args.text.now c.new.result c.new.ensures.accepted
