@@ -1,28 +1,28 @@
 -- A walk whose items are written as they come.
-use Rattle.std.proofs.Common.{◌≡◌, ℕ, ◌⊎◌, inl, inr, true, false, Option, Some, None, List, [], ◌∷◌, ◌++◌, map, filter_map, Result, Ok, Err, refl, ap, sym, subst, ◌∙◌, append-nil, append_assoc}
-use Rattle.std.specs.Prelude.{MatchResult, ⊤}
-use Rattle.std.specs.Io.KnownBytes.{Appends, Keeps}
+use Rattle.std.proofs.Common.{◌≡◌, ℕ, ◌+◌, ◌-◌, ◌*◌, ◌<◌, ◌≤◌, ◌⊎◌, inl, inr, true, false, Option, List, [], ◌∷◌, ◌++◌, Result, Ok, Err, refl, ap, sym, subst, ◌∙◌, append-nil, arith}
+use Rattle.std.specs.Prelude.{⊤}
+use Rattle.std.specs.Io.KnownBytes.{Appends}
 use Rattle.std.specs.Path.{path_buf_bytes}
 use Rattle.std.specs.declared.io.ErrorKind.{ErrorKind}
 use Rattle.std.specs.declared.path.buf.PathBuf.{PathBuf}
-use Rattle.std.proofs.KnownBytes.{Appends-nil, Appends-trans, Appends-kept}
+use Rattle.std.proofs.KnownBytes.{Appends-nil}
 use Rattle.std.proofs.lemmas.List.Concat.{flat_map-append}
 use Rattle.glob.specs.Answers.{IsTold}
 use Rattle.glob.specs.Content.{Content}
+use Rattle.glob.specs.Machines.{MachineState, Saying, AsksLook, AsksList, Says, Ends, IsAskedAfter, IsCharged, StepCounts, StepGoes, is_last_said, left_of, outcome_said, units_said}
 use Rattle.glob.specs.Lines.{ended_line, with_line_feeds}
-use Rattle.glob.specs.Marks.{Mark, Item, Found, Unread, items, paths, IsBeginning}
+use Rattle.glob.specs.Marks.{Mark, Item, Found, Unread, items, cost, front, paths, IsBeginning}
+use Rattle.glob.specs.Questions.{IsSomeContent}
 use Rattle.glob.specs.Text.{Text}
+use Rattle.glob.specs.Driven.{HasGiven, GivesNext}
 use Rattle.glob.specs.Types.{End, GlobCause, GlobError}
 use Rattle.glob.specs.Variants.End as end
 use Rattle.glob.specs.Variants.GlobCause as cause
-use Rattle.glob.specs.WalkGoals.{item_of}
-use Rattle.glob.specs.Walks.{Outcome, Gives, LimitAt, NoMemory, outcome, error_outcome, AreItems, Walking, IsFresh, Goes}
-use Rattle.glob.proofs.WalkLemmas.{done_walk, limited_walk}
+use Rattle.glob.specs.Walks.{Outcome, Gives, LimitAt, NoMemory, outcome, error_outcome, item_number}
 use Rattle.glob_walk.proofs.ListingLemmas.Marks.{IsBeginning-append}
-use Rattle.glob_walk.proofs.WalkLemmas.Gathering.{Gathers, Gathers-none, Gathers-item, Ends-done, Ends-refusal}
-use Rattle.glob_run.specs.FoundPaths.{FindsPaths, FindsSomeBytes, GaveItems, has_any, has_unread, noting}
-use Rattle.glob_run.specs.Outcomes.{AppendsSome}
-use Rattle.glob_run.proofs.WritingLemmas.{AppendsSome-front, AppendsSome-more}
+use Rattle.glob_run.specs.FoundPaths.{FindsPaths, FindsSomeBytes, GaveItems, has_any, has_unread, item_line, noting}
+use Rattle.glob_run.specs.Outcomes.{AppendsSome, Queues}
+use Rattle.glob_run.proofs.WritingLemmas.{Queues-all, Queues-some, Queues-more, Queues-trans}
 use Rattle.glob_run.specs.declared.find.findings.Findings.{Findings}
 
 paths-append : (is js : List Item) → paths (is ++ js) ≡ paths is ++ paths js
@@ -44,67 +44,61 @@ has_unread-push [] p k = refl
 has_unread-push (Found q ∷ is) p k = has_unread-push is p k
 has_unread-push (Unread q l ∷ is) p k = refl
 
-given_back : (is : List Item) → filter_map item_of (map Gives is) ≡ is
-given_back [] = refl
-given_back (i ∷ is) = ap (λ js. i ∷ js) (given_back is)
-
--- items that are said alike are the same
-same_items : (is js : List Item) → map Gives is ≡ map Gives js → is ≡ js
-same_items is js e = sym (given_back is) ∙ ap (filter_map item_of) e ∙ given_back js
-
-map-push : {X Y : Type 0} (f : X → Y) (xs : List X) (x : X) → map f (xs ++ x ∷ []) ≡ map f xs ++ f x ∷ []
-map-push f [] x = refl
-map-push f (y ∷ xs) x = ap (λ ys. f y ∷ ys) (map-push f xs x)
-
 -- the lines of a beginning of the items are a beginning of those of all items
 lines_begin : (given more all : List Item) → all ≡ given ++ more → with_line_feeds (paths all) ≡ with_line_feeds (paths given) ++ with_line_feeds (paths more)
 lines_begin given more all split = ap (λ is. with_line_feeds (paths is)) split ∙ ap with_line_feeds (paths-append given more) ∙ flat_map-append ended_line (paths given) (paths more)
 
--- what holds of a walk over a known content
-abbrev pub Told : {X : Type 0} → (X → Option Content) → Walking X → (List Mark → Type 0) → Type 0
-Told tells first P = (c : Content) → IsTold (tells first.tree) c → (ms : List Mark) → first.left ≡ Some ms → P ms
-
--- the items begin what the walk gives
-abbrev pub Begins : {X : Type 0} → (X → Option Content) → Walking X → List Item → Type 0
-Begins tells first is = Told tells first (λ ms. IsBeginning is (items ms))
+-- what holds of a walk from its beginning on, over a known content
+abbrev pub Over : {X A : Type 0} → (X → Option Content) → X → MachineState A → (List Mark → Content → Type 0) → Type 0
+Over tells of first P = (c : Content) → IsTold (tells of) c → (ms : List Mark) → HasGiven ms c [] first → P ms c
 
 -- the walk is still going on, or it came to an end within which it gave these items
-abbrev pub GoesOn : {X A : Type 0} → (X → ℕ) → (X → Option Content) → Walking X → List (Result (PathBuf A) (GlobError A)) → List Item → Walking X → End → Type 0
-GoesOn asks tells first answers given now e =
-    ((e ≡ end.Done) × Gathers asks tells first answers now)
-    ⊎ ((now.over ≡ true) × Told tells first (λ ms. GaveItems ms first.limit e given))
+abbrev pub GoesOn : {X A : Type 0} → (X → Option Content) → X → MachineState A → List Item → Saying → MachineState A → End → Type 0
+GoesOn tells of first given s walk e =
+    ((e ≡ end.Done) × Over tells of first (λ ms c. GivesNext ms c given s walk))
+    ⊎ ((s ≡ Ends) × Over tells of first (λ ms c. GaveItems ms first.limit e given))
 
--- A walk from its beginning on, whose items were written as they came. After a refusal it is over.
-pub record Written {X : Type 0} (A : Type 0) (asks : X → ℕ) (tells : X → Option Content) (first : Walking X) (old : Option (List ℕ)) (now : Walking X) (new : Option (List ℕ)) (findings : Findings) : Type 0 where
-  pub answers : List (Result (PathBuf A) (GlobError A))
+-- A walk after one of its steps. The items before that step were written, or wait.
+pub record Written {X A : Type 0} (tells : X → Option Content) (of : X) (first : MachineState A) (old : Option (List ℕ)) (tree : X) (s : Saying) (walk : MachineState A) (findings : Findings) (held : Option (List ℕ)) (waiting : List ℕ) : Type 0 where
   pub given : List Item
-  pub are : AreItems answers given
-  pub appended : Appends old new (with_line_feeds (paths given))
+  pub same : tells tree ≡ tells of
+  pub limit : walk.limit ≡ first.limit
+  pub within : walk.spent ≤ walk.limit
+  pub few : walk.given ≤ walk.spent + 1
+  pub asks : IsAskedAfter s walk.asked
+  pub ends : walk.over ≡ is_last_said s
+  pub queued : Queues old [] held waiting (with_line_feeds (paths given))
   pub path : findings.has_path ≡ has_any (paths given)
   pub error : findings.has_error ≡ has_unread given
-  pub begins : Begins tells first given
-  pub going : GoesOn asks tells first answers given now findings.end
+  pub begins : Over tells of first (λ ms c. IsBeginning given (items ms))
+  pub going : GoesOn tells of first given s walk findings.end
 
-begins_from : {X A : Type 0} (asks : X → ℕ) (tells : X → Option Content) (first now : Walking X) (answers : List (Result (PathBuf A) (GlobError A))) (given : List Item)
-    → Gathers asks tells first answers now → AreItems answers given → Begins tells first given
-begins_from asks tells first now answers given g are c told ms is =
-    let (rest, had, got) = g.walk c told ms is in
-    subst (λ js. IsBeginning js (items ms)) (same_items (items got.done) given (sym got.given ∙ are))
-    (subst (λ l. IsBeginning (items got.done) (items l)) (sym got.whole) (IsBeginning-append got.done rest))
+-- what a step says of the items, over each content that fits
+abbrev pub TellsStep : {A : Type 0} → (Content → Type 0) → MachineState A → Saying → MachineState A → Type 0
+TellsStep Fits walk s new = (c : Content) → (all : List Mark) → (given : List Item) → Fits c → HasGiven all c given walk → GivesNext all c given s new
 
-pub Written-none : {X A : Type 0} (asks : X → ℕ) (tells : X → Option Content) (first : Walking X) (old : Option (List ℕ)) (findings : Findings) → IsFresh first.tree first.limit first
-    → findings.end ≡ end.Done → findings.has_path ≡ false → findings.has_error ≡ false
-    → Written A asks tells first old first old findings
-Written-none {A = A} asks tells first old findings fresh done path error = record {
-  answers = [];
+pub Written-first : {X A : Type 0} (tells : X → Option Content) (of : X) (first walk : MachineState A) (old : Option (List ℕ)) (s : Saying) (findings : Findings)
+    → findings.end ≡ end.Done → findings.has_path ≡ false → findings.has_error ≡ false → StepGoes IsSomeContent 0 first s walk → TellsStep IsSomeContent first s walk
+    → Written tells of first old of s walk findings old []
+Written-first tells of first walk old s findings done path error goes next = record {
   given = [];
-  are = refl;
-  appended = Appends-nil old;
+  same = refl;
+  limit = goes.counts.limit;
+  within = goes.counts.within;
+  few = goes.counts.few;
+  asks = goes.counts.asks;
+  ends = goes.counts.ends;
+  queued = ([], Appends-nil old, refl);
   path = path;
   error = error;
-  begins = begins_from {A = A} asks tells first first [] [] (Gathers-none asks tells first fresh) refl;
-  going = inl (done, Gathers-none asks tells first fresh);
+  begins = λ c told ms begun. (items ms, refl);
+  going = inl (done, λ c told ms begun. next c ms [] told.1 begun);
 }
+
+begins_from : {A : Type 0} (c : Content) (ms : List Mark) (given : List Item) (walk : MachineState A) → HasGiven ms c given walk → IsBeginning given (items ms)
+begins_from c ms given walk h =
+    subst (λ js. IsBeginning js (items ms)) (sym h.same)
+    (subst (λ l. IsBeginning (items h.done) (items l)) (sym h.whole) (IsBeginning-append h.done (left_of c walk)))
 
 -- an error of a walk is no path
 abbrev IsNoPath : Outcome → Type 0
@@ -118,121 +112,183 @@ no_path cause.Read e = tt
 no_path cause.Memory e = tt
 no_path cause.Limit e = tt
 
-module _ {X A : Type 0} (asks : X → ℕ) (tells : X → Option Content) (first : Walking X) (old : Option (List ℕ)) (now new : Walking X) (was is : Option (List ℕ)) (findings : Findings)
-    (w : Written A asks tells first old now was findings) where
-  -- the walk was not over, since it gave something
-  still : (o : Outcome) → Goes asks tells now (Some o) new → GoesOn asks tells first w.answers w.given now findings.end
-      → (findings.end ≡ end.Done) × Gathers asks tells first w.answers now
-  still o goes (inl g) = g
-  still o goes (inr over) = let none : Some o ≡ None = (goes.counts.stays over.0).0 in absurd (cc)
-
-  -- one item more was gathered
-  gathered : (answer : Result (PathBuf A) (GlobError A)) (item : Item) → outcome answer ≡ Gives item → Goes asks tells now (Some (Gives item)) new → Gathers asks tells first (w.answers ++ answer ∷ []) new
-  gathered answer item says goes = Gathers-item asks tells first now new w.answers (still (Gives item) goes w.going).1 answer item says goes
-
-  are_more : (answer : Result (PathBuf A) (GlobError A)) (item : Item) → outcome answer ≡ Gives item → AreItems (w.answers ++ answer ∷ []) (w.given ++ item ∷ [])
-  are_more answer item says =
-      map-push outcome w.answers answer ∙ ap (λ os. os ++ outcome answer ∷ []) w.are ∙ ap (λ o. map Gives w.given ++ o ∷ []) says ∙ sym (map-push Gives w.given item)
-
-  -- a path was given
-  path_begins : (path : PathBuf A) → Goes asks tells now (Some (outcome {A = A} (Ok path))) new → Begins tells first (w.given ++ Found (path_buf_bytes path) ∷ [])
-  path_begins path goes =
-      let item : Item = Found (path_buf_bytes path) in
-      begins_from asks tells first new _ _ (gathered (Ok path) item refl goes) (are_more (Ok path) item refl)
-
-  path_lines : (text : Text) → with_line_feeds (paths (w.given ++ Found text ∷ [])) ≡ with_line_feeds (paths w.given) ++ ended_line text
-  path_lines text = lines_begin w.given (Found text ∷ []) _ refl ∙ ap (λ l. with_line_feeds (paths w.given) ++ l) (append-nil (ended_line text))
-
-  -- and written
-  Written-path : (path : PathBuf A) → Goes asks tells now (Some (outcome {A = A} (Ok path))) new → Appends was is (ended_line (path_buf_bytes path))
-      → Written A asks tells first old new is (noting findings (outcome {A = A} (Ok path)))
-  Written-path path goes wrote =
-      let text = path_buf_bytes path in
-      let item : Item = Found text in
-      record {
-        answers = w.answers ++ Ok path ∷ [];
-        given = w.given ++ item ∷ [];
-        are = are_more (Ok path) item refl;
-        appended = subst (Appends old is) (sym (path_lines text)) (Appends-trans old was is (with_line_feeds (paths w.given)) (ended_line text) w.appended wrote);
-        path = sym (ap has_any (paths-append w.given (item ∷ [])) ∙ has_any-push (paths w.given) text);
-        error = w.error ∙ sym (has_unread-found w.given text);
-        begins = path_begins path goes;
-        going = inl ((still _ goes w.going).0, gathered (Ok path) item refl goes);
-      }
-
-  kept : Keeps was is → Appends old is (with_line_feeds (paths w.given))
-  kept same = Appends-kept old was is (with_line_feeds (paths w.given)) w.appended same
-
-  -- a refusal ended the walk
-  Written-refusal : (e : End) → Keeps was is → new.over ≡ true → Told tells first (λ ms. GaveItems ms first.limit e w.given)
-      → Written A asks tells first old new is (record findings { end = e })
-  Written-refusal e same over gave = record {
-    answers = w.answers;
+module _ {X A : Type 0} (tells : X → Option Content) (of : X) (first : MachineState A) (old : Option (List ℕ)) (tree : X) (walk : MachineState A) (findings : Findings) (held : Option (List ℕ)) (waiting : List ℕ) where
+  -- the tree answered a question
+  pub Written-answer : (s s' : Saying) → units_said s ≡ 1 → Written tells of first old tree s walk findings held waiting
+      → (tree' : X) (walk' : MachineState A) (held' : Option (List ℕ)) (waiting' : List ℕ) (n : ℕ) (Fits : Content → Type 0) → tells tree' ≡ tells tree → Queues held waiting held' waiting' []
+      → ((x : Content) → IsTold (tells tree) x → Fits x) → StepGoes Fits n walk s' walk' → TellsStep Fits walk s' walk'
+      → Written tells of first old tree' s' walk' findings held' waiting'
+  Written-answer s s' question w tree' walk' held' waiting' n Fits same queued fits goes next = record {
     given = w.given;
-    are = w.are;
-    appended = kept same;
+    same = same ∙ w.same;
+    limit = goes.counts.limit ∙ w.limit;
+    within = goes.counts.within;
+    few = goes.counts.few;
+    asks = goes.counts.asks;
+    ends = goes.counts.ends;
+    queued = subst (Queues old [] held' waiting') (append-nil (with_line_feeds (paths w.given)))
+        (Queues-trans old held held' [] waiting waiting' (with_line_feeds (paths w.given)) [] w.queued queued);
     path = w.path;
     error = w.error;
     begins = w.begins;
-    going = inr (over, gave);
+    going = still w.going;
   }
+    where
+      kept : (s : Saying) (c : Content) (ms : List Mark) → units_said s ≡ 1 → GivesNext ms c w.given s walk → HasGiven ms c w.given walk
+      kept AsksLook c ms q h = h
+      kept AsksList c ms q h = h
+      kept (Says o) c ms q h = absurd (omega (arith, q))
+      kept Ends c ms q h = absurd (omega (arith, q))
 
-  -- an error was told
-  Written-error : (e : GlobError A) (o : Outcome) → error_outcome e.cause e ≡ o → IsNoPath o → Goes asks tells now (Some o) new → Keeps was is
-      → Written A asks tells first old new is (noting findings o)
-  Written-error e (Gives (Found p)) says plain goes same = absurd plain
-  Written-error e (Gives (Unread p k)) says plain goes same =
-      let item : Item = Unread p k in
-      let more = gathered (Err e) item says goes in
-      record {
-        answers = w.answers ++ Err e ∷ [];
-        given = w.given ++ item ∷ [];
-        are = are_more (Err e) item says;
-        appended = subst (λ ps. Appends old is (with_line_feeds ps)) (sym (paths-append w.given (item ∷ []) ∙ append-nil (paths w.given))) (kept same);
-        path = w.path ∙ sym (ap has_any (paths-append w.given (item ∷ []) ∙ append-nil (paths w.given)));
-        error = sym (has_unread-push w.given p k);
-        begins = begins_from asks tells first new _ _ more (are_more (Err e) item says);
-        going = inl ((still _ goes w.going).0, more);
+      still : GoesOn tells of first w.given s walk findings.end → GoesOn tells of first w.given s' walk' findings.end
+      still (inl (done, said)) = inl (done, λ c told ms begun. next c ms w.given (fits c (w.same ∙ told.0, told.1)) (kept s c ms question (said c told ms begun)))
+      still (inr (is, gave)) = let z : units_said s ≡ 0 = ap units_said is in absurd (omega (arith, z, question))
+
+  -- some of the lines that wait were written
+  pub Written-before : (s : Saying) → Written tells of first old tree s walk findings held waiting → (held' : Option (List ℕ)) → AppendsSome held held' waiting
+      → Over tells of first (λ ms c. FindsSomeBytes ms old held')
+  Written-before s w held' some c told ms begun =
+      let (rest, split) = w.begins c told ms begun in
+      Queues-some old held held' _ waiting (with_line_feeds (paths w.given)) (with_line_feeds (paths rest)) (lines_begin w.given rest (items ms) split) w.queued some
+
+  -- all lines were written, and nothing is left of the walk
+  pub Written-end : (s : Saying) → s ≡ Ends → Written tells of first old tree s walk findings held waiting → (held' : Option (List ℕ)) (waiting' : List ℕ) → Queues held waiting held' waiting' [] → waiting' ≡ []
+      → Over tells of first (λ ms c. FindsPaths ms first.limit old held' findings)
+  Written-end s is w held' waiting' queued none c told ms begun = (w.given, gave w.going, all, w.path, w.error)
+    where
+      lines : List ℕ
+      lines = with_line_feeds (paths w.given)
+
+      all : Appends old held' lines
+      all = Queues-all old held' lines (subst (Queues old [] held' []) (append-nil lines)
+          (Queues-trans old held held' [] waiting [] lines [] w.queued (subst (λ l. Queues held waiting held' l []) none queued)))
+
+      gave : GoesOn tells of first w.given s walk findings.end → GaveItems ms first.limit findings.end w.given
+      gave (inr over) = over.1 c told ms begun
+      gave (inl (done, said)) =
+          let (are, units) = subst (λ o. GivesNext ms c w.given o walk) is (said c told ms begun) in
+          let enough : cost ms ≤ first.limit = omega (arith, w.within, w.limit, units) in
+          subst (λ e. GaveItems ms first.limit e w.given) (sym done) (enough, are)
+
+  module _ (o : Outcome) (w : Written tells of first old tree (Says o) walk findings held waiting) where
+    going_on : GoesOn tells of first w.given (Says o) walk findings.end → (findings.end ≡ end.Done) × Over tells of first (λ ms c. GivesNext ms c w.given (Says o) walk)
+    going_on (inl said) = said
+    going_on (inr (is, gave)) = absurd (cc)
+
+    path_lines : (text : Text) → with_line_feeds (paths (w.given ++ Found text ∷ [])) ≡ with_line_feeds (paths w.given) ++ ended_line text
+    path_lines text = lines_begin w.given (Found text ∷ []) _ refl ∙ ap (λ l. with_line_feeds (paths w.given) ++ l) (append-nil (ended_line text))
+
+    -- the item is one of the listing
+    more : (item : Item) → o ≡ Gives item → Over tells of first (λ ms c. HasGiven ms c (w.given ++ item ∷ []) walk)
+    more item is c told ms begun = subst (λ p. GivesNext ms c w.given (Says p) walk) is ((going_on w.going).1 c told ms begun)
+
+    -- a path could not be written
+    path_fault : (text : Text) → o ≡ Gives (Found text) → (held' : Option (List ℕ)) → AppendsSome held held' (waiting ++ ended_line text) → Over tells of first (λ ms c. FindsSomeBytes ms old held')
+    path_fault text is held' some c told ms begun =
+        let (rest, split) = begins_from c ms (w.given ++ Found text ∷ []) walk (more (Found text) is c told ms begun) in
+        Queues-more old held held' _ waiting (with_line_feeds (paths w.given)) (ended_line text) (with_line_feeds (paths rest))
+        (lines_begin (w.given ++ Found text ∷ []) rest (items ms) split ∙ ap (λ l. l ++ with_line_feeds (paths rest)) (path_lines text)) w.queued some
+
+    module _ (s' : Saying) (walk' : MachineState A) (held' : Option (List ℕ)) (waiting' : List ℕ) (goes : StepGoes IsSomeContent 0 walk s' walk') (next : TellsStep IsSomeContent walk s' walk') where
+      kept : Queues held waiting held' waiting' [] → Queues old [] held' waiting' (with_line_feeds (paths w.given))
+      kept queued = subst (Queues old [] held' waiting') (append-nil (with_line_feeds (paths w.given)))
+          (Queues-trans old held held' [] waiting waiting' (with_line_feeds (paths w.given)) [] w.queued queued)
+
+      -- a path was added
+      Written-path : (text : Text) → o ≡ Gives (Found text) → Queues held waiting held' waiting' (ended_line text)
+          → Written tells of first old tree s' walk' (record findings { has_path = true }) held' waiting'
+      Written-path text is queued = record {
+        given = w.given ++ Found text ∷ [];
+        same = w.same;
+        limit = goes.counts.limit ∙ w.limit;
+        within = goes.counts.within;
+        few = goes.counts.few;
+        asks = goes.counts.asks;
+        ends = goes.counts.ends;
+        queued = subst (Queues old [] held' waiting') (sym (path_lines text))
+            (Queues-trans old held held' [] waiting waiting' (with_line_feeds (paths w.given)) (ended_line text) w.queued queued);
+        path = sym (ap has_any (paths-append w.given (Found text ∷ [])) ∙ has_any-push (paths w.given) text);
+        error = w.error ∙ sym (has_unread-found w.given text);
+        begins = λ c told ms begun. begins_from c ms (w.given ++ Found text ∷ []) walk (more (Found text) is c told ms begun);
+        going = inl ((going_on w.going).0, λ c told ms begun. next c ms (w.given ++ Found text ∷ []) told.1 (more (Found text) is c told ms begun));
       }
-  Written-error e (LimitAt p) says plain goes same =
-      let g = (still _ goes w.going).1 in
-      Written-refusal end.Limit same goes.counts.ends (λ c told ms left.
-      let whole = limited_walk w.answers ms first.limit new.spent ((Ends-refusal asks tells first now new w.answers g (LimitAt p) end.Limit refl goes).walk c told ms left) in
-      (whole.0, same_items w.given _ (sym w.are ∙ whole.2)))
-  Written-error e NoMemory says plain goes same = Written-refusal end.Memory same goes.counts.ends w.begins
 
-  -- an item was written
-  pub Written-item : (item : Result (PathBuf A) (GlobError A)) → Goes asks tells now (Some (outcome item)) new
-      → MatchResult item (λ path. Appends was is (ended_line (path_buf_bytes path))) (λ _. Keeps was is)
-      → Written A asks tells first old new is (noting findings (outcome item))
-  Written-item (Ok path) goes wrote = Written-path path goes wrote
-  Written-item (Err e) goes same = Written-error e (error_outcome e.cause e) refl (no_path e.cause e) goes same
+      -- a directory could not be listed
+      Written-unread : (p : Text) (k : ErrorKind) → o ≡ Gives (Unread p k) → Queues held waiting held' waiting' []
+          → Written tells of first old tree s' walk' (record findings { has_error = true }) held' waiting'
+      Written-unread p k is queued =
+          let none = paths-append w.given (Unread p k ∷ []) ∙ append-nil (paths w.given) in
+          record {
+            given = w.given ++ Unread p k ∷ [];
+            same = w.same;
+            limit = goes.counts.limit ∙ w.limit;
+            within = goes.counts.within;
+            few = goes.counts.few;
+            asks = goes.counts.asks;
+            ends = goes.counts.ends;
+            queued = subst (λ ps. Queues old [] held' waiting' (with_line_feeds ps)) (sym none) (kept queued);
+            path = w.path ∙ sym (ap has_any none);
+            error = sym (has_unread-push w.given p k);
+            begins = λ c told ms begun. begins_from c ms (w.given ++ Unread p k ∷ []) walk (more (Unread p k) is c told ms begun);
+            going = inl ((going_on w.going).0, λ c told ms begun. next c ms (w.given ++ Unread p k ∷ []) told.1 (more (Unread p k) is c told ms begun));
+          }
 
-  -- the paths that were written before a fault
-  pub Written-before : Keeps was is → Told tells first (λ ms. FindsSomeBytes ms old is)
-  Written-before same c told ms left =
-      let (rest, split) = w.begins c told ms left in
-      AppendsSome-front old is _ _ _ (lines_begin w.given rest (items ms) split) (kept same)
+      -- a refusal ended the walk
+      Written-refusal : (e : End) → is_last_said (Says o) ≡ true → Queues held waiting held' waiting' [] → Over tells of first (λ ms c. GaveItems ms first.limit e w.given)
+          → Written tells of first old tree s' walk' (record findings { end = e }) held' waiting'
+      Written-refusal e last queued gave = record {
+        given = w.given;
+        same = w.same;
+        limit = goes.counts.limit ∙ w.limit;
+        within = goes.counts.within;
+        few = goes.counts.few;
+        asks = goes.counts.asks;
+        ends = goes.counts.ends;
+        queued = kept queued;
+        path = w.path;
+        error = w.error;
+        begins = w.begins;
+        going = inr ((goes.counts.stays (w.ends ∙ last)).0, gave);
+      }
+
+      -- an error was reported
+      Written-error : (r : Outcome) → o ≡ r → IsNoPath r → Queues held waiting held' waiting' [] → Written tells of first old tree s' walk' (noting findings r) held' waiting'
+      Written-error (Gives (Found p)) is plain queued = absurd plain
+      Written-error (Gives (Unread p k)) is plain queued = Written-unread p k is queued
+      Written-error (LimitAt p) is plain queued = Written-refusal end.Limit (ap (λ r. is_last_said (Says r)) is) queued (λ c told ms begun.
+          let (all, less, are) = subst (λ r. GivesNext ms c w.given (Says r) walk) is ((going_on w.going).1 c told ms begun) in
+          (subst (λ n. n < cost ms) w.limit less, subst (λ n. w.given ≡ items (front n ms)) w.limit are))
+      Written-error NoMemory is plain queued = Written-refusal end.Memory (ap (λ r. is_last_said (Says r)) is) queued w.begins
+
+  -- an item was written, or waits
+  pub Written-item : (item : Result (PathBuf A) (GlobError A)) → Written tells of first old tree (Says (outcome item)) walk findings held waiting
+      → (s' : Saying) (walk' : MachineState A) (held' : Option (List ℕ)) (waiting' : List ℕ) → Queues held waiting held' waiting' (item_line item)
+      → StepGoes IsSomeContent 0 walk s' walk' → TellsStep IsSomeContent walk s' walk'
+      → Written tells of first old tree s' walk' (noting findings (outcome item)) held' waiting'
+  Written-item (Ok path) w s' walk' held' waiting' queued goes next = Written-path _ w s' walk' held' waiting' goes next (path_buf_bytes path) refl queued
+  Written-item (Err e) w s' walk' held' waiting' queued goes next = Written-error _ w s' walk' held' waiting' goes next (error_outcome e.cause e) refl (no_path e.cause e) queued
 
   -- an item could not be written
-  pub Written-fault : (item : Result (PathBuf A) (GlobError A)) → Goes asks tells now (Some (outcome item)) new
-      → MatchResult item (λ path. AppendsSome was is (ended_line (path_buf_bytes path))) (λ _. Keeps was is)
-      → Told tells first (λ ms. FindsSomeBytes ms old is)
-  Written-fault (Ok path) goes wrote c told ms left =
-      let text = path_buf_bytes path in
-      let (rest, split) = path_begins path goes c told ms left in
-      AppendsSome-more old was is _ (with_line_feeds (paths w.given)) (ended_line text) (with_line_feeds (paths rest))
-      (lines_begin (w.given ++ Found text ∷ []) rest (items ms) split ∙ ap (λ l. l ++ with_line_feeds (paths rest)) (path_lines text)
-      ∙ append_assoc (with_line_feeds (paths w.given)) (ended_line text) (with_line_feeds (paths rest)))
-      w.appended wrote
-  Written-fault (Err e) goes same c told ms left = Written-before same c told ms left
+  pub Written-fault : (item : Result (PathBuf A) (GlobError A)) → Written tells of first old tree (Says (outcome item)) walk findings held waiting
+      → (held' : Option (List ℕ)) → AppendsSome held held' (waiting ++ item_line item) → Over tells of first (λ ms c. FindsSomeBytes ms old held')
+  Written-fault (Ok path) w held' some = path_fault _ w (path_buf_bytes path) refl held' some
+  Written-fault (Err e) w held' some = Written-before _ w held' (subst (AppendsSome held held') (append-nil waiting) some)
 
-  -- the walk has no more items
-  pub Written-end : Goes asks tells now None new → Keeps was is → Told tells first (λ ms. FindsPaths ms first.limit old is findings)
-  Written-end goes same c told ms left = (w.given, gave w.going, kept same, w.path, w.error)
-    where
-      gave : GoesOn asks tells first w.answers w.given now findings.end → GaveItems ms first.limit findings.end w.given
-      gave (inr over) = over.1 c told ms left
-      gave (inl (done, g)) =
-          let whole = done_walk w.answers ms first.limit new.spent ((Ends-done asks tells first now new w.answers g goes).walk c told ms left) in
-          subst (λ e. GaveItems ms first.limit e w.given) (sym done) (whole.0, same_items w.given (items ms) (sym w.are ∙ whole.2))
+-- whether a step follows
+abbrev pub step_number : Saying → ℕ
+step_number AsksLook = 1
+step_number AsksList = 1
+step_number (Says o) = 1
+step_number Ends = 0
+
+-- each step leaves fewer
+pub fewer_steps : {A : Type 0} (n : ℕ) (c c' : MachineState A) (s s' : Saying) → step_number s ≡ 1 → StepCounts n c s' c'
+    → 2 * (c'.limit - c'.spent) + 2 * (c'.limit + 1 - c'.given) + step_number s' < 2 * (c.limit - c.spent) + 2 * (c.limit + 1 - c.given) + step_number s
+fewer_steps {A} n c c' s s' one h = by_saying s' h.charged h.given
+  where
+    by_saying : (x : Saying) → IsCharged n c x c' → c'.given ≡ c.given + item_number (outcome_said x)
+        → 2 * (c'.limit - c'.spent) + 2 * (c'.limit + 1 - c'.given) + step_number x < 2 * (c.limit - c.spent) + 2 * (c.limit + 1 - c.given) + step_number s
+    by_saying AsksLook e g = omega (arith, one, h.limit, h.within, e, g)
+    by_saying AsksList e g = omega (arith, one, h.limit, h.within, e, g)
+    by_saying (Says o) e g = omega (arith, one, h.limit, h.within, h.grows, h.few, g)
+    by_saying Ends e g = omega (arith, one, h.limit, h.within, h.grows, g)

@@ -1,11 +1,13 @@
 -- What `find` writes of a walk.
-use Rattle.std.specs.Prelude.{◌≡◌, ℕ, ◌<◌, ◌≤◌, ◌⊎◌, if◌then◌else◌, Bool, true, false, List, [], ◌∷◌, Option, ⊤}
+use Rattle.std.specs.Prelude.{◌≡◌, ℕ, ◌<◌, ◌≤◌, ◌⊎◌, if◌then◌else◌, Bool, true, false, List, [], ◌∷◌, Option, Result, Ok, Err, ⊤}
 use Rattle.std.specs.Io.KnownBytes.{Appends}
+use Rattle.std.specs.Path.{path_buf_bytes}
+use Rattle.std.specs.declared.path.buf.PathBuf.{PathBuf}
 use Rattle.glob.specs.Components.{walk_fault}
-use Rattle.glob.specs.Lines.{with_line_feeds}
+use Rattle.glob.specs.Lines.{ended_line, with_line_feeds}
 use Rattle.glob.specs.Marks.{Mark, Item, Found, Unread, items, cost, front, paths, IsBeginning}
 use Rattle.glob.specs.Text.{Text}
-use Rattle.glob.specs.Types.{End}
+use Rattle.glob.specs.Types.{End, GlobError}
 use Rattle.glob.specs.Variants.End as end
 use Rattle.glob.specs.Walks.{Outcome, Gives, LimitAt, NoMemory, RefusesWith}
 use Rattle.glob_run.specs.Outcomes.{AppendsSome}
@@ -67,6 +69,18 @@ noting findings (Gives (Unread path kind)) = record findings { has_error = true 
 noting findings (LimitAt path) = record findings { end = end.Limit }
 noting findings NoMemory = record findings { end = end.Memory }
 
+-- What `find` writes, with its status: all that it found, with the status of that; or, with the status 2, a beginning of the
+-- lines of the listing, where it was refused or could not write.
+unfoldable pub WritesFound : (listing : List Mark) → (limit : ℕ) → (old new : Option (List ℕ)) → (status : ℕ) → Type 0
+WritesFound ms limit old new status =
+    ((findings : Findings) × FindsPaths ms limit old new findings × (status ≡ status_of findings))
+    ⊎ ((status ≡ 2) × FindsSomeBytes ms old new)
+
+-- the line of an item of a walk; an error has none
+abbrev pub item_line : {A : Type 0} → Result (PathBuf A) (GlobError A) → List ℕ
+item_line (Ok path) = ended_line (path_buf_bytes path)
+item_line (Err error) = []
+
 -- the pattern was refused
 abbrev pub IsRefusal : FindFault → Type 0
 IsRefusal (Pattern refusal) = ⊤
@@ -76,8 +90,3 @@ IsRefusal (Write error) = ⊥
 abbrev pub IsFindFault : (pattern : Text) → FindFault → Type 0
 IsFindFault pattern (Pattern refusal) = RefusesWith (walk_fault pattern) refusal
 IsFindFault pattern (Write error) = ⊤
-
--- a line could not be written
-abbrev pub IsWrite : FindFault → Type 0
-IsWrite (Pattern refusal) = ⊥
-IsWrite (Write error) = ⊤

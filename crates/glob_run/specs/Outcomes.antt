@@ -1,5 +1,5 @@
 -- What a run comes to: its status, and what its output gained.
-use Rattle.std.specs.Prelude.{◌≡◌, ℕ, ◌<◌, ◌⊎◌, List, Option, chars, take}
+use Rattle.std.specs.Prelude.{◌≡◌, ℕ, ◌<◌, ◌⊎◌, ◌++◌, List, Option, chars, take}
 use Rattle.std.specs.Io.KnownBytes.{Appends, Keeps}
 use Rattle.glob.specs.Escaping.{escaped_text}
 use Rattle.glob.specs.Lines.{FiltersLines, FiltersSomeBytes, ended_line}
@@ -12,6 +12,12 @@ IsRefused old new status = (status ≡ 2) × (new ≡ old)
 -- of the bytes, the first n were written, for some n
 abbrev pub AppendsSome : (old new : Option (List ℕ)) → (bytes : List ℕ) → Type 0
 AppendsSome old new bytes = (n : ℕ) × Appends old new (take n bytes)
+
+-- These bytes follow those that waited, and of all of these the first were written, and the others wait.
+abbrev pub Queues : (old : Option (List ℕ)) → (waiting : List ℕ) → (new : Option (List ℕ)) → (waiting' : List ℕ)
+    → (bytes : List ℕ) → Type 0
+Queues old waiting new waiting' bytes =
+    (written : List ℕ) × Appends old new written × (waiting ++ bytes ≡ written ++ waiting')
 
 -- Status 0: some lines match, and just those were written, in order. Status 1: no line matches, and none was written.
 -- Status 2: of the bytes of the lines that match, the first n were written, for some n.

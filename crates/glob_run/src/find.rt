@@ -1,37 +1,30 @@
 //! The command `find`: what a walk of a tree finds, a line for each path.
-ghost use Rattle.std.specs.Prelude.{◌≡◌, ◌≢◌, ◌≤◌, List, None, Some, IfOk, IfErr, IsErrAnd, MatchResult, OnErr, OnOk};
-ghost use Rattle.std.specs.Io.KnownBytes.{Appends, Keeps};
-ghost use Rattle.std.specs.Path.{path_buf_bytes};
+ghost use Rattle.std.specs.Prelude.{◌≡◌, ◌≢◌, ◌≤◌, ◌++◌, [], List, None, IfOk, IfErr, IsErrAnd, OnErr, OnOk};
 ghost use Rattle.glob.specs.Answers.{IsTold};
 ghost use Rattle.glob.specs.Components.{walk_fault};
 ghost use Rattle.glob.specs.Content.{Content};
-ghost use Rattle.glob.specs.Lines.{ended_line};
 ghost use Rattle.glob.specs.Listing.{listing};
 ghost use Rattle.glob.specs.Marks.{Mark};
-ghost use Rattle.glob.specs.Walks.{IsFresh};
-ghost use Rattle.glob_run.specs.FoundPaths.{FindsPaths, FindsSomeBytes, IsFindFault, IsFindStatus, IsRefusal, IsWrite};
-ghost use Rattle.glob_run.specs.Outcomes.{AppendsSome, IsRefused};
+ghost use Rattle.glob.specs.Driven.{HasGiven};
+ghost use Rattle.glob_run.specs.FoundPaths.{FindsPaths, FindsSomeBytes, IsFindFault, IsFindStatus, IsRefusal, WritesFound, item_line};
+ghost use Rattle.glob_run.specs.Outcomes.{AppendsSome, IsRefused, Queues};
 
 pub mod fault;
 pub mod findings;
-mod flushing_tree;
-mod line_sink;
-pub mod lines;
+mod lines;
 
 use crate::command::Search;
 use crate::{fault, write_line};
 use fault::FindFault;
 use findings::Findings;
-use flushing_tree::FlushingTree;
-use glob::{GlobResult, Paths, Tree, glob_in};
-use line_sink::LineSink;
-use lines::SharedLines;
+use glob::{Entry, GlobResult, ListError, Step, Tree, WalkMachine};
+use lines::Lines;
 use std::alloc::Allocator;
-use std::cell::RefCell;
 use std::io::{self, Write};
 
 /// Walks the tree, writes each path and a line feed to `output` and each error to `errors`, and returns the exit status.
-/// A path waits for others before it is written, but not for long: see [`Lines`](lines::Lines).
+/// A path waits for others before it is written, but not for long: see [`Lines`].
+#[tactic(auto, unfolding(crate::specs::FoundPaths::IsFindStatus, crate::specs::FoundPaths::WritesFound))]
 pub fn run_find<T: Tree, W: Write, E: Write>(
     alloc: T::Alloc,
     tree: T,
@@ -44,68 +37,40 @@ pub fn run_find<T: Tree, W: Write, E: Write>(
         → IsRefused output.old output.new result }
     ensures status { (c : Content) → IsTold (T.tells tree) c → IsFindStatus
         (listing c search.entry.options search.entry.pattern.now) search.entry.limit result }
+    ensures written { (c : Content) → IsTold (T.tells tree) c → WritesFound
+        (listing c search.entry.options search.entry.pattern.now) search.entry.limit
+        (W.contents output.old) (W.contents output.new) result }
 {
-    let cell = RefCell::new(None);
-    let tree = FlushingTree::new(tree, &cell);
-    let mut lines = SharedLines::new(alloc, &mut *output, &cell);
-    let status = find_status(alloc, tree, search, &mut lines, errors);
-    let unused = lines.into_output();
-    if let Some(lines) = cell.into_inner() {
-        lines.abandon();
-    }
-    if let Some(output) = unused {
-        // No effect at run time. The proof reads here that the output is as it was.
-        let _ = &*output;
-    }
-    status
-}
-
-/// The exit status of what [`find_in`] finds. Its fault is told.
-#[tactic(auto, unfolding(crate::specs::FoundPaths::IsFindStatus))]
-fn find_status<T: Tree, S: LineSink, E: Write>(
-    alloc: T::Alloc,
-    tree: T,
-    search: Search<'_>,
-    lines: &mut S,
-    errors: &mut E,
-) -> u8
-    ensures most { result ≤ 2 }
-    ensures refused { walk_fault search.entry.pattern.now ≢ None
-        → IsRefused lines.old lines.new result }
-    ensures status { (c : Content) → IsTold (T.tells tree) c → IsFindStatus
-        (listing c search.entry.options search.entry.pattern.now) search.entry.limit result }
-{
-    match find_in(alloc, tree, search, lines, errors) {
+    match find_in(alloc, tree, search, output, errors) {
         Ok(findings) => findings.status(),
         Err(find_fault) => fault(alloc, errors, find_fault),
     }
 }
 
-/// Walks the tree: each path is a line of `lines`, and each error a line on `errors`, after the paths before it.
+/// Walks the tree: each path is a line of `output`, and each error a line of `errors`, after the paths before it.
 ///
-/// Over files `x` and `y`, `*` adds the lines `x` and `y`. With the limit 3 it adds none, and the walk's end is
-/// `Limit`. If the pattern is refused, `lines` stays as it was. If a line cannot be written, `lines` has the first
+/// Over files `x` and `y`, `*` writes the lines `x` and `y`. With the limit 3 it writes none, and the walk's end is
+/// `Limit`. If the pattern is refused, `output` stays as it was. If a line cannot be written, `output` gained the first
 /// bytes of these lines.
-pub fn find_in<T: Tree, S: LineSink, E: Write>(
+pub fn find_in<T: Tree, W: Write, E: Write>(
     alloc: T::Alloc,
     tree: T,
     search: Search<'_>,
-    lines: &mut S,
+    output: &mut W,
     errors: &mut E,
 ) -> Result<Findings, FindFault>
     ensures refused { walk_fault search.entry.pattern.now ≢ None → IsErrAnd result IsRefusal }
     ensures fault { IfErr result (IsFindFault search.entry.pattern.now) }
-    ensures kept { IsErrAnd result IsRefusal → lines.new ≡ lines.old }
-    ensures written { IfOk result (λ _. S.written lines.new ≡ S.contents lines.new) }
+    ensures kept { IsErrAnd result IsRefusal → output.new ≡ output.old }
     ensures paths { (c : Content) → IsTold (T.tells tree) c → IfOk result (FindsPaths
         (listing c search.entry.options search.entry.pattern.now) search.entry.limit
-        (S.contents lines.old) (S.contents lines.new)) }
-    ensures some { (c : Content) → IsTold (T.tells tree) c → IsErrAnd result IsWrite
-        → FindsSomeBytes (listing c search.entry.options search.entry.pattern.now)
-        (S.contents lines.old) (S.contents lines.new) }
+        (W.contents output.old) (W.contents output.new)) }
+    ensures some { (c : Content) → IsTold (T.tells tree) c → OnErr result (FindsSomeBytes
+        (listing c search.entry.options search.entry.pattern.now)
+        (W.contents output.old) (W.contents output.new)) }
 {
-    match glob_in(alloc, tree, search.pattern, search.options, search.limit) {
-        Ok(mut items) => match write_items(alloc, &mut items, lines, errors) {
+    match WalkMachine::new(alloc, search.pattern, search.options, search.limit) {
+        Ok(walk) => match write_items(alloc, tree, walk, output, errors) {
             Ok(findings) => Ok(findings),
             Err(error) => Err(FindFault::Write(error)),
         },
@@ -113,51 +78,78 @@ pub fn find_in<T: Tree, S: LineSink, E: Write>(
     }
 }
 
-/// Writes the items of a walk, up to its end.
-fn write_items<T: Tree, S: LineSink, A: Allocator + Copy, E: Write>(
-    alloc: A,
-    items: &mut Paths<T>,
-    lines: &mut S,
+/// Writes the items of a walk up to its end, whose questions the tree answers. Before each question, the lines that have
+/// waited long are written.
+fn write_items<T: Tree, W: Write, E: Write>(
+    alloc: T::Alloc,
+    mut tree: T,
+    mut walk: WalkMachine<T::Alloc>,
+    output: &mut W,
     errors: &mut E,
 ) -> io::Result<Findings>
-    requires fresh { IsFresh items.old.tree items.old.limit items.old }
-    ensures paths { (c : Content) → IsTold (T.tells items.old.tree) c → (ms : List Mark)
-        → items.old.left ≡ Some ms → IfOk result (FindsPaths ms items.old.limit
-        (S.contents lines.old) (S.contents lines.new)) }
-    ensures some { (c : Content) → IsTold (T.tells items.old.tree) c → (ms : List Mark)
-        → items.old.left ≡ Some ms → OnErr result (FindsSomeBytes ms
-        (S.contents lines.old) (S.contents lines.new)) }
-    ensures written { IfOk result (λ _. S.written lines.new ≡ S.contents lines.new) }
+    requires free { walk.asked ≡ None }
+    ensures paths { (c : Content) → IsTold (T.tells tree) c → (ms : List Mark)
+        → HasGiven ms c [] walk → IfOk result (FindsPaths ms walk.limit
+        (W.contents output.old) (W.contents output.new)) }
+    ensures some { (c : Content) → IsTold (T.tells tree) c → (ms : List Mark)
+        → HasGiven ms c [] walk → OnErr result (FindsSomeBytes ms
+        (W.contents output.old) (W.contents output.new)) }
 {
+    let mut lines = Lines::new(alloc)?;
     let mut findings = Findings::new();
-    while let Some(item) = items.next() {
-        findings.note(&item);
-        write_item(alloc, item, lines, errors)?;
+    let mut step = walk.next();
+    loop {
+        step = match step {
+            Step::Look => {
+                lines.before_ask(output)?;
+                let seen = tree.look(walk.path());
+                walk.looked(seen)
+            }
+            Step::List => {
+                lines.before_ask(output)?;
+                let listed = tree.list(walk.path());
+                lines.count(entries_in(&listed));
+                walk.listed(listed)
+            }
+            Step::Item(item) => {
+                findings.note(&item);
+                write_item(alloc, item, &mut lines, output, errors)?;
+                walk.next()
+            }
+            Step::Done => {
+                lines.flush(output)?;
+                return Ok(findings);
+            }
+        };
     }
-    lines.flush()?;
-    Ok(findings)
+}
+
+/// How many entries a listing has; one that failed has none.
+fn entries_in<A: Allocator>(listed: &Result<Vec<Entry<A>, A>, ListError>) -> usize {
+    match listed {
+        Ok(entries) => entries.len(),
+        Err(_) => 0,
+    }
 }
 
 /// Writes an item of a walk.
-fn write_item<S: LineSink, B: Allocator, A: Allocator, E: Write>(
+fn write_item<A: Allocator + Copy, W: Write, E: Write>(
     alloc: A,
-    item: GlobResult<B>,
-    lines: &mut S,
+    item: GlobResult<A>,
+    lines: &mut Lines<A>,
+    output: &mut W,
     errors: &mut E,
 ) -> io::Result<()>
-    ensures path { MatchResult item (λ path. OnOk result
-        (Appends (S.contents lines.old) (S.contents lines.new)
-        (ended_line (path_buf_bytes path))))
-        (λ _. Keeps (S.contents lines.old) (S.contents lines.new)) }
-    ensures some { MatchResult item (λ path. OnErr result
-        (AppendsSome (S.contents lines.old) (S.contents lines.new)
-        (ended_line (path_buf_bytes path))))
-        (λ _. Keeps (S.contents lines.old) (S.contents lines.new)) }
+    ensures line { OnOk result (Queues (W.contents output.old) lines.old.waiting.items
+        (W.contents output.new) lines.new.waiting.items (item_line item)) }
+    ensures some { OnErr result
+        (AppendsSome (W.contents output.old) (W.contents output.new)
+        (lines.old.waiting.items ++ item_line item)) }
 {
     match item {
-        Ok(path) => lines.add(path.as_str()),
+        Ok(path) => lines.add(path.as_str(), output),
         Err(error) => {
-            lines.flush()?;
+            lines.flush(output)?;
             write_line(alloc, errors, &error);
             Ok(())
         }

@@ -12,7 +12,7 @@ ghost use Rattle.glob.specs.Lines.{FiltersLines, FiltersSomeBytes};
 ghost use Rattle.glob.specs.Listing.{listing};
 ghost use Rattle.glob.specs.Types.{MatchOptions};
 ghost use Rattle.glob_run.specs.CommandLine.{request_asked};
-ghost use Rattle.glob_run.specs.FoundPaths.{IsFindStatus};
+ghost use Rattle.glob_run.specs.FoundPaths.{IsFindStatus, WritesFound};
 ghost use Rattle.glob_run.specs.Outcomes.{CopiesLines, IsEscapedLine, IsRefused, WritesEscaped, WritesText};
 ghost use Rattle.glob_run.specs.Requests.{Escaped, Lines, Page, Paths, VersionLine};
 ghost use Rattle.glob_run.specs.declared.page.TheConstants.{HELP, VERSION};
@@ -83,6 +83,11 @@ pub fn run_words<T: Tree, R: Read + Drop, W: Write, E: Write>(
         → request_asked (map (λ w. w.now) words.now) ≡ Some (Paths options limit pattern)
         → (c : Content) → IsTold (T.tells tree) c
         → IsFindStatus (listing c options pattern) limit result }
+    ensures walk_written { (options : MatchOptions) → (limit : ℕ) → (pattern : List ℕ)
+        → request_asked (map (λ w. w.now) words.now) ≡ Some (Paths options limit pattern)
+        → (c : Content) → IsTold (T.tells tree) c
+        → WritesFound (listing c options pattern) limit
+        (W.contents output.old) (W.contents output.new) result }
     ensures page { request_asked (map (λ w. w.now) words.now) ≡ Some Page
         → WritesText HELP.now (W.contents output.old) (W.contents output.new) result }
     ensures version { request_asked (map (λ w. w.now) words.now) ≡ Some VersionLine

@@ -1,35 +1,11 @@
 //! The command `find` over trees in memory, whose content contracts know: exact bytes, for a pattern each.
 use super::folder::ensure;
 use crate::command::Search;
-use crate::find::fault::FindFault;
 use crate::find::find_in;
-use crate::find::findings::Findings;
-use crate::find::lines::Lines;
 use crate::run_words;
 use glob::{End, MatchOptions, MemTree, TreeRefusal};
-use std::alloc::Global;
-use std::io::{BufWriter, ErrorKind, Write};
+use std::io::ErrorKind;
 use std::test::Fail;
-
-/// Finds in a tree in memory by lines that are in no cell, and returns the output.
-fn find_in_memory<W: Write + Drop, E: Write>(
-    alloc: Global,
-    tree: MemTree,
-    search: Search<'_>,
-    output: W,
-    errors: &mut E,
-) -> Result<(W, Findings), FindFault> {
-    let buffer = match BufWriter::new(alloc, output) {
-        Ok(buffer) => buffer,
-        Err(error) => return Err(FindFault::Write(error)),
-    };
-    let mut lines = Lines::new(buffer);
-    let findings = find_in(alloc, tree, search, &mut lines, errors)?;
-    match lines.finish() {
-        Ok(output) => Ok((output, findings)),
-        Err(error) => Err(FindFault::Write(error)),
-    }
-}
 
 /// Adds a key: before `#` a directory that cannot be listed, before `/` another one.
 fn add(tree: &mut MemTree, key: &str) -> Result<(), TreeRefusal> {
@@ -184,10 +160,10 @@ fn a_search_says_how_it_ended(rt: HostRuntime) -> Result<(), Fail> {
         options: MatchOptions::new(),
         limit: 4,
     };
+    let mut output = Vec::new(alloc);
     let mut errors = Vec::new(alloc);
     let tree = tree_of(&rt, "/x /y", "/")?;
-    let found = find_in_memory(alloc, tree, search, Vec::new(alloc), &mut errors);
-    let Ok((output, findings)) = found else {
+    let Ok(findings) = find_in(alloc, tree, search, &mut output, &mut errors) else {
         return Err(Fail::new("a fault"));
     };
     let is_whole = findings.end == End::Done && findings.has_path && !findings.has_error;

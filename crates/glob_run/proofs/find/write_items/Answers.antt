@@ -1,39 +1,95 @@
-use Rattle.std.proofs.Common.{subst, sym}
-use Rattle.std.specs.Prelude.{option_map}
-use Rattle.glob.specs.Walks.{Goes, outcome}
-use Rattle.glob_run.proofs.FoundLemmas.{Written, Written-none, Written-item, Written-fault, Written-before, Written-end}
+use Rattle.std.proofs.Common.{[], ap, subst, sym}
+use Rattle.glob.specs.Answers.{entry_count}
+use Rattle.glob.specs.Machines.{IsAskedAfter, saying, units_said}
+use Rattle.glob.specs.Questions.{IsSeenIn, IsListedIn}
+use Rattle.glob_walk.proofs.WalkLemmas.Driving.{seen_fits, listed_fits}
+use Rattle.glob_run.specs.Outcomes.{Queues}
+use Rattle.glob_run.proofs.FoundLemmas.{Written, Written-first, Written-answer, Written-item, Written-fault, Written-before, Written-end, fewer_steps, step_number}
 use Rattle.glob_run.proofs.WritingLemmas.{OnErr-from}
 use Rattle.glob_run.proofs.find.write_items.Goals as goal
 
-pub loop-item-init : goal.loop-item-init
-loop-item-init g c =
+pub loop-step-init : goal.loop-step-init
+loop-step-init g c =
+    let held = g.W.Write.contents in
+    let old = held c.args.output.now in
     let made = c.new-findings.ensures in
-    Written-none g.T.Tree.asks g.T.Tree.tells c.args.items.now (g.S.LineSink.contents c.args.lines.now) c.new-findings.result c.requires.fresh made.end made.path made.error
+    let next = c.next-step in
+    subst (Written g.T.Tree.tells c.args.tree c.args.walk old c.args.tree (saying next.result) next.new.self c.new-findings.result old) (sym c.in_ok-lines.ensures)
+    (Written-first g.T.Tree.tells c.args.tree c.args.walk next.new.self old (saying next.result) c.new-findings.result made.end made.path made.error next.ensures.steps next.ensures.driven)
 
-pub loop-item-preserved : goal.loop-item-preserved
-loop-item-preserved g c =
-    let held = g.S.LineSink.contents in
-    let goes = subst (λ r. Goes g.T.Tree.asks g.T.Tree.tells c.loop-item.items (option_map outcome r) c.next.new.self) c.in-Some.is c.next.ensures.steps in
-    subst (Written g.row.T-Alloc.Denot g.T.Tree.asks g.T.Tree.tells c.args.items.now (held c.args.lines.now) c.next.new.self (held c.write_item.new.lines)) (sym c.note.ensures)
-    (Written-item g.T.Tree.asks g.T.Tree.tells c.args.items.now (held c.args.lines.now) c.loop-item.items c.next.new.self (held c.loop-item.lines) (held c.write_item.new.lines)
-    c.loop-item.findings c.loop-item.invariant c.in-Some.item goes c.in_ok-write_item.ensures.path)
+pub returns-in_err-before_ask-in-Look-clause-some : goal.returns-in_err-before_ask-in-Look-clause-some
+returns-in_err-before_ask-in-Look-clause-some g c c' told ms begun =
+    let held = g.W.Write.contents in
+    OnErr-from _ (Written-before g.T.Tree.tells c.args.tree c.args.walk (held c.args.output.now) c.loop-step.tree c.loop-step.walk c.loop-step.findings (held c.loop-step.output) c.loop-step.lines.waiting.items
+    (saying c.loop-step.step) c.loop-step.invariant (held c.before_ask.new.output) c.in_err-before_ask-in-Look.ensures.some c' told ms begun)
 
-pub returns-in_err-write_item-clause-some : goal.returns-in_err-write_item-clause-some
-returns-in_err-write_item-clause-some g c c' told ms left =
-    let held = g.S.LineSink.contents in
-    let goes = subst (λ r. Goes g.T.Tree.asks g.T.Tree.tells c.loop-item.items (option_map outcome r) c.next.new.self) c.in-Some.is c.next.ensures.steps in
-    OnErr-from _ (Written-fault g.T.Tree.asks g.T.Tree.tells c.args.items.now (held c.args.lines.now) c.loop-item.items c.next.new.self (held c.loop-item.lines) (held c.write_item.new.lines)
-    c.loop-item.findings c.loop-item.invariant c.in-Some.item goes c.in_err-write_item.ensures.some c' told ms left)
+pub returns-in_err-before_ask-in-List-clause-some : goal.returns-in_err-before_ask-in-List-clause-some
+returns-in_err-before_ask-in-List-clause-some g c c' told ms begun =
+    let held = g.W.Write.contents in
+    OnErr-from _ (Written-before g.T.Tree.tells c.args.tree c.args.walk (held c.args.output.now) c.loop-step.tree c.loop-step.walk c.loop-step.findings (held c.loop-step.output) c.loop-step.lines.waiting.items
+    (saying c.loop-step.step) c.loop-step.invariant (held c.before_ask-in-List.new.output) c.in_err-before_ask-in-List.ensures.some c' told ms begun)
 
-pub returns-in_err-flush-clause-some : goal.returns-in_err-flush-clause-some
-returns-in_err-flush-clause-some g c c' told ms left =
-    let held = g.S.LineSink.contents in
-    OnErr-from _ (Written-before g.T.Tree.asks g.T.Tree.tells c.args.items.now (held c.args.lines.now) c.loop-item.items c.next.new.self (held c.loop-item.lines) (held c.flush.new.self)
-    c.loop-item.findings c.loop-item.invariant c.flush.ensures.keeps c' told ms left)
+pub returns-in_err-flush-in-Done-clause-some : goal.returns-in_err-flush-in-Done-clause-some
+returns-in_err-flush-in-Done-clause-some g c c' told ms begun =
+    let held = g.W.Write.contents in
+    OnErr-from _ (Written-before g.T.Tree.tells c.args.tree c.args.walk (held c.args.output.now) c.loop-step.tree c.loop-step.walk c.loop-step.findings (held c.loop-step.output) c.loop-step.lines.waiting.items
+    (saying c.loop-step.step) c.loop-step.invariant (held c.flush.new.output) c.in_err-flush-in-Done.ensures.some c' told ms begun)
 
-pub returns-clause-paths : goal.returns-clause-paths
-returns-clause-paths g c c' told ms left =
-    let held = g.S.LineSink.contents in
-    let goes = subst (λ r. Goes g.T.Tree.asks g.T.Tree.tells c.loop-item.items (option_map outcome r) c.next.new.self) c.in_default.is c.next.ensures.steps in
-    Written-end g.T.Tree.asks g.T.Tree.tells c.args.items.now (held c.args.lines.now) c.loop-item.items c.next.new.self (held c.loop-item.lines) (held c.flush.new.self)
-    c.loop-item.findings c.loop-item.invariant goes c.flush.ensures.keeps c' told ms left
+pub returns-in_err-write_item-in-Item-clause-some : goal.returns-in_err-write_item-in-Item-clause-some
+returns-in_err-write_item-in-Item-clause-some g c c' told ms begun =
+    let held = g.W.Write.contents in
+    let given = subst (λ s. Written g.T.Tree.tells c.args.tree c.args.walk (held c.args.output.now) c.loop-step.tree (saying s) c.loop-step.walk c.loop-step.findings (held c.loop-step.output) c.loop-step.lines.waiting.items)
+    c.in-Item.is c.loop-step.invariant in
+    OnErr-from _ (Written-fault g.T.Tree.tells c.args.tree c.args.walk (held c.args.output.now) c.loop-step.tree c.loop-step.walk c.loop-step.findings (held c.loop-step.output) c.loop-step.lines.waiting.items
+    c.in-Item.item given (held c.write_item.new.output) c.in_err-write_item-in-Item.ensures.some c' told ms begun)
+
+pub returns-in-Done-clause-paths : goal.returns-in-Done-clause-paths
+returns-in-Done-clause-paths g c c' told ms begun =
+    let held = g.W.Write.contents in
+    let flushed = c.in_ok-flush-in-Done.ensures in
+    Written-end g.T.Tree.tells c.args.tree c.args.walk (held c.args.output.now) c.loop-step.tree c.loop-step.walk c.loop-step.findings (held c.loop-step.output) c.loop-step.lines.waiting.items
+    (saying c.loop-step.step) (ap (λ s. saying s) c.in-Done.is) c.loop-step.invariant (held c.flush.new.output) c.flush.new.self.waiting.items flushed.all flushed.none c' told ms begun
+
+pub loop-step-smaller-in_ok-before_ask-in-Look : goal.loop-step-smaller-in_ok-before_ask-in-Look
+loop-step-smaller-in_ok-before_ask-in-Look g c =
+    fewer_steps 0 c.loop-step.walk c.looked.new.self (saying c.loop-step.step) (saying c.looked.result) (ap (λ s. step_number (saying s)) c.in-Look.is) c.looked.ensures.steps.counts
+
+pub loop-step-preserved-in_ok-before_ask-in-Look : goal.loop-step-preserved-in_ok-before_ask-in-Look
+loop-step-preserved-in_ok-before_ask-in-Look g c =
+    let held = g.W.Write.contents in
+    let asked = c.loop-step.walk.asked in
+    let seen = c.look-seen in
+    let is = subst (λ s. IsAskedAfter (saying s) asked) c.in-Look.is c.loop-step.invariant.asks in
+    Written-answer g.T.Tree.tells c.args.tree c.args.walk (held c.args.output.now) c.loop-step.tree c.loop-step.walk c.loop-step.findings (held c.loop-step.output) c.loop-step.lines.waiting.items
+    (saying c.loop-step.step) (saying c.looked.result) (ap (λ s. units_said (saying s)) c.in-Look.is) c.loop-step.invariant
+    seen.new.self c.looked.new.self (held c.before_ask.new.output) c.before_ask.new.self.waiting.items 0 (IsSeenIn asked seen.result) seen.ensures.content c.in_ok-before_ask-in-Look.ensures.keeps
+    (λ x told. seen_fits asked seen.result x c.path.result.now is c.path.ensures told.1 (seen.ensures.seen x told)) c.looked.ensures.steps c.looked.ensures.driven
+
+pub loop-step-smaller-in_ok-before_ask-in-List : goal.loop-step-smaller-in_ok-before_ask-in-List
+loop-step-smaller-in_ok-before_ask-in-List g c =
+    fewer_steps (entry_count c.list-listed.result) c.loop-step.walk c.listed.new.self (saying c.loop-step.step) (saying c.listed.result) (ap (λ s. step_number (saying s)) c.in-List.is) c.listed.ensures.steps.counts
+
+pub loop-step-preserved-in_ok-before_ask-in-List : goal.loop-step-preserved-in_ok-before_ask-in-List
+loop-step-preserved-in_ok-before_ask-in-List g c =
+    let held = g.W.Write.contents in
+    let asked = c.loop-step.walk.asked in
+    let listed = c.list-listed in
+    let is = subst (λ s. IsAskedAfter (saying s) asked) c.in-List.is c.loop-step.invariant.asks in
+    let queued = subst (λ v. Queues (held c.loop-step.output) c.loop-step.lines.waiting.items (held c.before_ask-in-List.new.output) v.items []) (sym c.count.ensures) c.in_ok-before_ask-in-List.ensures.keeps in
+    Written-answer g.T.Tree.tells c.args.tree c.args.walk (held c.args.output.now) c.loop-step.tree c.loop-step.walk c.loop-step.findings (held c.loop-step.output) c.loop-step.lines.waiting.items
+    (saying c.loop-step.step) (saying c.listed.result) (ap (λ s. units_said (saying s)) c.in-List.is) c.loop-step.invariant
+    listed.new.self c.listed.new.self (held c.before_ask-in-List.new.output) c.count.new.self.waiting.items (entry_count listed.result) (IsListedIn asked listed.result) listed.ensures.content queued
+    (λ x told. listed_fits asked listed.result x c.path-in-List.result.now is c.path-in-List.ensures told.1 (listed.ensures.entries x told) (listed.ensures.fails x told)) c.listed.ensures.steps c.listed.ensures.driven
+
+pub loop-step-smaller : goal.loop-step-smaller
+loop-step-smaller g c =
+    fewer_steps 0 c.loop-step.walk c.next.new.self (saying c.loop-step.step) (saying c.next.result) (ap (λ s. step_number (saying s)) c.in-Item.is) c.next.ensures.steps.counts
+
+pub loop-step-preserved : goal.loop-step-preserved
+loop-step-preserved g c =
+    let held = g.W.Write.contents in
+    let given = subst (λ s. Written g.T.Tree.tells c.args.tree c.args.walk (held c.args.output.now) c.loop-step.tree (saying s) c.loop-step.walk c.loop-step.findings (held c.loop-step.output) c.loop-step.lines.waiting.items)
+    c.in-Item.is c.loop-step.invariant in
+    subst (λ f. Written g.T.Tree.tells c.args.tree c.args.walk (held c.args.output.now) c.loop-step.tree (saying c.next.result) c.next.new.self f (held c.write_item.new.output) c.write_item.new.lines.waiting.items) (sym c.note.ensures)
+    (Written-item g.T.Tree.tells c.args.tree c.args.walk (held c.args.output.now) c.loop-step.tree c.loop-step.walk c.loop-step.findings (held c.loop-step.output) c.loop-step.lines.waiting.items
+    c.in-Item.item given (saying c.next.result) c.next.new.self (held c.write_item.new.output) c.write_item.new.lines.waiting.items c.in_ok-write_item-in-Item.ensures.line c.next.ensures.steps c.next.ensures.driven)

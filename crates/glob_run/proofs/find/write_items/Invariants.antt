@@ -1,7 +1,12 @@
--- The items so far were written.
-use Rattle.glob_run.proofs.FoundLemmas.{Written}
+-- The items before the step were written, or wait.
+use Rattle.std.proofs.Common.{◌+◌, ◌-◌, ◌*◌}
+use Rattle.glob.specs.Machines.{saying}
+use Rattle.glob_run.proofs.FoundLemmas.{Written, step_number}
 use Rattle.glob_run.proofs.find.write_items.Given as goal
 
-abbrev pub invariant-loop-item : goal.invariant-loop-item
-invariant-loop-item g l =
-    Written g.row.T-Alloc.Denot g.T.Tree.asks g.T.Tree.tells l.initial.items (g.S.LineSink.contents l.initial.lines) l.items (g.S.LineSink.contents l.lines) l.findings
+abbrev pub invariant-loop-step : goal.invariant-loop-step
+invariant-loop-step g l =
+    Written g.T.Tree.tells l.fn.tree l.fn.walk (g.W.Write.contents l.initial.output) l.tree (saying l.step) l.walk l.findings (g.W.Write.contents l.output) l.lines.waiting.items
+
+abbrev pub decreases-loop-step : goal.decreases-loop-step
+decreases-loop-step g l = 2 * (l.walk.limit - l.walk.spent) + 2 * (l.walk.limit + 1 - l.walk.given) + step_number (saying l.step)
