@@ -24,31 +24,54 @@ pub enum Kind<'a> {
     Lost(ErrorKind),
 }
 
+/// How many system calls were made, and for how much.
+#[derive(Drop)]
+pub struct Calls {
+    /// How often metadata was asked for.
+    pub lookups: Cell<u64>,
+    /// How often a directory was opened.
+    pub opens: Cell<u64>,
+    /// How many bytes the reads of directories had room for, in total.
+    pub room: Cell<u64>,
+}
+
+impl Calls {
+    /// No calls.
+    pub fn new() -> Self {
+        Calls {
+            lookups: Cell::new(0),
+            opens: Cell::new(0),
+            room: Cell::new(0),
+        }
+    }
+}
+
+/// Adds to a count, which stays at `u64::MAX` once it is there.
+fn add(count: &Cell<u64>, more: u64) {
+    count.set(count.get().saturating_add(more));
+}
+
 /// A file system of some paths. All others are missing.
 #[derive(Drop)]
 pub struct Written<'a> {
     paths: &'a [(&'a str, Kind<'a>)],
-    /// How often metadata was asked for.
-    lookups: Cell<u64>,
+    calls: &'a Calls,
 }
 
 impl<'a> Written<'a> {
-    /// The file system of these paths. A directory's path ends in a separator where it is opened.
-    pub fn new(paths: &'a [(&'a str, Kind<'a>)]) -> Self {
-        Written {
-            paths,
-            lookups: Cell::new(0),
+    /// The file system of these paths, whose calls are counted there. A directory's path ends in a separator where it is
+    /// opened.
+    pub fn new(paths: &'a [(&'a str, Kind<'a>)], calls: &'a Calls) -> Self {
+        Written { paths, calls }
+    }
+
+    /// The directory of these blocks, opened.
+    fn opened(&self, blocks: &'a [&'a [u8]], failure: Option<ErrorKind>) -> Names<'a> {
+        Names {
+            blocks,
+            failure,
+            room: &self.calls.room,
         }
-    }
-
-    /// How often metadata was asked for.
-    pub fn lookups(&self) -> u64 {
-        self.lookups.get()
-    }
-
-    /// Counts that metadata is asked for.
-    fn count_lookup(&self) {
-        self.lookups.set(self.lookups.get().saturating_add(1));
     }
 
     /// What stands at a path.
@@ -67,10 +90,12 @@ impl<'a> Written<'a> {
 pub struct Names<'a> {
     blocks: &'a [&'a [u8]],
     failure: Option<ErrorKind>,
+    room: &'a Cell<u64>,
 }
 
 impl Read for Names<'_> {
     fn read(&mut self, buf: &mut [u8]) -> io::Result<usize> {
+        add(self.room, buf.len() as u64);
         let blocks = self.blocks;
         if blocks.is_empty() {
             return match self.failure {
@@ -96,15 +121,10 @@ impl<'a> Files for Written<'a> {
     }
 
     fn open_dir(&self, path: &str) -> io::Result<Names<'a>> {
+        add(&self.calls.opens, 1);
         match self.kind(path) {
-            Kind::Dir(blocks) => Ok(Names {
-                blocks,
-                failure: None,
-            }),
-            Kind::Torn(blocks, kind) => Ok(Names {
-                blocks,
-                failure: Some(kind),
-            }),
+            Kind::Dir(blocks) => Ok(self.opened(blocks, None)),
+            Kind::Torn(blocks, kind) => Ok(self.opened(blocks, Some(kind))),
             Kind::Shut(kind) | Kind::Link(kind) | Kind::Lost(kind) => Err(io::Error::from(kind)),
             Kind::File | Kind::LinkToFile => Err(io::Error::from(ErrorKind::NotADirectory)),
             Kind::LinkToDir => Err(unsupported()),
@@ -112,7 +132,7 @@ impl<'a> Files for Written<'a> {
     }
 
     fn metadata(&self, path: &str) -> io::Result<Metadata> {
-        self.count_lookup();
+        add(&self.calls.lookups, 1);
         match self.kind(path) {
             Kind::File | Kind::LinkToFile => Ok(Metadata::of_file(0)),
             Kind::Dir(_) | Kind::Shut(_) | Kind::Torn(..) | Kind::LinkToDir => {
@@ -125,7 +145,7 @@ impl<'a> Files for Written<'a> {
     fn symlink_metadata(&self, path: &str) -> io::Result<Metadata> {
         match self.kind(path) {
             Kind::LinkToFile | Kind::LinkToDir | Kind::Link(_) => {
-                self.count_lookup();
+                add(&self.calls.lookups, 1);
                 Ok(Metadata::of_symlink(0))
             }
             _ => self.metadata(path),

@@ -1,6 +1,7 @@
-use crate::files::{Kind, Written};
+use crate::files::{Calls, Kind, Written};
 use glob::{Disk, ListError, Look, Tree};
 use std::io::ErrorKind;
+use std::process::Abort;
 
 const PATHS: &[(&str, Kind)] = &[
     ("d", Kind::Dir(&[])),
@@ -44,6 +45,15 @@ const PATHS: &[(&str, Kind)] = &[
     ("fills/", Kind::Dir(&[b"a\0"])),
     ("fills/a", Kind::Lost(ErrorKind::OutOfMemory)),
     ("fades", Kind::Link(ErrorKind::OutOfMemory)),
+    (
+        "dots/",
+        Kind::Dir(&[b"..foo\0.git\0...\0.a\0a~\0~\0..~\0-\0 \0"]),
+    ),
+    ("dots/.git", Kind::Dir(&[])),
+    ("dots/...", Kind::Dir(&[])),
+    ("dots/.a", Kind::LinkToDir),
+    ("dots/a~", Kind::Dir(&[])),
+    ("dots/..foo", Kind::File),
     ("/", Kind::Dir(&[b"f\0"])),
     ("/f", Kind::Shut(ErrorKind::PermissionDenied)),
     ("barred", Kind::Lost(ErrorKind::PermissionDenied)),
@@ -75,16 +85,19 @@ const LOOKS: &[(&str, Option<Look>, u64)] = &[
 #[test]
 fn looks(rt: HostRuntime) {
     for (path, wanted, lookups) in LOOKS {
-        let files = Written::new(PATHS);
-        let mut disk = Disk::new(&files, rt.alloc());
+        let calls = Calls::new();
+        let mut disk = Disk::new(Written::new(PATHS, &calls), rt.alloc());
         assert!(rt; disk.look(path).ok() == *wanted, "{path}");
-        assert_eq!(rt; files.lookups(), *lookups, "{path}");
+        assert_eq!(rt; calls.lookups.get(), *lookups, "{path}");
+        assert_eq!(rt; calls.opens.get(), 0, "{path}");
     }
 }
 
-const LISTINGS: &[(&str, &[(&str, bool)])] = &[
+/// A path, how many reads of a directory its listing takes, and its entries, each with whether it is a directory.
+const LISTINGS: &[(&str, u64, &[(&str, bool)])] = &[
     (
         "d",
+        4,
         &[
             ("f", false),
             ("s", true),
@@ -94,9 +107,25 @@ const LISTINGS: &[(&str, &[(&str, bool)])] = &[
             ("same", false),
         ],
     ),
-    ("empty/", &[]),
+    (
+        "dots",
+        2,
+        &[
+            ("..foo", false),
+            (".git", true),
+            ("...", true),
+            (".a", true),
+            ("a~", true),
+            ("~", false),
+            ("..~", false),
+            ("-", false),
+            (" ", false),
+        ],
+    ),
+    ("empty/", 1, &[]),
     (
         "large",
+        5,
         &[
             ("a", false),
             ("b", false),
@@ -105,25 +134,55 @@ const LISTINGS: &[(&str, &[(&str, bool)])] = &[
             ("e", false),
         ],
     ),
-    ("unseen", &[("a", false)]),
-    ("/", &[("f", true)]),
+    ("unseen", 2, &[("a", false)]),
+    ("/", 2, &[("f", true)]),
 ];
+
+/// How many bytes so many reads of a directory have room for: 4 KiB each of the first two, and 32 KiB each further one.
+fn room_of(reads: u64) -> u64 {
+    let small = reads.min(2);
+    let large = reads.saturating_sub(small);
+    small
+        .saturating_mul(4_096)
+        .saturating_add(large.saturating_mul(32_768))
+}
+
+/// A directory is opened once, and metadata is asked for once for each entry.
+fn check_calls(rt: &impl Abort, calls: &Calls, path: &str, entries: usize, reads: u64) {
+    assert_eq!(rt; calls.lookups.get(), entries as u64, "{path}");
+    assert_eq!(rt; calls.opens.get(), 1, "{path}");
+    assert_eq!(rt; calls.room.get(), room_of(reads), "{path}");
+}
 
 #[test]
 fn listings(rt: HostRuntime) {
-    for (path, wanted) in LISTINGS {
-        let files = Written::new(PATHS);
-        let mut disk = Disk::new(&files, rt.alloc());
+    for (path, reads, wanted) in LISTINGS {
+        let calls = Calls::new();
+        let mut disk = Disk::new(Written::new(PATHS, &calls), rt.alloc());
         let Ok(entries) = disk.list(path) else {
             panic!(rt; "{path}");
         };
         assert_eq!(rt; entries.len(), wanted.len(), "{path}");
-        assert_eq!(rt; files.lookups(), wanted.len() as u64, "{path}");
+        check_calls(&rt, &calls, path, wanted.len(), *reads);
         for (entry, (name, is_dir)) in entries.iter().zip(*wanted) {
             assert_eq!(rt; entry.name.as_str(), *name, "{path}");
             assert_eq!(rt; entry.is_dir, *is_dir, "{path}");
         }
     }
+}
+
+/// A directory of a thousand reads has an end.
+#[test]
+fn a_large_directory_is_listed_whole(rt: HostRuntime) {
+    let blocks = [b"a\0b\0".as_slice(); 1_000];
+    let calls = Calls::new();
+    let paths = [("a/", Kind::Dir(&blocks))];
+    let mut disk = Disk::new(Written::new(&paths, &calls), rt.alloc());
+    match disk.list("a") {
+        Ok(entries) => assert_eq!(rt; entries.len(), 2_000),
+        Err(_) => panic!(rt; "the directory is not listed"),
+    }
+    check_calls(&rt, &calls, "a", 2_000, 1_001);
 }
 
 /// The kind of the error that a listing fails with, and `None` where memory was missing.
@@ -144,7 +203,8 @@ const FAILURES: &[(&str, Option<ErrorKind>)] = &[
 
 #[test]
 fn failing_listings(rt: HostRuntime) {
-    let mut disk = Disk::new(Written::new(PATHS), rt.alloc());
+    let calls = Calls::new();
+    let mut disk = Disk::new(Written::new(PATHS, &calls), rt.alloc());
     for (path, wanted) in FAILURES {
         match disk.list(path) {
             Ok(_) => panic!(rt; "{path}"),
