@@ -1,6 +1,7 @@
-//! A tree in memory: what it refuses, and what it answers.
+//! A tree in memory: what it refuses, what it answers, and a walk of many open directories.
+use super::repeated::text_of;
 use crate::trees::LyingTree;
-use glob::{ListError, Look, MemTree, Tree, TreeRefusal};
+use glob::{ListError, Look, MatchOptions, MemTree, Tree, TreeRefusal, glob_in};
 use std::alloc::Allocator;
 use std::io::ErrorKind;
 use std::process::Abort;
@@ -139,5 +140,38 @@ fn a_tree_outside_the_library(rt: HostRuntime) -> Result<(), Fail> {
     for entry in entries.iter() {
         assert_eq!(rt; entry.name.as_str(), "same");
     }
+    Ok(())
+}
+
+/// How many levels of directories there are.
+const LEVELS: usize = 100;
+
+/// A tree of directories `a` and `b` in the root, and of two more in each `a`, down to the last level.
+fn comb(rt: &(impl Abort + AllocGlobal)) -> Result<MemTree, Fail> {
+    let mut tree = MemTree::new(rt.alloc())?;
+    for level in 0..LEVELS {
+        let parent = text_of(rt, &[("/a", level)])?;
+        for name in ["a", "b"] {
+            let path = format!(in rt.alloc(); "{parent}/{name}")?;
+            assert!(rt; tree.add_dir(path.as_str()).is_ok());
+        }
+    }
+    Ok(tree)
+}
+
+/// A directory of each level waits while the walk is below the other one.
+#[test]
+fn a_walk_of_many_open_directories(rt: HostRuntime) -> Result<(), Fail> {
+    let options = MatchOptions::new();
+    let mut paths = glob_in(rt.alloc(), comb(&rt)?, "**/b", options, u64::MAX)?;
+    for level in 0..LEVELS {
+        let above = LEVELS.saturating_sub(level.saturating_add(1));
+        let wanted = text_of(&rt, &[("a/", above), ("b", 1)])?;
+        match paths.next() {
+            Some(Ok(path)) => assert_eq!(rt; path.as_str(), wanted.as_str()),
+            _ => panic!(rt; "{wanted} is not found"),
+        }
+    }
+    assert!(rt; paths.next().is_none());
     Ok(())
 }
