@@ -1,8 +1,9 @@
-//! How many requests for memory and calls of readers and writers are made. The clock is not asked.
+//! How many requests for memory are made and for how many bytes, and how many calls of readers and writers. The clock is
+//! not asked.
 use super::repeated::{Parts, text_of};
 use crate::judges::{Answers, TableJudge};
 use crate::readers::{Counted, ShortReader, ShortWriter};
-use glob::{MatchOptions, Pattern, Shape, Watch, filter_lines, run_positions};
+use glob::{MatchOptions, MemTree, Pattern, Shape, Watch, filter_lines, run_positions};
 use glob_testing::rationing::Rationed;
 use std::cell::Cell;
 use std::hash::{DefaultHasher, Hash};
@@ -19,6 +20,14 @@ fn the_empty_pattern_needs_no_memory(rt: HostRuntime) -> Result<(), Fail> {
     pattern.hash(&mut DefaultHasher::new());
     assert!(rt; pattern.matches("")? && !pattern.matches("a")?);
     pattern.clone()?;
+    assert_eq!(rt; counted.ration.asked(), 0);
+    Ok(())
+}
+
+#[test]
+fn an_empty_tree_needs_no_memory(rt: HostRuntime) -> Result<(), Fail> {
+    let counted = Rationed::refusing(0, rt.alloc());
+    MemTree::new(&counted)?;
     assert_eq!(rt; counted.ration.asked(), 0);
     Ok(())
 }
@@ -119,21 +128,72 @@ fn long_patterns_take_few_requests(rt: HostRuntime) -> Result<(), Fail> {
     Ok(())
 }
 
-/// How many calls of a reader or a writer so many bytes may take: one for each 4,096 of them, and a few more.
-fn most_calls(bytes: usize) -> u64 {
-    (bytes as u64 / 4_096).saturating_add(3)
+/// A unit of a pattern, how often it stands there, how many bytes each may take, and how many the pattern may take
+/// beside them: none for the masks of wildcards where there are no wildcards.
+const ROOMS: [(&str, usize, u64, u64); 6] = [
+    ("abcdefghij", 1, 1_280, 512),
+    ("abcdefghij", 1_000, 2_560, 512),
+    ("\u{e9}", 60, 128, 512),
+    ("[a]", 20, 384, 512),
+    ("?*", 30, 256, 2_816),
+    ("?*", 3_000, 512, 2_816),
+];
+
+#[test]
+fn a_pattern_takes_little_room(rt: HostRuntime) -> Result<(), Fail> {
+    for (unit, units, each, fixed) in ROOMS {
+        let text = text_of(&rt, &[(unit, units)])?;
+        let counted = Rationed::refusing(0, rt.alloc());
+        Pattern::new(&counted, text.as_str())?;
+        let most = each.saturating_mul(units as u64).saturating_add(fixed);
+        let bytes = counted.ration.bytes();
+        assert!(rt; bytes <= most, "{bytes} bytes for {units} times {unit}");
+    }
+    Ok(())
 }
 
-/// The lines are read and written in few calls, and with few requests for memory.
-fn check_calls(
-    rt: &(impl Abort + AllocGlobal),
-    pattern: &str,
-    line: &str,
+/// An escaped text takes twice the room that it needs, at most.
+#[test]
+fn an_escaped_text_takes_little_room(rt: HostRuntime) -> Result<(), Fail> {
+    for unit in ["a", "\u{10fffe}", "*", "[a", "a long part ["] {
+        for units in [1, 10, 1_000] {
+            let text = text_of(&rt, &[(unit, units)])?;
+            let counted = Rationed::refusing(0, rt.alloc());
+            let needed = Pattern::escape(&counted, text.as_str())?.len() as u64;
+            let bytes = counted.ration.bytes();
+            assert!(rt;
+                bytes <= needed.saturating_mul(2),
+                "{bytes} bytes for {unit}"
+            );
+        }
+    }
+    Ok(())
+}
+
+/// Lines, and how they are read and written.
+struct Flow {
+    pattern: &'static str,
+    line: &'static str,
     lines: usize,
-) -> Result<(), Fail> {
-    let input = text_of(rt, &[(line, lines)])?;
+    /// The most bytes that one read gives.
+    most: usize,
+    /// The fewest writes that the output may take: it is not gathered whole.
+    writes: u64,
+}
+
+/// How many calls so many bytes may take where each may move so many: one for each 4,096 of them, and a few more.
+fn most_calls(bytes: usize, most: usize) -> u64 {
+    (bytes as u64 / most.clamp(1, 4_096) as u64).saturating_add(3)
+}
+
+/// How often memory may be requested: a few times for each doubling of the input and of the output.
+const MOST_REQUESTS: u64 = 64;
+
+/// Reads and writes are few, and so are the requests for memory and their bytes.
+fn check_calls(rt: &(impl Abort + AllocGlobal), flow: &Flow) -> Result<(), Fail> {
+    let input = text_of(rt, &[(flow.line, flow.lines)])?;
     let (reads, writes) = (Cell::new(0), Cell::new(0));
-    let inner = ShortReader::new(input.as_bytes(), usize::MAX);
+    let inner = ShortReader::new(input.as_bytes(), flow.most);
     let mut reader = Watch::new(Counted {
         calls: &reads,
         inner,
@@ -144,30 +204,74 @@ fn check_calls(
         inner,
     });
     let counted = Rationed::refusing(0, rt.alloc());
-    let pattern = Pattern::new(rt.alloc(), pattern)?;
+    let pattern = Pattern::new(rt.alloc(), flow.pattern)?;
     let options = MatchOptions::new();
     filter_lines(&counted, &pattern, options, &mut reader, &mut writer)?;
     let written = writer.into_inner().inner.written().len();
+    let (reads, writes) = (reads.get(), writes.get());
     assert!(rt;
-        reads.get() <= most_calls(input.len()),
-        "{} reads",
-        reads.get()
+        reads <= most_calls(input.len(), flow.most),
+        "{reads} reads"
     );
     assert!(rt;
-        writes.get() <= most_calls(written),
-        "{} writes",
-        writes.get()
+        writes <= most_calls(written, usize::MAX),
+        "{writes} writes"
     );
+    assert!(rt; flow.writes <= writes, "{writes} writes");
     let requests = counted.ration.asked();
-    assert!(rt; requests <= most_calls(input.len()), "{requests} requests");
+    assert!(rt; requests <= MOST_REQUESTS, "{requests} requests");
+    let bytes = counted.ration.bytes();
+    let most = (input.len() as u64)
+        .saturating_mul(8)
+        .saturating_add(524_288);
+    assert!(rt; bytes <= most, "{bytes} bytes");
     assert_eq!(rt; counted.ration.held(), 0);
     Ok(())
 }
 
+/// Lines without number, of which all or none match, one line, and reads of few bytes.
+const FLOWS: [Flow; 5] = [
+    Flow {
+        pattern: "*",
+        line: "a line\n",
+        lines: 100_000,
+        most: usize::MAX,
+        writes: 5,
+    },
+    Flow {
+        pattern: "*[b]",
+        line: "a line\n",
+        lines: 100_000,
+        most: usize::MAX,
+        writes: 0,
+    },
+    Flow {
+        pattern: "",
+        line: "\n",
+        lines: 300_000,
+        most: usize::MAX,
+        writes: 2,
+    },
+    Flow {
+        pattern: "*",
+        line: "a",
+        lines: 1_000_000,
+        most: usize::MAX,
+        writes: 1,
+    },
+    Flow {
+        pattern: "[b]*",
+        line: "a line\n",
+        lines: 50_000,
+        most: 100,
+        writes: 0,
+    },
+];
+
 #[test]
 fn many_lines_take_few_calls(rt: HostRuntime) -> Result<(), Fail> {
-    check_calls(&rt, "*", "a line\n", 100_000)?;
-    check_calls(&rt, "*[b]", "a line\n", 100_000)?;
-    check_calls(&rt, "", "\n", 100_000)?;
-    check_calls(&rt, "*", "a", 1_000_000)
+    for flow in &FLOWS {
+        check_calls(&rt, flow)?;
+    }
+    Ok(())
 }

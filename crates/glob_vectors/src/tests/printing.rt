@@ -77,3 +77,16 @@ fn patterns(rt: HostRuntime) -> Result<(), Fail> {
     }
     Ok(())
 }
+
+/// What is printed for the eyes of a programmer begins with the type, and has the text in quotes.
+#[test]
+fn a_pattern_for_debugging(rt: HostRuntime) -> Result<(), Fail> {
+    for text in ["", "a", "src/**/[!a-c]?*.rs", "\u{e9}[x]"] {
+        let pattern = Pattern::new(rt.alloc(), text)?;
+        let line = format!(in rt.alloc(); "{pattern:?}")?;
+        let quoted = format!(in rt.alloc(); "\"{text}\"")?;
+        assert!(rt; line.starts_with("Pattern"), "{line}");
+        assert!(rt; line.contains(quoted.as_str()), "{line}");
+    }
+    Ok(())
+}
