@@ -4,7 +4,7 @@ ghost use Rattle.std.specs.Prelude.{◌≤◌, IfOk, None, Some};
 
 use std::alloc::{Allocator, Global};
 use std::cell::Cell;
-use std::io::{self, ErrorKind, Read, Write};
+use std::io::{self, Read, Write};
 
 /// What is done in place of one call, and how many calls go before it.
 #[derive(Clone, Copy, Debug)]
@@ -30,7 +30,7 @@ fn due<T: Copy>(planned: &mut Option<Upset<T>>) -> Option<T> {
 pub struct ShortReader<'a> {
     rest: &'a [u8],
     most: usize,
-    planned: Option<Upset<ErrorKind>>,
+    planned: Option<Upset<io::Error>>,
 }
 
 impl<'a> ShortReader<'a> {
@@ -43,11 +43,11 @@ impl<'a> ShortReader<'a> {
         }
     }
 
-    /// The same reader, whose call number `call`, counted from 0, gives nothing and fails with an error of this kind.
-    pub fn failing_at(self, call: u64, kind: ErrorKind) -> Self {
+    /// The same reader, whose call number `call`, counted from 0, gives nothing and fails with this error.
+    pub fn failing_at(self, call: u64, error: io::Error) -> Self {
         let planned = Upset {
             calls_before: call,
-            what: kind,
+            what: error,
         };
         ShortReader {
             rest: self.rest,
@@ -61,8 +61,8 @@ impl Read for ShortReader<'_> {
     ghost remaining = { λ r. Some r.rest.now };
 
     fn read(&mut self, buf: &mut [u8]) -> io::Result<usize> {
-        if let Some(kind) = due(&mut self.planned) {
-            return Err(io::Error::from(kind));
+        if let Some(error) = due(&mut self.planned) {
+            return Err(error);
         }
         let rest = self.rest;
         let len = rest.len().min(buf.len()).min(self.most.max(1));
@@ -75,8 +75,8 @@ impl Read for ShortReader<'_> {
 /// What a writer does in place of one call.
 #[derive(Clone, Copy, Debug)]
 pub enum Refusal {
-    /// It fails with an error of this kind.
-    Fails(ErrorKind),
+    /// It fails with this error.
+    Fails(io::Error),
     /// It takes no byte, and answers 0.
     TakesNone,
 }
@@ -123,7 +123,7 @@ impl<A: Allocator> Write for ShortWriter<A> {
 
     fn write(&mut self, buf: &[u8]) -> io::Result<usize> {
         match due(&mut self.planned) {
-            Some(Refusal::Fails(kind)) => return Err(io::Error::from(kind)),
+            Some(Refusal::Fails(error)) => return Err(error),
             Some(Refusal::TakesNone) => return Ok(0),
             None => {}
         }

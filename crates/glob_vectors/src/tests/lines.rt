@@ -1,7 +1,8 @@
 //! The lines that a pattern matches, copied; and readers and writers that fail.
+use super::watching::check_same;
 use crate::readers::{Refusal, ShortReader, ShortWriter};
 use glob::{LineFault, MatchOptions, Pattern, Watch, filter_lines};
-use std::io::ErrorKind;
+use std::io::{self, ErrorKind};
 use std::process::Abort;
 use std::test::Fail;
 
@@ -79,26 +80,30 @@ fn matching_lines_are_copied(rt: HostRuntime) -> Result<(), Fail> {
 }
 
 /// Errors that a reader or a writer may answer, none of which is passed over.
-const FAULTS: [ErrorKind; 5] = [
-    ErrorKind::Other,
-    ErrorKind::Interrupted,
-    ErrorKind::WouldBlock,
-    ErrorKind::TimedOut,
-    ErrorKind::BrokenPipe,
-];
+fn faults() -> [io::Error; 7] {
+    [
+        io::Error::from(ErrorKind::Other),
+        io::Error::from(ErrorKind::Interrupted),
+        io::Error::from(ErrorKind::WouldBlock),
+        io::Error::from(ErrorKind::BrokenPipe),
+        io::Error::new(ErrorKind::Interrupted, "words of its own"),
+        io::Error::new(ErrorKind::OutOfMemory, "the disk has no memory"),
+        io::Error::from_raw_os_error(28),
+    ]
+}
 
-/// A reader that gives so many bytes a call and fails at a call: the fault is told, and nothing is written.
+/// A reader that gives so many bytes a call and fails at a call: its error is returned, and nothing is written.
 fn check_reader(
     rt: &(impl Abort + AllocGlobal),
     input: &[u8],
     most: usize,
     call: u64,
-    kind: ErrorKind,
+    error: io::Error,
 ) -> Result<(), Fail> {
-    let reader = ShortReader::new(input, most).failing_at(call, kind);
+    let reader = ShortReader::new(input, most).failing_at(call, error);
     let outcome = copy(rt, "*", reader, ShortWriter::new(rt.alloc(), 100))?;
     match outcome.answer {
-        Err(LineFault::Read(error)) => assert!(rt; error.kind() == kind),
+        Err(LineFault::Read(found)) => check_same(rt, found, error)?,
         _ => panic!(rt; "no fault of the reader"),
     }
     assert!(rt; outcome.reader_failed && !outcome.writer_failed);
@@ -110,16 +115,16 @@ fn check_reader(
 #[test]
 fn a_reader_that_fails_writes_nothing(rt: HostRuntime) -> Result<(), Fail> {
     let input = b"ab\n\nc\n\xff\nd";
-    for kind in FAULTS {
+    for error in faults() {
         for call in 0..=input.len() {
-            check_reader(&rt, input, 1, call as u64, kind)?;
-            check_reader(&rt, &input[..call], 100, call.min(1) as u64, kind)?;
+            check_reader(&rt, input, 1, call as u64, error)?;
+            check_reader(&rt, &input[..call], 100, call.min(1) as u64, error)?;
         }
     }
-    check_reader(&rt, b"ab\nc\n", 3, 1, ErrorKind::Other)
+    check_reader(&rt, b"ab\nc\n", 3, 1, io::Error::other("words"))
 }
 
-/// A writer that takes so many bytes a call and refuses at a call: the fault is told, and this was written before.
+/// A writer that takes so many bytes a call and refuses at a call: its error is returned, and this was written before.
 fn check_writer(
     rt: &(impl Abort + AllocGlobal),
     most: usize,
@@ -129,12 +134,12 @@ fn check_writer(
 ) -> Result<(), Fail> {
     let writer = ShortWriter::new(rt.alloc(), most).refusing_at(call, refusal);
     let outcome = copy(rt, "*", ShortReader::new(b"ab\n\xff\nc", 100), writer)?;
-    let kind = match refusal {
-        Refusal::Fails(kind) => kind,
-        Refusal::TakesNone => ErrorKind::WriteZero,
+    let error = match refusal {
+        Refusal::Fails(error) => error,
+        Refusal::TakesNone => io::Error::from(ErrorKind::WriteZero),
     };
     match outcome.answer {
-        Err(LineFault::Write(error)) => assert!(rt; error.kind() == kind),
+        Err(LineFault::Write(found)) => check_same(rt, found, error)?,
         _ => panic!(rt; "no fault of the writer"),
     }
     assert!(rt; outcome.writer_failed && !outcome.reader_failed);
@@ -150,8 +155,8 @@ fn a_writer_that_fails_ends_the_copy(rt: HostRuntime) -> Result<(), Fail> {
             let taken = call.saturating_mul(most);
             if taken < output.len() {
                 let written = &output[..taken];
-                for kind in FAULTS {
-                    check_writer(&rt, most, call as u64, Refusal::Fails(kind), written)?;
+                for error in faults() {
+                    check_writer(&rt, most, call as u64, Refusal::Fails(error), written)?;
                 }
                 check_writer(&rt, most, call as u64, Refusal::TakesNone, written)?;
             }

@@ -1,9 +1,10 @@
 //! Each request for memory of a copy of lines refused in turn: out of memory, after whole lines. No block is left.
 use super::repeated::text_of;
-use crate::readers::{ShortReader, ShortWriter};
+use crate::readers::{Counted, Same, ShortReader, ShortWriter};
 use glob::{LineFault, MatchOptions, Pattern, Watch, filter_lines};
 use glob_testing::rationing::Rationed;
 use std::alloc::{Allocator, Global};
+use std::cell::Cell;
 use std::process::Abort;
 use std::test::Fail;
 
@@ -99,4 +100,29 @@ fn lines(rt: HostRuntime) -> Result<(), Fail> {
 fn many_lines(rt: HostRuntime) -> Result<(), Fail> {
     let input = text_of(&rt, &[("a line of text\n", 40_000)])?;
     check_lines(&rt, "*", input.as_bytes(), input.as_bytes())
+}
+
+/// Of a reader that never ends, the answer is out of memory once a request is refused, and nothing is written.
+#[test]
+fn a_reader_that_never_ends(rt: HostRuntime) -> Result<(), Fail> {
+    let pattern = Pattern::new(rt.alloc(), "*")?;
+    let endless = Same {
+        answer: Ok(usize::MAX),
+    };
+    for number in 1..=6 {
+        let scarce = Rationed::refusing(number, rt.alloc());
+        let writes = Cell::new(0);
+        let mut reader = Watch::new(endless);
+        let mut writer = Watch::new(Counted {
+            calls: &writes,
+            inner: endless,
+        });
+        let options = MatchOptions::new();
+        let answer = filter_lines(&scarce, &pattern, options, &mut reader, &mut writer);
+        assert!(rt; matches!(answer, Err(LineFault::Memory)), "{number}");
+        assert!(rt; !reader.failed() && !writer.failed());
+        assert_eq!(rt; writes.get(), 0);
+        assert_eq!(rt; scarce.ration.held(), 0);
+    }
+    Ok(())
 }

@@ -7,7 +7,7 @@ use std::process::Abort;
 use std::test::Fail;
 
 /// The errors have the same kind, the same code of the system and the same words.
-fn check_same(
+pub(super) fn check_same(
     rt: &(impl Abort + AllocGlobal),
     found: io::Error,
     known: io::Error,
