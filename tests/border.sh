@@ -35,7 +35,7 @@ has() {
 calls_from_c() {
     has cc || { left_out "calls from C, since there is no cc"; return; }
     check 'C is compiled' cc -std=c11 -Wall -Wextra -Werror -g -I "$root/include" "$root/tests/border/calls.c" \
-        "$CADMIUMDOVE_LIBRARY/libcadmiumdove.a" -Wl,--wrap=malloc,--wrap=realloc -o "$work/calls"
+        "$CADMIUMDOVE_LIBRARY/libcadmiumdove.a" -Wl,--wrap=malloc,--wrap=realloc,--wrap=free -o "$work/calls"
     if has valgrind; then
         check 'calls from C, under valgrind' valgrind -q --leak-check=full --error-exitcode=9 "$work/calls"
     else

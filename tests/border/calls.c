@@ -15,9 +15,12 @@
         }                                              \
     } while (0)
 
-/* How many requests for memory succeed before the others fail, or -1 for all. The linker puts these two in the place of
- * malloc and realloc. */
+/* How many requests for memory succeed before the others fail, or -1 for all. The linker puts these three in the place of
+ * malloc, realloc and free. */
 static int allowed = -1;
+
+/* How many blocks are held. */
+static int blocks = 0;
 
 static bool is_refused(void) {
     if (allowed > 0)
@@ -29,13 +32,23 @@ static bool is_refused(void) {
 
 void *__real_malloc(size_t size);
 void *__real_realloc(void *block, size_t size);
+void __real_free(void *block);
 
 void *__wrap_malloc(size_t size) {
-    return is_refused() ? NULL : __real_malloc(size);
+    void *made = is_refused() ? NULL : __real_malloc(size);
+    blocks += made != NULL;
+    return made;
 }
 
 void *__wrap_realloc(void *block, size_t size) {
-    return is_refused() ? NULL : __real_realloc(block, size);
+    void *made = is_refused() ? NULL : __real_realloc(block, size);
+    blocks += block == NULL && made != NULL;
+    return made;
+}
+
+void __wrap_free(void *block) {
+    blocks -= block != NULL;
+    __real_free(block);
 }
 
 static uint32_t matches(struct glob_pattern *pattern, const char *text, uint32_t flags) {
@@ -90,7 +103,25 @@ static int escaping(void) {
     CHECK(glob_pattern_escape("a[1]", 4, out, 7, &needed) == GLOB_TOO_SHORT && needed == 8 && out[0] == '.');
     CHECK(glob_pattern_escape("a[1]", 4, out, 8, &needed) == GLOB_DONE && needed == 8);
     CHECK(memcmp(out, "a[[]1[]].", 9) == 0);
+    /* the length alone is asked for, with no room */
+    needed = 0;
+    CHECK(glob_pattern_escape("a[1]", 4, out, 0, &needed) == GLOB_TOO_SHORT && needed == 8);
+    CHECK(glob_pattern_escape("ab", 2, out, 0, &needed) == GLOB_TOO_SHORT && needed == 2);
+    CHECK(glob_pattern_escape("", 0, out, 0, &needed) == GLOB_DONE && needed == 0);
+    CHECK(memcmp(out, "a[[]1[]].", 9) == 0);
     CHECK(glob_pattern_escape("\xff", 1, out, 16, &needed) == GLOB_NOT_UTF8);
+    return 0;
+}
+
+/* A pattern holds some blocks until it is freed, and then none. */
+static int blocks_of_a_pattern(void) {
+    struct glob_pattern pattern = {0};
+    struct glob_fault fault;
+    CHECK(blocks == 0);
+    CHECK(glob_pattern_new(&pattern, "a/**/[b-d]*", 11, &fault) == GLOB_DONE);
+    CHECK(blocks > 0);
+    glob_pattern_free(&pattern);
+    CHECK(blocks == 0);
     return 0;
 }
 
@@ -125,6 +156,15 @@ static int memory(void) {
     return 0;
 }
 
+/* The calls leave no block behind. */
+static int leave_nothing(int calls(void)) {
+    if (calls())
+        return 1;
+    CHECK(blocks == 0);
+    return 0;
+}
+
 int main(void) {
-    return matching() || faults() || escaping() || memory();
+    return leave_nothing(blocks_of_a_pattern) || leave_nothing(matching) || leave_nothing(faults)
+        || leave_nothing(escaping) || leave_nothing(memory);
 }
