@@ -175,15 +175,16 @@ struct Flow {
     pattern: &'static str,
     line: &'static str,
     lines: usize,
-    /// The most bytes that one read gives.
+    /// The most bytes that one read gives, and the most reads of the input.
     most: usize,
+    reads: u64,
     /// The fewest writes that the output may take: it is not gathered whole.
     writes: u64,
 }
 
-/// How many calls so many bytes may take where each may move so many: one for each 4,096 of them, and a few more.
-fn most_calls(bytes: usize, most: usize) -> u64 {
-    (bytes as u64 / most.clamp(1, 4_096) as u64).saturating_add(3)
+/// How many writes so many bytes may take: one for each 4,096 of them, and a few more.
+fn most_writes(bytes: usize) -> u64 {
+    (bytes as u64 / 4_096).saturating_add(3)
 }
 
 /// How often memory may be requested: a few times for each doubling of the input and of the output.
@@ -209,14 +210,8 @@ fn check_calls(rt: &(impl Abort + AllocGlobal), flow: &Flow) -> Result<(), Fail>
     filter_lines(&counted, &pattern, options, &mut reader, &mut writer)?;
     let written = writer.into_inner().inner.written().len();
     let (reads, writes) = (reads.get(), writes.get());
-    assert!(rt;
-        reads <= most_calls(input.len(), flow.most),
-        "{reads} reads"
-    );
-    assert!(rt;
-        writes <= most_calls(written, usize::MAX),
-        "{writes} writes"
-    );
+    assert!(rt; reads <= flow.reads, "{reads} reads");
+    assert!(rt; writes <= most_writes(written), "{writes} writes");
     assert!(rt; flow.writes <= writes, "{writes} writes");
     let requests = counted.ration.asked();
     assert!(rt; requests <= MOST_REQUESTS, "{requests} requests");
@@ -236,6 +231,7 @@ const FLOWS: [Flow; 5] = [
         line: "a line\n",
         lines: 100_000,
         most: usize::MAX,
+        reads: 173,
         writes: 5,
     },
     Flow {
@@ -243,6 +239,7 @@ const FLOWS: [Flow; 5] = [
         line: "a line\n",
         lines: 100_000,
         most: usize::MAX,
+        reads: 173,
         writes: 0,
     },
     Flow {
@@ -250,6 +247,7 @@ const FLOWS: [Flow; 5] = [
         line: "\n",
         lines: 300_000,
         most: usize::MAX,
+        reads: 76,
         writes: 2,
     },
     Flow {
@@ -257,6 +255,7 @@ const FLOWS: [Flow; 5] = [
         line: "a",
         lines: 1_000_000,
         most: usize::MAX,
+        reads: 247,
         writes: 1,
     },
     Flow {
@@ -264,6 +263,7 @@ const FLOWS: [Flow; 5] = [
         line: "a line\n",
         lines: 50_000,
         most: 100,
+        reads: 3_503,
         writes: 0,
     },
 ];

@@ -109,7 +109,7 @@ fn a_reader_that_never_ends(rt: HostRuntime) -> Result<(), Fail> {
     let endless = Same {
         answer: Ok(usize::MAX),
     };
-    for number in 1..=6 {
+    for number in [1, 2, 3, 9] {
         let scarce = Rationed::refusing(number, rt.alloc());
         let writes = Cell::new(0);
         let mut reader = Watch::new(endless);
