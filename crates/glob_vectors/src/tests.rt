@@ -15,6 +15,7 @@ mod questions;
 mod readme;
 mod repeated;
 mod sizes;
+mod sizes_of_lines;
 mod texts;
 mod trees;
 mod watching;

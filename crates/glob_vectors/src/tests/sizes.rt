@@ -1,5 +1,4 @@
 //! Calls at many sizes and over characters of each length. Memory is ample, so each of them succeeds.
-use super::lines::copied;
 use super::repeated::text_of;
 use crate::judges::{Answers, TableJudge};
 use glob::{Look, MatchOptions, MemTree, Pattern, Shape, Tree, TreeRefusal, run_positions};
@@ -10,7 +9,7 @@ use std::process::Abort;
 use std::test::Fail;
 
 /// Characters of one to four bytes, the first and the last of each length, and the last but one of all.
-const CHARACTERS: [&str; 8] = [
+pub(super) const CHARACTERS: [&str; 8] = [
     "a",
     "\u{7f}",
     "\u{80}",
@@ -22,10 +21,10 @@ const CHARACTERS: [&str; 8] = [
 ];
 
 /// The sizes from 0 to 300.
-const SMALL: usize = 301;
+pub(super) const SMALL: usize = 301;
 
 /// The sizes from 0 to 300, and those around each power of two up to the one of this exponent.
-fn sizes_to(rt: &impl AllocGlobal, exponent: u32) -> Result<Vec<usize>, AllocError> {
+pub(super) fn sizes_to(rt: &impl AllocGlobal, exponent: u32) -> Result<Vec<usize>, AllocError> {
     let mut sizes = Vec::new(rt.alloc());
     for size in 0..SMALL {
         sizes.push(size)?;
@@ -62,15 +61,22 @@ fn add_trials(trials: &mut Vec<Trial>, place: usize, size: usize) -> Result<(), 
     Ok(())
 }
 
-/// The characters that are tried at each of the sizes: at the first all, and else one after another. So each of them is
-/// tried at some power of two, one below and one above, as the list has three sizes for each power.
-fn trials(rt: &impl AllocGlobal) -> Result<Vec<Trial>, AllocError> {
+/// The characters that are tried at each of the sizes from one to another, both included: at the first all, and else one
+/// after another. So each of them is tried at some power of two, one below and one above, as the list has three sizes for
+/// each power. The largest sizes are tests of their own, as each test has a time limit.
+fn trials(rt: &impl AllocGlobal, from: usize, to: usize) -> Result<Vec<Trial>, AllocError> {
     let mut trials = Vec::new(rt.alloc());
     for (place, size) in sizes_to(rt, 17)?.iter().enumerate() {
-        add_trials(&mut trials, place, *size)?;
+        if from <= *size && *size <= to {
+            add_trials(&mut trials, place, *size)?;
+        }
     }
     Ok(trials)
 }
+
+/// The largest size at which so many tokens are matched with so many characters that are not ASCII: that may cost tokens
+/// times characters. Above it one of both numbers is small.
+const SQUARE: usize = 1_025;
 
 /// Each form of matching answers so.
 fn check_forms(
@@ -119,47 +125,63 @@ fn check_units(rt: &(impl Abort + AllocGlobal), trial: Trial) -> Result<(), Fail
         if trial.size < SMALL {
             check_pattern(rt, unit, character, trial.size, "")?;
         }
-        if trial.size < SMALL || number == picked {
+        if SQUARE < trial.size && number == picked {
+            check_uneven(rt, unit, character, trial.size, 3)?;
+            check_uneven(rt, unit, character, 3, trial.size)?;
+        } else if trial.size < SMALL || number == picked {
             check_pattern(rt, unit, character, trial.size, "*")?;
         }
     }
     Ok(())
 }
 
-/// The patterns of the sizes from one to another, both included. The largest sizes are tests of their own, as each test
-/// has a time limit: matching may cost tokens times characters.
+/// The unit so many times, and then `*`, matches so many of the character, unless these are fewer.
+fn check_uneven(
+    rt: &(impl Abort + AllocGlobal),
+    unit: &str,
+    character: &str,
+    tokens: usize,
+    characters: usize,
+) -> Result<(), Fail> {
+    let source = text_of(rt, &[(unit, tokens), ("*", 1)])?;
+    let text = text_of(rt, &[(character, characters)])?;
+    let pattern = Pattern::new(rt.alloc(), source.as_str())?;
+    assert!(rt; Pattern::from_str(rt.alloc(), source.as_str())? == pattern);
+    check_forms(rt, &pattern.clone()?, text.as_str(), tokens <= characters)?;
+    Ok(())
+}
+
+/// The patterns of the sizes from one to another, both included.
 fn check_patterns(rt: &(impl Abort + AllocGlobal), from: usize, to: usize) -> Result<(), Fail> {
-    for trial in trials(rt)? {
-        if from <= trial.size && trial.size <= to {
-            check_units(rt, trial)?;
-        }
+    for trial in trials(rt, from, to)? {
+        check_units(rt, trial)?;
     }
     Ok(())
 }
 
 #[test]
 fn patterns(rt: HostRuntime) -> Result<(), Fail> {
-    check_patterns(&rt, 0, 32_769)
+    check_patterns(&rt, 0, 149)
 }
 
 #[test]
-fn patterns_of_65_536(rt: HostRuntime) -> Result<(), Fail> {
-    check_patterns(&rt, 65_535, 65_537)
+fn patterns_of_300(rt: HostRuntime) -> Result<(), Fail> {
+    check_patterns(&rt, 150, 300)
 }
 
 #[test]
-fn patterns_of_131_071(rt: HostRuntime) -> Result<(), Fail> {
-    check_patterns(&rt, 131_071, 131_071)
+fn patterns_of_1_024(rt: HostRuntime) -> Result<(), Fail> {
+    check_patterns(&rt, 511, SQUARE)
+}
+
+#[test]
+fn patterns_of_32_768(rt: HostRuntime) -> Result<(), Fail> {
+    check_patterns(&rt, SQUARE.saturating_add(1), 32_769)
 }
 
 #[test]
 fn patterns_of_131_072(rt: HostRuntime) -> Result<(), Fail> {
-    check_patterns(&rt, 131_072, 131_072)
-}
-
-#[test]
-fn patterns_of_131_073(rt: HostRuntime) -> Result<(), Fail> {
-    check_patterns(&rt, 131_073, 131_073)
+    check_patterns(&rt, 65_535, 131_073)
 }
 
 /// A bracket of this many entries matches the character, and not `%`.
@@ -180,7 +202,7 @@ fn check_bracket(
 
 #[test]
 fn brackets(rt: HostRuntime) -> Result<(), Fail> {
-    for trial in trials(&rt)? {
+    for trial in trials(&rt, 0, usize::MAX)? {
         let (character, size) = (trial.character, trial.size.max(1));
         let range = format!(in rt.alloc(); "{character}-{character}")?;
         check_bracket(&rt, character, character, size)?;
@@ -200,25 +222,41 @@ fn check_escaped(
     let escaped = Pattern::escape(rt.alloc(), text.as_str())?;
     assert_eq!(rt; escaped.len(), size.saturating_mul(each));
     let pattern = Pattern::new(rt.alloc(), escaped.as_str())?;
-    assert!(rt; pattern.matches(text.as_str())?);
+    assert!(rt; SQUARE < size && !part.is_ascii() || pattern.matches(text.as_str())?);
+    Ok(())
+}
+
+/// The escaped texts of the sizes from one to another, both included.
+fn check_escapes(rt: &(impl Abort + AllocGlobal), from: usize, to: usize) -> Result<(), Fail> {
+    for trial in trials(rt, from, to)? {
+        let special = ["?", "*", "[", "]"][trial.place % 4];
+        check_escaped(rt, special, trial.size, 3)?;
+        check_escaped(rt, trial.character, trial.size, trial.character.len())?;
+    }
     Ok(())
 }
 
 #[test]
 fn escaped_texts(rt: HostRuntime) -> Result<(), Fail> {
-    for trial in trials(&rt)? {
-        let special = ["?", "*", "[", "]"][trial.place % 4];
-        check_escaped(&rt, special, trial.size, 3)?;
-        check_escaped(&rt, trial.character, trial.size, trial.character.len())?;
-    }
-    Ok(())
+    check_escapes(&rt, 0, 32_769)
 }
 
-/// So many characters, each of which goes with each of the shapes, split into pieces of these.
+#[test]
+fn escaped_texts_of_65_536(rt: HostRuntime) -> Result<(), Fail> {
+    check_escapes(&rt, 65_535, 65_537)
+}
+
+#[test]
+fn escaped_texts_of_131_072(rt: HostRuntime) -> Result<(), Fail> {
+    check_escapes(&rt, 131_071, 131_073)
+}
+
+/// Whether so many characters, each of which goes with each of the shapes, split into pieces of these.
 fn check_shapes(
     rt: &(impl Abort + AllocGlobal),
     shapes: &[Shape],
     characters: usize,
+    answer: bool,
 ) -> Result<(), Fail> {
     let mut judge = TableJudge::new(Answers {
         characters,
@@ -226,12 +264,12 @@ fn check_shapes(
         opening: &[0],
         refused: &[],
     });
-    assert!(rt; run_positions(rt.alloc(), shapes, &mut judge)?);
+    assert_eq!(rt; run_positions(rt.alloc(), shapes, &mut judge)?, answer);
     Ok(())
 }
 
 /// So many characters split into a piece of one shape each, and an empty piece of a shape of any length. One character
-/// more goes to the last piece.
+/// more goes to the last piece. Of large sizes, few characters do not split, and many do into few pieces.
 #[test]
 fn shapes(rt: HostRuntime) -> Result<(), Fail> {
     let mut shapes = Vec::new(rt.alloc());
@@ -245,18 +283,24 @@ fn shapes(rt: HostRuntime) -> Result<(), Fail> {
             Shape::Deep
         };
         shapes.push(last)?;
-        check_shapes(&rt, shapes.as_slice(), size)?;
-        check_shapes(&rt, shapes.as_slice(), size.saturating_add(1))?;
+        if size <= SQUARE {
+            check_shapes(&rt, shapes.as_slice(), size, true)?;
+            check_shapes(&rt, shapes.as_slice(), size.saturating_add(1), true)?;
+        } else {
+            check_shapes(&rt, shapes.as_slice(), 3, false)?;
+            check_shapes(&rt, &[Shape::One, last], size, true)?;
+        }
         shapes.pop();
     }
     Ok(())
 }
 
-/// One character in seventeen, from the first to the last. None of them has a meaning in patterns.
-fn all_over(rt: &impl AllocGlobal) -> Result<String, AllocError> {
+/// So many characters, less those that are none, as far apart from one another: the first is number 15. The distance is
+/// a multiple of 17, so that none of them has a meaning in patterns.
+fn all_over(rt: &impl AllocGlobal, steps: u32, distance: u32) -> Result<String, AllocError> {
     let mut text = String::new(rt.alloc());
-    for step in 0..65_536u32 {
-        if let Some(c) = char::from_u32(step.saturating_mul(17).saturating_add(15)) {
+    for step in 0..steps {
+        if let Some(c) = char::from_u32(step.saturating_mul(distance).saturating_add(15)) {
             text.push(c)?;
         }
     }
@@ -265,17 +309,24 @@ fn all_over(rt: &impl AllocGlobal) -> Result<String, AllocError> {
 
 #[test]
 fn characters_all_over(rt: HostRuntime) -> Result<(), Fail> {
-    let text = all_over(&rt)?;
-    let text = text.as_str();
-    let escaped = Pattern::escape(rt.alloc(), text)?;
-    assert_eq!(rt; escaped.as_str(), text);
-    let pattern = Pattern::new(rt.alloc(), text)?.clone()?;
-    check_forms(&rt, &pattern, text, true)?;
+    let text = all_over(&rt, 65_536, 17)?;
+    let escaped = Pattern::escape(rt.alloc(), text.as_str())?;
+    assert_eq!(rt; escaped.as_str(), text.as_str());
+    let mut tree = MemTree::new(rt.alloc())?;
+    check_name(&rt, &mut tree, text.as_str())?;
+    let text = all_over(&rt, 4_096, 272)?;
+    let pattern = Pattern::new(rt.alloc(), text.as_str())?.clone()?;
+    check_forms(&rt, &pattern, text.as_str(), true)?;
+    Ok(())
+}
+
+#[test]
+fn a_bracket_of_characters_all_over(rt: HostRuntime) -> Result<(), Fail> {
+    let text = all_over(&rt, 65_536, 17)?;
     let bracket = format!(in rt.alloc(); "[{text}]")?;
     let bracket = Pattern::new(rt.alloc(), bracket.as_str())?;
     check_forms(&rt, &bracket, "\u{10fffe}", true)?;
-    let mut tree = MemTree::new(rt.alloc())?;
-    check_name(&rt, &mut tree, text)
+    Ok(())
 }
 
 /// A directory of this name is added, becomes the current one and is listed.
@@ -304,7 +355,7 @@ fn check_name(rt: &(impl Abort + AllocGlobal), tree: &mut MemTree, name: &str) -
 
 #[test]
 fn names(rt: HostRuntime) -> Result<(), Fail> {
-    for trial in trials(&rt)? {
+    for trial in trials(&rt, 0, usize::MAX)? {
         let name = text_of(&rt, &[(trial.character, trial.size.max(1))])?;
         let mut tree = MemTree::new(rt.alloc())?;
         check_name(&rt, &mut tree, name.as_str())?;
@@ -317,7 +368,7 @@ fn names(rt: HostRuntime) -> Result<(), Fail> {
 fn entries(rt: HostRuntime) -> Result<(), Fail> {
     let mut tree = MemTree::new(rt.alloc())?;
     let mut count = 0usize;
-    for size in sizes_to(&rt, 12)? {
+    for size in sizes_to(&rt, 10)? {
         for number in count..size {
             let path = format!(in rt.alloc(); "/{number}")?;
             assert!(rt; tree.add_other(path.as_str()).is_ok());
@@ -329,36 +380,4 @@ fn entries(rt: HostRuntime) -> Result<(), Fail> {
         }
     }
     Ok(())
-}
-
-/// The input is copied whole by `*`, as so many lines, with a line feed at the end.
-fn check_copied(rt: &(impl Abort + AllocGlobal), input: &str, lines: usize) -> Result<(), Fail> {
-    let (count, written) = copied(rt, "*", input.as_bytes(), usize::MAX)?;
-    assert_eq!(rt; count, lines as u64);
-    assert!(rt; written.starts_with(input.as_bytes()));
-    let fed = usize::from(!input.is_empty() && !input.ends_with('\n'));
-    assert_eq!(rt; written.len(), input.len().saturating_add(fed));
-    Ok(())
-}
-
-/// One input with a line of each small size, inputs of so many lines, and inputs of one line, with a line feed or not.
-#[test]
-fn lines(rt: HostRuntime) -> Result<(), Fail> {
-    let mut each = String::new(rt.alloc());
-    for (place, size) in sizes_to(&rt, 17)?.iter().copied().enumerate() {
-        let many = text_of(&rt, &[("a\n", size)])?;
-        check_copied(&rt, many.as_str(), size)?;
-        let character = CHARACTERS[place % 8];
-        let mut line = text_of(&rt, &[(character, size)])?;
-        if size >= SMALL {
-            check_copied(&rt, line.as_str(), 1)?;
-        }
-        line.push('\n')?;
-        if size < SMALL {
-            each.push_str(line.as_str())?;
-        } else {
-            check_copied(&rt, line.as_str(), 1)?;
-        }
-    }
-    check_copied(&rt, each.as_str(), SMALL)
 }
