@@ -1,6 +1,7 @@
 mod chance;
 mod checks;
 mod contents;
+mod driving;
 mod failing;
 mod files;
 mod goals;

@@ -9,7 +9,7 @@ use std::process::Abort;
 use std::test::Fail;
 
 /// Some stand there more than once, so that they come more often.
-const COMPONENTS: [&str; 26] = [
+pub(super) const COMPONENTS: [&str; 26] = [
     "**", "**", "**", "**", "*", "*", "*", "?", "a", "a*", "*b", ".*", ".?", "[ab]", "[!a]*", ".",
     "..", "", "A", ".a", "é", "a[b]", "[b", "]*", "é**", "***",
 ];

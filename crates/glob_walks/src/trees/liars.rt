@@ -296,3 +296,34 @@ impl<A: Allocator + Copy> Liar for Unreadable<A> {
         Err(ListError::Read(self.error))
     }
 }
+
+/// A number that is another after each question, by its kind and its path.
+pub fn noted(before: u64, kind: u64, path: &str) -> u64 {
+    let start = before.wrapping_mul(31).wrapping_add(kind);
+    path.bytes().fold(start, |number, byte| {
+        number.wrapping_mul(31).wrapping_add(u64::from(byte))
+    })
+}
+
+/// A tree in memory that notes its questions as one number, in a place that it is lent.
+#[derive(Drop)]
+pub struct Noting<'a, A: Allocator + Copy> {
+    /// Its answers.
+    pub tree: MemTree<A>,
+    /// The number of the questions so far.
+    pub number: &'a Cell<u64>,
+}
+
+impl<A: Allocator + Copy> Liar for Noting<'_, A> {
+    type Alloc = A;
+
+    fn look(&mut self, path: &str) -> Result<Look, AllocError> {
+        self.number.set(noted(self.number.get(), 1, path));
+        self.tree.look(path)
+    }
+
+    fn list(&mut self, path: &str) -> Result<Vec<Entry<A>, A>, ListError> {
+        self.number.set(noted(self.number.get(), 2, path));
+        self.tree.list(path)
+    }
+}
