@@ -1,17 +1,14 @@
-//! An allocator that counts the requests for memory, their bytes and the blocks that are held, and refuses a chosen
-//! request.
+//! An allocator that counts the requests for memory and the blocks that are held, and refuses a chosen request.
 ghost use Rattle.std.specs.Prelude.{◌≡◌, false, Option, None, Some, ℕ};
 
 use std::alloc::{AllocError, Allocator};
 use std::cell::Cell;
 use std::marker::Model;
 
-/// The number of requests for memory so far and of their bytes, how many blocks were given back, and which request is
-/// refused, if any.
+/// The number of requests for memory so far, how many blocks were given back, and which request is refused, if any.
 #[derive(Drop)]
 pub struct Ration {
     asked: Cell<u64>,
-    bytes: Cell<u64>,
     given_back: Cell<u64>,
     refused: Option<u64>,
 }
@@ -30,7 +27,6 @@ impl Ration {
     {
         Ration {
             asked: Cell::new(0),
-            bytes: Cell::new(0),
             given_back: Cell::new(0),
             refused: None,
         }
@@ -43,7 +39,6 @@ impl Ration {
     {
         Ration {
             asked: Cell::new(0),
-            bytes: Cell::new(0),
             given_back: Cell::new(0),
             refused: Some(number),
         }
@@ -52,12 +47,6 @@ impl Ration {
     /// How many requests were counted so far, those that were refused or failed among them.
     pub fn asked(&self) -> u64 {
         self.asked.get()
-    }
-
-    /// How many bytes all requests were for so far, those that were refused or failed among them. A block that grows is
-    /// counted anew, with its whole new size.
-    pub fn bytes(&self) -> u64 {
-        self.bytes.get()
     }
 
     /// How many blocks are held: those that were asked for and not refused, without those that were given back. A
@@ -71,13 +60,6 @@ impl Ration {
         asked
             .saturating_sub(refused)
             .saturating_sub(self.given_back.get())
-    }
-
-    /// Counts the bytes of a request.
-    /// The count stops at `u64::MAX`.
-    pub fn count_bytes(&self, size: usize) {
-        let bytes = self.bytes.get().saturating_add(size as u64);
-        self.bytes.set(bytes);
     }
 
     /// Counts a block that is given back.
@@ -131,7 +113,6 @@ unsafe impl<A: Allocator> Allocator for Rationed<A> {
     ghost dealloc_token = { λ rationed. A.dealloc_token rationed.inner };
 
     fn allocate(&self, size: usize, align: usize) -> Result<*mut u8, AllocError> {
-        self.ration.count_bytes(size);
         if self.ration.refuses_next() {
             return Err(AllocError);
         }
@@ -198,16 +179,6 @@ mod tests {
         assert!(rt; sums(&scarce, &[1, 2]).is_err());
         assert_eq!(rt; sums(&scarce, &[1, 2])?.as_slice(), [1, 3].as_slice());
         assert_eq!(rt; scarce.ration.asked(), 2);
-        Ok(())
-    }
-
-    #[test]
-    fn the_bytes_of_each_request_are_counted(rt: HostRuntime) -> Result<(), Fail> {
-        let scarce = Rationed::refusing(2, rt.alloc());
-        drop(Vec::<u32, _>::with_capacity(&scarce, 10)?);
-        assert_eq!(rt; scarce.ration.bytes(), 40);
-        assert!(rt; Vec::<u8, _>::with_capacity(&scarce, 7).is_err());
-        assert_eq!(rt; scarce.ration.bytes(), 47);
         Ok(())
     }
 }

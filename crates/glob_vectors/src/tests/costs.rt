@@ -97,79 +97,6 @@ fn short_lists_of_shapes_need_no_memory(rt: HostRuntime) -> Result<(), Fail> {
     Ok(())
 }
 
-/// A unit of a pattern, how often it stands there, and how many requests each may take. The first makes a megabyte.
-const UNITS: [(&str, usize, u64); 4] = [
-    ("a*\u{10fffe}?", 150_000, 0),
-    ("**/", 50_000, 0),
-    ("[!b-y]", 20_000, 4),
-    ("[0123456789abcdef]", 10_000, 8),
-];
-
-/// To read a pattern and to copy it takes a few requests for each bracket, and else a few for each doubling of its length.
-/// All blocks are given back.
-#[test]
-fn long_patterns_take_few_requests(rt: HostRuntime) -> Result<(), Fail> {
-    for (unit, units, each) in UNITS {
-        let text = text_of(&rt, &[(unit, units)])?;
-        let counted = Rationed::refusing(0, rt.alloc());
-        let pattern = Pattern::new(&counted, text.as_str())?;
-        let most = (units as u64).saturating_mul(each).saturating_add(100);
-        let read = counted.ration.asked();
-        assert!(rt; read <= most, "{read} requests for {unit}");
-        let copy = pattern.clone()?;
-        let copied = counted.ration.asked().saturating_sub(read);
-        assert!(rt; copied <= most, "{copied} requests for a copy of {unit}");
-        drop(copy);
-        drop(pattern);
-        assert_eq!(rt; counted.ration.held(), 0);
-        Pattern::escape(&counted, text.as_str())?;
-        assert_eq!(rt; counted.ration.held(), 0);
-    }
-    Ok(())
-}
-
-/// A unit of a pattern, how often it stands there, how many bytes each may take, and how many the pattern may take
-/// beside them: none for the masks of wildcards where there are no wildcards.
-const ROOMS: [(&str, usize, u64, u64); 6] = [
-    ("abcdefghij", 1, 1_280, 512),
-    ("abcdefghij", 1_000, 2_560, 512),
-    ("\u{e9}", 60, 128, 512),
-    ("[a]", 20, 384, 512),
-    ("?*", 30, 256, 2_816),
-    ("?*", 3_000, 512, 2_816),
-];
-
-#[test]
-fn a_pattern_takes_little_room(rt: HostRuntime) -> Result<(), Fail> {
-    for (unit, units, each, fixed) in ROOMS {
-        let text = text_of(&rt, &[(unit, units)])?;
-        let counted = Rationed::refusing(0, rt.alloc());
-        Pattern::new(&counted, text.as_str())?;
-        let most = each.saturating_mul(units as u64).saturating_add(fixed);
-        let bytes = counted.ration.bytes();
-        assert!(rt; bytes <= most, "{bytes} bytes for {units} times {unit}");
-    }
-    Ok(())
-}
-
-/// An escaped text takes twice the room that it needs, at most.
-#[test]
-fn an_escaped_text_takes_little_room(rt: HostRuntime) -> Result<(), Fail> {
-    for unit in ["a", "\u{10fffe}", "*", "[a", "a long part ["] {
-        for units in [1, 10, 1_000] {
-            let text = text_of(&rt, &[(unit, units)])?;
-            let counted = Rationed::refusing(0, rt.alloc());
-            let needed = Pattern::escape(&counted, text.as_str())?.len() as u64;
-            let bytes = counted.ration.bytes();
-            assert!(rt;
-                bytes <= needed.saturating_mul(2),
-                "{bytes} bytes for {unit}"
-            );
-        }
-    }
-    Ok(())
-}
-
 /// Lines, and how they are read and written.
 struct Flow {
     pattern: &'static str,
@@ -190,7 +117,7 @@ fn most_writes(bytes: usize) -> u64 {
 /// How often memory may be requested: a few times for each doubling of the input and of the output.
 const MOST_REQUESTS: u64 = 64;
 
-/// Reads and writes are few, and so are the requests for memory and their bytes.
+/// Reads and writes are few, and so are the requests for memory.
 fn check_calls(rt: &(impl Abort + AllocGlobal), flow: &Flow) -> Result<(), Fail> {
     let input = text_of(rt, &[(flow.line, flow.lines)])?;
     let (reads, writes) = (Cell::new(0), Cell::new(0));
@@ -215,11 +142,6 @@ fn check_calls(rt: &(impl Abort + AllocGlobal), flow: &Flow) -> Result<(), Fail>
     assert!(rt; flow.writes <= writes, "{writes} writes");
     let requests = counted.ration.asked();
     assert!(rt; requests <= MOST_REQUESTS, "{requests} requests");
-    let bytes = counted.ration.bytes();
-    let most = (input.len() as u64)
-        .saturating_mul(8)
-        .saturating_add(524_288);
-    assert!(rt; bytes <= most, "{bytes} bytes");
     assert_eq!(rt; counted.ration.held(), 0);
     Ok(())
 }

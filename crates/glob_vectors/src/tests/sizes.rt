@@ -128,7 +128,9 @@ fn check_units(rt: &(impl Abort + AllocGlobal), trial: Trial) -> Result<(), Fail
         if SQUARE < trial.size && number == picked {
             check_uneven(rt, unit, character, trial.size, 3)?;
             check_uneven(rt, unit, character, 3, trial.size)?;
-        } else if trial.size < SMALL || number == picked {
+        }
+        let linear = trial.size <= SQUARE || character.is_ascii();
+        if trial.size < SMALL || number == picked && linear {
             check_pattern(rt, unit, character, trial.size, "*")?;
         }
     }
