@@ -1,6 +1,6 @@
 #!/usr/bin/env python3
-"""Quotes the contracts of the library's public calls in crates/glob/CALLING.md, below the line '## Contracts'. And
-checks the page's tables: each public type has a row, and each word of a public clause one with the module that has it.
+"""Quotes the contracts of the library's public calls in docs/reference/contracts.md. And checks the tables of
+crates/glob/CALLING.md: each public type has a row, and each word of a public clause one with the module that has it.
 
     tests/contracts.py            writes the quotes anew
     tests/contracts.py --check    writes nothing, and fails where a quote is not what src/ says
@@ -11,9 +11,9 @@ import sys
 from pathlib import Path
 
 ROOT = Path(__file__).resolve().parent.parent
-PAGE = ROOT / "crates/glob/CALLING.md"
+CALLING = ROOT / "crates/glob/CALLING.md"
+PAGE = ROOT / "docs/reference/contracts.md"
 CRATES = ["glob_pattern", "glob_lines", "glob_tree", "glob_walk"]
-HEAD = "## Contracts\n"
 
 
 def public_names(crate):
@@ -118,15 +118,13 @@ def missing_rows(text):
 
 def main():
     text = PAGE.read_text(encoding="utf-8")
-    before = text.split(HEAD)[0] + HEAD
-    intro = text.split(HEAD)[1].split("###")[0]
-    wanted = before + intro + page()
+    wanted = text.split("###")[0] + page()
     if "--check" not in sys.argv:
         PAGE.write_text(wanted, encoding="utf-8")
     elif wanted != text:
-        sys.exit("crates/glob/CALLING.md: the contracts are not those of src/. Run tests/contracts.py.")
-    if missing_rows(text):
-        sys.exit("crates/glob/CALLING.md: no row with its module: " + ", ".join(missing_rows(text)))
+        sys.exit(f"{PAGE.relative_to(ROOT)}: the contracts are not those of src/. Run tests/contracts.py.")
+    if missing := missing_rows(CALLING.read_text(encoding="utf-8")):
+        sys.exit(f"{CALLING.relative_to(ROOT)}: no row with its module: {', '.join(missing)}")
 
 
 main()

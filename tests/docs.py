@@ -64,11 +64,10 @@ def quotes(page, number, source):
 
 
 def unlisted_blocks():
-    """The blocks of code on the pages of EXAMPLES of which no row is. tests/contracts.py writes those below its line,
-    and tests/manual.py runs those of a shell."""
+    """The blocks of code on the pages of EXAMPLES of which no row is. tests/manual.py runs those of a shell."""
     found = []
     for page in sorted({example[0] for example in EXAMPLES}):
-        text = (ROOT / page).read_text(encoding="utf-8").split("\n## Contracts\n")[0]
+        text = (ROOT / page).read_text(encoding="utf-8")
         kinds = re.findall(r"^```(\w*)\n.*?^```$", text, re.S | re.M)
         listed = [example[1] for example in EXAMPLES if example[0] == page]
         if listed != list(range(len([kind for kind in kinds if kind in ("rust", "antt")]))):
