@@ -139,7 +139,8 @@ fn ask_next<J: Judge>(shapes: &[Shape], word: ShapeWord, alive: u64, judge: &mut
 
 /// Which answer to the next question would leave the set as it is, so that the step can be skipped: that of the step
 /// before, `took`, if it led from the set to itself and would do so where no component starts. Only for a word that is
-/// alone: with several, the others would have to be asked, too.
+/// alone: with several, the others would have to be asked, too. So for `*.rs` and the text `ab.`, where `*` alone takes
+/// `a` and the set stays what it is, the same answer about `b` leaves it, and the answer about `.` does not.
 #[inline(always)]
 fn answer_to_keep(word: ShapeWord, alone: bool, old: u64, took: u64, opens: bool, next: u64) -> u64
     requires stepped { AfterStep word took opens false

@@ -31,7 +31,7 @@ pub struct Compiled<A: Allocator> {
     // the shapes as bits: those of the first 63 tokens, and if there are more tokens, those of all
     first: ShapeWord,
     words: Vec<ShapeWord, A>,
-    // none in a pattern without wildcards
+    // none in a pattern without `*` and `**`
     masks: Vec<CharMasks, A>,
     // how many tokens at the start and at the end take one character each
     lead: usize,

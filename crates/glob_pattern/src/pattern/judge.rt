@@ -135,7 +135,7 @@ impl<A: Allocator> Judge for TextJudge<'_, A> {
         self.count += u128::from(asked.count_ones());
         let opening = self.before == '/';
         let Some(masks) = self.masks.get(word) else {
-            // A pattern without wildcards has no masks.
+            // A pattern without `*` and `**` has no masks.
             let options = self.options;
             return take_left(self.tokens, word, asked, options, opening, self.current);
         };

@@ -16,7 +16,9 @@ use std::alloc::Allocator;
 /// How many characters at the start and at the end of a text are decided.
 #[derive(Clone, Copy)]
 pub struct Trimmed {
+    /// Characters at the start, which the first tokens take, one each.
     pub start: usize,
+    /// Characters at the end, which the last tokens take, one each.
     pub end: usize,
 }
 
