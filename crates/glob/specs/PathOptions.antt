@@ -2,7 +2,7 @@
 use Rattle.std.specs.Prelude.{true, false}
 use Rattle.glob.specs.Types.{MatchOptions}
 
--- with case and the separator rule
+-- case-sensitive, with the separator rule
 abbrev pub path_options : MatchOptions
 path_options = record {
   case_sensitive = true;

@@ -39,7 +39,7 @@ message_of n = if n == 0 then wildcards_message else if n == 1 then recursive_me
 abbrev pub fault_of : ℕ → ℕ → Fault
 fault_of place message = record { place = place; message = message_of message }
 
--- the options that three flags say: 1 without case, 2 the separator rule, 4 the dot rule
+-- the options that three flags say: 1 case-insensitive, 2 the separator rule, 4 the dot rule
 abbrev pub options_of : ℕ → MatchOptions
 options_of flags = record {
   case_sensitive = bit_and flags 1 == 0;

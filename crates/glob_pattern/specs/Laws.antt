@@ -38,7 +38,7 @@ PatternsLoosened =
 abbrev pub IsPlain : Text → Type 0
 IsPlain text = IsFalse (list_any is_wildcard text)
 
--- the texts have equally many characters, and at each place the same, with or without case
+-- the texts have equally many characters, and at each place the same, case-sensitively or not
 abbrev pub SameTexts : (case : Bool) → Text → Text → Type 0
 SameTexts case xs ys =
     (length xs ≡ length ys)
@@ -54,7 +54,7 @@ PlainMatchesSame =
     (o : MatchOptions) (pattern text : Text) → IsPlain pattern
     → (Matches o pattern text ↔ SameTexts o.case_sensitive text pattern)
 
--- a text without wildcards matches with case itself alone
+-- a text without wildcards matches case-sensitively itself alone
 abbrev pub PlainMatchesItself : Type 0
 PlainMatchesItself =
     (o : MatchOptions) (pattern text : Text) → IsPlain pattern → IsTrue o.case_sensitive
@@ -76,7 +76,7 @@ EscapedMatchesSame =
     (o : MatchOptions) (text other : Text)
     → (Matches o (escaped_text text) other ↔ SameTexts o.case_sensitive other text)
 
--- with case, an escaped text matches the text alone
+-- case-sensitively, an escaped text matches the text alone
 abbrev pub EscapedMatchesItself : Type 0
 EscapedMatchesItself =
     (o : MatchOptions) (text other : Text) → IsTrue o.case_sensitive
@@ -117,8 +117,8 @@ RootedMatchLevels =
     → is_match (with_separator_rule o) (slash ∷ join_with_byte slash (t ∷ ts)) (slash ∷ join_with_byte slash (n ∷ ns))
     ≡ takes_names o (is_match o) (t ∷ ts) (n ∷ ns)
 
--- Literal characters stand in a text, the same with or without case: first in it if nothing is before their tokens, and
--- last if nothing is after them.
+-- Literal characters stand in a text, the same case-sensitively or not: first in it if nothing is before their tokens,
+-- and last if nothing is after them.
 pub record StandsIn (case : Bool) (front : List Token) (plain : Text) (back : List Token) (text : Text) : Type 0 where
   pub before : Text
   pub here : Text

@@ -16,7 +16,7 @@ pub struct MatchOptions {
 }
 
 impl MatchOptions {
-    /// With case, and without the separator rule and the dot rule: so `A*` does not match `a/b`, and `*` does.
+    /// Case-sensitive, and without the separator rule and the dot rule: so `A*` does not match `a/b`, and `*` does.
     pub const fn new() -> Self
         ensures { result ≡ new_options }
     {

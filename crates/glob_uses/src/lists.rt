@@ -71,7 +71,7 @@ pub fn read_patterns<A: Allocator + Copy>(
     Ok(patterns)
 }
 
-/// With case and the separator rule: `*` takes one name of a path, and `**` any number of names.
+/// Case-sensitive, with the separator rule: `*` takes one name of a path, and `**` any number of names.
 pub const fn path_options() -> MatchOptions
     ensures { result ≡ path_options }
 {

@@ -12,8 +12,9 @@ use glob::{End, MatchOptions, Tree, walk_in};
 use std::path::PathBuf;
 
 /// The sources of a build: each path below the current directory, or below `/` if the pattern begins with that, which
-/// the whole pattern matches with case and the separator rule. The pattern has to be plain, the walk has to come to its
-/// end, and each directory on its way has to be listed: so over a tree with a known content none is missing.
+/// the whole pattern matches case-sensitively and with the separator rule. The pattern has to be plain, the walk has to
+/// come to its end, and each directory on its way has to be listed: so over a tree with a known content none is
+/// missing.
 pub fn sources<T: Tree>(
     alloc: T::Alloc,
     tree: T,

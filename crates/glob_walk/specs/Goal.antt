@@ -36,7 +36,7 @@ start_key c pattern = if has_root pattern then [] else c.current
 abbrev pub text_below : (pattern : Text) → Key → Text
 text_below pattern names = if has_root pattern then slash ∷ join_with_byte slash names else join_with_byte slash names
 
--- with case, the separator rule, and the dot rule as the walk has it
+-- case-sensitive, with the separator rule, and the dot rule as the walk has it
 abbrev pub goal_options : MatchOptions → MatchOptions
 goal_options o = record {
   case_sensitive = true;
@@ -78,7 +78,7 @@ is_shut Other = false
 unfoldable pub is_readable : Content → (pattern : Text) → Bool
 is_readable c pattern = list_all (λ e. not (is_shut e.1) || is_none (names_past (start_key c pattern) e.0)) c.kinds
 
--- a plain walk: over a content, after a plain pattern, with case
+-- a plain walk: over a content, after a plain pattern, case-sensitively
 pub record IsPlainWalk (c : Content) (o : MatchOptions) (pattern : Text) : Type 0 where
   pub content : IsTrue (is_content c)
   pub text : IsUtf8 pattern

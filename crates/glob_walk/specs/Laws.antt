@@ -17,7 +17,7 @@ use Rattle.glob_pattern.specs.Matching.Components.{takes_names}
 abbrev pub are_names : List Text → Bool
 are_names names = list_all (λ name. is_utf8 name && is_proper name) names
 
--- With case, a plain pattern without a separator at its end matches the text of names below the start, under the
+-- Case-sensitively, a plain pattern without a separator at its end matches the text of names below the start, under the
 -- separator rule, exactly where its components take the names.
 abbrev pub PlainMatchesLevels : Type 0
 PlainMatchesLevels =

@@ -122,7 +122,7 @@ impl<A: Allocator + Copy> Component<A> {
     }
 }
 
-/// Whether the texts are the same, with case or without.
+/// Whether the texts are the same, case-sensitively or not.
 fn is_same_text(text: &str, other: &str, case_sensitive: bool) -> bool
     ensures { result ≡ same_texts case_sensitive text.now other.now }
 {

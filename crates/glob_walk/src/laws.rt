@@ -1,9 +1,9 @@
 //! Laws of walks: each is the contract of a function that does nothing.
 ghost use Rattle.glob_walk.specs.Laws.{EnoughLevelsAgree, EntriesAscend, PlainMatchesLevels, PlainWalkReaches, PlainWalkGives, PlainWalkOrderly};
 
-/// With case and under the separator rule, a plain pattern, without a `/` at its end, matches the path of a key below
-/// the start exactly where its components take the key's names: `a/**/c` that of `a/b/c`, since `a` takes `a`, `**`
-/// takes `b` and `c` takes `c`.
+/// Case-sensitively and under the separator rule, a plain pattern, without a `/` at its end, matches the path of a key
+/// below the start exactly where its components take the key's names: `a/**/c` that of `a/b/c`, since `a` takes `a`,
+/// `**` takes `b` and `c` takes `c`.
 pub fn plain_pattern_matches_level_by_level()
     ensures { PlainMatchesLevels }
 {}

@@ -45,7 +45,8 @@ pub struct Walk<T: Tree> {
 /// the items are those of what was charged, but for at most the last one.
 ///
 /// A pattern is plain if no component is empty, `.` or `..`, and if each that has a wildcard and begins with a dot is
-/// right after a `**`. For a plain pattern, with case, over a tree with a known content, and where `end` is `Done`:
+/// right after a `**`. For a plain pattern, case-sensitively, over a tree with a known content, and where `end` is
+/// `Done`:
 ///
 /// - The paths are those below the start that the whole pattern, without a `/` at its end, matches under the separator
 ///   rule, and under the dot rule if that is set. If the pattern ends in `/` or `**`, they are the directories among

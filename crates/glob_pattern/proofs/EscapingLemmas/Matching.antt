@@ -143,7 +143,7 @@ escaped_matches_same unique o text other =
       (λ s. match_by_tokens o (escaped_text text) other tokens has (TokensMatch-from_SameTexts o escaped_token (escaped_text-literal o) text other s)),
     )
 
--- with case, the text alone
+-- case-sensitively, the text alone
 pub escaped_matches_itself : TokensAreUnique → EscapedMatchesItself
 escaped_matches_itself unique o text other with_case =
     let both : Matches o (escaped_text text) other ↔ SameTexts o.case_sensitive other text = escaped_matches_same unique o text other in (

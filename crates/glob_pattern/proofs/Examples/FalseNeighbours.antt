@@ -162,7 +162,7 @@ the_dot_rule_loses_a_match claim =
     no_match_by_computing dot_rule (codes "*") (codes ".") refl
     (claim new dot_rule (refl, (λ h. h), (λ h. absurd (false≢true h))) (codes "*") (codes ".") (match_by_computing new (codes "*") (codes ".") refl))
 
--- if case may change: with case `a` does not match `A` any more
+-- if case may change: case-sensitively `a` does not match `A` any more
 case_loses_a_match : ¬ (PatternsKept MayChangeCase)
 unfolding is_match tokens_match units_from
 case_loses_a_match claim =
@@ -189,14 +189,14 @@ unfolding is_match tokens_match units_from
 some_texts_match_others claim =
     false≢true (((claim new (codes "?") (codes "a")).0 (match_by_computing new (codes "?") (codes "a") refl)).1 0 (omega arith))
 
--- `plain_pattern_matches_itself`: `itself`, without case too: `a` matches `A`
+-- `plain_pattern_matches_itself`: `itself`, case-insensitively too: `a` matches `A`
 plain_text_without_case_matches_more :
     ¬ ((o : MatchOptions) (pattern text : Text) → IsPlain pattern → (Matches o pattern text ↔ (pattern ≡ text)))
 unfolding is_match tokens_match units_from
 plain_text_without_case_matches_more claim =
     different_letters ((claim no_case (codes "a") (codes "A") refl).0 (match_by_computing no_case (codes "a") (codes "A") refl))
 
--- `escaped_text_matches_itself`: `itself`, without case too: the escaped `a` matches `A`
+-- `escaped_text_matches_itself`: `itself`, case-insensitively too: the escaped `a` matches `A`
 escaped_text_without_case_matches_more :
     ¬ ((o : MatchOptions) (text other : Text) → (Matches o (escaped_text text) other ↔ (text ≡ other)))
 unfolding is_match tokens_match units_from

@@ -15,7 +15,7 @@ small_matches_capital : tokens_match default_options (Literal 97 ∷ []) (codes 
 unfolding tokens_match
 small_matches_capital = refl
 
--- not with case, where the options are without: `a` matches `A`
+-- not case-sensitively, where the options are without: `a` matches `A`
 stands_with_case_is_false :
     ((o : MatchOptions) (front : List Token) (plain : Text) (back : List Token) (text : Text)
     → TokensMatch o (front ++ (map Literal plain ++ back)) text → StandsIn true front plain back text)

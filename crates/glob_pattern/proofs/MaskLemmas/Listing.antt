@@ -45,12 +45,12 @@ form-classes : (c small first last great_first great_last : ℕ) → c < 128 →
     → (in_range (128 + first) (128 + last) (128 + c) || in_range (128 + great_first) (128 + great_last) (128 + c)) ≡ in_range first last small
 form-classes c small first last great_first great_last lt low high gf gl cases = grind (arith, nat_tests)
 
--- between other ends no more are held without case
+-- between other ends no more are held case-insensitively
 pub folded-none : (case : Bool) (x y c : ℕ) → (is_ascii_alphabetic x && is_ascii_alphabetic y) ≡ false → (not case && in_folded_range x y c) ≡ false
 folded-none true x y c none = refl
 folded-none false x y c none = not_both (is_ascii x) _ (is_ascii y) _ (is_ascii c) _ (rw (← is_letter x, ← is_letter y) none)
 
--- the classes of the characters that are held without case between two letters
+-- the classes of the characters that are held case-insensitively between two letters
 pub folded-classes : (case : Bool) (x y c : ℕ) → c < 128 → (is_ascii_alphabetic x && is_ascii_alphabetic y) ≡ true
     → (in_range (128 + to_ascii_lowercase x) (128 + to_ascii_lowercase y) (ascii_class case c)
     || in_range (128 + to_ascii_uppercase x) (128 + to_ascii_uppercase y) (ascii_class case c))

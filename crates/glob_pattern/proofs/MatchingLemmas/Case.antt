@@ -1,4 +1,4 @@
--- Characters that are the same without case.
+-- Characters that are the same case-insensitively.
 use Rattle.std.proofs.Common.{◌≡◌, ℕ, ◌+◌, ◌<◌, ◌≤◌, ◌⊎◌, Bool, false, ◌==◌, sym, inl, inr, ⊎_elim, arith}
 use Rattle.std.proofs.lemmas.Bool.{both_ways, or_from, and_right, ne_eqb, eq-eqb, cases_lt}
 use Rattle.std.proofs.lemmas.Str.Ascii.{lowercase_is}
@@ -12,7 +12,7 @@ lower_cases c =
     (λ from. ⊎_elim (λ below. inl (omega arith, omega arith, (lowercase_is c).0 (omega arith, omega arith))) (λ above. inr (inr (omega arith), (lowercase_is c).2 (omega arith))) (cases_lt c 91))
     (cases_lt c 65)
 
--- with or without case, no other character is the same as `/`
+-- case-sensitively or not, no other character is the same as `/`
 pub same-slash : (case : Bool) (c : ℕ) → (c == slash) ≡ false → (is_same case slash c ≡ false) × (is_same case c slash ≡ false)
 same-slash case c e =
     let lower = lower_cases c in

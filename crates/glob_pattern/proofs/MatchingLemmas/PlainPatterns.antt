@@ -1,4 +1,4 @@
--- A pattern without wildcards is accepted, and with case it matches itself alone.
+-- A pattern without wildcards is accepted, and case-sensitively it matches itself alone.
 use Rattle.std.proofs.Common.{◌≡◌, ℕ, ◌<◌, ◌≢◌, ◌↔◌, Bool, true, false, ◌||◌, ◌==◌, ⊎_elim, List, [], ◌∷◌, length, map, flat_map, slice_index, IsTrue, IsFalse, refl, sym, ap, subst, ◌∙◌, arith}
 use Rattle.std.proofs.lemmas.Bool.{false≢true, or_parts, or_cases, or_left, eqb-true, eqb-false, eq-eqb, false_from_ne_true}
 use Rattle.std.proofs.lemmas.List.{map-id}
@@ -23,7 +23,7 @@ use Rattle.glob_pattern.proofs.MatchingLemmas.Literals.{IsLiteral, SameTexts-fro
 abbrev pub TokensAreUnique : Type 0
 TokensAreUnique = (text : Text) (a b : List Token) → HasTokens text a → HasTokens text b → a ≡ b
 
--- with case, texts that are the same are one
+-- case-sensitively, texts that are the same are one
 pub same-with_case : (c x : ℕ) → IsTrue (is_same true c x) → c ≡ x
 same-with_case c x h = ⊎_elim (λ e. eqb-true c x e) (λ no. absurd (false≢true no)) (or_cases (c == x) false h)
 
@@ -81,7 +81,7 @@ plain_matches_same unique o pattern text plain =
       (λ s. match_by_tokens o pattern text tokens has (TokensMatch-from_SameTexts o Literal (plain-literal o) pattern text s)),
     )
 
--- with case, that is the pattern alone
+-- case-sensitively, that is the pattern alone
 pub plain_matches_itself : TokensAreUnique → PlainMatchesItself
 plain_matches_itself unique o pattern text plain with_case =
     let both : Matches o pattern text ↔ SameTexts o.case_sensitive text pattern = plain_matches_same unique o pattern text plain in (

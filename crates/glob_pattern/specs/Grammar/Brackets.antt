@@ -16,8 +16,8 @@ entries_of (x ∷ y ∷ []) = Single x ∷ Single y ∷ []
 entries_of (x ∷ d ∷ y ∷ rest) =
     if d == hyphen then Range x y ∷ entries_of rest else Single x ∷ entries_of (d ∷ y ∷ rest)
 
--- c and x are the same character. Without case, two of ASCII are the same too if they are equal once capital letters
--- are made small.
+-- c and x are the same character. Case-insensitively, two of ASCII are the same too if they are equal once capital
+-- letters are made small.
 abbrev pub is_same : (case : Bool) → ℕ → ℕ → Bool
 is_same case c x =
     c == x || (not case && is_ascii c && is_ascii x && to_ascii_lowercase c == to_ascii_lowercase x)

@@ -2,7 +2,7 @@
 use Rattle.std.specs.Prelude.{true, false}
 use Rattle.glob_pattern.specs.declared.options.MatchOptions.{MatchOptions}
 
--- with case, and neither rule
+-- case-sensitive, and neither rule
 abbrev pub new_options : MatchOptions
 new_options = record {
   case_sensitive = true;
@@ -10,7 +10,7 @@ new_options = record {
   require_literal_leading_dot = false;
 }
 
--- without case, and neither rule
+-- case-insensitive, and neither rule
 abbrev pub default_options : MatchOptions
 default_options = record {
   case_sensitive = false;

@@ -32,7 +32,7 @@ class_of o opening c =
 abbrev pub mask_at : List ℕ → (class : ℕ) → ℕ
 mask_at masks class = slice_index_or masks class 0
 
--- with or without case, and neither rule
+-- case-sensitively or not, and neither rule
 abbrev pub case_options : (case : Bool) → MatchOptions
 case_options case = record {
   case_sensitive = case;

@@ -4,8 +4,8 @@ use super::repeated::{Parts, text_of};
 use glob::{MatchOptions, Pattern};
 use std::test::Fail;
 
-/// A pattern, a text, and whether the pattern matches the text with case, with the separator rule or without it. No
-/// text is refused for its end alone, which is tested first: each row runs the matcher.
+/// A pattern, a text, and whether the pattern matches the text case-sensitively, with the separator rule or without it.
+/// No text is refused for its end alone, which is tested first: each row runs the matcher.
 type Row = (Parts<'static>, Parts<'static>, bool);
 
 const ROWS: [Row; 20] = [

@@ -1,4 +1,4 @@
-//! Which texts a pattern matches with case and without the separator rule and the dot rule.
+//! Which texts a pattern matches case-sensitively and without the separator rule and the dot rule.
 use glob::{MatchOptions, Pattern};
 use std::alloc::AllocError;
 use std::path::Path;

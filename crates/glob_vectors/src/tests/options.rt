@@ -11,25 +11,25 @@ const ANY_CASE: MatchOptions = MatchOptions {
     require_literal_leading_dot: false,
 };
 
-/// With case and without rules.
+/// Case-sensitive, without rules.
 const CASE: MatchOptions = MatchOptions {
     case_sensitive: true,
     ..ANY_CASE
 };
 
-/// With case and the separator rule.
+/// Case-sensitive, with the separator rule.
 const SEPARATOR: MatchOptions = MatchOptions {
     require_literal_separator: true,
     ..CASE
 };
 
-/// With case and the dot rule.
+/// Case-sensitive, with the dot rule.
 const DOT: MatchOptions = MatchOptions {
     require_literal_leading_dot: true,
     ..CASE
 };
 
-/// With case and both rules.
+/// Case-sensitive, with both rules.
 const BOTH_RULES: MatchOptions = MatchOptions {
     require_literal_leading_dot: true,
     ..SEPARATOR
@@ -99,10 +99,10 @@ const RULES: [Row; 27] = [
     ("*", ".x", &[DOT], false),
 ];
 
-/// Characters that are tried in brackets without case.
+/// Characters that are tried in brackets case-insensitively.
 const TRIED: &'static str = "aMZz[_Bb@5-`K";
 
-/// Patterns with a bracket, and those of the tried characters that each matches without case.
+/// Patterns with a bracket, and those of the tried characters that each matches case-insensitively.
 const BRACKETS: [(&'static str, &'static str); 15] = [
     ("*[A-z]", "aMZz[_Bb`K"),
     ("*[0-Z]", "MZB@5K"),

@@ -5,7 +5,7 @@ use glob::{MatchOptions, Pattern};
 use std::process::Abort;
 use std::test::Fail;
 
-/// A pattern, a text, and whether the pattern matches the text with case, and without it.
+/// A pattern, a text, and whether the pattern matches the text case-sensitively, and case-insensitively.
 type Row = (Parts<'static>, Parts<'static>, bool, bool);
 
 const ENDS: [Row; 13] = [
@@ -132,7 +132,7 @@ const STRETCHES: [Row; 16] = [
     (&[("*[!config?]z*", 1)], &[("configz", 3)], false, false),
 ];
 
-/// The pattern matches the text so with case, and so without it.
+/// The pattern matches the text so case-sensitively, and so case-insensitively.
 fn check(
     rt: &(impl Abort + AllocGlobal),
     pattern: &str,

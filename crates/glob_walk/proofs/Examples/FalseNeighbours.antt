@@ -31,7 +31,7 @@ LevelsMatch IsMeant are_meant =
     → (n : Text) (ns : List Text) → IsTrue (are_meant (n ∷ ns))
     → matches_undivided o pattern (text_below pattern (n ∷ ns)) ≡ takes_names o (matches_name o) (components pattern) (n ∷ ns)
 
--- without case too: `A` takes `a` as a component, and the undivided pattern, with case, does not match it
+-- case-insensitively too: `A` takes `a` as a component, and the undivided pattern, case-sensitively, does not match it
 levels_without_case_match_more : ¬ (LevelsMatch (λ o pattern. IsTrue (is_plain pattern)) are_names)
 unfolding computed
 levels_without_case_match_more claim =
@@ -78,7 +78,7 @@ a_cut_walk_finds_less claim =
     claim one_file new (codes "*") (plain_walk one_file new "*" refl refl refl refl) [] (items (listing one_file new (codes "*")), refl) in
     ⊎_elim (λ found. not_contained (codes "a") found) (λ hidden. not_contained _ hidden.unread) (reaches.complete tt (codes "a") (0, omega arith, refl))
 
--- without case too: `[A]` finds the file `a`, and the undivided pattern, with case, does not match it
+-- case-insensitively too: `[A]` finds the file `a`, and the undivided pattern, case-sensitively, does not match it
 a_walk_without_case_finds_more :
     ¬ (ItemsReach (λ c o pattern. IsTrue (is_content c) × IsUtf8 pattern × IsTrue (is_plain pattern)) (λ given all. given ≡ all))
 unfolding computed

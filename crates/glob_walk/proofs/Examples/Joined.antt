@@ -65,7 +65,7 @@ not_plain : (row new "[a/b]" ("a" ∷ []) ≡ true ∷ false ∷ false ∷ []) �
 unfolding computed
 not_plain = (refl, refl)
 
--- and without case, where the undivided pattern keeps it,
+-- and case-insensitively, where the undivided pattern keeps it,
 without_case : row (options false false false) "A" ("a" ∷ []) ≡ false ∷ true ∷ true ∷ []
 unfolding computed
 without_case = refl

@@ -30,7 +30,7 @@ crossed = at_root (dir "a" ∷ dir "a/c" ∷ file "a/c/d" ∷ file "a/x" ∷ [])
 abbrev no_case : MatchOptions
 no_case = options false false false
 
--- without case a walk finds more than the pattern with case matches, and less
+-- case-insensitively a walk finds more than the pattern case-sensitively matches, and less
 case_counts :
     IsGiven one_file no_case "[A]" ("a" ∷ []) × IsGoal one_file no_case "[A]" []
     × IsGiven (at_root (file "A" ∷ [])) no_case "[!a]" [] × IsGoal (at_root (file "A" ∷ [])) no_case "[!a]" ("A" ∷ [])

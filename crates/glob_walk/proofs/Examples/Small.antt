@@ -9,7 +9,7 @@ use Rattle.glob_walk.specs.Listing.{listing}
 use Rattle.glob_pattern.proofs.Examples.Options.{options, new}
 use Rattle.glob_walk.proofs.Examples.Trees.{computed, dir, file, shut, at_root, Gives, Spends}
 
--- a directory, met without case
+-- a directory, met case-insensitively
 
 abbrev small_letters : Content
 small_letters = at_root (dir "aaa" ∷ [])

@@ -1,4 +1,4 @@
--- With case, a component without wildcards matches itself alone.
+-- Case-sensitively, a component without wildcards matches itself alone.
 use Rattle.std.proofs.Common.{◌≡◌, true, refl, ap}
 use Rattle.std.specs.Str.{chars, is_utf8, IsUtf8}
 use Rattle.std.proofs.lemmas.Str.{IsUtf8-from_is_utf8}

@@ -103,7 +103,7 @@ undivided_takes o case pattern utf8 plain n ns names flat =
     let nones = none-parts (result_err (reading_of (chars pattern))) (first_fault (components pattern)) both.0 in
     by_components (components pattern) refl (components-utf8 pattern utf8) (are_components false (components pattern) (components-utf8 pattern utf8) (components-flat pattern) both.1 nones.1)
   where
-    -- with case, the goal's options are the walk's with the separator rule
+    -- case-sensitively, the goal's options are the walk's with the separator rule
     ruled : goal_options o ≡ with_separator_rule o
     ruled = ap (λ b. record {
       case_sensitive = b;

@@ -1,4 +1,4 @@
--- Texts that are the same, with case or without: by their bytes and by their characters.
+-- Texts that are the same, case-sensitively or not: by their bytes and by their characters.
 use Rattle.std.proofs.Common.{◌≡◌, ℕ, zero, suc, ◌+◌, ◌/◌, ◌<◌, ◌≤◌, Bool, true, false, ◌&&◌, ◌==◌, List, [], ◌∷◌, ◌++◌, length, map, slice_index, IsTrue, cond, refl, ap, sym, ◌∙◌, ⊎_elim, arith, rules}
 use Rattle.std.specs.Bool.{Decides}
 use Rattle.std.specs.Char.{is_ascii, to_ascii_lowercase}
@@ -56,7 +56,7 @@ encodes_lower (c ∷ cs) =
 bytes_lower : (text : Text) → IsUtf8 text → map to_ascii_lowercase text ≡ encodes (map to_ascii_lowercase (chars text))
 bytes_lower text utf8 = ap (map to_ascii_lowercase) (sym (encodes-chars text utf8)) ∙ encodes_lower (chars text)
 
--- characters are the same without case exactly if they are equal once letters are made small
+-- characters are the same case-insensitively exactly if they are equal once letters are made small
 small_from_same : (c x : ℕ) → IsTrue (is_same false c x) → to_ascii_lowercase c ≡ to_ascii_lowercase x
 small_from_same c x h =
     ⊎_elim (λ e. ap to_ascii_lowercase (eqb-true c x e))

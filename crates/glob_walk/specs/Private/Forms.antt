@@ -41,6 +41,6 @@ takes_name o component name = not (is_recursive component) && matches_name o com
 abbrev pub text_fault : Text → Option Fault
 text_fault t = result_err (reading_of (chars t))
 
--- the texts are the same, with case or without
+-- the texts are the same, case-sensitively or not
 abbrev pub same_texts : (case : Bool) → Text → Text → Bool
 same_texts case text other = if case then bytes_eq text other else str_eq_ignore_ascii_case text other

@@ -7,7 +7,7 @@ use std::alloc::{AllocError, Global};
 use std::process::Abort;
 use std::test::Fail;
 
-/// With case and without rules.
+/// Case-sensitive, without rules.
 pub(super) const CASE: MatchOptions = MatchOptions {
     case_sensitive: true,
     require_literal_separator: false,
@@ -20,14 +20,14 @@ pub(super) const ANY_CASE: MatchOptions = MatchOptions {
     ..CASE
 };
 
-/// With case and the dot rule.
+/// Case-sensitive, with the dot rule.
 pub(super) const DOT: MatchOptions = MatchOptions {
     require_literal_leading_dot: true,
     ..CASE
 };
 
 impl<'a> Job<'a> {
-    /// A walk after the pattern, with case, without rules and within the highest limit.
+    /// A walk after the pattern, case-sensitively, without rules and within the highest limit.
     pub(super) fn of(pattern: &'a str) -> Self {
         Job {
             pattern,

@@ -74,7 +74,7 @@ fn matched<'a>(
     Ok(found)
 }
 
-/// What a walk is to find: what the undivided pattern matches with case and with the separator rule.
+/// What a walk is to find: what the undivided pattern matches case-sensitively and with the separator rule.
 fn goal<'a>(alloc: Global, content: &'a Content, job: Job<'_>) -> Result<Vec<&'a str>, Fail> {
     let options = MatchOptions {
         case_sensitive: true,
