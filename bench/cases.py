@@ -3,7 +3,7 @@
 from dataclasses import dataclass
 
 # What an option's letter means.
-RULES = {"i": "without case", "s": "separator rule", "d": "dot rule"}
+RULES = {"i": "case-insensitive", "s": "separator rule", "d": "dot rule"}
 
 
 def said(letters):

@@ -203,7 +203,7 @@ MATCHES = [
     Case("match `*a` 31 times and `b` with n `a` and `b`", MILLION, "n", matches(same(stars(31)), ended("b"), times=50)),
     Case("match `*a` 1,000 times and `b` with n `a` and `b`", MILLION, "n", matches(same(stars(1000)), ended("b"), times=1)),
     Case("match `**/*.rs`, both rules, n `a` and `.rs`", MILLION, "n", matches(same("**/*.rs"), ended(".rs"), "sd", 50)),
-    Case("match `*[!a]*`, without case, n letters", MILLION, "n", matches(same("*[!a]*"), repeated("a"), "i", 20)),
+    Case("match `*[!a]*`, case-insensitive, n letters", MILLION, "n", matches(same("*[!a]*"), repeated("a"), "i", 20)),
 ]
 
 WALKS = [

@@ -59,7 +59,7 @@ enum glob_match {
     GLOB_YES = 1
 };
 
-/* The options, added up. 0 is with case, and without the two rules. */
+/* The options, added up. 0 is case-sensitive, and without the two rules. */
 enum glob_flag {
     GLOB_WITHOUT_CASE = 1,      /* letters of ASCII are the same in either case */
     GLOB_LITERAL_SEPARATOR = 2, /* `/` is matched only by a `/` outside brackets, or by `**` */

@@ -19,7 +19,7 @@ pub struct MatchOptions {
 }
 
 impl MatchOptions {
-    /// With case, and without the separator rule and the dot rule. `default()` is without case.
+    /// Case-sensitive, and without the separator rule and the dot rule. `default()` is case-insensitive.
     pub const fn new() -> Self {
         MatchOptions {
             case_sensitive: true,
