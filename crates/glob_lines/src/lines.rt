@@ -8,7 +8,7 @@ ghost use Rattle.glob_lines.specs.Private.Gathering.{IsGathered};
 use crate::fault::LineFault;
 use crate::line_feeds::line_end;
 use crate::watch::Watch;
-use glob_pattern::{MatchOptions, Pattern, match_tested, may_match};
+use glob_pattern::{MatchOptions, Pattern, match_trimmed, trim};
 use std::alloc::{AllocError, Allocator};
 use std::io::{self, Read, Write};
 use std::str;
@@ -161,12 +161,12 @@ fn line_matches<B: Allocator + Copy>(
 ) -> Result<bool, AllocError>
     ensures { IfOk result (λ yes. IsTrue yes ↔ LineMatches options pattern.now line.now) }
 {
-    // These tests say of most lines that they do not match, and cost less than the test for UTF-8.
-    if !may_match(pattern, line, options) {
+    // This says of most lines that they do not match, and costs less than the test for UTF-8.
+    let Some(trimmed) = trim(pattern, line, options) else {
         return Ok(false);
-    }
+    };
     match str::from_utf8(line) {
-        Ok(text) => match_tested(pattern, text, options),
+        Ok(text) => match_trimmed(pattern, text, options, trimmed),
         Err(_) => Ok(false),
     }
 }

@@ -3,6 +3,7 @@ pub mod CharMasks
 pub mod Compiled
 pub mod Needles
 pub mod Positions
+pub mod Prefilters
 pub mod Prefixes
 pub mod Stepping
 pub mod TextTable

@@ -13,4 +13,4 @@ mod token;
 pub use error::{PatternError, PatternRefusal};
 pub use matcher::{Judge, Shape, run_positions};
 pub use options::MatchOptions;
-pub use pattern::{Pattern, match_tested, may_match};
+pub use pattern::{Pattern, Trimmed, match_trimmed, trim};

@@ -1,5 +1,6 @@
-ghost use Rattle.std.specs.Prelude.{◌≡◌, ◌*◌, ◌≤◌, ◌↔◌, [], length, IsTrue, IsOk, IfOk, IfErr, chars, false};
+ghost use Rattle.std.specs.Prelude.{◌≡◌, ◌*◌, ◌≤◌, ◌↔◌, [], length, IsTrue, IsOk, IfOk, IfErr, MatchOption, chars};
 ghost use Rattle.std.specs.Str.{is_utf8};
+ghost use Rattle.glob_pattern.specs.Private.Prefilters.{IsTrimmed};
 ghost use Rattle.glob_pattern.specs.Matching.Short.{IsShort};
 ghost use Rattle.std.specs.Path.{path_bytes};
 ghost use Rattle.glob_pattern.specs.Grammar.Units.{IsAccepted};
@@ -13,12 +14,13 @@ mod compiled;
 mod escape;
 mod judge;
 mod needle;
-mod trim;
+mod prefilter;
 
 use crate::error::PatternRefusal;
 use crate::grammar;
 use crate::options::MatchOptions;
 use compiled::Compiled;
+pub use prefilter::Trimmed;
 use std::alloc::{AllocError, Allocator, Global};
 use std::marker::Model;
 use std::path::Path;
@@ -131,8 +133,8 @@ impl<A: Allocator + Copy> Pattern<A> {
             (λ yes. IsTrue yes ↔ Matches options (chars self.now) (chars str.now)) }
         ensures short { IsShort (chars self.now) → IsOk result }
     {
-        match self.compiled.prefilter(str.as_bytes(), options) {
-            Some(trimmed) => self.compiled.matches(str, options, trimmed),
+        match trim(self, str.as_bytes(), options) {
+            Some(trimmed) => match_trimmed(self, str, options, trimmed),
             None => Ok(false),
         }
     }
@@ -182,30 +184,34 @@ impl<A: Allocator + Copy> Pattern<A> {
     }
 }
 
-/// Whether a text of these bytes may be one that the pattern matches, by its ends and a search for a needle. Where the
-/// answer is `false`, the pattern does not match: so for `*.rs` and the bytes of `main.c`. The bytes need not be UTF-8.
+/// Whether a text of these bytes may be one that the pattern matches, by its ends and a search for a needle: `None` says
+/// that it is not, so for `*.rs` and the bytes of `main.c`. Otherwise it says how much of the ends is decided, for
+/// [`match_trimmed`]. The bytes need not be UTF-8.
 #[inline(always)]
-pub fn may_match<A: Allocator>(pattern: &Pattern<A>, bytes: &[u8], options: MatchOptions) -> bool
-    ensures { result ≡ false → IsTrue (is_utf8 bytes.now)
-        → ¬ (Matches options (chars pattern.now) (chars bytes.now)) }
+pub fn trim<A: Allocator>(
+    pattern: &Pattern<A>,
+    bytes: &[u8],
+    options: MatchOptions,
+) -> Option<Trimmed>
+    ensures { MatchOption result
+        (IsTrue (is_utf8 bytes.now) → ¬ (Matches options (chars pattern.now) (chars bytes.now)))
+        (IsTrimmed options (chars pattern.now) bytes.now) }
 {
-    pattern.compiled.prefilter(bytes, options).is_some()
+    pattern.compiled.trim(bytes, options)
 }
 
-/// The answer of [`matches_with`](Pattern::matches_with), and its error, without the search for a needle: it is right for
-/// every text, and quicker for one that has passed [`may_match`]. So for `*.rs` and `main.rs` it is `true`.
+/// The answer of [`matches_with`](Pattern::matches_with), and its error, for a text whose ends [`trim`] has decided.
 #[inline(always)]
-pub fn match_tested<A: Allocator + Copy>(
+pub fn match_trimmed<A: Allocator + Copy>(
     pattern: &Pattern<A>,
     str: &str,
     options: MatchOptions,
+    trimmed: Trimmed,
 ) -> Result<bool, AllocError>
+    requires { IsTrimmed options (chars pattern.now) str.now trimmed }
     ensures answer { IfOk result
         (λ yes. IsTrue yes ↔ Matches options (chars pattern.now) (chars str.now)) }
     ensures short { IsShort (chars pattern.now) → IsOk result }
 {
-    match pattern.compiled.trim(str.as_bytes(), options) {
-        Some(trimmed) => pattern.compiled.matches(str, options, trimmed),
-        None => Ok(false),
-    }
+    pattern.compiled.matches(str, options, trimmed)
 }

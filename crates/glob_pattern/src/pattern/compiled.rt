@@ -14,8 +14,7 @@ use crate::matcher::{Judge, Shape, ShapeWord, Span, WORD, decide, shape_words};
 use crate::options::MatchOptions;
 use crate::pattern::char_masks::{CharMasks, masks_of};
 use crate::pattern::judge::TextJudge;
-use crate::pattern::needle::Needle;
-use crate::pattern::trim::{Trimmed, leading_ones, trailing_ones, trim};
+use crate::pattern::prefilter::{Prefilter, Trimmed};
 use crate::token::Token;
 use crate::token::bracket::Bracket;
 use std::alloc::{AllocError, Allocator};
@@ -33,10 +32,7 @@ pub struct Compiled<A: Allocator> {
     words: Vec<ShapeWord, A>,
     // none in a pattern without `*` and `**`
     masks: Vec<CharMasks, A>,
-    // how many tokens at the start and at the end take one character each
-    lead: usize,
-    trail: usize,
-    needle: Needle,
+    prefilter: Prefilter,
 }
 
 impl<A: Allocator> Model for Compiled<A> {
@@ -48,41 +44,20 @@ impl<A: Allocator> Model for Compiled<A> {
 
     ghost view = { λ c. c.tokens.items };
 
-    ghost invariant = { λ c. IsCompiled c.tokens.items c.shapes.items c.first c.words.items c.masks.items c.lead c.trail
-        c.needle };
+    ghost invariant = { λ c. IsCompiled c.tokens.items c.shapes.items c.first c.words.items c.masks.items
+        c.prefilter };
 }
 
 impl<A: Allocator> Compiled<A> {
-    /// How many characters at the ends of the text are taken by tokens of one character each. `None`: one is not taken,
-    /// and the text does not match. The bytes need not be UTF-8.
+    /// How many characters at the ends of the text are taken by tokens of one character each. `None`: the text does not
+    /// match. The bytes need not be UTF-8.
     #[inline(always)]
     pub fn trim(&self, bytes: &[u8], options: MatchOptions) -> Option<Trimmed>
         ensures { MatchOption result
             (IsTrue (is_utf8 bytes.now) → ¬ (TokensMatch options self.now (chars bytes.now)))
             (λ t. IsTrim options self.now bytes.now t.start t.end) }
     {
-        trim(
-            self.tokens.as_slice(),
-            self.lead,
-            self.trail,
-            bytes,
-            options,
-        )
-    }
-
-    /// [`trim`](Self::trim), and then the search for the needle.
-    #[inline(always)]
-    pub fn prefilter(&self, bytes: &[u8], options: MatchOptions) -> Option<Trimmed>
-        ensures { MatchOption result
-            (IsTrue (is_utf8 bytes.now) → ¬ (TokensMatch options self.now (chars bytes.now)))
-            (λ t. IsTrim options self.now bytes.now t.start t.end) }
-    {
-        let trimmed = self.trim(bytes, options)?;
-        if self.needle.may_be_in(bytes) {
-            Some(trimmed)
-        } else {
-            None
-        }
+        self.prefilter.trim(self.tokens.as_slice(), bytes, options)
     }
 }
 
@@ -92,24 +67,20 @@ impl<A: Allocator + Copy> Compiled<A> {
         ensures { IfOk result (λ compiled. compiled ≡ tokens.items) }
     {
         let shapes = shapes_of(alloc, tokens.as_slice())?;
-        let lead = leading_ones(shapes.as_slice());
-        let trail = trailing_ones(shapes.as_slice(), lead);
+        let prefilter = Prefilter::of(tokens.as_slice(), shapes.as_slice());
         let words = if shapes.len() <= WORD {
             Vec::new(alloc)
         } else {
             shape_words(alloc, shapes.as_slice())?
         };
-        let masks = masks_of(alloc, tokens.as_slice(), lead < tokens.len())?;
-        let needle = Needle::of(&tokens.as_slice()[lead..tokens.len() - trail]);
+        let masks = masks_of(alloc, tokens.as_slice(), prefilter.lead < tokens.len())?;
         Ok(Compiled {
             first: ShapeWord::new(shapes.as_slice(), 0),
             tokens,
             shapes,
             words,
             masks,
-            lead,
-            trail,
-            needle,
+            prefilter,
         })
     }
 
@@ -123,9 +94,7 @@ impl<A: Allocator + Copy> Compiled<A> {
             first: ShapeWord::new(&[], 0),
             words: Vec::new(alloc),
             masks: Vec::new(alloc),
-            lead: 0,
-            trail: 0,
-            needle: Needle::NONE,
+            prefilter: Prefilter::NONE,
         }
     }
 
@@ -139,9 +108,7 @@ impl<A: Allocator + Copy> Compiled<A> {
             first: self.first,
             words: self.words.clone()?,
             masks: self.masks.clone()?,
-            lead: self.lead,
-            trail: self.trail,
-            needle: self.needle,
+            prefilter: self.prefilter,
         })
     }
 

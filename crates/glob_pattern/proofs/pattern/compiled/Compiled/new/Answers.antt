@@ -1,6 +1,5 @@
 use Rattle.std.proofs.Common.{◌<◌, length, arith}
 use Rattle.glob_pattern.specs.Private.Positions.{AreShapeWords}
-use Rattle.glob_pattern.proofs.MatchingLemmas.Needles.{IsNeedle-within}
 use Rattle.glob_pattern.proofs.pattern.compiled.Compiled.new.Goals as goal
 use Rattle.glob_pattern.proofs.pattern.compiled.Compiled.new.Goals.{then-len-le-WORD, else-len-le-WORD+in_ok-words}
 
@@ -12,9 +11,8 @@ invariant_of-result g c =
     ] in
     record {
       shaped = rw c.as_slice.ensures.value at c.in_ok-shapes.ensures;
-      first_word = rw c.as_slice-6.ensures.value at c.new.ensures;
+      first_word = rw c.as_slice-5.ensures.value at c.new.ensures;
       all_words = words;
       masked = rw c.as_slice-4.ensures.value at c.in_ok-masks.ensures;
-      ends = rw c.as_slice-3.ensures.value at c.trailing_ones-trail.ensures;
-      inner = IsNeedle-within c.args.tokens.items c.of-needle.result _ _ (rw c.as_slice-5.ensures.value at c.of-needle.ensures);
+      filters = rw c.as_slice-2.ensures.value at c.of-prefilter.ensures;
     }

@@ -2,7 +2,7 @@
 use Rattle.std.proofs.Common.{◌≡◌, ◌-◌, ◌≤◌}
 use Rattle.glob_text.specs.Text.{opens}
 use Rattle.glob_pattern.specs.Private.Trims.{IsTrim}
-use Rattle.glob_pattern.proofs.pattern.trim.trim_start.Given as goal
+use Rattle.glob_pattern.proofs.pattern.prefilter.trim_start.Given as goal
 
 abbrev pub invariant-loop-start : goal.invariant-loop-start
 invariant-loop-start g l = record {

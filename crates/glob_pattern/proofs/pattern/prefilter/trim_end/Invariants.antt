@@ -1,7 +1,7 @@
 -- The characters gone past are taken.
 use Rattle.std.proofs.Common.{◌-◌, ◌≤◌}
 use Rattle.glob_pattern.specs.Private.Trims.{IsTrim}
-use Rattle.glob_pattern.proofs.pattern.trim.trim_end.Given as goal
+use Rattle.glob_pattern.proofs.pattern.prefilter.trim_end.Given as goal
 
 abbrev pub invariant-loop-end : goal.invariant-loop-end
 invariant-loop-end g l = record {

@@ -1,20 +1,33 @@
-//! Characters at the start and at the end of a text, compared one by one with tokens of one character. Most texts that
-//! do not match differ there.
-ghost use Rattle.std.specs.Prelude.{◌≤◌, map, IsTrue, MatchOption, chars};
+//! What rejects most texts that do not match before a character is stepped over: the tokens of one character at both ends
+//! of a pattern, and bytes that each matching text contains.
+ghost use Rattle.std.specs.Prelude.{◌≡◌, ◌≤◌, map, IsTrue, MatchOption, chars};
 ghost use Rattle.std.specs.Str.{is_utf8};
 ghost use Rattle.glob_pattern.specs.Grammar.Tokens.{shape_of};
 ghost use Rattle.glob_pattern.specs.Matching.Texts.{TokensMatch};
 ghost use Rattle.glob_pattern.specs.Private.Trims.{HasOnes, IsTrim};
+ghost use Rattle.glob_pattern.specs.Private.Prefilters.{IsPrefilter};
 
 use crate::matcher::Shape;
 use crate::options::MatchOptions;
+use crate::pattern::needle::Needle;
 use crate::token::Token;
 use crate::token::bracket::Bracket;
 use crate::token::taking::{is_excluded_dot, takes};
 use std::alloc::Allocator;
 
-/// How many characters at the start and at the end of a text are decided.
+/// What each matching text has at its ends and between them.
 #[derive(Clone, Copy)]
+pub struct Prefilter {
+    /// How many tokens at the start take one character each.
+    pub lead: usize,
+    /// How many of the other tokens at the end do.
+    pub trail: usize,
+    /// Bytes of the tokens between.
+    pub needle: Needle,
+}
+
+/// How many characters at the start and at the end of a text are decided: a match is one of what is between.
+#[derive(Clone, Copy, Debug)]
 pub struct Trimmed {
     /// Characters at the start, which the first tokens take, one each.
     pub start: usize,
@@ -22,8 +35,55 @@ pub struct Trimmed {
     pub end: usize,
 }
 
+impl Prefilter {
+    /// That of no tokens.
+    pub const NONE: Prefilter = Prefilter {
+        lead: 0,
+        trail: 0,
+        needle: Needle::NONE,
+    };
+
+    /// That of the tokens, which have these shapes.
+    pub fn of<A: Allocator>(tokens: &[Token<Bracket<A>>], shapes: &[Shape]) -> Self
+        requires { shapes.now ≡ map shape_of tokens.now }
+        ensures { IsPrefilter tokens.now result }
+    {
+        let lead = leading_ones(shapes);
+        let trail = trailing_ones(shapes, lead);
+        let needle = Needle::of(&tokens[lead..tokens.len() - trail]);
+        Prefilter {
+            lead,
+            trail,
+            needle,
+        }
+    }
+
+    /// Compares the first and the last tokens with characters of the text, up to the first that is beyond ASCII, and
+    /// searches the text for the needle. `None`: the text does not match.
+    #[inline(always)]
+    pub fn trim<A: Allocator>(
+        &self,
+        tokens: &[Token<Bracket<A>>],
+        bytes: &[u8],
+        options: MatchOptions,
+    ) -> Option<Trimmed>
+        requires { IsPrefilter tokens.now self.now }
+        ensures { MatchOption result
+            (IsTrue (is_utf8 bytes.now) → ¬ (TokensMatch options tokens.now (chars bytes.now)))
+            (λ t. IsTrim options tokens.now bytes.now t.start t.end) }
+    {
+        let start = trim_start(tokens, self.lead, bytes, options)?;
+        let end = trim_end(tokens, self.trail, bytes, options, start)?;
+        if self.needle.may_be_in(bytes) {
+            Some(Trimmed { start, end })
+        } else {
+            None
+        }
+    }
+}
+
 /// How many one-character shapes there are before the first other shape: of those of `src/*.rs` four.
-pub fn leading_ones(shapes: &[Shape]) -> usize
+fn leading_ones(shapes: &[Shape]) -> usize
     ensures { HasOnes shapes.now result 0 }
 {
     let mut lead = 0;
@@ -35,7 +95,7 @@ pub fn leading_ones(shapes: &[Shape]) -> usize
 
 /// How many one-character shapes there are after the last other shape and the first `lead`: of those of `src/*.rs`
 /// three, and of those of `main.rs` none.
-pub fn trailing_ones(shapes: &[Shape], lead: usize) -> usize
+fn trailing_ones(shapes: &[Shape], lead: usize) -> usize
     requires { HasOnes shapes.now lead 0 }
     ensures { HasOnes shapes.now lead result }
 {
@@ -44,26 +104,6 @@ pub fn trailing_ones(shapes: &[Shape], lead: usize) -> usize
         trail += 1;
     }
     trail
-}
-
-/// Compares the first `lead` and the last `trail` tokens with characters of the text, up to the first that is beyond
-/// ASCII. `None`: a token does not take its character, so the text does not match.
-#[inline(always)]
-pub fn trim<A: Allocator>(
-    tokens: &[Token<Bracket<A>>],
-    lead: usize,
-    trail: usize,
-    bytes: &[u8],
-    options: MatchOptions,
-) -> Option<Trimmed>
-    requires { HasOnes (map shape_of tokens.now) lead trail }
-    ensures { MatchOption result
-        (IsTrue (is_utf8 bytes.now) → ¬ (TokensMatch options tokens.now (chars bytes.now)))
-        (λ t. IsTrim options tokens.now bytes.now t.start t.end) }
-{
-    let start = trim_start(tokens, lead, bytes, options)?;
-    let end = trim_end(tokens, trail, bytes, options, start)?;
-    Some(Trimmed { start, end })
 }
 
 /// How many characters at the start of the text the first `lead` tokens take.

@@ -1,7 +1,7 @@
 -- The shapes gone past are of one character.
 use Rattle.std.proofs.Common.{◌-◌, length}
 use Rattle.glob_pattern.specs.Private.Trims.{HasOnes}
-use Rattle.glob_pattern.proofs.pattern.trim.trailing_ones.Given as goal
+use Rattle.glob_pattern.proofs.pattern.prefilter.trailing_ones.Given as goal
 
 abbrev pub invariant-loop-trail : goal.invariant-loop-trail
 invariant-loop-trail l = HasOnes l.shapes l.lead l.trail

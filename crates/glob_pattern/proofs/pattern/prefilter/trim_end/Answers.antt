@@ -2,7 +2,7 @@ use Rattle.std.proofs.Common.{◌∙◌, sym, arith}
 use Rattle.std.proofs.lemmas.Bool.{ltb-true}
 use Rattle.std.proofs.lemmas.Str.{IsUtf8-from_is_utf8}
 use Rattle.glob_pattern.proofs.MatchingLemmas.Trims.{IsTrim-last, reject_last}
-use Rattle.glob_pattern.proofs.pattern.trim.trim_end.Goals as goal
+use Rattle.glob_pattern.proofs.pattern.prefilter.trim_end.Goals as goal
 
 pub overflow_sub-bytes : goal.overflow_sub-bytes
 overflow_sub-bytes g c = omega (arith, c.loop-end.invariant.taken.within)

@@ -3,7 +3,7 @@ use Rattle.std.proofs.lemmas.Bool.{ltb-true}
 use Rattle.std.proofs.lemmas.Str.{IsUtf8-from_is_utf8}
 use Rattle.glob_pattern.proofs.MatchingLemmas.Stepping.{opens-suc}
 use Rattle.glob_pattern.proofs.MatchingLemmas.Trims.{IsTrim-first, reject_first}
-use Rattle.glob_pattern.proofs.pattern.trim.trim_start.Goals as goal
+use Rattle.glob_pattern.proofs.pattern.prefilter.trim_start.Goals as goal
 
 pub returns-then-not-takes : goal.returns-then-not-takes
 returns-then-not-takes g c = λ utf8.
