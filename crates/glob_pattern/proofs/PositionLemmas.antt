@@ -1,3 +1,4 @@
+pub mod Mapped
 pub mod Alive
 pub mod LastOnes
 pub mod Prefixes

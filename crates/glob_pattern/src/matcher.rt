@@ -23,6 +23,25 @@ pub enum Shape {
     Deep,
 }
 
+/// What has a shape: a shape itself, or a token.
+pub trait Shaped {
+    ghost use Rattle.glob_pattern.specs.declared.matcher.Shape.{Shape};
+
+    ghost shape: { Self → Shape };
+
+    /// Its shape.
+    fn shape(&self) -> Shape
+        ensures { result ≡ shape self.now };
+}
+
+impl Shaped for Shape {
+    ghost shape = { λ shape. shape };
+
+    fn shape(&self) -> Shape {
+        *self
+    }
+}
+
 /// Answers questions about a list of characters and a list of tokens, both numbered from 0: which token takes which
 /// character. A judge is at a place: the number of characters that it has stepped over. It counts the questions.
 ///
@@ -134,11 +153,11 @@ pub fn run_positions<A: Allocator + Copy, J: Judge>(
             alloc,
             shapes,
             &[ShapeWord::new(shapes, 0)],
-            Span::all(shapes),
+            Span::all(shapes.len()),
             judge,
         )
     } else {
         let words = shape_words(alloc, shapes)?;
-        decide(alloc, shapes, words.as_slice(), Span::all(shapes), judge)
+        decide(alloc, shapes, words.as_slice(), Span::all(shapes.len()), judge)
     }
 }

@@ -4,7 +4,7 @@ ghost use Rattle.glob_pattern.specs.Grammar.Tokens.{is_recursive, shape_of};
 pub mod bracket;
 pub mod taking;
 
-use crate::matcher::Shape;
+use crate::matcher::{Shape, Shaped};
 use bracket::Bracket;
 use std::alloc::Allocator;
 
@@ -26,21 +26,22 @@ pub enum Token<C> {
 }
 
 impl<A: Allocator> Token<Bracket<A>> {
-    /// Which pieces of a text the token may match.
-    pub fn shape(&self) -> Shape
-        ensures { result ≡ shape_of self.now }
-    {
-        match self {
-            Token::Literal(_) | Token::AnyChar | Token::OneOf(_) | Token::NoneOf(_) => Shape::One,
-            Token::AnySequence => Shape::Run,
-            Token::Recursive => Shape::Deep,
-        }
-    }
-
     /// Whether it is `**`.
     pub fn is_recursive(&self) -> bool
         ensures { result ≡ is_recursive self.now }
     {
         matches!(self, Token::Recursive)
+    }
+}
+
+impl<A: Allocator> Shaped for Token<Bracket<A>> {
+    ghost shape = { shape_of };
+
+    fn shape(&self) -> Shape {
+        match self {
+            Token::Literal(_) | Token::AnyChar | Token::OneOf(_) | Token::NoneOf(_) => Shape::One,
+            Token::AnySequence => Shape::Run,
+            Token::Recursive => Shape::Deep,
+        }
     }
 }

@@ -32,6 +32,7 @@ CanRun-trimmed o tokens bytes words span end count utf8 trim shaped last enough 
     let fits = product_fits (length (map shape_of tokens)) (length front - span.start) (omega (arith, many)) (omega (arith, length-chars (take (length bytes - end) bytes), short)) in
     record {
       shaped = shaped;
+      fits = omega (arith, many);
       tokens = omega (arith, many);
       place = cc;
       within = length-trimmed o tokens bytes span.start end utf8 trim;
@@ -51,7 +52,7 @@ unfolding table_of
 CanRun-text o tokens bytes words span k count shaped start end enough place none few short =
     let many = length-map tokens shape_of in
     let fits = product_fits (length (map shape_of tokens)) (length (chars bytes)) (omega (arith, many)) (omega (arith, length-chars bytes, short)) in
-    CanRun-all (table_of o tokens (chars bytes)) (map shape_of tokens) words span k count shaped start end enough (omega (arith, many)) place (omega (arith, none, fits))
+    CanRun-all (table_of o tokens (chars bytes)) (map shape_of tokens) words span k count shaped start end enough (omega (arith, many)) (omega (arith, many)) place (omega (arith, none, fits))
 
 -- its answer
 pub TokensMatch-by_run : {yes : Bool} (o : MatchOptions) (tokens : List Token) (text : Text) (end : ℕ) → end ≡ length (map shape_of tokens)

@@ -83,12 +83,13 @@ one-word shapes word few is = record {
 
 -- a run over all shapes from the start
 pub CanRun-all : (table : Table) (shapes : List Shape) (words : List ShapeWord) (span : Span) (k count : ℕ) → AreShapeWords shapes words
-    → span.start ≡ 0 → span.end ≡ length shapes → span.enough ≡ 0 → length shapes ≤ table.tokens → k ≡ 0 → count + length shapes * table.characters < 2 ^ 128
+    → span.start ≡ 0 → span.end ≡ length shapes → span.enough ≡ 0 → length shapes < 2 ^ 64 → length shapes ≤ table.tokens → k ≡ 0 → count + length shapes * table.characters < 2 ^ 128
     → CanRun table shapes words span k count
-CanRun-all table shapes words span k count shaped start end enough tokens place room =
+CanRun-all table shapes words span k count shaped start end enough fits tokens place room =
     let left : table.characters - span.start ≡ table.characters = omega arith in
     record {
       shaped = shaped;
+      fits = fits;
       tokens = tokens;
       place = place ∙ sym start;
       within = omega arith;

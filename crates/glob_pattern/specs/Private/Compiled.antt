@@ -1,18 +1,16 @@
 -- What a match reads of a pattern's tokens.
-use Rattle.std.specs.Prelude.{◌≡◌, ℕ, ◌<◌, List, length, map}
+use Rattle.std.specs.Prelude.{◌<◌, List, length, map}
 use Rattle.glob_pattern.specs.Grammar.Tokens.{Token, shape_of}
 use Rattle.glob_pattern.specs.Private.CharMasks.{AreCharMasks}
 use Rattle.glob_pattern.specs.Private.Positions.{IsShapeWord, AreShapeWords}
 use Rattle.glob_pattern.specs.Private.Prefilters.{IsPrefilter}
-use Rattle.glob_pattern.specs.declared.matcher.Shape.{Shape}
 use Rattle.glob_pattern.specs.declared.matcher.shape_word.ShapeWord.{ShapeWord}
 use Rattle.glob_pattern.specs.declared.pattern.char_masks.CharMasks.{CharMasks}
 use Rattle.glob_pattern.specs.declared.pattern.prefilter.Prefilter.{Prefilter}
 
 -- the shapes, masks and prefilter of the tokens
-pub record IsCompiled (tokens : List Token) (shapes : List Shape) (first : ShapeWord) (words : List ShapeWord) (masks : List CharMasks) (prefilter : Prefilter) : Type 0 where
-  pub shaped : shapes ≡ map shape_of tokens
-  pub first_word : IsShapeWord shapes 0 first
-  pub all_words : 63 < length shapes → AreShapeWords shapes words
+pub record IsCompiled (tokens : List Token) (first : ShapeWord) (words : List ShapeWord) (masks : List CharMasks) (prefilter : Prefilter) : Type 0 where
+  pub first_word : IsShapeWord (map shape_of tokens) 0 first
+  pub all_words : 63 < length tokens → AreShapeWords (map shape_of tokens) words
   pub masked : AreCharMasks tokens masks
   pub filters : IsPrefilter tokens prefilter

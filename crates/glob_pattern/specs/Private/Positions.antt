@@ -78,6 +78,7 @@ pub record TakesRest (table : Table) (shapes : List Shape) (end n : ℕ) : Type 
 -- what a run over a span begins with, by a judge at place k that was asked `count` questions
 pub record CanRun (table : Table) (shapes : List Shape) (words : List ShapeWord) (span : Span) (k count : ℕ) : Type 0 where
   pub shaped : AreShapeWords shapes words
+  pub fits : length shapes < 2 ^ 64
   pub tokens : length shapes ≤ table.tokens
   pub place : k ≡ span.start
   pub within : span.start ≤ table.characters

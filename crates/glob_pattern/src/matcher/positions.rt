@@ -1,13 +1,13 @@
 //! Matching by position sets: which numbers of leading tokens may have split the characters so far. Bit n of a word is
 //! set where the tokens before the word's nth are done, or the nth has begun and may go on. A character moves all
 //! positions at once.
-ghost use Rattle.std.specs.Prelude.{◌≡◌, ℕ, ◌+◌, ◌-◌, ◌*◌, ◌^◌, ◌<◌, ◌≤◌, ◌↔◌, false, length, slice_index, slice_index_or, IsTrue, IsOk, IfOk, IsSome, IfSome, bit_and};
+ghost use Rattle.std.specs.Prelude.{◌≡◌, ℕ, ◌+◌, ◌-◌, ◌*◌, ◌^◌, ◌<◌, ◌≤◌, ◌↔◌, false, length, slice_index, slice_index_or, IsTrue, IsOk, IfOk, IsSome, IfSome, bit_and, map};
 ghost use Rattle.glob_pattern.specs.Matching.Splits.{Table};
 ghost use Rattle.glob_pattern.specs.Private.Prefixes.{IsAlive, IsTakenPrefix};
 ghost use Rattle.glob_pattern.specs.Private.Positions.{word_end, IsShapeWord, AreShapeWords, IsAliveWord, AreAlive, AfterStep, Keeps, CanRun, WereAsked, HasAsked};
 
 use super::shape_word::{ShapeWord, last_before};
-use super::{Judge, Shape, WORD};
+use super::{Judge, Shape, Shaped, WORD};
 use std::alloc::{AllocError, Allocator};
 
 /// Which part of the shapes a run goes over.
@@ -25,15 +25,15 @@ pub struct Span {
 const NO_ANSWER: u64 = u64::MAX;
 
 impl Span {
-    /// All shapes.
-    pub fn all(shapes: &[Shape]) -> Self
+    /// So many shapes, from the first on.
+    pub fn all(count: usize) -> Self
         ensures start { result.start ≡ 0 }
-        ensures end { result.end ≡ length shapes.now }
+        ensures end { result.end ≡ count }
         ensures enough { result.enough ≡ 0 }
     {
         Span {
             start: 0,
-            end: shapes.len(),
+            end: count,
             enough: 0,
         }
     }
@@ -42,19 +42,19 @@ impl Span {
 /// Whether the shapes before the span's end split the characters. With one word it allocates nothing, and the call
 /// succeeds.
 #[inline(always)]
-pub fn decide<A: Allocator + Copy, J: Judge>(
+pub fn decide<A: Allocator + Copy, T: Shaped, J: Judge>(
     alloc: A,
-    shapes: &[Shape],
+    tokens: &[T],
     words: &[ShapeWord],
     span: Span,
     judge: &mut J,
 ) -> Result<bool, AllocError>
-    requires { CanRun (J.table judge.old) shapes.now words.now span
+    requires { CanRun (J.table judge.old) (map T.shape tokens.now) words.now span
         (J.place judge.old) (J.count judge.old) }
     ensures answer { IfOk result (λ yes. IsTrue yes
-        ↔ IsAlive (J.table judge.old) shapes.now span.end (J.table judge.old).characters) }
+        ↔ IsAlive (J.table judge.old) (map T.shape tokens.now) span.end (J.table judge.old).characters) }
     ensures most { J.count judge.new
-        ≤ J.count judge.old + length shapes.now * ((J.table judge.old).characters - span.start) }
+        ≤ J.count judge.old + length (map T.shape tokens.now) * ((J.table judge.old).characters - span.start) }
     ensures least { IfOk result (λ yes. IsTrue yes → span.enough ≡ 0
         → J.count judge.old + (J.table judge.old).characters ≤ J.count judge.new + span.start) }
     ensures monotone { J.count judge.old ≤ J.count judge.new }
@@ -62,43 +62,43 @@ pub fn decide<A: Allocator + Copy, J: Judge>(
     ensures short { length words.now ≡ 1 → IsOk result }
 {
     if words.len() == 1 {
-        Ok(run(shapes, words, &mut [0], span, judge))
+        Ok(run(tokens, words, &mut [0], span, judge))
     } else {
         let mut alive = vec![in alloc; 0; words.len()]?;
-        Ok(run(shapes, words, alive.as_mut_slice(), span, judge))
+        Ok(run(tokens, words, alive.as_mut_slice(), span, judge))
     }
 }
 
 /// [`decide`], with room for the position set.
 #[inline(always)]
-fn run<J: Judge>(
-    shapes: &[Shape],
+fn run<T: Shaped, J: Judge>(
+    tokens: &[T],
     words: &[ShapeWord],
     alive: &mut [u64],
     span: Span,
     judge: &mut J,
 ) -> bool
-    requires ready { CanRun (J.table judge.old) shapes.now words.now span
+    requires ready { CanRun (J.table judge.old) (map T.shape tokens.now) words.now span
         (J.place judge.old) (J.count judge.old) }
     requires length { length alive.old ≡ length words.now }
     ensures answer { IsTrue result
-        ↔ IsAlive (J.table judge.old) shapes.now span.end (J.table judge.old).characters }
+        ↔ IsAlive (J.table judge.old) (map T.shape tokens.now) span.end (J.table judge.old).characters }
     ensures most { J.count judge.new
-        ≤ J.count judge.old + length shapes.now * ((J.table judge.old).characters - span.start) }
+        ≤ J.count judge.old + length (map T.shape tokens.now) * ((J.table judge.old).characters - span.start) }
     ensures least { IsTrue result → span.enough ≡ 0
         → J.count judge.old + (J.table judge.old).characters ≤ J.count judge.new + span.start }
     ensures monotone { J.count judge.old ≤ J.count judge.new }
     ensures same { J.table judge.new ≡ J.table judge.old }
 {
-    begin(shapes, words, span.start, judge.opens(), alive);
+    begin(tokens, words, span.start, judge.opens(), alive);
     let first = words[0];
     let mut keep = NO_ANSWER;
     'sets: while alive[0] & span.enough == 0 {
         let old = alive[0];
         // The first word's tokens are asked until they answer otherwise, or a component starts.
         let took = 'kept: loop {
-            let Some(took) = ask_next(shapes, first, old, judge) else {
-                return is_alive(shapes, alive, span.end);
+            let Some(took) = ask_next(tokens, first, old, judge) else {
+                return is_alive(tokens, alive, span.end);
             };
             if took != keep || judge.opens() {
                 break took;
@@ -108,7 +108,7 @@ fn run<J: Judge>(
         let next = first.step(took, opens, false);
         keep = answer_to_keep(first, alive.len() == 1, old, took, opens, next);
         alive[0] = next;
-        if step_rest(shapes, words, alive, opens, judge) == 0 {
+        if step_rest(tokens, words, alive, opens, judge) == 0 {
             return false;
         }
     }
@@ -118,16 +118,16 @@ fn run<J: Judge>(
 /// Steps over a character and asks the tokens of the first word that are alive. Returns those that take it, or `None` if
 /// no character is left.
 #[inline(always)]
-fn ask_next<J: Judge>(shapes: &[Shape], word: ShapeWord, alive: u64, judge: &mut J) -> Option<u64>
-    requires word { IsShapeWord shapes.now 0 word }
-    requires alive { IsAliveWord (J.table judge.old) shapes.now 0 (J.place judge.old) alive }
-    requires tokens { length shapes.now ≤ (J.table judge.old).tokens }
+fn ask_next<T: Shaped, J: Judge>(tokens: &[T], word: ShapeWord, alive: u64, judge: &mut J) -> Option<u64>
+    requires word { IsShapeWord (map T.shape tokens.now) 0 word }
+    requires alive { IsAliveWord (J.table judge.old) (map T.shape tokens.now) 0 (J.place judge.old) alive }
+    requires tokens { length (map T.shape tokens.now) ≤ (J.table judge.old).tokens }
     requires room { J.place judge.old < (J.table judge.old).characters
-        → J.count judge.old + length shapes.now < 2 ^ 128 }
+        → J.count judge.old + length (map T.shape tokens.now) < 2 ^ 128 }
     ensures end { result ≡ None → (J.place judge.new ≡ (J.table judge.old).characters)
         × (J.place judge.new ≡ J.place judge.old) × (J.count judge.new ≡ J.count judge.old) }
     ensures place { IsSome result → J.place judge.new ≡ J.place judge.old + 1 }
-    ensures asked { IfSome result (λ took. HasAsked (J.table judge.old) shapes.now
+    ensures asked { IfSome result (λ took. HasAsked (J.table judge.old) (map T.shape tokens.now)
         (J.count judge.old) took (J.place judge.new) (J.count judge.new)) }
     ensures same { J.table judge.new ≡ J.table judge.old }
 {
@@ -159,13 +159,13 @@ fn answer_to_keep(word: ShapeWord, alone: bool, old: u64, took: u64, opens: bool
 /// Sets the words to the position set after the characters of the first `start` shapes, which took one each: as if the
 /// last of them had just taken its character.
 #[inline(always)]
-fn begin(shapes: &[Shape], words: &[ShapeWord], start: usize, opens: bool, alive: &mut [u64])
-    requires words { AreShapeWords shapes.now words.now }
+fn begin<T: Shaped>(tokens: &[T], words: &[ShapeWord], start: usize, opens: bool, alive: &mut [u64])
+    requires words { AreShapeWords (map T.shape tokens.now) words.now }
     requires length { length alive.old ≡ length words.now }
     ensures length { length alive.new ≡ length alive.old }
     ensures alive { (table : Table)
-        → IsTakenPrefix table shapes.now start → opens ≡ table.opens start
-        → AreAlive table shapes.now start 0 (length alive.new) alive.new }
+        → IsTakenPrefix table (map T.shape tokens.now) start → opens ≡ table.opens start
+        → AreAlive table (map T.shape tokens.now) start 0 (length alive.new) alive.new }
 {
     let mut whole = start == 0;
     for n in 0..alive.len() {
@@ -177,14 +177,14 @@ fn begin(shapes: &[Shape], words: &[ShapeWord], start: usize, opens: bool, alive
 
 /// Whether the position is in the set.
 #[inline(always)]
-fn is_alive(shapes: &[Shape], alive: &[u64], position: usize) -> bool
+fn is_alive<T: Shaped>(tokens: &[T], alive: &[u64], position: usize) -> bool
     requires some { 0 < length alive.now }
-    requires all { length shapes.now ≤ 63 * length alive.now }
-    requires within { position ≤ length shapes.now }
-    requires one { slice_index_or shapes.now position Shape.One ≡ Shape.One }
+    requires all { length (map T.shape tokens.now) ≤ 63 * length alive.now }
+    requires within { position ≤ length (map T.shape tokens.now) }
+    requires one { slice_index_or (map T.shape tokens.now) position Shape.One ≡ Shape.One }
     ensures { (table : Table) (k : ℕ)
-        → AreAlive table shapes.now k 0 (length alive.now) alive.now
-        → IsTrue result ↔ IsAlive table shapes.now position k }
+        → AreAlive table (map T.shape tokens.now) k 0 (length alive.now) alive.now
+        → IsTrue result ↔ IsAlive table (map T.shape tokens.now) position k }
 {
     let word = position.saturating_sub(1) / WORD;
     (alive[word] >> (position - WORD * word)) & 1 != 0
@@ -192,31 +192,32 @@ fn is_alive(shapes: &[Shape], alive: &[u64], position: usize) -> bool
 
 /// Steps the words after the first, which is of the judge's place already. Returns the union of all words.
 #[inline(always)]
-fn step_rest<J: Judge>(
-    shapes: &[Shape],
+fn step_rest<T: Shaped, J: Judge>(
+    tokens: &[T],
     words: &[ShapeWord],
     alive: &mut [u64],
     opens: bool,
     judge: &mut J,
 ) -> u64
-    requires words { AreShapeWords shapes.now words.now }
+    requires words { AreShapeWords (map T.shape tokens.now) words.now }
     requires length { length alive.old ≡ length words.now }
     requires stepped { 0 < J.place judge.old }
     requires opens { opens ≡ (J.table judge.old).opens (J.place judge.old) }
-    requires tokens { length shapes.now ≤ (J.table judge.old).tokens }
+    requires few { length (map T.shape tokens.now) < 2 ^ 64 }
+    requires tokens { length (map T.shape tokens.now) ≤ (J.table judge.old).tokens }
     requires room { J.count judge.old
-        + (length shapes.now - word_end shapes.now 0) < 2 ^ 128 }
-    requires first { AreAlive (J.table judge.old) shapes.now (J.place judge.old) 0 1 alive.old }
-    requires rest { AreAlive (J.table judge.old) shapes.now (J.place judge.old - 1) 1
+        + (length (map T.shape tokens.now) - word_end (map T.shape tokens.now) 0) < 2 ^ 128 }
+    requires first { AreAlive (J.table judge.old) (map T.shape tokens.now) (J.place judge.old) 0 1 alive.old }
+    requires rest { AreAlive (J.table judge.old) (map T.shape tokens.now) (J.place judge.old - 1) 1
         (length alive.old) alive.old }
-    ensures alive { AreAlive (J.table judge.old) shapes.now (J.place judge.old) 0
+    ensures alive { AreAlive (J.table judge.old) (map T.shape tokens.now) (J.place judge.old) 0
         (length alive.new) alive.new }
     ensures length { length alive.new ≡ length alive.old }
     ensures head { slice_index alive.new 0 ≡ slice_index alive.old 0 }
     ensures none { result ≡ 0
         → (i : ℕ) → i < length alive.new → slice_index alive.new i ≡ 0 }
-    ensures asked { WereAsked (J.table judge.old) shapes.now (word_end shapes.now 0)
-        (length shapes.now) (J.place judge.old) (J.count judge.old) (J.count judge.new) }
+    ensures asked { WereAsked (J.table judge.old) (map T.shape tokens.now) (word_end (map T.shape tokens.now) 0)
+        (length (map T.shape tokens.now)) (J.place judge.old) (J.count judge.old) (J.count judge.new) }
     ensures place { J.place judge.new ≡ J.place judge.old }
     ensures same { J.table judge.new ≡ J.table judge.old }
 {

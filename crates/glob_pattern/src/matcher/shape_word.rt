@@ -1,9 +1,9 @@
 //! The shapes of neighbouring tokens as bits, and one step of a position set over them.
-ghost use Rattle.std.specs.Prelude.{◌≡◌, ℕ, ◌+◌, ◌-◌, ◌<◌, ◌≤◌, ◌≢◌, ◌⊎◌, ◌↔◌, false, length, bit_and, IsTrue, IfOk};
+ghost use Rattle.std.specs.Prelude.{◌≡◌, ℕ, ◌+◌, ◌-◌, ◌<◌, ◌≤◌, ◌≢◌, ◌⊎◌, ◌↔◌, false, length, map, bit_and, IsTrue, IfOk};
 ghost use Rattle.std.specs.Int.{IsBitSet};
 ghost use Rattle.glob_pattern.specs.Private.Positions.{IsShapeWord, AreShapeWords, IsAliveWord, AfterStep};
 
-use super::{Shape, WORD};
+use super::{Shape, Shaped, WORD};
 use std::alloc::{AllocError, Allocator};
 
 /// The shapes of 63 neighbouring tokens, or fewer at the end: bit n is of the nth of them.
@@ -17,34 +17,37 @@ pub struct ShapeWord {
     pub recursive: u64,
 }
 
-/// The words of all shapes, at least one. Fails only if allocation fails.
-pub fn shape_words<A: Allocator + Copy>(
+/// The words of all tokens, at least one. Fails only if allocation fails.
+pub fn shape_words<A: Allocator + Copy, T: Shaped>(
     alloc: A,
-    shapes: &[Shape],
+    tokens: &[T],
 ) -> Result<Vec<ShapeWord, A>, AllocError>
-    ensures { IfOk result (λ words. AreShapeWords shapes.now words.items) }
+    ensures { IfOk result (λ words. AreShapeWords (map T.shape tokens.now) words.items) }
 {
-    let count = shapes.len().div_ceil(WORD).max(1);
+    let count = tokens.len().div_ceil(WORD).max(1);
     let mut words = Vec::with_capacity(alloc, count)?;
     for n in 0..count {
-        words.push(ShapeWord::new(shapes, WORD * n))?;
+        words.push(ShapeWord::new(tokens, WORD * n))?;
     }
     Ok(words)
 }
 
 impl ShapeWord {
-    /// The shapes from number `start` on.
-    pub fn new(shapes: &[Shape], start: usize) -> Self
-        requires { start ≤ length shapes.now }
-        ensures { IsShapeWord shapes.now start result }
+    /// The shapes of no tokens.
+    pub const NONE: ShapeWord = ShapeWord {
+        tokens: 0,
+        wildcards: 0,
+        recursive: 0,
+    };
+
+    /// The shapes of the tokens from number `start` on.
+    pub fn new<T: Shaped>(tokens: &[T], start: usize) -> Self
+        requires { start ≤ length tokens.now }
+        ensures { IsShapeWord (map T.shape tokens.now) start result }
     {
-        let mut word = ShapeWord {
-            tokens: 0,
-            wildcards: 0,
-            recursive: 0,
-        };
-        for n in start..shapes.len().min(start.saturating_add(WORD)) {
-            word = word.with(n - start, shapes[n], n + 1 < shapes.len());
+        let mut word = ShapeWord::NONE;
+        for n in start..tokens.len().min(start.saturating_add(WORD)) {
+            word = word.with(n - start, tokens[n].shape(), n + 1 < tokens.len());
         }
         word
     }

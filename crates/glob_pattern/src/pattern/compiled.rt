@@ -10,7 +10,7 @@ ghost use Rattle.glob_pattern.specs.Private.TextTable.{table_of};
 ghost use Rattle.glob_pattern.specs.Private.Trims.{IsTrim};
 ghost use Rattle.glob_text.specs.Text.{Text};
 
-use crate::matcher::{Judge, Shape, ShapeWord, Span, WORD, decide, shape_words};
+use crate::matcher::{Judge, ShapeWord, Span, WORD, decide, shape_words};
 use crate::options::MatchOptions;
 use crate::pattern::char_masks::{CharMasks, masks_of};
 use crate::pattern::judge::TextJudge;
@@ -25,9 +25,7 @@ use std::slice;
 #[derive(Drop)]
 pub struct Compiled<A: Allocator> {
     tokens: Vec<Token<Bracket<A>>, A>,
-    // what the contracts of the matcher speak of
-    shapes: Vec<Shape, A>,
-    // the shapes as bits: those of the first 63 tokens, and if there are more tokens, those of all
+    // their shapes as bits: those of the first 63 tokens, and if there are more tokens, those of all
     first: ShapeWord,
     words: Vec<ShapeWord, A>,
     // none in a pattern without `*` and `**`
@@ -44,7 +42,7 @@ impl<A: Allocator> Model for Compiled<A> {
 
     ghost view = { λ c. c.tokens.items };
 
-    ghost invariant = { λ c. IsCompiled c.tokens.items c.shapes.items c.first c.words.items c.masks.items
+    ghost invariant = { λ c. IsCompiled c.tokens.items c.first c.words.items c.masks.items
         c.prefilter };
 }
 
@@ -66,18 +64,16 @@ impl<A: Allocator + Copy> Compiled<A> {
     pub fn new(alloc: A, tokens: Vec<Token<Bracket<A>>, A>) -> Result<Self, AllocError>
         ensures { IfOk result (λ compiled. compiled ≡ tokens.items) }
     {
-        let shapes = shapes_of(alloc, tokens.as_slice())?;
-        let prefilter = Prefilter::of(tokens.as_slice(), shapes.as_slice());
-        let words = if shapes.len() <= WORD {
+        let prefilter = Prefilter::of(tokens.as_slice());
+        let words = if tokens.len() <= WORD {
             Vec::new(alloc)
         } else {
-            shape_words(alloc, shapes.as_slice())?
+            shape_words(alloc, tokens.as_slice())?
         };
         let masks = masks_of(alloc, tokens.as_slice(), prefilter.lead < tokens.len())?;
         Ok(Compiled {
-            first: ShapeWord::new(shapes.as_slice(), 0),
+            first: ShapeWord::new(tokens.as_slice(), 0),
             tokens,
-            shapes,
             words,
             masks,
             prefilter,
@@ -90,8 +86,7 @@ impl<A: Allocator + Copy> Compiled<A> {
     {
         Compiled {
             tokens: Vec::new(alloc),
-            shapes: Vec::new(alloc),
-            first: ShapeWord::new(&[], 0),
+            first: ShapeWord::NONE,
             words: Vec::new(alloc),
             masks: Vec::new(alloc),
             prefilter: Prefilter::NONE,
@@ -104,7 +99,6 @@ impl<A: Allocator + Copy> Compiled<A> {
     {
         Ok(Compiled {
             tokens: clone_tokens(&self.tokens)?,
-            shapes: self.shapes.clone()?,
             first: self.first,
             words: self.words.clone()?,
             masks: self.masks.clone()?,
@@ -127,14 +121,15 @@ impl<A: Allocator + Copy> Compiled<A> {
         ensures short { length self.now < 64 → IsOk result }
     {
         let front = &text[..text.len() - trimmed.end];
-        let end = self.shapes.len() - trimmed.end;
+        let tokens = self.tokens.as_slice();
+        let end = tokens.len() - trimmed.end;
         let span = Span {
             start: trimmed.start,
             end,
             enough: self.enough(end, options),
         };
         let mut judge = TextJudge::new(
-            self.tokens.as_slice(),
+            tokens,
             self.masks.as_slice(),
             front,
             trimmed.start,
@@ -142,7 +137,7 @@ impl<A: Allocator + Copy> Compiled<A> {
         );
         decide(
             *self.tokens.allocator(),
-            self.shapes.as_slice(),
+            tokens,
             self.words(),
             span,
             &mut judge,
@@ -164,9 +159,9 @@ impl<A: Allocator + Copy> Compiled<A> {
             (λ counted. IsTrue counted.0 → length (chars text.now) ≤ counted.1) }
         ensures short { length self.now < 64 → IsOk result }
     {
-        let shapes = self.shapes.as_slice();
+        let tokens = self.tokens.as_slice();
         let mut judge = TextJudge::new(
-            self.tokens.as_slice(),
+            tokens,
             self.masks.as_slice(),
             text,
             0,
@@ -174,9 +169,9 @@ impl<A: Allocator + Copy> Compiled<A> {
         );
         let answer = decide(
             *self.tokens.allocator(),
-            shapes,
+            tokens,
             self.words(),
-            Span::all(shapes),
+            Span::all(tokens.len()),
             &mut judge,
         )?;
         Ok((answer, judge.asked()))
@@ -188,7 +183,7 @@ impl<A: Allocator + Copy> Compiled<A> {
         ensures words { AreShapeWords (map shape_of self.now) result.now }
         ensures short { length self.now < 64 → length result.now ≡ 1 }
     {
-        if self.shapes.len() <= WORD {
+        if self.tokens.len() <= WORD {
             slice::from_ref(&self.first)
         } else {
             self.words.as_slice()
@@ -204,26 +199,12 @@ impl<A: Allocator + Copy> Compiled<A> {
     {
         if options.require_literal_separator
             || options.require_literal_leading_dot
-            || self.shapes.len() > WORD
+            || self.tokens.len() > WORD
         {
             return 0;
         }
         self.first.free_before(end)
     }
-}
-
-/// The shapes of the tokens, in order. Fails only if allocation fails.
-fn shapes_of<A: Allocator + Copy>(
-    alloc: A,
-    tokens: &[Token<Bracket<A>>],
-) -> Result<Vec<Shape, A>, AllocError>
-    ensures { IfOk result (λ shapes. shapes.items ≡ map shape_of tokens.now) }
-{
-    let mut shapes = vec![in alloc; Shape::One; tokens.len()]?;
-    for n in 0..tokens.len() {
-        shapes[n] = tokens[n].shape();
-    }
-    Ok(shapes)
 }
 
 /// The same tokens on the same allocator. Fails only if allocation fails.

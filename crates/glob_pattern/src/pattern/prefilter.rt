@@ -7,7 +7,7 @@ ghost use Rattle.glob_pattern.specs.Matching.Texts.{TokensMatch};
 ghost use Rattle.glob_pattern.specs.Private.Trims.{HasOnes, IsTrim};
 ghost use Rattle.glob_pattern.specs.Private.Prefilters.{IsPrefilter};
 
-use crate::matcher::Shape;
+use crate::matcher::{Shape, Shaped};
 use crate::options::MatchOptions;
 use crate::pattern::needle::Needle;
 use crate::token::Token;
@@ -43,13 +43,12 @@ impl Prefilter {
         needle: Needle::NONE,
     };
 
-    /// That of the tokens, which have these shapes.
-    pub fn of<A: Allocator>(tokens: &[Token<Bracket<A>>], shapes: &[Shape]) -> Self
-        requires { shapes.now ≡ map shape_of tokens.now }
+    /// That of the tokens.
+    pub fn of<A: Allocator>(tokens: &[Token<Bracket<A>>]) -> Self
         ensures { IsPrefilter tokens.now result }
     {
-        let lead = leading_ones(shapes);
-        let trail = trailing_ones(shapes, lead);
+        let lead = leading_ones(tokens);
+        let trail = trailing_ones(tokens, lead);
         let needle = Needle::of(&tokens[lead..tokens.len() - trail]);
         Prefilter {
             lead,
@@ -82,25 +81,25 @@ impl Prefilter {
     }
 }
 
-/// How many one-character shapes there are before the first other shape: of those of `src/*.rs` four.
-fn leading_ones(shapes: &[Shape]) -> usize
-    ensures { HasOnes shapes.now result 0 }
+/// How many tokens of one character there are before the first other: of those of `src/*.rs` four.
+fn leading_ones<A: Allocator>(tokens: &[Token<Bracket<A>>]) -> usize
+    ensures { HasOnes (map shape_of tokens.now) result 0 }
 {
     let mut lead = 0;
-    while lead < shapes.len() && shapes[lead] == Shape::One {
+    while lead < tokens.len() && tokens[lead].shape() == Shape::One {
         lead += 1;
     }
     lead
 }
 
-/// How many one-character shapes there are after the last other shape and the first `lead`: of those of `src/*.rs`
-/// three, and of those of `main.rs` none.
-fn trailing_ones(shapes: &[Shape], lead: usize) -> usize
-    requires { HasOnes shapes.now lead 0 }
-    ensures { HasOnes shapes.now lead result }
+/// How many tokens of one character there are after the last other and the first `lead`: of those of `src/*.rs` three,
+/// and of those of `main.rs` none.
+fn trailing_ones<A: Allocator>(tokens: &[Token<Bracket<A>>], lead: usize) -> usize
+    requires { HasOnes (map shape_of tokens.now) lead 0 }
+    ensures { HasOnes (map shape_of tokens.now) lead result }
 {
     let mut trail = 0;
-    while lead + trail < shapes.len() && shapes[shapes.len() - 1 - trail] == Shape::One {
+    while lead + trail < tokens.len() && tokens[tokens.len() - 1 - trail].shape() == Shape::One {
         trail += 1;
     }
     trail

@@ -1,4 +1,5 @@
 use Rattle.std.proofs.Common.{arith}
+use Rattle.std.proofs.lemmas.List.{map-id}
 use Rattle.std.proofs.lemmas.Result.{IfOk-weaker}
 use Rattle.glob_pattern.proofs.PositionLemmas.Alive.{Splits-iff_alive}
 use Rattle.glob_pattern.proofs.PositionLemmas.Running.{one-word, CanRun-all}
@@ -7,22 +8,25 @@ use Rattle.glob_pattern.proofs.matcher.run_positions.Goals as goal
 pub decide-requires : goal.decide-requires
 decide-requires g c =
     let span = c.all.ensures in
-    CanRun-all (g.J.Judge.table c.args.judge.now) c.args.shapes.now _ c.all.result _ _ (one-word c.args.shapes.now c.new.result (omega (arith, c.if-shapes-le-WORD.true)) c.new.ensures)
-    span.start span.end span.enough c.requires.tokens c.requires.start c.requires.room
+    let same = map-id c.args.shapes.now in
+    rw same (CanRun-all (g.J.Judge.table c.args.judge.now) c.args.shapes.now _ c.all.result _ _ (one-word c.args.shapes.now c.new.result (omega (arith, c.if-shapes-le-WORD.true)) (rw same at c.new.ensures))
+    span.start span.end span.enough (omega arith) c.requires.tokens c.requires.start c.requires.room)
 
 pub decide-requires-else-shapes-le-WORD : goal.decide-requires-else-shapes-le-WORD
 decide-requires-else-shapes-le-WORD g c =
     let span = c.all-else-shapes-le-WORD.ensures in
-    CanRun-all (g.J.Judge.table c.args.judge.now) c.args.shapes.now _ c.all-else-shapes-le-WORD.result _ _ (rw c.as_slice.ensures.value c.in_ok-words.ensures)
-    span.start span.end span.enough c.requires.tokens c.requires.start c.requires.room
+    let same = map-id c.args.shapes.now in
+    rw same (CanRun-all (g.J.Judge.table c.args.judge.now) c.args.shapes.now _ c.all-else-shapes-le-WORD.result _ _ (rw c.as_slice.ensures.value (rw same at c.in_ok-words.ensures))
+    span.start span.end span.enough (omega arith) c.requires.tokens c.requires.start c.requires.room)
 
 pub returns-then-shapes-le-WORD-clause-answer : goal.returns-then-shapes-le-WORD-clause-answer
 returns-then-shapes-le-WORD-clause-answer g c =
     let split = Splits-iff_alive (g.J.Judge.table c.args.judge.now) c.args.shapes.now in
-    IfOk-weaker c.decide.result _ _ (λ yes h. (λ t. split.1 (rw c.all.ensures.end at (h.0 t)), λ s. h.1 (rw c.all.ensures.end (split.0 s)))) c.decide.ensures.answer
+    let answer = rw (map-id c.args.shapes.now, c.all.ensures.end) at c.decide.ensures.answer in
+    IfOk-weaker c.decide.result _ _ (λ yes h. (λ t. split.1 (h.0 t), λ s. h.1 (split.0 s))) answer
 
 pub returns-in_ok-words-clause-answer : goal.returns-in_ok-words-clause-answer
 returns-in_ok-words-clause-answer g c =
     let split = Splits-iff_alive (g.J.Judge.table c.args.judge.now) c.args.shapes.now in
-    let end = c.all-else-shapes-le-WORD.ensures.end in
-    IfOk-weaker c.decide-else-shapes-le-WORD.result _ _ (λ yes h. (λ t. split.1 (rw end at (h.0 t)), λ s. h.1 (rw end (split.0 s)))) c.decide-else-shapes-le-WORD.ensures.answer
+    let answer = rw (map-id c.args.shapes.now, c.all-else-shapes-le-WORD.ensures.end) at c.decide-else-shapes-le-WORD.ensures.answer in
+    IfOk-weaker c.decide-else-shapes-le-WORD.result _ _ (λ yes h. (λ t. split.1 (h.0 t), λ s. h.1 (split.0 s))) answer

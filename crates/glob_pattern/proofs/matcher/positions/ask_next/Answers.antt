@@ -1,23 +1,23 @@
-use Rattle.std.proofs.Common.{◌≡◌, ◌-◌, ◌≤◌, length, count_ones, bit_and, ⊎_elim, arith}
+use Rattle.std.proofs.Common.{◌≡◌, ◌-◌, ◌≤◌, length, count_ones, bit_and, ⊎_elim, arith, map}
 use Rattle.std.proofs.lemmas.Bool.{cases_eq}
 use Rattle.glob_pattern.proofs.PositionLemmas.Words.{asked-in_word, ones-in_word, IsTakenWord-asked, answer-in_word, none-taken_unasked}
 use Rattle.glob_pattern.proofs.matcher.positions.ask_next.Goals as goal
 
 pub takes_each-requires-clause-tokens : goal.takes_each-requires-clause-tokens
 takes_each-requires-clause-tokens g c = λ j set.
-    let within = asked-in_word (g.J.Judge.table c.args.judge.now) c.args.shapes.now 0 c.args.word (omega arith) c.requires.word c.args.alive (omega arith) j set in
+    let within = asked-in_word (g.J.Judge.table c.args.judge.now) (map g.T.Shaped.shape c.args.tokens.now) 0 c.args.word (omega arith) c.requires.word c.args.alive (omega arith) j set in
     rw c.step.ensures.same (within.0, omega (arith, within.1), omega (arith, within.1, c.requires.tokens))
 
 pub takes_each-requires-clause-room : goal.takes_each-requires-clause-room
 takes_each-requires-clause-room g c =
     let stepped = rw c.step.ensures.same at (c.step.ensures.stepped c.if-not-step.false) in
-    let few = ones-in_word (g.J.Judge.table c.args.judge.now) c.args.shapes.now 0 c.args.word (omega arith) c.requires.word c.args.alive (omega arith) in
+    let few = ones-in_word (g.J.Judge.table c.args.judge.now) (map g.T.Shaped.shape c.args.tokens.now) 0 c.args.word (omega arith) c.requires.word c.args.alive (omega arith) in
     omega (arith, c.requires.room (omega (arith, stepped.0, stepped.1)), few, c.step.ensures.count)
 
 pub returns-clause-asked : goal.returns-clause-asked
 returns-clause-asked g c =
     let T = g.J.Judge.table c.args.judge.now in
-    let shapes = c.args.shapes.now in
+    let shapes = map g.T.Shaped.shape c.args.tokens.now in
     let alive = c.args.alive in
     let p = g.J.Judge.place c.step.new.self in
     let stepped = rw c.step.ensures.same at (c.step.ensures.stepped c.if-not-step.false) in

@@ -1,4 +1,4 @@
-use Rattle.std.proofs.Common.{◌≡◌, ◌+◌, ◌-◌, ◌*◌, ◌<◌, ◌≤◌, ◌∙◌, length, set, arith, length-set, get_or-set_same}
+use Rattle.std.proofs.Common.{◌≡◌, ◌+◌, ◌-◌, ◌*◌, ◌<◌, ◌≤◌, ◌∙◌, length, set, arith, length-set, get_or-set_same, map}
 use Rattle.glob_pattern.specs.Private.Positions.{AreAlive}
 use Rattle.glob_pattern.specs.Matching.Splits.{Table}
 use Rattle.glob_pattern.specs.Private.Prefixes.{IsTakenPrefix}
@@ -6,16 +6,16 @@ use Rattle.glob_pattern.proofs.PositionLemmas.Words.{whole-at_start, IsTakenWord
 use Rattle.glob_pattern.proofs.matcher.positions.begin.Goals as goal
 
 pub loop-n-init : goal.loop-n-init
-loop-n-init c = record {
+loop-n-init g c = record {
   count = cc;
   done = λ table reached opens. record { word = λ i le lt. absurd (omega arith) };
-  whole = λ table reached opens le. whole-at_start table c.args.shapes.now c.args.start;
+  whole = λ table reached opens le. whole-at_start table (map g.T.Shaped.shape c.args.tokens.now) c.args.start;
 }
 
 pub loop-n-preserved : goal.loop-n-preserved
-loop-n-preserved c =
+loop-n-preserved g c =
     let i = c.loop-n.invariant in
-    let shapes = c.args.shapes.now in
+    let shapes = map g.T.Shaped.shape c.args.tokens.now in
     let n = c.loop-n.n in
     let start = 63 * n in
     let lt : n < length c.loop-n.alive = omega (arith, i.count) in

@@ -1,12 +1,12 @@
-use Rattle.std.proofs.Common.{◌≡◌, ◌*◌, ◌≤◌, ◌↔◌, length, IsTrue}
+use Rattle.std.proofs.Common.{◌≡◌, ◌*◌, ◌≤◌, ◌↔◌, length, IsTrue, map}
 use Rattle.glob_pattern.specs.Matching.Splits.{Table}
 use Rattle.glob_pattern.specs.Private.Prefixes.{PrefixSplits, IsTakenPrefix}
 use Rattle.glob_pattern.specs.Private.Positions.{AreAlive}
 use Rattle.glob_pattern.proofs.matcher.positions.begin.Given as goal
 
 abbrev pub invariant-loop-n : goal.invariant-loop-n
-invariant-loop-n l = record {
+invariant-loop-n g l = record {
   count : length l.alive ≡ length l.fn.alive;
-  done : (table : Table) → IsTakenPrefix table l.shapes l.start → l.opens ≡ table.opens l.start → AreAlive table l.shapes l.start 0 l.n l.alive;
-  whole : (table : Table) → IsTakenPrefix table l.shapes l.start → l.opens ≡ table.opens l.start → 63 * l.n ≤ length l.shapes → IsTrue l.whole ↔ PrefixSplits table l.shapes (63 * l.n) l.start;
+  done : (table : Table) → IsTakenPrefix table (map g.T.Shaped.shape l.tokens) l.start → l.opens ≡ table.opens l.start → AreAlive table (map g.T.Shaped.shape l.tokens) l.start 0 l.n l.alive;
+  whole : (table : Table) → IsTakenPrefix table (map g.T.Shaped.shape l.tokens) l.start → l.opens ≡ table.opens l.start → 63 * l.n ≤ length (map g.T.Shaped.shape l.tokens) → IsTrue l.whole ↔ PrefixSplits table (map g.T.Shaped.shape l.tokens) (63 * l.n) l.start;
 }

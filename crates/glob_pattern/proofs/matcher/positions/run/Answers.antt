@@ -1,4 +1,4 @@
-use Rattle.std.proofs.Common.{◌≡◌, ◌-◌, ◌∙◌, length, get_or, bit_and, refl, sym, arith, zero-add, length-set, get_or-set_same}
+use Rattle.std.proofs.Common.{◌≡◌, ◌-◌, ◌∙◌, length, get_or, bit_and, refl, sym, arith, zero-add, length-set, get_or-set_same, map}
 use Rattle.std.proofs.lemmas.Bool.{false≢true, eqb-true}
 use Rattle.std.proofs.lemmas.Nat.{and_le_l}
 use Rattle.glob_pattern.proofs.BitLemmas.LowestBits.{lowest_set}
@@ -11,7 +11,7 @@ pub kept-preserved : goal.kept-preserved
 kept-preserved g c =
     let i = c.kept.invariant in
     let T = g.J.Judge.table c.args.judge.now in
-    let shapes = c.args.shapes.now in
+    let shapes = map g.T.Shaped.shape c.args.tokens.now in
     let p = g.J.Judge.place c.ask_next.new.judge in
     let same = c.in-Some.ensures.same ∙ i.same in
     let next = c.in-Some.ensures.place cc in
@@ -31,7 +31,7 @@ pub step_rest-requires-clause-first : goal.step_rest-requires-clause-first
 step_rest-requires-clause-first g c =
     let i = c.kept.invariant in
     let T = g.J.Judge.table c.args.judge.now in
-    let shapes = c.args.shapes.now in
+    let shapes = map g.T.Shaped.shape c.args.tokens.now in
     let p = g.J.Judge.place c.ask_next.new.judge in
     let same = c.in-Some.ensures.same ∙ i.same in
     let next = c.in-Some.ensures.place cc in
@@ -48,7 +48,7 @@ step_rest-requires-clause-rest g c =
     let same = c.in-Some.ensures.same ∙ i.same in
     let next = c.in-Some.ensures.place cc in
     let back : g.J.Judge.place c.ask_next.new.judge - 1 ≡ k = omega (arith, next) in
-    rw (same, back, length-set c.sets.alive 0 c.step-next.result) (AreAlive-left T c.args.shapes.now k 0 c.sets.alive c.step-next.result (length c.sets.alive) i.run.alive)
+    rw (same, back, length-set c.sets.alive 0 c.step-next.result) (AreAlive-left T (map g.T.Shaped.shape c.args.tokens.now) k 0 c.sets.alive c.step-next.result (length c.sets.alive) i.run.alive)
 
 pub sets-preserved : goal.sets-preserved
 sets-preserved g c =
@@ -62,7 +62,7 @@ sets-preserved g c =
     let head : get_or c.step_rest.new.alive 0 0 ≡ c.step-next.result = r.head ∙ get_or-set_same c.sets.alive 0 c.step-next.result 0 (omega (arith, c.sets.invariant.count, c.requires.length, shaped.some)) in
     record {
       count = long ∙ c.sets.invariant.count;
-      run = rw r.place (HasRun-stepped (g.J.Judge.table c.args.judge.now) c.args.shapes.now _ _ _ _ c.sets.alive i.run c.in-Some.took _ _ _ c.step_rest.new.alive next asked r.asked r.alive);
+      run = rw r.place (HasRun-stepped (g.J.Judge.table c.args.judge.now) (map g.T.Shaped.shape c.args.tokens.now) _ _ _ _ c.sets.alive i.run c.in-Some.took _ _ _ c.step_rest.new.alive next asked r.asked r.alive);
       keeps = rw (long, head) c.answer_to_keep-keep.ensures;
       same = r.same;
     }
@@ -76,7 +76,7 @@ returns-then-step_rest-eq0-clause-answer g c =
     let r = rw same at c.step_rest.ensures in
     let long : length c.step_rest.new.alive ≡ length c.sets.alive = r.length ∙ length-set c.sets.alive 0 c.step-next.result in (
       λ t. absurd (false≢true t),
-      λ here. absurd (none-at_end (g.J.Judge.table c.args.judge.now) c.args.shapes.now _ c.step_rest.new.alive r.alive
+      λ here. absurd (none-at_end (g.J.Judge.table c.args.judge.now) (map g.T.Shaped.shape c.args.tokens.now) _ c.step_rest.new.alive r.alive
           (omega (arith, long, c.sets.invariant.count, c.requires.length, shaped.all)) (omega (arith, long, c.sets.invariant.count, c.requires.length, shaped.some))
           (r.none c.if-step_rest-eq0.true) asked.within c.args.span.end c.requires.ready.end here),
     )
@@ -88,14 +88,14 @@ returns-then-step_rest-eq0-clause-most g c =
     let next = c.in-Some.ensures.place cc in
     let asked = rw i.same at c.in-Some.ensures.asked in
     let r = rw same at c.step_rest.ensures in
-    let run = HasRun-stepped (g.J.Judge.table c.args.judge.now) c.args.shapes.now _ _ _ _ c.sets.alive i.run c.in-Some.took _ _ _ c.step_rest.new.alive next asked r.asked r.alive in
+    let run = HasRun-stepped (g.J.Judge.table c.args.judge.now) (map g.T.Shaped.shape c.args.tokens.now) _ _ _ _ c.sets.alive i.run c.in-Some.took _ _ _ c.step_rest.new.alive next asked r.asked r.alive in
     let most = rw c.requires.ready.place at run.most in
     omega (arith, most)
 
 pub returns-clause-answer : goal.returns-clause-answer
 returns-clause-answer g c =
     let T = g.J.Judge.table c.args.judge.now in
-    let shapes = c.args.shapes.now in
+    let shapes = map g.T.Shaped.shape c.args.tokens.now in
     let alive = get_or c.sets.alive 0 0 in
     let run = c.sets.invariant.run in
     let ready = c.requires.ready in

@@ -1,4 +1,4 @@
-use Rattle.std.proofs.Common.{◌≡◌, ◌+◌, ◌-◌, ◌*◌, ◌<◌, ◌≤◌, ◌≢◌, ◌∙◌, length, count_ones, bit_and, get_or, set, ⊎_elim, arith, length-set, get_or-set_other, get_or-set_same}
+use Rattle.std.proofs.Common.{◌≡◌, ◌+◌, ◌-◌, ◌*◌, ◌<◌, ◌≤◌, ◌≢◌, ◌∙◌, length, count_ones, bit_and, get_or, set, ⊎_elim, arith, length-set, get_or-set_other, get_or-set_same, map}
 use Rattle.std.proofs.lemmas.Bool.{cases_eq, cases_lt}
 use Rattle.std.proofs.lemmas.Nat.{le_or_l, le_or_r}
 use Rattle.glob_pattern.proofs.PositionLemmas.Words.{asked-in_word, ones-in_word, IsTakenWord-asked, none-taken_unasked, AreAlive-set, AreAlive-left, carry-whole}
@@ -8,24 +8,24 @@ pub takes_each-took-requires-clause-tokens : goal.takes_each-took-requires-claus
 takes_each-took-requires-clause-tokens g c = λ j set.
     let i = c.loop-n.invariant in
     let n = c.loop-n.n in
-    let from : 63 * n ≤ length c.args.shapes.now = omega (arith, i.count, c.requires.words.few, c.requires.length) in
+    let from : 63 * n ≤ length (map g.T.Shaped.shape c.args.tokens.now) = omega (arith, i.count, c.requires.words.few, c.requires.length) in
     let are = c.requires.words.word n (record { tokens = 0; wildcards = 0; recursive = 0 }) (omega (arith, i.count, c.requires.length)) in
-    let within = asked-in_word (g.J.Judge.table c.args.judge.now) c.args.shapes.now (63 * n) _ from are (get_or c.loop-n.alive n 0) (omega arith) j set in
-    rw i.same (within.0, omega (arith, within.1), omega (arith, within.1, c.requires.tokens))
+    let within = asked-in_word (g.J.Judge.table c.args.judge.now) (map g.T.Shaped.shape c.args.tokens.now) (63 * n) _ from are (get_or c.loop-n.alive n 0) (omega arith) j set in
+    rw i.same (within.0, omega (arith, within.1, c.requires.few), omega (arith, within.1, c.requires.tokens))
 
 pub takes_each-took-requires-clause-room : goal.takes_each-took-requires-clause-room
 takes_each-took-requires-clause-room g c =
     let i = c.loop-n.invariant in
     let n = c.loop-n.n in
-    let from : 63 * n ≤ length c.args.shapes.now = omega (arith, i.count, c.requires.words.few, c.requires.length) in
+    let from : 63 * n ≤ length (map g.T.Shaped.shape c.args.tokens.now) = omega (arith, i.count, c.requires.words.few, c.requires.length) in
     let are = c.requires.words.word n (record { tokens = 0; wildcards = 0; recursive = 0 }) (omega (arith, i.count, c.requires.length)) in
-    let few = ones-in_word (g.J.Judge.table c.args.judge.now) c.args.shapes.now (63 * n) _ from are (get_or c.loop-n.alive n 0) (omega arith) in
+    let few = ones-in_word (g.J.Judge.table c.args.judge.now) (map g.T.Shaped.shape c.args.tokens.now) (63 * n) _ from are (get_or c.loop-n.alive n 0) (omega arith) in
     omega (arith, few, i.asked.most, c.requires.room, from)
 
 pub loop-n-preserved : goal.loop-n-preserved
 loop-n-preserved g c =
     let i = c.loop-n.invariant in
-    let shapes = c.args.shapes.now in
+    let shapes = map g.T.Shaped.shape c.args.tokens.now in
     let table = g.J.Judge.table c.args.judge.now in
     let p = g.J.Judge.place c.args.judge.now in
     let n = c.loop-n.n in

@@ -1,4 +1,4 @@
-use Rattle.std.proofs.Common.{◌≡◌, ◌*◌, ◌++◌, ◌∷◌, [], get_or, ⊎_elim, sym, subst, arith}
+use Rattle.std.proofs.Common.{◌≡◌, ◌*◌, ◌++◌, ◌∷◌, [], get_or, ⊎_elim, sym, subst, arith, map}
 use Rattle.std.proofs.lemmas.Bool.{cases_eq}
 use Rattle.std.proofs.lemmas.List.{length-append, get_or_append_left, get_or_push}
 use Rattle.glob_pattern.specs.Private.Positions.{IsShapeWord}
@@ -12,7 +12,7 @@ loop-n-preserved g c =
       count = omega (arith, length-append words (c.new.result ∷ []), i.count);
       word = λ m d lt.
           ⊎_elim
-          (λ e. let at : get_or (words ++ c.new.result ∷ []) m d ≡ c.new.result = get_or_push words c.new.result d m (omega (arith, e, i.count)) in rw at (subst (λ n. IsShapeWord c.args.shapes.now (63 * n) c.new.result) (sym e) c.new.ensures))
+          (λ e. let at : get_or (words ++ c.new.result ∷ []) m d ≡ c.new.result = get_or_push words c.new.result d m (omega (arith, e, i.count)) in rw at (subst (λ n. IsShapeWord (map g.T.Shaped.shape c.args.tokens.now) (63 * n) c.new.result) (sym e) c.new.ensures))
           (λ ne. let at : get_or (words ++ c.new.result ∷ []) m d ≡ get_or words m d = get_or_append_left words (c.new.result ∷ []) d m (omega (arith, ne, lt, i.count)) in rw at (i.word m d (omega arith)))
           (cases_eq m c.loop-n.n);
     })

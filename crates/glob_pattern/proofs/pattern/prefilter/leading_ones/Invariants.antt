@@ -1,10 +1,11 @@
 -- The shapes gone past are of one character.
-use Rattle.std.proofs.Common.{◌-◌, length}
+use Rattle.std.proofs.Common.{◌-◌, length, map}
+use Rattle.glob_pattern.specs.Grammar.Tokens.{shape_of}
 use Rattle.glob_pattern.specs.Private.Trims.{HasOnes}
 use Rattle.glob_pattern.proofs.pattern.prefilter.leading_ones.Given as goal
 
 abbrev pub invariant-loop-lead : goal.invariant-loop-lead
-invariant-loop-lead l = HasOnes l.shapes l.lead 0
+invariant-loop-lead g l = HasOnes (map shape_of l.tokens) l.lead 0
 
 abbrev pub decreases-loop-lead : goal.decreases-loop-lead
-decreases-loop-lead l = length l.shapes - l.lead
+decreases-loop-lead g l = length l.tokens - l.lead

@@ -7,5 +7,5 @@ pub returns : goal.returns
 returns g c = λ text j set.
     let lt = bit_below c.free_before.result j (omega arith) set in
     let free = c.free_before.ensures j lt set in
-    rw (sym c.self.view_is) (TakesRest-freely c.args.options c.self.inside.tokens.items text c.self.inside.first c.args.end j (rw (sym c.self.invariant.shaped) c.self.invariant.first_word)
+    rw (sym c.self.view_is) (TakesRest-freely c.args.options c.self.inside.tokens.items text c.self.inside.first c.args.end j c.self.invariant.first_word
     c.if-options.false c.if-options-2.false lt free.0 free.1 free.2)

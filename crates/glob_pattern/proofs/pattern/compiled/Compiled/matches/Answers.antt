@@ -1,4 +1,4 @@
-use Rattle.std.proofs.Common.{◌≡◌, ◌-◌, ℕ, List, length, map, take, ap, sym, subst, ◌∙◌, arith}
+use Rattle.std.proofs.Common.{◌≡◌, ◌-◌, ℕ, List, length, map, take, chars, ap, sym, subst, ◌∙◌, arith}
 use Rattle.std.specs.List.{slice_range}
 use Rattle.std.specs.Str.{IsAscii}
 use Rattle.std.proofs.lemmas.List.{length-map, length-take-le, take-take}
@@ -27,14 +27,13 @@ decide-requires g c =
     let m = length text - c.args.trimmed.end in
     let front : c.range-front.result.now ≡ take m text = c.range-front.ensures.value ∙ front-is text m in
     let judge = c.new-judge.ensures in
-    let tokens = judge.tokens ∙ c.as_slice.ensures.value ∙ c.self.view_is in
-    let shapes = c.as_slice-3.ensures.value ∙ c.self.invariant.shaped ∙ ap (map shape_of) c.self.view_is in
-    let many : length c.as_slice-3.result.now ≡ length c.args.self.now = ap length shapes ∙ length-map c.args.self.now shape_of in
-    let kept : length c.self.inside.shapes.items ≡ length c.args.self.now = ap length (c.self.invariant.shaped ∙ ap (map shape_of) c.self.view_is) ∙ length-map c.args.self.now shape_of in
+    let tokens = judge.tokens ∙ c.as_slice-tokens.ensures.value ∙ c.self.view_is in
+    let read = c.as_slice-tokens.ensures.value ∙ c.self.view_is in
+    let kept : length c.as_slice-tokens.result.now ≡ length c.args.self.now = ap length read in
     let long = length-take-le m text (omega arith) in
-    rw (judge.options, tokens, judge.text, judge.start, shapes, front)
+    rw (judge.options, tokens, judge.text, judge.start, read, front)
     (CanRun-trimmed c.args.options c.args.self.now text c.words.result.now _ c.args.trimmed.end _ c.utf8.text c.requires c.words.ensures.words
-    (omega (arith, c.len.ensures, kept)) (c.enough.ensures _) judge.count (omega (arith, many, c.as_slice-3.type_inv.0)) (omega (arith, long)))
+    (omega (arith, kept)) (rw kept at (c.enough.ensures (chars (take m text)))) judge.count (omega (arith, kept, c.as_slice-tokens.type_inv.0)) (omega (arith, long)))
 
 pub returns-clause-answer : goal.returns-clause-answer
 unfolding table_of
@@ -43,10 +42,8 @@ returns-clause-answer g c =
     let m = length text - c.args.trimmed.end in
     let front : c.range-front.result.now ≡ take m text = c.range-front.ensures.value ∙ front-is text m in
     let judge = c.new-judge.ensures in
-    let tokens = judge.tokens ∙ c.as_slice.ensures.value ∙ c.self.view_is in
-    let shapes = c.as_slice-3.ensures.value ∙ c.self.invariant.shaped ∙ ap (map shape_of) c.self.view_is in
-    let kept : length c.self.inside.shapes.items ≡ length c.args.self.now = ap length (c.self.invariant.shaped ∙ ap (map shape_of) c.self.view_is) ∙ length-map c.args.self.now shape_of in
-    let end : c.len.result - c.args.trimmed.end ≡ length c.args.self.now - c.args.trimmed.end = omega (arith, c.len.ensures, kept) in
+    let tokens = judge.tokens ∙ c.as_slice-tokens.ensures.value ∙ c.self.view_is in
+    let read = c.as_slice-tokens.ensures.value ∙ c.self.view_is in
     let match = trimmed c.args.options c.args.self.now text c.args.trimmed.start c.args.trimmed.end c.utf8.text c.requires in
-    let answer = rw (judge.options, tokens, judge.text, shapes, front, end) at c.decide.ensures.answer in
+    let answer = rw (judge.options, tokens, judge.text, read, front) at c.decide.ensures.answer in
     IfOk-weaker c.decide.result _ _ (λ yes h. (λ t. match.1 (h.0 t), λ m. h.1 (match.0 m))) answer
