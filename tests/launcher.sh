@@ -15,10 +15,11 @@ program="$work/a copy/bin/glob_run"
 # anew: a copy of the repository in which nothing is built
 anew() {
     rm -rf "$work/a copy" "$work/asked" && mkdir "$work/a copy"
-    cp -a "$root/bin" "$root/crates.txt" "$work/a copy"
+    cp -a "$root/bin" "$root/crates.txt" "$root/TOOLCHAIN" "$work/a copy"
     for crate in $(sed -n 's/^\([a-z_]*\)[ :].*/\1/p' "$root/crates.txt"); do
         mkdir -p "$work/a copy/crates/$crate/src" && touch "$work/a copy/crates/$crate/src/lib.rt"
     done
+    cp -a "$root/crates/glob_run/src/page.rt" "$work/a copy/crates/glob_run/src"
 }
 
 # It runs in the folder of a crate, once those that the crate depends on are made. One that is built beside another takes a
@@ -64,8 +65,15 @@ rm -f "$work/asked"
 grep -o 'glob_pattern, about .*' "$work/err" >"$work/out" && : >"$work/err"
 check 'how long a crate took here is said' 0 'glob_pattern, about 60 min 0 s\n' ''
 anew
+for words in --help -h --version; do
+    run "$words"
+    head -c 8 "$work/out" >"$work/some" && mv "$work/some" "$work/out"
+    asked "$words is answered before anything is built" 'glob_run'
+done
 run match x
 asked 'the first call builds the crates of the program alone' "match x\n$all"
+run --version
+asked 'once it is built, the program answers' '--version\n'
 run match x
 asked 'the second call builds nothing' 'match x\n'
 echo 'other: glob' >>"$work/a copy/crates.txt"
@@ -75,9 +83,12 @@ sed -i 's/^glob_tree: /glob_tree: glob_lines /' "$work/a copy/crates.txt"
 run match x
 [ -s "$work/asked" ] && : >"$work/asked"
 asked 'a line of crates.txt for a crate of the program builds anew' 'match x\n'
-touch "$work/a copy/crates/glob_names/src/lib.rt" "$work/a copy/crates/glob_walk/must-fail"
+for folder in must-fail mutants; do
+    mkdir "$work/a copy/crates/glob_walk/$folder" && touch "$work/a copy/crates/glob_walk/$folder/some.edit"
+done
+touch "$work/a copy/crates/glob_names/src/lib.rt"
 run match x
-asked 'a source of another crate builds nothing' 'match x\n'
+asked 'a source of another crate, or a wrong body, builds nothing' 'match x\n'
 touch "$work/a copy/crates/glob_tree/src/lib.rt"
 run match x
 [ -s "$work/asked" ] && : >"$work/asked"
@@ -251,6 +262,8 @@ for signal in TERM INT HUP; do
         'glob_run: ended before it was built. The next call goes on from here\n'
     anew
     cp -a "$root/tests" "$work/a copy"
+    # the gate calls it
+    echo >"$work/a copy/tests/launcher.sh"
     ended_by "$signal" "$work/a copy/bin/test"
     check "ended by SIG$signal, the gate ends each rt" "$((128 + $(kill -l "$signal")))" '2\n' ''
 done
@@ -261,7 +274,7 @@ mkdir "$work/few" && for tool in bash sh env readlink dirname awk cmp find mktem
 done
 PATH=$work/few "$program" match x >"$work/out" 2>"$work/err"
 status=$?
-check 'no rt' 2 '' 'glob_run: there is no rt: put the folder of the toolchain that README.md names on PATH\n'
+check 'no rt' 2 '' "glob_run: there is no rt: put bin/ of the toolchain $(<"$root/TOOLCHAIN") on PATH\n"
 
 TMPDIR=$work/missing "$program" match x >"$work/out" 2>"$work/err"
 status=$?

@@ -1,7 +1,7 @@
 #!/usr/bin/env python3
 """Runs each example of the man page, and each call of the program that the README shows. Checks the man page where
-`mandoc` or `groff` can be had, asks bash, fish and zsh what their completions offer, and installs all of it. Prints
-what is wrong, and last how many checks passed and failed."""
+`mandoc` or `groff` can be had, asks bash, fish and zsh what their completions offer, installs all of it, and compares
+what the launcher answers before anything is built. Prints what is wrong, and last how many checks passed and failed."""
 
 import contextlib
 import os
@@ -225,12 +225,24 @@ def refusal_faults(words):
     return [] if is_told else [f"bin/install {words}: {ran.returncode} {ran.stderr}"]
 
 
+def launcher_faults(prefix, copy):
+    """Which words the launcher answers otherwise than the program does, where nothing is built."""
+    source = "crates/glob_run/src/page.rt"
+    (copy / source).parent.mkdir(parents=True)
+    shutil.copy(ROOT / source, copy / source)
+    shutil.copy(ROOT / "crates.txt", copy)
+    shutil.copytree(ROOT / "bin", copy / "bin")
+    said = lambda *words: subprocess.run(words, capture_output=True, text=True).stdout
+    words = ["--help", "-h", "--version"]
+    return [word for word in words if said(copy / "bin/glob_run", word) != said(prefix / "bin/glob_run", word)]
+
+
 def main():
     with tempfile.TemporaryDirectory() as work:
         prefix, folder = Path(work, "prefix"), Path(work, "here")
         (folder / "folder").mkdir(parents=True)
         checks = [install_faults(prefix), lint(), refusal_faults([]), refusal_faults(["--help"])]
-        checks += [naming_faults()]
+        checks += [naming_faults(), launcher_faults(prefix, Path(work, "copy"))]
         checks += [completion_faults(*it, folder) for it in COMPLETIONS]
         checks += [fish_faults(line, FISH.get(line, wanted), folder) for line, wanted in COMPLETIONS]
         checks += zsh_faults(folder, Path(work))
