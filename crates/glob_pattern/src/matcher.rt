@@ -158,6 +158,12 @@ pub fn run_positions<A: Allocator + Copy, J: Judge>(
         )
     } else {
         let words = shape_words(alloc, shapes)?;
-        decide(alloc, shapes, words.as_slice(), Span::all(shapes.len()), judge)
+        decide(
+            alloc,
+            shapes,
+            words.as_slice(),
+            Span::all(shapes.len()),
+            judge,
+        )
     }
 }

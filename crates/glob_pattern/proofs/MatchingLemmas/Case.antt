@@ -1,8 +1,9 @@
 -- Characters that are the same case-insensitively.
-use Rattle.std.proofs.Common.{◌≡◌, ℕ, ◌+◌, ◌<◌, ◌≤◌, ◌⊎◌, Bool, false, ◌==◌, sym, inl, inr, ⊎_elim, arith}
-use Rattle.std.proofs.lemmas.Bool.{both_ways, or_from, and_right, ne_eqb, eq-eqb, cases_lt}
+use Rattle.std.proofs.Common.{◌≡◌, ℕ, ◌+◌, ◌-◌, ◌*◌, ◌^◌, ◌<◌, ◌≤◌, ◌⊎◌, ◌∙◌, Bool, false, not, ◌&&◌, ◌==◌, IsTrue, bit_or, ap, sym, inl, inr, ⊎_elim, arith}
+use Rattle.std.proofs.lemmas.Bool.{both_ways, or_cases, or_from, and_parts, and_right, ne_eqb, eq-eqb, eqb-true, cases_lt}
+use Rattle.std.proofs.lemmas.Nat.{or_block}
 use Rattle.std.proofs.lemmas.Str.Ascii.{lowercase_is}
-use Rattle.std.specs.Char.{to_ascii_lowercase}
+use Rattle.std.specs.Char.{is_ascii, to_ascii_lowercase}
 use Rattle.glob_pattern.specs.Grammar.Brackets.{is_same}
 use Rattle.glob_text.specs.Characters.{slash}
 
@@ -23,3 +24,27 @@ same-slash case c e =
   where
     other : c ≡ slash → ⊥
     other is = both_ways (c == slash) e (eq-eqb c slash is)
+
+-- with bit 5 set, an upper-case letter is its lower-case one
+pub case_set : (c : ℕ) → bit_or c 32 ≡ bit_or (to_ascii_lowercase c) 32
+case_set c =
+    ⊎_elim
+    (λ (from, to, small).
+    let r = c - 64 in
+    let large : c ≡ 2 * 2 ^ 5 + r = omega arith in
+    let other : to_ascii_lowercase c ≡ 3 * 2 ^ 5 + r = omega arith in
+    ap (λ n. bit_or n 32) large ∙ or_block 5 2 1 r 0 (omega arith) (omega arith) ∙ sym (ap (λ n. bit_or n 32) other ∙ or_block 5 3 1 r 0 (omega arith) (omega arith)))
+    (λ (apart, same). ap (λ n. bit_or n 32) (sym same))
+    (lower_cases c)
+
+-- so the bits set are equal in both cases
+pub case_set_same : (c x : ℕ) → to_ascii_lowercase c ≡ to_ascii_lowercase x → bit_or c 32 ≡ bit_or x 32
+case_set_same c x e = case_set c ∙ ap (λ n. bit_or n 32) e ∙ sym (case_set x)
+
+-- characters that are the same, case-sensitively or not, have the same lower case
+pub lower-same : (case : Bool) (c x : ℕ) → IsTrue (is_same case c x) → to_ascii_lowercase c ≡ to_ascii_lowercase x
+lower-same case c x same =
+    ⊎_elim
+    (λ is. ap to_ascii_lowercase (eqb-true c x is))
+    (λ both. eqb-true (to_ascii_lowercase c) (to_ascii_lowercase x) (and_parts (not case && is_ascii c && is_ascii x) (to_ascii_lowercase c == to_ascii_lowercase x) both).1)
+    (or_cases (c == x) (not case && is_ascii c && is_ascii x && to_ascii_lowercase c == to_ascii_lowercase x) same)

@@ -1,23 +1,26 @@
 -- Characters that tokens of one character take at the ends of a text: what is left of a match is between them.
-use Rattle.std.proofs.Common.{◌≡◌, ℕ, zero, suc, ◌+◌, ◌-◌, ◌<◌, ◌≤◌, ◌↔◌, ◌==◌, ◌&&◌, Bool, true, false, List, ◌++◌, length, map, take, drop, get_or, slice_index, IsTrue, refl, sym, ap, ap₂, ◌∙◌, ⊎_elim, arith, add-one, below_more, chars}
+use Rattle.std.proofs.Common.{◌≡◌, ℕ, zero, suc, ◌+◌, ◌-◌, ◌<◌, ◌≤◌, ◌↔◌, ◌==◌, ◌&&◌, Bool, true, false, List, ◌++◌, length, map, take, drop, get_or, slice_index, IsTrue, refl, sym, ap, ap₂, ◌∙◌, ⊎_elim, arith, add-one, below_more, chars, rules}
 use Rattle.std.proofs.Math.Bool.{and-false}
-use Rattle.std.proofs.lemmas.Bool.{cases_eq, false≢true}
-use Rattle.std.proofs.lemmas.List.{take-append-drop, take-take, length-append, length-drop, length-map, length-take-le, drop_more, get_or_append_left, get_or-append_right, get_or-take, get_or-drop, get_or_past, get_or_read}
+use Rattle.std.proofs.lemmas.Bool.{cases_Bool, cases_eq, false≢true}
+use Rattle.std.proofs.lemmas.List.{take-append-drop, take-take, length-append, length-drop, length-map, length-take-le, drop_more, get_or_append_left, get_or-append_right, get_or-take, get_or-drop, get_or_past, get_or_read, get_or_default, get_or-map, drop_all}
 use Rattle.std.proofs.lemmas.Str.{chars-append, chars-IsAscii, IsUtf8-take, IsCharBoundary-end, IsCharBoundary-before_ascii}
 use Rattle.std.proofs.lemmas.Str.Ascii.{IsAscii-more, IsAscii-cons}
 use Rattle.std.specs.Str.{IsUtf8, IsAscii, IsCharBoundary}
 use Rattle.glob_text.specs.Characters.{slash, dot}
 use Rattle.glob_text.specs.Text.{Text, opens}
+use Rattle.glob_pattern.specs.Grammar.Brackets.{is_same}
 use Rattle.glob_pattern.specs.Grammar.Tokens.{Token, shape_of}
 use Rattle.glob_pattern.specs.Matching.Taking.{takes, is_excluded_dot}
 use Rattle.glob_pattern.specs.Matching.Texts.{TokensMatch}
 use Rattle.glob_pattern.specs.Private.Prefixes.{PrefixSplits, IsAlive, IsTakenPrefix}
+use Rattle.glob_pattern.specs.Private.Prefilters.{Excludes, IsFoldedFirst}
 use Rattle.glob_pattern.specs.Private.TextTable.{table_of}
 use Rattle.glob_pattern.specs.Private.Trims.{HasOnes, IsTrim}
 use Rattle.glob_pattern.specs.declared.matcher.Shape.{Shape}
 use Rattle.glob_pattern.specs.declared.matcher.Shape.TheVariants.{One}
 use Rattle.glob_pattern.specs.declared.options.MatchOptions.{MatchOptions}
 use Rattle.glob_pattern.specs.declared.token.Token.TheVariants.{Literal, AnyChar, AnySequence, Recursive, OneOf, NoneOf}
+use Rattle.glob_pattern.proofs.MatchingLemmas.Case.{case_set_same, lower-same}
 use Rattle.glob_pattern.proofs.MatchingLemmas.Passing.{chars-leading_ascii}
 use Rattle.glob_pattern.proofs.MatchingLemmas.PiecesAndSplits.{Splits-from_TokensMatch, TokensMatch-from_Splits}
 use Rattle.glob_pattern.proofs.MatchingLemmas.Stepping.{opens-suc}
@@ -212,6 +215,34 @@ module _ (o : MatchOptions) (tokens : List Token) (bytes : List ℕ) (start lead
       let tables = table_of-same o tokens text bytes (start + 1) same in
       IsTakenPrefix-stuck (table_of o tokens text) (map shape_of tokens) start before (ones.first start some)
       (λ taken. false≢true (sym (rw token_first at none) ∙ (sym (tables.takes start start (omega arith)) ∙ taken))) (omega arith) (Splits-from_TokensMatch o tokens text match)
+
+-- nothing is decided at first
+IsTrim-nothing : (o : MatchOptions) (tokens : List Token) (bytes : List ℕ) → IsTrim o tokens bytes 0 0
+IsTrim-nothing o tokens bytes = record {
+  ones = record { within = omega arith; first = λ j lt. absurd (omega arith); last = λ i lt. absurd (omega arith) };
+  within = omega arith;
+  front = search (rules);
+  back = let e : length bytes - 0 ≡ length bytes = omega arith in rw (e, drop_all (length bytes) bytes (omega arith)) (search (rules));
+  first = λ j lt. absurd (omega arith);
+  last = λ i lt. absurd (omega arith);
+}
+
+-- where the first token is a literal of another letter than the text begins with, the tokens do not match
+pub reject_letter : (o : MatchOptions) (tokens : List Token) (bytes : List ℕ) (first : ℕ) → IsFoldedFirst tokens first → Excludes first bytes
+    → IsUtf8 bytes → TokensMatch o tokens (chars bytes) → ⊥
+reject_letter o tokens bytes first begins excludes utf8 =
+    let (c, some, at, folded) = begins.literal excludes.literal in
+    let one : get_or (map shape_of tokens) 0 One ≡ One = get_or-map shape_of tokens 0 AnyChar One some ∙ ap shape_of at in
+    let ones : HasOnes (map shape_of tokens) 1 0 = record {
+      within = omega (arith, length-map tokens shape_of, some);
+      first = λ j lt. let e : j ≡ 0 = omega arith in rw e one;
+      last = λ i lt. absurd (omega arith);
+    } in
+    let other : is_same o.case_sensitive (get_or bytes 0 0) c ≡ false = ⊎_elim
+    (λ same. absurd (excludes.other (case_set_same (get_or bytes 0 0) c (lower-same o.case_sensitive (get_or bytes 0 0) c same) ∙ sym folded)))
+    (λ differs. differs)
+    (cases_Bool (is_same o.case_sensitive (get_or bytes 0 0) c)) in
+    reject_first o tokens bytes 0 1 (Literal c) (IsTrim-nothing o tokens bytes) ones (omega arith) excludes.some excludes.ascii (sym at ∙ get_or_default tokens 0 _ _ some) utf8 other
 
 -- the next last token, and the character that it is compared with, which is no leading dot
 module _ (o : MatchOptions) (tokens : List Token) (bytes : List ℕ) (start end trail : ℕ) (t : Token) (trim : IsTrim o tokens bytes start end) (ones : HasOnes (map shape_of tokens) start trail)

@@ -1,5 +1,5 @@
 -- The shapes of a list of tokens, one more at a time.
-use Rattle.std.proofs.Common.{◌≡◌, ◌∙◌, ◌+◌, ◌-◌, ◌<◌, ◌≤◌, ◌≢◌, ◌⊎◌, ◌↔◌, ℕ, Bool, List, length, map, get_or, inl, inr, ⊎_elim, sym, ap, subst, IsTrue, arith}
+use Rattle.std.proofs.Common.{◌≡◌, ◌∙◌, ◌+◌, ◌-◌, ◌<◌, ◌≤◌, ◌≢◌, ◌⊎◌, ◌↔◌, ℕ, Bool, List, length, map, get_or, inl, inr, ⊎_elim, sym, ap, IsTrue, arith}
 use Rattle.std.proofs.lemmas.Bool.{cases_eq}
 use Rattle.std.proofs.lemmas.List.{get_or-map}
 use Rattle.std.specs.Int.{IsBitSet}
@@ -23,13 +23,16 @@ pub HasShapes-next : (shapes : List Shape) (start n : ℕ) (shape : Shape) (word
 HasShapes-next shapes start n shape word next followed from at more has tokens wildcards recursive = record {
   tokens = λ j lt. let h = has.tokens j lt in let t = tokens j in (
     λ x. ⊎_elim (λ w. omega (arith, h.0 w)) (λ e. omega (arith, e)) (t.0 x),
-    λ before. ⊎_elim (λ e. t.1 (inr e)) (λ ne. t.1 (inl (h.1 (omega (arith, before, ne))))) (cases_eq j (n - start)));
+    λ before. ⊎_elim (λ e. t.1 (inr e)) (λ ne. t.1 (inl (h.1 (omega (arith, before, ne))))) (cases_eq j (n - start)),
+  );
   wildcards = λ j lt. let h = has.wildcards j lt in let t = wildcards j in (
     λ x. ⊎_elim (λ w. let p = h.0 w in (omega (arith, p.0), p.1)) (λ (e, s). let here : start + j ≡ n = omega (arith, e) in (omega (arith, e), rw (here, at) s)) (t.0 x),
-    λ (before, s). ⊎_elim (λ e. let here : start + j ≡ n = omega (arith, e) in t.1 (inr (e, rw (here, at) at s))) (λ ne. t.1 (inl (h.1 (omega (arith, before, ne), s)))) (cases_eq j (n - start)));
+    λ (before, s). ⊎_elim (λ e. let here : start + j ≡ n = omega (arith, e) in t.1 (inr (e, rw (here, at) at s))) (λ ne. t.1 (inl (h.1 (omega (arith, before, ne), s)))) (cases_eq j (n - start)),
+  );
   recursive = λ j lt. let h = has.recursive j lt in let t = recursive j in (
     λ x. ⊎_elim (λ w. let p = h.0 w in (omega (arith, p.0), p.1, p.2)) (λ (e, s, f). let here : start + j ≡ n = omega (arith, e) in (omega (arith, e), rw (here, at) s, omega (arith, e, more.0 f))) (t.0 x),
-    λ (before, s, f). ⊎_elim (λ e. let here : start + j ≡ n = omega (arith, e) in t.1 (inr (e, rw (here, at) at s, more.1 (omega (arith, e, f))))) (λ ne. t.1 (inl (h.1 (omega (arith, before, ne), s, f)))) (cases_eq j (n - start)));
+    λ (before, s, f). ⊎_elim (λ e. let here : start + j ≡ n = omega (arith, e) in t.1 (inr (e, rw (here, at) at s, more.1 (omega (arith, e, f))))) (λ ne. t.1 (inl (h.1 (omega (arith, before, ne), s, f)))) (cases_eq j (n - start)),
+  );
 }
 
 -- one more shape at the start, or at the end, is of one character

@@ -118,7 +118,12 @@ fn run<T: Shaped, J: Judge>(
 /// Steps over a character and asks the tokens of the first word that are alive. Returns those that take it, or `None` if
 /// no character is left.
 #[inline(always)]
-fn ask_next<T: Shaped, J: Judge>(tokens: &[T], word: ShapeWord, alive: u64, judge: &mut J) -> Option<u64>
+fn ask_next<T: Shaped, J: Judge>(
+    tokens: &[T],
+    word: ShapeWord,
+    alive: u64,
+    judge: &mut J,
+) -> Option<u64>
     requires word { IsShapeWord (map T.shape tokens.now) 0 word }
     requires alive { IsAliveWord (J.table judge.old) (map T.shape tokens.now) 0 (J.place judge.old) alive }
     requires tokens { length (map T.shape tokens.now) ≤ (J.table judge.old).tokens }

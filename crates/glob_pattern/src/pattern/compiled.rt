@@ -160,13 +160,7 @@ impl<A: Allocator + Copy> Compiled<A> {
         ensures short { length self.now < 64 → IsOk result }
     {
         let tokens = self.tokens.as_slice();
-        let mut judge = TextJudge::new(
-            tokens,
-            self.masks.as_slice(),
-            text,
-            0,
-            options,
-        );
+        let mut judge = TextJudge::new(tokens, self.masks.as_slice(), text, 0, options);
         let answer = decide(
             *self.tokens.allocator(),
             tokens,

@@ -5,11 +5,11 @@ ghost use Rattle.std.specs.Str.{is_utf8};
 ghost use Rattle.glob_pattern.specs.Grammar.Tokens.{shape_of};
 ghost use Rattle.glob_pattern.specs.Matching.Texts.{TokensMatch};
 ghost use Rattle.glob_pattern.specs.Private.Trims.{HasOnes, IsTrim};
-ghost use Rattle.glob_pattern.specs.Private.Prefilters.{IsPrefilter};
+ghost use Rattle.glob_pattern.specs.Private.Prefilters.{Excludes, IsFoldedFirst, IsPrefilter};
 
 use crate::matcher::{Shape, Shaped};
 use crate::options::MatchOptions;
-use crate::pattern::needle::Needle;
+use crate::pattern::needle::{CASE, Needle};
 use crate::token::Token;
 use crate::token::bracket::Bracket;
 use crate::token::taking::{is_excluded_dot, takes};
@@ -22,6 +22,8 @@ pub struct Prefilter {
     pub lead: usize,
     /// How many of the other tokens at the end do.
     pub trail: usize,
+    /// The first token with the bit of lower case set, if it is a literal of ASCII, and otherwise 0.
+    pub first: u8,
     /// Bytes of the tokens between.
     pub needle: Needle,
 }
@@ -40,6 +42,7 @@ impl Prefilter {
     pub const NONE: Prefilter = Prefilter {
         lead: 0,
         trail: 0,
+        first: 0,
         needle: Needle::NONE,
     };
 
@@ -53,6 +56,7 @@ impl Prefilter {
         Prefilter {
             lead,
             trail,
+            first: folded_first(tokens),
             needle,
         }
     }
@@ -71,6 +75,9 @@ impl Prefilter {
             (IsTrue (is_utf8 bytes.now) → ¬ (TokensMatch options tokens.now (chars bytes.now)))
             (λ t. IsTrim options tokens.now bytes.now t.start t.end) }
     {
+        if self.excludes(bytes) {
+            return None;
+        }
         let start = trim_start(tokens, self.lead, bytes, options)?;
         let end = trim_end(tokens, self.trail, bytes, options, start)?;
         if self.needle.may_be_in(bytes) {
@@ -78,6 +85,27 @@ impl Prefilter {
         } else {
             None
         }
+    }
+
+    /// Whether the text begins with a character of ASCII that the first token, a literal, does not take in either case.
+    #[inline(always)]
+    fn excludes(&self, bytes: &[u8]) -> bool
+        ensures { IsTrue result → Excludes self.now.first bytes.now }
+    {
+        match bytes {
+            [byte, ..] => self.first != 0 && byte.is_ascii() && *byte | CASE != self.first,
+            [] => false,
+        }
+    }
+}
+
+/// The first token with the bit of lower case set, if it is a literal of ASCII, and otherwise 0.
+fn folded_first<A: Allocator>(tokens: &[Token<Bracket<A>>]) -> u8
+    ensures { IsFoldedFirst tokens.now result }
+{
+    match tokens {
+        [Token::Literal(c), ..] if c.is_ascii() => *c as u8 | CASE,
+        _ => 0,
     }
 }
 

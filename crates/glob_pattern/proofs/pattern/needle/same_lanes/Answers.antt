@@ -1,29 +1,12 @@
-use Rattle.std.proofs.Common.{◌≡◌, ℕ, ◌+◌, ◌-◌, ◌*◌, ◌/◌, ◌%◌, ◌^◌, ◌<◌, ◌==◌, Bool, true, false, List, length, get_or, take, drop, map, cond, eqb, bit_or, replicate, sym, ap, ◌∙◌, ⊎_elim, arith, w8}
+use Rattle.std.proofs.Common.{◌≡◌, ℕ, ◌+◌, ◌-◌, ◌/◌, ◌%◌, ◌^◌, ◌<◌, ◌==◌, Bool, true, false, List, length, get_or, take, drop, map, cond, eqb, bit_or, replicate, ap, ◌∙◌, arith, w8}
 use Rattle.std.proofs.lemmas.Bool.{eq-eqb}
 use Rattle.std.proofs.lemmas.List.{get_or-map, length-map}
-use Rattle.std.proofs.lemmas.Nat.{shr-shr, or_block}
+use Rattle.std.proofs.lemmas.Nat.{shr-shr}
 use Rattle.std.proofs.lemmas.Simd.{length-chunk, get_or-chunk, zip2_splat, map-map, bit_mask_l, bitmask_splat}
-use Rattle.std.specs.Char.{to_ascii_lowercase}
 use Rattle.std.specs.Int.{bit_at}
 use Rattle.std.specs.Simd.Lanes.{mask_l, zip2}
-use Rattle.glob_pattern.proofs.MatchingLemmas.Case.{lower_cases}
+use Rattle.glob_pattern.proofs.MatchingLemmas.Case.{case_set_same}
 use Rattle.glob_pattern.proofs.pattern.needle.same_lanes.Goals as goal
-
--- with bit 5 set, a capital letter is its small one
-case_set : (c : ℕ) → bit_or c 32 ≡ bit_or (to_ascii_lowercase c) 32
-case_set c =
-    ⊎_elim
-    (λ (from, to, small).
-    let r = c - 64 in
-    let large : c ≡ 2 * 2 ^ 5 + r = omega arith in
-    let other : to_ascii_lowercase c ≡ 3 * 2 ^ 5 + r = omega arith in
-    ap (λ n. bit_or n 32) large ∙ or_block 5 2 1 r 0 (omega arith) (omega arith) ∙ sym (ap (λ n. bit_or n 32) other ∙ or_block 5 3 1 r 0 (omega arith) (omega arith)))
-    (λ (apart, same). ap (λ n. bit_or n 32) (sym same))
-    (lower_cases c)
-
--- so the bits set are equal in both cases
-case_set_same : (c x : ℕ) → to_ascii_lowercase c ≡ to_ascii_lowercase x → bit_or c 32 ≡ bit_or x 32
-case_set_same c x e = case_set c ∙ ap (λ n. bit_or n 32) e ∙ sym (case_set x)
 
 -- bit k of the lanes shifted by s is of lane s + k
 shifted_bit : (p : ℕ → Bool) (xs : List ℕ) (s k : ℕ) → s + k < length xs → p (get_or xs (s + k) 0) ≡ true → bit_at (mask_l (map p xs) / 2 ^ s) k ≡ 1

@@ -1,4 +1,4 @@
-use Rattle.std.proofs.Common.{◌≡◌, ◌∙◌, ◌+◌, ◌<◌, ◌↔◌, length, map, get_or, sym, IsTrue, arith}
+use Rattle.std.proofs.Common.{◌≡◌, ◌∙◌, map, get_or, sym, arith}
 use Rattle.std.proofs.lemmas.Bool.{ltb-true, lt-ltb}
 use Rattle.std.proofs.lemmas.List.{length-map}
 use Rattle.glob_pattern.specs.declared.matcher.Shape.TheVariants.{One}

@@ -2,7 +2,12 @@ use Rattle.std.proofs.Common.{◌∙◌, sym}
 use Rattle.std.proofs.lemmas.Bool.{false≢true}
 use Rattle.std.proofs.lemmas.Str.{IsUtf8-from_is_utf8}
 use Rattle.glob_pattern.proofs.MatchingLemmas.Needles.{ContainsSmall-from_needle}
+use Rattle.glob_pattern.proofs.MatchingLemmas.Trims.{reject_letter}
 use Rattle.glob_pattern.proofs.pattern.prefilter.Prefilter.trim.Goals as goal
+
+pub returns-then-excludes : goal.returns-then-excludes
+returns-then-excludes g c = λ utf8.
+    reject_letter c.args.options c.args.tokens.now c.args.bytes.now c.args.self.now.first c.requires.begins (c.excludes.ensures c.if-excludes.true) (IsUtf8-from_is_utf8 c.args.bytes.now utf8)
 
 pub returns-in_err-start : goal.returns-in_err-start
 returns-in_err-start g c = rw c.from_residual.ensures c.in_err-start.ensures
