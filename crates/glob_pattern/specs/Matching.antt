@@ -4,3 +4,4 @@ pub mod Short
 pub mod Splits
 pub mod Taking
 pub mod Texts
+pub mod Trims

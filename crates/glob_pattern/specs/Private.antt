@@ -7,4 +7,3 @@ pub mod Prefilters
 pub mod Prefixes
 pub mod Stepping
 pub mod TextTable
-pub mod Trims

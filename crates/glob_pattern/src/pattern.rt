@@ -1,6 +1,6 @@
 ghost use Rattle.std.specs.Prelude.{◌≡◌, ◌*◌, ◌≤◌, ◌↔◌, [], length, IsTrue, IsOk, IfOk, IfErr, MatchOption, chars};
 ghost use Rattle.std.specs.Str.{is_utf8};
-ghost use Rattle.glob_pattern.specs.Private.Prefilters.{IsTrimmed};
+ghost use Rattle.glob_pattern.specs.Matching.Trims.{IsTrimmed};
 ghost use Rattle.glob_pattern.specs.Matching.Short.{IsShort};
 ghost use Rattle.std.specs.Path.{path_bytes};
 ghost use Rattle.glob_pattern.specs.Grammar.Units.{IsAccepted};

@@ -12,7 +12,7 @@ use Rattle.glob_pattern.specs.Grammar.Brackets.{is_same}
 use Rattle.glob_pattern.specs.Grammar.Tokens.{Token}
 use Rattle.glob_pattern.specs.Matching.Texts.{TokensMatch}
 use Rattle.glob_pattern.specs.Laws.{SameTexts, StandsIn}
-use Rattle.glob_pattern.specs.Private.Needles.{IsNeedle, StandsAt, ContainsSmall}
+use Rattle.glob_pattern.specs.Private.Needles.{IsNeedle, IsAt, ContainsFolded}
 use Rattle.glob_pattern.specs.declared.options.MatchOptions.{MatchOptions}
 use Rattle.glob_pattern.specs.declared.pattern.needle.Needle.{Needle}
 use Rattle.glob_pattern.specs.declared.token.Token.TheVariants.{Literal}
@@ -66,7 +66,7 @@ EndsIn-with tokens i c needle with next (is, back) =
       refl,
     ))
 
--- characters that are the same have the same bytes once capital letters are made small
+-- characters that are the same have the same bytes once letters are in lower case
 small-same : (case : Bool) (c x : ℕ) → IsTrue (is_same case c x) → map to_ascii_lowercase (encode c) ≡ map to_ascii_lowercase (encode x)
 small-same case c x same =
     ⊎_elim
@@ -90,26 +90,26 @@ small-SameTexts case (x ∷ xs) (y ∷ ys) (lengths, each) =
     ∙ sym (map-append to_ascii_lowercase (encode y) (encode_utf8_all ys))
 
 -- where bytes split around the needle, it stands
-StandsAt-from_split : (before here after bytes needle : List ℕ) → bytes ≡ before ++ (here ++ after) → map to_ascii_lowercase here ≡ map to_ascii_lowercase needle
-    → StandsAt bytes needle (length before)
-StandsAt-from_split before here after bytes needle split small =
+IsAt-from_split : (before here after bytes needle : List ℕ) → bytes ≡ before ++ (here ++ after) → map to_ascii_lowercase here ≡ map to_ascii_lowercase needle
+    → IsAt bytes needle (length before)
+IsAt-from_split before here after bytes needle split small =
     let long : length here ≡ length needle = sym (length-map here to_ascii_lowercase) ∙ ap length small ∙ length-map needle to_ascii_lowercase in
     let cut : take (length needle) (drop (length before) bytes) ≡ here =
     ap₂ (λ n xs. take n (drop (length before) xs)) (sym long) split ∙ ap (take (length here)) (drop-append_seam before (here ++ after)) ∙ take-append_seam here after in
     record {
       within = omega (arith, ap length split, length-append before (here ++ after), length-append here after);
-      small = ap (map to_ascii_lowercase) cut ∙ small;
+      folded = ap (map to_ascii_lowercase) cut ∙ small;
     }
 
 -- a text that the tokens match contains their needle
-pub ContainsSmall-from_needle : (o : MatchOptions) (tokens : List Token) (needle : Needle) (bytes : List ℕ) → IsNeedle tokens needle → IsUtf8 bytes
-    → TokensMatch o tokens (chars bytes) → ContainsSmall bytes (take needle.len needle.bytes)
-ContainsSmall-from_needle o tokens needle bytes is utf8 match =
+pub ContainsFolded-from_needle : (o : MatchOptions) (tokens : List Token) (needle : Needle) (bytes : List ℕ) → IsNeedle tokens needle → IsUtf8 bytes
+    → TokensMatch o tokens (chars bytes) → ContainsFolded bytes (take needle.len needle.bytes)
+ContainsFolded-from_needle o tokens needle bytes is utf8 match =
     let stands : StandsIn o.case_sensitive is.front is.plain is.back (chars bytes) =
     plain_tokens_stand o is.front is.plain is.back (chars bytes) (subst (λ ts. TokensMatch o ts (chars bytes)) is.tokens_are match) in
     record {
       offset = length (encode_utf8_all stands.before);
-      stands = StandsAt-from_split (encode_utf8_all stands.before) (encode_utf8_all stands.here) (encode_utf8_all stands.after) bytes (take needle.len needle.bytes)
+      stands = IsAt-from_split (encode_utf8_all stands.before) (encode_utf8_all stands.here) (encode_utf8_all stands.after) bytes (take needle.len needle.bytes)
           (sym (encodes-chars bytes utf8) ∙ ap encode_utf8_all stands.split ∙ encodes-append stands.before (stands.here ++ stands.after)
           ∙ ap (λ xs. encode_utf8_all stands.before ++ xs) (encodes-append stands.here stands.after))
           (small-SameTexts o.case_sensitive stands.here is.plain stands.same ∙ ap (map to_ascii_lowercase) (sym is.bytes_are));

@@ -9,7 +9,7 @@ use Rattle.glob_pattern.specs.Matching.Texts.{TokensMatch}
 use Rattle.glob_pattern.specs.Private.Positions.{AreShapeWords, TakesRest, CanRun}
 use Rattle.glob_pattern.specs.Private.Prefixes.{IsAlive}
 use Rattle.glob_pattern.specs.Private.TextTable.{table_of}
-use Rattle.glob_pattern.specs.Private.Trims.{IsTrim}
+use Rattle.glob_pattern.specs.Matching.Trims.{IsTrim}
 use Rattle.glob_pattern.specs.declared.matcher.positions.Span.{Span}
 use Rattle.glob_pattern.specs.declared.matcher.shape_word.ShapeWord.{ShapeWord}
 use Rattle.glob_pattern.specs.declared.options.MatchOptions.{MatchOptions}

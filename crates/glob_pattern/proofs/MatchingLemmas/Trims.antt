@@ -15,7 +15,7 @@ use Rattle.glob_pattern.specs.Matching.Texts.{TokensMatch}
 use Rattle.glob_pattern.specs.Private.Prefixes.{PrefixSplits, IsAlive, IsTakenPrefix}
 use Rattle.glob_pattern.specs.Private.Prefilters.{Excludes, IsFoldedFirst}
 use Rattle.glob_pattern.specs.Private.TextTable.{table_of}
-use Rattle.glob_pattern.specs.Private.Trims.{HasOnes, IsTrim}
+use Rattle.glob_pattern.specs.Matching.Trims.{HasOnes, IsTrim}
 use Rattle.glob_pattern.specs.declared.matcher.Shape.{Shape}
 use Rattle.glob_pattern.specs.declared.matcher.Shape.TheVariants.{One}
 use Rattle.glob_pattern.specs.declared.options.MatchOptions.{MatchOptions}

@@ -26,7 +26,7 @@ is_same case c x =
 abbrev pub in_range : ℕ → ℕ → ℕ → Bool
 in_range x y c = nat_le x c && nat_le c y
 
--- The three are of ASCII and both ends are letters, and c lies between the ends once capital letters are made small.
+-- The three are of ASCII and both ends are letters, and c lies between the ends once letters are in lower case.
 abbrev pub in_folded_range : ℕ → ℕ → ℕ → Bool
 in_folded_range x y c =
     is_ascii x && is_ascii y && is_ascii c

@@ -15,18 +15,18 @@ pub record IsNeedle (tokens : List Token) (needle : Needle) : Type 0 where
   pub tokens_are : tokens ≡ front ++ (map Literal plain ++ back)
   pub bytes_are : take needle.len needle.bytes ≡ encode_utf8_all plain
 
--- bit k is set if the kth byte from the place on is x once capital letters are made small
+-- bit k is set if the kth byte from the place on is x once letters are in lower case
 pub record AreLanes (bytes : List ℕ) (from x lanes : ℕ) : Type 0 where
   pub each : (k : ℕ) → k < 16 → from + k < length bytes
       → to_ascii_lowercase (slice_index_or bytes (from + k) 0) ≡ to_ascii_lowercase x
       → bit_at lanes k ≡ 1
 
--- the needle stands at the offset, once capital letters are made small
-pub record StandsAt (bytes needle : List ℕ) (offset : ℕ) : Type 0 where
+-- the needle stands at the offset, once letters are in lower case
+pub record IsAt (bytes needle : List ℕ) (offset : ℕ) : Type 0 where
   pub within : offset + length needle ≤ length bytes
-  pub small : map to_ascii_lowercase (take (length needle) (drop offset bytes)) ≡ map to_ascii_lowercase needle
+  pub folded : map to_ascii_lowercase (take (length needle) (drop offset bytes)) ≡ map to_ascii_lowercase needle
 
 -- the needle stands at some offset
-pub record ContainsSmall (bytes needle : List ℕ) : Type 0 where
+pub record ContainsFolded (bytes needle : List ℕ) : Type 0 where
   pub offset : ℕ
-  pub stands : StandsAt bytes needle offset
+  pub stands : IsAt bytes needle offset

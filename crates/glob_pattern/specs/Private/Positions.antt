@@ -110,3 +110,24 @@ pub record HasAsked (table : Table) (shapes : List Shape) (before took k count :
   pub taken : IsTakenWord table shapes 0 k took
   pub short : ¬ (IsBitSet took 63)
   pub asked : WereAsked table shapes 0 (word_end shapes 0) k before count
+
+-- The words after the first can be stepped to place k, which opens or not, after `count` questions. The first word says
+-- what is alive at place k already.
+pub record CanStepRest (table : Table) (shapes : List Shape) (list : List ShapeWord) (alive : List ℕ) (opened : Bool) (k count : ℕ) : Type 0 where
+  pub words : AreShapeWords shapes list
+  pub many : length alive ≡ length list
+  pub stepped : 0 < k
+  pub opens : opened ≡ table.opens k
+  pub few : length shapes < 2 ^ 64
+  pub tokens : length shapes ≤ table.tokens
+  pub room : count + (length shapes - word_end shapes 0) < 2 ^ 128
+  pub first : AreAlive table shapes k 0 1 alive
+  pub rest : AreAlive table shapes (k - 1) 1 (length alive) alive
+
+-- They are: all words say what is alive at place k, and `any` is 0 only where nothing is.
+pub record HasSteppedRest (table : Table) (shapes : List Shape) (before after : List ℕ) (any k old new : ℕ) : Type 0 where
+  pub alive : AreAlive table shapes k 0 (length after) after
+  pub many : length after ≡ length before
+  pub head : slice_index after 0 ≡ slice_index before 0
+  pub none : any ≡ 0 → (i : ℕ) → i < length after → slice_index after i ≡ 0
+  pub asked : WereAsked table shapes (word_end shapes 0) (length shapes) k old new

@@ -4,7 +4,7 @@
 ghost use Rattle.std.specs.Prelude.{◌≡◌, ℕ, ◌+◌, ◌-◌, ◌*◌, ◌^◌, ◌<◌, ◌≤◌, ◌↔◌, false, length, slice_index, slice_index_or, IsTrue, IsOk, IfOk, IsSome, IfSome, bit_and, map};
 ghost use Rattle.glob_pattern.specs.Matching.Splits.{Table};
 ghost use Rattle.glob_pattern.specs.Private.Prefixes.{IsAlive, IsTakenPrefix};
-ghost use Rattle.glob_pattern.specs.Private.Positions.{word_end, IsShapeWord, AreShapeWords, IsAliveWord, AreAlive, AfterStep, Keeps, CanRun, WereAsked, HasAsked};
+ghost use Rattle.glob_pattern.specs.Private.Positions.{IsShapeWord, AreShapeWords, IsAliveWord, AreAlive, AfterStep, Keeps, CanRun, HasAsked, CanStepRest, HasSteppedRest};
 
 use super::shape_word::{ShapeWord, last_before};
 use super::{Judge, Shape, Shaped, WORD};
@@ -125,7 +125,8 @@ fn ask_next<T: Shaped, J: Judge>(
     judge: &mut J,
 ) -> Option<u64>
     requires word { IsShapeWord (map T.shape tokens.now) 0 word }
-    requires alive { IsAliveWord (J.table judge.old) (map T.shape tokens.now) 0 (J.place judge.old) alive }
+    requires alive { IsAliveWord (J.table judge.old) (map T.shape tokens.now) 0
+        (J.place judge.old) alive }
     requires tokens { length (map T.shape tokens.now) ≤ (J.table judge.old).tokens }
     requires room { J.place judge.old < (J.table judge.old).characters
         → J.count judge.old + length (map T.shape tokens.now) < 2 ^ 128 }
@@ -204,25 +205,10 @@ fn step_rest<T: Shaped, J: Judge>(
     opens: bool,
     judge: &mut J,
 ) -> u64
-    requires words { AreShapeWords (map T.shape tokens.now) words.now }
-    requires length { length alive.old ≡ length words.now }
-    requires stepped { 0 < J.place judge.old }
-    requires opens { opens ≡ (J.table judge.old).opens (J.place judge.old) }
-    requires few { length (map T.shape tokens.now) < 2 ^ 64 }
-    requires tokens { length (map T.shape tokens.now) ≤ (J.table judge.old).tokens }
-    requires room { J.count judge.old
-        + (length (map T.shape tokens.now) - word_end (map T.shape tokens.now) 0) < 2 ^ 128 }
-    requires first { AreAlive (J.table judge.old) (map T.shape tokens.now) (J.place judge.old) 0 1 alive.old }
-    requires rest { AreAlive (J.table judge.old) (map T.shape tokens.now) (J.place judge.old - 1) 1
-        (length alive.old) alive.old }
-    ensures alive { AreAlive (J.table judge.old) (map T.shape tokens.now) (J.place judge.old) 0
-        (length alive.new) alive.new }
-    ensures length { length alive.new ≡ length alive.old }
-    ensures head { slice_index alive.new 0 ≡ slice_index alive.old 0 }
-    ensures none { result ≡ 0
-        → (i : ℕ) → i < length alive.new → slice_index alive.new i ≡ 0 }
-    ensures asked { WereAsked (J.table judge.old) (map T.shape tokens.now) (word_end (map T.shape tokens.now) 0)
-        (length (map T.shape tokens.now)) (J.place judge.old) (J.count judge.old) (J.count judge.new) }
+    requires { CanStepRest (J.table judge.old) (map T.shape tokens.now) words.now alive.old opens
+        (J.place judge.old) (J.count judge.old) }
+    ensures rest { HasSteppedRest (J.table judge.old) (map T.shape tokens.now) alive.old alive.new
+        result (J.place judge.old) (J.count judge.old) (J.count judge.new) }
     ensures place { J.place judge.new ≡ J.place judge.old }
     ensures same { J.table judge.new ≡ J.table judge.old }
 {

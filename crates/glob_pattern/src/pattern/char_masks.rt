@@ -257,11 +257,11 @@ fn list_one(masks: &mut [u64; 259], bit: usize, x: char, on: bool)
     if !x.is_ascii() {
         return;
     }
-    let small = 128 + x.to_ascii_lowercase() as usize;
-    let great = 128 + x.to_ascii_uppercase() as usize;
+    let lower = 128 + x.to_ascii_lowercase() as usize;
+    let upper = 128 + x.to_ascii_uppercase() as usize;
     paint(masks, bit, x as usize, x as usize, on);
-    paint(masks, bit, small, small, on);
-    paint(masks, bit, great, great, on);
+    paint(masks, bit, lower, lower, on);
+    paint(masks, bit, upper, upper, on);
 }
 
 /// Sets the bit to `on` in the masks of the characters of ASCII that are in the range.
@@ -279,12 +279,12 @@ fn list_range(masks: &mut [u64; 259], bit: usize, first: char, last: char, on: b
     if !are_letters(first, last) {
         return;
     }
-    let small = 128 + first.to_ascii_lowercase() as usize;
-    let last_small = 128 + last.to_ascii_lowercase() as usize;
-    paint(masks, bit, small, last_small, on);
-    let great = 128 + first.to_ascii_uppercase() as usize;
-    let last_great = 128 + last.to_ascii_uppercase() as usize;
-    paint(masks, bit, great, last_great, on);
+    let lower = 128 + first.to_ascii_lowercase() as usize;
+    let last_lower = 128 + last.to_ascii_lowercase() as usize;
+    paint(masks, bit, lower, last_lower, on);
+    let upper = 128 + first.to_ascii_uppercase() as usize;
+    let last_upper = 128 + last.to_ascii_uppercase() as usize;
+    paint(masks, bit, upper, last_upper, on);
 }
 
 /// Whether both are letters of ASCII.

@@ -7,7 +7,7 @@ ghost use Rattle.glob_pattern.specs.Grammar.Tokens.{shape_of};
 ghost use Rattle.glob_pattern.specs.Matching.Texts.{TokensMatch};
 ghost use Rattle.glob_pattern.specs.Private.Positions.{AreShapeWords, TakesRest};
 ghost use Rattle.glob_pattern.specs.Private.TextTable.{table_of};
-ghost use Rattle.glob_pattern.specs.Private.Trims.{IsTrim};
+ghost use Rattle.glob_pattern.specs.Matching.Trims.{IsTrim};
 ghost use Rattle.glob_text.specs.Text.{Text};
 
 use crate::matcher::{Judge, ShapeWord, Span, WORD, decide, shape_words};

@@ -1,6 +1,7 @@
 //! Bytes of a pattern that each text it matches contains, searched for sixteen offsets at a time.
-ghost use Rattle.std.specs.Prelude.{◌≡◌, ◌<◌, ◌≤◌, ◌⊎◌, ◌++◌, length, take, encode_utf8, IsTrue};
-ghost use Rattle.glob_pattern.specs.Private.Needles.{IsNeedle, AreLanes, StandsAt, ContainsSmall};
+ghost use Rattle.std.specs.Prelude.{◌≡◌, ℕ, ◌+◌, ◌<◌, ◌≤◌, ◌⊎◌, ◌++◌, length, take, encode_utf8, IsTrue};
+ghost use Rattle.std.specs.Int.{IsBitSet};
+ghost use Rattle.glob_pattern.specs.Private.Needles.{IsNeedle, AreLanes, IsAt, ContainsFolded};
 
 use crate::token::Token;
 use crate::token::bracket::Bracket;
@@ -70,7 +71,7 @@ impl Needle {
     /// nor are texts of fewer than 16 bytes searched.
     #[inline(always)]
     pub fn may_be_in(&self, bytes: &[u8]) -> bool
-        ensures { ContainsSmall bytes.now (take self.now.len self.now.bytes) → IsTrue result }
+        ensures { ContainsFolded bytes.now (take self.now.len self.now.bytes) → IsTrue result }
     {
         let Some(needle) = self.bytes.get(..self.len) else {
             return true;
@@ -85,22 +86,34 @@ fn may_hold(bytes: &[u8], needle: &[u8]) -> bool
     requires long { 16 ≤ length bytes.now }
     requires some { 0 < length needle.now }
     requires few { length needle.now ≤ 16 }
-    ensures { ContainsSmall bytes.now needle.now → IsTrue result }
+    ensures { ContainsFolded bytes.now needle.now → IsTrue result }
 {
     let gap = needle.len() - 1;
-    let end = bytes.len() - gap;
     let mut start = 0;
-    while start < end {
+    while start < bytes.len() - gap {
         let first = same_lanes(bytes, start, needle[0]);
         let found = first & same_lanes(bytes, start + gap, needle[gap]);
-        let before = (found.trailing_zeros() as usize).min(LANES);
-        start += before;
-        if before < LANES {
-            if stands_at(bytes, needle, start) {
-                return true;
-            }
-            start += 1;
+        if is_at_any(bytes, needle, start, found) {
+            return true;
         }
+        start += LANES;
+    }
+    false
+}
+
+/// Whether the needle is at an offset of which `found` has the bit, in either case: bit k is of the kth from `start` on.
+#[inline(always)]
+fn is_at_any(bytes: &[u8], needle: &[u8], start: usize, found: u64) -> bool
+    requires { start < length bytes.now }
+    ensures { (k : ℕ) → IsBitSet found k → IsAt bytes.now needle.now (start + k)
+        → IsTrue result }
+{
+    let mut left = found;
+    while left != 0 {
+        if is_at(bytes, needle, start + left.trailing_zeros() as usize) {
+            return true;
+        }
+        left &= left - 1;
     }
     false
 }
@@ -120,8 +133,8 @@ fn same_lanes(bytes: &[u8], from: usize, x: u8) -> u64
 
 /// Whether the needle is at the offset, in either case.
 #[inline(always)]
-fn stands_at(bytes: &[u8], needle: &[u8], offset: usize) -> bool
-    ensures { StandsAt bytes.now needle.now offset → IsTrue result }
+fn is_at(bytes: &[u8], needle: &[u8], offset: usize) -> bool
+    ensures { IsAt bytes.now needle.now offset → IsTrue result }
 {
     let Some(rest) = bytes.get(offset..) else {
         return false;

@@ -4,7 +4,7 @@ ghost use Rattle.std.specs.Prelude.{◌≡◌, ◌≤◌, map, IsTrue, MatchOpti
 ghost use Rattle.std.specs.Str.{is_utf8};
 ghost use Rattle.glob_pattern.specs.Grammar.Tokens.{shape_of};
 ghost use Rattle.glob_pattern.specs.Matching.Texts.{TokensMatch};
-ghost use Rattle.glob_pattern.specs.Private.Trims.{HasOnes, IsTrim};
+ghost use Rattle.glob_pattern.specs.Matching.Trims.{HasOnes, IsTrim};
 ghost use Rattle.glob_pattern.specs.Private.Prefilters.{Excludes, IsFoldedFirst, IsPrefilter};
 
 use crate::matcher::{Shape, Shaped};

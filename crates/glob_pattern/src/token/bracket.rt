@@ -144,6 +144,6 @@ fn is_in_folded_range(x: char, y: char, c: char) -> bool
     }
     let first = x.to_ascii_lowercase();
     let last = y.to_ascii_lowercase();
-    let small = c.to_ascii_lowercase();
-    first.is_ascii_lowercase() && last.is_ascii_lowercase() && first <= small && small <= last
+    let lower = c.to_ascii_lowercase();
+    first.is_ascii_lowercase() && last.is_ascii_lowercase() && first <= lower && lower <= last
 }

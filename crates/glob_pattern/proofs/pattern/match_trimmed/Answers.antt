@@ -1,6 +1,6 @@
 use Rattle.std.proofs.Common.{chars}
 use Rattle.std.proofs.lemmas.Result.{IfOk-weaker}
-use Rattle.glob_pattern.specs.Private.Prefilters.{IsTrimmed}
+use Rattle.glob_pattern.specs.Matching.Trims.{IsTrimmed}
 use Rattle.glob_pattern.proofs.MatchingLemmas.Tokens.{Matches-iff_tokens, tokens_are_few}
 use Rattle.glob_pattern.proofs.pattern.match_trimmed.Goals as goal
 

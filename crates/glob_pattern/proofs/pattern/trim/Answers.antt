@@ -1,6 +1,6 @@
 use Rattle.std.proofs.Common.{Option, None, Some, MatchOption, chars, subst}
-use Rattle.glob_pattern.specs.Private.Prefilters.{IsTrimmed}
-use Rattle.glob_pattern.specs.Private.Trims.{IsTrim}
+use Rattle.glob_pattern.specs.Matching.Trims.{IsTrimmed}
+use Rattle.glob_pattern.specs.Matching.Trims.{IsTrim}
 use Rattle.glob_pattern.proofs.GrammarLemmas.Accepted.{one_reading}
 use Rattle.glob_pattern.proofs.MatchingLemmas.Tokens.{Matches-iff_tokens}
 use Rattle.glob_pattern.proofs.pattern.trim.Goals as goal

@@ -1,8 +1,9 @@
-use Rattle.std.proofs.Common.{◌≡◌, ◌-◌, ◌∙◌, length, get_or, bit_and, refl, sym, arith, zero-add, length-set, get_or-set_same, map}
+use Rattle.std.proofs.Common.{◌≡◌, ◌-◌, ◌∙◌, length, get_or, bit_and, refl, sym, arith, zero-add, length-set, get_or-set_same, map, set}
 use Rattle.std.proofs.lemmas.Bool.{false≢true, eqb-true}
 use Rattle.std.proofs.lemmas.Nat.{and_le_l}
 use Rattle.glob_pattern.proofs.BitLemmas.LowestBits.{lowest_set}
 use Rattle.glob_pattern.proofs.BitLemmas.SetBits.{IsBitSet-and}
+use Rattle.glob_pattern.proofs.Counts.{mul-left}
 use Rattle.glob_pattern.proofs.PositionLemmas.Words.{whole-later, AreAlive-set, AreAlive-left, none-at_end}
 use Rattle.glob_pattern.proofs.PositionLemmas.Running.{HasRun-kept, HasRun-stepped, alive-by_rest}
 use Rattle.glob_pattern.proofs.matcher.positions.run.Goals as goal
@@ -27,8 +28,8 @@ kept-preserved g c =
       same = same;
     }
 
-pub step_rest-requires-clause-first : goal.step_rest-requires-clause-first
-step_rest-requires-clause-first g c =
+pub step_rest-requires : goal.step_rest-requires
+step_rest-requires g c =
     let i = c.kept.invariant in
     let T = g.J.Judge.table c.args.judge.now in
     let shapes = map g.T.Shaped.shape c.args.tokens.now in
@@ -37,18 +38,21 @@ step_rest-requires-clause-first g c =
     let next = c.in-Some.ensures.place cc in
     let asked = rw i.same at c.in-Some.ensures.asked in
     let shaped = c.requires.ready.shaped in
+    let long : length (set c.sets.alive 0 c.step-next.result) ≡ length c.sets.alive = length-set c.sets.alive 0 c.step-next.result in
+    let back : p - 1 ≡ g.J.Judge.place c.kept.judge = omega (arith, next) in
+    let left = mul-left (length shapes) T.characters (g.J.Judge.place c.kept.judge) (omega (arith, next, asked.within)) in
     let says = c.step-next.ensures.alive T shapes 0 p (omega arith) (shaped.word 0 _ shaped.some) asked.taken (rw same at c.opens-opens.ensures) (whole-later T shapes p (omega (arith, next))) in
-    rw same (AreAlive-set T shapes p 0 c.sets.alive c.step-next.result (record { word = λ m le lt. absurd (omega arith) }) (omega (arith, c.sets.invariant.count, c.requires.length, shaped.some)) says)
-
-pub step_rest-requires-clause-rest : goal.step_rest-requires-clause-rest
-step_rest-requires-clause-rest g c =
-    let i = c.kept.invariant in
-    let T = g.J.Judge.table c.args.judge.now in
-    let k = g.J.Judge.place c.kept.judge in
-    let same = c.in-Some.ensures.same ∙ i.same in
-    let next = c.in-Some.ensures.place cc in
-    let back : g.J.Judge.place c.ask_next.new.judge - 1 ≡ k = omega (arith, next) in
-    rw (same, back, length-set c.sets.alive 0 c.step-next.result) (AreAlive-left T (map g.T.Shaped.shape c.args.tokens.now) k 0 c.sets.alive c.step-next.result (length c.sets.alive) i.run.alive)
+    rw same (record {
+      words = shaped;
+      many = long ∙ c.sets.invariant.count ∙ c.requires.length;
+      stepped = omega (arith, next);
+      opens = rw same at c.opens-opens.ensures;
+      few = c.requires.ready.fits;
+      tokens = c.requires.ready.tokens;
+      room = omega (arith, rw c.requires.ready.place at i.run.most, asked.asked.most, asked.asked.monotone, left, c.requires.ready.room);
+      first = AreAlive-set T shapes p 0 c.sets.alive c.step-next.result (record { word = λ m le lt. absurd (omega arith) }) (omega (arith, c.sets.invariant.count, c.requires.length, shaped.some)) says;
+      rest = rw (back, long) (AreAlive-left T shapes (g.J.Judge.place c.kept.judge) 0 c.sets.alive c.step-next.result (length c.sets.alive) i.run.alive);
+    })
 
 pub sets-preserved : goal.sets-preserved
 sets-preserved g c =
@@ -58,11 +62,11 @@ sets-preserved g c =
     let next = c.in-Some.ensures.place cc in
     let asked = rw i.same at c.in-Some.ensures.asked in
     let r = rw same at c.step_rest.ensures in
-    let long : length c.step_rest.new.alive ≡ length c.sets.alive = r.length ∙ length-set c.sets.alive 0 c.step-next.result in
-    let head : get_or c.step_rest.new.alive 0 0 ≡ c.step-next.result = r.head ∙ get_or-set_same c.sets.alive 0 c.step-next.result 0 (omega (arith, c.sets.invariant.count, c.requires.length, shaped.some)) in
+    let long : length c.step_rest.new.alive ≡ length c.sets.alive = r.rest.many ∙ length-set c.sets.alive 0 c.step-next.result in
+    let head : get_or c.step_rest.new.alive 0 0 ≡ c.step-next.result = r.rest.head ∙ get_or-set_same c.sets.alive 0 c.step-next.result 0 (omega (arith, c.sets.invariant.count, c.requires.length, shaped.some)) in
     record {
       count = long ∙ c.sets.invariant.count;
-      run = rw r.place (HasRun-stepped (g.J.Judge.table c.args.judge.now) (map g.T.Shaped.shape c.args.tokens.now) _ _ _ _ c.sets.alive i.run c.in-Some.took _ _ _ c.step_rest.new.alive next asked r.asked r.alive);
+      run = rw r.place (HasRun-stepped (g.J.Judge.table c.args.judge.now) (map g.T.Shaped.shape c.args.tokens.now) _ _ _ _ c.sets.alive i.run c.in-Some.took _ _ _ c.step_rest.new.alive next asked r.rest.asked r.rest.alive);
       keeps = rw (long, head) c.answer_to_keep-keep.ensures;
       same = r.same;
     }
@@ -74,11 +78,11 @@ returns-then-step_rest-eq0-clause-answer g c =
     let same = c.in-Some.ensures.same ∙ i.same in
     let asked = rw i.same at c.in-Some.ensures.asked in
     let r = rw same at c.step_rest.ensures in
-    let long : length c.step_rest.new.alive ≡ length c.sets.alive = r.length ∙ length-set c.sets.alive 0 c.step-next.result in (
+    let long : length c.step_rest.new.alive ≡ length c.sets.alive = r.rest.many ∙ length-set c.sets.alive 0 c.step-next.result in (
       λ t. absurd (false≢true t),
-      λ here. absurd (none-at_end (g.J.Judge.table c.args.judge.now) (map g.T.Shaped.shape c.args.tokens.now) _ c.step_rest.new.alive r.alive
+      λ here. absurd (none-at_end (g.J.Judge.table c.args.judge.now) (map g.T.Shaped.shape c.args.tokens.now) _ c.step_rest.new.alive r.rest.alive
           (omega (arith, long, c.sets.invariant.count, c.requires.length, shaped.all)) (omega (arith, long, c.sets.invariant.count, c.requires.length, shaped.some))
-          (r.none c.if-step_rest-eq0.true) asked.within c.args.span.end c.requires.ready.end here),
+          (r.rest.none c.if-step_rest-eq0.true) asked.within c.args.span.end c.requires.ready.end here),
     )
 
 pub returns-then-step_rest-eq0-clause-most : goal.returns-then-step_rest-eq0-clause-most
@@ -88,7 +92,7 @@ returns-then-step_rest-eq0-clause-most g c =
     let next = c.in-Some.ensures.place cc in
     let asked = rw i.same at c.in-Some.ensures.asked in
     let r = rw same at c.step_rest.ensures in
-    let run = HasRun-stepped (g.J.Judge.table c.args.judge.now) (map g.T.Shaped.shape c.args.tokens.now) _ _ _ _ c.sets.alive i.run c.in-Some.took _ _ _ c.step_rest.new.alive next asked r.asked r.alive in
+    let run = HasRun-stepped (g.J.Judge.table c.args.judge.now) (map g.T.Shaped.shape c.args.tokens.now) _ _ _ _ c.sets.alive i.run c.in-Some.took _ _ _ c.step_rest.new.alive next asked r.rest.asked r.rest.alive in
     let most = rw c.requires.ready.place at run.most in
     omega (arith, most)
 

@@ -8,8 +8,8 @@ pub takes_each-took-requires-clause-tokens : goal.takes_each-took-requires-claus
 takes_each-took-requires-clause-tokens g c = λ j set.
     let i = c.loop-n.invariant in
     let n = c.loop-n.n in
-    let from : 63 * n ≤ length (map g.T.Shaped.shape c.args.tokens.now) = omega (arith, i.count, c.requires.words.few, c.requires.length) in
-    let are = c.requires.words.word n (record { tokens = 0; wildcards = 0; recursive = 0 }) (omega (arith, i.count, c.requires.length)) in
+    let from : 63 * n ≤ length (map g.T.Shaped.shape c.args.tokens.now) = omega (arith, i.count, c.requires.words.few, c.requires.many) in
+    let are = c.requires.words.word n (record { tokens = 0; wildcards = 0; recursive = 0 }) (omega (arith, i.count, c.requires.many)) in
     let within = asked-in_word (g.J.Judge.table c.args.judge.now) (map g.T.Shaped.shape c.args.tokens.now) (63 * n) _ from are (get_or c.loop-n.alive n 0) (omega arith) j set in
     rw i.same (within.0, omega (arith, within.1, c.requires.few), omega (arith, within.1, c.requires.tokens))
 
@@ -17,8 +17,8 @@ pub takes_each-took-requires-clause-room : goal.takes_each-took-requires-clause-
 takes_each-took-requires-clause-room g c =
     let i = c.loop-n.invariant in
     let n = c.loop-n.n in
-    let from : 63 * n ≤ length (map g.T.Shaped.shape c.args.tokens.now) = omega (arith, i.count, c.requires.words.few, c.requires.length) in
-    let are = c.requires.words.word n (record { tokens = 0; wildcards = 0; recursive = 0 }) (omega (arith, i.count, c.requires.length)) in
+    let from : 63 * n ≤ length (map g.T.Shaped.shape c.args.tokens.now) = omega (arith, i.count, c.requires.words.few, c.requires.many) in
+    let are = c.requires.words.word n (record { tokens = 0; wildcards = 0; recursive = 0 }) (omega (arith, i.count, c.requires.many)) in
     let few = ones-in_word (g.J.Judge.table c.args.judge.now) (map g.T.Shaped.shape c.args.tokens.now) (63 * n) _ from are (get_or c.loop-n.alive n 0) (omega arith) in
     omega (arith, few, i.asked.most, c.requires.room, from)
 
@@ -32,8 +32,8 @@ loop-n-preserved g c =
     let old = get_or c.loop-n.alive n 0 in
     let start = 63 * n in
     let lt : n < length c.loop-n.alive = omega (arith, i.count) in
-    let from : start ≤ length shapes = omega (arith, i.count, c.requires.words.few, c.requires.length) in
-    let are = c.requires.words.word n (record { tokens = 0; wildcards = 0; recursive = 0 }) (omega (arith, i.count, c.requires.length)) in
+    let from : start ≤ length shapes = omega (arith, i.count, c.requires.words.few, c.requires.many) in
+    let are = c.requires.words.word n (record { tokens = 0; wildcards = 0; recursive = 0 }) (omega (arith, i.count, c.requires.many)) in
     let few = ones-in_word table shapes start _ from are old (omega arith) in
     let h = rw (i.same, i.place) at c.takes_each-took.ensures in
     let taken = IsTakenWord-asked table shapes start _ from are p old c.takes_each-took.result h.took c.requires.stepped (i.rest.word n (omega arith) (omega (arith, i.count))) in

@@ -1,7 +1,7 @@
 -- The shapes gone past are of one character.
 use Rattle.std.proofs.Common.{◌-◌, length, map}
 use Rattle.glob_pattern.specs.Grammar.Tokens.{shape_of}
-use Rattle.glob_pattern.specs.Private.Trims.{HasOnes}
+use Rattle.glob_pattern.specs.Matching.Trims.{HasOnes}
 use Rattle.glob_pattern.proofs.pattern.prefilter.leading_ones.Given as goal
 
 abbrev pub invariant-loop-lead : goal.invariant-loop-lead

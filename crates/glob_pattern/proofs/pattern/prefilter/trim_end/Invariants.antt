@@ -1,6 +1,6 @@
 -- The characters gone past are taken.
 use Rattle.std.proofs.Common.{◌-◌, ◌≤◌}
-use Rattle.glob_pattern.specs.Private.Trims.{IsTrim}
+use Rattle.glob_pattern.specs.Matching.Trims.{IsTrim}
 use Rattle.glob_pattern.proofs.pattern.prefilter.trim_end.Given as goal
 
 abbrev pub invariant-loop-end : goal.invariant-loop-end

@@ -1,7 +1,7 @@
 -- The characters gone past are taken.
 use Rattle.std.proofs.Common.{◌≡◌, ◌-◌, ◌≤◌}
 use Rattle.glob_text.specs.Text.{opens}
-use Rattle.glob_pattern.specs.Private.Trims.{IsTrim}
+use Rattle.glob_pattern.specs.Matching.Trims.{IsTrim}
 use Rattle.glob_pattern.proofs.pattern.prefilter.trim_start.Given as goal
 
 abbrev pub invariant-loop-start : goal.invariant-loop-start

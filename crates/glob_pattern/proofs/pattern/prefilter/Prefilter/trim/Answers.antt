@@ -1,7 +1,7 @@
 use Rattle.std.proofs.Common.{◌∙◌, sym}
 use Rattle.std.proofs.lemmas.Bool.{false≢true}
 use Rattle.std.proofs.lemmas.Str.{IsUtf8-from_is_utf8}
-use Rattle.glob_pattern.proofs.MatchingLemmas.Needles.{ContainsSmall-from_needle}
+use Rattle.glob_pattern.proofs.MatchingLemmas.Needles.{ContainsFolded-from_needle}
 use Rattle.glob_pattern.proofs.MatchingLemmas.Trims.{reject_letter}
 use Rattle.glob_pattern.proofs.pattern.prefilter.Prefilter.trim.Goals as goal
 
@@ -17,5 +17,5 @@ returns-in_err-end g c = rw c.from_residual-in_err-end.ensures c.in_err-end.ensu
 
 pub returns-else-may_be_in : goal.returns-else-may_be_in
 returns-else-may_be_in g c = λ utf8 match.
-    let stands = ContainsSmall-from_needle c.args.options c.args.tokens.now c.args.self.now.needle c.args.bytes.now c.requires.inside (IsUtf8-from_is_utf8 c.args.bytes.now utf8) match in
+    let stands = ContainsFolded-from_needle c.args.options c.args.tokens.now c.args.self.now.needle c.args.bytes.now c.requires.inside (IsUtf8-from_is_utf8 c.args.bytes.now utf8) match in
     absurd (false≢true (sym c.if-may_be_in.false ∙ c.may_be_in.ensures stands))
