@@ -136,7 +136,7 @@ module _ {X A : Type 0} (tells : X → Option Content) (of : X) (first : Machine
     where
       kept : (s : Saying) (c : Content) (ms : List Mark) → units_said s ≡ 1 → GivesNext ms c w.given s walk → HasGiven ms c w.given walk
       kept AsksLook c ms q h = h
-      kept AsksList c ms q h = h
+      kept (AsksList kinds) c ms q h = h
       kept (Says o) c ms q h = absurd (omega (arith, q))
       kept Ends c ms q h = absurd (omega (arith, q))
 
@@ -277,7 +277,7 @@ module _ {X A : Type 0} (tells : X → Option Content) (of : X) (first : Machine
 -- whether a step follows
 abbrev pub step_number : Saying → ℕ
 step_number AsksLook = 1
-step_number AsksList = 1
+step_number (AsksList kinds) = 1
 step_number (Says o) = 1
 step_number Ends = 0
 
@@ -289,6 +289,6 @@ fewer_steps {A} n c c' s s' one h = by_saying s' h.charged h.given
     by_saying : (x : Saying) → IsCharged n c x c' → c'.given ≡ c.given + item_number (outcome_said x)
         → 2 * (c'.limit - c'.spent) + 2 * (c'.limit + 1 - c'.given) + step_number x < 2 * (c.limit - c.spent) + 2 * (c.limit + 1 - c.given) + step_number s
     by_saying AsksLook e g = omega (arith, one, h.limit, h.within, e, g)
-    by_saying AsksList e g = omega (arith, one, h.limit, h.within, e, g)
+    by_saying (AsksList kinds) e g = omega (arith, one, h.limit, h.within, e, g)
     by_saying (Says o) e g = omega (arith, one, h.limit, h.within, h.grows, h.few, g)
     by_saying Ends e g = omega (arith, one, h.limit, h.within, h.grows, g)

@@ -111,6 +111,12 @@ fn write_items<T: Tree, W: Write, E: Write>(
                 lines.count(entries_in(&listed));
                 walk.listed(listed)
             }
+            Step::ListNames => {
+                lines.before_ask(output)?;
+                let named = tree.list_names(walk.path());
+                lines.count(entries_in(&named));
+                walk.listed(named)
+            }
             Step::Item(item) => {
                 findings.note(&item);
                 write_item(alloc, item, &mut lines, output, errors)?;

@@ -2,5 +2,6 @@ pub mod Contents
 pub mod Directories
 pub mod Extending
 pub mod Membership
+pub mod Names
 pub mod Resolving
 pub mod Sorting

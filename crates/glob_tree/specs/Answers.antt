@@ -1,7 +1,8 @@
 -- What a tree with a known content has to answer.
-use Rattle.std.specs.Prelude.{◌≡◌, ℕ, true, List, map, vec_len, IsPermutation, Option, Some, Result, Ok, Err, Vec, ⊤}
+use Rattle.std.specs.Prelude.{◌≡◌, ℕ, Bool, true, false, List, map, vec_len, Contains, IsPermutation, Option, Some, Result, Ok, Err, Vec, ⊤}
 use Rattle.std.specs.declared.io.ErrorKind.{ErrorKind}
 use Rattle.std.specs.IoError.{error_kind}
+use Rattle.glob_text.specs.Text.{Text}
 use Rattle.glob_tree.specs.Content.{Content, is_content, DirEntry, ListAnswer, Entries, Fails, NoDirectory}
 use Rattle.glob_tree.specs.declared.tree.Entry.{Entry}
 use Rattle.glob_tree.specs.declared.tree.ListError.{ListError}
@@ -25,6 +26,27 @@ abbrev pub IsListAnswer : ListAnswer → List DirEntry → Type 0
 IsListAnswer (Entries entries) answer = IsPermutation entries answer
 IsListAnswer (Fails kind) answer = ⊥
 IsListAnswer NoDirectory answer = ⊤
+
+-- the names of entries
+abbrev pub names_of : List DirEntry → List Text
+names_of entries = map (λ e. e.0) entries
+
+-- one that is said to be a directory is one
+abbrev pub AreDirectories : (answer entries : List DirEntry) → Type 0
+AreDirectories answer entries = (e : DirEntry) → Contains answer e → e.1 ≡ true → Contains entries e
+
+-- These entries may be returned where the names alone matter: each name of the directory once and in any order, and none
+-- that is no directory is said to be one; where there is no directory, any.
+abbrev pub IsNamesAnswer : ListAnswer → List DirEntry → Type 0
+IsNamesAnswer (Entries entries) answer =
+    IsPermutation (names_of entries) (names_of answer) × AreDirectories answer entries
+IsNamesAnswer (Fails kind) answer = ⊥
+IsNamesAnswer NoDirectory answer = ⊤
+
+-- These entries may be returned: where kinds are asked for, with theirs.
+abbrev pub IsEntriesAnswer : (kinds : Bool) → ListAnswer → List DirEntry → Type 0
+IsEntriesAnswer true said answer = IsListAnswer said answer
+IsEntriesAnswer false said answer = IsNamesAnswer said answer
 
 -- an error of this kind may be returned: that of the directory; where there is none, any
 abbrev pub IsListFault : ListAnswer → ErrorKind → Type 0

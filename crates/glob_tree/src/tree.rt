@@ -1,6 +1,6 @@
 ghost use Rattle.std.specs.Prelude.{◌≡◌, ℕ, ◌+◌, Option, IfOk, IfErr};
 ghost use Rattle.glob_tree.specs.Content.{Content, look_result, list_result};
-ghost use Rattle.glob_tree.specs.Answers.{IsTold, IsListAnswer, IsListError, entries_of, entry_count};
+ghost use Rattle.glob_tree.specs.Answers.{IsTold, IsListAnswer, IsListError, IsNamesAnswer, entries_of, entry_count};
 
 use crate::name::Name;
 use std::alloc::{AllocError, Allocator, Global};
@@ -44,8 +44,8 @@ pub enum ListError {
 /// - `tells` is its content, where that is known: what stands at each key, and the current directory. Each answer is
 ///   then the content's, allocation failures aside, and no call changes the content. Where a path leads to no
 ///   directory, a listing may return any entries and any error. Where it is `None`, any answer may come.
-/// - `asks` counts what was asked: one for each `look`, and for each `list` one and one for each entry that it returns.
-///   A tree keeps the count in a field of type [`Asks`](crate::Asks).
+/// - `asks` counts what was asked: one for each `look`, and for each `list` or `list_names` one and one for each entry that
+///   it returns. A tree keeps the count in a field of type [`Asks`](crate::Asks).
 ///
 /// [`MemTree`](crate::MemTree) is a tree with a known content: `tree.look("/")` returns `Look::Dir`, and raises its
 /// `asks` by one.
@@ -76,4 +76,20 @@ pub trait Tree: Drop {
             → IfOk result (λ v. IsListAnswer (list_result c path.now) (entries_of v.items)) }
         ensures fails { (c : Content) → IsTold (tells self.old) c
             → IfErr result (λ e. IsListError (list_result c path.now) e) };
+
+    /// As [`list`](Tree::list), where the names alone matter: `is_dir` may be `false` at any entry. A tree that would have to
+    /// find out what each entry is can leave that out here.
+    ///
+    /// The provided body is [`list`](Tree::list). So of a directory with the directory `a` and the file `b` it returns the
+    /// names `a` and `b`, and says that `a` is a directory. The errors are those of [`list`](Tree::list).
+    fn list_names(&mut self, path: &str) -> Result<Vec<Entry<Self::Alloc>, Self::Alloc>, ListError>
+        ensures asks { asks self.new ≡ asks self.old + 1 + entry_count result }
+        ensures content { tells self.new ≡ tells self.old }
+        ensures names { (c : Content) → IsTold (tells self.old) c
+            → IfOk result (λ v. IsNamesAnswer (list_result c path.now) (entries_of v.items)) }
+        ensures fails { (c : Content) → IsTold (tells self.old) c
+            → IfErr result (λ e. IsListError (list_result c path.now) e) }
+    {
+        self.list(path)
+    }
 }

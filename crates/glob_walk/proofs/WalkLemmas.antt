@@ -4,6 +4,7 @@ pub mod Driving
 pub mod Entering
 pub mod Gathering
 pub mod Giving
+pub mod Kinds
 pub mod Listings
 pub mod Literals
 pub mod MachineSteps

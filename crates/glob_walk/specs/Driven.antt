@@ -19,7 +19,7 @@ pub record HasGiven {A : Type 0} (listing : List Mark) (c : Content) (given : Li
 -- refusal that the limit does not suffice, and one for want of memory that what was charged begins the listing.
 abbrev pub GivesNext : {A : Type 0} → List Mark → Content → List Item → Saying → MachineState A → Type 0
 GivesNext listing c given AsksLook walk = HasGiven listing c given walk
-GivesNext listing c given AsksList walk = HasGiven listing c given walk
+GivesNext listing c given (AsksList kinds) walk = HasGiven listing c given walk
 GivesNext listing c given (Says (Gives item)) walk = HasGiven listing c (given ++ item ∷ []) walk
 GivesNext listing c given (Says (LimitAt path)) walk =
     (walk.spent ≡ walk.limit) × (walk.limit < cost listing) × (given ≡ items (front walk.limit listing))

@@ -1,12 +1,15 @@
 -- A walk that asks its caller: what contracts see of it, and what each of its steps does.
 use Rattle.std.specs.Prelude.{◌≡◌, ℕ, ◌+◌, ◌≤◌, Bool, true, false, List, ◌∷◌, Option, Some, None}
+use Rattle.std.specs.IoError.{error_kind}
 use Rattle.glob_text.specs.Text.{Text}
 use Rattle.glob_tree.specs.Content.{Content}
+use Rattle.glob_tree.specs.declared.tree.ListError.{ListError}
+use Rattle.glob_tree.specs.declared.tree.ListError.TheVariants.{Read, Memory}
 use Rattle.glob_walk.specs.Aims.{Aim, listing_of}
-use Rattle.glob_walk.specs.Marks.{Mark, Work}
+use Rattle.glob_walk.specs.Marks.{Mark, Work, Unread}
 use Rattle.glob_walk.specs.Private.Stacks.{left, IsSound}
-use Rattle.glob_walk.specs.Questions.{Question, IsLook, IsList, question_path}
-use Rattle.glob_walk.specs.Walks.{Outcome, LimitAt, Charges, TakesFront, outcome, is_last, item_number}
+use Rattle.glob_walk.specs.Questions.{Question, IsLook, IsListWith, question_path}
+use Rattle.glob_walk.specs.Walks.{Outcome, Gives, LimitAt, NoMemory, Charges, TakesFront, outcome, is_last, item_number}
 use Rattle.glob_walk.specs.declared.stack.Stack.{Stack}
 use Rattle.glob_walk.specs.declared.machine.Step.{Step}
 use Rattle.glob_walk.specs.declared.machine.Step.TheVariants as step
@@ -45,44 +48,51 @@ pub record IsFreshMachine {A : Type 0} (most : ℕ) (walk : MachineState A) : Ty
   pub agrees : (c : Content) → Agrees c walk
   pub whole : (c : Content) → left_of c walk ≡ listing_of c walk.aim
 
--- What a step says: that a look or a listing is asked for, an item or a refusal, or that nothing is left.
+-- What a step says: that a look or a listing is asked for, with the kinds of the entries or their names alone, an item or a
+-- refusal, or that nothing is left.
 pub data Saying : Type 0 where
   AsksLook : Saying
-  AsksList : Saying
+  AsksList : (kinds : Bool) → Saying
   Says : Outcome → Saying
   Ends : Saying
 
 abbrev pub saying : {A : Type 0} → Step A → Saying
 saying step.Look = AsksLook
-saying step.List = AsksList
+saying step.List = AsksList true
+saying step.ListNames = AsksList false
 saying (step.Item item) = Says (outcome item)
 saying step.Done = Ends
+
+-- the item after a listing that failed
+abbrev pub fault_said : (path : Text) → ListError → Outcome
+fault_said path (Read e) = Gives (Unread path (error_kind e))
+fault_said path Memory = NoMemory
 
 -- the item of a step
 abbrev pub outcome_said : Saying → Option Outcome
 outcome_said AsksLook = None
-outcome_said AsksList = None
+outcome_said (AsksList kinds) = None
 outcome_said (Says o) = Some o
 outcome_said Ends = None
 
 -- only `Done` follows
 abbrev pub is_last_said : Saying → Bool
 is_last_said AsksLook = false
-is_last_said AsksList = false
+is_last_said (AsksList kinds) = false
 is_last_said (Says o) = is_last (Some o)
 is_last_said Ends = true
 
 -- the unit of a question
 abbrev pub units_said : Saying → ℕ
 units_said AsksLook = 1
-units_said AsksList = 1
+units_said (AsksList kinds) = 1
 units_said (Says o) = 0
 units_said Ends = 0
 
 -- the question that is open after a step
 abbrev pub IsAskedAfter : Saying → Option Question → Type 0
 IsAskedAfter AsksLook q = IsLook q
-IsAskedAfter AsksList q = IsList q
+IsAskedAfter (AsksList kinds) q = IsListWith kinds q
 IsAskedAfter (Says o) q = q ≡ None
 IsAskedAfter Ends q = q ≡ None
 
@@ -115,7 +125,7 @@ pub record AsksNext (left : List Mark) (spent : ℕ) (path : Text) (after : List
 abbrev pub TakesStep : (old : List Mark) → (spent : ℕ) → Saying → Option Question → (new : List Mark) → (spent' : ℕ)
     → Type 0
 TakesStep old spent AsksLook q new spent' = AsksNext old spent (question_path q) new spent'
-TakesStep old spent AsksList q new spent' = AsksNext old spent (question_path q) new spent'
+TakesStep old spent (AsksList kinds) q new spent' = AsksNext old spent (question_path q) new spent'
 TakesStep old spent (Says o) q new spent' = TakesFront old spent (Some o) new spent'
 TakesStep old spent Ends q new spent' = TakesFront old spent None new spent'
 

@@ -2,8 +2,8 @@
 ghost use Rattle.std.specs.Prelude.{◌≡◌, None, IfOk, IfErr};
 ghost use Rattle.std.specs.List.{list_any};
 ghost use Rattle.glob_pattern.specs.Grammar.Characters.{is_wildcard};
-ghost use Rattle.glob_walk.specs.Components.{component_kind, is_special_name, is_literal as is_literal_text, is_recursive as is_recursive_text};
-ghost use Rattle.glob_walk.specs.Private.Forms.{kind_said, same_texts, takes_name, text_fault};
+ghost use Rattle.glob_walk.specs.Components.{is_special_name, is_literal as is_literal_text, is_recursive as is_recursive_text};
+ghost use Rattle.glob_walk.specs.Private.Forms.{same_texts, takes_name, text_fault};
 ghost use Rattle.glob_walk.specs.Walks.{RefusesWith};
 
 use glob_pattern::{MatchOptions, Pattern, PatternRefusal};
@@ -17,17 +17,6 @@ enum Form<A: Allocator> {
     Literal(String<A>),
     Recursive,
     Wild(Pattern<A>),
-}
-
-/// How a component is met.
-#[derive(Clone, Copy)]
-pub enum Kind {
-    /// It has no wildcard, and its text is looked up.
-    Literal,
-    /// It is `**`, the recursive wildcard.
-    Recursive,
-    /// It has wildcards, and the entries of a directory are matched.
-    Wild,
 }
 
 /// A component of a pattern. Contracts see its text.
@@ -48,17 +37,6 @@ impl<A: Allocator> Model for Component<A> {
 }
 
 impl<A: Allocator> Component<A> {
-    /// How it is met.
-    pub fn kind(&self) -> Kind
-        ensures { kind_said result ≡ component_kind self.now }
-    {
-        match &self.form {
-            Form::Literal(_) => Kind::Literal,
-            Form::Recursive => Kind::Recursive,
-            Form::Wild(_) => Kind::Wild,
-        }
-    }
-
     /// Its text.
     pub fn as_str(&self) -> &str
         ensures { result.now ≡ self.now }
@@ -67,6 +45,16 @@ impl<A: Allocator> Component<A> {
             Form::Literal(text) => text.as_str(),
             Form::Recursive => "**",
             Form::Wild(pattern) => pattern.as_str(),
+        }
+    }
+
+    /// Whether it has no wildcard, and is looked up.
+    pub fn is_literal(&self) -> bool
+        ensures { result ≡ is_literal_text self.now }
+    {
+        match &self.form {
+            Form::Literal(_) => true,
+            Form::Recursive | Form::Wild(_) => false,
         }
     }
 

@@ -25,13 +25,20 @@ const BLOCK: usize = 4096;
 /// How many bytes of a directory are read at once by further reads.
 const LARGE_BLOCK: usize = 32768;
 
+/// Whether the entries of a listing are looked up, so that their kinds are known.
+#[derive(Clone, Copy)]
+enum Kinds {
+    LookedUp,
+    LeftOut,
+}
+
 /// The real file system, as a tree with no known content: contracts know only how much was asked of it. Relative paths
 /// begin at the current directory of the process, and links are followed.
 ///
-/// A look makes one system call, and two at a link. A listing makes one for each entry, also for a link. Beside these it
-/// opens and closes the directory, and reads its records in two blocks of 4 KiB and then in blocks of 32 KiB, to an empty
-/// read: four calls where some hundred names fit the first block. An I/O error of the kind `OutOfMemory` is an allocation
-/// failure.
+/// A look makes one system call, and two at a link. A listing makes one for each entry, also for a link, and one of names
+/// alone makes none for them. Beside these it opens and closes the directory, and reads its records in two blocks of 4 KiB
+/// and then in blocks of 32 KiB, to an empty read: four calls where some hundred names fit the first block. An I/O error of
+/// the kind `OutOfMemory` is an allocation failure.
 ///
 /// In a directory with a file `a` and a link `b` to `a`, a look at `b` finds `Other`, and a listing of `.` the entries
 /// `a` and `b`, neither of them a directory.
@@ -92,15 +99,15 @@ impl<R: Files + Drop, A: Allocator + Copy> Tree for Disk<R, A> {
     fn list(&mut self, path: &str) -> Result<Vec<Entry<A>, A>, ListError>
         ensures asks { self.new ≡ self.old + 1 + entry_count result }
     {
-        self.asks = self.asks.after(1);
-        match self.entries(path) {
-            Ok(entries) => {
-                self.asks = self.asks.after(entries.len());
-                Ok(entries)
-            }
-            Err(error) if error.kind() == ErrorKind::OutOfMemory => Err(ListError::Memory),
-            Err(error) => Err(ListError::Read(error)),
-        }
+        self.listing(path, Kinds::LookedUp)
+    }
+
+    /// The entries of the directory, none of which is said to be a directory. It looks none of them up. The errors are those
+    /// of a listing.
+    fn list_names(&mut self, path: &str) -> Result<Vec<Entry<A>, A>, ListError>
+        ensures asks { self.new ≡ self.old + 1 + entry_count result }
+    {
+        self.listing(path, Kinds::LeftOut)
     }
 }
 
@@ -113,16 +120,38 @@ impl<R: Files, A: Allocator + Copy> Disk<R, A> {
         }
     }
 
+    /// Lists a directory, and counts that.
+    fn listing(&mut self, path: &str, kinds: Kinds) -> Result<Vec<Entry<A>, A>, ListError>
+        ensures asks { self.new ≡ self.old + 1 + entry_count result }
+    {
+        self.asks = self.asks.after(1);
+        match self.entries(path, kinds) {
+            Ok(entries) => {
+                self.asks = self.asks.after(entries.len());
+                Ok(entries)
+            }
+            Err(error) if error.kind() == ErrorKind::OutOfMemory => Err(ListError::Memory),
+            Err(error) => Err(ListError::Read(error)),
+        }
+    }
+
     /// The entries of a directory. Most directories end within two reads of a small block: one of all names, and one of
     /// none.
-    fn entries(&self, path: &str) -> io::Result<Vec<Entry<A>, A>> {
+    fn entries(&self, path: &str, kinds: Kinds) -> io::Result<Vec<Entry<A>, A>> {
         // The separator at its end, so that a link there is followed.
         let mut directory = join(self.alloc, path, "")?;
         let mut names = self.rt.open_dir(directory.as_str())?;
         let mut entries = Vec::new(self.alloc);
         let mut block = [0; BLOCK];
-        if !self.read_entries(&mut names, &mut block, 2, &mut directory, &mut entries)? {
-            self.read_further_entries(&mut names, &mut directory, &mut entries)?;
+        if !self.read_entries(
+            &mut names,
+            &mut block,
+            2,
+            &mut directory,
+            kinds,
+            &mut entries,
+        )? {
+            self.read_further_entries(&mut names, &mut directory, kinds, &mut entries)?;
         }
         Ok(entries)
     }
@@ -132,10 +161,11 @@ impl<R: Files, A: Allocator + Copy> Disk<R, A> {
         &self,
         names: &mut R::Dir,
         directory: &mut String<A>,
+        kinds: Kinds,
         entries: &mut Vec<Entry<A>, A>,
     ) -> io::Result<()> {
         let mut block = [0; LARGE_BLOCK];
-        self.read_entries(names, &mut block, u64::MAX, directory, entries)?;
+        self.read_entries(names, &mut block, u64::MAX, directory, kinds, entries)?;
         Ok(())
     }
 
@@ -147,6 +177,7 @@ impl<R: Files, A: Allocator + Copy> Disk<R, A> {
         block: &mut [u8],
         reads: u64,
         directory: &mut String<A>,
+        kinds: Kinds,
         entries: &mut Vec<Entry<A>, A>,
     ) -> io::Result<bool> {
         for _ in 0..reads {
@@ -154,7 +185,7 @@ impl<R: Files, A: Allocator + Copy> Disk<R, A> {
             if count == 0 {
                 return Ok(true);
             }
-            self.add_entries(entries, directory, &block[..count])?;
+            self.add_entries(entries, directory, kinds, &block[..count])?;
         }
         Ok(false)
     }
@@ -164,22 +195,26 @@ impl<R: Files, A: Allocator + Copy> Disk<R, A> {
         &self,
         entries: &mut Vec<Entry<A>, A>,
         directory: &mut String<A>,
+        kinds: Kinds,
         names: &[u8],
     ) -> io::Result<()> {
         for name in names.split(|&byte| byte == 0) {
             if is_listed(name) {
-                entries.push(self.entry(directory, name)?)?;
+                entries.push(self.entry(directory, kinds, name)?)?;
             }
         }
         Ok(())
     }
 
     /// The entry of a name in a directory.
-    fn entry(&self, directory: &mut String<A>, name: &[u8]) -> io::Result<Entry<A>> {
+    fn entry(&self, directory: &mut String<A>, kinds: Kinds, name: &[u8]) -> io::Result<Entry<A>> {
         let Ok(name) = std::str::from_utf8(name) else {
             return Err(io::Error::from(ErrorKind::InvalidFilename));
         };
-        let is_dir = self.is_dir(directory, name)?;
+        let is_dir = match kinds {
+            Kinds::LookedUp => self.is_dir(directory, name)?,
+            Kinds::LeftOut => false,
+        };
         match Name::new(String::from_str(self.alloc, name)?) {
             Ok(name) => Ok(Entry { name, is_dir }),
             Err(_) => Err(io::Error::from(ErrorKind::InvalidFilename)),

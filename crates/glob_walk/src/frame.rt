@@ -1,7 +1,7 @@
 //! A directory that is gone through.
 //!
 //! A frame is what `walkdir` would call an open directory: its path, its entries, and how far the walk came. It is read
-//! from the tree once, as a whole. Each step moves the place on by one, and makes at most one task, so that a child's
+//! from the tree once, as a whole. Each step moves the cursor on by one, and makes at most one task, so that a child's
 //! path is made only where the child is met or entered.
 //!
 //! In a run of `**` each entry has two steps. First it is met by the component after the run, or given at the pattern's
@@ -18,9 +18,9 @@ use crate::task::Task;
 use glob_tree::Entry;
 use std::alloc::{AllocError, Allocator};
 
-/// The place that is reached in a directory.
+/// The cursor that is reached in a directory.
 #[derive(Clone, Copy)]
-pub enum Place {
+pub enum Cursor {
     /// Before `..`, which a component that begins with a dot may match.
     Parent,
     /// Before `.`, after `..`.
@@ -31,43 +31,43 @@ pub enum Place {
     Inside(usize),
 }
 
-/// A directory that was listed, and the place that is reached in it.
+/// A directory that was listed, and the cursor that is reached in it.
 #[derive(Drop)]
 pub struct Frame<A: Allocator> {
     /// Its path.
     pub path: String<A>,
     /// The number of the component for which it was listed. One with wildcards is matched with the entries itself. For `**`
     /// the component after it meets them.
-    pub part: usize,
+    pub component: usize,
     /// Whether that component is `**`.
-    pub run: bool,
+    pub recursive: bool,
     /// Its entries, in ascending order of names.
     pub entries: Vec<Entry<A>, A>,
-    /// The place that is reached.
-    pub place: Place,
+    /// The cursor that is reached.
+    pub cursor: Cursor,
 }
 
 impl<A: Allocator + Copy> Frame<A> {
-    /// Whether nothing is left in it: the place is past the last entry.
+    /// Whether nothing is left in it: the cursor is past the last entry.
     pub fn is_done(&self) -> bool
         ensures { result ≡ is_done_frame self.now }
     {
-        match self.place {
-            Place::Parent | Place::Current => false,
-            Place::At(i) | Place::Inside(i) => self.entries.len() <= i,
+        match self.cursor {
+            Cursor::Parent | Cursor::Current => false,
+            Cursor::At(i) | Cursor::Inside(i) => self.entries.len() <= i,
         }
     }
 
-    /// Goes to the next place, and returns the task that comes of the one before it, if any. Each step leaves fewer steps:
+    /// Goes to the next cursor, and returns the task that comes of the one before it, if any. Each step leaves fewer steps:
     /// at most two are left for each entry, and one for each of `..` and `.`.
     pub fn step(&mut self, plan: &Plan<A>) -> Result<Option<Task<A>>, AllocError>
         requires going { is_done_frame self.old ≡ false }
-        requires within { self.old.part < vec_len plan.now.parts }
+        requires within { self.old.component < vec_len plan.now.components }
         ensures marks { IfOk result
             (λ task. (c : Content)
             → frame_marks c plan.now self.old
             ≡ next_marks c plan.now task ++ frame_marks c plan.now self.new) }
-        ensures same { self.new ≡ record self.old { place = self.new.place } }
+        ensures same { self.new ≡ record self.old { cursor = self.new.cursor } }
         ensures falls { OnOk result (steps_left self.new < steps_left self.old) }
         ensures free { IfOk result (λ task. question_of task ≡ None) }
         ensures ready { IfOk result
@@ -75,29 +75,29 @@ impl<A: Allocator + Copy> Frame<A> {
         ensures sound { IfOk result
             (λ task. (c : Content) → IsFrameSound c self.old → IsNextSound c task) }
     {
-        match self.place {
-            Place::Parent => {
+        match self.cursor {
+            Cursor::Parent => {
                 let task = self.special_task(plan, "..")?;
-                self.place = Place::Current;
+                self.cursor = Cursor::Current;
                 Ok(task)
             }
-            Place::Current => {
+            Cursor::Current => {
                 let task = self.special_task(plan, ".")?;
-                self.place = Place::At(0);
+                self.cursor = Cursor::At(0);
                 Ok(task)
             }
-            Place::At(i) => {
+            Cursor::At(i) => {
                 let task = self.met_task(plan, &self.entries[i])?;
-                self.place = if self.run {
-                    Place::Inside(i)
+                self.cursor = if self.recursive {
+                    Cursor::Inside(i)
                 } else {
-                    Place::At(i + 1)
+                    Cursor::At(i + 1)
                 };
                 Ok(task)
             }
-            Place::Inside(i) => {
+            Cursor::Inside(i) => {
                 let task = self.entered_task(plan, &self.entries[i])?;
-                self.place = Place::At(i + 1);
+                self.cursor = Cursor::At(i + 1);
                 Ok(task)
             }
         }

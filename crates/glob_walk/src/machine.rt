@@ -4,14 +4,14 @@ ghost use Rattle.std.specs.Path.{root_dir, cur_dir};
 ghost use Rattle.glob_tree.specs.Answers.{entry_count};
 ghost use Rattle.glob_tree.specs.Content.{Content};
 ghost use Rattle.glob_walk.specs.Aims.{listing_of};
-ghost use Rattle.glob_walk.specs.Machines.{IsFreshMachine, StepGoes, left_of, saying};
+ghost use Rattle.glob_walk.specs.Machines.{IsFreshMachine, Says, StepGoes, fault_said, left_of, saying};
 ghost use Rattle.glob_walk.specs.Components.{walk_fault};
 ghost use Rattle.glob_walk.specs.Listing.{listing};
 ghost use Rattle.glob_walk.specs.Marks.{Item, Mark};
 ghost use Rattle.glob_walk.specs.Driven.{HasGiven, GivesNext};
-ghost use Rattle.glob_walk.specs.Walks.{RefusesWith};
+ghost use Rattle.glob_walk.specs.Walks.{NoMemory, RefusesWith};
 ghost use Rattle.glob_walk.specs.Private.Stacks.{aim_of};
-ghost use Rattle.glob_walk.specs.Private.Turns.{IsAnswer, IsAnswered, answer_count};
+ghost use Rattle.glob_walk.specs.Private.Turns.{IfFailed, IsAnswer, IsAnswered, answer_count};
 ghost use Rattle.glob_walk.specs.Questions.{IsLook, IsList, IsListedIn, IsSeenIn, IsSomeContent, question_path};
 
 use crate::error::GlobResult;
@@ -32,6 +32,9 @@ pub enum Step<A: Allocator = Global> {
     Look,
     /// It asks for the entries of the directory at [`path`](WalkMachine::path), and [`listed`](WalkMachine::listed) answers.
     List,
+    /// It asks for the same, where the names alone matter: `is_dir` may be `false` at any entry.
+    /// [`listed`](WalkMachine::listed) answers.
+    ListNames,
     /// It gives an item: a path, or an error. After an error with the cause `Limit` or `Memory` only `Done` follows.
     Item(GlobResult<A>),
     /// Nothing is left: each further call of [`next`](WalkMachine::next) returns it again.
@@ -129,7 +132,7 @@ impl<A: Allocator + Copy> WalkMachine<A> {
         let frames = Vec::new(plan.alloc);
         let next = Some(Task {
             path: start,
-            part: 0,
+            component: 0,
             sight: Sight::Unseen(Wanted::Any),
         });
         let stack = Stack { plan, next, frames };
@@ -155,6 +158,7 @@ impl<A: Allocator + Copy> WalkMachine<A> {
     /// is then an error with the cause `Memory`, and the walk is over.
     pub fn looked(&mut self, seen: Result<Look, AllocError>) -> Step<A>
         requires asked { IsLook self.old.asked }
+        ensures failed { IfErr seen (λ _. saying result ≡ Says NoMemory) }
         ensures steps { StepGoes (IsSeenIn self.old.asked seen) 0
             self.old (saying result) self.new }
         ensures driven { (c : Content) → (all : List Mark) → (given : List Item)
@@ -164,11 +168,13 @@ impl<A: Allocator + Copy> WalkMachine<A> {
         self.resume(Answer::Look(seen))
     }
 
-    /// Answers the listing that is asked for, with its entries in any order, and returns the next step. After
-    /// `Err(ListError::Read(e))` that is an error with the path, `e` and the cause `Read`, and the walk goes on; after
-    /// `Err(ListError::Memory)` it is one with the cause `Memory`, and the walk is over.
+    /// Answers the listing that is asked for, of entries or of names alone, with its entries in any order, and returns the
+    /// next step. After `Err(ListError::Read(e))` that is an error with the path, `e` and the cause `Read`, and the walk goes
+    /// on; after `Err(ListError::Memory)` it is one with the cause `Memory`, and the walk is over.
     pub fn listed(&mut self, listed: Result<Vec<Entry<A>, A>, ListError>) -> Step<A>
         requires asked { IsList self.old.asked }
+        ensures failed { IfErr listed
+            (λ e. saying result ≡ Says (fault_said (question_path self.old.asked) e)) }
         ensures steps { StepGoes (IsListedIn self.old.asked listed) (entry_count listed)
             self.old (saying result) self.new }
         ensures driven { (c : Content) → (all : List Mark) → (given : List Item)
@@ -181,6 +187,8 @@ impl<A: Allocator + Copy> WalkMachine<A> {
     /// Takes an answer, and goes on to the next step.
     fn resume(&mut self, answer: Answer<A>) -> Step<A>
         requires answer { IsAnswer self.old.asked answer }
+        ensures failed { IfFailed answer (question_path self.old.asked)
+            (λ o. saying result ≡ Says o) }
         ensures steps { StepGoes (IsAnswered self.old.asked answer) (answer_count answer)
             self.old (saying result) self.new }
     {
@@ -201,7 +209,7 @@ impl<A: Allocator> WalkMachine<A> {
     {
         match &self.walker.stack.next {
             Some(task) => match task.sight {
-                Sight::Looking(_) | Sight::Listing(_) => task.path.as_str(),
+                Sight::Looking(_) | Sight::Listing { .. } => task.path.as_str(),
                 Sight::Unseen(_) | Sight::Seen(_) => "",
             },
             None => "",

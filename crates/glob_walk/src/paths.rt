@@ -108,6 +108,10 @@ impl<T: Tree> Iterator for Paths<T> {
                     let listed = self.tree.list(self.machine.path());
                     self.machine.listed(listed)
                 }
+                Step::ListNames => {
+                    let named = self.tree.list_names(self.machine.path());
+                    self.machine.listed(named)
+                }
                 Step::Item(item) => return Some(item),
                 Step::Done => return None,
             };

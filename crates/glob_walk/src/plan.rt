@@ -3,7 +3,7 @@
 //! A plan is a pattern that was read once, before the walk: its components in order, each with its kind, the options, and
 //! whether directories alone are given. Neighbouring `**` mean what one of them means, and are read as one. Nothing of it
 //! changes while the walk goes on.
-ghost use Rattle.std.specs.Prelude.{◌≡◌, ◌+◌, ◌<◌, ◌≤◌, [], ◌∷◌, true, None, IfOk, IfErr, MatchOption, OnSome, IfNone, drop, vec_len, if◌then◌else◌};
+ghost use Rattle.std.specs.Prelude.{◌≡◌, ◌+◌, ◌<◌, ◌≤◌, [], ◌∷◌, true, false, None, IfOk, IfErr, MatchOption, OnSome, IfNone, drop, vec_len, if◌then◌else◌};
 ghost use Rattle.std.specs.Path.{root_dir, cur_dir};
 ghost use Rattle.glob_text.specs.Pieces.{pieces};
 ghost use Rattle.glob_walk.specs.Components.{components, first_fault, has_root, walk_fault, wants_directories, without_root, without_end_separator};
@@ -19,7 +19,7 @@ use std::alloc::Allocator;
 #[derive(Drop)]
 pub struct Plan<A: Allocator> {
     /// The components. No two neighbours are `**`.
-    pub parts: Vec<Component<A>, A>,
+    pub components: Vec<Component<A>, A>,
     /// How names are matched.
     pub options: MatchOptions,
     /// Whether it begins at the root, and not at the current directory.
@@ -28,14 +28,15 @@ pub struct Plan<A: Allocator> {
     pub directories: bool,
     /// Where the walk takes its memory from.
     pub alloc: A,
-    ghost merged: { are_merged parts.items ≡ true },
+    ghost merged: { are_merged components.items ≡ true },
 }
 
 impl<A: Allocator + Copy> Plan<A> {
     /// Reads a pattern. One with a fault is refused with the fault of the whole text, or else with that of the first
     /// component that has one; and any may be refused with `Memory`.
     pub fn read(alloc: A, pattern: &str, options: MatchOptions) -> Result<Self, PatternRefusal>
-        ensures parts { IfOk result (λ plan. plan.parts.items ≡ merged (components pattern.now)) }
+        ensures components { IfOk result
+            (λ plan. plan.components.items ≡ merged (components pattern.now)) }
         ensures options { IfOk result (λ plan. plan.options ≡ options) }
         ensures rooted { IfOk result (λ plan. plan.rooted ≡ has_root pattern.now) }
         ensures directories { IfOk result
@@ -45,9 +46,9 @@ impl<A: Allocator + Copy> Plan<A> {
     {
         // The whole first, so that a fault's place counts from the start of the pattern where the whole has one.
         Component::check(alloc, pattern)?;
-        let parts = read_parts(alloc, past_root(pattern))?;
+        let components = read_components(alloc, past_root(pattern))?;
         Ok(Plan {
-            parts,
+            components,
             options,
             rooted: begins_with_separator(pattern),
             directories: ends_in_separator(pattern),
@@ -57,7 +58,7 @@ impl<A: Allocator + Copy> Plan<A> {
 }
 
 impl<A: Allocator> Plan<A> {
-    ghost use Rattle.glob_walk.specs.Private.Tasks.{is_dotted};
+    ghost use Rattle.glob_walk.specs.Private.Tasks.{is_dotted, IgnoresKinds};
 
     /// The path at which the walk starts: the root, or the current directory.
     pub fn start(&self) -> &'static str
@@ -67,46 +68,56 @@ impl<A: Allocator> Plan<A> {
     }
 
     /// The component with the number, counted from 0; `None` past the last.
-    pub fn component(&self, part: usize) -> Option<&Component<A>>
-        ensures rest { MatchOption result (drop part self.now.parts.items ≡ [])
-            (λ t. drop part self.now.parts.items ≡ t.now ∷ drop (part + 1) self.now.parts.items) }
-        ensures within { OnSome result (part < vec_len self.now.parts) }
-        ensures past { IfNone result (vec_len self.now.parts ≤ part) }
+    pub fn component(&self, number: usize) -> Option<&Component<A>>
+        ensures rest { MatchOption result (drop number self.now.components.items ≡ [])
+            (λ t. drop number self.now.components.items
+            ≡ t.now ∷ drop (number + 1) self.now.components.items) }
+        ensures within { OnSome result (number < vec_len self.now.components) }
+        ensures past { IfNone result (vec_len self.now.components ≤ number) }
     {
-        self.parts.get(part)
+        self.components.get(number)
     }
 
     /// Whether the component with the number begins with a dot.
-    pub fn is_dotted(&self, part: usize) -> bool
-        ensures { result ≡ is_dotted (drop part self.now.parts.items) }
+    pub fn is_dotted(&self, number: usize) -> bool
+        ensures { result ≡ is_dotted (drop number self.now.components.items) }
     {
-        match self.component(part) {
+        match self.component(number) {
             Some(component) => begins_with_dot(component.as_str()),
             None => false,
         }
     }
+
+    /// Whether it matters which of the entries that are met are directories, where the component with the number is `**`
+    /// or has wildcards: not where it is the last, is no `**`, and directories are not wanted.
+    pub fn needs_kinds(&self, number: usize, recursive: bool) -> bool
+        requires { number < vec_len self.now.components }
+        ensures { result ≡ false → IgnoresKinds self.now number recursive }
+    {
+        recursive || self.directories || number + 1 < self.components.len()
+    }
 }
 
 /// Reads the components of a text, which stand between separators. A `**` right after a `**` is left out.
-fn read_parts<A: Allocator + Copy>(
+fn read_components<A: Allocator + Copy>(
     alloc: A,
     text: &str,
 ) -> Result<Vec<Component<A>, A>, PatternRefusal>
-    ensures parts { IfOk result (λ parts. parts.items ≡ merged (pieces text.now)) }
+    ensures components { IfOk result (λ components. components.items ≡ merged (pieces text.now)) }
     ensures accepted { IfOk result (λ _. first_fault (pieces text.now) ≡ None) }
     ensures refused { IfErr result (RefusesWith (first_fault (pieces text.now))) }
 {
-    let mut parts = Vec::new(alloc);
-    let mut after_run = false;
+    let mut components = Vec::new(alloc);
+    let mut after_recursive = false;
     for piece in text.split('/') {
-        let part = Component::read(alloc, piece)?;
-        let is_run = part.is_recursive();
-        if !(after_run && is_run) {
-            parts.push(part)?;
+        let component = Component::read(alloc, piece)?;
+        let recursive = component.is_recursive();
+        if !(after_recursive && recursive) {
+            components.push(component)?;
         }
-        after_run = is_run;
+        after_recursive = recursive;
     }
-    Ok(parts)
+    Ok(components)
 }
 
 /// The text of the components: what follows the root, without one separator at its end.

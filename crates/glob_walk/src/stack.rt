@@ -68,7 +68,7 @@ impl<A: Allocator + Copy> Stack<A> {
     pub fn open(&mut self, frame: Frame<A>) -> Result<(), AllocError>
         requires none { self.old.next ≡ None }
         requires within { IsWithin self.old }
-        requires part { frame.part < vec_len self.old.plan.parts }
+        requires component { frame.component < vec_len self.old.plan.components }
         ensures plan { self.new.plan ≡ self.old.plan }
         ensures next { self.new.next ≡ None }
         ensures left { OnOk result ((c : Content)

@@ -29,8 +29,13 @@ pub enum Sight {
     Looking(Wanted),
     /// It is there, and this says whether it is a directory: it is to be entered, or given.
     Seen(bool),
-    /// It is a directory, and its listing was charged and is asked for: for `**`, or for a component with wildcards.
-    Listing(bool),
+    /// It is a directory, and its listing was charged and is asked for.
+    Listing {
+        /// For `**`, and not for a component with wildcards.
+        recursive: bool,
+        /// With the kinds of its entries, and not for their names alone.
+        kinds: bool,
+    },
 }
 
 /// One thing to do: a path, and the number of the component that is met at it. Past the last component none is left, and
@@ -40,7 +45,7 @@ pub struct Task<A: Allocator> {
     /// The path, as the walk gives it.
     pub path: String<A>,
     /// The number of the component.
-    pub part: usize,
+    pub component: usize,
     /// What is known of the path.
     pub sight: Sight,
 }

@@ -17,7 +17,10 @@ pub enum Turn<A: Allocator> {
     /// A look at the task's path is asked for, and was charged.
     Look,
     /// A listing of the task's path is asked for, and was charged for the directory itself.
-    List,
+    List {
+        /// With the kinds of its entries, and not for their names alone.
+        kinds: bool,
+    },
     /// A path that the pattern leads to.
     Path(String<A>),
     /// The path of a directory that could not be listed, and why. The walk goes on after it.
@@ -36,7 +39,7 @@ impl<A: Allocator> Turn<A> {
         ensures { result ≡ item_number (turn_outcome self.now) }
     {
         match self {
-            Turn::Went | Turn::Look | Turn::List | Turn::Done => 0,
+            Turn::Went | Turn::Look | Turn::List { .. } | Turn::Done => 0,
             Turn::Path(_) | Turn::Unread(..) | Turn::Limit(_) | Turn::Memory => 1,
         }
     }
@@ -46,7 +49,8 @@ impl<A: Allocator> Turn<A> {
         ensures { result ≡ is_last_turn self.now }
     {
         match self {
-            Turn::Went | Turn::Look | Turn::List | Turn::Path(_) | Turn::Unread(..) => false,
+            Turn::Went | Turn::Look | Turn::List { .. } => false,
+            Turn::Path(_) | Turn::Unread(..) => false,
             Turn::Done | Turn::Limit(_) | Turn::Memory => true,
         }
     }
@@ -57,7 +61,8 @@ impl<A: Allocator> Turn<A> {
     {
         match self {
             Turn::Look => Step::Look,
-            Turn::List => Step::List,
+            Turn::List { kinds: true } => Step::List,
+            Turn::List { kinds: false } => Step::ListNames,
             Turn::Went | Turn::Done => Step::Done,
             Turn::Path(path) => Step::Item(Ok(PathBuf::from(path))),
             Turn::Unread(path, e) => Step::Item(Err(GlobError::read(PathBuf::from(path), e))),

@@ -10,21 +10,23 @@
 //!
 //! The written listing is what a walk does, mark by mark. Each method of [`Walker`] has the same contract, `TurnsTo`: what
 //! was left of the listing begins with what the turn charged and gave, and what the stack then stands for is the rest.
-ghost use Rattle.std.specs.Prelude.{◌≡◌, ◌≢◌, ◌+◌, ◌<◌, ◌≤◌, ◌∷◌, true, false, [], None, string_bytes, vec_len, drop, not, ◌||◌, IfOk, Some, if◌then◌else◌};
+ghost use Rattle.std.specs.Prelude.{◌≡◌, ◌≢◌, ◌+◌, ◌<◌, ◌≤◌, ◌∷◌, true, false, [], None, string_bytes, vec_len, drop, not, ◌||◌, IfOk, IfErr, Some, if◌then◌else◌};
 ghost use Rattle.glob_tree.specs.Content.{Content, look_result};
+ghost use Rattle.glob_walk.specs.Machines.{Says, fault_said};
 ghost use Rattle.glob_walk.specs.Marks.{Work};
-ghost use Rattle.glob_walk.specs.Components.{component_kind, Literal};
+ghost use Rattle.glob_walk.specs.Walks.{NoMemory};
+ghost use Rattle.glob_walk.specs.Components.{is_literal};
 ghost use Rattle.glob_walk.specs.declared.plan.Plan.{Plan as PlanOf};
 ghost use Rattle.glob_tree.specs.Looks.{is_directory as is_directory_look};
 ghost use Rattle.glob_tree.specs.Answers.{entry_count};
-ghost use Rattle.glob_walk.specs.Questions.{IsSomeContent, IsLook, IsList, IsSeenIn, IsListedIn};
-ghost use Rattle.glob_walk.specs.Private.Tasks.{task_marks, enter_from, IsOpened, sight_marks, next_marks, next_ready, IsNextSound, IsNextOpened, question_of};
+ghost use Rattle.glob_walk.specs.Questions.{IsSomeContent, IsLook, IsList, IsSeenIn, IsListedIn, question_path};
+ghost use Rattle.glob_walk.specs.Private.Tasks.{task_marks, enter_from, IsListedFor, IsOpened, sight_marks, next_marks, next_ready, IsNextSound, IsNextOpened, question_of};
 ghost use Rattle.glob_walk.specs.Private.Stacks.{next_weight, weight, IsWithin};
-ghost use Rattle.glob_walk.specs.Private.Walking.{is_last_turn};
-ghost use Rattle.glob_walk.specs.Private.Turns.{TurnsTo, with_task, AreListedAt, IsAnswer, IsAnswered, answer_count};
+ghost use Rattle.glob_walk.specs.Private.Walking.{is_last_turn, turn_saying};
+ghost use Rattle.glob_walk.specs.Private.Turns.{TurnsTo, with_task, AreListedAt, IfFailed, IsAnswer, IsAnswered, IsQuestion, answer_count};
 
-use crate::component::{Component, Kind, is_special};
-use crate::frame::{Frame, Place};
+use crate::component::{Component, is_special};
+use crate::frame::{Cursor, Frame};
 use crate::machine::Answer;
 use crate::meter::{Meter, sort_entries};
 use crate::path_text::child;
@@ -56,12 +58,12 @@ fn is_directory(seen: Look) -> bool
 /// one that is wanted.
 fn task_after_look<A: Allocator>(
     path: String<A>,
-    part: usize,
+    component: usize,
     wanted: Wanted,
     seen: Look,
 ) -> Option<Task<A>>
     ensures marks { (c : Content) → (plan : PlanOf A) → seen ≡ look_result c (string_bytes path)
-        → sight_marks c plan part (string_bytes path) (Sight.Unseen wanted)
+        → sight_marks c plan component (string_bytes path) (Sight.Unseen wanted)
         ≡ Work (string_bytes path) ∷ next_marks c plan result }
     ensures sound { (c : Content) → seen ≡ look_result c (string_bytes path)
         → IsNextSound c result }
@@ -73,63 +75,81 @@ fn task_after_look<A: Allocator>(
         return None;
     }
     let sight = Sight::Seen(is_directory(seen));
-    Some(Task { path, part, sight })
+    Some(Task {
+        path,
+        component,
+        sight,
+    })
 }
 
 impl<A: Allocator + Copy> Walker<A> {
     /// Asks for a look at a path, for one unit.
-    fn look(&mut self, path: String<A>, part: usize, wanted: Wanted) -> Turn<A>
+    fn look(&mut self, path: String<A>, component: usize, wanted: Wanted) -> Turn<A>
         requires limit { self.old.meter.spent ≤ self.old.meter.limit }
         requires none { self.old.stack.next ≡ None }
         requires within { IsWithin self.old.stack }
+        ensures asks { IsQuestion result }
         ensures stops { result ≢ Turn.Went }
         ensures turn { TurnsTo IsSomeContent 0
-            self.old.meter (with_task path part (Sight.Unseen wanted) self.old.stack) result
+            self.old.meter (with_task path component (Sight.Unseen wanted) self.old.stack) result
             self.new.meter self.new.stack }
     {
         if !self.meter.charge() {
             return Turn::Limit(path);
         }
         let sight = Sight::Looking(wanted);
-        self.stack.next = Some(Task { path, part, sight });
+        self.stack.next = Some(Task {
+            path,
+            component,
+            sight,
+        });
         Turn::Look
     }
 
-    /// Asks for the listing of a directory for component `part`, for one unit; `run` says whether that component is `**`.
-    fn list(&mut self, path: String<A>, part: usize, run: bool) -> Turn<A>
+    /// Asks for the listing of a directory for a component, which is `**` or has wildcards, for one unit. Where no entry's
+    /// kind matters, names alone are asked for.
+    fn list(&mut self, path: String<A>, component: usize, recursive: bool) -> Turn<A>
         requires limit { self.old.meter.spent ≤ self.old.meter.limit }
         requires none { self.old.stack.next ≡ None }
         requires within { IsWithin self.old.stack }
-        requires part { part < vec_len self.old.stack.plan.parts }
-        requires opens { IsOpened run (drop part self.old.stack.plan.parts.items) }
+        requires component { component < vec_len self.old.stack.plan.components }
+        requires opens { IsOpened recursive (drop component self.old.stack.plan.components.items) }
+        ensures asks { IsQuestion result }
         ensures stops { result ≢ Turn.Went }
         ensures turn { TurnsTo IsSomeContent 0
-            self.old.meter (with_task path part (Sight.Seen true) self.old.stack) result
+            self.old.meter (with_task path component (Sight.Seen true) self.old.stack) result
             self.new.meter self.new.stack }
     {
         if !self.meter.charge() {
             return Turn::Limit(path);
         }
-        let sight = Sight::Listing(run);
-        self.stack.next = Some(Task { path, part, sight });
-        Turn::List
+        let kinds = self.stack.plan.needs_kinds(component, recursive);
+        let sight = Sight::Listing { recursive, kinds };
+        self.stack.next = Some(Task {
+            path,
+            component,
+            sight,
+        });
+        Turn::List { kinds }
     }
 
-    /// Charges the entries of a directory that was listed, and puts it on the stack with its first place.
+    /// Charges the entries of a directory that was listed, and puts it on the stack with its first cursor. Where names alone
+    /// were asked for, the entries' kinds are not used.
     fn open(
         &mut self,
         path: String<A>,
-        part: usize,
-        run: bool,
+        component: usize,
+        recursive: bool,
+        kinds: bool,
         mut entries: Vec<Entry<A>, A>,
     ) -> Turn<A>
         requires limit { self.old.meter.spent ≤ self.old.meter.limit }
         requires none { self.old.stack.next ≡ None }
         requires within { IsWithin self.old.stack }
-        requires part { part < vec_len self.old.stack.plan.parts }
-        requires opens { IsOpened run (drop part self.old.stack.plan.parts.items) }
-        ensures { TurnsTo (AreListedAt (string_bytes path) entries.items) (vec_len entries)
-            self.old.meter (with_task path part (Sight.Listing run) self.old.stack) result
+        requires listed { IsListedFor self.old.stack.plan component recursive kinds }
+        ensures { TurnsTo (AreListedAt kinds (string_bytes path) entries.items) (vec_len entries)
+            self.old.meter
+            (with_task path component (Sight.Listing recursive kinds) self.old.stack) result
             self.new.meter self.new.stack }
     {
         if !self.meter.charge_entries(entries.len()) {
@@ -137,68 +157,54 @@ impl<A: Allocator + Copy> Walker<A> {
         }
         sort_entries(&mut entries);
         // Before `..` if the component begins with a dot, as `**` never does.
-        let place = if self.stack.plan.is_dotted(part) {
-            Place::Parent
+        let cursor = if self.stack.plan.is_dotted(component) {
+            Cursor::Parent
         } else {
-            Place::At(0)
+            Cursor::At(0)
         };
         match self.stack.open(Frame {
             path,
-            part,
-            run,
+            component,
+            recursive,
             entries,
-            place,
+            cursor,
         }) {
             Ok(()) => Turn::Went,
             Err(_) => Turn::Memory,
         }
     }
 
-    /// Meets the components from number `part` on at a path that is there. If none is left, the path is given. A literal
+    /// Meets the components from this number on at a path that is there. If none is left, the path is given. A literal
     /// one is joined to the path, and to look that up is the next task. For `**` and for a component with wildcards the
     /// directory is listed; nothing comes of what is no directory.
-    fn enter(&mut self, path: String<A>, part: usize, is_dir: bool) -> Turn<A>
+    fn enter(&mut self, path: String<A>, number: usize, is_dir: bool) -> Turn<A>
         requires limit { self.old.meter.spent ≤ self.old.meter.limit }
         requires none { self.old.stack.next ≡ None }
         requires within { IsWithin self.old.stack }
         ensures falls { result ≡ Turn.Went → weight self.new.stack < weight self.old.stack + 2 }
         ensures turn { TurnsTo IsSomeContent 0
-            self.old.meter (with_task path part (Sight.Seen is_dir) self.old.stack) result
+            self.old.meter (with_task path number (Sight.Seen is_dir) self.old.stack) result
             self.new.meter self.new.stack }
     {
-        let Some(component) = self.stack.plan.component(part) else {
+        let Some(component) = self.stack.plan.component(number) else {
             if gives(self.stack.plan.directories, is_dir) {
                 return Turn::Path(path);
             }
             return Turn::Went;
         };
-        match component.kind() {
-            Kind::Literal => match literal_task(
-                &self.stack.plan,
-                component,
-                path.as_str(),
-                part,
-                is_dir,
-            ) {
-                Ok(task) => {
-                    self.stack.next = Some(task);
-                    Turn::Went
-                }
-                Err(_) => Turn::Memory,
-            },
-            Kind::Recursive => {
-                if !is_dir {
-                    return Turn::Went;
-                }
-                self.list(path, part, true)
-            }
-            Kind::Wild => {
-                if !is_dir {
-                    return Turn::Went;
-                }
-                self.list(path, part, false)
-            }
+        if component.is_literal() {
+            let path = path.as_str();
+            let Ok(task) = literal_task(&self.stack.plan, component, path, number, is_dir) else {
+                return Turn::Memory;
+            };
+            self.stack.next = Some(task);
+            return Turn::Went;
         }
+        if !is_dir {
+            return Turn::Went;
+        }
+        let recursive = component.is_recursive();
+        self.list(path, number, recursive)
     }
 
     /// One turn: does the task if there is one, and else takes one step in the directory on top. It calls nothing that
@@ -219,11 +225,15 @@ impl<A: Allocator + Copy> Walker<A> {
                 Err(_) => Turn::Memory,
             };
         };
-        let Task { path, part, sight } = task;
+        let Task {
+            path,
+            component,
+            sight,
+        } = task;
         match sight {
-            Sight::Unseen(wanted) => self.look(path, part, wanted),
-            Sight::Seen(is_dir) => self.enter(path, part, is_dir),
-            Sight::Looking(_) | Sight::Listing(_) => unreachable!(),
+            Sight::Unseen(wanted) => self.look(path, component, wanted),
+            Sight::Seen(is_dir) => self.enter(path, component, is_dir),
+            Sight::Looking(_) | Sight::Listing { .. } => unreachable!(),
         }
     }
 
@@ -249,9 +259,11 @@ impl<A: Allocator + Copy> Walker<A> {
     fn hear(&mut self, answer: Answer<A>) -> Turn<A>
         requires limit { self.old.meter.spent ≤ self.old.meter.limit }
         requires within { IsWithin self.old.stack }
-        requires opened { IsNextOpened self.old.stack.plan.parts.items self.old.stack.next }
+        requires opened { IsNextOpened self.old.stack.plan self.old.stack.next }
         requires answer { IsAnswer (question_of self.old.stack.next) answer }
-        ensures { TurnsTo (IsAnswered (question_of self.old.stack.next) answer)
+        ensures failed { IfFailed answer (question_path (question_of self.old.stack.next))
+            (λ o. turn_saying result ≡ Says o) }
+        ensures turn { TurnsTo (IsAnswered (question_of self.old.stack.next) answer)
             (answer_count answer)
             self.old.meter self.old.stack result
             self.new.meter self.new.stack }
@@ -268,7 +280,8 @@ impl<A: Allocator + Copy> Walker<A> {
         requires limit { self.old.meter.spent ≤ self.old.meter.limit }
         requires within { IsWithin self.old.stack }
         requires asked { IsLook (question_of self.old.stack.next) }
-        ensures { TurnsTo (IsSeenIn (question_of self.old.stack.next) answer) 0
+        ensures failed { IfErr answer (λ _. turn_saying result ≡ Says NoMemory) }
+        ensures turn { TurnsTo (IsSeenIn (question_of self.old.stack.next) answer) 0
             self.old.meter self.old.stack result
             self.new.meter self.new.stack }
     {
@@ -278,11 +291,15 @@ impl<A: Allocator + Copy> Walker<A> {
         let Some(task) = self.stack.next.take() else {
             unreachable!()
         };
-        let Task { path, part, sight } = task;
+        let Task {
+            path,
+            component,
+            sight,
+        } = task;
         let Sight::Looking(wanted) = sight else {
             unreachable!()
         };
-        self.stack.next = task_after_look(path, part, wanted, seen);
+        self.stack.next = task_after_look(path, component, wanted, seen);
         Turn::Went
     }
 
@@ -290,9 +307,11 @@ impl<A: Allocator + Copy> Walker<A> {
     fn read(&mut self, answer: Result<Vec<Entry<A>, A>, ListError>) -> Turn<A>
         requires limit { self.old.meter.spent ≤ self.old.meter.limit }
         requires within { IsWithin self.old.stack }
-        requires opened { IsNextOpened self.old.stack.plan.parts.items self.old.stack.next }
+        requires opened { IsNextOpened self.old.stack.plan self.old.stack.next }
         requires asked { IsList (question_of self.old.stack.next) }
-        ensures { TurnsTo (IsListedIn (question_of self.old.stack.next) answer)
+        ensures failed { IfErr answer (λ e. turn_saying result
+            ≡ Says (fault_said (question_path (question_of self.old.stack.next)) e)) }
+        ensures turn { TurnsTo (IsListedIn (question_of self.old.stack.next) answer)
             (entry_count answer)
             self.old.meter self.old.stack result
             self.new.meter self.new.stack }
@@ -300,12 +319,16 @@ impl<A: Allocator + Copy> Walker<A> {
         let Some(task) = self.stack.next.take() else {
             unreachable!()
         };
-        let Task { path, part, sight } = task;
-        let Sight::Listing(run) = sight else {
+        let Task {
+            path,
+            component,
+            sight,
+        } = task;
+        let Sight::Listing { recursive, kinds } = sight else {
             unreachable!()
         };
         match answer {
-            Ok(entries) => self.open(path, part, run, entries),
+            Ok(entries) => self.open(path, component, recursive, kinds, entries),
             Err(ListError::Read(e)) => Turn::Unread(path, e),
             Err(ListError::Memory) => Turn::Memory,
         }
@@ -315,8 +338,10 @@ impl<A: Allocator + Copy> Walker<A> {
     fn go_on(&mut self, answer: Answer<A>) -> Turn<A>
         requires limit { self.old.meter.spent ≤ self.old.meter.limit }
         requires within { IsWithin self.old.stack }
-        requires opened { IsNextOpened self.old.stack.plan.parts.items self.old.stack.next }
+        requires opened { IsNextOpened self.old.stack.plan self.old.stack.next }
         requires answer { IsAnswer (question_of self.old.stack.next) answer }
+        ensures failed { IfFailed answer (question_path (question_of self.old.stack.next))
+            (λ o. turn_saying result ≡ Says o) }
         ensures stops { result ≢ Turn.Went }
         ensures turn { TurnsTo (IsAnswered (question_of self.old.stack.next) answer)
             (answer_count answer)
@@ -334,8 +359,10 @@ impl<A: Allocator + Copy> Walker<A> {
     pub fn resume(&mut self, answer: Answer<A>) -> Turn<A>
         requires limit { self.old.meter.spent ≤ self.old.meter.limit }
         requires within { IsWithin self.old.stack }
-        requires opened { IsNextOpened self.old.stack.plan.parts.items self.old.stack.next }
+        requires opened { IsNextOpened self.old.stack.plan self.old.stack.next }
         requires answer { IsAnswer (question_of self.old.stack.next) answer }
+        ensures failed { IfFailed answer (question_path (question_of self.old.stack.next))
+            (λ o. turn_saying result ≡ Says o) }
         ensures stops { result ≢ Turn.Went }
         ensures turn { TurnsTo (IsAnswered (question_of self.old.stack.next) answer)
             (answer_count answer)
@@ -359,16 +386,16 @@ fn literal_task<A: Allocator + Copy>(
     plan: &Plan<A>,
     component: &Component<A>,
     path: &str,
-    part: usize,
+    number: usize,
     is_dir: bool,
 ) -> Result<Task<A>, AllocError>
-    requires at { drop part plan.now.parts.items
-        ≡ component.now ∷ drop (part + 1) plan.now.parts.items }
-    requires within { part < vec_len plan.now.parts }
-    requires kind { component_kind component.now ≡ Literal }
+    requires at { drop number plan.now.components.items
+        ≡ component.now ∷ drop (number + 1) plan.now.components.items }
+    requires within { number < vec_len plan.now.components }
+    requires literal { is_literal component.now ≡ true }
     ensures marks { IfOk result
         (λ task. (c : Content)
-        → enter_from c plan.now part path.now is_dir ≡ task_marks c plan.now task) }
+        → enter_from c plan.now number path.now is_dir ≡ task_marks c plan.now task) }
     ensures weight { IfOk result (λ task. next_weight (Some task) ≡ 1) }
     ensures free { IfOk result (λ task. question_of (Some task) ≡ None) }
     ensures ready { IfOk result (λ task. next_ready plan.now (Some task) ≡ 0) }
@@ -378,7 +405,7 @@ fn literal_task<A: Allocator + Copy>(
     let wanted = Wanted::of_literal(is_special(name), is_dir);
     Ok(Task {
         path: child(plan.alloc, path, name)?,
-        part: part + 1,
+        component: number + 1,
         sight: Sight::Unseen(wanted),
     })
 }

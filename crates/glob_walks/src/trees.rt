@@ -20,6 +20,14 @@ pub trait Liar: Drop {
 
     /// What a listing of the path answers.
     fn list(&mut self, path: &str) -> Result<Vec<Entry<Self::Alloc>, Self::Alloc>, ListError>;
+
+    /// What a listing of the names at the path answers.
+    fn list_names(
+        &mut self,
+        path: &str,
+    ) -> Result<Vec<Entry<Self::Alloc>, Self::Alloc>, ListError> {
+        self.list(path)
+    }
 }
 
 /// A tree that answers what its liar says.
@@ -54,6 +62,13 @@ impl<L: Liar> Tree for LyingTree<L> {
     fn list(&mut self, path: &str) -> Result<Vec<Entry<L::Alloc>, L::Alloc>, ListError> {
         self.asks = self.asks.after(1);
         let entries = self.liar.list(path)?;
+        self.asks = self.asks.after(entries.len());
+        Ok(entries)
+    }
+
+    fn list_names(&mut self, path: &str) -> Result<Vec<Entry<L::Alloc>, L::Alloc>, ListError> {
+        self.asks = self.asks.after(1);
+        let entries = self.liar.list_names(path)?;
         self.asks = self.asks.after(entries.len());
         Ok(entries)
     }

@@ -11,6 +11,7 @@ use Rattle.glob_walk.specs.declared.turn.Turn.{Turn}
 use Rattle.glob_walk.specs.declared.turn.Turn.TheVariants as turn
 use Rattle.glob_tree.specs.Content.{Content}
 use Rattle.glob_walk.specs.declared.stack.Stack.{Stack}
+use Rattle.glob_walk.specs.declared.plan.Plan.{Plan}
 use Rattle.glob_walk.specs.declared.task.Task.{Task}
 use Rattle.glob_walk.specs.declared.task.Sight.{Sight}
 use Rattle.glob_walk.specs.declared.task.Sight.TheVariants as sight
@@ -59,7 +60,7 @@ Charges-asked a d s u path h = Charges-trans a (Work path ∷ d) d s h.before u 
 pub TurnOf-after : {A : Type 0} (first mid new : List Mark) (s t u : ℕ) (q : Option Question) (r : Turn A) → Charges first s mid t → TurnOf mid t r q new u → TurnOf first s r q new u
 TurnOf-after first mid new s t u q turn.Went h k = Charges-trans first mid new s t u h k
 TurnOf-after first mid new s t u q turn.Look h k = AsksNext-after first mid new s t u (question_path q) h k
-TurnOf-after first mid new s t u q turn.List h k = AsksNext-after first mid new s t u (question_path q) h k
+TurnOf-after first mid new s t u q (turn.List kinds) h k = AsksNext-after first mid new s t u (question_path q) h k
 TurnOf-after first mid new s t u q (turn.Path p) h k = Charges-trans first mid (Give (Found (string_bytes p)) ∷ new) s t u h k
 TurnOf-after first mid new s t u q (turn.Unread p e) h k = Charges-trans first mid (Give (Unread (string_bytes p) (error_kind e)) ∷ new) s t u h k
 TurnOf-after first mid new s t u q (turn.Limit p) h k = record { rest = k.rest; charges = Charges-trans first mid (Work (string_bytes p) ∷ k.rest) s t u h k.charges }
@@ -69,7 +70,7 @@ TurnOf-after first mid new s t u q turn.Done h k = (Charges-trans first mid new 
 TurnCounts-after : {A : Type 0} (n : ℕ) (a b d : Meter) (r : Turn A) → b.spent ≡ a.spent + n → TurnCounts 0 b r d → TurnCounts n a r d
 TurnCounts-after n a b d turn.Went h k = omega (arith, h, k)
 TurnCounts-after n a b d turn.Look h k = omega (arith, h, k)
-TurnCounts-after n a b d turn.List h k = omega (arith, h, k)
+TurnCounts-after n a b d (turn.List kinds) h k = omega (arith, h, k)
 TurnCounts-after n a b d (turn.Path p) h k = omega (arith, h, k)
 TurnCounts-after n a b d (turn.Unread p e) h k = omega (arith, h, k)
 TurnCounts-after n a b d (turn.Limit p) h k = (k.0, omega (arith, h, k.1), omega (arith, h, k.2))
@@ -79,7 +80,7 @@ TurnCounts-after n a b d turn.Done h k = omega (arith, h, k)
 pub IfGoing-map : {A P Q : Type 0} (r : Turn A) → (P → Q) → IfGoing r P → IfGoing r Q
 IfGoing-map turn.Went f h = f h
 IfGoing-map turn.Look f h = f h
-IfGoing-map turn.List f h = f h
+IfGoing-map (turn.List kinds) f h = f h
 IfGoing-map (turn.Path p) f h = f h
 IfGoing-map (turn.Unread p e) f h = f h
 IfGoing-map (turn.Limit p) f h = tt
@@ -132,35 +133,35 @@ TurnsTo-same Fits n old new s s0 s' t plan waits sound same h = record {
 }
 
 -- a task that asks for no listing
-pub opened-free : {A : Type 0} (ts : List Text) (next : Option (Task A)) → question_of next ≡ None → IsNextOpened ts next
-opened-free ts None h = tt
-opened-free {A} ts (Some t) h = of_sight t.sight h
+pub opened-free : {A : Type 0} (plan : Plan A) (next : Option (Task A)) → question_of next ≡ None → IsNextOpened plan next
+opened-free plan None h = tt
+opened-free plan (Some t) h = of_sight t.sight h
   where
-    of_sight : (s : Sight) → sight_question (string_bytes t.path) s ≡ None → IsSightOpened ts t.part s
+    of_sight : (s : Sight) → sight_question (string_bytes t.path) s ≡ None → IsSightOpened plan t.component s
     of_sight (sight.Unseen w) h = tt
     of_sight (sight.Seen d) h = tt
     of_sight (sight.Looking w) h = tt
-    of_sight (sight.Listing run) h = absurd (some_none h)
+    of_sight (sight.Listing recursive kinds) h = absurd (some_none h)
       where
-        some_none : Some (ListAt (string_bytes t.path)) ≡ None → ⊥
+        some_none : Some (ListAt kinds (string_bytes t.path)) ≡ None → ⊥
         some_none e = absurd (cc)
 
-pub opened-look : {A : Type 0} (ts : List Text) (next : Option (Task A)) → IsLook (question_of next) → IsNextOpened ts next
-opened-look ts None h = tt
-opened-look {A} ts (Some t) h = of_sight t.sight h
+pub opened-look : {A : Type 0} (plan : Plan A) (next : Option (Task A)) → IsLook (question_of next) → IsNextOpened plan next
+opened-look plan None h = tt
+opened-look plan (Some t) h = of_sight t.sight h
   where
-    of_sight : (s : Sight) → IsLook (sight_question (string_bytes t.path) s) → IsSightOpened ts t.part s
+    of_sight : (s : Sight) → IsLook (sight_question (string_bytes t.path) s) → IsSightOpened plan t.component s
     of_sight (sight.Unseen w) h = tt
     of_sight (sight.Seen d) h = tt
     of_sight (sight.Looking w) h = tt
-    of_sight (sight.Listing run) h = absurd h
+    of_sight (sight.Listing recursive kinds) h = absurd h
 
 -- a content that answers is well formed
 pub IsAnswered-content : {A : Type 0} (q : Option Question) (a : Answer A) (c : Content) → IsAnswered q a c → IsSomeContent c
 IsAnswered-content q answer.Nothing c h = h
 IsAnswered-content (Some (LookAt p)) (answer.Look r) c h = h.0
-IsAnswered-content (Some (ListAt p)) (answer.Look r) c h = absurd h
+IsAnswered-content (Some (ListAt kinds p)) (answer.Look r) c h = absurd h
 IsAnswered-content None (answer.Look r) c h = absurd h
-IsAnswered-content (Some (ListAt p)) (answer.List r) c h = h.0
+IsAnswered-content (Some (ListAt kinds p)) (answer.List r) c h = h.0
 IsAnswered-content (Some (LookAt p)) (answer.List r) c h = absurd h
 IsAnswered-content None (answer.List r) c h = absurd h

@@ -4,13 +4,13 @@ use Rattle.std.specs.Prelude.{option_map, IfOk, IfErr, Vec}
 use Rattle.std.proofs.lemmas.Bool.{both_ways}
 use Rattle.glob_text.specs.Text.{Text}
 use Rattle.glob_tree.specs.Content.{Content, look_result, list_result}
-use Rattle.glob_tree.specs.Answers.{IsTold, IsListAnswer, IsListError, entries_of}
+use Rattle.glob_tree.specs.Answers.{IsTold, IsEntriesAnswer, IsListError, entries_of}
 use Rattle.glob_tree.specs.declared.tree.Look.{Look}
 use Rattle.glob_tree.specs.declared.tree.Entry.{Entry}
 use Rattle.glob_tree.specs.declared.tree.ListError.{ListError}
 use Rattle.glob_walk.specs.Aims.{listing_of}
-use Rattle.glob_walk.specs.Marks.{Mark, Work, Give, cost}
-use Rattle.glob_walk.specs.Questions.{Question, LookAt, ListAt, IsLook, IsList, IsSomeContent, IsSeenIn, IsListedIn, question_path}
+use Rattle.glob_walk.specs.Marks.{Mark, Work, Give}
+use Rattle.glob_walk.specs.Questions.{Question, LookAt, ListAt, IsLook, IsList, IsListWith, IsSomeContent, IsSeenIn, IsListedIn, question_path}
 use Rattle.glob_walk.specs.Machines.{MachineState, Agrees, Saying, AsksLook, AsksList, Says, Ends, StepCounts, StepGoes, TakesStep, IsCharged, IsAskedAfter, left_of, outcome_said, is_last_said, units_said}
 use Rattle.glob_walk.specs.Walks.{Gives, LimitAt, NoMemory, Walking, Charges, IsUpTo, TakesFront, IsAsked, Takes, Goes, is_last, item_number}
 use Rattle.glob_walk.specs.Private.Walking.{IsDriven}
@@ -59,7 +59,7 @@ pub record Drives {X A : Type 0} (asks : X → ℕ) (tells : X → Option Conten
 
 TakesStep-after : (first mid new : List Mark) (a b d : ℕ) (s : Saying) (q : Option Question) → Charges first a mid b → TakesStep mid b s q new d → TakesStep first a s q new d
 TakesStep-after first mid new a b d AsksLook q h k = AsksNext-after first mid new a b d (question_path q) h k
-TakesStep-after first mid new a b d AsksList q h k = AsksNext-after first mid new a b d (question_path q) h k
+TakesStep-after first mid new a b d (AsksList kinds) q h k = AsksNext-after first mid new a b d (question_path q) h k
 TakesStep-after first mid new a b d (Says (Gives item)) q h k = Charges-trans first mid (Give item ∷ new) a b d h k
 TakesStep-after first mid new a b d (Says (LimitAt p)) q h k = record { rest = k.rest; charges = Charges-trans first mid (Work p ∷ k.rest) a b d h k.charges }
 TakesStep-after first mid new a b d (Says NoMemory) q h k = record { rest = k.rest; charges = Charges-trans first mid k.rest a b d h k.charges }
@@ -87,7 +87,7 @@ module _ {X A : Type 0} (asks : X → ℕ) (tells : X → Option Content) where
     where
       by_saying : (s : Saying) → IsCharged 0 c0 s c → IsAskedSo asks (seen_walk tells t0 c0) s t0 c
       by_saying AsksLook e = omega (arith, e)
-      by_saying AsksList e = omega (arith, e)
+      by_saying (AsksList kinds) e = omega (arith, e)
       by_saying (Says (Gives item)) e = omega (arith, e)
       by_saying (Says (LimitAt p)) e = (e.0, omega (arith, e.0, e.1))
       by_saying (Says NoMemory) e = omega (arith, e)
@@ -126,7 +126,7 @@ module _ {X A : Type 0} (asks : X → ℕ) (tells : X → Option Content) (v : W
     where
       none : (s : Saying) → units_said s ≡ 1 → item_number (outcome_said s) ≡ 0
       none AsksLook q = refl
-      none AsksList q = refl
+      none (AsksList kinds) q = refl
       none (Says o) q = absurd (omega (arith, q))
       none Ends q = refl
 
@@ -135,19 +135,19 @@ module _ {X A : Type 0} (asks : X → ℕ) (tells : X → Option Content) (v : W
 
       lasting : (s : Saying) → units_said s ≡ 1 → is_last_said s ≡ false
       lasting AsksLook q = refl
-      lasting AsksList q = refl
+      lasting (AsksList kinds) q = refl
       lasting (Says o) q = absurd (omega (arith, q))
       lasting Ends q = absurd (omega (arith, q))
 
       asked_before : (s : Saying) → units_said s ≡ 1 → IsAskedSo asks v s t c → asks t + 1 + v.spent ≡ asks v.tree + c.spent
       asked_before AsksLook q e = e
-      asked_before AsksList q e = e
+      asked_before (AsksList kinds) q e = e
       asked_before (Says o) q e = absurd (omega (arith, q))
       asked_before Ends q e = absurd (omega (arith, q))
 
       by_saying : (s : Saying) → asks t + 1 + v.spent ≡ asks v.tree + c.spent → IsCharged n c s c' → IsAskedSo asks v s t' c'
       by_saying AsksLook b e = omega (arith, b, e, more)
-      by_saying AsksList b e = omega (arith, b, e, more)
+      by_saying (AsksList kinds) b e = omega (arith, b, e, more)
       by_saying (Says (Gives item)) b e = omega (arith, b, e, more)
       by_saying (Says (LimitAt p)) b e = (e.0, omega (arith, b, e.0, e.1, more))
       by_saying (Says NoMemory) b e = omega (arith, b, e, more)
@@ -155,7 +155,7 @@ module _ {X A : Type 0} (asks : X → ℕ) (tells : X → Option Content) (v : W
 
       charged_before : (s : Saying) → units_said s ≡ 1 → (x : Content) (old : List Mark) → TakesStep old v.spent s c.asked (left_of x c) c.spent → Charges old v.spent (left_of x c) c.spent
       charged_before AsksLook q x old h = Charges-asked old (left_of x c) v.spent c.spent (question_path c.asked) h
-      charged_before AsksList q x old h = Charges-asked old (left_of x c) v.spent c.spent (question_path c.asked) h
+      charged_before (AsksList kinds) q x old h = Charges-asked old (left_of x c) v.spent c.spent (question_path c.asked) h
       charged_before (Says o) q x old h = absurd (omega (arith, q))
       charged_before Ends q x old h = absurd (omega (arith, q))
 
@@ -179,13 +179,13 @@ module _ {X A : Type 0} (asks : X → ℕ) (tells : X → Option Content) (v : W
     where
       lasts : (s : Saying) → units_said s ≡ 0 → is_last_said s ≡ is_last (outcome_said s)
       lasts AsksLook q = absurd (omega (arith, q))
-      lasts AsksList q = absurd (omega (arith, q))
+      lasts (AsksList kinds) q = absurd (omega (arith, q))
       lasts (Says o) q = refl
       lasts Ends q = refl
 
       by_saying : (s : Saying) → units_said s ≡ 0 → IsAskedSo asks v s t c → IsAsked asks v (outcome_said s) (seen_walk tells t c)
       by_saying AsksLook q e = absurd (omega (arith, q))
-      by_saying AsksList q e = absurd (omega (arith, q))
+      by_saying (AsksList kinds) q e = absurd (omega (arith, q))
       by_saying (Says (Gives item)) q e = omega (arith, e)
       by_saying (Says (LimitAt p)) q e = e
       by_saying (Says NoMemory) q e = omega (arith, e)
@@ -193,7 +193,7 @@ module _ {X A : Type 0} (asks : X → ℕ) (tells : X → Option Content) (v : W
 
       taken : (s : Saying) → units_said s ≡ 0 → (x : Content) (old : List Mark) → TakesStep old v.spent s c.asked (left_of x c) c.spent → TakesFront old v.spent (outcome_said s) (left_of x c) c.spent
       taken AsksLook q x old k = absurd (omega (arith, q))
-      taken AsksList q x old k = absurd (omega (arith, q))
+      taken (AsksList kinds) q x old k = absurd (omega (arith, q))
       taken (Says o) q x old k = k
       taken Ends q x old k = k
 
@@ -234,7 +234,7 @@ module _ {X A : Type 0} (asks : X → ℕ) (tells : X → Option Content) (v : W
       up_to : (s : Saying) → units_said s ≡ 0 → c.over ≡ is_last_said s → c.over ≡ false → (x : Content) (old : List Mark) → IsUpTo (listing_of x v.aim) v.spent old → TakesStep old v.spent s c.asked (left_of x c) c.spent
           → IsUpTo (listing_of x v.aim) c.spent (left_of x c)
       up_to AsksLook q e going x old u k = absurd (omega (arith, q))
-      up_to AsksList q e going x old u k = absurd (omega (arith, q))
+      up_to (AsksList kinds) q e going x old u k = absurd (omega (arith, q))
       up_to (Says (Gives item)) q e going x old u k = IsUpTo-item (listing_of x v.aim) old (left_of x c) v.spent c.spent item u k
       up_to (Says (LimitAt p)) q e going x old u k = absurd (both_ways c.over going e)
       up_to (Says NoMemory) q e going x old u k = absurd (both_ways c.over going e)
@@ -242,7 +242,7 @@ module _ {X A : Type 0} (asks : X → ℕ) (tells : X → Option Content) (v : W
 
       free : (s : Saying) → units_said s ≡ 0 → IsAskedAfter s c.asked → c.asked ≡ None
       free AsksLook q e = absurd (omega (arith, q))
-      free AsksList q e = absurd (omega (arith, q))
+      free (AsksList kinds) q e = absurd (omega (arith, q))
       free (Says o) q e = e
       free Ends q e = e
 
@@ -256,7 +256,7 @@ fewer {A} n c c' s s' question h = by_saying s' h.charged
   where
     by_saying : (x : Saying) → IsCharged n c x c' → 2 * (c'.limit - c'.spent) + units_said x < 2 * (c.limit - c.spent) + units_said s
     by_saying AsksLook e = omega (arith, question, h.limit, h.within, e)
-    by_saying AsksList e = omega (arith, question, h.limit, h.within, e)
+    by_saying (AsksList kinds) e = omega (arith, question, h.limit, h.within, e)
     by_saying (Says o) e = omega (arith, question, h.limit, h.within, h.grows)
     by_saying Ends e = omega (arith, question, h.limit, h.within, h.grows)
 
@@ -264,11 +264,21 @@ fewer {A} n c c' s s' question h = by_saying s' h.charged
 pub seen_fits : {E : Type 0} (q : Option Question) (r : Result Look E) (x : Content) (p : Text) → IsLook q → p ≡ question_path q → IsSomeContent x → IfOk r (λ seen. seen ≡ look_result x p) → IsSeenIn q r x
 seen_fits None r x p look is w h = absurd look
 seen_fits (Some (LookAt path)) r x p look is w h = (w, subst (λ y. IfOk r (λ seen. seen ≡ look_result x y)) is h)
-seen_fits (Some (ListAt path)) r x p look is w h = absurd look
+seen_fits (Some (ListAt kinds path)) r x p look is w h = absurd look
 
-pub listed_fits : {A : Type 0} (q : Option Question) (r : Result (Vec (Entry A) A) ListError) (x : Content) (p : Text) → IsList q → p ≡ question_path q → IsSomeContent x
-    → IfOk r (λ v. IsListAnswer (list_result x p) (entries_of v.items)) → IfErr r (λ e. IsListError (list_result x p) e) → IsListedIn q r x
-listed_fits None r x p list is w h k = absurd list
-listed_fits (Some (LookAt path)) r x p list is w h k = absurd list
-listed_fits (Some (ListAt path)) r x p list is w h k =
-    (w, subst (λ y. IfOk r (λ v. IsListAnswer (list_result x y) (entries_of v.items))) is h, subst (λ y. IfErr r (λ e. IsListError (list_result x y) e)) is k)
+pub listed_fits : {A : Type 0} (kinds : Bool) (q : Option Question) (r : Result (Vec (Entry A) A) ListError) (x : Content) (p : Text) → IsListWith kinds q → p ≡ question_path q → IsSomeContent x
+    → IfOk r (λ v. IsEntriesAnswer kinds (list_result x p) (entries_of v.items)) → IfErr r (λ e. IsListError (list_result x p) e) → IsListedIn q r x
+listed_fits kinds None r x p list is w h k = absurd list
+listed_fits kinds (Some (LookAt path)) r x p list is w h k = absurd list
+listed_fits kinds (Some (ListAt wanted path)) r x p list is w h k = (
+  w,
+  subst (λ b. IfOk r (λ v. IsEntriesAnswer b (list_result x path) (entries_of v.items))) (sym list)
+      (subst (λ y. IfOk r (λ v. IsEntriesAnswer kinds (list_result x y) (entries_of v.items))) is h),
+  subst (λ y. IfErr r (λ e. IsListError (list_result x y) e)) is k,
+)
+
+-- with kinds or without, a listing is asked for
+pub lists : (kinds : Bool) (q : Option Question) → IsListWith kinds q → IsList q
+lists kinds None h = absurd h
+lists kinds (Some (LookAt path)) h = absurd h
+lists kinds (Some (ListAt wanted path)) h = tt

@@ -42,37 +42,37 @@ matched c plan t next path name d true = refl
 matched c plan t next path name d false = refl
 
 -- the component is asked
-first_match : {A : Type 0} (c : Content) (plan : Plan A) (part : ℕ) (path name : Text) (d : Bool) (t : Text)
-    → drop part plan.parts.items ≡ t ∷ drop (part + 1) plan.parts.items
-    → first_part c plan false part path (name, d) ≡ met_marks c plan path (name, d) (cond (takes_name plan.options t name) (Some (part + 1)) None)
-first_match c plan part path name d t e =
-    ap (λ ts. first_of c plan.options plan.directories false ts path (name, d)) e ∙ matched c plan t (part + 1) path name d (takes_name plan.options t name)
+first_match : {A : Type 0} (c : Content) (plan : Plan A) (component : ℕ) (path name : Text) (d : Bool) (t : Text)
+    → drop component plan.components.items ≡ t ∷ drop (component + 1) plan.components.items
+    → first_part c plan false component path (name, d) ≡ met_marks c plan path (name, d) (cond (takes_name plan.options t name) (Some (component + 1)) None)
+first_match c plan component path name d t e =
+    ap (λ ts. first_of c plan.options plan.directories false ts path (name, d)) e ∙ matched c plan t (component + 1) path name d (takes_name plan.options t name)
 
 -- the component after the run is asked
-first_in_run : {A : Type 0} (c : Content) (plan : Plan A) (part : ℕ) (path name : Text) (d : Bool) (r t : Text)
-    → drop part plan.parts.items ≡ r ∷ drop (part + 1) plan.parts.items
-    → drop (part + 1) plan.parts.items ≡ t ∷ drop (part + 1 + 1) plan.parts.items
-    → first_part c plan true part path (name, d) ≡ met_marks c plan path (name, d) (cond (takes_name plan.options t name) (Some (part + 2)) None)
-first_in_run c plan part path name d r t e f =
-    let two : part + 1 + 1 ≡ part + 2 = omega arith in
+first_in_run : {A : Type 0} (c : Content) (plan : Plan A) (component : ℕ) (path name : Text) (d : Bool) (r t : Text)
+    → drop component plan.components.items ≡ r ∷ drop (component + 1) plan.components.items
+    → drop (component + 1) plan.components.items ≡ t ∷ drop (component + 1 + 1) plan.components.items
+    → first_part c plan true component path (name, d) ≡ met_marks c plan path (name, d) (cond (takes_name plan.options t name) (Some (component + 2)) None)
+first_in_run c plan component path name d r t e f =
+    let two : component + 1 + 1 ≡ component + 2 = omega arith in
     ap (λ ts. first_of c plan.options plan.directories true ts path (name, d)) e
     ∙ ap (λ ts. first_of c plan.options plan.directories true (r ∷ ts) path (name, d)) f
-    ∙ matched c plan t (part + 1 + 1) path name d (takes_name plan.options t name)
+    ∙ matched c plan t (component + 1 + 1) path name d (takes_name plan.options t name)
     ∙ ap (λ n. met_marks c plan path (name, d) (cond (takes_name plan.options t name) (Some n) None)) two
 
 -- the run is the last component
-first_at_end : {A : Type 0} (c : Content) (plan : Plan A) (part : ℕ) (path name : Text) (d : Bool) (r : Text)
-    → drop part plan.parts.items ≡ r ∷ drop (part + 1) plan.parts.items
-    → drop (part + 1) plan.parts.items ≡ []
-    → first_part c plan true part path (name, d) ≡ met_marks c plan path (name, d) (cond (is_entered plan.options name d) (Some (part + 1)) None)
-first_at_end c plan part path name d r e f =
+first_at_end : {A : Type 0} (c : Content) (plan : Plan A) (component : ℕ) (path name : Text) (d : Bool) (r : Text)
+    → drop component plan.components.items ≡ r ∷ drop (component + 1) plan.components.items
+    → drop (component + 1) plan.components.items ≡ []
+    → first_part c plan true component path (name, d) ≡ met_marks c plan path (name, d) (cond (is_entered plan.options name d) (Some (component + 1)) None)
+first_at_end c plan component path name d r e f =
     ap (λ ts. first_of c plan.options plan.directories true ts path (name, d)) e
     ∙ ap (λ ts. first_of c plan.options plan.directories true (r ∷ ts) path (name, d)) f
     ∙ meet-end c plan.options plan.directories (child path name) name d
     ∙ by_test (is_entered plan.options name d) refl
   where
     by_test : (b : Bool) → is_entered plan.options name d ≡ b
-        → cond b (Give (Found (child path name)) ∷ []) [] ≡ met_marks c plan path (name, d) (cond b (Some (part + 1)) None)
+        → cond b (Give (Found (child path name)) ∷ []) [] ≡ met_marks c plan path (name, d) (cond b (Some (component + 1)) None)
     by_test true h = sym (ap (λ ts. enter c plan.options plan.directories ts (child path name) d) f
         ∙ enter-end c plan.options plan.directories (child path name) d
         ∙ cond-true (not plan.directories || d) (Give (Found (child path name)) ∷ []) []
@@ -85,27 +85,27 @@ IfOk-each (Ok x) f h = f x h
 IfOk-each (Err e) f h = h
 
 -- an entry is met by the component, or in a run by the one after it, if there is one
-module _ {A : Type 0} (c : Content) (plan : Plan A) (part : ℕ) (path name : Text) (d : Bool) (here : part < length plan.parts.items) where
-  at_part : drop part plan.parts.items ≡ get_or plan.parts.items part [] ∷ drop (part + 1) plan.parts.items
-  at_part = drop_more plan.parts.items part [] here
+module _ {A : Type 0} (c : Content) (plan : Plan A) (component : ℕ) (path name : Text) (d : Bool) (here : component < length plan.components.items) where
+  at_part : drop component plan.components.items ≡ get_or plan.components.items component [] ∷ drop (component + 1) plan.components.items
+  at_part = drop_more plan.components.items component [] here
 
-  pub met_some : (run : Bool) (next : ℕ) (t : Text) → next ≡ cond run (part + 1) part
-      → drop next plan.parts.items ≡ t ∷ drop (next + 1) plan.parts.items
-      → first_part c plan run part path (name, d) ≡ met_marks c plan path (name, d) (cond (takes_name plan.options t name) (Some (next + 1)) None)
+  pub met_some : (recursive : Bool) (next : ℕ) (t : Text) → next ≡ cond recursive (component + 1) component
+      → drop next plan.components.items ≡ t ∷ drop (next + 1) plan.components.items
+      → first_part c plan recursive component path (name, d) ≡ met_marks c plan path (name, d) (cond (takes_name plan.options t name) (Some (next + 1)) None)
   met_some true next t is at =
-      let two : part + 2 ≡ next + 1 = omega (arith, is) in
-      first_in_run c plan part path name d (get_or plan.parts.items part []) t at_part (subst (λ n. drop n plan.parts.items ≡ t ∷ drop (n + 1) plan.parts.items) is at)
+      let two : component + 2 ≡ next + 1 = omega (arith, is) in
+      first_in_run c plan component path name d (get_or plan.components.items component []) t at_part (subst (λ n. drop n plan.components.items ≡ t ∷ drop (n + 1) plan.components.items) is at)
       ∙ ap (λ n. met_marks c plan path (name, d) (cond (takes_name plan.options t name) (Some n) None)) two
   met_some false next t is at =
-      first_match c plan part path name d t (subst (λ n. drop n plan.parts.items ≡ t ∷ drop (n + 1) plan.parts.items) is at)
+      first_match c plan component path name d t (subst (λ n. drop n plan.components.items ≡ t ∷ drop (n + 1) plan.components.items) is at)
       ∙ ap (λ n. met_marks c plan path (name, d) (cond (takes_name plan.options t name) (Some (n + 1)) None)) (sym is)
 
-  pub met_none : (run : Bool) (next : ℕ) → next ≡ cond run (part + 1) part → drop next plan.parts.items ≡ []
-      → first_part c plan run part path (name, d) ≡ met_marks c plan path (name, d) (cond (is_entered plan.options name d) (Some next) None)
+  pub met_none : (recursive : Bool) (next : ℕ) → next ≡ cond recursive (component + 1) component → drop next plan.components.items ≡ []
+      → first_part c plan recursive component path (name, d) ≡ met_marks c plan path (name, d) (cond (is_entered plan.options name d) (Some next) None)
   met_none true next is at =
-      first_at_end c plan part path name d (get_or plan.parts.items part []) at_part (subst (λ n. drop n plan.parts.items ≡ []) is at)
+      first_at_end c plan component path name d (get_or plan.components.items component []) at_part (subst (λ n. drop n plan.components.items ≡ []) is at)
       ∙ ap (λ n. met_marks c plan path (name, d) (cond (is_entered plan.options name d) (Some n) None)) (sym is)
-  met_none false next is at = absurd (subst is_held (sym at_part ∙ subst (λ n. drop n plan.parts.items ≡ []) is at) tt)
+  met_none false next is at = absurd (subst is_held (sym at_part ∙ subst (λ n. drop n plan.components.items ≡ []) is at) tt)
     where
       is_held : List Text → Type 0
       is_held [] = ⊥

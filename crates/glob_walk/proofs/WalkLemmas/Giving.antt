@@ -33,7 +33,7 @@ gives_next {A} Fits n listing c given old s new step fits h = by_saying s step
         let t = k.takes c fits h.going h.agrees in
         let (ps, whole, units, same) = charged (left_of c new) new.spent (Charges-asked (left_of c old) (left_of c new) old.spent new.spent (question_path new.asked) t.takes) in
         record { agrees = t.agrees; going = k.counts.ends; done = h.done ++ works ps; whole = whole; units = units; same = same }
-    by_saying AsksList k =
+    by_saying (AsksList kinds) k =
         let t = k.takes c fits h.going h.agrees in
         let (ps, whole, units, same) = charged (left_of c new) new.spent (Charges-asked (left_of c old) (left_of c new) old.spent new.spent (question_path new.asked) t.takes) in
         record { agrees = t.agrees; going = k.counts.ends; done = h.done ++ works ps; whole = whole; units = units; same = same }

@@ -1,20 +1,21 @@
 -- What a tree lists, in order.
-use Rattle.std.proofs.Common.{◌≡◌, ℕ, ◌+◌, ◌<◌, List, [], ◌∷◌, length, get_or, Option, Some, None, refl, ap, subst, ◌∙◌, arith}
-use Rattle.std.specs.Prelude.{map}
+use Rattle.std.proofs.Common.{◌≡◌, ℕ, ◌+◌, ◌<◌, Bool, true, false, List, [], ◌∷◌, length, get_or, Option, Some, None, refl, ap, subst, ◌∙◌, arith}
+use Rattle.std.specs.Prelude.{map, Contains}
 use Rattle.std.specs.List.Sorted.{IsPermutation, IsSortedByKey}
 use Rattle.std.specs.Cmp.Lexicographic.{slice_cmp}
 use Rattle.std.specs.Ordering.{nat_cmp, is_lt}
 use Rattle.std.proofs.lemmas.List.{get_or-map, length-map}
-use Rattle.std.proofs.lemmas.List.Sorted.{IsPermutation-map, IsPermutation-trans, length_permutation}
+use Rattle.std.proofs.lemmas.List.Sorted.{IsPermutation-map, IsPermutation-sym, IsPermutation-trans, Contains-permutation, length_permutation}
 use Rattle.glob_text.specs.Text.{Text}
-use Rattle.glob_tree.specs.Content.{Content, Key, DirEntry, ListAnswer, Entries, Fails, NoDirectory, list_result, list_found, list_of, kind_at, resolve, children}
-use Rattle.glob_tree.specs.Answers.{entries_of, IsListAnswer}
+use Rattle.glob_tree.specs.Content.{Content, Key, DirEntry, ListAnswer, Entries, Fails, NoDirectory, sorted_entries, list_result, list_found, list_of, kind_at, resolve, children}
+use Rattle.glob_tree.specs.Answers.{entries_of, names_of, IsListAnswer, IsNamesAnswer, IsEntriesAnswer}
 use Rattle.glob_tree.specs.declared.tree.Entry.{Entry}
 use Rattle.glob_tree.specs.declared.kind.Kind.{Kind}
 use Rattle.glob_tree.specs.declared.kind.Kind.TheVariants.{Dir, Shut, Other}
 use Rattle.glob_tree.proofs.ContentLemmas.Contents.{IsContent}
 use Rattle.glob_tree.proofs.ContentLemmas.Sorting.{AreApart, children_apart, sorted_is_ascending}
-use Rattle.glob_walk.specs.Private.Meters.{IsInOrder, IsCut}
+use Rattle.glob_tree.proofs.ContentLemmas.Names.{names_in_order}
+use Rattle.glob_walk.specs.Private.Meters.{IsInOrder, IsHeld, IsCut}
 
 -- no name stands twice in what is listed
 pub AreApart-list_result : (c : Content) → IsContent c → (path : Text) (es : List DirEntry) → list_result c path ≡ Entries es → AreApart es
@@ -54,13 +55,48 @@ in_order {A} c w path es sorted answer moved up = of_answer (list_result c path)
     of_answer (Fails kind) e h = h
     of_answer NoDirectory e h = tt
 
-pub is_cut : {A : Type 0} (c : Content) (path : Text) (es : List (Entry A)) (spent limit : ℕ) → IsListAnswer (list_result c path) (entries_of es)
-    → limit < spent + length es → IsCut (list_result c path) spent limit
-is_cut {A} c path es spent limit answer few = of_answer (list_result c path) answer
+-- a permutation of what is returned holds nothing else
+contains_moved : {A : Type 0} (es sorted : List (Entry A)) → IsPermutation es sorted → (e : DirEntry) → Contains (entries_of sorted) e → Contains (entries_of es) e
+contains_moved {A} es sorted moved e in' =
+    let f : Entry A → DirEntry = λ x. (x.name, x.is_dir) in
+    Contains-permutation (entries_of sorted) (entries_of es) e (IsPermutation-sym (entries_of es) (entries_of sorted) (IsPermutation-map f es sorted moved)) in'
+
+-- what is said to be a directory is an entry of the directory
+pub held : {A : Type 0} (c : Content) (path : Text) (kinds : Bool) (es sorted : List (Entry A)) → IsEntriesAnswer kinds (list_result c path) (entries_of es)
+    → IsPermutation es sorted → (e : DirEntry) → Contains (entries_of sorted) e → e.1 ≡ true → IsHeld (list_result c path) e
+held {A} c path kinds es sorted answer moved e in' directory = of_answer kinds (list_result c path) answer
   where
-    of_answer : (a : ListAnswer) → IsListAnswer a (entries_of es) → IsCut a spent limit
-    of_answer (Entries xs) h =
-        let f : Entry A → DirEntry = λ x. (x.name, x.is_dir) in
-        omega (arith, few, simp length-map at (length_permutation {X = DirEntry} xs (entries_of es) h))
-    of_answer (Fails kind) h = absurd h
-    of_answer NoDirectory h = tt
+    of_answer : (k : Bool) (a : ListAnswer) → IsEntriesAnswer k a (entries_of es) → IsHeld a e
+    of_answer true (Entries xs) h = Contains-permutation (entries_of es) xs e (IsPermutation-sym xs (entries_of es) h) (contains_moved es sorted moved e in')
+    of_answer false (Entries xs) h = h.1 e (contains_moved es sorted moved e in') directory
+    of_answer true (Fails kind) h = absurd h
+    of_answer false (Fails kind) h = absurd h
+    of_answer true NoDirectory h = tt
+    of_answer false NoDirectory h = tt
+
+pub is_cut : {A : Type 0} (c : Content) (path : Text) (kinds : Bool) (es : List (Entry A)) (spent limit : ℕ) → IsEntriesAnswer kinds (list_result c path) (entries_of es)
+    → limit < spent + length es → IsCut (list_result c path) spent limit
+is_cut {A} c path kinds es spent limit answer few = of_answer kinds (list_result c path) answer
+  where
+    f : Entry A → DirEntry
+    f x = (x.name, x.is_dir)
+
+    of_answer : (k : Bool) (a : ListAnswer) → IsEntriesAnswer k a (entries_of es) → IsCut a spent limit
+    of_answer true (Entries xs) h = omega (arith, few, simp length-map at (length_permutation {X = DirEntry} xs (entries_of es) h))
+    of_answer false (Entries xs) h = omega (arith, few, simp length-map at (length_permutation {X = Text} (names_of xs) (names_of (entries_of es)) h.0))
+    of_answer true (Fails kind) h = absurd h
+    of_answer false (Fails kind) h = absurd h
+    of_answer true NoDirectory h = tt
+    of_answer false NoDirectory h = tt
+
+-- the names of a listing of names alone, in order
+pub names_listed : {A : Type 0} (c : Content) → IsContent c → (path : Text) (xs : List DirEntry) → list_result c path ≡ Entries xs → (es sorted : List (Entry A))
+    → IsNamesAnswer (Entries xs) (entries_of es) → IsPermutation es sorted → IsSortedByKey (λ e. e.name) (slice_cmp nat_cmp) sorted
+    → names_of (entries_of sorted) ≡ names_of (sorted_entries xs)
+names_listed {A} c w path xs is es sorted answer moved up =
+    let f : Entry A → DirEntry = λ x. (x.name, x.is_dir) in
+    let name : DirEntry → Text = λ e. e.0 in
+    names_in_order xs (entries_of sorted) (AreApart-list_result c w path xs is)
+    (IsPermutation-trans (names_of xs) (names_of (entries_of es)) (names_of (entries_of sorted)) answer.0
+    (IsPermutation-map name (entries_of es) (entries_of sorted) (IsPermutation-map f es sorted moved)))
+    (sorted_listed sorted up)

@@ -1,16 +1,17 @@
 -- What a step takes.
-use Rattle.std.proofs.Common.{◌≡◌, ◌≢◌, ℕ, ◌+◌, ◌≤◌, ◌<◌, ◌^◌, length, Bool, true, false, cond, [], ◌++◌, Option, Some, None, refl, ap, sym, subst, ◌∙◌, arith}
+use Rattle.std.proofs.Common.{◌≡◌, ◌≢◌, ℕ, ◌+◌, ◌≤◌, ◌<◌, ◌^◌, length, Bool, true, false, cond, [], ◌++◌, Option, Some, None, Ok, Err, refl, ap, sym, subst, ◌∙◌, arith}
 use Rattle.std.specs.Prelude.{string_bytes, sum_by, nat_le}
 use Rattle.std.specs.List.{All}
 use Rattle.std.specs.Path.{root_dir, cur_dir}
 use Rattle.std.proofs.lemmas.List.Elements.{All-from_recursion}
 use Rattle.std.proofs.lemmas.Bool.{both_ways}
+use Rattle.glob_text.specs.Text.{Text}
 use Rattle.glob_tree.specs.Content.{Content}
 use Rattle.glob_walk.specs.Aims.{listing_of}
 use Rattle.glob_walk.specs.Listing.{look_up, enter}
 use Rattle.glob_walk.specs.Questions.{Question}
-use Rattle.glob_walk.specs.Machines.{MachineState, Saying, StepGoes, Ends}
-use Rattle.glob_walk.specs.Walks.{Charges, item_number}
+use Rattle.glob_walk.specs.Machines.{MachineState, Saying, StepGoes, Says, Ends}
+use Rattle.glob_walk.specs.Walks.{Outcome, Charges, item_number}
 use Rattle.glob_walk.specs.declared.meter.Meter.{Meter}
 use Rattle.glob_walk.specs.declared.stack.Stack.{Stack}
 use Rattle.glob_walk.specs.declared.turn.Turn.{Turn}
@@ -23,7 +24,7 @@ use Rattle.glob_walk.specs.Private.Frames.{unmet, is_done, IsFrameSound}
 use Rattle.glob_walk.specs.declared.task.Task.{Task}
 use Rattle.glob_walk.specs.declared.task.Sight.TheVariants.{Unseen}
 use Rattle.glob_walk.specs.declared.task.Wanted.TheVariants.{Any}
-use Rattle.glob_walk.specs.Private.Turns.{TurnsTo, TurnCounts, IsAnswer, IsAnswered, answer_count}
+use Rattle.glob_walk.specs.Private.Turns.{TurnsTo, TurnCounts, IfFailed, IsAnswer, IsAnswered, answer_count}
 use Rattle.glob_walk.specs.Private.Walking.{IsUnderWay, IsGood, turn_outcome, turn_saying, is_last_turn}
 use Rattle.glob_walk.proofs.WalkLemmas.Stepping.{append_none}
 use Rattle.glob_walk.proofs.WalkLemmas.Charging.{opened-free, opened-look}
@@ -31,7 +32,7 @@ use Rattle.glob_walk.proofs.WalkLemmas.Charging.{opened-free, opened-look}
 pub one_item : {A : Type 0} (t : Turn A) → item_number (turn_outcome t) ≤ 1
 one_item turn.Went = omega arith
 one_item turn.Look = omega arith
-one_item turn.List = omega arith
+one_item (turn.List kinds) = omega arith
 one_item (turn.Path p) = omega arith
 one_item (turn.Unread p e) = omega arith
 one_item (turn.Limit p) = omega arith
@@ -41,7 +42,7 @@ one_item turn.Done = omega arith
 pub grows : {A : Type 0} (n : ℕ) (m m' : Meter) (t : Turn A) → TurnCounts n m t m' → m.spent ≤ m'.spent
 grows n m m' turn.Went h = omega (arith, h)
 grows n m m' turn.Look h = omega (arith, h)
-grows n m m' turn.List h = omega (arith, h)
+grows n m m' (turn.List kinds) h = omega (arith, h)
 grows n m m' (turn.Path p) h = omega (arith, h)
 grows n m m' (turn.Unread p e) h = omega (arith, h)
 grows n m m' (turn.Limit p) h = h.2
@@ -63,7 +64,7 @@ cleared_sound c s h = record {
 }
 
 module _ {A : Type 0} (Fits : Content → Type 0) (n : ℕ) (m m' : Meter) (s s' : Stack A) (given : ℕ) (fits : m.limit < 2 ^ 64) (w : IsUnderWay m s given) where
-  going : (t : Turn A) (k : ℕ) → m'.limit ≡ m.limit → m'.spent ≤ m'.limit → IsWithin s' → ready s' + k + m.spent ≤ ready s + m'.spent → IsNextOpened s'.plan.parts.items s'.next
+  going : (t : Turn A) (k : ℕ) → m'.limit ≡ m.limit → m'.spent ≤ m'.limit → IsWithin s' → ready s' + k + m.spent ≤ ready s + m'.spent → IsNextOpened s'.plan s'.next
       → IsGood m' s' (given + k) false
   going t k same within in' more opened = record {
     limit = within;
@@ -85,10 +86,10 @@ module _ {A : Type 0} (Fits : Content → Type 0) (n : ℕ) (m m' : Meter) (s s'
   pub IsGood-after : (t : Turn A) → t ≢ turn.Went → TurnsTo Fits n m s t m' s' → (is_last_turn t ≡ true → IsCleared s')
       → IsGood m' s' (given + item_number (turn_outcome t)) (is_last_turn t)
   IsGood-after turn.Went stops r cleared = absurd (stops refl)
-  IsGood-after turn.Look stops r cleared = going turn.Look 0 r.limit r.fits r.within r.ready (opened-look s'.plan.parts.items s'.next r.asks)
-  IsGood-after turn.List stops r cleared = going turn.List 0 r.limit r.fits r.within r.ready r.asks.1
-  IsGood-after (turn.Path p) stops r cleared = going (turn.Path p) 1 r.limit r.fits r.within r.ready (opened-free s'.plan.parts.items s'.next r.asks)
-  IsGood-after (turn.Unread p e) stops r cleared = going (turn.Unread p e) 1 r.limit r.fits r.within r.ready (opened-free s'.plan.parts.items s'.next r.asks)
+  IsGood-after turn.Look stops r cleared = going turn.Look 0 r.limit r.fits r.within r.ready (opened-look s'.plan s'.next r.asks)
+  IsGood-after (turn.List kinds) stops r cleared = going (turn.List kinds) 0 r.limit r.fits r.within r.ready r.asks.1
+  IsGood-after (turn.Path p) stops r cleared = going (turn.Path p) 1 r.limit r.fits r.within r.ready (opened-free s'.plan s'.next r.asks)
+  IsGood-after (turn.Unread p e) stops r cleared = going (turn.Unread p e) 1 r.limit r.fits r.within r.ready (opened-free s'.plan s'.next r.asks)
   IsGood-after (turn.Limit p) stops r cleared = over 1 (omega arith) r.limit (grows n m m' (turn.Limit p) r.counts) r.fits (ap question_of (cleared refl).0)
   IsGood-after turn.Memory stops r cleared = over 1 (omega arith) r.limit (grows {A = A} n m m' turn.Memory r.counts) r.fits (ap question_of (cleared refl).0)
   IsGood-after turn.Done stops r cleared = over 0 (omega arith) r.limit (grows {A = A} n m m' turn.Done r.counts) r.fits r.asks
@@ -111,15 +112,15 @@ module _ {A : Type 0} (Fits : Content → Type 0) (n : ℕ) (m m' : Meter) (s s'
     };
     takes = λ c f no h. record { agrees = r.sound c f h; takes = r.takes c f h };
   }
-  goes turn.List stops r cleared = record {
+  goes (turn.List kinds) stops r cleared = record {
     counts = record {
       limit = r.limit;
       aim = ap aim_of r.plan;
-      grows = grows {A = A} n m m' turn.List r.counts;
+      grows = grows {A = A} n m m' (turn.List kinds) r.counts;
       within = r.fits;
       charged = r.counts;
       given = refl;
-      few = (IsGood-after turn.List stops r cleared).few;
+      few = (IsGood-after (turn.List kinds) stops r cleared).few;
       asks = r.asks.0;
       ends = refl;
       stays = λ yes'. absurd (both_ways false refl yes');
@@ -223,6 +224,20 @@ none_answered q answer.Nothing free h = refl
 none_answered q (answer.Look r) free h = refl
 none_answered q (answer.List r) free h = absurd (subst (λ x. IsAnswer x (answer.List r)) free h)
 
+-- and none that failed
+pub none_failed : {A : Type 0} (q : Option Question) (a : Answer A) (path : Text) (P : Outcome → Type 0) → q ≡ None → IsAnswer q a → IfFailed a path P
+none_failed q answer.Nothing path P free h = tt
+none_failed {A} q (answer.Look r) path P free h = absurd (subst (λ x. IsAnswer {A = A} x (answer.Look r)) free h)
+none_failed q (answer.List r) path P free h = absurd (subst (λ x. IsAnswer x (answer.List r)) free h)
+
+-- what is said of an answer that failed is what the step says
+pub failed_said : {A : Type 0} (a : Answer A) (path : Text) (x y : Saying) → y ≡ x → IfFailed a path (λ o. x ≡ Says o) → IfFailed a path (λ o. y ≡ Says o)
+failed_said answer.Nothing path x y same h = tt
+failed_said (answer.Look (Ok seen)) path x y same h = tt
+failed_said (answer.Look (Err e)) path x y same h = same ∙ h
+failed_said (answer.List (Ok entries)) path x y same h = tt
+failed_said (answer.List (Err e)) path x y same h = same ∙ h
+
 -- a walk that is over stays as it is
 pub goes_over : {A : Type 0} (m : Meter) (s : Stack A) (given : ℕ) (over' : Bool) → over' ≡ true → (a : Answer A) (v : MachineState A) → view m s given over' ≡ v → IsGood m s given over' → IsAnswer v.asked a
     → StepGoes (IsAnswered v.asked a) (answer_count a) v Ends v
@@ -250,7 +265,7 @@ goes_over m s given over' yes' a v e good answers =
 -- a walk that has done nothing yet
 pub IsGood-fresh : {A : Type 0} (m : Meter) (s : Stack A) (t : Task A) → m.spent ≡ 0 → m.limit < 2 ^ 64 → s.next ≡ Some t → t.sight ≡ Unseen Any → s.frames.items ≡ [] → IsGood m s 0 false
 IsGood-fresh m s t none fits next unseen empty =
-    let none_ready : next_ready s.plan s.next ≡ 0 = ap (next_ready s.plan) next ∙ ap (sight_ready (nat_le (length s.plan.parts.items) t.part)) unseen in
+    let none_ready : next_ready s.plan s.next ≡ 0 = ap (next_ready s.plan) next ∙ ap (sight_ready (nat_le (length s.plan.components.items) t.component)) unseen in
     let none_unmet : sum_by unmet s.frames.items ≡ 0 = ap (sum_by unmet) empty in
     record {
       limit = omega (arith, none);
@@ -258,24 +273,24 @@ IsGood-fresh m s t none fits next unseen empty =
       few = omega arith;
       going = λ _. record {
         within = record {
-          parts = subst (All (λ f. f.part < length s.plan.parts.items)) (sym empty) (All-from_recursion (λ f. f.part < length s.plan.parts.items) [] tt);
+          components = subst (All (λ f. f.component < length s.plan.components.items)) (sym empty) (All-from_recursion (λ f. f.component < length s.plan.components.items) [] tt);
           going = subst (All (λ f. is_done f ≡ false)) (sym empty) (All-from_recursion (λ f. is_done f ≡ false) [] tt);
         };
         ready = omega (arith, none_ready, none_unmet);
-        opened = subst (IsNextOpened s.plan.parts.items) (sym next) (subst (IsSightOpened s.plan.parts.items t.part) (sym unseen) tt);
+        opened = subst (IsNextOpened s.plan) (sym next) (subst (IsSightOpened s.plan t.component) (sym unseen) tt);
       };
       ended = λ yes'. absurd (both_ways false refl yes');
     }
 
-pub left-fresh : {A : Type 0} (c : Content) (s : Stack A) (t : Task A) → s.next ≡ Some t → t.sight ≡ Unseen Any → t.part ≡ 0 → s.frames.items ≡ []
+pub left-fresh : {A : Type 0} (c : Content) (s : Stack A) (t : Task A) → s.next ≡ Some t → t.sight ≡ Unseen Any → t.component ≡ 0 → s.frames.items ≡ []
     → string_bytes t.path ≡ cond s.plan.rooted root_dir cur_dir → left c s ≡ listing_of c (aim_of s.plan)
-left-fresh c s t next unseen part empty at =
+left-fresh c s t next unseen component empty at =
     ap (λ n. next_marks c s.plan n ++ frames_marks c s.plan s.frames.items) next
     ∙ ap (λ fs. task_marks c s.plan t ++ frames_marks c s.plan fs) empty
     ∙ append_none (task_marks c s.plan t)
-    ∙ ap (λ x. sight_marks c s.plan t.part (string_bytes t.path) x) unseen
-    ∙ ap (λ n. look_up c (λ seen. true) (enter_from c s.plan n) (string_bytes t.path)) part
-    ∙ ap (look_up c (λ seen. true) (enter c s.plan.options s.plan.directories s.plan.parts.items)) at
+    ∙ ap (λ x. sight_marks c s.plan t.component (string_bytes t.path) x) unseen
+    ∙ ap (λ n. look_up c (λ seen. true) (enter_from c s.plan n) (string_bytes t.path)) component
+    ∙ ap (look_up c (λ seen. true) (enter c s.plan.options s.plan.directories s.plan.components.items)) at
 
 pub sound-fresh : {A : Type 0} (c : Content) (s : Stack A) (t : Task A) → s.next ≡ Some t → t.sight ≡ Unseen Any → s.frames.items ≡ [] → IsSound c s
 sound-fresh c s t next unseen empty = record {

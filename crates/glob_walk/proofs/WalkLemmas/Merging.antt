@@ -78,6 +78,14 @@ opened_run ts n t merged at kind = subst (IsOpened true) (sym at) (kind, last (b
     last true h = absurd (both_ways false refl (sym (ap (λ r. not (r && begins_recursive (drop (n + 1) ts))) (kind_recursive t kind) ∙ ap not h) ∙ apart))
     last false h = refl
 
+-- what is no literal is listed for
+pub opened_for : (ts : List Text) (n : ℕ) (t : Text) → are_merged ts ≡ true → drop n ts ≡ t ∷ drop (n + 1) ts → is_literal t ≡ false
+    → (recursive : Bool) → recursive ≡ is_recursive t → IsOpened recursive (drop n ts)
+opened_for ts n t merged at other true is =
+    opened_run ts n t merged at (ap (λ b. cond b Literal (cond (is_recursive t) Recursive Wild)) other ∙ ap (λ b. cond b Recursive Wild) (sym is))
+opened_for ts n t merged at other false is =
+    subst (IsOpened false) (sym at) (ap (λ b. cond b Literal (cond (is_recursive t) Recursive Wild)) other ∙ ap (λ b. cond b Recursive Wild) (sym is))
+
 -- one more component
 pub merged-skip : (before : List Text) (parts rest : List Text) (run : Bool) (t : Text) → ((others : List Text) → merged (before ++ others) ≡ parts ++ merged_after run others)
     → (run && is_recursive t) ≡ true → merged ((before ++ t ∷ []) ++ rest) ≡ parts ++ merged_after (is_recursive t) rest
@@ -154,6 +162,6 @@ merged_listing c o pattern = ap (λ next. look_up c (λ seen. true) next (start 
 
 -- so the plan of a pattern looks for its listing
 pub aim_listing : {A : Type 0} (c : Content) (o : MatchOptions) (pattern : Text) (plan : Plan A) → plan.options ≡ o → plan.rooted ≡ has_root pattern → plan.directories ≡ wants_directories pattern
-    → plan.parts.items ≡ merged (components pattern) → listing_of c (aim_of plan) ≡ listing c o pattern
+    → plan.components.items ≡ merged (components pattern) → listing_of c (aim_of plan) ≡ listing c o pattern
 aim_listing c o pattern plan options rooted directories parts =
     (λ i. look_up c (λ seen. true) (enter c (options i) (directories i) (parts i)) (cond (rooted i) root_dir cur_dir)) ∙ merged_listing c o pattern

@@ -4,7 +4,7 @@ use Rattle.glob_text.specs.Text.{Text}
 use Rattle.glob_walk.specs.Marks.{Give, Found}
 use Rattle.glob_tree.specs.Paths.{child}
 use Rattle.glob_tree.specs.Content.{Content}
-use Rattle.glob_walk.specs.Components.{component_kind, is_special_name, Literal}
+use Rattle.glob_walk.specs.Components.{is_literal, is_recursive, is_special_name, Literal, Recursive, Wild}
 use Rattle.glob_walk.specs.Listing.{enter, look_up}
 use Rattle.glob_tree.specs.Looks.{is_there}
 use Rattle.glob_pattern.specs.declared.options.MatchOptions.{MatchOptions}
@@ -15,21 +15,21 @@ use Rattle.glob_walk.specs.declared.task.Wanted.{Wanted}
 use Rattle.glob_walk.specs.Private.Tasks.{enter_from, is_wanted, IsOpened}
 use Rattle.glob_walk.proofs.WalkLemmas.Entering.{enter-end}
 
-pub literal_marks : {A : Type 0} (c : Content) (plan : Plan A) (part : ℕ) (path : Text) (d : Bool) (t : Text) (w : Wanted)
-    → drop part plan.parts.items ≡ t ∷ drop (part + 1) plan.parts.items → component_kind t ≡ Literal
+pub literal_marks : {A : Type 0} (c : Content) (plan : Plan A) (component : ℕ) (path : Text) (d : Bool) (t : Text) (w : Wanted)
+    → drop component plan.components.items ≡ t ∷ drop (component + 1) plan.components.items → is_literal t ≡ true
     → ((seen : Look) → is_wanted w seen ≡ cond (is_special_name t) d (is_there seen))
-    → enter_from c plan part path d ≡ look_up c (is_wanted w) (enter_from c plan (part + 1)) (child path t)
-literal_marks c plan part path d t w at kind same =
+    → enter_from c plan component path d ≡ look_up c (is_wanted w) (enter_from c plan (component + 1)) (child path t)
+literal_marks c plan component path d t w at kind same =
     ap (λ ts. enter c plan.options plan.directories ts path d) at
-    ∙ enter-literal c plan.options plan.directories t (drop (part + 1) plan.parts.items) path d kind
-    ∙ ap (λ f. look_up c f (enter_from c plan (part + 1)) (child path t)) (λ i seen. sym (same seen) i)
+    ∙ enter-literal c plan.options plan.directories t (drop (component + 1) plan.components.items) path d (ap (λ b. cond b Literal (cond (is_recursive t) Recursive Wild)) kind)
+    ∙ ap (λ f. look_up c f (enter_from c plan (component + 1)) (child path t)) (λ i seen. sym (same seen) i)
 
-pub ended : {A : Type 0} (c : Content) (plan : Plan A) (part : ℕ) (path : Text) (d : Bool) → drop part plan.parts.items ≡ []
-    → enter_from c plan part path d ≡ cond (not plan.directories || d) (Give (Found path) ∷ []) []
-ended c plan part path d at = ap (λ ts. enter c plan.options plan.directories ts path d) at ∙ enter-end c plan.options plan.directories path d
+pub ended : {A : Type 0} (c : Content) (plan : Plan A) (component : ℕ) (path : Text) (d : Bool) → drop component plan.components.items ≡ []
+    → enter_from c plan component path d ≡ cond (not plan.directories || d) (Give (Found path) ∷ []) []
+ended c plan component path d at = ap (λ ts. enter c plan.options plan.directories ts path d) at ∙ enter-end c plan.options plan.directories path d
 
 -- nothing comes of what is no directory
-pub opened_none : (c : Content) (o : MatchOptions) (dirs : Bool) (run : Bool) (ts : List Text) (path : Text) → IsOpened run ts → enter c o dirs ts path false ≡ []
-opened_none c o dirs run [] path h = absurd h
+pub opened_none : (c : Content) (o : MatchOptions) (dirs : Bool) (recursive : Bool) (ts : List Text) (path : Text) → IsOpened recursive ts → enter c o dirs ts path false ≡ []
+opened_none c o dirs recursive [] path h = absurd h
 opened_none c o dirs false (t ∷ ts) path h = enter_none c o dirs t ts path h
 opened_none c o dirs true (t ∷ ts) path h = enter-recursive_none c o dirs t ts path h.0 h.1

@@ -1,6 +1,6 @@
 -- What comes of a directory that is listed.
 use Rattle.std.proofs.Common.{◌≡◌, ℕ, zero, suc, ◌+◌, ◌-◌, ◌<◌, ◌≤◌, Bool, true, false, cond, List, [], ◌∷◌, ◌++◌, length, drop, replicate, refl, ap, sym, subst, ◌∙◌, arith, append_assoc}
-use Rattle.std.specs.Prelude.{flat_map, Contains, Option, Some, string_bytes}
+use Rattle.std.specs.Prelude.{flat_map, Option, Some, string_bytes}
 use Rattle.std.specs.Path.{cur_dir, parent_dir}
 use Rattle.std.specs.declared.io.ErrorKind.{ErrorKind}
 use Rattle.glob_text.specs.Text.{Text}
@@ -16,18 +16,17 @@ use Rattle.glob_tree.proofs.ContentLemmas.Contents.{IsContent}
 use Rattle.glob_tree.proofs.ContentLemmas.Directories.{LeadsTo-from_looked, ListsAs, LeadsTo, LeadsTo-list_result, is_directory-look_result, ListsAs-from_leads, Read, Unreadable}
 use Rattle.glob_walk.proofs.ListingLemmas.Descending.{enter-wild, enter-recursive}
 use Rattle.glob_walk.specs.declared.plan.Plan.{Plan}
-use Rattle.glob_walk.specs.declared.frame.Place.{Place}
-use Rattle.glob_walk.specs.declared.frame.Place.TheVariants.{Parent, At}
+use Rattle.glob_walk.specs.declared.frame.Cursor.{Cursor}
+use Rattle.glob_walk.specs.declared.frame.Cursor.TheVariants.{Parent, At}
 use Rattle.glob_walk.specs.Private.Tasks.{enter_from, sight_marks, next_marks, sight_question, question_of, IsOpened, IsSightOpened, IsNextOpened, IsSightSound, IsNextSound}
 use Rattle.glob_walk.specs.Private.Stacks.{left, frames_marks}
 use Rattle.glob_walk.specs.declared.stack.Stack.{Stack}
 use Rattle.glob_walk.specs.declared.task.Task.{Task}
 use Rattle.glob_walk.specs.declared.task.Sight.TheVariants.{Listing}
 use Rattle.glob_walk.specs.Questions.{Question, ListAt}
-use Rattle.glob_walk.specs.Private.Frames.{take_at, first_of, entries_marks, special_marks, special_after, place_marks, place_unmet, first_place, IsEntrySound}
-use Rattle.glob_walk.specs.Private.Meters.{IsInOrder, IsCut}
+use Rattle.glob_walk.specs.Private.Frames.{take_at, first_of, entries_marks, special_marks, special_after, cursor_marks, cursor_unmet, first_cursor, IsEntrySound}
+use Rattle.glob_walk.specs.Private.Meters.{IsInOrder, IsHeld, IsCut}
 use Rattle.glob_tree.specs.Answers.{IsListFault}
-use Rattle.glob_tree.proofs.ContentLemmas.Sorting.{Contains-sorted_entries}
 use Rattle.glob_walk.specs.Walks.{works, Charges, StopsAt}
 use Rattle.glob_walk.proofs.WalkLemmas.Stepping.{append_none}
 use Rattle.glob_walk.proofs.WalkLemmas.Entering.{meet-next}
@@ -44,7 +43,7 @@ second_of c o dirs true ts path e = cond (is_entered o e.0 e.1) (enter c o dirs 
 
 -- what stands before the entries
 before : Content → MatchOptions → Bool → Bool → List Text → Text → List Mark
-before c o dirs run [] path = []
+before c o dirs recursive [] path = []
 before c o dirs false (t ∷ ts) path = special_names c o (enter c o dirs ts) t path
 before c o dirs true (t ∷ ts) path = []
 
@@ -57,11 +56,11 @@ met_same c o dirs t (u ∷ us) path name d last =
 
 module _ (c : Content) (w : IsContent c) (o : MatchOptions) (dirs : Bool) where
   -- the directory is list_result, and each entry has its two parts
-  opened : (run : Bool) (ts : List Text) (path : Text) → IsOpened run ts → is_directory (look_result c path) ≡ true
+  opened : (recursive : Bool) (ts : List Text) (path : Text) → IsOpened recursive ts → is_directory (look_result c path) ≡ true
       → enter c o dirs ts path true
-      ≡ list_directory c path (before c o dirs run ts path) (λ name d. first_of c o dirs run ts path (name, d) ++ second_of c o dirs run ts path (name, d))
+      ≡ list_directory c path (before c o dirs recursive ts path) (λ name d. first_of c o dirs recursive ts path (name, d) ++ second_of c o dirs recursive ts path (name, d))
   unfolding before second_of
-  opened run [] path h d = absurd h
+  opened recursive [] path h d = absurd h
   opened false (t ∷ ts) path h d =
       enter-wild c o dirs t ts path h
       ∙ ap (λ each. list_directory c path (special_names c o (enter c o dirs ts) t path) each)
@@ -113,48 +112,48 @@ stops_within n path rest spent limit h few =
       };
     }
 
-module _ {A : Type 0} (c : Content) (w : IsContent c) (plan : Plan A) (run : Bool) (part : ℕ) (path : Text) (opens : IsOpened run (drop part plan.parts.items)) (d : is_directory (look_result c path) ≡ true) where
+module _ {A : Type 0} (c : Content) (w : IsContent c) (plan : Plan A) (recursive : Bool) (component : ℕ) (path : Text) (opens : IsOpened recursive (drop component plan.components.items)) (d : is_directory (look_result c path) ≡ true) where
   each : Text → Bool → List Mark
-  each name e = first_of c plan.options plan.directories run (drop part plan.parts.items) path (name, e) ++ second_of c plan.options plan.directories run (drop part plan.parts.items) path (name, e)
+  each name e = first_of c plan.options plan.directories recursive (drop component plan.components.items) path (name, e) ++ second_of c plan.options plan.directories recursive (drop component plan.components.items) path (name, e)
 
   leading : List Mark
-  leading = before c plan.options plan.directories run (drop part plan.parts.items) path
+  leading = before c plan.options plan.directories recursive (drop component plan.components.items) path
 
-  lists : (a : ListAnswer) → list_result c path ≡ a → enter_from c plan part path true ≡ Work path ∷ after_listing path leading each a
+  lists : (a : ListAnswer) → list_result c path ≡ a → enter_from c plan component path true ≡ Work path ∷ after_listing path leading each a
   unfolding leading each
-  lists a is = opened c w plan.options plan.directories run (drop part plan.parts.items) path opens d
+  lists a is = opened c w plan.options plan.directories recursive (drop component plan.components.items) path opens d
       ∙ ap (λ b. Work path ∷ after_listing path leading each b) is
 
-  -- what stands before the entries is told by the place
-  placed : (es : List DirEntry) → leading ++ flat_map (λ e. each e.0 e.1) es ≡ place_marks c plan run part path es (first_place (drop part plan.parts.items))
+  -- what stands before the entries is told by the cursor
+  placed : (es : List DirEntry) → leading ++ flat_map (λ e. each e.0 e.1) es ≡ cursor_marks c plan recursive component path es (first_cursor (drop component plan.components.items))
   unfolding leading each before second_of
-  placed es = by_run run (drop part plan.parts.items) opens refl
+  placed es = by_run recursive (drop component plan.components.items) opens refl
     where
       parts_marks : Bool → List Text → List Mark
       parts_marks r ts = flat_map (λ e. first_of c plan.options plan.directories r ts path e ++ second_of c plan.options plan.directories r ts path e) es
 
       by_test : (b : Bool) (xs ys zs : List Mark) (t : Text) (ts : List Text)
-          → special_name c plan.options (enter c plan.options plan.directories ts) t path parent_dir ≡ special_marks c plan part path parent_dir
-          → special_name c plan.options (enter c plan.options plan.directories ts) t path cur_dir ≡ special_marks c plan part path cur_dir
-          → zs ≡ entries_marks c plan false part path es
+          → special_name c plan.options (enter c plan.options plan.directories ts) t path parent_dir ≡ special_marks c plan component path parent_dir
+          → special_name c plan.options (enter c plan.options plan.directories ts) t path cur_dir ≡ special_marks c plan component path cur_dir
+          → zs ≡ entries_marks c plan false component path es
           → cond b (special_name c plan.options (enter c plan.options plan.directories ts) t path parent_dir ++ special_name c plan.options (enter c plan.options plan.directories ts) t path cur_dir) [] ++ zs
-          ≡ place_marks c plan false part path es (cond b Parent (At 0))
+          ≡ cursor_marks c plan false component path es (cond b Parent (At 0))
       by_test true xs ys zs t ts p q r =
           append_assoc (special_name c plan.options (enter c plan.options plan.directories ts) t path parent_dir) (special_name c plan.options (enter c plan.options plan.directories ts) t path cur_dir) zs
           ∙ (λ i. p i ++ (q i ++ r i))
       by_test false xs ys zs t ts p q r = r
 
-      special_same : (t : Text) (ts : List Text) (name : Text) → is_recursive t ≡ false → drop part plan.parts.items ≡ t ∷ ts
-          → special_name c plan.options (enter c plan.options plan.directories ts) t path name ≡ special_marks c plan part path name
+      special_same : (t : Text) (ts : List Text) (name : Text) → is_recursive t ≡ false → drop component plan.components.items ≡ t ∷ ts
+          → special_name c plan.options (enter c plan.options plan.directories ts) t path name ≡ special_marks c plan component path name
       special_same t ts name wild q =
           ap (λ b. cond b (look_up c (λ seen. true) (enter c plan.options plan.directories ts) (join path name)) []) (takes_same plan.options t name wild)
           ∙ ap (λ us. special_after c plan.options plan.directories us path name) (sym q)
 
-      by_run : (r : Bool) (ts : List Text) → IsOpened r ts → drop part plan.parts.items ≡ ts → before c plan.options plan.directories r ts path ++ parts_marks r ts ≡ place_marks c plan r part path es (first_place ts)
+      by_run : (r : Bool) (ts : List Text) → IsOpened r ts → drop component plan.components.items ≡ ts → before c plan.options plan.directories r ts path ++ parts_marks r ts ≡ cursor_marks c plan r component path es (first_cursor ts)
       by_run true [] h q = ap (λ ts. parts_marks true ts) (sym q)
       by_run true (t ∷ ts) h q =
           ap (λ ts. parts_marks true ts) (sym q)
-          ∙ ap (λ b. place_marks c plan true part path es (cond b Parent (At 0))) (sym (undotted_kind t h.0))
+          ∙ ap (λ b. cursor_marks c plan true component path es (cond b Parent (At 0))) (sym (undotted_kind t h.0))
       by_run false [] h q = ap (λ ts. parts_marks false ts) (sym q)
       by_run false (t ∷ ts) h q = by_test (begins_with dot t) [] [] (parts_marks false (t ∷ ts)) t ts
           (special_same t ts parent_dir (wild_kind t h) q)
@@ -162,21 +161,21 @@ module _ {A : Type 0} (c : Content) (w : IsContent c) (plan : Plan A) (run : Boo
           (ap (λ us. parts_marks false us) (sym q))
 
   -- a directory that is read, or one that is not
-  by_listing : {P : Type 0} → ((es : List DirEntry) → list_result c path ≡ Entries es → P) → ((kind : ErrorKind) → list_result c path ≡ Fails kind → P) → P
+  pub by_listing : {P : Type 0} → ((es : List DirEntry) → list_result c path ≡ Entries es → P) → ((kind : ErrorKind) → list_result c path ≡ Fails kind → P) → P
   by_listing {P} read fails = let (k, at) = LeadsTo-from_looked c path d in of_answer k (ListsAs-from_leads c path k at)
     where
       of_answer : (k : Key) → ListsAs c path k → P
       of_answer k (Read held is) = read (children c k) is
       of_answer k (Unreadable kind held is) = fails kind is
 
-  pub opened_fault : (kind : ErrorKind) → IsListFault (list_result c path) kind → enter_from c plan part path true ≡ Work path ∷ Give (Unread path kind) ∷ []
+  pub opened_fault : (kind : ErrorKind) → IsListFault (list_result c path) kind → enter_from c plan component path true ≡ Work path ∷ Give (Unread path kind) ∷ []
   opened_fault kind fault = by_listing
       (λ es is. absurd (subst (λ a. IsListFault a kind) is fault))
       (λ wanted is. lists (Fails wanted) is ∙ ap (λ x. Work path ∷ Give (Unread path x) ∷ []) (sym (subst (λ a. IsListFault a kind) is fault)))
 
   -- the frame's marks, after the units of the listing
   pub opened_entries : (answer : List DirEntry) → IsInOrder (list_result c path) answer
-      → enter_from c plan part path true ≡ works (replicate (suc (length answer)) path) ++ place_marks c plan run part path answer (first_place (drop part plan.parts.items))
+      → enter_from c plan component path true ≡ works (replicate (suc (length answer)) path) ++ cursor_marks c plan recursive component path answer (first_cursor (drop component plan.components.items))
   opened_entries answer order = by_listing
       (λ es is.
       let flat : List Mark = flat_map (λ e. each e.0 e.1) (sorted_entries es) in
@@ -185,17 +184,17 @@ module _ {A : Type 0} (c : Content) (w : IsContent c) (plan : Plan A) (run : Boo
       ∙ ap (λ ms. Work path ∷ (ms ++ (leading ++ flat))) (works_replicate (length es) path)
       ∙ ap (λ n. Work path ∷ (works (replicate n path) ++ (leading ++ flat))) (sym (length-sorted_entries es))
       ∙ ap (λ ms. Work path ∷ (works (replicate (length (sorted_entries es)) path) ++ ms)) (placed (sorted_entries es))
-      ∙ ap (λ as'. works (replicate (suc (length as')) path) ++ place_marks c plan run part path as' (first_place (drop part plan.parts.items))) (sym (subst (λ a. IsInOrder a answer) is order)))
+      ∙ ap (λ as'. works (replicate (suc (length as')) path) ++ cursor_marks c plan recursive component path as' (first_cursor (drop component plan.components.items))) (sym (subst (λ a. IsInOrder a answer) is order)))
       (λ kind is. absurd (subst (λ a. IsInOrder a answer) is order))
 
   -- the unit of the listing comes first
-  pub opened_unit : enter_from c plan part path true ≡ Work path ∷ drop 1 (enter_from c plan part path true)
+  pub opened_unit : enter_from c plan component path true ≡ Work path ∷ drop 1 (enter_from c plan component path true)
   opened_unit = by_listing
       (λ es is. lists (Entries es) is ∙ ap (λ ms. Work path ∷ drop 1 ms) (sym (lists (Entries es) is)))
       (λ kind is. lists (Fails kind) is ∙ ap (λ ms. Work path ∷ drop 1 ms) (sym (lists (Fails kind) is)))
 
   pub opened_cut : (rest : List Mark) (spent limit : ℕ) → spent ≤ limit → IsCut (list_result c path) spent limit
-      → StopsAt (drop 1 (enter_from c plan part path true) ++ rest) spent path limit
+      → StopsAt (drop 1 (enter_from c plan component path true) ++ rest) spent path limit
   opened_cut rest spent limit h cut = by_listing
       (λ es is.
       let flat : List Mark = flat_map (λ e. each e.0 e.1) (sorted_entries es) in
@@ -208,50 +207,55 @@ module _ {A : Type 0} (c : Content) (w : IsContent c) (plan : Plan A) (run : Boo
       (stops_within (length es) path ((leading ++ flat) ++ rest) spent limit h (omega (arith, few))))
       (λ kind is. absurd (subst (λ a. IsCut a spent limit) is cut))
 
-  pub opened_sound : (answer : List DirEntry) → IsInOrder (list_result c path) answer → (e : DirEntry) → Contains answer e → IsEntrySound c path e
-  opened_sound answer order e in' directory =
+  -- an entry of the directory that is said to be a directory is looked at as one
+  pub held_sound : (e : DirEntry) → (e.1 ≡ true → IsHeld (list_result c path) e) → IsEntrySound c path e
+  held_sound e held directory =
       let (k, at) = LeadsTo-from_looked c path d in
       of_answer k at (ListsAs-from_leads c path k at)
     where
       of_answer : (k : Key) → LeadsTo c path k → ListsAs c path k → is_directory (look_result c (child path e.0)) ≡ true
-      of_answer k at (Read held is) =
-          let same : answer ≡ sorted_entries (children c k) = subst (λ a. IsInOrder a answer) is order in
+      of_answer k at (Read list is) =
           is_directory-look_result c (child path e.0) (k ++ e.0 ∷ [])
-          (LeadsTo-list_result c w path k at e (Contains-sorted_entries (children c k) e (subst (λ es. Contains es e) same in')) directory)
-      of_answer k at (Unreadable wanted held is) = absurd (subst (λ a. IsInOrder a answer) is order)
+          (LeadsTo-list_result c w path k at e (subst (λ a. IsHeld a e) is (held directory)) directory)
+      of_answer k at (Unreadable wanted list is) = absurd (subst (λ a. IsHeld a e) is (held directory))
 
-  pub opened_charges : (answer : List DirEntry) → IsInOrder (list_result c path) answer → (place : Place) (rest new : List Mark) (spent spent' : ℕ)
-      → place ≡ first_place (drop part plan.parts.items) → new ≡ place_marks c plan run part path answer place ++ rest → spent' ≡ spent + length answer
-      → Charges (drop 1 (enter_from c plan part path true) ++ rest) spent new spent'
-  opened_charges answer order place rest new spent spent' at is units = record {
+  -- these entries are what comes of the directory
+  abbrev pub Opens : List DirEntry → Type 0
+  Opens answer = enter_from c plan component path true
+      ≡ works (replicate (suc (length answer)) path) ++ cursor_marks c plan recursive component path answer (first_cursor (drop component plan.components.items))
+
+  pub opened_charges : (answer : List DirEntry) → Opens answer → (cursor : Cursor) (rest new : List Mark) (spent spent' : ℕ)
+      → cursor ≡ first_cursor (drop component plan.components.items) → new ≡ cursor_marks c plan recursive component path answer cursor ++ rest → spent' ≡ spent + length answer
+      → Charges (drop 1 (enter_from c plan component path true) ++ rest) spent new spent'
+  opened_charges answer all cursor rest new spent spent' at is units = record {
     paths = replicate (length answer) path;
-    front = ap (λ ms. drop 1 ms ++ rest) (opened_entries answer order)
-        ∙ append_assoc (works (replicate (length answer) path)) (place_marks c plan run part path answer (first_place (drop part plan.parts.items))) rest
-        ∙ ap (λ ms. works (replicate (length answer) path) ++ ms) (sym (is ∙ ap (λ p. place_marks c plan run part path answer p ++ rest) at));
+    front = ap (λ ms. drop 1 ms ++ rest) all
+        ∙ append_assoc (works (replicate (length answer) path)) (cursor_marks c plan recursive component path answer (first_cursor (drop component plan.components.items))) rest
+        ∙ ap (λ ms. works (replicate (length answer) path) ++ ms) (sym (is ∙ ap (λ p. cursor_marks c plan recursive component path answer p ++ rest) at));
     units = omega (arith, units, length-replicate (length answer) path);
   }
 
 -- a directory begins with no more entries unmet than it has
-pub first_unmet : (n : ℕ) (dotted : Bool) (p : Place) → p ≡ cond dotted Parent (At 0) → place_unmet n p ≤ n
-first_unmet n true p is = subst (λ q. place_unmet n q ≤ n) (sym is) (omega arith)
-first_unmet n false p is = subst (λ q. place_unmet n q ≤ n) (sym is) (omega arith)
+pub first_unmet : (n : ℕ) (dotted : Bool) (p : Cursor) → p ≡ cond dotted Parent (At 0) → cursor_unmet n p ≤ n
+first_unmet n true p is = subst (λ q. cursor_unmet n q ≤ n) (sym is) (omega arith)
+first_unmet n false p is = subst (λ q. cursor_unmet n q ≤ n) (sym is) (omega arith)
 
 -- a listing that failed leaves its error
-pub listed_fault : {A : Type 0} (c : Content) (w : IsContent c) (plan : Plan A) (run : Bool) (part : ℕ) (path : Text) (opens : IsOpened run (drop part plan.parts.items))
-    (d : is_directory (look_result c path) ≡ true) (kind : ErrorKind) → IsListFault (list_result c path) kind → drop 1 (enter_from c plan part path true) ≡ Give (Unread path kind) ∷ []
-listed_fault c w plan run part path opens d kind fault = ap (drop 1) (opened_fault c w plan run part path opens d kind fault)
+pub listed_fault : {A : Type 0} (c : Content) (w : IsContent c) (plan : Plan A) (recursive : Bool) (component : ℕ) (path : Text) (opens : IsOpened recursive (drop component plan.components.items))
+    (d : is_directory (look_result c path) ≡ true) (kind : ErrorKind) → IsListFault (list_result c path) kind → drop 1 (enter_from c plan component path true) ≡ Give (Unread path kind) ∷ []
+listed_fault c w plan recursive component path opens d kind fault = ap (drop 1) (opened_fault c w plan recursive component path opens d kind fault)
 
 -- the task of a stack awaits a listing
-module _ {A : Type 0} (c : Content) (s : Stack A) (t : Task A) (run : Bool) (next : s.next ≡ Some t) (listing : t.sight ≡ Listing run) where
-  pub listed_answer : (P : Option Question → Type 0) → P (question_of s.next) → P (Some (ListAt (string_bytes t.path)))
+module _ {A : Type 0} (c : Content) (s : Stack A) (t : Task A) (recursive kinds : Bool) (next : s.next ≡ Some t) (listing : t.sight ≡ Listing recursive kinds) where
+  pub listed_answer : (P : Option Question → Type 0) → P (question_of s.next) → P (Some (ListAt kinds (string_bytes t.path)))
   listed_answer P h = subst P (ap question_of next ∙ ap (sight_question (string_bytes t.path)) listing) h
 
-  pub unread_left : IsContent c → IsNextOpened s.plan.parts.items s.next → IsNextSound c s.next → (kind : ErrorKind) → IsListFault (list_result c (string_bytes t.path)) kind
+  pub unread_left : IsContent c → IsNextOpened s.plan s.next → IsNextSound c s.next → (kind : ErrorKind) → IsListFault (list_result c (string_bytes t.path)) kind
       → left c s ≡ Give (Unread (string_bytes t.path) kind) ∷ frames_marks c s.plan s.frames.items
   unread_left w opened sound kind fault =
       let rest = frames_marks c s.plan s.frames.items in
-      let o : IsSightOpened s.plan.parts.items t.part (Listing run) = subst (IsSightOpened s.plan.parts.items t.part) listing (subst (IsNextOpened s.plan.parts.items) next opened) in
-      let d : IsSightSound c (string_bytes t.path) (Listing run) = subst (IsSightSound c (string_bytes t.path)) listing (subst (IsNextSound c) next sound) in
+      let o : IsSightOpened s.plan t.component (Listing recursive kinds) = subst (IsSightOpened s.plan t.component) listing (subst (IsNextOpened s.plan) next opened) in
+      let d : IsSightSound c (string_bytes t.path) (Listing recursive kinds) = subst (IsSightSound c (string_bytes t.path)) listing (subst (IsNextSound c) next sound) in
       ap (λ n. next_marks c s.plan n ++ rest) next
-      ∙ ap (λ x. sight_marks c s.plan t.part (string_bytes t.path) x ++ rest) listing
-      ∙ ap (λ ms. ms ++ rest) (listed_fault c w s.plan run t.part (string_bytes t.path) o.1 d kind fault)
+      ∙ ap (λ x. sight_marks c s.plan t.component (string_bytes t.path) x ++ rest) listing
+      ∙ ap (λ ms. ms ++ rest) (listed_fault c w s.plan recursive t.component (string_bytes t.path) o.opens d kind fault)

@@ -13,9 +13,9 @@ use Rattle.glob_tree.specs.Answers.{entries_of}
 use Rattle.std.proofs.lemmas.List.{length-map}
 use Rattle.glob_walk.specs.declared.plan.Plan.{Plan}
 use Rattle.glob_walk.specs.declared.frame.Frame.{Frame}
-use Rattle.glob_walk.specs.declared.frame.Place.{Place}
-use Rattle.glob_walk.specs.declared.frame.Place.TheVariants.{Parent, Current, At, Inside}
-use Rattle.glob_walk.specs.Private.Frames.{frame_marks, place_marks, entries_marks, inside_marks, is_done, is_done_at}
+use Rattle.glob_walk.specs.declared.frame.Cursor.{Cursor}
+use Rattle.glob_walk.specs.declared.frame.Cursor.TheVariants.{Parent, Current, At, Inside}
+use Rattle.glob_walk.specs.Private.Frames.{frame_marks, cursor_marks, entries_marks, inside_marks, is_done, is_done_at}
 use Rattle.glob_walk.specs.declared.stack.Stack.{Stack}
 use Rattle.glob_walk.specs.Private.Tasks.{next_marks}
 use Rattle.glob_walk.specs.Private.Stacks.{left, frames_marks}
@@ -42,7 +42,7 @@ test_le n i h = grind (arith, nat_tests)
 
 -- a directory that is done leaves nothing
 pub done_marks : {A : Type 0} (c : Content) (plan : Plan A) (f : Frame A) → is_done f ≡ true → frame_marks c plan f ≡ []
-done_marks {A} c plan f h = of_place f.place h
+done_marks {A} c plan f h = of_place f.cursor h
   where
     es : List DirEntry
     es = entries_of f.entries.items
@@ -50,11 +50,11 @@ done_marks {A} c plan f h = of_place f.place h
     past : (i : ℕ) → nat_le (length f.entries.items) i ≡ true → drop i (entries_of f.entries.items) ≡ []
     past i t = nothing_past (entries_of f.entries.items) i (simp length-map (test_le (length f.entries.items) i t))
 
-    of_place : (p : Place) → is_done_at (length f.entries.items) p ≡ true → place_marks c plan f.run f.part (string_bytes f.path) (entries_of f.entries.items) p ≡ []
+    of_place : (p : Cursor) → is_done_at (length f.entries.items) p ≡ true → cursor_marks c plan f.recursive f.component (string_bytes f.path) (entries_of f.entries.items) p ≡ []
     of_place Parent t = absurd (both_ways false refl t)
     of_place Current t = absurd (both_ways false refl t)
-    of_place (At i) t = ap (entries_marks c plan f.run f.part (string_bytes f.path)) (past i t)
-    of_place (Inside i) t = ap (inside_marks c plan f.run f.part (string_bytes f.path)) (past i t)
+    of_place (At i) t = ap (entries_marks c plan f.recursive f.component (string_bytes f.path)) (past i t)
+    of_place (Inside i) t = ap (inside_marks c plan f.recursive f.component (string_bytes f.path)) (past i t)
 
 -- with no task, what is left is that of the directories
 pub left_none : {A : Type 0} (c : Content) (s : Stack A) → s.next ≡ None → frames_marks c s.plan s.frames.items ≡ left c s

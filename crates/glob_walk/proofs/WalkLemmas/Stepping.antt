@@ -8,9 +8,9 @@ use Rattle.glob_tree.specs.Content.{Content, DirEntry}
 use Rattle.glob_tree.specs.Answers.{entries_of}
 use Rattle.glob_tree.specs.declared.tree.Entry.{Entry}
 use Rattle.glob_walk.specs.declared.plan.Plan.{Plan}
-use Rattle.glob_walk.specs.declared.frame.Place.{Place}
-use Rattle.glob_walk.specs.declared.frame.Place.TheVariants.{At, Inside}
-use Rattle.glob_walk.specs.Private.Frames.{first_part, second_part, entries_marks, inside_marks, place_marks}
+use Rattle.glob_walk.specs.declared.frame.Cursor.{Cursor}
+use Rattle.glob_walk.specs.declared.frame.Cursor.TheVariants.{At, Inside}
+use Rattle.glob_walk.specs.Private.Frames.{first_part, second_part, entries_marks, inside_marks, cursor_marks}
 
 pub listed_at : {A : Type 0} (es : List (Entry A)) (i : ℕ) (e : Entry A) → i < length es → e ≡ get_or es i e
     → drop i (entries_of es) ≡ (e.name, e.is_dir) ∷ drop (i + 1) (entries_of es)
@@ -28,43 +28,43 @@ pub append_none : {X : Type 0} (xs : List X) → xs ++ [] ≡ xs
 append_none [] = refl
 append_none (x ∷ xs) = ap (λ ys. x ∷ ys) (append_none xs)
 
-module _ {A : Type 0} (c : Content) (plan : Plan A) (part : ℕ) (path : Text) where
-  pub at_in_run : (es : List DirEntry) (i : ℕ) (e : DirEntry) (next : List Mark) → drop i es ≡ e ∷ drop (i + 1) es → first_part c plan true part path e ≡ next
-      → entries_marks c plan true part path (drop i es) ≡ next ++ inside_marks c plan true part path (drop i es)
+module _ {A : Type 0} (c : Content) (plan : Plan A) (component : ℕ) (path : Text) where
+  pub at_in_run : (es : List DirEntry) (i : ℕ) (e : DirEntry) (next : List Mark) → drop i es ≡ e ∷ drop (i + 1) es → first_part c plan true component path e ≡ next
+      → entries_marks c plan true component path (drop i es) ≡ next ++ inside_marks c plan true component path (drop i es)
   at_in_run es i e next at is =
-      ap (entries_marks c plan true part path) at
-      ∙ append_assoc (first_part c plan true part path e) (second_part c plan true part path e) (entries_marks c plan true part path (drop (i + 1) es))
-      ∙ ap (λ ms. ms ++ (second_part c plan true part path e ++ entries_marks c plan true part path (drop (i + 1) es))) is
-      ∙ ap (λ fs. next ++ inside_marks c plan true part path fs) (sym at)
+      ap (entries_marks c plan true component path) at
+      ∙ append_assoc (first_part c plan true component path e) (second_part c plan true component path e) (entries_marks c plan true component path (drop (i + 1) es))
+      ∙ ap (λ ms. ms ++ (second_part c plan true component path e ++ entries_marks c plan true component path (drop (i + 1) es))) is
+      ∙ ap (λ fs. next ++ inside_marks c plan true component path fs) (sym at)
 
-  pub at_alone : (es : List DirEntry) (i : ℕ) (e : DirEntry) (next : List Mark) → drop i es ≡ e ∷ drop (i + 1) es → first_part c plan false part path e ≡ next
-      → entries_marks c plan false part path (drop i es) ≡ next ++ entries_marks c plan false part path (drop (i + 1) es)
+  pub at_alone : (es : List DirEntry) (i : ℕ) (e : DirEntry) (next : List Mark) → drop i es ≡ e ∷ drop (i + 1) es → first_part c plan false component path e ≡ next
+      → entries_marks c plan false component path (drop i es) ≡ next ++ entries_marks c plan false component path (drop (i + 1) es)
   at_alone es i e next at is =
-      ap (entries_marks c plan false part path) at
-      ∙ ap (λ ms. ms ++ entries_marks c plan false part path (drop (i + 1) es)) (append_none (first_part c plan false part path e) ∙ is)
+      ap (entries_marks c plan false component path) at
+      ∙ ap (λ ms. ms ++ entries_marks c plan false component path (drop (i + 1) es)) (append_none (first_part c plan false component path e) ∙ is)
 
-  pub inside_next : (run : Bool) (es : List DirEntry) (i : ℕ) (e : DirEntry) (next : List Mark) → drop i es ≡ e ∷ drop (i + 1) es → second_part c plan run part path e ≡ next
-      → inside_marks c plan run part path (drop i es) ≡ next ++ entries_marks c plan run part path (drop (i + 1) es)
-  inside_next run es i e next at is =
-      ap (inside_marks c plan run part path) at
-      ∙ ap (λ ms. ms ++ entries_marks c plan run part path (drop (i + 1) es)) is
+  pub inside_next : (recursive : Bool) (es : List DirEntry) (i : ℕ) (e : DirEntry) (next : List Mark) → drop i es ≡ e ∷ drop (i + 1) es → second_part c plan recursive component path e ≡ next
+      → inside_marks c plan recursive component path (drop i es) ≡ next ++ entries_marks c plan recursive component path (drop (i + 1) es)
+  inside_next recursive es i e next at is =
+      ap (inside_marks c plan recursive component path) at
+      ∙ ap (λ ms. ms ++ entries_marks c plan recursive component path (drop (i + 1) es)) is
 
-  -- an entry is met, and then the place is the next one
-  pub at_step : (run : Bool) (es : List (Entry A)) (i : ℕ) (e : Entry A) (next : List Mark) (p q : Place) → i < length es → e ≡ get_or es i e
-      → first_part c plan run part path (e.name, e.is_dir) ≡ next → p ≡ At i → q ≡ cond run (Inside i) (At (i + 1))
-      → place_marks c plan run part path (entries_of es) p ≡ next ++ place_marks c plan run part path (entries_of es) q
+  -- an entry is met, and then the cursor is the next one
+  pub at_step : (recursive : Bool) (es : List (Entry A)) (i : ℕ) (e : Entry A) (next : List Mark) (p q : Cursor) → i < length es → e ≡ get_or es i e
+      → first_part c plan recursive component path (e.name, e.is_dir) ≡ next → p ≡ At i → q ≡ cond recursive (Inside i) (At (i + 1))
+      → cursor_marks c plan recursive component path (entries_of es) p ≡ next ++ cursor_marks c plan recursive component path (entries_of es) q
   at_step true es i e next p q h is first before after =
-      ap (place_marks c plan true part path (entries_of es)) before
+      ap (cursor_marks c plan true component path (entries_of es)) before
       ∙ at_in_run (entries_of es) i (e.name, e.is_dir) next (listed_at es i e h is) first
-      ∙ ap (λ r. next ++ place_marks c plan true part path (entries_of es) r) (sym after)
+      ∙ ap (λ r. next ++ cursor_marks c plan true component path (entries_of es) r) (sym after)
   at_step false es i e next p q h is first before after =
-      ap (place_marks c plan false part path (entries_of es)) before
+      ap (cursor_marks c plan false component path (entries_of es)) before
       ∙ at_alone (entries_of es) i (e.name, e.is_dir) next (listed_at es i e h is) first
-      ∙ ap (λ r. next ++ place_marks c plan false part path (entries_of es) r) (sym after)
+      ∙ ap (λ r. next ++ cursor_marks c plan false component path (entries_of es) r) (sym after)
 
-  pub inside_step : (run : Bool) (es : List (Entry A)) (i : ℕ) (e : Entry A) (next : List Mark) (p : Place) → i < length es → e ≡ get_or es i e
-      → second_part c plan run part path (e.name, e.is_dir) ≡ next → p ≡ Inside i
-      → place_marks c plan run part path (entries_of es) p ≡ next ++ place_marks c plan run part path (entries_of es) (At (i + 1))
-  inside_step run es i e next p h is second before =
-      ap (place_marks c plan run part path (entries_of es)) before
-      ∙ inside_next run (entries_of es) i (e.name, e.is_dir) next (listed_at es i e h is) second
+  pub inside_step : (recursive : Bool) (es : List (Entry A)) (i : ℕ) (e : Entry A) (next : List Mark) (p : Cursor) → i < length es → e ≡ get_or es i e
+      → second_part c plan recursive component path (e.name, e.is_dir) ≡ next → p ≡ Inside i
+      → cursor_marks c plan recursive component path (entries_of es) p ≡ next ++ cursor_marks c plan recursive component path (entries_of es) (At (i + 1))
+  inside_step recursive es i e next p h is second before =
+      ap (cursor_marks c plan recursive component path (entries_of es)) before
+      ∙ inside_next recursive (entries_of es) i (e.name, e.is_dir) next (listed_at es i e h is) second

@@ -10,13 +10,6 @@ use Rattle.glob_pattern.specs.Computing.Reading.{reading_of}
 use Rattle.glob_walk.specs.Components.{ComponentKind, Literal, Recursive, Wild, component_kind, is_recursive, matches_name}
 use Rattle.glob_walk.specs.declared.component.Form.{Form}
 use Rattle.glob_walk.specs.declared.component.Form.TheVariants as form
-use Rattle.glob_walk.specs.declared.component.Kind.{Kind}
-use Rattle.glob_walk.specs.declared.component.Kind.TheVariants as kind
-
-abbrev pub kind_said : Kind → ComponentKind
-kind_said kind.Literal = Literal
-kind_said kind.Recursive = Recursive
-kind_said kind.Wild = Wild
 
 -- the component's text
 abbrev pub form_text : {A : Type 0} → Form A → Text

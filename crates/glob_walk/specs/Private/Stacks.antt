@@ -18,7 +18,7 @@ abbrev pub aim_of : {A : Type 0} → Plan A → Aim
 aim_of plan = record {
   options = plan.options;
   rooted = plan.rooted;
-  components = plan.parts.items;
+  components = plan.components.items;
   directories = plan.directories;
 }
 
@@ -34,7 +34,7 @@ abbrev pub sight_weight : Sight → ℕ
 sight_weight (sight.Unseen w) = 1
 sight_weight (sight.Seen d) = 2
 sight_weight (sight.Looking w) = 0
-sight_weight (sight.Listing run) = 0
+sight_weight (sight.Listing recursive kinds) = 0
 
 abbrev pub next_weight : {A : Type 0} → Option (Task A) → ℕ
 next_weight None = 0
@@ -53,7 +53,7 @@ ready s = next_ready s.plan s.next + sum_by unmet s.frames.items
 
 -- each directory is one of a component, and something is left in it
 pub record IsWithin {A : Type 0} (s : Stack A) : Type 0 where
-  pub parts : All (λ f. f.part < length s.plan.parts.items) s.frames.items
+  pub components : All (λ f. f.component < length s.plan.components.items) s.frames.items
   pub going : All (λ f. is_done f ≡ false) s.frames.items
 
 -- what is said to be a directory is looked at as one

@@ -1,5 +1,5 @@
 -- One turn of a walk, against the written listing.
-use Rattle.std.specs.Prelude.{◌≡◌, ℕ, ◌+◌, ◌≤◌, Option, Some, None, List, [], ◌∷◌, String, string_bytes, ⊤}
+use Rattle.std.specs.Prelude.{◌≡◌, ℕ, ◌+◌, ◌≤◌, Bool, Option, Some, None, List, [], ◌∷◌, String, string_bytes, IfErr, ⊤}
 use Rattle.std.specs.IoError.{error_kind}
 use Rattle.glob_text.specs.Text.{Text}
 use Rattle.glob_walk.specs.Marks.{Mark, Give, Found, Unread}
@@ -8,11 +8,11 @@ use Rattle.glob_walk.specs.declared.turn.Turn.{Turn}
 use Rattle.glob_walk.specs.declared.turn.Turn.TheVariants as turn
 use Rattle.glob_walk.specs.declared.machine.Answer.{Answer}
 use Rattle.glob_walk.specs.declared.machine.Answer.TheVariants as answer
-use Rattle.glob_walk.specs.Questions.{Question, IsLook, IsList, IsSomeContent, IsSeenIn, IsListedIn, question_path}
-use Rattle.glob_walk.specs.Machines.{AsksNext}
-use Rattle.glob_walk.specs.Walks.{Charges, StopsAt, BreaksOff}
+use Rattle.glob_walk.specs.Questions.{Question, IsLook, IsList, IsListWith, IsSomeContent, IsSeenIn, IsListedIn, question_path}
+use Rattle.glob_walk.specs.Machines.{AsksNext, fault_said}
+use Rattle.glob_walk.specs.Walks.{Outcome, NoMemory, Charges, StopsAt, BreaksOff}
 use Rattle.glob_tree.specs.Content.{Content, list_result}
-use Rattle.glob_tree.specs.Answers.{IsListAnswer, entries_of, entry_count}
+use Rattle.glob_tree.specs.Answers.{IsEntriesAnswer, entries_of, entry_count}
 use Rattle.glob_tree.specs.declared.tree.Entry.{Entry}
 use Rattle.glob_walk.specs.declared.stack.Stack.{Stack}
 use Rattle.glob_walk.specs.declared.task.Sight.{Sight}
@@ -23,7 +23,7 @@ use Rattle.glob_walk.specs.Private.Stacks.{left, ready, IsWithin, IsSound}
 abbrev pub TurnOf : {A : Type 0} → List Mark → ℕ → Turn A → Option Question → List Mark → ℕ → Type 0
 TurnOf old spent turn.Went q new spent' = Charges old spent new spent'
 TurnOf old spent turn.Look q new spent' = AsksNext old spent (question_path q) new spent'
-TurnOf old spent turn.List q new spent' = AsksNext old spent (question_path q) new spent'
+TurnOf old spent (turn.List kinds) q new spent' = AsksNext old spent (question_path q) new spent'
 TurnOf old spent (turn.Path p) q new spent' = Charges old spent (Give (Found (string_bytes p)) ∷ new) spent'
 TurnOf old spent (turn.Unread p e) q new spent' =
     Charges old spent (Give (Unread (string_bytes p) (error_kind e)) ∷ new) spent'
@@ -34,7 +34,7 @@ TurnOf old spent turn.Done q new spent' = Charges old spent new spent' × (new �
 -- the unit of a question
 abbrev pub turn_units : {A : Type 0} → Turn A → ℕ
 turn_units turn.Look = 1
-turn_units turn.List = 1
+turn_units (turn.List kinds) = 1
 turn_units _ = 0
 
 -- the counts of a turn, where so many entries were answered
@@ -48,6 +48,13 @@ listed_items (turn.Path p) = 1
 listed_items (turn.Unread p e) = 1
 listed_items _ = 0
 
+-- a question is asked, or the limit has no unit for it
+abbrev pub IsQuestion : {A : Type 0} → Turn A → Type 0
+IsQuestion turn.Look = ⊤
+IsQuestion (turn.List kinds) = ⊤
+IsQuestion (turn.Limit p) = ⊤
+IsQuestion _ = ⊥
+
 -- the walk is not ended by a refusal
 abbrev pub IfGoing : {A : Type 0} → Turn A → Type 0 → Type 0
 IfGoing (turn.Limit p) P = ⊤
@@ -57,7 +64,7 @@ IfGoing _ P = P
 -- what is asked for after a turn
 abbrev pub IsAskedBy : {A : Type 0} → Turn A → Stack A → Type 0
 IsAskedBy turn.Look s = IsLook (question_of s.next)
-IsAskedBy turn.List s = IsList (question_of s.next) × IsNextOpened s.plan.parts.items s.next
+IsAskedBy (turn.List kinds) s = IsListWith kinds (question_of s.next) × IsNextOpened s.plan s.next
 IsAskedBy (turn.Limit p) s = ⊤
 IsAskedBy turn.Memory s = ⊤
 IsAskedBy _ s = question_of s.next ≡ None
@@ -82,11 +89,11 @@ pub record TurnsTo {A : Type 0} (Fits : Content → Type 0) (n : ℕ) (old : Met
 
 -- the stack, with this to do first
 abbrev pub with_task : {A : Type 0} → String A → ℕ → Sight → Stack A → Stack A
-with_task path part sight s = record s { next = Some (record { path = path; part = part; sight = sight }) }
+with_task path component sight s = record s { next = Some (record { path = path; component = component; sight = sight }) }
 
--- the content lists these entries at the path
-abbrev pub AreListedAt : {A : Type 0} → Text → List (Entry A) → Content → Type 0
-AreListedAt path es c = IsSomeContent c × IsListAnswer (list_result c path) (entries_of es)
+-- the content lists these entries at the path, with their kinds or as names alone
+abbrev pub AreListedAt : {A : Type 0} → Bool → Text → List (Entry A) → Content → Type 0
+AreListedAt kinds path es c = IsSomeContent c × IsEntriesAnswer kinds (list_result c path) (entries_of es)
 
 -- the answer is one to what is asked for
 abbrev pub IsAnswer : {A : Type 0} → Option Question → Answer A → Type 0
@@ -99,6 +106,12 @@ abbrev pub IsAnswered : {A : Type 0} → Option Question → Answer A → Conten
 IsAnswered q answer.Nothing c = IsSomeContent c
 IsAnswered q (answer.Look r) c = IsSeenIn q r c
 IsAnswered q (answer.List r) c = IsListedIn q r c
+
+-- what follows of an answer that failed, at this path
+abbrev pub IfFailed : {A : Type 0} → Answer A → (path : Text) → (Outcome → Type 0) → Type 0
+IfFailed answer.Nothing path P = ⊤
+IfFailed (answer.Look r) path P = IfErr r (λ _. P NoMemory)
+IfFailed (answer.List r) path P = IfErr r (λ e. P (fault_said path e))
 
 -- how many entries were answered
 abbrev pub answer_count : {A : Type 0} → Answer A → ℕ

@@ -23,7 +23,7 @@ use Rattle.glob_walk.specs.Machines.{MachineState, Agrees, left_of, Saying, Asks
 pub record IsUnderWay {A : Type 0} (meter : Meter) (stack : Stack A) (given : ℕ) : Type 0 where
   pub within : IsWithin stack
   pub ready : given + ready stack ≤ meter.spent
-  pub opened : IsNextOpened stack.plan.parts.items stack.next
+  pub opened : IsNextOpened stack.plan stack.next
 
 -- what is true of a walk between two steps, over or not
 pub record IsGood {A : Type 0} (meter : Meter) (stack : Stack A) (given : ℕ) (over : Bool) : Type 0 where
@@ -37,7 +37,7 @@ pub record IsGood {A : Type 0} (meter : Meter) (stack : Stack A) (given : ℕ) (
 abbrev pub turn_outcome : {A : Type 0} → Turn A → Option Outcome
 turn_outcome turn.Went = None
 turn_outcome turn.Look = None
-turn_outcome turn.List = None
+turn_outcome (turn.List kinds) = None
 turn_outcome (turn.Path p) = Some (Gives (Found (string_bytes p)))
 turn_outcome (turn.Unread p e) = Some (Gives (Unread (string_bytes p) (error_kind e)))
 turn_outcome (turn.Limit p) = Some (LimitAt (string_bytes p))
@@ -47,7 +47,7 @@ turn_outcome turn.Done = None
 abbrev pub turn_saying : {A : Type 0} → Turn A → Saying
 turn_saying turn.Went = Ends
 turn_saying turn.Look = AsksLook
-turn_saying turn.List = AsksList
+turn_saying (turn.List kinds) = AsksList kinds
 turn_saying (turn.Path p) = Says (Gives (Found (string_bytes p)))
 turn_saying (turn.Unread p e) = Says (Gives (Unread (string_bytes p) (error_kind e)))
 turn_saying (turn.Limit p) = Says (LimitAt (string_bytes p))

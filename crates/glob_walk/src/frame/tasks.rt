@@ -27,13 +27,13 @@ impl<A: Allocator + Copy> Frame<A> {
     ) -> Result<Option<Task<A>>, AllocError>
         ensures marks { IfOk result
             (λ task. (c : Content)
-            → special_marks c plan.now self.now.part (string_bytes self.now.path) name.now
+            → special_marks c plan.now self.now.component (string_bytes self.now.path) name.now
             ≡ next_marks c plan.now task) }
         ensures free { IfOk result (λ task. question_of task ≡ None) }
         ensures ready { IfOk result (λ task. next_ready plan.now task ≡ 0) }
         ensures sound { IfOk result (λ task. (c : Content) → IsNextSound c task) }
     {
-        let Some(component) = plan.component(self.part) else {
+        let Some(component) = plan.component(self.component) else {
             return Ok(None);
         };
         if !component.matches(name, plan.options)? {
@@ -41,7 +41,7 @@ impl<A: Allocator + Copy> Frame<A> {
         }
         Ok(Some(Task {
             path: join(plan.alloc, self.path.as_str(), name)?,
-            part: self.part + 1,
+            component: self.component + 1,
             sight: Sight::Unseen(Wanted::Any),
         }))
     }
@@ -52,7 +52,7 @@ impl<A: Allocator + Copy> Frame<A> {
         plan: &Plan<A>,
         entry: &Entry<A>,
     ) -> Result<Option<Task<A>>, AllocError>
-        requires { self.now.part < vec_len plan.now.parts }
+        requires { self.now.component < vec_len plan.now.components }
         ensures marks { IfOk result
             (λ task. (c : Content)
             → first_marks c plan.now self.now (entry.now.name, entry.now.is_dir)
@@ -64,23 +64,24 @@ impl<A: Allocator + Copy> Frame<A> {
             → IsNextSound c task) }
     {
         let name = entry.name.as_str();
-        let Some(part) = meet(plan, self.run, self.part, name, entry.is_dir)? else {
+        let met = meet(plan, self.recursive, self.component, name, entry.is_dir)?;
+        let Some(component) = met else {
             return Ok(None);
         };
         Ok(Some(Task {
             path: child(plan.alloc, self.path.as_str(), name)?,
-            part,
+            component,
             sight: Sight::Seen(entry.is_dir),
         }))
     }
 
-    /// The task to go on with the same run of `**` in an entry, if the run enters it.
+    /// The task to go on with the same `**` in an entry, if it enters it.
     pub(super) fn entered_task(
         &self,
         plan: &Plan<A>,
         entry: &Entry<A>,
     ) -> Result<Option<Task<A>>, AllocError>
-        requires { self.now.part < vec_len plan.now.parts }
+        requires { self.now.component < vec_len plan.now.components }
         ensures marks { IfOk result
             (λ task. (c : Content)
             → second_marks c plan.now self.now (entry.now.name, entry.now.is_dir)
@@ -93,33 +94,33 @@ impl<A: Allocator + Copy> Frame<A> {
             → IsNextSound c task) }
     {
         let name = entry.name.as_str();
-        if !self.run || !is_entered(plan.options, name, entry.is_dir) {
+        if !self.recursive || !is_entered(plan.options, name, entry.is_dir) {
             return Ok(None);
         }
         Ok(Some(Task {
             path: child(plan.alloc, self.path.as_str(), name)?,
-            part: self.part,
+            component: self.component,
             sight: Sight::Seen(true),
         }))
     }
 }
 
-/// The number of the component from which the walk goes on at an entry, if the entry is met: by component `part`, or in a
-/// run of `**` by the one after it. A run at the pattern's end meets each entry that it enters.
+/// The number of the component from which the walk goes on at an entry, if the entry is met: by the component with the
+/// number, or under `**` by the one after it. A `**` at the pattern's end meets each entry that it enters.
 fn meet<A: Allocator + Copy>(
     plan: &Plan<A>,
-    run: bool,
-    part: usize,
+    recursive: bool,
+    number: usize,
     name: &str,
     is_dir: bool,
 ) -> Result<Option<usize>, AllocError>
-    requires within { part < vec_len plan.now.parts }
+    requires within { number < vec_len plan.now.components }
     ensures { IfOk result
         (λ at. (c : Content) → (path : Text)
-        → first_part c plan.now run part path (name.now, is_dir)
+        → first_part c plan.now recursive number path (name.now, is_dir)
         ≡ met_marks c plan.now path (name.now, is_dir) at) }
 {
-    let next = if run { part + 1 } else { part };
+    let next = if recursive { number + 1 } else { number };
     match plan.component(next) {
         Some(component) => match_at(plan, component, next + 1, name),
         None if is_entered(plan.options, name, is_dir) => Ok(Some(next)),
@@ -145,7 +146,7 @@ fn match_at<A: Allocator + Copy>(
     }
 }
 
-/// Whether a run of `**` enters an entry: a directory, and under the dot rule no dotted one.
+/// Whether `**` enters an entry: a directory, and under the dot rule no dotted one.
 fn is_entered(options: MatchOptions, name: &str, is_dir: bool) -> bool
     ensures { result ≡ is_entered_entry options name.now is_dir }
 {

@@ -2,67 +2,96 @@
 ghost use Rattle.std.specs.Prelude.{◌≡◌, None};
 
 use super::chance::{Random, some_options, some_pattern, some_tree};
-use super::checks::one_by_one;
-use super::contents::{Content, tree_of};
-use super::items::{are, items_of};
+use super::checks::{CASE, one_by_one};
+use super::contents::{Content, at_root, tree_of};
+use super::items::{Item, are, item_of, items_of, read_items};
+use super::memory::{WALKS, small_tree};
 use super::random::COMPONENTS;
 use super::reference::Job;
-use crate::trees::{Fickle, LyingTree, Noting, noted};
+use crate::trees::{
+    Descending, Endless, FalseDirectory, Fickle, Liar, LyingTree, NoMemory, Noting, noted,
+};
 use glob::{GlobResult, Step, Tree, WalkMachine};
-use std::alloc::{AllocError, Global};
+use glob_testing::rationing::Rationed;
+use std::alloc::{AllocError, Allocator, Global};
 use std::cell::Cell;
+use std::io::ErrorKind;
 use std::process::Abort;
 use std::test::Fail;
 
 /// What a driven walk gave, and what it asked.
 #[derive(Drop)]
-struct Driven {
-    items: Vec<GlobResult>,
+struct Driven<A: Allocator = Global> {
+    items: Vec<GlobResult<A>, A>,
     /// How many questions there were.
     questions: u64,
+    /// How many of them were for entries with their kinds.
+    listings: u64,
+    /// How many of them were for names alone.
+    names: u64,
     /// All of them, as one number.
     number: u64,
-    /// Whether it came to its end.
+    /// Whether it came to its end, and stayed there.
     done: bool,
 }
 
+impl<A: Allocator> Driven<A> {
+    /// One that has asked nothing.
+    fn new(alloc: A) -> Self {
+        Driven {
+            items: Vec::new(alloc),
+            questions: 0,
+            listings: 0,
+            names: 0,
+            number: 0,
+            done: false,
+        }
+    }
+
+    /// Counts a question of this kind.
+    fn note(&mut self, kind: u64, path: &str) {
+        self.questions = self.questions.saturating_add(1);
+        self.listings = self.listings.saturating_add(u64::from(kind == 2));
+        self.names = self.names.saturating_add(u64::from(kind == 3));
+        self.number = noted(self.number, kind, path);
+    }
+}
+
 /// Drives a walk that has asked nothing, with the answers of a tree, for at most so many questions.
-fn drive<T: Tree<Alloc = Global>>(
-    alloc: Global,
-    machine: &mut WalkMachine,
+fn drive<T: Tree>(
+    alloc: T::Alloc,
+    machine: &mut WalkMachine<T::Alloc>,
     tree: &mut T,
     most: u64,
-) -> Result<Driven, AllocError>
+) -> Result<Driven<T::Alloc>, AllocError>
     requires { machine.old.asked ≡ None }
 {
-    let mut driven = Driven {
-        items: Vec::new(alloc),
-        questions: 0,
-        number: 0,
-        done: false,
-    };
+    let mut driven = Driven::new(alloc);
     let mut step = machine.next();
     for _ in 0..u64::MAX {
         step = match step {
             Step::Look if driven.questions < most => {
-                driven.questions = driven.questions.saturating_add(1);
-                driven.number = noted(driven.number, 1, machine.path());
+                driven.note(1, machine.path());
                 let seen = tree.look(machine.path());
                 machine.looked(seen)
             }
             Step::List if driven.questions < most => {
-                driven.questions = driven.questions.saturating_add(1);
-                driven.number = noted(driven.number, 2, machine.path());
+                driven.note(2, machine.path());
                 let listed = tree.list(machine.path());
                 machine.listed(listed)
             }
-            Step::Look | Step::List => return Ok(driven),
+            Step::ListNames if driven.questions < most => {
+                driven.note(3, machine.path());
+                let named = tree.list_names(machine.path());
+                machine.listed(named)
+            }
+            Step::Look | Step::List | Step::ListNames => return Ok(driven),
             Step::Item(item) => {
                 driven.items.push(item)?;
                 machine.next()
             }
             Step::Done => {
-                driven.done = true;
+                driven.done = matches!(machine.next(), Step::Done);
                 return Ok(driven);
             }
         };
@@ -132,16 +161,121 @@ fn driven_walks(rt: HostRuntime) -> Result<(), Fail> {
     Ok(())
 }
 
-/// A driver whose answers change with each question.
+/// How often a walk of a small tree asks for entries, and how often for names alone.
+const NAMES: [(&str, u64, u64); 12] = [
+    ("*", 0, 1),
+    ("?", 0, 1),
+    (".*", 0, 1),
+    ("a/*", 0, 1),
+    ("*/*", 1, 2),
+    ("*/", 1, 0),
+    ("a/?/", 1, 0),
+    ("*/b", 1, 0),
+    ("**", 3, 0),
+    ("**/*", 3, 0),
+    ("**/a/?", 3, 1),
+    ("a/b", 0, 0),
+];
+
+/// Names alone are asked for exactly where no entry's kind can change what follows.
 #[test]
-fn a_lying_driver(rt: HostRuntime) -> Result<(), Fail> {
-    for limit in [0, 1, 2, 3, 10, 100, 1_000] {
-        let mut tree = LyingTree::new(Fickle {
-            alloc: rt.alloc(),
-            calls: 0,
-        });
-        let (given, spent) = drive_most(&rt, &mut tree, Job::of("**/*/d").within(limit), u64::MAX)?;
-        assert!(rt; given.done && spent <= limit);
+fn names_alone_where_no_kind_matters(rt: HostRuntime) -> Result<(), Fail> {
+    let content = at_root(rt.alloc(), "a/ a/b c d/ d/e")?;
+    for (pattern, listings, names) in NAMES {
+        let mut tree = tree_of(&rt, &content)?;
+        let (driven, _) = drive_most(&rt, &mut tree, Job::of(pattern), u64::MAX)?;
+        assert_eq!(rt; driven.listings, listings, "{pattern}");
+        assert_eq!(rt; driven.names, names, "{pattern}");
+    }
+    Ok(())
+}
+
+/// A driver that answers what a tree does whose answers belong to no content: its walk gives and spends what the walk over
+/// such a tree does.
+fn compare_liars<L: Liar<Alloc = Global>>(
+    rt: &(impl Abort + AllocGlobal),
+    liar: L,
+    same: L,
+    job: Job<'_>,
+) -> Result<(), Fail> {
+    let given = one_by_one(rt, LyingTree::new(liar), job)?;
+    let known = items_of(rt.alloc(), given.items.as_slice())?;
+    let (driven, spent) = drive_most(rt, &mut LyingTree::new(same), job, u64::MAX)?;
+    let items = items_of(rt.alloc(), driven.items.as_slice())?;
+    assert!(rt; driven.done, "{}", job.pattern);
+    assert_eq!(rt; spent, given.spent, "{}", job.pattern);
+    assert!(rt; are(items.as_slice(), known.as_slice()), "{}", job.pattern);
+    Ok(())
+}
+
+/// Two trees whose answers change with each question, in the same way.
+fn fickle(alloc: Global) -> Fickle {
+    Fickle { alloc, calls: 0 }
+}
+
+#[test]
+fn drivers_that_lie(rt: HostRuntime) -> Result<(), Fail> {
+    let alloc = rt.alloc();
+    for pattern in ["**/*/d", "*", "*/", "d/*", "**", ".*/../d"] {
+        for limit in (0..24).chain([100, 1_000]) {
+            let job = Job::of(pattern).within(limit);
+            compare_liars(&rt, fickle(alloc), fickle(alloc), job)?;
+            compare_liars(&rt, Endless { alloc }, Endless { alloc }, job)?;
+            compare_liars(&rt, Descending { alloc }, Descending { alloc }, job)?;
+            compare_liars(&rt, FalseDirectory { alloc }, FalseDirectory { alloc }, job)?;
+            compare_liars(&rt, NoMemory, NoMemory, job)?;
+        }
+    }
+    Ok(())
+}
+
+/// A driven walk with memory from `alloc` gives a beginning of the known items, and then says that memory ran out, or all
+/// of them. Gives whether memory sufficed.
+fn drives<A: Allocator + Copy>(
+    rt: &impl Abort,
+    alloc: A,
+    pattern: &str,
+    known: &[Item<'_>],
+) -> bool {
+    let Ok(mut tree) = small_tree(alloc) else {
+        return false;
+    };
+    let Ok(mut machine) = WalkMachine::new(alloc, pattern, CASE, u64::MAX) else {
+        return false;
+    };
+    let Ok(driven) = drive(alloc, &mut machine, &mut tree, u64::MAX) else {
+        return false;
+    };
+    assert!(rt; driven.done);
+    let mut place = 0usize;
+    let mut sufficed = true;
+    for item in driven.items.iter() {
+        assert!(rt; sufficed);
+        match item_of(item) {
+            Item::Memory => sufficed = false,
+            item => assert!(rt; known.get(place) == Some(&item)),
+        }
+        place = place.saturating_add(1);
+    }
+    assert!(rt; !sufficed || place == known.len());
+    sufficed
+}
+
+/// Each request for memory of a driven walk is refused in turn. All blocks are given back.
+#[test]
+fn each_request_of_a_driven_walk_is_refused(rt: HostRuntime) -> Result<(), Fail> {
+    for (pattern, words) in WALKS {
+        let known = read_items(rt.alloc(), words, ErrorKind::PermissionDenied)?;
+        let ample = Rationed::refusing(0, rt.alloc());
+        assert!(rt; drives(&rt, &ample, pattern, known.as_slice()));
+        for number in 1..=ample.ration.asked() {
+            let scarce = Rationed::refusing(number, rt.alloc());
+            assert!(rt;
+                !drives(&rt, &scarce, pattern, known.as_slice()),
+                "{number} for {pattern}"
+            );
+            assert_eq!(rt; scarce.ration.held(), 0);
+        }
     }
     Ok(())
 }

@@ -4,10 +4,11 @@ use super::contents::{Kind, plant};
 use super::items::Item::{self, Memory, Unread};
 use super::items::{item_of, read_items};
 use super::reference::Job;
-use crate::trees::{LyingTree, Ready, Unreadable};
+use crate::trees::{LyingTree, Noting, Ready, Unreadable};
 use glob::{End, GlobResult, MemTree, Paths, PatternRefusal, Tree, TreeRefusal};
 use glob_testing::rationing::{Ration, Rationed};
 use std::alloc::{Allocator, Global};
+use std::cell::Cell;
 use std::io::{self, ErrorKind};
 use std::process::Abort;
 use std::test::Fail;
@@ -55,7 +56,7 @@ const KEYS: [(&str, Kind); 6] = [
 ];
 
 /// A tree of a few files with memory from `alloc`.
-fn small_tree<A: Allocator + Copy>(alloc: A) -> Result<MemTree<A>, TreeRefusal> {
+pub(super) fn small_tree<A: Allocator + Copy>(alloc: A) -> Result<MemTree<A>, TreeRefusal> {
     let Ok(mut tree) = MemTree::new(alloc) else {
         return Err(TreeRefusal::Memory);
     };
@@ -66,7 +67,7 @@ fn small_tree<A: Allocator + Copy>(alloc: A) -> Result<MemTree<A>, TreeRefusal> 
 }
 
 /// Patterns, and the items of a walk after each in that tree. The last has more than 63 tokens.
-const WALKS: [(&str, &str); 10] = [
+pub(super) const WALKS: [(&str, &str); 10] = [
     ("**/[!.]*", "a a/b a/b/x a/y s !s z"),
     ("**", "a a/b s !s"),
     ("*/*", "a/b a/y !s"),
@@ -94,7 +95,7 @@ fn is_beginning<A: Allocator>(given: &[GlobResult<A>], known: &[Item<'_>]) -> bo
     true
 }
 
-/// Walks with memory from `alloc` by `walk_in`, and gives whether memory sufficed.
+/// Walks with memory from `alloc` by `walk_in`, and gives whether memory sufficed. A refusal comes before any question.
 fn gathers<A: Allocator + Copy>(
     rt: &impl Abort,
     alloc: A,
@@ -104,9 +105,15 @@ fn gathers<A: Allocator + Copy>(
     let Ok(tree) = small_tree(alloc) else {
         return false;
     };
-    match gather(alloc, tree, Job::of(pattern)) {
+    let number = Cell::new(0);
+    let tree = Noting {
+        tree,
+        number: &number,
+    };
+    match gather(alloc, LyingTree::new(tree), Job::of(pattern)) {
         Err(refusal) => {
             assert!(rt; matches!(refusal, PatternRefusal::Memory));
+            assert_eq!(rt; number.get(), 0);
             false
         }
         Ok(walk) => {

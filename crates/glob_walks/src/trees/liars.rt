@@ -305,7 +305,8 @@ pub fn noted(before: u64, kind: u64, path: &str) -> u64 {
     })
 }
 
-/// A tree in memory that notes its questions as one number, in a place that it is lent.
+/// A tree in memory that notes its questions as one number, in a place that it is lent. Where names alone are asked for, it
+/// says of each directory that it is none, and of each other entry that it is one.
 #[derive(Drop)]
 pub struct Noting<'a, A: Allocator + Copy> {
     /// Its answers.
@@ -325,5 +326,14 @@ impl<A: Allocator + Copy> Liar for Noting<'_, A> {
     fn list(&mut self, path: &str) -> Result<Vec<Entry<A>, A>, ListError> {
         self.number.set(noted(self.number.get(), 2, path));
         self.tree.list(path)
+    }
+
+    fn list_names(&mut self, path: &str) -> Result<Vec<Entry<A>, A>, ListError> {
+        self.number.set(noted(self.number.get(), 3, path));
+        let mut entries = self.tree.list_names(path)?;
+        for entry in entries.iter_mut() {
+            entry.is_dir = !entry.is_dir;
+        }
+        Ok(entries)
     }
 }

@@ -1,8 +1,8 @@
-use Rattle.std.proofs.Common.{[], ap, subst, sym}
+use Rattle.std.proofs.Common.{[], true, false, ap, subst, sym}
 use Rattle.glob.specs.Answers.{entry_count}
 use Rattle.glob.specs.Machines.{IsAskedAfter, saying, units_said}
 use Rattle.glob.specs.Questions.{IsSeenIn, IsListedIn}
-use Rattle.glob_walk.proofs.WalkLemmas.Driving.{seen_fits, listed_fits}
+use Rattle.glob_walk.proofs.WalkLemmas.Driving.{seen_fits, listed_fits, lists}
 use Rattle.glob_run.specs.Outcomes.{Queues}
 use Rattle.glob_run.proofs.FoundLemmas.{Written, Written-first, Written-answer, Written-item, Written-fault, Written-before, Written-end, fewer_steps, step_number}
 use Rattle.glob_run.proofs.WritingLemmas.{OnErr-from}
@@ -28,6 +28,12 @@ returns-in_err-before_ask-in-List-clause-some g c c' told ms begun =
     let held = g.W.Write.contents in
     OnErr-from _ (Written-before g.T.Tree.tells c.args.tree c.args.walk (held c.args.output.now) c.loop-step.tree c.loop-step.walk c.loop-step.findings (held c.loop-step.output) c.loop-step.lines.waiting.items
     (saying c.loop-step.step) c.loop-step.invariant (held c.before_ask-in-List.new.output) c.in_err-before_ask-in-List.ensures.some c' told ms begun)
+
+pub returns-in_err-before_ask-in-ListNames-clause-some : goal.returns-in_err-before_ask-in-ListNames-clause-some
+returns-in_err-before_ask-in-ListNames-clause-some g c c' told ms begun =
+    let held = g.W.Write.contents in
+    OnErr-from _ (Written-before g.T.Tree.tells c.args.tree c.args.walk (held c.args.output.now) c.loop-step.tree c.loop-step.walk c.loop-step.findings (held c.loop-step.output) c.loop-step.lines.waiting.items
+    (saying c.loop-step.step) c.loop-step.invariant (held c.before_ask-in-ListNames.new.output) c.in_err-before_ask-in-ListNames.ensures.some c' told ms begun)
 
 pub returns-in_err-flush-in-Done-clause-some : goal.returns-in_err-flush-in-Done-clause-some
 returns-in_err-flush-in-Done-clause-some g c c' told ms begun =
@@ -69,6 +75,10 @@ pub loop-step-smaller-in_ok-before_ask-in-List : goal.loop-step-smaller-in_ok-be
 loop-step-smaller-in_ok-before_ask-in-List g c =
     fewer_steps (entry_count c.list-listed.result) c.loop-step.walk c.listed.new.self (saying c.loop-step.step) (saying c.listed.result) (ap (λ s. step_number (saying s)) c.in-List.is) c.listed.ensures.steps.counts
 
+pub loop-step-smaller-in_ok-before_ask-in-ListNames : goal.loop-step-smaller-in_ok-before_ask-in-ListNames
+loop-step-smaller-in_ok-before_ask-in-ListNames g c =
+    fewer_steps (entry_count c.list_names-named.result) c.loop-step.walk c.listed-in-ListNames.new.self (saying c.loop-step.step) (saying c.listed-in-ListNames.result) (ap (λ s. step_number (saying s)) c.in-ListNames.is) c.listed-in-ListNames.ensures.steps.counts
+
 pub loop-step-preserved-in_ok-before_ask-in-List : goal.loop-step-preserved-in_ok-before_ask-in-List
 loop-step-preserved-in_ok-before_ask-in-List g c =
     let held = g.W.Write.contents in
@@ -79,7 +89,19 @@ loop-step-preserved-in_ok-before_ask-in-List g c =
     Written-answer g.T.Tree.tells c.args.tree c.args.walk (held c.args.output.now) c.loop-step.tree c.loop-step.walk c.loop-step.findings (held c.loop-step.output) c.loop-step.lines.waiting.items
     (saying c.loop-step.step) (saying c.listed.result) (ap (λ s. units_said (saying s)) c.in-List.is) c.loop-step.invariant
     listed.new.self c.listed.new.self (held c.before_ask-in-List.new.output) c.count.new.self.waiting.items (entry_count listed.result) (IsListedIn asked listed.result) listed.ensures.content queued
-    (λ x told. listed_fits asked listed.result x c.path-in-List.result.now is c.path-in-List.ensures told.1 (listed.ensures.entries x told) (listed.ensures.fails x told)) c.listed.ensures.steps c.listed.ensures.driven
+    (λ x told. listed_fits true asked listed.result x c.path-in-List.result.now is c.path-in-List.ensures told.1 (listed.ensures.entries x told) (listed.ensures.fails x told)) c.listed.ensures.steps c.listed.ensures.driven
+
+pub loop-step-preserved-in_ok-before_ask-in-ListNames : goal.loop-step-preserved-in_ok-before_ask-in-ListNames
+loop-step-preserved-in_ok-before_ask-in-ListNames g c =
+    let held = g.W.Write.contents in
+    let asked = c.loop-step.walk.asked in
+    let listed = c.list_names-named in
+    let is = subst (λ s. IsAskedAfter (saying s) asked) c.in-ListNames.is c.loop-step.invariant.asks in
+    let queued = subst (λ v. Queues (held c.loop-step.output) c.loop-step.lines.waiting.items (held c.before_ask-in-ListNames.new.output) v.items []) (sym c.count-in-ListNames.ensures) c.in_ok-before_ask-in-ListNames.ensures.keeps in
+    Written-answer g.T.Tree.tells c.args.tree c.args.walk (held c.args.output.now) c.loop-step.tree c.loop-step.walk c.loop-step.findings (held c.loop-step.output) c.loop-step.lines.waiting.items
+    (saying c.loop-step.step) (saying c.listed-in-ListNames.result) (ap (λ s. units_said (saying s)) c.in-ListNames.is) c.loop-step.invariant
+    listed.new.self c.listed-in-ListNames.new.self (held c.before_ask-in-ListNames.new.output) c.count-in-ListNames.new.self.waiting.items (entry_count listed.result) (IsListedIn asked listed.result) listed.ensures.content queued
+    (λ x told. listed_fits false asked listed.result x c.path-in-ListNames.result.now is c.path-in-ListNames.ensures told.1 (listed.ensures.names x told) (listed.ensures.fails x told)) c.listed-in-ListNames.ensures.steps c.listed-in-ListNames.ensures.driven
 
 pub loop-step-smaller : goal.loop-step-smaller
 loop-step-smaller g c =
@@ -93,3 +115,9 @@ loop-step-preserved g c =
     subst (λ f. Written g.T.Tree.tells c.args.tree c.args.walk (held c.args.output.now) c.loop-step.tree (saying c.next.result) c.next.new.self f (held c.write_item.new.output) c.write_item.new.lines.waiting.items) (sym c.note.ensures)
     (Written-item g.T.Tree.tells c.args.tree c.args.walk (held c.args.output.now) c.loop-step.tree c.loop-step.walk c.loop-step.findings (held c.loop-step.output) c.loop-step.lines.waiting.items
     c.in-Item.item given (saying c.next.result) c.next.new.self (held c.write_item.new.output) c.write_item.new.lines.waiting.items c.in_ok-write_item-in-Item.ensures.line c.next.ensures.steps c.next.ensures.driven)
+
+pub listed-requires : goal.listed-requires
+listed-requires g c = record { asked = lists true c.loop-step.walk.asked (subst (λ s. IsAskedAfter (saying s) c.loop-step.walk.asked) c.in-List.is c.loop-step.invariant.asks) }
+
+pub listed-requires-in-ListNames : goal.listed-requires-in-ListNames
+listed-requires-in-ListNames g c = record { asked = lists false c.loop-step.walk.asked (subst (λ s. IsAskedAfter (saying s) c.loop-step.walk.asked) c.in-ListNames.is c.loop-step.invariant.asks) }

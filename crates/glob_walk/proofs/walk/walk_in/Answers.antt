@@ -1,8 +1,5 @@
-use Rattle.glob_walk.specs.Components.{walk_fault}
-use Rattle.std.proofs.Common.{◌≡◌, ◌+◌, ◌≤◌, None, Some, length}
 use Rattle.glob_walk.specs.Listing.{listing}
 use Rattle.glob_walk.specs.WalkGoals.{WalksPlainly, FindsGoal, FindsExactly, FindsInOrder}
-use Rattle.glob_walk.specs.Walks.{HasNoRefusal, IsFresh, IsWalk, IsWalkAsked, RefusesWith}
 use Rattle.glob_walk.proofs.GoalLemmas.Clauses.{plain_walk}
 use Rattle.glob_walk.proofs.GoalLemmas.WalkClauses.{walk_reaches_goal, walk_gives_goal, walk_is_orderly}
 use Rattle.glob_walk.proofs.WalkLemmas.Beginning.{if_ok, if_err, of_ok, of_err, begun_within, begun_asked, begun_told, begun_walk}

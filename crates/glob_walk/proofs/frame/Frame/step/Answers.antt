@@ -1,6 +1,6 @@
 use Rattle.std.proofs.Common.{cond, ◌+◌, rules, ap, ◌∙◌, sym}
 use Rattle.std.specs.Prelude.{string_bytes}
-use Rattle.glob_walk.specs.declared.frame.Place.TheVariants.{At, Inside}
+use Rattle.glob_walk.specs.declared.frame.Cursor.TheVariants.{At, Inside}
 use Rattle.glob_walk.specs.Private.Tasks.{next_marks}
 use Rattle.glob_walk.proofs.WalkLemmas.Stepping.{contained_at, at_step, inside_step}
 use Rattle.glob_walk.proofs.frame.Frame.step.Goals.{then-self, else-self}
@@ -14,8 +14,8 @@ returns-in_ok-task-in-Current-clause-sound g c = λ c' h. c.in_ok-task-in-Curren
 
 pub returns-after-self-clause-marks : goal.returns-after-self-clause-marks
 returns-after-self-clause-marks g c = λ c'.
-    at_step c' c.args.plan.now c.args.self.now.part (string_bytes c.args.self.now.path) c.args.self.now.run c.args.self.now.entries.items c.in-At.i c.index.result.now
-    (next_marks c' c.args.plan.now c.in_ok-task-in-At.task) c.args.self.now.place c.if-self.self (search rules) c.index.ensures
+    at_step c' c.args.plan.now c.args.self.now.component (string_bytes c.args.self.now.path) c.args.self.now.recursive c.args.self.now.entries.items c.in-At.i c.index.result.now
+    (next_marks c' c.args.plan.now c.in_ok-task-in-At.task) c.args.self.now.cursor c.if-self.self (search rules) c.index.ensures
     (c.in_ok-task-in-At.ensures.marks c') c.in-At.is (elim c.if-self.branch [ then-self w ↦ w.self-is ∙ sym (ap (λ b. cond b (Inside c.in-At.i) (At (c.in-At.i + 1))) w.if-self.true) | else-self w ↦ w.self-is ∙ sym (ap (λ b. cond b (Inside c.in-At.i) (At (c.in-At.i + 1))) w.if-self.false) ])
 
 pub returns-after-self-clause-sound : goal.returns-after-self-clause-sound
@@ -25,8 +25,8 @@ returns-after-self-clause-sound g c = λ c' h.
 
 pub returns-in_ok-task-in-Inside-clause-marks : goal.returns-in_ok-task-in-Inside-clause-marks
 returns-in_ok-task-in-Inside-clause-marks g c = λ c'.
-    inside_step c' c.args.plan.now c.args.self.now.part (string_bytes c.args.self.now.path) c.args.self.now.run c.args.self.now.entries.items c.in-Inside.i c.index-in-Inside.result.now
-    (next_marks c' c.args.plan.now c.in_ok-task-in-Inside.task) c.args.self.now.place (search rules) c.index-in-Inside.ensures
+    inside_step c' c.args.plan.now c.args.self.now.component (string_bytes c.args.self.now.path) c.args.self.now.recursive c.args.self.now.entries.items c.in-Inside.i c.index-in-Inside.result.now
+    (next_marks c' c.args.plan.now c.in_ok-task-in-Inside.task) c.args.self.now.cursor (search rules) c.index-in-Inside.ensures
     (c.in_ok-task-in-Inside.ensures.marks c') c.in-Inside.is
 
 pub returns-in_ok-task-in-Inside-clause-sound : goal.returns-in_ok-task-in-Inside-clause-sound

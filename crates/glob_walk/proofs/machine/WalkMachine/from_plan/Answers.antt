@@ -15,5 +15,5 @@ returns-clause-fresh g c = record {
   over = refl;
   asked = refl;
   agrees = λ c'. sound-fresh c' _ _ refl refl (search rules);
-  whole = λ c'. left-fresh c' (record { plan = c.args.plan; next = Some (record { path = c.args.start; part = 0; sight = Unseen Any }); frames = c.new-frames.result }) (record { path = c.args.start; part = 0; sight = Unseen Any }) refl refl refl (search rules) c.requires.start;
+  whole = λ c'. left-fresh c' (record { plan = c.args.plan; next = Some (record { path = c.args.start; component = 0; sight = Unseen Any }); frames = c.new-frames.result }) (record { path = c.args.start; component = 0; sight = Unseen Any }) refl refl refl (search rules) c.requires.start;
 }

@@ -8,7 +8,7 @@ use Rattle.glob_walk.proofs.machine.WalkMachine.new.Goals as goal
 pub returns-clause-aim : goal.returns-clause-aim
 returns-clause-aim g c = λ x.
     let plan = c.in_ok-plan.ensures in
-    ap (listing_of x) c.from_plan.ensures.aim ∙ aim_listing x c.args.options c.args.pattern.now c.in_ok-plan.plan plan.options plan.rooted plan.directories plan.parts
+    ap (listing_of x) c.from_plan.ensures.aim ∙ aim_listing x c.args.options c.args.pattern.now c.in_ok-plan.plan plan.options plan.rooted plan.directories plan.components
 
 pub returns-clause-listing : goal.returns-clause-listing
 returns-clause-listing g c = λ x. c.from_plan.ensures.fresh.whole x ∙ returns-clause-aim g c x

@@ -1,13 +1,19 @@
-use Rattle.std.proofs.Common.{rules, ◌+◌, ◌≤◌, ◌^◌, sym, arith, subst}
-use Rattle.glob_walk.specs.Private.Walking.{IsGood, turn_outcome}
+use Rattle.std.proofs.Common.{rules, ◌≡◌, ◌+◌, ◌≤◌, ◌^◌, sym, arith, subst}
+use Rattle.glob_walk.specs.Private.Walking.{IsGood, turn_outcome, turn_saying}
 use Rattle.glob_walk.specs.Private.Tasks.{question_of}
-use Rattle.glob_walk.specs.Private.Turns.{IsAnswer, IsAnswered, answer_count}
+use Rattle.glob_walk.specs.Private.Turns.{IfFailed, IsAnswer, IsAnswered, answer_count}
+use Rattle.glob_walk.specs.Machines.{Says, Ends, saying}
+use Rattle.glob_walk.specs.Questions.{question_path}
 use Rattle.glob_walk.specs.Walks.{item_number}
-use Rattle.glob_walk.proofs.WalkLemmas.MachineSteps.{IsGood-after, goes_at, goes_over, one_item}
+use Rattle.glob_walk.proofs.WalkLemmas.MachineSteps.{IsGood-after, failed_said, goes_at, goes_over, none_failed, one_item}
 use Rattle.glob_walk.proofs.machine.WalkMachine.resume.Goals as goal
 
 pub returns-then-self : goal.returns-then-self
-returns-then-self g c = record { steps = goes_over c.self.inside.walker.meter c.self.inside.walker.stack c.self.inside.given c.self.inside.over c.if-self.true c.args.answer c.args.self.now c.self.view_is c.self.invariant c.requires.answer }
+returns-then-self g c = record {
+  failed = subst (λ v. IfFailed c.args.answer (question_path v.asked) (λ o. Ends ≡ Says o)) c.self.view_is
+      (none_failed (question_of c.self.inside.walker.stack.next) c.args.answer _ _ (c.self.invariant.ended c.if-self.true) (subst (λ v. IsAnswer v.asked c.args.answer) (sym c.self.view_is) c.requires.answer));
+  steps = goes_over c.self.inside.walker.meter c.self.inside.walker.stack c.self.inside.given c.self.inside.over c.if-self.true c.args.answer c.args.self.now c.self.view_is c.self.invariant c.requires.answer;
+}
 
 pub resume-turn-requires-clause-within : goal.resume-turn-requires-clause-within
 resume-turn-requires-clause-within g c = (c.self.invariant.going c.if-self.false).within
@@ -36,6 +42,8 @@ invariant_of-self g c =
 
 pub returns : goal.returns
 returns g c = record {
+  failed = subst (λ v. IfFailed c.args.answer (question_path v.asked) (λ o. saying c.into_step.result ≡ Says o)) c.self.view_is
+      (failed_said c.args.answer (question_path (question_of c.self.inside.walker.stack.next)) (turn_saying c.resume-turn.result) (saying c.into_step.result) c.into_step.ensures c.resume-turn.ensures.failed);
   steps = goes_at (answer_count c.args.answer) c.self.inside.walker.meter c.resume-turn.new.self.meter c.self.inside.walker.stack c.resume-turn.new.self.stack c.self.inside.given c.self.inside.over c.args.answer c.args.self.now
       c.self.view_is c.if-self.false c.self.invariant.fits (c.self.invariant.going c.if-self.false) c.resume-turn.result _ c.item_count.result c.is_last-self-inside.result
       c.into_step.ensures c.item_count.ensures c.is_last-self-inside.ensures c.resume-turn.ensures.stops c.resume-turn.ensures.turn c.resume-turn.ensures.cleared;

@@ -1,7 +1,7 @@
-use Rattle.std.proofs.Common.{rules, ◌≡◌, ◌+◌, ap, arith, subst}
+use Rattle.std.proofs.Common.{rules, ◌≡◌, ◌+◌, true, false, ap, arith, subst}
 use Rattle.glob_tree.specs.Answers.{entry_count}
-use Rattle.glob_walk.specs.Machines.{Says, Ends, saying, units_said}
-use Rattle.glob_walk.specs.Questions.{IsSeenIn, IsListedIn}
+use Rattle.glob_walk.specs.Machines.{IsAskedAfter, Says, Ends, saying, units_said}
+use Rattle.glob_walk.specs.Questions.{IsSeenIn, IsListWith, IsListedIn}
 use Rattle.glob_walk.specs.Walks.{outcome}
 use Rattle.glob_walk.proofs.WalkLemmas.Driving.{Drives, Drives-first, Drives-after, Drives-last, IsDriven-last, seen_fits, listed_fits}
 use Rattle.glob_walk.proofs.paths.PathsIterator.next.Goals as goal
@@ -29,13 +29,23 @@ loop-step-preserved-in-Look g c =
     0 (IsSeenIn machine.asked c.look-seen.result) asks c.loop-step.invariant more c.look-seen.ensures.content
     (λ x told. seen_fits machine.asked c.look-seen.result x c.path.result.now (search rules) c.path.ensures told.1 (c.look-seen.ensures.seen x told)) c.looked.ensures.steps
 
+pub loop-step-preserved-in-List : goal.loop-step-preserved-in-List
+loop-step-preserved-in-List g c =
+    let machine = c.loop-step.self-inside.machine in
+    let asks : units_said (saying c.loop-step.step) ≡ 1 = ap (λ s. units_said (saying s)) c.in-List.is in
+    let asked : IsListWith true machine.asked = subst (λ s. IsAskedAfter (saying s) machine.asked) c.in-List.is c.loop-step.invariant.asks_next in
+    Drives-after g.T.Tree.asks g.T.Tree.tells c.args.self.now c.loop-step.self-inside.tree c.list-listed.new.self machine c.listed.new.self (saying c.loop-step.step) (saying c.listed.result)
+    (entry_count c.list-listed.result) (IsListedIn machine.asked c.list-listed.result) asks c.loop-step.invariant c.list-listed.ensures.asks c.list-listed.ensures.content
+    (λ x told. listed_fits true machine.asked c.list-listed.result x c.path-in-List.result.now asked c.path-in-List.ensures told.1 (c.list-listed.ensures.entries x told) (c.list-listed.ensures.fails x told)) c.listed.ensures.steps
+
 pub loop-step-preserved : goal.loop-step-preserved
 loop-step-preserved g c =
     let machine = c.loop-step.self-inside.machine in
-    let asks : units_said (saying c.loop-step.step) ≡ 1 = ap (λ s. units_said (saying s)) c.in-List.is in
-    Drives-after g.T.Tree.asks g.T.Tree.tells c.args.self.now c.loop-step.self-inside.tree c.list-listed.new.self machine c.listed.new.self (saying c.loop-step.step) (saying c.listed.result)
-    (entry_count c.list-listed.result) (IsListedIn machine.asked c.list-listed.result) asks c.loop-step.invariant c.list-listed.ensures.asks c.list-listed.ensures.content
-    (λ x told. listed_fits machine.asked c.list-listed.result x c.path-in-List.result.now (search rules) c.path-in-List.ensures told.1 (c.list-listed.ensures.entries x told) (c.list-listed.ensures.fails x told)) c.listed.ensures.steps
+    let asks : units_said (saying c.loop-step.step) ≡ 1 = ap (λ s. units_said (saying s)) c.in-ListNames.is in
+    let asked : IsListWith false machine.asked = subst (λ s. IsAskedAfter (saying s) machine.asked) c.in-ListNames.is c.loop-step.invariant.asks_next in
+    Drives-after g.T.Tree.asks g.T.Tree.tells c.args.self.now c.loop-step.self-inside.tree c.list_names-named.new.self machine c.listed-in-ListNames.new.self (saying c.loop-step.step) (saying c.listed-in-ListNames.result)
+    (entry_count c.list_names-named.result) (IsListedIn machine.asked c.list_names-named.result) asks c.loop-step.invariant c.list_names-named.ensures.asks c.list_names-named.ensures.content
+    (λ x told. listed_fits false machine.asked c.list_names-named.result x c.path-in-ListNames.result.now asked c.path-in-ListNames.ensures told.1 (c.list_names-named.ensures.names x told) (c.list_names-named.ensures.fails x told)) c.listed-in-ListNames.ensures.steps
 
 pub invariant_of-self : goal.invariant_of-self
 invariant_of-self g c =

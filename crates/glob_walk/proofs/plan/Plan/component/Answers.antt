@@ -22,10 +22,10 @@ module _ {X : Type 0} (xs : List X) (n : ℕ) where
   past-got (Some x) at = tt
 
 pub returns-clause-rest : goal.returns-clause-rest
-returns-clause-rest g c = rest-got c.args.self.now.parts.items c.args.part c.get.result (rw c.deref.ensures.value at c.get.ensures.lookup.3)
+returns-clause-rest g c = rest-got c.args.self.now.components.items c.args.number c.get.result (rw c.deref.ensures.value at c.get.ensures.lookup.3)
 
 pub returns-clause-within : goal.returns-clause-within
-returns-clause-within g c = rw c.deref.ensures.len at (within-got c.deref.result.now c.args.part c.get.result c.get.ensures.lookup.3)
+returns-clause-within g c = rw c.deref.ensures.len at (within-got c.deref.result.now c.args.number c.get.result c.get.ensures.lookup.3)
 
 pub returns-clause-past : goal.returns-clause-past
-returns-clause-past g c = rw c.deref.ensures.len at (past-got c.deref.result.now c.args.part c.get.result c.get.ensures.lookup.3)
+returns-clause-past g c = rw c.deref.ensures.len at (past-got c.deref.result.now c.args.number c.get.result c.get.ensures.lookup.3)

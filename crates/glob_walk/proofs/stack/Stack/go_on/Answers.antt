@@ -14,7 +14,7 @@ sight-light : (s : Sight) → sight_weight s ≤ 2
 sight-light (sight.Unseen w) = omega arith
 sight-light (sight.Seen d) = omega arith
 sight-light (sight.Looking w) = omega arith
-sight-light (sight.Listing run) = omega arith
+sight-light (sight.Listing recursive kinds) = omega arith
 
 next-light : {A : Type 0} (next : Option (Task A)) → next_weight next ≤ 2
 next-light None = omega arith
@@ -45,7 +45,7 @@ pub returns-then-is_done-clause-within : goal.returns-then-is_done-clause-within
 returns-then-is_done-clause-within g c =
     let n = vec_len c.args.self.now.frames - 1 in
     record {
-      parts = All-front (λ f. f.part < length c.args.self.now.plan.parts.items) c.args.self.now.frames.items c.pop.new.self.items n c.step.new.self (omega (arith, c.in-Some.ensures.variant.0 refl, c.args.self.now.frames.ok.0)) (search rules) c.requires.within.parts;
+      components = All-front (λ f. f.component < length c.args.self.now.plan.components.items) c.args.self.now.frames.items c.pop.new.self.items n c.step.new.self (omega (arith, c.in-Some.ensures.variant.0 refl, c.args.self.now.frames.ok.0)) (search rules) c.requires.within.components;
       going = All-front (λ f. is_done f ≡ false) c.args.self.now.frames.items c.pop.new.self.items n c.step.new.self (omega (arith, c.in-Some.ensures.variant.0 refl, c.args.self.now.frames.ok.0)) (search rules) c.requires.within.going;
     }
 

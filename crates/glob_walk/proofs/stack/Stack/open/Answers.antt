@@ -35,8 +35,8 @@ pub returns-clause-within : goal.returns-clause-within
 returns-clause-within g c =
     let going : is_done c.args.frame ≡ false = sym c.is_done.ensures ∙ c.if-is_done.false in
     record {
-      parts = subst (All (λ f. f.part < length c.args.self.now.plan.parts.items)) (sym c.in_ok-push.ensures.items)
-          (All-push (λ f. f.part < length c.args.self.now.plan.parts.items) c.args.self.now.frames.items c.args.frame c.requires.within.parts (search rules));
+      components = subst (All (λ f. f.component < length c.args.self.now.plan.components.items)) (sym c.in_ok-push.ensures.items)
+          (All-push (λ f. f.component < length c.args.self.now.plan.components.items) c.args.self.now.frames.items c.args.frame c.requires.within.components (search rules));
       going = subst (All (λ f. is_done f ≡ false)) (sym c.in_ok-push.ensures.items)
           (All-push (λ f. is_done f ≡ false) c.args.self.now.frames.items c.args.frame c.requires.within.going going);
     }

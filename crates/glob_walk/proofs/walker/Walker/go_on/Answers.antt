@@ -8,4 +8,4 @@ pub returns-in-Went-clause-turn : goal.returns-in-Went-clause-turn
 returns-in-Went-clause-turn g c =
     TurnsTo-after (IsAnswered (question_of c.args.self.now.stack.next) c.args.answer) IsSomeContent (answer_count c.args.answer)
     c.args.self.now.meter c.hear.new.self.meter c.turns.new.self.meter c.args.self.now.stack c.hear.new.self.stack c.turns.new.self.stack c.turns.result
-    (IsAnswered-content (question_of c.args.self.now.stack.next) c.args.answer) c.in-Went.ensures c.turns.ensures.turn
+    (IsAnswered-content (question_of c.args.self.now.stack.next) c.args.answer) c.in-Went.ensures.turn c.turns.ensures.turn

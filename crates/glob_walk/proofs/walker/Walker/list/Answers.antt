@@ -20,7 +20,7 @@ returns-then-not-charge-clause-turn g c = record {
     charges = record {
       paths = [];
       front = ap (λ ms. ms ++ frames_marks c' c.args.self.now.stack.plan c.args.self.now.stack.frames.items)
-          (opened_unit c' (IsContent-from_test c' w) c.args.self.now.stack.plan c.args.run c.args.part (string_bytes c.args.path) c.requires.opens (h.next refl));
+          (opened_unit c' (IsContent-from_test c' w) c.args.self.now.stack.plan c.args.recursive c.args.component (string_bytes c.args.path) c.requires.opens (h.next refl));
       units = search rules;
     };
   };
@@ -32,8 +32,8 @@ returns-clause-turn g c = record {
   fits = search rules;
   counts = search rules;
   plan = search rules;
-  within = record { parts = c.requires.within.parts; going = c.requires.within.going };
-  asks = (tt, (search rules, c.requires.opens));
+  within = record { components = c.requires.within.components; going = c.requires.within.going };
+  asks = (refl, record { within = search rules; opens = c.requires.opens; names = c.needs_kinds-kinds.ensures });
   ready = search rules;
   sound = λ c' w h. record { next = h.next refl; frames = h.frames };
   takes = λ c' w h. record {
@@ -41,7 +41,7 @@ returns-clause-turn g c = record {
     charges = record {
       paths = [];
       front = ap (λ ms. ms ++ frames_marks c' c.args.self.now.stack.plan c.args.self.now.stack.frames.items)
-          (opened_unit c' (IsContent-from_test c' w) c.args.self.now.stack.plan c.args.run c.args.part (string_bytes c.args.path) c.requires.opens (h.next refl));
+          (opened_unit c' (IsContent-from_test c' w) c.args.self.now.stack.plan c.args.recursive c.args.component (string_bytes c.args.path) c.requires.opens (h.next refl));
       units = search rules;
     };
     unit = search rules;

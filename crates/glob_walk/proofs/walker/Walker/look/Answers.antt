@@ -20,7 +20,7 @@ returns-clause-turn g c = record {
   fits = search rules;
   counts = search rules;
   plan = search rules;
-  within = record { parts = c.requires.within.parts; going = c.requires.within.going };
+  within = record { components = c.requires.within.components; going = c.requires.within.going };
   asks = tt;
   ready = search rules;
   sound = λ c' w h. record { next = tt; frames = h.frames };

@@ -2,8 +2,8 @@ use Rattle.std.proofs.Common.{rules}
 use Rattle.glob_walk.proofs.WalkLemmas.Charging.{breaks_off}
 use Rattle.glob_walk.proofs.walker.Walker.see.Goals as goal
 
-pub returns-in_default : goal.returns-in_default
-returns-in_default g c = record {
+pub returns-in_default-clause-turn : goal.returns-in_default-clause-turn
+returns-in_default-clause-turn g c = record {
   limit = search rules;
   fits = search rules;
   counts = search rules;
