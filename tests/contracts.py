@@ -1,6 +1,6 @@
 #!/usr/bin/env python3
-"""Quotes the contracts of the library's public calls in docs/reference/contracts.md. And checks the tables of
-crates/glob/CALLING.md: each public type has a row, and each word of a public clause one with the module that has it.
+"""Quotes the contracts of the library's public calls in docs/reference/contracts.md. And checks that each public type has
+a row in crates/glob/CALLING.md, and that each word of a public clause is in docs/reference/words.md under its module.
 
     tests/contracts.py            writes the quotes anew
     tests/contracts.py --check    writes nothing, and fails where a quote is not what src/ says
@@ -13,6 +13,7 @@ from pathlib import Path
 ROOT = Path(__file__).resolve().parent.parent
 CALLING = ROOT / "crates/glob/CALLING.md"
 PAGE = ROOT / "docs/reference/contracts.md"
+WORDS = ROOT / "docs/reference/words.md"
 CRATES = ["glob_pattern", "glob_lines", "glob_tree", "glob_walk"]
 
 
@@ -109,11 +110,18 @@ def words():
     return found
 
 
-def missing_rows(text):
-    """The public types and the words of public clauses of which the page has no row."""
-    rows = dict(re.findall(r"^\| `(\w+)`[^|]* \| ([^|]*) \|", text, re.M))
-    lacks = [word for word, module in sorted(words().items()) if rows.get(word) != f"`{module}`"]
-    return lacks + [name for crate in CRATES for name in sorted(public_names(crate)) if name[0].isupper() and name not in rows]
+def missing_words():
+    """The words of public clauses that the page of words has not under their module."""
+    parts = re.findall(r"^## `([\w.]+)`\n(.*?)(?=^## |\Z)", WORDS.read_text(encoding="utf-8"), re.M | re.S)
+    known = {module: set(re.findall(r"[\w]+", text)) for module, text in parts}
+    used = {word: module for word, module in words().items() if not module.startswith("Variants.")}
+    return [f"{module}.{word}" for word, module in sorted(used.items()) if word not in known.get(module, set())]
+
+
+def missing_types():
+    """The public types of which CALLING has no row."""
+    rows = set(re.findall(r"^\| `(\w+)`[^|]* \| [^|]* \|", CALLING.read_text(encoding="utf-8"), re.M))
+    return [name for crate in CRATES for name in sorted(public_names(crate)) if name[0].isupper() and name not in rows]
 
 
 def main():
@@ -123,8 +131,10 @@ def main():
         PAGE.write_text(wanted, encoding="utf-8")
     elif wanted != text:
         sys.exit(f"{PAGE.relative_to(ROOT)}: the contracts are not those of src/. Run tests/contracts.py.")
-    if missing := missing_rows(CALLING.read_text(encoding="utf-8")):
-        sys.exit(f"{CALLING.relative_to(ROOT)}: no row with its module: {', '.join(missing)}")
+    if missing := missing_types():
+        sys.exit(f"{CALLING.relative_to(ROOT)}: no row of {', '.join(missing)}")
+    if missing := missing_words():
+        sys.exit(f"{WORDS.relative_to(ROOT)}: no word {', '.join(missing)}")
 
 
 main()

@@ -1,7 +1,9 @@
 #!/usr/bin/env python3
-"""Checks what the pages say of the sources: links, names of files, definitions, words, edits and tests, and code that a
-page quotes. Prints what is wrong, and last how many checks passed and failed."""
+"""Checks what the pages say of the sources: links, names of files, definitions, clauses and tests, every other name in
+the sources, code that a page quotes, and that the pages of reference are those that the sources make. Prints what is
+wrong, and last how many checks passed and failed."""
 
+import functools
 import re
 import subprocess
 import sys
@@ -12,9 +14,19 @@ PATHS = (path.relative_to(ROOT) for path in ROOT.rglob("*.*") if path.is_file())
 FILES = [str(path) for path in PATHS if not {"out", ".git"} & set(path.parts)]
 PAGES = [name for name in FILES if name.endswith(".md")]
 
+# Names on the pages that no source has: those of the original crate, of std and of the toolchain.
+OUTSIDE = {"AsRef", "PathWrapper", "once_cell", "read_to_end"}
+
+# The scripts that write docs/reference.
+WRITERS = ["tests/contracts.py", "tests/words.py", "tests/edits.py"]
+
+# What contracts of std call the answers of its traits.
+CLAUSES_OF_STD = {"eq", "cmp", "hash_input", "output", "is_default"}
+
 # A page, which of its blocks of Rust or of proofs, and the file that holds the block word for word.
 EXAMPLES = [
     ("README.md", 0, "crates/glob_vectors/src/tests/readme.rt"),
+    ("README.md", 1, "rust/tests/glob.rs"),
     ("crates/glob/CALLING.md", 0, "crates/glob_uses/src/lists.rt"),
     ("crates/glob/CALLING.md", 1, "crates/glob_uses/src/lists.rt"),
     ("crates/glob/CALLING.md", 2, "crates/glob/specs/Lists.antt"),
@@ -64,7 +76,8 @@ def quotes(page, number, source):
 
 
 def unlisted_blocks():
-    """The blocks of code on the pages of EXAMPLES of which no row is. tests/manual.py runs those of a shell."""
+    """The blocks of code on the pages of EXAMPLES of which no row is. tests/manual.py runs those of a shell, and a block of
+    text is a drawing."""
     found = []
     for page in sorted({example[0] for example in EXAMPLES}):
         text = (ROOT / page).read_text(encoding="utf-8")
@@ -72,44 +85,24 @@ def unlisted_blocks():
         listed = [example[1] for example in EXAMPLES if example[0] == page]
         if listed != list(range(len([kind for kind in kinds if kind in ("rust", "antt")]))):
             found.append(f"{page}: not each block of code is in EXAMPLES")
-        found += [f"{page}: nothing runs a block of {kind}" for kind in kinds if kind not in ("rust", "antt", "sh")]
-    return found
-
-
-def unknown_lemmas():
-    """The lemmas that crates/glob/CALLING.md names and that the module of their row has not."""
-    text = (ROOT / "crates/glob/CALLING.md").read_text(encoding="utf-8").split("\n## Lemmas for loops\n")[1].split("\n## ")[0]
-    found = []
-    for names, module in re.findall(r"^\| ((?:`[\w-]+`(?:, )?)+) \| `(\w+)` \|", text, re.M):
-        lemmas = (ROOT / f"crates/glob/proofs/{module}.antt").read_text(encoding="utf-8")
-        found += [name for name in re.findall(r"[\w-]+", names) if not re.search(rf"\bpub (record )?{name} |^pub use .*[{{ ]{name}[,}}]", lemmas, re.M)]
-    return found
-
-
-def unknown_words():
-    """The words of the library that crates/glob/CALLING.md lists and that their module has not."""
-    text = (ROOT / "crates/glob/CALLING.md").read_text(encoding="utf-8")
-    rows = re.findall(r"^\| `(\w+)` \| `([A-Z][\w.]*)` \|", text.split("\n## Words\n")[1].split("\n## ")[0], re.M)
-    found = []
-    for word, module in rows:
-        if module.startswith("Rattle."):
-            continue
-        path, enum = f"specs/{module.replace('.', '/')}.antt", module.removeprefix("Variants.")
-        if module == enum:
-            sources = [name for name in FILES if name.endswith(f"/{path}")]
-            declared = rf"\bpub (record |data )?{word}\b|^  {word} :"
-        else:
-            sources = [name for name in FILES if name.endswith(".rt")]
-            declared = rf"^pub(?:\(crate\))? enum {enum}\b.*(\n.+)*?\n    {word}\b"
-        if not any(re.search(declared, (ROOT / name).read_text(encoding="utf-8"), re.M) for name in sources):
-            found.append(f"{module}.{word}")
+        found += [f"{page}: nothing runs a block of {kind}" for kind in kinds if kind not in ("rust", "antt", "sh", "text")]
     return found
 
 
 def broken_links(page):
-    """The links of a page to files that are not there."""
-    links = re.findall(r"\]\(([^):#]+)\)", (ROOT / page).read_text(encoding="utf-8"))
-    return [link for link in links if not (ROOT / page).parent.joinpath(link).exists()]
+    """The links of a page to files, or to headings of pages, that are not there."""
+    found = []
+    for link, file, heading in re.findall(r"\]\((([^):#]*)(?:#([^)]*))?)\)", (ROOT / page).read_text(encoding="utf-8")):
+        path = (ROOT / page).parent / file if file else ROOT / page
+        if not path.exists() or (heading and heading not in headings(path)):
+            found.append(link)
+    return found
+
+
+def headings(path):
+    """The headings of a page as links name them."""
+    lines = re.findall(r"^#+ (.*)$", path.read_text(encoding="utf-8"), re.M)
+    return {re.sub(r"[^\w -]", "", line.lower()).replace(" ", "-") for line in lines}
 
 
 def unknown_files(page):
@@ -130,11 +123,38 @@ def unknown_definitions(page):
     return found
 
 
-def unknown_edits():
-    """The edits that the tables of docs/PROOFS.md name and that are not there."""
-    rows = re.findall(r"^\|[^|]*\|((?: `\w+`,?)+) \|", (ROOT / "docs/PROOFS.md").read_text(encoding="utf-8"), re.M)
-    edits = {Path(name).stem for name in FILES if name.endswith(".edit")}
-    return [name for row in rows for name in re.findall(r"\w+", row) if name not in edits]
+def unknown_clauses():
+    """The calls and clauses that the tables of docs/DEFINITIONS.md name and that no source has."""
+    text = (ROOT / "docs/DEFINITIONS.md").read_text(encoding="utf-8").split("\n## What a build tool")[0]
+    sources = "\n".join((ROOT / name).read_text(encoding="utf-8") for name in FILES if name.endswith(".rt"))
+    clauses = set(re.findall(r"\b(?:ensures|ghost) (\w+)", sources)) | CLAUSES_OF_STD
+    calls = set(re.findall(r"\bfn (\w+)", sources)) | set(re.findall(r"\b(?:struct|enum) (\w+)", sources))
+    found = []
+    for cell in re.findall(r"^\|[^|]*\|[^|]*\|([^|]*)\|$", text, re.M):
+        for part in cell.split(";"):
+            before, colon, after = re.sub(r"(?<=\w)::(?=\w)", ".", part).partition(":")
+            named = re.findall(r"`([\w.]+)`", before)
+            found += [name for name in named if name.split(".")[-1] not in (calls if colon else calls | clauses) and not (ROOT / "crates" / name).is_dir() and name != "laws"]
+            found += [name for name in re.findall(r"`(\w+)`", after) if name not in clauses | calls]
+    return found
+
+
+def unknown_names(page):
+    """The names in the text of a page, such as `some_name` or `SomeName`, that no source has."""
+    text = re.sub(r"```.*?```", "", (ROOT / page).read_text(encoding="utf-8"), flags=re.S)
+    named = {it for it in re.findall(r"`([A-Za-z_][\w-]*)`", text) if re.search(r"[a-z][_A-Z]|_", it)}
+    return sorted(named - source_names())
+
+
+@functools.cache
+def source_names():
+    """Each name in a source, and that of each file."""
+    found = set(OUTSIDE)
+    for name in FILES:
+        if not name.endswith((".md", ".json", ".tsv")):
+            text = (ROOT / name).read_bytes().decode("utf-8", "replace")
+            found |= set(re.findall(r"\w+(?:-\w+)*", text)) | set(re.findall(r"\w+", text)) | {Path(name).stem}
+    return found
 
 
 def unknown_tests():
@@ -151,22 +171,26 @@ def unknown_tests():
     return found + [row for cell in cells for row in re.findall(r'"([^"]*)"', cell) if f" '{row}' " not in rows]
 
 
+def stale_pages():
+    """What the scripts say that write docs/reference."""
+    ran = [subprocess.run([ROOT / it, "--check"], capture_output=True, text=True) for it in WRITERS]
+    return [it.stderr.strip() for it in ran if it.returncode != 0]
+
+
 def main():
     faults = [f"{example[0]}: the example is not that of {example[2]}" for example in EXAMPLES if not quotes(*example)]
     for page in PAGES:
         faults += [f"{page}: no file {name}" for name in broken_links(page) + unknown_files(page)]
         faults += [f"{page}: no definition {name}" for name in unknown_definitions(page)]
+        # A changelog speaks of what was.
+        faults += [f"{page}: no source has {name}" for name in unknown_names(page) if page != "CHANGELOG.md"]
     faults += unlisted_blocks()
-    faults += [f"crates/glob/CALLING.md: no lemma {name}" for name in unknown_lemmas()]
-    faults += [f"crates/glob/CALLING.md: no word {name}" for name in unknown_words()]
-    faults += [f"docs/PROOFS.md: no edit {name}" for name in unknown_edits()]
+    faults += [f"docs/DEFINITIONS.md: no clause {name}" for name in unknown_clauses()]
     faults += [f"docs/FAULTS.md: no test {name}" for name in unknown_tests()]
-    contracts = subprocess.run([ROOT / "tests/contracts.py", "--check"], capture_output=True, text=True)
-    if contracts.returncode != 0:
-        faults.append(contracts.stderr.strip())
+    faults += stale_pages()
     for fault in faults:
         print(f"failed: {fault}")
-    checks = len(EXAMPLES) + len(PAGES) + 6
+    checks = len(EXAMPLES) + len(PAGES) + 3 + len(WRITERS)
     failed = min(checks, len(faults))
     print(f"{checks - failed} passed, {failed} failed")
     sys.exit(bool(faults))
