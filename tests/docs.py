@@ -23,42 +23,32 @@ WRITERS = ["tests/contracts.py", "tests/words.py", "tests/edits.py"]
 # What contracts of std call the answers of its traits.
 CLAUSES_OF_STD = {"eq", "cmp", "hash_input", "output", "is_default"}
 
-# A page, which of its blocks of Rust or of proofs, and the file that holds the block word for word.
-EXAMPLES = [
-    ("README.md", 0, "crates/glob_vectors/src/tests/readme.rt"),
-    ("README.md", 1, "rust/tests/glob.rs"),
-    ("crates/glob/CALLING.md", 0, "crates/glob_uses/src/lists.rt"),
-    ("crates/glob/CALLING.md", 1, "crates/glob_uses/src/lists.rt"),
-    ("crates/glob/CALLING.md", 2, "crates/glob/specs/Lists.antt"),
-    ("crates/glob/CALLING.md", 3, "crates/glob_uses/proofs/lists/first_match/Invariants.antt"),
-    ("crates/glob/CALLING.md", 4, "crates/glob_uses/proofs/lists/first_match/Answers.antt"),
-    ("crates/glob/CALLING.md", 5, "crates/glob_uses/src/router.rt"),
-    ("crates/glob/CALLING.md", 6, "crates/glob_uses/specs/Ignoring.antt"),
-    ("crates/glob/CALLING.md", 7, "crates/glob_uses/src/ignore.rt"),
-    ("crates/glob/CALLING.md", 8, "crates/glob_uses/src/sources.rt"),
-    ("crates/glob/CALLING.md", 9, "crates/glob_uses/specs/Sources.antt"),
-    ("crates/glob/CALLING.md", 10, "crates/glob_uses/src/faults.rt"),
-    ("crates/glob/CALLING.md", 11, "crates/glob_uses/src/faults.rt"),
-    ("crates/glob/CALLING.md", 12, "crates/glob_uses/specs/WalkFaults.antt"),
-    ("crates/glob/CALLING.md", 13, "crates/glob_uses/specs/Copying.antt"),
-    ("crates/glob/CALLING.md", 14, "crates/glob_uses/src/copy.rt"),
-    ("crates/glob/CALLING.md", 15, "crates/glob_uses/src/literals.rt"),
-    ("crates/glob/CALLING.md", 16, "crates/glob_uses/proofs/literals/matches_main/Answers.antt"),
-    ("crates/glob/CALLING.md", 17, "crates/glob_uses/src/texts.rt"),
-    ("crates/glob/CALLING.md", 18, "crates/glob_uses/proofs/texts/matches_text/Answers.antt"),
-    ("crates/glob/CALLING.md", 19, "crates/glob_vectors/src/uses.rt"),
-    ("crates/glob/CALLING.md", 20, "crates/glob_vectors/proofs/uses/reread/Answers.antt"),
-    ("crates/glob/CALLING.md", 21, "crates/glob_walks/src/uses.rt"),
-    ("crates/glob/CALLING.md", 22, "crates/glob_walks/specs/FirstPaths.antt"),
-    ("crates/glob/CALLING.md", 23, "crates/glob_vectors/src/trees.rt"),
-    ("crates/glob/CALLING.md", 24, "crates/glob_uses/specs/OneFile.antt"),
-    ("crates/glob/CALLING.md", 25, "crates/glob_uses/src/one_file.rt"),
-    ("crates/glob/CALLING.md", 26, "crates/glob_uses/src/one_file.rt"),
-    ("crates/glob/CALLING.md", 27, "crates/glob_uses/src/one_file.rt"),
-    ("crates/glob/CALLING.md", 28, "crates/glob_uses/proofs/one_file/walk_over_main/Answers.antt"),
-    ("crates/glob/CALLING.md", 29, "crates/glob_uses/proofs/one_file/walk_over_main/Answers.antt"),
-    ("crates/glob/CALLING.md", 30, "crates/glob_names/src/judge.rt"),
-]
+# The pages with examples: the file that has each block of Rust or of proofs word for word, in the order of the page.
+EXAMPLES = {
+    "README.md": [
+        "crates/glob_vectors/src/tests/readme.rt",
+        "rust/tests/glob.rs",
+    ],
+    "crates/glob/CALLING.md": [
+        "crates/glob_uses/src/lists.rt",
+        "crates/glob_uses/proofs/lists/first_match/Invariants.antt",
+        "crates/glob_uses/proofs/lists/first_match/Answers.antt",
+        "crates/glob_uses/src/router.rt",
+        "crates/glob_uses/src/ignore.rt",
+        "crates/glob_uses/src/literals.rt",
+        "crates/glob_uses/proofs/literals/matches_main/Answers.antt",
+        "crates/glob_vectors/src/uses.rt",
+        "crates/glob_vectors/proofs/uses/reread/Answers.antt",
+        "crates/glob_uses/src/sources.rt",
+        "crates/glob_uses/specs/Sources.antt",
+        "crates/glob_run/src/find.rt",
+        "crates/glob_vectors/src/trees.rt",
+        "crates/glob_uses/src/one_file.rt",
+        "crates/glob_uses/src/one_file.rt",
+        "crates/glob_uses/proofs/one_file/walk_over_main/Answers.antt",
+        "crates/glob_names/src/judge.rt",
+    ],
+}
 
 
 def lines_of(text):
@@ -67,26 +57,22 @@ def lines_of(text):
     return [line for line in lines if line and not line.startswith(("//!", "///", "--"))]
 
 
-def quotes(page, number, source):
-    """Whether the block on the page is in the source, line after line."""
-    blocks = re.findall(r"```(?:rust|antt)\n(.*?)```", (ROOT / page).read_text(encoding="utf-8"), re.S)
-    wanted, lines = lines_of(blocks[number]), lines_of((ROOT / source).read_text(encoding="utf-8"))
+def is_quoted(block, source):
+    """Whether the block is in the source, line after line."""
+    wanted, lines = lines_of(block), lines_of((ROOT / source).read_text(encoding="utf-8"))
     starts = range(len(lines) - len(wanted) + 1)
     return any(lines[start : start + len(wanted)] == wanted for start in starts)
 
 
-def unlisted_blocks():
-    """The blocks of code on the pages of EXAMPLES of which no row is. tests/manual.py runs those of a shell, and a block of
-    text is a drawing."""
-    found = []
-    for page in sorted({example[0] for example in EXAMPLES}):
-        text = (ROOT / page).read_text(encoding="utf-8")
-        kinds = re.findall(r"^```(\w*)\n.*?^```$", text, re.S | re.M)
-        listed = [example[1] for example in EXAMPLES if example[0] == page]
-        if listed != list(range(len([kind for kind in kinds if kind in ("rust", "antt")]))):
-            found.append(f"{page}: not each block of code is in EXAMPLES")
-        found += [f"{page}: nothing runs a block of {kind}" for kind in kinds if kind not in ("rust", "antt", "sh", "text")]
-    return found
+def wrong_examples(page, sources):
+    """The blocks of a page that are not in their file, or that nothing checks. tests/manual.py runs those of a shell, and
+    a block of text is a drawing."""
+    blocks = re.findall(r"^```(\w*)\n(.*?)^```$", (ROOT / page).read_text(encoding="utf-8"), re.S | re.M)
+    found = [f"nothing checks a block of {kind}" for kind, _ in blocks if kind not in ("rust", "antt", "sh", "text")]
+    quoted = [block for kind, block in blocks if kind in ("rust", "antt")]
+    if len(quoted) != len(sources):
+        return [*found, f"{len(quoted)} blocks, and {len(sources)} files for them"]
+    return found + [f"a block is not in {file}" for block, file in zip(quoted, sources) if not is_quoted(block, file)]
 
 
 def broken_links(page):
@@ -178,19 +164,18 @@ def stale_pages():
 
 
 def main():
-    faults = [f"{example[0]}: the example is not that of {example[2]}" for example in EXAMPLES if not quotes(*example)]
+    faults = [f"{page}: {it}" for page, sources in EXAMPLES.items() for it in wrong_examples(page, sources)]
     for page in PAGES:
         faults += [f"{page}: no file {name}" for name in broken_links(page) + unknown_files(page)]
         faults += [f"{page}: no definition {name}" for name in unknown_definitions(page)]
         # A changelog speaks of what was.
         faults += [f"{page}: no source has {name}" for name in unknown_names(page) if page != "CHANGELOG.md"]
-    faults += unlisted_blocks()
     faults += [f"docs/DEFINITIONS.md: no clause {name}" for name in unknown_clauses()]
     faults += [f"docs/FAULTS.md: no test {name}" for name in unknown_tests()]
     faults += stale_pages()
     for fault in faults:
         print(f"failed: {fault}")
-    checks = len(EXAMPLES) + len(PAGES) + 3 + len(WRITERS)
+    checks = sum(len(sources) for sources in EXAMPLES.values()) + len(PAGES) + 2 + len(WRITERS)
     failed = min(checks, len(faults))
     print(f"{checks - failed} passed, {failed} failed")
     sys.exit(bool(faults))
