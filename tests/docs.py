@@ -20,8 +20,8 @@ OUTSIDE = {"AsRef", "PathWrapper", "once_cell", "read_to_end"}
 # The scripts that write docs/reference.
 WRITERS = ["tests/contracts.py", "tests/words.py", "tests/edits.py"]
 
-# What contracts of std call the answers of its traits.
-CLAUSES_OF_STD = {"eq", "cmp", "hash_input", "output", "is_default"}
+# What the contracts of std's traits say of their answers.
+ANSWERS_OF_STD = ["eq", "cmp", "hash_input", "output", "is_default"]
 
 # The pages with examples: the file that has each block of Rust or of proofs word for word, in the order of the page.
 EXAMPLES = {
@@ -109,19 +109,34 @@ def unknown_definitions(page):
     return found
 
 
+def clauses_of_calls():
+    """Each function of the sources, with the names of its clauses, and each ghost member of a trait, with none."""
+    found = dict.fromkeys(ANSWERS_OF_STD, set())
+    for name in FILES:
+        if name.endswith(".rt"):
+            call = None
+            for line in (ROOT / name).read_text(encoding="utf-8").split("\n"):
+                if named := re.search(r"\bfn (\w+)|^ *ghost (\w+) =", line):
+                    call = found.setdefault(named[1] or named[2], set())
+                elif clause := re.match(r" *ensures (\w+) ", line):
+                    call.add(clause[1])
+    return found
+
+
 def unknown_clauses():
-    """The calls and clauses that the tables of docs/DEFINITIONS.md name and that no source has."""
+    """What the tables of docs/DEFINITIONS.md say has a promise, as `Type::call`, `call`: `clause`, `clause`, and that no
+    source has. Before the colon may also be words, and a module with functions after it."""
+    known = clauses_of_calls()
     text = (ROOT / "docs/DEFINITIONS.md").read_text(encoding="utf-8").split("\n## What a build tool")[0]
-    sources = "\n".join((ROOT / name).read_text(encoding="utf-8") for name in FILES if name.endswith(".rt"))
-    clauses = set(re.findall(r"\b(?:ensures|ghost) (\w+)", sources)) | CLAUSES_OF_STD
-    calls = set(re.findall(r"\bfn (\w+)", sources)) | set(re.findall(r"\b(?:struct|enum) (\w+)", sources))
     found = []
-    for cell in re.findall(r"^\|[^|]*\|[^|]*\|([^|]*)\|$", text, re.M):
-        for part in cell.split(";"):
-            before, colon, after = re.sub(r"(?<=\w)::(?=\w)", ".", part).partition(":")
-            named = re.findall(r"`([\w.]+)`", before)
-            found += [name for name in named if name.split(".")[-1] not in (calls if colon else calls | clauses) and not (ROOT / "crates" / name).is_dir() and name != "laws"]
-            found += [name for name in re.findall(r"`(\w+)`", after) if name not in clauses | calls]
+    for part in ";".join(re.findall(r"^\|[^|]*\|[^|]*\|([^|]*)\|$", text, re.M)).split(";"):
+        before, colon, after = re.sub(r"(\w)::(\w)", r"\1.\2", part).partition(":")
+        calls = [name.split(".")[-1] for name in re.findall(r"`([\w.]+)`", before)]
+        clauses = set().union(*(known[call] for call in calls if call in known), *([] if calls else known.values()))
+        if calls in (["laws"], ["glob_vectors"]):
+            calls, clauses = [], set(known)
+        found += [name for name in calls if name not in known and not re.match(r"[A-Z]", name)]
+        found += [f"{'/'.join(calls)}: {name}" for name in re.findall(r"`(\w+)`", after) if name not in clauses]
     return found
 
 
