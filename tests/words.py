@@ -1,6 +1,7 @@
 #!/usr/bin/env python3
-"""Writes two pages of reference from the sources: docs/reference/words.md has each definition that contracts may cite,
-and docs/reference/lemmas.md each lemma that the crate glob hands to callers, both with their signature and comment.
+"""Writes three pages of reference from the sources: docs/reference/words.md has each definition that contracts may cite,
+docs/reference/lemmas.md each lemma that the crate glob hands to callers, both with their signature and comment, and
+docs/reference/crates.md each crate and file with its first comment.
 
     tests/words.py            writes the pages
     tests/words.py --check    writes nothing, and fails where a page is not what the sources say
@@ -30,6 +31,12 @@ LEMMAS = """# Lemmas for callers
 `tests/words.py` writes this page from the comments and signatures of `proofs/`. A proof cites a lemma by the crate
 `glob`, as `Rattle.glob.proofs.PatternLemmas.{match_by_tokens}`. What a `module` line takes, each lemma in it takes
 first.
+"""
+
+CRATES = """# Crates and files
+
+`tests/words.py` writes this page from `crates.txt` and the first comment of each file, from the lowest crate up.
+[ARCHITECTURE](../ARCHITECTURE.md) says how they stand together.
 """
 
 
@@ -117,8 +124,34 @@ def lemmas_page():
     return "\n".join(parts)
 
 
+def first_sentence(path):
+    """The first sentence of what a file says at its top, or else of its first public item. None if it says nothing."""
+    text = path.read_text(encoding="utf-8")
+    top = re.match(r"(?:(?://!|--).*\n)+", text)
+    item = re.search(r"((?:^///.*\n)+)(?:#\[.*\n)*pub(?:\(crate\))? (?:struct|enum|trait|fn)", text, re.M)
+    said = top[0] if top else item[1] if item else ""
+    paragraph = re.split(r"\n(?:///|//!|--)\n", said)[0]
+    words = " ".join(re.sub(r"^(?://[/!]|--) ?", "", line) for line in paragraph.split("\n")).strip()
+    return re.split(r"(?<=[.:]) (?=[A-Z`])", words)[0].rstrip(".:") or None
+
+
+def crates_page():
+    parts = [CRATES]
+    for line in (ROOT / "crates.txt").read_text(encoding="utf-8").split("\n"):
+        if not line or line.startswith("#"):
+            continue
+        crate, _, below = line.partition(":")
+        folder = ROOT / "crates" / crate.split()[0]
+        files = [*sorted((folder / "src").rglob("*.rt")), *sorted((folder / "specs").rglob("*.antt"))]
+        rows = [(path.relative_to(folder), first_sentence(path)) for path in files]
+        on = ", ".join(f"`{it}`" for it in below.split())
+        rows = [f"- `{path}`: {said}" for path, said in rows if said]
+        parts.append(f"## `{crate.split()[0]}`\n\nStands on {on or 'std alone'}.\n\n" + "\n".join(rows) + "\n")
+    return "\n".join(parts)
+
+
 def main():
-    for name, text in (("words.md", words_page()), ("lemmas.md", lemmas_page())):
+    for name, text in (("words.md", words_page()), ("lemmas.md", lemmas_page()), ("crates.md", crates_page())):
         page = REFERENCE / name
         if "--check" not in sys.argv:
             page.write_text(text, encoding="utf-8")
