@@ -15,7 +15,7 @@ FILES = [str(path) for path in PATHS if not {"out", ".git"} & set(path.parts)]
 PAGES = [name for name in FILES if name.endswith(".md")]
 
 # Names on the pages that no source has: those of the original crate, of std and of the toolchain.
-OUTSIDE = {"AsRef", "PathWrapper", "once_cell", "read_to_end"}
+OUTSIDE = {"PathWrapper", "once_cell", "read_to_end"}
 
 # The scripts that write docs/reference.
 WRITERS = ["tests/contracts.py", "tests/words.py", "tests/edits.py"]
