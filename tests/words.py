@@ -23,7 +23,7 @@ WORDS = """# Words of contracts
 `tests/words.py` writes this page from the comments and signatures of `specs/`. A proof cites a word of the library by
 the crate `glob`, as `Rattle.glob.specs.Matching.Texts.{Matches}`, its structs and enums by `Types`, and their variants
 by `Variants`, as `Rattle.glob.specs.Variants.End.{Done}`. Words that are not here are std's. An `unfoldable` word is
-closed: a goal shows it as the contract has it, and [lemmas](lemmas.md) open it.
+opaque: a goal shows it as the contract has it, and [lemmas](lemmas.md) open it.
 """
 
 LEMMAS = """# Lemmas for callers
