@@ -127,7 +127,7 @@ def unknown_clauses():
     """What the tables of docs/DEFINITIONS.md say has a promise, as `Type::call`, `call`: `clause`, `clause`, and that no
     source has. Before the colon may also be words, and a module with functions after it."""
     known = clauses_of_calls()
-    text = (ROOT / "docs/DEFINITIONS.md").read_text(encoding="utf-8").split("\n## What a build tool")[0]
+    text = (ROOT / "docs/DEFINITIONS.md").read_text(encoding="utf-8").split("\n## What each premise")[0]
     found = []
     for part in ";".join(re.findall(r"^\|[^|]*\|[^|]*\|([^|]*)\|$", text, re.M)).split(";"):
         before, colon, after = re.sub(r"(\w)::(\w)", r"\1.\2", part).partition(":")
