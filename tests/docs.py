@@ -30,6 +30,7 @@ EXAMPLES = {
         "rust/tests/glob.rs",
     ],
     "crates/glob/CALLING.md": [
+        "crates/glob_vectors/src/tests/readme.rt",
         "crates/glob_uses/src/lists.rt",
         "crates/glob_uses/proofs/lists/first_match/Invariants.antt",
         "crates/glob_uses/proofs/lists/first_match/Answers.antt",
@@ -39,6 +40,9 @@ EXAMPLES = {
         "crates/glob_uses/proofs/literals/matches_main/Answers.antt",
         "crates/glob_vectors/src/uses.rt",
         "crates/glob_vectors/proofs/uses/reread/Answers.antt",
+        "crates/glob_vectors/src/tests/lines.rt",
+        "crates/glob_run/src/tests/disk.rt",
+        "crates/glob_run/src/tests/disk.rt",
         "crates/glob_uses/src/sources.rt",
         "crates/glob_uses/specs/Sources.antt",
         "crates/glob_run/src/find.rt",
