@@ -115,7 +115,7 @@ def unknown_definitions(page):
 
 def clauses_of_calls():
     """Each function of the sources, with the names of its clauses, and each ghost member of a trait, with none."""
-    found = dict.fromkeys(ANSWERS_OF_STD, set())
+    found = {name: set() for name in ANSWERS_OF_STD}
     for name in FILES:
         if name.endswith(".rt"):
             call = None
