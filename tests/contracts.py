@@ -1,5 +1,6 @@
 #!/usr/bin/env python3
-"""Quotes the contracts of the library's public calls in docs/reference/contracts.md. And checks that each public type has
+"""Quotes the contracts of public calls in docs/reference/contracts.md: those of the library, of what the program promises
+of its words and output, and of the library for C. And checks that each public type has
 a row in crates/glob/CALLING.md, and that each word of a public clause is in docs/reference/words.md under its module.
 
     tests/contracts.py            writes the quotes anew
@@ -15,10 +16,17 @@ CALLING = ROOT / "crates/glob/CALLING.md"
 PAGE = ROOT / "docs/reference/contracts.md"
 WORDS = ROOT / "docs/reference/words.md"
 CRATES = ["glob_pattern", "glob_lines", "glob_tree", "glob_walk"]
+OTHERS = {
+    "glob_run": {"run_words", "find_in"},
+    "glob_c": None,
+}
 
 
 def public_names(crate):
-    """What the crate glob re-exports of a crate."""
+    """What the crate glob re-exports of a crate. What is quoted of another crate, of one for C the exported functions."""
+    if crate in OTHERS:
+        sources = [path.read_text(encoding="utf-8") for path in (ROOT / "crates" / crate / "src").rglob("*.rt")]
+        return OTHERS[crate] or set(re.findall(r'pub extern "C" fn (\w+)', "\n".join(sources)))
     text = (ROOT / "crates/glob/src/lib.rt").read_text(encoding="utf-8")
     return set(re.findall(r"\w+", " ".join(re.findall(rf"pub use {crate}::([^;]*);", text))))
 
@@ -66,7 +74,7 @@ def quotes(path, names):
             end = next(n for n in range(number, len(lines)) if lines[n].endswith("};"))
             clause = "\n".join(lines[number : end + 1])
             found.append((found.pop() + "\n" if again else head) + clause)
-        call = re.match(r"(    )?(pub )?(const )?fn (\w+)", line)
+        call = re.match(r'(    )?(pub )?(const |extern "C" )?fn (\w+)', line)
         if not call or not (call[2] or in_trait):
             continue
         if (owner or call[4]) not in names or bool(call[1]) != bool(owner):
@@ -83,7 +91,7 @@ def quotes(path, names):
 
 def page():
     parts = []
-    for crate in CRATES:
+    for crate in [*CRATES, *OTHERS]:
         names = public_names(crate)
         source = ROOT / "crates" / crate / "src"
         for path in sorted(source.rglob("*.rt"), key=lambda path: path.with_suffix("").parts):
