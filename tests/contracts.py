@@ -113,7 +113,7 @@ def words():
             for module, imported in uses:
                 module = re.sub(r"declared\.[\w.]*?(\w+)\.TheVariants", r"Variants.\1", module)
                 for word in re.findall(r"\w+(?: as \w+)?", imported):
-                    if word.split()[-1] in used and not module.startswith("Private"):
+                    if word.split()[-1] in used and not module.startswith(("Private", "declared")):
                         found[word.split()[0]] = module
     return found
 

@@ -177,9 +177,11 @@ def unknown_tests():
 
 
 def stale_pages():
-    """What the scripts say that write docs/reference."""
+    """What the scripts say that write docs/reference, and whether README names another toolchain."""
     ran = [subprocess.run([ROOT / it, "--check"], capture_output=True, text=True) for it in WRITERS]
-    return [it.stderr.strip() for it in ran if it.returncode != 0]
+    toolchain = (ROOT / "TOOLCHAIN").read_text(encoding="utf-8").strip()
+    is_named = f"`{toolchain}`" in (ROOT / "README.md").read_text(encoding="utf-8")
+    return [it.stderr.strip() for it in ran if it.returncode != 0] + ([] if is_named else [f"README.md: not {toolchain}"])
 
 
 def main():
@@ -194,7 +196,7 @@ def main():
     faults += stale_pages()
     for fault in faults:
         print(f"failed: {fault}")
-    checks = sum(len(sources) for sources in EXAMPLES.values()) + len(PAGES) + 2 + len(WRITERS)
+    checks = sum(len(sources) for sources in EXAMPLES.values()) + len(PAGES) + 3 + len(WRITERS)
     failed = min(checks, len(faults))
     print(f"{checks - failed} passed, {failed} failed")
     sys.exit(bool(faults))
