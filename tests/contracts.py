@@ -1,6 +1,7 @@
 #!/usr/bin/env python3
-"""Quotes the contracts of the library's public calls in docs/reference/contracts.md. And checks the tables of
-crates/glob/CALLING.md: each public type has a row, and each word of a public clause one with the module that has it.
+"""Quotes the contracts of public calls in docs/reference/contracts.md: those of the library, of what the program promises
+of its words and output, and of the library for C. And checks that each public type has
+a row in crates/glob/CALLING.md, and that each word of a public clause is in docs/reference/words.md under its module.
 
     tests/contracts.py            writes the quotes anew
     tests/contracts.py --check    writes nothing, and fails where a quote is not what src/ says
@@ -13,11 +14,19 @@ from pathlib import Path
 ROOT = Path(__file__).resolve().parent.parent
 CALLING = ROOT / "crates/glob/CALLING.md"
 PAGE = ROOT / "docs/reference/contracts.md"
+WORDS = ROOT / "docs/reference/words.md"
 CRATES = ["glob_pattern", "glob_lines", "glob_tree", "glob_walk"]
+OTHERS = {
+    "glob_run": {"run_words", "find_in"},
+    "glob_c": None,
+}
 
 
 def public_names(crate):
-    """What the crate glob re-exports of a crate."""
+    """What the crate glob re-exports of a crate. What is quoted of another crate, of one for C the exported functions."""
+    if crate in OTHERS:
+        sources = [path.read_text(encoding="utf-8") for path in (ROOT / "crates" / crate / "src").rglob("*.rt")]
+        return OTHERS[crate] or set(re.findall(r'pub extern "C" fn (\w+)', "\n".join(sources)))
     text = (ROOT / "crates/glob/src/lib.rt").read_text(encoding="utf-8")
     return set(re.findall(r"\w+", " ".join(re.findall(rf"pub use {crate}::([^;]*);", text))))
 
@@ -65,7 +74,7 @@ def quotes(path, names):
             end = next(n for n in range(number, len(lines)) if lines[n].endswith("};"))
             clause = "\n".join(lines[number : end + 1])
             found.append((found.pop() + "\n" if again else head) + clause)
-        call = re.match(r"(    )?(pub )?(const )?fn (\w+)", line)
+        call = re.match(r'(    )?(pub )?(const |extern "C" )?fn (\w+)', line)
         if not call or not (call[2] or in_trait):
             continue
         if (owner or call[4]) not in names or bool(call[1]) != bool(owner):
@@ -82,7 +91,7 @@ def quotes(path, names):
 
 def page():
     parts = []
-    for crate in CRATES:
+    for crate in [*CRATES, *OTHERS]:
         names = public_names(crate)
         source = ROOT / "crates" / crate / "src"
         for path in sorted(source.rglob("*.rt"), key=lambda path: path.with_suffix("").parts):
@@ -104,16 +113,23 @@ def words():
             for module, imported in uses:
                 module = re.sub(r"declared\.[\w.]*?(\w+)\.TheVariants", r"Variants.\1", module)
                 for word in re.findall(r"\w+(?: as \w+)?", imported):
-                    if word.split()[-1] in used and not module.startswith("Private"):
+                    if word.split()[-1] in used and not module.startswith(("Private", "declared")):
                         found[word.split()[0]] = module
     return found
 
 
-def missing_rows(text):
-    """The public types and the words of public clauses of which the page has no row."""
-    rows = dict(re.findall(r"^\| `(\w+)`[^|]* \| ([^|]*) \|", text, re.M))
-    lacks = [word for word, module in sorted(words().items()) if rows.get(word) != f"`{module}`"]
-    return lacks + [name for crate in CRATES for name in sorted(public_names(crate)) if name[0].isupper() and name not in rows]
+def missing_words():
+    """The words of public clauses that the page of words has not under their module."""
+    parts = re.findall(r"^## `([\w.]+)`\n(.*?)(?=^## |\Z)", WORDS.read_text(encoding="utf-8"), re.M | re.S)
+    known = {module: set(re.findall(r"[\w]+", text)) for module, text in parts}
+    used = {word: module for word, module in words().items() if not module.startswith("Variants.")}
+    return [f"{module}.{word}" for word, module in sorted(used.items()) if word not in known.get(module, set())]
+
+
+def missing_types():
+    """The public types of which CALLING has no row."""
+    rows = set(re.findall(r"^\| `(\w+)`[^|]* \| [^|]* \|", CALLING.read_text(encoding="utf-8"), re.M))
+    return [name for crate in CRATES for name in sorted(public_names(crate)) if name[0].isupper() and name not in rows]
 
 
 def main():
@@ -123,8 +139,10 @@ def main():
         PAGE.write_text(wanted, encoding="utf-8")
     elif wanted != text:
         sys.exit(f"{PAGE.relative_to(ROOT)}: the contracts are not those of src/. Run tests/contracts.py.")
-    if missing := missing_rows(CALLING.read_text(encoding="utf-8")):
-        sys.exit(f"{CALLING.relative_to(ROOT)}: no row with its module: {', '.join(missing)}")
+    if missing := missing_types():
+        sys.exit(f"{CALLING.relative_to(ROOT)}: no row of {', '.join(missing)}")
+    if missing := missing_words():
+        sys.exit(f"{WORDS.relative_to(ROOT)}: no word {', '.join(missing)}")
 
 
 main()

@@ -1,7 +1,9 @@
 #!/usr/bin/env python3
-"""Checks what the pages say of the sources: links, names of files, definitions, words, edits and tests, and code that a
-page quotes. Prints what is wrong, and last how many checks passed and failed."""
+"""Checks what the pages say of the sources: links, names of files, definitions, clauses and tests, every other name in
+the sources, code that a page quotes, and that the pages of reference are those that the sources make. Prints what is
+wrong, and last how many checks passed and failed."""
 
+import functools
 import re
 import subprocess
 import sys
@@ -12,41 +14,45 @@ PATHS = (path.relative_to(ROOT) for path in ROOT.rglob("*.*") if path.is_file())
 FILES = [str(path) for path in PATHS if not {"out", ".git"} & set(path.parts)]
 PAGES = [name for name in FILES if name.endswith(".md")]
 
-# A page, which of its blocks of Rust or of proofs, and the file that holds the block word for word.
-EXAMPLES = [
-    ("README.md", 0, "crates/glob_vectors/src/tests/readme.rt"),
-    ("crates/glob/CALLING.md", 0, "crates/glob_uses/src/lists.rt"),
-    ("crates/glob/CALLING.md", 1, "crates/glob_uses/src/lists.rt"),
-    ("crates/glob/CALLING.md", 2, "crates/glob/specs/Lists.antt"),
-    ("crates/glob/CALLING.md", 3, "crates/glob_uses/proofs/lists/first_match/Invariants.antt"),
-    ("crates/glob/CALLING.md", 4, "crates/glob_uses/proofs/lists/first_match/Answers.antt"),
-    ("crates/glob/CALLING.md", 5, "crates/glob_uses/src/router.rt"),
-    ("crates/glob/CALLING.md", 6, "crates/glob_uses/specs/Ignoring.antt"),
-    ("crates/glob/CALLING.md", 7, "crates/glob_uses/src/ignore.rt"),
-    ("crates/glob/CALLING.md", 8, "crates/glob_uses/src/sources.rt"),
-    ("crates/glob/CALLING.md", 9, "crates/glob_uses/specs/Sources.antt"),
-    ("crates/glob/CALLING.md", 10, "crates/glob_uses/src/faults.rt"),
-    ("crates/glob/CALLING.md", 11, "crates/glob_uses/src/faults.rt"),
-    ("crates/glob/CALLING.md", 12, "crates/glob_uses/specs/WalkFaults.antt"),
-    ("crates/glob/CALLING.md", 13, "crates/glob_uses/specs/Copying.antt"),
-    ("crates/glob/CALLING.md", 14, "crates/glob_uses/src/copy.rt"),
-    ("crates/glob/CALLING.md", 15, "crates/glob_uses/src/literals.rt"),
-    ("crates/glob/CALLING.md", 16, "crates/glob_uses/proofs/literals/matches_main/Answers.antt"),
-    ("crates/glob/CALLING.md", 17, "crates/glob_uses/src/texts.rt"),
-    ("crates/glob/CALLING.md", 18, "crates/glob_uses/proofs/texts/matches_text/Answers.antt"),
-    ("crates/glob/CALLING.md", 19, "crates/glob_vectors/src/uses.rt"),
-    ("crates/glob/CALLING.md", 20, "crates/glob_vectors/proofs/uses/reread/Answers.antt"),
-    ("crates/glob/CALLING.md", 21, "crates/glob_walks/src/uses.rt"),
-    ("crates/glob/CALLING.md", 22, "crates/glob_walks/specs/FirstPaths.antt"),
-    ("crates/glob/CALLING.md", 23, "crates/glob_vectors/src/trees.rt"),
-    ("crates/glob/CALLING.md", 24, "crates/glob_uses/specs/OneFile.antt"),
-    ("crates/glob/CALLING.md", 25, "crates/glob_uses/src/one_file.rt"),
-    ("crates/glob/CALLING.md", 26, "crates/glob_uses/src/one_file.rt"),
-    ("crates/glob/CALLING.md", 27, "crates/glob_uses/src/one_file.rt"),
-    ("crates/glob/CALLING.md", 28, "crates/glob_uses/proofs/one_file/walk_over_main/Answers.antt"),
-    ("crates/glob/CALLING.md", 29, "crates/glob_uses/proofs/one_file/walk_over_main/Answers.antt"),
-    ("crates/glob/CALLING.md", 30, "crates/glob_names/src/judge.rt"),
-]
+# Names on the pages that no source has: those of the original crate, of std and of the toolchain.
+OUTSIDE = {"PathWrapper", "once_cell", "read_to_end"}
+
+# The scripts that write docs/reference.
+WRITERS = ["tests/contracts.py", "tests/words.py", "tests/edits.py"]
+
+# What the contracts of std's traits say of their answers.
+ANSWERS_OF_STD = ["eq", "cmp", "hash_input", "output", "is_default"]
+
+# The pages with examples: the file that has each block of Rust or of proofs word for word, in the order of the page.
+EXAMPLES = {
+    "README.md": [
+        "crates/glob_vectors/src/tests/readme.rt",
+        "rust/tests/glob.rs",
+    ],
+    "crates/glob/CALLING.md": [
+        "crates/glob_vectors/src/tests/readme.rt",
+        "crates/glob_uses/src/lists.rt",
+        "crates/glob_uses/proofs/lists/first_match/Invariants.antt",
+        "crates/glob_uses/proofs/lists/first_match/Answers.antt",
+        "crates/glob_uses/src/router.rt",
+        "crates/glob_uses/src/ignore.rt",
+        "crates/glob_uses/src/literals.rt",
+        "crates/glob_uses/proofs/literals/matches_main/Answers.antt",
+        "crates/glob_vectors/src/uses.rt",
+        "crates/glob_vectors/proofs/uses/reread/Answers.antt",
+        "crates/glob_vectors/src/tests/lines.rt",
+        "crates/glob_run/src/tests/disk.rt",
+        "crates/glob_run/src/tests/disk.rt",
+        "crates/glob_uses/src/sources.rt",
+        "crates/glob_uses/specs/Sources.antt",
+        "crates/glob_run/src/find.rt",
+        "crates/glob_vectors/src/trees.rt",
+        "crates/glob_uses/src/one_file.rt",
+        "crates/glob_uses/src/one_file.rt",
+        "crates/glob_uses/proofs/one_file/walk_over_main/Answers.antt",
+        "crates/glob_names/src/judge.rt",
+    ],
+}
 
 
 def lines_of(text):
@@ -55,61 +61,38 @@ def lines_of(text):
     return [line for line in lines if line and not line.startswith(("//!", "///", "--"))]
 
 
-def quotes(page, number, source):
-    """Whether the block on the page is in the source, line after line."""
-    blocks = re.findall(r"```(?:rust|antt)\n(.*?)```", (ROOT / page).read_text(encoding="utf-8"), re.S)
-    wanted, lines = lines_of(blocks[number]), lines_of((ROOT / source).read_text(encoding="utf-8"))
+def is_quoted(block, source):
+    """Whether the block is in the source, line after line."""
+    wanted, lines = lines_of(block), lines_of((ROOT / source).read_text(encoding="utf-8"))
     starts = range(len(lines) - len(wanted) + 1)
     return any(lines[start : start + len(wanted)] == wanted for start in starts)
 
 
-def unlisted_blocks():
-    """The blocks of code on the pages of EXAMPLES of which no row is. tests/manual.py runs those of a shell."""
-    found = []
-    for page in sorted({example[0] for example in EXAMPLES}):
-        text = (ROOT / page).read_text(encoding="utf-8")
-        kinds = re.findall(r"^```(\w*)\n.*?^```$", text, re.S | re.M)
-        listed = [example[1] for example in EXAMPLES if example[0] == page]
-        if listed != list(range(len([kind for kind in kinds if kind in ("rust", "antt")]))):
-            found.append(f"{page}: not each block of code is in EXAMPLES")
-        found += [f"{page}: nothing runs a block of {kind}" for kind in kinds if kind not in ("rust", "antt", "sh")]
-    return found
-
-
-def unknown_lemmas():
-    """The lemmas that crates/glob/CALLING.md names and that the module of their row has not."""
-    text = (ROOT / "crates/glob/CALLING.md").read_text(encoding="utf-8").split("\n## Lemmas for loops\n")[1].split("\n## ")[0]
-    found = []
-    for names, module in re.findall(r"^\| ((?:`[\w-]+`(?:, )?)+) \| `(\w+)` \|", text, re.M):
-        lemmas = (ROOT / f"crates/glob/proofs/{module}.antt").read_text(encoding="utf-8")
-        found += [name for name in re.findall(r"[\w-]+", names) if not re.search(rf"\bpub (record )?{name} |^pub use .*[{{ ]{name}[,}}]", lemmas, re.M)]
-    return found
-
-
-def unknown_words():
-    """The words of the library that crates/glob/CALLING.md lists and that their module has not."""
-    text = (ROOT / "crates/glob/CALLING.md").read_text(encoding="utf-8")
-    rows = re.findall(r"^\| `(\w+)` \| `([A-Z][\w.]*)` \|", text.split("\n## Words\n")[1].split("\n## ")[0], re.M)
-    found = []
-    for word, module in rows:
-        if module.startswith("Rattle."):
-            continue
-        path, enum = f"specs/{module.replace('.', '/')}.antt", module.removeprefix("Variants.")
-        if module == enum:
-            sources = [name for name in FILES if name.endswith(f"/{path}")]
-            declared = rf"\bpub (record |data )?{word}\b|^  {word} :"
-        else:
-            sources = [name for name in FILES if name.endswith(".rt")]
-            declared = rf"^pub(?:\(crate\))? enum {enum}\b.*(\n.+)*?\n    {word}\b"
-        if not any(re.search(declared, (ROOT / name).read_text(encoding="utf-8"), re.M) for name in sources):
-            found.append(f"{module}.{word}")
-    return found
+def wrong_examples(page, sources):
+    """The blocks of a page that are not in their file, or that nothing checks. tests/manual.py runs those of a shell, and
+    a block of text is a drawing."""
+    blocks = re.findall(r"^```(\w*)\n(.*?)^```$", (ROOT / page).read_text(encoding="utf-8"), re.S | re.M)
+    found = [f"nothing checks a block of {kind}" for kind, _ in blocks if kind not in ("rust", "antt", "sh", "text")]
+    quoted = [block for kind, block in blocks if kind in ("rust", "antt")]
+    if len(quoted) != len(sources):
+        return [*found, f"{len(quoted)} blocks, and {len(sources)} files for them"]
+    return found + [f"a block is not in {file}" for block, file in zip(quoted, sources) if not is_quoted(block, file)]
 
 
 def broken_links(page):
-    """The links of a page to files that are not there."""
-    links = re.findall(r"\]\(([^):#]+)\)", (ROOT / page).read_text(encoding="utf-8"))
-    return [link for link in links if not (ROOT / page).parent.joinpath(link).exists()]
+    """The links of a page to files, or to headings of pages, that are not there."""
+    found = []
+    for link, file, heading in re.findall(r"\]\((([^):#]*)(?:#([^)]*))?)\)", (ROOT / page).read_text(encoding="utf-8")):
+        path = (ROOT / page).parent / file if file else ROOT / page
+        if not path.exists() or (heading and heading not in headings(path)):
+            found.append(link)
+    return found
+
+
+def headings(path):
+    """The headings of a page as links name them."""
+    lines = re.findall(r"^#+ (.*)$", path.read_text(encoding="utf-8"), re.M)
+    return {re.sub(r"[^\w -]", "", line.lower()).replace(" ", "-") for line in lines}
 
 
 def unknown_files(page):
@@ -130,11 +113,53 @@ def unknown_definitions(page):
     return found
 
 
-def unknown_edits():
-    """The edits that the tables of docs/PROOFS.md name and that are not there."""
-    rows = re.findall(r"^\|[^|]*\|((?: `\w+`,?)+) \|", (ROOT / "docs/PROOFS.md").read_text(encoding="utf-8"), re.M)
-    edits = {Path(name).stem for name in FILES if name.endswith(".edit")}
-    return [name for row in rows for name in re.findall(r"\w+", row) if name not in edits]
+def clauses_of_calls():
+    """Each function of the sources, with the names of its clauses, and each ghost member of a trait, with none."""
+    found = {name: set() for name in ANSWERS_OF_STD}
+    for name in FILES:
+        if name.endswith(".rt"):
+            call = None
+            for line in (ROOT / name).read_text(encoding="utf-8").split("\n"):
+                if named := re.search(r"\bfn (\w+)|^ *ghost (\w+) =", line):
+                    call = found.setdefault(named[1] or named[2], set())
+                elif clause := re.match(r" *ensures (\w+) ", line):
+                    call.add(clause[1])
+    return found
+
+
+def unknown_clauses():
+    """What the tables of docs/DEFINITIONS.md say has a promise, as `Type::call`, `call`: `clause`, `clause`, and that no
+    source has. Before the colon may also be words, and a module with functions after it."""
+    known = clauses_of_calls()
+    text = (ROOT / "docs/DEFINITIONS.md").read_text(encoding="utf-8").split("\n## What each premise")[0]
+    found = []
+    for part in ";".join(re.findall(r"^\|[^|]*\|[^|]*\|([^|]*)\|$", text, re.M)).split(";"):
+        before, colon, after = re.sub(r"(\w)::(\w)", r"\1.\2", part).partition(":")
+        calls = [name.split(".")[-1] for name in re.findall(r"`([\w.]+)`", before)]
+        clauses = set().union(*(known[call] for call in calls if call in known), *([] if calls else known.values()))
+        if calls in (["laws"], ["glob_vectors"]):
+            calls, clauses = [], set(known)
+        found += [name for name in calls if name not in known and not re.match(r"[A-Z]", name)]
+        found += [f"{'/'.join(calls)}: {name}" for name in re.findall(r"`(\w+)`", after) if name not in clauses]
+    return found
+
+
+def unknown_names(page):
+    """The names in the text of a page, such as `some_name` or `SomeName`, that no source has."""
+    text = re.sub(r"```.*?```", "", (ROOT / page).read_text(encoding="utf-8"), flags=re.S)
+    named = {it for it in re.findall(r"`([A-Za-z_][\w-]*)`", text) if re.search(r"[a-z][_A-Z]|_", it)}
+    return sorted(named - source_names())
+
+
+@functools.cache
+def source_names():
+    """Each name in a source, and that of each file."""
+    found = set(OUTSIDE)
+    for name in FILES:
+        if not name.endswith((".md", ".json", ".tsv")):
+            text = (ROOT / name).read_bytes().decode("utf-8", "replace")
+            found |= set(re.findall(r"\w+(?:-\w+)*", text)) | set(re.findall(r"\w+", text)) | {Path(name).stem}
+    return found
 
 
 def unknown_tests():
@@ -151,22 +176,27 @@ def unknown_tests():
     return found + [row for cell in cells for row in re.findall(r'"([^"]*)"', cell) if f" '{row}' " not in rows]
 
 
+def stale_pages():
+    """What the scripts say that write docs/reference, and whether README names another toolchain."""
+    ran = [subprocess.run([ROOT / it, "--check"], capture_output=True, text=True) for it in WRITERS]
+    toolchain = (ROOT / "TOOLCHAIN").read_text(encoding="utf-8").strip()
+    is_named = f"`{toolchain}`" in (ROOT / "README.md").read_text(encoding="utf-8")
+    return [it.stderr.strip() for it in ran if it.returncode != 0] + ([] if is_named else [f"README.md: not {toolchain}"])
+
+
 def main():
-    faults = [f"{example[0]}: the example is not that of {example[2]}" for example in EXAMPLES if not quotes(*example)]
+    faults = [f"{page}: {it}" for page, sources in EXAMPLES.items() for it in wrong_examples(page, sources)]
     for page in PAGES:
         faults += [f"{page}: no file {name}" for name in broken_links(page) + unknown_files(page)]
         faults += [f"{page}: no definition {name}" for name in unknown_definitions(page)]
-    faults += unlisted_blocks()
-    faults += [f"crates/glob/CALLING.md: no lemma {name}" for name in unknown_lemmas()]
-    faults += [f"crates/glob/CALLING.md: no word {name}" for name in unknown_words()]
-    faults += [f"docs/PROOFS.md: no edit {name}" for name in unknown_edits()]
+        # A changelog speaks of what was.
+        faults += [f"{page}: no source has {name}" for name in unknown_names(page) if page != "CHANGELOG.md"]
+    faults += [f"docs/DEFINITIONS.md: no clause {name}" for name in unknown_clauses()]
     faults += [f"docs/FAULTS.md: no test {name}" for name in unknown_tests()]
-    contracts = subprocess.run([ROOT / "tests/contracts.py", "--check"], capture_output=True, text=True)
-    if contracts.returncode != 0:
-        faults.append(contracts.stderr.strip())
+    faults += stale_pages()
     for fault in faults:
         print(f"failed: {fault}")
-    checks = len(EXAMPLES) + len(PAGES) + 6
+    checks = sum(len(sources) for sources in EXAMPLES.values()) + len(PAGES) + 3 + len(WRITERS)
     failed = min(checks, len(faults))
     print(f"{checks - failed} passed, {failed} failed")
     sys.exit(bool(faults))
