@@ -22,7 +22,7 @@ edits        8 glob_lines
 edits        6 glob_c
 edits        4 glob_uses
 edits      100 all crates
-functions  110 glob_pattern
+functions  150 glob_pattern
 '
 
 # pages that a program writes, and the note beside the data of the original crate

@@ -10,7 +10,7 @@ use Rattle.glob.specs.Grammar.Faults.{Refuses}
 use Rattle.glob_pattern.specs.declared.error.PatternRefusal.{PatternRefusal}
 use Rattle.glob_names.specs.Names.{IsComponent, RefusesComponent}
 
--- what stands in a list from place n on
+-- what is in a list from place n on
 drop_from : {X : Type 0} (xs : List X) (n : ℕ) (x : X) → n < length xs → x ≡ get_or xs n x → drop n xs ≡ x ∷ drop (n + 1) xs
 drop_from xs n x below is = rw add-one (drop-cons xs n x below ∙ ap (λ y. y ∷ drop (suc n) xs) (sym is))
 

@@ -10,7 +10,7 @@ use Rattle.glob.specs.Grammar.Faults.{Refuses}
 use Rattle.glob.specs.Matching.Texts.{Matches}
 use Rattle.glob_pattern.specs.declared.error.PatternRefusal.{PatternRefusal}
 
--- What stands between the separators of a text: a path's names, a path pattern's components.
+-- What is between the separators of a text: a path's names, a path pattern's components.
 abbrev pub names_of : List ℕ → List (List ℕ)
 names_of text = slice_split (λ b. b == slash) text
 

@@ -1,6 +1,6 @@
 //! Path patterns that are decided name by name: an example of a judge of another alphabet than text.
 //!
-//! The characters of this alphabet are the names of a path, which stand between its `/`, and a token takes a whole
+//! The characters of this alphabet are the names of a path, which are between its `/`, and a token takes a whole
 //! name. So `a/**/*.rs` has three tokens: two patterns of one name each, and `**`, which takes any number of names.
 //! It matches `a/x/y/z.rs`:
 //!

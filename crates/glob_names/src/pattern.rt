@@ -52,7 +52,7 @@ impl<A: Allocator + Copy> PathPattern<A> {
         })
     }
 
-    /// Whether the path's names, what stands between its `/`, are groups in a row, one a component: of `**` any number
+    /// Whether the path's names, what is between its `/`, are groups in a row, one a component: of `**` any number
     /// of names, of another component one name that it matches, case-sensitively. Fails only if allocation fails.
     ///
     /// So `a/**/b` matches `a/b` and `a/x/y/b`. And `a/**` matches `a`, with no names for `**`.

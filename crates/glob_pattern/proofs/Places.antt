@@ -1,4 +1,4 @@
--- Lists from a place on: what stands there, and what a piece at its front leaves.
+-- Lists from a place on: what is there, and what a piece at its front leaves.
 use Rattle.std.proofs.Common.{◌≡◌, ℕ, suc, ◌+◌, ◌-◌, ◌<◌, ◌≤◌, List, [], ◌∷◌, ◌++◌, length, get_or, drop, refl, sym, ap, ◌∙◌, arith}
 use Rattle.std.proofs.lemmas.List.{get_or-drop, drop-drop, drop_at, length-drop, length-append, get_or_append_left}
 
@@ -16,7 +16,7 @@ get_or-at_drop xs ys n x d e =
 pub drop-at_drop : {X : Type 0} (xs ys : List X) (n : ℕ) (x : X) → drop n xs ≡ x ∷ ys → drop (n + 1) xs ≡ ys
 drop-at_drop xs ys n x e = sym (drop-drop 1 n xs) ∙ ap (λ zs. drop 1 zs) e
 
--- an element stands at place n
+-- an element is at place n
 pub length-at_drop : {X : Type 0} (xs ys : List X) (n : ℕ) (x : X) → drop n xs ≡ x ∷ ys → length xs ≡ n + suc (length ys)
 length-at_drop {X} xs ys n x e =
     let l : length xs - n ≡ suc (length ys) = sym (length-drop n xs) ∙ ap length e in
@@ -28,7 +28,7 @@ length-at_end xs n e h =
     let l : length xs - n ≡ 0 = sym (length-drop n xs) ∙ ap length e in
     omega arith
 
--- what stands after a piece at place n
+-- what is after a piece at place n
 pub drop-after_piece : {X : Type 0} (xs piece rest : List X) (n : ℕ) → drop n xs ≡ piece ++ rest → drop (n + length piece) xs ≡ rest
 drop-after_piece xs piece rest n e =
     sym (drop-drop (length piece) n xs) ∙ ap (λ zs. drop (length piece) zs) e ∙ drop_at piece rest (length piece) refl

@@ -109,7 +109,7 @@ JoinedMatchLevels =
     → is_match (with_separator_rule o) (join_with_byte slash (t ∷ ts)) (join_with_byte slash (n ∷ ns))
     ≡ takes_names o (is_match o) (t ∷ ts) (n ∷ ns)
 
--- so they do where both stand after a first separator
+-- so they do where both are after a first separator
 abbrev pub RootedMatchLevels : Type 0
 RootedMatchLevels =
     (o : MatchOptions) (t : Text) (ts : List Text) (n : Text) (ns : List Text)
@@ -117,7 +117,7 @@ RootedMatchLevels =
     → is_match (with_separator_rule o) (slash ∷ join_with_byte slash (t ∷ ts)) (slash ∷ join_with_byte slash (n ∷ ns))
     ≡ takes_names o (is_match o) (t ∷ ts) (n ∷ ns)
 
--- Literal characters stand in a text, the same case-sensitively or not: first in it if nothing is before their tokens,
+-- Literal characters are in a text, the same case-sensitively or not: first in it if nothing is before their tokens,
 -- and last if nothing is after them.
 pub record StandsIn (case : Bool) (front : List Token) (plain : Text) (back : List Token) (text : Text) : Type 0 where
   pub before : Text

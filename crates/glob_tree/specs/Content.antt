@@ -32,7 +32,7 @@ names_past [] names = Some names
 names_past (m ∷ ms) [] = None
 names_past (m ∷ ms) (n ∷ ns) = if bytes_eq m n then names_past ms ns else None
 
--- The keys and what stands at each, as a list of pairs in no order, and the key of the current directory.
+-- The keys and what is at each, as a list of pairs in no order, and the key of the current directory.
 pub record Content : Type 0 where
   pub kinds : List (Key × Kind)
   pub current : Key
@@ -66,7 +66,7 @@ is_content c = is_dir_at c [] && is_dir_at c c.current && list_all (is_placed c)
 abbrev pub child_key : Content → Key → Text → Option Key
 child_key c k name = if is_some (kind_at c (k ++ name ∷ [])) then Some (k ++ name ∷ []) else None
 
--- where a piece leads from k: nowhere unless a directory stands there
+-- where a piece leads from k: nowhere unless a directory is there
 abbrev pub step : Content → Text → Key → Option Key
 step c piece k =
     if not (is_dir_at c k) then None
@@ -86,7 +86,7 @@ origin c path = if begins_with slash path then [] else c.current
 unfoldable pub resolve : Content → Text → Option Key
 resolve c path = if is_empty path then None else steps c (Some (origin c path)) (pieces path)
 
--- what stands where a path leads
+-- what is where a path leads
 abbrev pub kind_found : Content → Text → Option Kind
 kind_found c path = option_and_then (kind_at c) (resolve c path)
 

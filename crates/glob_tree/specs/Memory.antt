@@ -35,7 +35,7 @@ key_of path =
 unfoldable pub directory_key : Text → Option Key
 directory_key path = if bytes_eq path root_dir then Some [] else key_of path
 
--- why a key is not added: there is none, its parent is no directory, or something stands there
+-- why a key is not added: there is none, its parent is no directory, or something is there
 abbrev pub key_refusal : Content → Option Key → Option TreeRefusal
 key_refusal c None = Some refusal.Improper
 key_refusal c (Some k) =
@@ -72,7 +72,7 @@ abbrev pub IsChangeAnswer : Option TreeRefusal → Result (Unit {0}) TreeRefusal
 IsChangeAnswer (Some e) result = result ≡ Err e
 IsChangeAnswer None result = MatchResult result (λ _. ⊤) (λ e. e ≡ refusal.Memory)
 
--- why a listing of what stands there fails
+-- why a listing of what is there fails
 abbrev pub kind_fault : Option Kind → Option ErrorKind
 kind_fault None = Some error.NotFound
 kind_fault (Some Dir) = None

@@ -1,4 +1,4 @@
--- Path texts. A path is a list of bytes, and its pieces stand between separators.
+-- Path texts. A path is a list of bytes, and its pieces are between separators.
 use Rattle.std.specs.Prelude.{ℕ, Bool, ◌&&◌, ◌||◌, not, ◌==◌, if◌then◌else◌, ◌++◌, bytes_eq}
 use Rattle.std.specs.List.{list_any, list_all}
 use Rattle.std.specs.Path.{cur_dir, parent_dir, with_separator}

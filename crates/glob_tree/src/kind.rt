@@ -1,10 +1,10 @@
-//! What stands at a key of a tree.
+//! What is at a key of a tree.
 ghost use Rattle.std.specs.Prelude.{◌≡◌};
 ghost use Rattle.glob_tree.specs.Content.{is_dir};
 
 use std::io;
 
-/// What stands at a key of a tree.
+/// What is at a key of a tree.
 #[derive(Clone, Copy, PartialEq, Eq, Debug)]
 pub(crate) enum Kind {
     /// A directory.

@@ -75,7 +75,7 @@ impl<A: Allocator + Copy> MemTree<A> {
     ///
     /// - [`TreeRefusal::Improper`]: `path` is any other text.
     /// - [`TreeRefusal::NoParent`]: `path` without its last name leads to no directory.
-    /// - [`TreeRefusal::Taken`]: something stands at `path` already.
+    /// - [`TreeRefusal::Taken`]: something is at `path` already.
     /// - [`TreeRefusal::Memory`]: allocation failure.
     pub fn add_dir(&mut self, path: &str) -> Result<(), TreeRefusal>
         ensures answer { IsChangeAnswer (add_refusal self.old.content path.now) result }

@@ -41,7 +41,7 @@ pub enum ListError {
 ///
 /// Contracts see two things of a tree:
 ///
-/// - `tells` is its content, where that is known: what stands at each key, and the current directory. Each answer is
+/// - `tells` is its content, where that is known: what is at each key, and the current directory. Each answer is
 ///   then the content's, allocation failures aside, and no call changes the content. Where a path leads to no
 ///   directory, a listing may return any entries and any error. Where it is `None`, any answer may come.
 /// - `asks` counts what was asked: one for each `look`, and for each `list` or `list_names` one and one for each entry that

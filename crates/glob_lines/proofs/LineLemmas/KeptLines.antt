@@ -17,7 +17,7 @@ AreKept-pass P [] kept line are fails = inr (fails, are)
 AreKept-pass P (x ∷ xs) kept line (inl (here, (others, is, are))) fails = inl (here, (others, is, AreKept-pass P xs others line are fails))
 AreKept-pass P (x ∷ xs) kept line (inr (not_here, are)) fails = inr (not_here, AreKept-pass P xs kept line are fails)
 
--- what is kept of a front of the lines stands first
+-- what is kept of a front of the lines is first
 pub AreKept-front : (P : List ℕ → Type 0) (front more kept_front kept : List (List ℕ)) → AreKept P front kept_front → AreKept P (front ++ more) kept
     → (others : List (List ℕ)) × (kept ≡ kept_front ++ others) × AreKept P more others
 AreKept-front P [] more kept_front kept are all = (kept, ap (λ l. l ++ kept) (sym are), all)

@@ -26,7 +26,7 @@ HasNoLineFeed bytes = All (λ b. b ≢ line_feed) bytes
 lines_of-cons : (x : ℕ) (xs : List ℕ) → x ≢ line_feed → lines_of (x ∷ xs) ≡ onto_first x (lines_of xs)
 lines_of-cons x xs other = cond-false (eqb x line_feed) ([] ∷ lines_of xs) (onto_first x (lines_of xs)) (ne_eqb x line_feed other)
 
--- a line and a line feed stand first
+-- a line and a line feed are first
 pub lines_of-line_feed : (line rest : List ℕ) → HasNoLineFeed line → lines_of (line ++ line_feed ∷ rest) ≡ line ∷ lines_of rest
 lines_of-line_feed [] rest none = refl
 lines_of-line_feed (x ∷ xs) rest none =

@@ -73,7 +73,7 @@ ones-cleared_one (suc t) n set none =
     let ih = ones-cleared_one t (n / 2) (sym (bit_at-suc n t) ∙ set) (λ i lt. sym (bit_at-suc n i) ∙ none (suc i) (omega arith)) in
     omega arith
 
--- a number has no more bits than places below which they stand
+-- a number has no more bits than places below which they are
 ones_within_one : (m n : ℕ) → ((j : ℕ) → IsOne n j → j < m) → ones n ≤ m
 unfolding ones
 ones_within_one zero n below =
@@ -111,7 +111,7 @@ IsBitSet-cleared t n set none j =
 pub ones-cleared : (t n : ℕ) → IsBitSet n t → ((i : ℕ) → i < t → ¬ (IsBitSet n i)) → ones (bit_and n (n - 1)) + 1 ≡ ones n
 ones-cleared t n set none = ones-cleared_one t n ((IsBitSet-iff_one n t).0 set) (λ i lt. digit_from_none n i (none i lt))
 
--- a number has no more bits than places below which they stand
+-- a number has no more bits than places below which they are
 pub ones_within : (m n : ℕ) → ((j : ℕ) → IsBitSet n j → j < m) → ones n ≤ m
 ones_within m n below = ones_within_one m n (λ j one. below j ((IsBitSet-iff_one n j).1 one))
 

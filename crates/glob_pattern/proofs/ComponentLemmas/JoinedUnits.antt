@@ -15,7 +15,7 @@ use Rattle.glob_pattern.proofs.GrammarLemmas.Units.{UnitAt-within}
 use Rattle.glob_pattern.proofs.GrammarLemmas.WrittenUnits.{UnitAt-plain}
 use Rattle.glob_pattern.proofs.ComponentLemmas.Parts.{is_inner, Part, Levels, Level, joined_tokens, AreParts}
 
--- a component stands in the whole text from place p on: after a separator or at the start, and before a separator or the end
+-- a component is in the whole text from place p on: after a separator or the start, before a separator or the end
 record Stands (first_answer piece : Text) (p : ℕ) : Type 0 where
   rest : Text
   at : drop p first_answer ≡ piece ++ rest
@@ -42,7 +42,7 @@ module _ (first_answer piece : Text) (p : ℕ) (s : Stands first_answer piece p)
   Has-before : (c : ℕ) → 0 < p → Has first_answer (p - 1) c → c ≡ slash
   Has-before c l has = ⊎_elim (λ z. absurd (omega (arith, eqb-true p 0 z))) (λ e. sym has.1 ∙ eqb-true _ _ e) (or_cases (p == 0) (slice_index first_answer (p - 1) == slash) s.opening)
 
-  -- a character that is not `/` stands right after place k of the piece in the whole text alone if it does so in the piece
+  -- a character that is not `/` is right after place k of the piece in the whole text alone if it does so in the piece
   not_after : (k c : ℕ) → k ≤ length piece → c ≢ slash → ¬ (Has piece k c) → ¬ (Has first_answer (p + k) c)
   not_after k c l other none has = ⊎_elim
       (λ below. none (Has-out k c below has))
@@ -162,7 +162,7 @@ opens-after first_answer r q e =
     let back : q + 1 - 1 ≡ q = omega arith in
     or_right (q + 1 == 0) (slice_index first_answer (q + 1 - 1) == slash) (eq-eqb _ _ (ap (slice_index first_answer) back ∙ get_or-at_drop first_answer r q slash 0 e))
 
--- from place p on the components stand, joined by separators: these are the units there
+-- from place p on are the components, joined by separators: these are the units there
 pub joined-units : (first_answer : Text) (t : Text) (ts : List Text) (ps : List Part) (p : ℕ) → AreParts (t ∷ ts) ps → drop p first_answer ≡ join_with_byte slash (t ∷ ts) → p ≤ length first_answer → opens first_answer p ≡ true
     → UnitsBetween first_answer p (joined_tokens ps) (length first_answer)
 joined-units first_answer t ts [] p are at within opening = absurd are

@@ -12,7 +12,7 @@ use Rattle.glob_pattern.specs.declared.options.MatchOptions.{MatchOptions}
 use Rattle.glob_pattern.specs.declared.token.Token.TheVariants.{Literal, AnyChar, AnySequence, Recursive, OneOf, NoneOf}
 use Rattle.glob_pattern.proofs.ComponentLemmas.Fits.{fits}
 
--- the token may stand in a component: it is not deep and not `/`
+-- the token may be in a component: it is not `**` and not `/`
 abbrev pub is_inner : Token → Bool
 is_inner (Literal c) = not (c == slash)
 is_inner AnyChar = true

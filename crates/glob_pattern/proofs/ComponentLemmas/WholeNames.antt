@@ -11,7 +11,7 @@ use Rattle.glob_pattern.specs.declared.token.Token.TheVariants.{Recursive}
 use Rattle.glob_pattern.proofs.ComponentLemmas.Fits.{After, closed_then, fits}
 use Rattle.glob_pattern.proofs.ComponentLemmas.FirstSeparator.{and_no, and_yes, no_slash_parts}
 
--- a deep token takes the characters of a name, at a place that opens or not
+-- a `**` takes the characters of a name, at a place that opens or not
 abbrev pub admits : MatchOptions → Bool → Text → Bool
 admits o b n = not (o.require_literal_leading_dot && b && begins_with dot n)
 
@@ -58,7 +58,7 @@ closed-fall o next b (c ∷ n) h =
     ap (λ x. takes (with_separator_rule o) b c Recursive && ((x && next x n) || closed_then (with_separator_rule o) Recursive next x n)) other
     ∙ ap (λ x. takes (with_separator_rule o) b c Recursive && x) (closed-fall o next false n rest) ∙ and_no (takes (with_separator_rule o) b c Recursive)
 
--- a last deep token takes names
+-- a last `**` takes names
 pub last-name : (o : MatchOptions) (b : Bool) (n : Text) → has_no_slash n ≡ true → fits (with_separator_rule o) (Recursive ∷ []) b n ≡ admits o b n
 last-name o b [] h = sym (admits-none o b)
 last-name o b (c ∷ n) h =

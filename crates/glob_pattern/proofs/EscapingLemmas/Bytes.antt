@@ -13,7 +13,7 @@ use Rattle.glob_pattern.specs.Grammar.Characters.{open_bracket, close_bracket}
 use Rattle.glob_text.specs.Text.{Text}
 use Rattle.glob_pattern.specs.Escaping.{is_special, escaped_character, escaped_text}
 
--- no special character stands before place i
+-- no special character is before place i
 abbrev pub NoneSpecialBefore : Text → ℕ → Type 0
 NoneSpecialBefore text i = (k : ℕ) → k < i → is_special (get_or text k 0) ≡ false
 
@@ -33,7 +33,7 @@ escaped_text-plain (c ∷ cs) plain =
     let later : NoneSpecialBefore cs (length cs) = λ k h. plain (suc k) (omega arith) in
     rw (escaped_character-plain c first, escaped_text-plain cs later) refl
 
--- What stands before the first special character stays, and escaping goes on there.
+-- What is before the first special character stays, and escaping goes on there.
 escaped_text-at : (text : Text) (i : ℕ) → i < length text → NoneSpecialBefore text i → escaped_text text ≡ take i text ++ (escaped_character (get_or text i 0) ++ escaped_text (drop (suc i) text))
 escaped_text-at [] i within before = absurd (omega arith)
 escaped_text-at (c ∷ cs) zero within before = refl

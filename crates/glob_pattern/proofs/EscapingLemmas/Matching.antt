@@ -73,7 +73,7 @@ escaped_text-writes c whole rest f = by (is_special c) refl
     by true special e = UnitAt-bracketed whole rest f c special e
     by false other e = UnitAt-plain whole rest f c (not_special c other) e
 
--- no escaped character is a deep run
+-- no escaped character is a `**`
 escaped_token-shallow : (c : ℕ) → IsFalse (is_recursive (escaped_token c))
 escaped_token-shallow c = cond_both (is_special c) (bracketed c) (Literal c) (λ t. IsFalse (is_recursive t)) (λ h. refl) (λ h. refl)
 
@@ -85,15 +85,15 @@ HasTokens-escaped_text text = HasTokens-written escaped_character escaped_token 
 pub escaped_accepted : EscapedAccepted
 escaped_accepted text = accepted_by_tokens (escaped_text text) (map escaped_token text) (HasTokens-escaped_text text)
 
--- a character whose small letter is no letter is that
+-- a character whose lower-case letter is no letter is that
 lowercase-apart : (c d : ℕ) → (d < 97) ⊎ (122 < d) → to_ascii_lowercase c ≡ d → c ≡ d
 lowercase-apart c d apart e = grind (arith, ltb-true, ltb-false)
 
--- the small letter of x is x, as of a character d that is no letter
+-- the lower-case letter of x is x, as of a character d that is no letter
 lowercase-at : (c x d : ℕ) → x ≡ d → d < 97 → to_ascii_lowercase d ≡ d → to_ascii_lowercase c ≡ to_ascii_lowercase x → c ≡ x
 lowercase-at c x d at apart own e = lowercase-apart c d (inl apart) (e ∙ ap to_ascii_lowercase at ∙ own) ∙ sym at
 
--- a special character is the small letter of itself alone
+-- a special character is the lower-case letter of itself alone
 special-lowercase : (c x : ℕ) → IsTrue (is_special x) → to_ascii_lowercase c ≡ to_ascii_lowercase x → c ≡ x
 special-lowercase c x special e =
     ⊎_elim (λ three. ⊎_elim (λ two. ⊎_elim

@@ -29,7 +29,7 @@ same_read read tokens others first second = cc
 same_told : (read : Result (List Token) Fault) (fault other : Fault) → read ≡ Err fault → read ≡ Err other → fault ≡ other
 same_told read fault other first second = cc
 
--- One unit stands at a place.
+-- One unit is at a place.
 pub one_unit : (text : Text) (f : ℕ) (t u : Token) (e m : ℕ) → UnitAt text f t e → UnitAt text f u m → (t ≡ u) × (e ≡ m)
 one_unit text f t u e m first second =
     same_found (unit_at text f) t u e m (unit_at-UnitAt text f t e first) (unit_at-UnitAt text f u m second)

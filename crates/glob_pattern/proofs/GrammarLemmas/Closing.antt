@@ -1,4 +1,4 @@
--- Where the first `]` stands, and what a test of a character at a place means.
+-- Where the first `]` is, and what a test of a character at a place means.
 use Rattle.std.proofs.Common.{◌≡◌, ℕ, ◌+◌, ◌-◌, ◌<◌, ◌≤◌, eqb, List, [], ◌∷◌, length, drop, get_or, Option, Some, None, Decides, refl, ap, sym, ◌∙◌, subst, inl, inr, arith}
 use Rattle.std.specs.Prelude.{◌==◌}
 use Rattle.std.specs.List.{position_from}
@@ -15,7 +15,7 @@ use Rattle.glob_pattern.specs.Computing.Reading.{close_from}
 pub Decides-has : (text : Text) (k c : ℕ) → Decides (has text k c) (Has text k c)
 Decides-has text k c = Decides-and _ _ (Decides-ltb k (length text)) (Decides-eqb (get_or text k 0) c)
 
--- the first `]` from place i on stands at this place, or there is none
+-- the first `]` from place i on is at this place, or there is none
 abbrev pub IsFirstClose : Text → ℕ → Option ℕ → Type 0
 IsFirstClose text i None = (k : ℕ) → i ≤ k → ¬ (Has text k close_bracket)
 IsFirstClose text i (Some k) = (i ≤ k) × Has text k close_bracket × NoCloseBetween text i k
@@ -28,7 +28,7 @@ none_from P i here later k above at =
       | inr not_above ↦ let e : k ≡ i = omega arith in here (subst P e at)
     ]
 
--- A place where no `]` stands may be passed over.
+-- A place without `]` may be passed over.
 IsFirstClose-before : (text : Text) (i : ℕ) (found : Option ℕ) → ¬ (Has text i close_bracket) → IsFirstClose text (i + 1) found → IsFirstClose text i found
 IsFirstClose-before text i None here later = none_from (λ k. Has text k close_bracket) i here later
 IsFirstClose-before text i (Some place) here later =

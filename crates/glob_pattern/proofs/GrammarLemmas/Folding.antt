@@ -1,4 +1,4 @@
--- Neighbouring deep tokens made one, as tokens come at the end.
+-- Neighbouring `**` made one, as tokens come at the end.
 use Rattle.std.proofs.Common.{◌≡◌, ℕ, zero, suc, ◌-◌, ◌<◌, ◌≤◌, Bool, true, false, ◌&&◌, cond, List, [], ◌∷◌, ◌++◌, length, get_or, refl, ap, sym, ◌∙◌, arith}
 use Rattle.std.proofs.lemmas.Bool.{cond_both, cond-true, cond-false, and_from, and_right, false≢true}
 use Rattle.glob_pattern.specs.Grammar.Tokens.{Token, is_recursive, begins_recursive, ends_recursive, tokens_of_units}
@@ -26,7 +26,7 @@ ends_deep_after : (u : Token) (ts : List Token) → 0 < length ts → ends_recur
 ends_deep_after u [] some = absurd (omega arith)
 ends_deep_after u (t ∷ ts) some = refl
 
--- There is one deep token.
+-- There is one `**`.
 deep_is_Deep : (t : Token) → is_recursive t ≡ true → t ≡ Recursive
 deep_is_Deep (Literal c) e = cc
 deep_is_Deep AnyChar e = cc
@@ -51,7 +51,7 @@ folded_before true u t before after some e = e
 folded_before false u t before after some e =
     rw (ends_deep_after u before some, e) (behind (is_recursive t && ends_recursive before) u before (before ++ t ∷ []))
 
--- What is folded of one more unit: a deep one after a deep one adds nothing.
+-- What is folded of one more unit: a `**` after a `**` adds nothing.
 pub tokens_of_units-push : (units : List Token) (t : Token) → tokens_of_units (units ++ t ∷ []) ≡ cond (is_recursive t && ends_recursive (tokens_of_units units)) (tokens_of_units units) (tokens_of_units units ++ t ∷ [])
 tokens_of_units-push [] t = refl
 tokens_of_units-push (u ∷ []) t =
@@ -60,7 +60,7 @@ tokens_of_units-push (u ∷ []) t =
 tokens_of_units-push (u ∷ v ∷ vs) t =
     folded_before (is_recursive u && is_recursive v) u t (tokens_of_units (v ∷ vs)) (tokens_of_units (v ∷ vs ++ t ∷ [])) (folded_some v vs) (tokens_of_units-push (v ∷ vs) t)
 
--- A deep one after a deep one adds nothing.
+-- A `**` after a `**` adds nothing.
 pub tokens_of_units-push_deep : (tokens units : List Token) (t : Token) → is_recursive t ≡ true → ends_recursive tokens ≡ true → tokens ≡ tokens_of_units units → tokens ≡ tokens_of_units (units ++ t ∷ [])
 tokens_of_units-push_deep tokens units t deep ends e =
     e ∙ sym (tokens_of_units-push units t ∙ cond-true _ _ _ (and_from (is_recursive t) (ends_recursive (tokens_of_units units)) deep (ap ends_recursive (sym e) ∙ ends)))

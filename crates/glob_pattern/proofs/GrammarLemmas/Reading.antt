@@ -58,7 +58,7 @@ Answers-units_from (suc n) text f enough within clear =
     let reach = UnitAt-within text f t m unit in
     Answers-units_from n text m (omega arith) reach.1 (IsClear-after text f t m unit)))
 
--- one more place to read, where a unit stands
+-- one more place to read, where there is a unit
 units_from-unit : (n : ℕ) (text : Text) (f : ℕ) (t : Token) (e : ℕ) → UnitAt text f t e → units_from (suc n) text f ≡ reading_with_first t (units_from n text e)
 unfolding units_from
 units_from-unit n text f t e unit =
@@ -75,12 +75,12 @@ units_from-Ok (suc n) text f (t ∷ ts) enough within between =
     units_from-unit n text f t between.0 between.1
     ∙ ap (reading_with_first t) (units_from-Ok n text between.0 ts (omega arith) reach.1 between.2)
 
--- Where no unit stands none is found.
+-- Where there is no unit, none is found.
 unit_at-None : (text : Text) (f : ℕ) (found : Option (Token × ℕ)) → Stands text f found → NoUnitAt text f → found ≡ None
 unit_at-None text f None stands none = refl
 unit_at-None text f (Some (t, e)) stands none = absurd (none t e stands)
 
--- a fault where no unit stands
+-- a fault where there is no unit
 units_from-none : (n : ℕ) (text : Text) (f : ℕ) → f < length text → IsClear text f → NoUnitAt text f → units_from (suc n) text f ≡ Err (fault_at text f)
 unfolding units_from
 units_from-none n text f before clear none =
@@ -98,7 +98,7 @@ units_from-Err (suc n) text f (t ∷ ts) p enough within between clear before no
     units_from-unit n text f t between.0 between.1
     ∙ ap (reading_with_first t) (units_from-Err n text between.0 ts p (omega arith) reach.1 between.2 (IsClear-after text f t between.0 between.1) before none)
 
--- no character stands before the start
+-- no character is before the start
 pub IsClear-start : (text : Text) → IsClear text 0
 IsClear-start text at positive = absurd (omega arith)
 

@@ -1,4 +1,4 @@
--- The unit that the computation finds at a place is the one that stands there.
+-- The unit that the computation finds at a place is the one that is there.
 use Rattle.std.proofs.Common.{◌≡◌, ◌≢◌, ℕ, ◌+◌, ◌-◌, ◌<◌, ◌≤◌, Bool, true, false, not, ◌||◌, cond, eqb, List, length, get_or, Option, Some, None, refl, ap, sym, ◌∙◌, subst, inl, inr, arith}
 use Rattle.std.specs.Option.{option_map}
 use Rattle.std.proofs.lemmas.Bool.{cond_both, cases_lt, eqb-true, eqb-false, eq-eqb, ne_eqb, or_from, or_parts, not-true, not-false, not_from_true, not_from_false, false_from_ne_true, both_ways}
@@ -15,7 +15,7 @@ use Rattle.glob_pattern.specs.declared.token.bracket.Entry.{Entry}
 use Rattle.glob_pattern.specs.declared.token.Token.TheVariants.{Literal, AnyChar, AnySequence, Recursive, OneOf, NoneOf}
 use Rattle.glob_pattern.proofs.GrammarLemmas.Closing.{Decides-has, IsFirstClose, IsFirstClose-close_from, close_from-ClosesBefore}
 
--- no star stands right before a star at place f
+-- no star is right before a star at place f
 abbrev pub IsClear : Text → ℕ → Type 0
 IsClear text f = Has text f star → 0 < f → ¬ (Has text (f - 1) star)
 
@@ -38,7 +38,7 @@ UnitAt-within text f Recursive e unit =
 UnitAt-within text f (OneOf entries) e unit = (omega arith, omega arith)
 UnitAt-within text f (NoneOf entries) e unit = (omega arith, omega arith)
 
--- After a unit no star stands right before a star.
+-- After a unit no star is right before a star.
 pub IsClear-after : (text : Text) (f : ℕ) (t : Token) (e : ℕ) → UnitAt text f t e → IsClear text e
 IsClear-after text f (Literal c) e unit at positive before =
     unit.2 (Has-same text f c star unit.0 (Has-at text (e - 1) f star (omega arith) before))
@@ -56,7 +56,7 @@ IsClear-after text f (OneOf entries) e unit at positive before =
 IsClear-after text f (NoneOf entries) e unit at positive before =
     let same = Has-same text (e - 1) close_bracket star unit.2.1 before in absurd (omega arith)
 
--- the unit that was found, if any, stands at place f
+-- the unit that was found, if any, is at place f
 abbrev pub Stands : Text → ℕ → Option (Token × ℕ) → Type 0
 Stands text f None = Unit {0}
 Stands text f (Some (t, e)) = UnitAt text f t e
@@ -130,7 +130,7 @@ Stands-bracket_at text f at =
     Stands-Within text f (close_from text (f + 1 + 1)) at (absent_from_false text (f + 1) exclamation_mark e)
     (subst (λ j. IsFirstClose text j (close_from text (f + 1 + 1))) (sym i) (IsFirstClose-close_from text (f + 1 + 1))))
 
--- The unit that the computation finds stands there.
+-- The unit that the computation finds is there.
 pub Stands-unit_at : (text : Text) (f : ℕ) → f < length text → IsClear text f → Stands text f (unit_at text f)
 Stands-unit_at text f within clear =
     cond_both (eqb (get_or text f 0) question_mark) _ _ (Stands text f)
@@ -170,7 +170,7 @@ bracket_from-ClosesBefore kind text i j e next closes =
     let found : close_from text (i + 1) ≡ Some (e - 1) = subst (λ n. close_from text n ≡ Some (e - 1)) next (close_from-ClosesBefore text j e closes) in
     ap (option_map (λ k. (kind (entries_of (between text i k)), k + 1))) found ∙ ap (λ n. Some (kind (entries_of (between text i (e - 1))), n)) end
 
--- The unit that stands at a place is found there.
+-- The unit that is at a place is found there.
 pub unit_at-UnitAt : (text : Text) (f : ℕ) (t : Token) (e : ℕ) → UnitAt text f t e → unit_at text f ≡ Some (t, e)
 unit_at-UnitAt text f (Literal c) e unit =
     skip _ _ _ _ (is_not text f c question_mark unit.0 unit.1)
@@ -199,10 +199,10 @@ unit_at-UnitAt text f (NoneOf entries) e unit =
     (pick _ _ _ _ (has-true text (f + 1) exclamation_mark unit.1)
     (bracket_from-ClosesBefore NoneOf text (f + 2) (f + 3) e (omega arith) unit.2 ∙ ap (λ x. Some (NoneOf x, e)) (sym unit.3)))))
 
--- Where none is found, none stands.
+-- Where none is found, there is none.
 pub NoUnitAt-None : (text : Text) (f : ℕ) → unit_at text f ≡ None → NoUnitAt text f
 NoUnitAt-None text f none = λ t e unit. let found = unit_at-UnitAt text f t e unit in cc
 
--- What is found stands there.
+-- What is found is there.
 pub UnitAt-Some : (text : Text) (f : ℕ) (t : Token) (e : ℕ) → f < length text → IsClear text f → unit_at text f ≡ Some (t, e) → UnitAt text f t e
 UnitAt-Some text f t e within clear found = subst (Stands text f) found (Stands-unit_at text f within clear)

@@ -10,12 +10,12 @@ use Rattle.glob_pattern.specs.declared.options.MatchOptions.{MatchOptions}
 use Rattle.glob_pattern.specs.declared.token.Token.TheVariants.{Literal}
 use Rattle.glob_pattern.proofs.Places.{get_or-at_drop, length-at_drop, length-at_end, drop-after_piece, length-after_piece}
 
--- wherever a character is written, the unit of its token stands
+-- wherever a character is written, there is the unit of its token
 abbrev pub WritesUnit : (written : ℕ → Text) (token : ℕ → Token) → ℕ → Type 0
 WritesUnit written token c =
     (whole rest : Text) (f : ℕ) → drop f whole ≡ written c ++ rest → UnitAt whole f (token c) (f + length (written c))
 
--- units stand from the place on from which the characters are written
+-- units are from the place on from which the characters are written
 pub UnitsBetween-written : (written : ℕ → Text) (token : ℕ → Token) (cs : Text) → ((k : ℕ) → k < length cs → WritesUnit written token (slice_index cs k)) → (whole : Text) (f : ℕ) → drop f whole ≡ flat_map written cs → f ≤ length whole → UnitsBetween whole f (map token cs) (length whole)
 UnitsBetween-written written token [] each whole f e h = length-at_end whole f e h
 UnitsBetween-written written token (c ∷ cs) each whole f e h =
@@ -30,7 +30,7 @@ UnitsBetween-written written token (c ∷ cs) each whole f e h =
 pub HasUnits-written : (written : ℕ → Text) (token : ℕ → Token) (cs : Text) → ((k : ℕ) → k < length cs → WritesUnit written token (slice_index cs k)) → HasUnits (flat_map written cs) (map token cs)
 HasUnits-written written token cs each = UnitsBetween-written written token cs each (flat_map written cs) 0 refl (omega arith)
 
--- tokens none of which is deep are not folded
+-- tokens none of which is `**` are not folded
 pub tokens_of_units-map : (token : ℕ → Token) → ((c : ℕ) → IsFalse (is_recursive (token c))) → (cs : Text) → tokens_of_units (map token cs) ≡ map token cs
 tokens_of_units-map token shallow [] = refl
 tokens_of_units-map token shallow (c ∷ cs) =
@@ -38,7 +38,7 @@ tokens_of_units-map token shallow (c ∷ cs) =
     cond-false (is_recursive (token c) && begins_recursive ts) (tokens_of_units ts) (token c ∷ tokens_of_units ts) (and_left (is_recursive (token c)) (begins_recursive ts) (shallow c))
     ∙ ap (λ us. token c ∷ us) (tokens_of_units-map token shallow cs)
 
--- and their tokens, where none is deep
+-- and their tokens, where none is `**`
 pub HasTokens-written : (written : ℕ → Text) (token : ℕ → Token) (cs : Text) → ((c : ℕ) → IsFalse (is_recursive (token c))) → ((k : ℕ) → k < length cs → WritesUnit written token (slice_index cs k)) → HasTokens (flat_map written cs) (map token cs)
 HasTokens-written written token cs shallow each = (map token cs, HasUnits-written written token cs each, sym (tokens_of_units-map token shallow cs))
 

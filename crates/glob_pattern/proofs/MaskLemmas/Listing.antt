@@ -39,7 +39,7 @@ pub letter-forms : (x y : ℕ) → (is_ascii_alphabetic x && is_ascii_alphabetic
     → (97 ≤ to_ascii_lowercase x) × (to_ascii_lowercase y ≤ 122) × (to_ascii_uppercase x + 32 ≡ to_ascii_lowercase x) × (to_ascii_uppercase y + 32 ≡ to_ascii_lowercase y)
 letter-forms x y t = grind (arith, nat_tests)
 
--- the small form of a character is between two small letters where it is, or is between the capital ones
+-- the small form of a character is between two lower-case letters where it is, or is between the capital ones
 form-classes : (c small first last great_first great_last : ℕ) → c < 128 → 97 ≤ first → last ≤ 122 → great_first + 32 ≡ first → great_last + 32 ≡ last
     → ((65 ≤ c) × (c ≤ 90) × (small ≡ c + 32)) ⊎ (((c < 65) ⊎ (90 < c)) × (small ≡ c))
     → (in_range (128 + first) (128 + last) (128 + c) || in_range (128 + great_first) (128 + great_last) (128 + c)) ≡ in_range first last small

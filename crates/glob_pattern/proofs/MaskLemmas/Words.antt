@@ -85,7 +85,7 @@ IsCharMasks-all tokens start n masks are all = record {
       (cases_lt (start + j) n);
 }
 
--- what stands last is filled where it stands
+-- what is last is filled where it is
 pub filled_last : (list : List CharMasks) (n : ℕ) (blank masks : CharMasks) → length list ≡ n → set (list ++ blank ∷ []) n masks ≡ list ++ masks ∷ []
 filled_last list n blank masks count = rw (← count) (set-append_seam list blank [] masks)
 

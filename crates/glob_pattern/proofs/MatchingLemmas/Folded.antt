@@ -1,4 +1,4 @@
--- Neighbouring deep tokens match what one of them matches.
+-- Neighbouring `**` match what one of them matches.
 use Rattle.std.proofs.Common.{◌≡◌, ℕ, ◌+◌, ◌-◌, ◌<◌, ◌≤◌, ◌⊎◌, inl, inr, ⊎_elim, false, ◌&&◌, List, [], ◌∷◌, ◌++◌, length, slice_index, IsTrue, refl, sym, ap, subst, subst₂, ◌∙◌, arith, append_assoc, append-nil}
 use Rattle.std.proofs.lemmas.List.{length-append, get_or_append_left, get_or-append_right}
 use Rattle.std.proofs.lemmas.Bool.{false≢true, and_parts, cond_both, cases_lt}
@@ -18,7 +18,7 @@ AllowedAs o text ts us =
     (k : ℕ) (pieces : List Text) → AreAllowed o text k ts pieces
     → (others : List Text) × (concat others ≡ concat pieces) × AreAllowed o text k us others
 
--- a token takes two pieces that stand together as one
+-- a token takes two pieces that are together as one
 TakesPiece-append : (o : MatchOptions) (text : Text) (t : Token) (k : ℕ) (xs ys : Text) → TakesPiece o text t k xs → TakesPiece o text t (k + length xs) ys → TakesPiece o text t k (xs ++ ys)
 TakesPiece-append o text t k xs ys first second i below =
     ⊎_elim
@@ -34,7 +34,7 @@ TakesPiece-append o text t k xs ys first second i below =
         subst (λ c. IsTrue (takes o (opens text (k + i)) c t)) (sym (get_or-append_right xs ys (length xs) i 0 refl h))
         (subst (λ q. IsTrue (takes o (opens text q) (slice_index ys m) t)) at (second m within))
 
--- two pieces of neighbouring deep tokens are one of a deep token
+-- two pieces of neighbouring `**` are one of a `**`
 HasForm-append : (ts : List Token) (xs ys : Text) → HasForm Recursive (Recursive ∷ ts) xs → HasForm Recursive ts ys → HasForm Recursive ts (xs ++ ys)
 HasForm-append ts xs ys first second =
     ⊎_elim (λ e. inl e) (λ closed. inr (⊎_elim empty (λ ends. inr (xs ++ ends.0, ap (λ zs. xs ++ zs) ends.1 ∙ sym (append_assoc xs ends.0 (slash ∷ [])))) closed)) second
@@ -47,7 +47,7 @@ HasForm-append ts xs ys first second =
         let alone : xs ++ ys ≡ xs = ap (λ zs. xs ++ zs) e ∙ append-nil xs in
         ⊎_elim (λ none. absurd (no_token Recursive ts none)) (⊎_elim (λ nil. inl (alone ∙ nil)) (λ ends. inr (ends.0, alone ∙ ends.1))) first
 
--- two neighbouring deep tokens match what one matches
+-- two neighbouring `**` match what one matches
 two_deep-one : (o : MatchOptions) (text : Text) (ts : List Token) → AllowedAs o text (Recursive ∷ Recursive ∷ ts) (Recursive ∷ ts)
 two_deep-one o text ts k [] h = absurd h
 two_deep-one o text ts k (xs ∷ []) h = absurd h.2
@@ -58,7 +58,7 @@ two_deep-one o text ts k (xs ∷ ys ∷ pieces) (took, form, (took_next, form_ne
       (TakesPiece-append o text Recursive k xs ys took took_next, HasForm-append ts xs ys form form_next, subst (λ q. AreAllowed o text q ts pieces) at rest),
     )
 
--- one deep token matches what two neighbouring ones match
+-- one `**` matches what two neighbouring ones match
 one_deep-two : (o : MatchOptions) (text : Text) (ts : List Token) → AllowedAs o text (Recursive ∷ ts) (Recursive ∷ Recursive ∷ ts)
 one_deep-two o text ts k pieces h =
     let none : (i : ℕ) → i < 0 → IsTrue (takes o (opens text (k + i)) (slice_index [] i) Recursive) = λ i l. absurd (omega arith) in
@@ -89,7 +89,7 @@ AllowedAs-trans o text ts us vs first second k pieces h =
     let last : (others : List Text) × (concat others ≡ concat found.0) × AreAllowed o text k vs others = second k found.0 found.2 in
     (last.0, last.1 ∙ found.1, last.2)
 
--- a token that is deep
+-- a token that is `**`
 deep-from_test : (t : Token) → IsTrue (is_recursive t) → t ≡ Recursive
 deep-from_test (Literal c) h = absurd (false≢true h)
 deep-from_test AnyChar h = absurd (false≢true h)
@@ -98,12 +98,12 @@ deep-from_test Recursive h = refl
 deep-from_test (OneOf entries) h = absurd (false≢true h)
 deep-from_test (NoneOf entries) h = absurd (false≢true h)
 
--- tokens of which the first is deep
+-- tokens of which the first is `**`
 deep-from_begin : (ts : List Token) → IsTrue (begins_recursive ts) → (us : List Token) × (ts ≡ Recursive ∷ us)
 deep-from_begin [] h = absurd (false≢true h)
 deep-from_begin (t ∷ ts) h = (ts, ap (λ u. u ∷ ts) (deep-from_test t h))
 
--- two neighbouring deep tokens, known by the tests
+-- two neighbouring `**`, known by the tests
 two_deep : (t : Token) (ts : List Token) → IsTrue (is_recursive t && begins_recursive ts) → (us : List Token) × (t ≡ Recursive) × (ts ≡ Recursive ∷ us)
 two_deep t ts h =
     let begun : (us : List Token) × (ts ≡ Recursive ∷ us) = deep-from_begin ts (and_parts (is_recursive t) (begins_recursive ts) h).1 in
@@ -126,7 +126,7 @@ nil-from_folded (t ∷ ts) =
     second : (is_recursive t && begins_recursive ts) ≡ false → t ∷ tokens_of_units ts ≡ [] → t ∷ ts ≡ []
     second alone e = cc
 
--- two neighbouring deep tokens against the second alone
+-- two neighbouring `**` against the second alone
 two_deep-second : (o : MatchOptions) (text : Text) (t : Token) (ts : List Token) → IsTrue (is_recursive t && begins_recursive ts) → AllowedAs o text (t ∷ ts) ts
 two_deep-second o text t ts both =
     let found : (us : List Token) × (t ≡ Recursive) × (ts ≡ Recursive ∷ us) = two_deep t ts both in

@@ -39,7 +39,7 @@ pub EndsIn-none : (tokens : List Token) (i : ℕ) (needle : Needle) → needle.l
 EndsIn-none tokens i needle none =
     (record { front = take i tokens; plain = []; back = drop i tokens; tokens_are = sym (take-append-drop i tokens); bytes_are = ap (λ n. take n needle.bytes) none }, refl)
 
--- one more plain token may be added, or stand alone
+-- one more plain token may be added, or be alone
 pub EndsIn-with : (tokens : List Token) (i c : ℕ) (needle with : Needle) → drop i tokens ≡ Literal c ∷ drop (i + 1) tokens → EndsIn tokens i needle
     → (take with.len with.bytes ≡ take needle.len needle.bytes ++ encode c) ⊎ (take with.len with.bytes ≡ encode c) → EndsIn tokens (i + 1) with
 EndsIn-with tokens i c needle with next (is, back) =
@@ -89,7 +89,7 @@ small-SameTexts case (x ∷ xs) (y ∷ ys) (lengths, each) =
     ∙ ap₂ (λ a b. a ++ b) (small-same case x y (each 0 (omega arith))) (small-SameTexts case xs ys (omega arith, λ k l. each (suc k) (omega arith)))
     ∙ sym (map-append to_ascii_lowercase (encode y) (encode_utf8_all ys))
 
--- where bytes split around the needle, it stands
+-- where bytes split around the needle, the needle is among them
 IsAt-from_split : (before here after bytes needle : List ℕ) → bytes ≡ before ++ (here ++ after) → map to_ascii_lowercase here ≡ map to_ascii_lowercase needle
     → IsAt bytes needle (length before)
 IsAt-from_split before here after bytes needle split small =

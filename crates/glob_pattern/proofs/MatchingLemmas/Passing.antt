@@ -5,8 +5,8 @@ use Rattle.std.proofs.lemmas.Str.{chars-append, chars-IsAscii, IsUtf8-from_ascii
 use Rattle.std.specs.Str.{chars, IsAscii, IsUtf8, IsCharBoundary}
 use Rattle.glob_text.specs.Text.{Text}
 use Rattle.glob_text.specs.Characters.{slash}
-use Rattle.glob_pattern.specs.Private.Stepping.{place_before, StandsBefore}
-use Rattle.glob_pattern.proofs.MatchingLemmas.Stepping.{StandsBefore-step, place_before-step}
+use Rattle.glob_pattern.specs.Private.Stepping.{place_before, IsSteppedTo}
+use Rattle.glob_pattern.proofs.MatchingLemmas.Stepping.{IsSteppedTo-step, place_before-step}
 
 -- leading bytes of ASCII are characters
 pub chars-leading_ascii : (bytes : List ℕ) (n : ℕ) → IsAscii (take n bytes) → chars bytes ≡ take n bytes ++ chars (drop n bytes)
@@ -24,41 +24,41 @@ boundary-after_ascii bytes n utf8 some within ascii =
 
 -- What a judge knows of its place after some characters more: of the last of them, and of the one before.
 pub record Passed (text front back : Text) (opening opened : Bool) : Type 0 where
-  pub stands : StandsBefore text back (get_or front (length front - 1) 0) opened (get_or front (length front - 1) 0 == slash)
+  pub stepped : IsSteppedTo text back (get_or front (length front - 1) 0) opened (get_or front (length front - 1) 0 == slash)
   pub place : place_before text back ≡ place_before text (front ++ back) + length front
   pub within : place_before text back ≤ length text
 
 pub Passed-from_front : (text front back : Text) (current : ℕ) (before opening opened : Bool) → 0 < length front
-    → StandsBefore text (front ++ back) current before opening
+    → IsSteppedTo text (front ++ back) current before opening
     → (length front ≡ 1 → opened ≡ opening) → (1 < length front → opened ≡ (get_or front (length front - 2) 0 == slash))
     → Passed text front back opening opened
 Passed-from_front text [] back current before opening opened some here one more = absurd (omega arith)
 Passed-from_front text (x ∷ []) back current before opening opened some here one more =
     let step = place_before-step text back x current before opening here in
     record {
-      stands = rw (one refl) (StandsBefore-step text back x current before opening here);
+      stepped = rw (one refl) (IsSteppedTo-step text back x current before opening here);
       place = omega (arith, step.0);
       within = step.1;
     }
 Passed-from_front text (x ∷ y ∷ front) back current before opening opened some here one more =
     let rest = y ∷ front in
-    let next = StandsBefore-step text (rest ++ back) x current before opening here in
+    let next = IsSteppedTo-step text (rest ++ back) x current before opening here in
     let step = place_before-step text (rest ++ back) x current before opening here in
     let last : length (x ∷ rest) - 1 ≡ suc (length rest - 1) = omega arith in
     let passed = Passed-from_front text (y ∷ front) back x opening (x == slash) opened (omega arith) next
     (λ e. let at : length (x ∷ rest) - 2 ≡ 0 = omega (arith, e) in rw at at (more (omega arith)))
     (λ lt. let at : length (x ∷ rest) - 2 ≡ suc (length rest - 2) = omega (arith, lt) in rw at at (more (omega arith))) in
     record {
-      stands = rw last passed.stands;
+      stepped = rw last passed.stepped;
       place = omega (arith, passed.place, step.0);
       within = passed.within;
     }
 
 -- the same of the rest of a text's bytes, the first n of which are of ASCII
 pub Passed-from_bytes : (text : Text) (bytes rest : List ℕ) (n current : ℕ) (before opening opened : Bool) → 0 < n → n ≤ length bytes → IsAscii (take n bytes)
-    → rest ≡ drop n bytes → StandsBefore text (chars bytes) current before opening
+    → rest ≡ drop n bytes → IsSteppedTo text (chars bytes) current before opening
     → (n ≡ 1 → opened ≡ opening) → (1 < n → opened ≡ (get_or bytes (n - 2) 0 == slash))
-    → StandsBefore text (chars rest) (get_or bytes (n - 1) 0) opened (get_or bytes (n - 1) 0 == slash)
+    → IsSteppedTo text (chars rest) (get_or bytes (n - 1) 0) opened (get_or bytes (n - 1) 0 == slash)
     × (place_before text (chars rest) ≡ place_before text (chars bytes) + n) × (place_before text (chars rest) ≤ length text)
 Passed-from_bytes text bytes rest n current before opening opened some within ascii left here one more =
     let split = chars-leading_ascii bytes n ascii in
@@ -68,7 +68,7 @@ Passed-from_bytes text bytes rest n current before opening opened some within as
     (λ e. one (omega (arith, e, long)))
     (λ lt. rw long (more (omega (arith, lt, long)) ∙ ap (λ b. b == slash) (sym (get_or-take n bytes (n - 2) 0 (omega (arith, lt, long)))))) in
     rw left (
-      rw (long, last) at passed.stands,
+      rw (long, last) at passed.stepped,
       (rw long at passed.place) ∙ ap (λ t. place_before text t + n) (sym split),
       passed.within,
     )

@@ -11,7 +11,7 @@ MayReach-le table One others i j h = omega arith
 MayReach-le table Run others i j h = h
 MayReach-le table Deep others i j h = h.0
 
--- pieces stand within the characters
+-- pieces are among the characters
 pub SplitsFrom-within : (table : Table) (n : ℕ) (shapes : List Shape) (i : ℕ) → SplitsFrom table n shapes i → i ≤ table.characters
 SplitsFrom-within table n [] i h = le_of_eq h
 SplitsFrom-within table n (shape ∷ shapes) i (j, reach, took, rest) =
@@ -43,11 +43,11 @@ SplitsFrom-one table n shapes i (took, rest) = (i + 1, refl, TakesAll-more table
 pub one-from_SplitsFrom : (table : Table) (n : ℕ) (shapes : List Shape) (i : ℕ) → SplitsFrom table n (One ∷ shapes) i → IsTrue (table.takes n i) × SplitsFrom table (n + 1) shapes (i + 1)
 one-from_SplitsFrom table n shapes i (j, e, took, rest) = (took i (omega arith) (omega arith), subst (SplitsFrom table (n + 1) shapes) e rest)
 
--- any number of characters stand within all
+-- any number of characters is among all
 pub SplitsMany-within : (table : Table) (n : ℕ) (shapes : List Shape) (i : ℕ) → SplitsMany table n shapes i → i ≤ table.characters
 SplitsMany-within table n shapes i (j, low, took, rest) = le_trans low (SplitsFrom-within table (n + 1) shapes j rest)
 
--- some characters stand within all
+-- some characters are among all
 pub SplitsClosed-within : (table : Table) (n : ℕ) (shapes : List Shape) (i : ℕ) → SplitsClosed table n shapes i → i < table.characters
 SplitsClosed-within table n shapes i (j, low, opens, took, rest) = le_trans low (SplitsFrom-within table (n + 1) shapes j rest)
 
@@ -79,7 +79,7 @@ SplitsClosed-from table n shapes i (took, more) =
     ⊎_elim (λ here. (i + 1, omega arith, here.0, TakesAll-more table n i (i + 1) took (TakesAll-none table n (i + 1)), here.1))
     (λ later. (later.0, omega (arith, later.1), later.2, TakesAll-more table n i later.0 took later.3, later.4)) more
 
--- a deep run that is the last takes any number of characters
+-- a `**` that is the last takes any number of characters
 pub SplitsFrom-last_deep : (table : Table) (n i : ℕ) → SplitsMany table n [] i → SplitsFrom table n (Deep ∷ []) i
 SplitsFrom-last_deep table n i (j, low, took, rest) = (j, (low, inl refl), took, rest)
 
@@ -87,7 +87,7 @@ SplitsFrom-last_deep table n i (j, low, took, rest) = (j, (low, inl refl), took,
 pub many-from_last_deep : (table : Table) (n i : ℕ) → SplitsFrom table n (Deep ∷ []) i → SplitsMany table n [] i
 many-from_last_deep table n i (j, reach, took, rest) = (j, reach.0, took, rest)
 
--- a deep run that others follow is empty or ends where a place opens
+-- a `**` that others follow is empty or ends where a place opens
 pub SplitsFrom-deep : (table : Table) (n : ℕ) (shape : Shape) (shapes : List Shape) (i : ℕ) → SplitsFrom table (n + 1) (shape ∷ shapes) i ⊎ SplitsClosed table n (shape ∷ shapes) i → SplitsFrom table n (Deep ∷ shape ∷ shapes) i
 SplitsFrom-deep table n shape shapes i =
     ⊎_elim (λ rest. (i, (omega arith, inr (inl refl)), TakesAll-none table n i, rest))

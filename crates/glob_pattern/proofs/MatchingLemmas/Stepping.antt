@@ -4,7 +4,7 @@ use Rattle.std.proofs.Math.Seq.{drop-cons}
 use Rattle.std.proofs.lemmas.Bool.Decides.{nat_tests}
 use Rattle.glob_text.specs.Text.{Text, opens}
 use Rattle.glob_text.specs.Characters.{slash}
-use Rattle.glob_pattern.specs.Private.Stepping.{place_before, StandsBefore}
+use Rattle.glob_pattern.specs.Private.Stepping.{place_before, IsSteppedTo}
 
 -- the rest is no longer than the text
 pub place_before-cons : (text rest : Text) (c : ℕ) → c ∷ rest ≡ drop (place_before text (c ∷ rest)) text
@@ -13,14 +13,14 @@ place_before-cons text rest c left =
     let long : suc (length rest) ≡ length (drop (place_before text (c ∷ rest)) text) = ap length left in
     (omega (arith, length-drop (place_before text (c ∷ rest)) text), omega (arith, length-drop (place_before text (c ∷ rest)) text))
 
--- a character and what follows it stand at place p
+-- a character and what follows it are at place p
 pub drop-split : (text rest : Text) (c p : ℕ) → c ∷ rest ≡ drop p text → p < length text
     → (c ≡ slice_index text p) × (rest ≡ drop (suc p) text)
 drop-split text rest c p left below =
     let e : drop p text ≡ get_or text p 0 ∷ drop (suc p) text = drop-cons text p 0 below in
     (cc, cc)
 
--- a place after the start opens where `/` stands before it
+-- a place after the start opens where `/` is before it
 pub opens-suc : (text : Text) (p : ℕ) → opens text (suc p) ≡ (slice_index text p == slash)
 opens-suc text p =
     let back : suc p - 1 ≡ p = omega arith in
@@ -28,9 +28,9 @@ opens-suc text p =
     rw (back, later) refl
 
 -- one step on
-pub StandsBefore-step : (text rest : Text) (c current : ℕ) (opened opening : Bool)
-    → StandsBefore text (c ∷ rest) current opened opening → StandsBefore text rest c opening (c == slash)
-StandsBefore-step text rest c current opened opening s =
+pub IsSteppedTo-step : (text rest : Text) (c current : ℕ) (opened opening : Bool)
+    → IsSteppedTo text (c ∷ rest) current opened opening → IsSteppedTo text rest c opening (c == slash)
+IsSteppedTo-step text rest c current opened opening s =
     let next = place_before-cons text rest c s.left in
     let split = drop-split text rest c (place_before text (c ∷ rest)) s.left next.1 in
     let back : place_before text rest - 1 ≡ place_before text (c ∷ rest) = omega (arith, next.0) in
@@ -43,7 +43,7 @@ StandsBefore-step text rest c current opened opening s =
 
 -- one step on, in places
 pub place_before-step : (text rest : Text) (c current : ℕ) (opened opening : Bool)
-    → StandsBefore text (c ∷ rest) current opened opening
+    → IsSteppedTo text (c ∷ rest) current opened opening
     → (place_before text rest ≡ place_before text (c ∷ rest) + 1) × (place_before text rest ≤ length text)
 place_before-step text rest c current opened opening s =
     let next = place_before-cons text rest c s.left in (omega (arith, next.0), omega (arith, next.0, next.1))

@@ -8,7 +8,7 @@ use Rattle.glob_pattern.proofs.PositionLemmas.Prefixes.{Splits-iff_prefix}
 use Rattle.glob_pattern.specs.declared.matcher.Shape.{Shape}
 use Rattle.glob_pattern.specs.declared.matcher.Shape.TheVariants.{One, Run, Deep}
 
--- a deep piece of shape n that is not empty ends after the last shape, or where the place opens
+-- a piece of shape n, of a `**`, that is not empty ends after the last shape, or where the place opens
 abbrev pub MayEnd : Table → List Shape → (n k : ℕ) → Type 0
 MayEnd table shapes n k = (suc n ≡ length shapes) ⊎ IsTrue (table.opens k)
 

@@ -1,4 +1,4 @@
--- What stands in a bracket, and which characters it holds.
+-- What is in a bracket, and which characters it holds.
 use Rattle.std.specs.Prelude.{ℕ, Bool, ◌&&◌, ◌||◌, not, nat_le, ◌==◌, if◌then◌else◌, List, [], ◌∷◌}
 use Rattle.std.specs.List.{list_any}
 use Rattle.std.specs.Char.{to_ascii_lowercase, is_ascii, is_ascii_lowercase}
@@ -7,7 +7,7 @@ use Rattle.glob_text.specs.Text.{Text}
 use Rattle.glob_pattern.specs.declared.token.bracket.Entry.{Entry}
 use Rattle.glob_pattern.specs.declared.token.bracket.Entry.TheVariants.{Single, Range}
 
--- The entries of a bracket's content, from the left: where three characters x-y stand, the range from x to y;
+-- The entries of a bracket's content, from the left: where three characters x-y are, the range from x to y;
 -- otherwise one character is a single.
 abbrev pub entries_of : Text → List Entry
 entries_of [] = []
@@ -17,7 +17,7 @@ entries_of (x ∷ d ∷ y ∷ rest) =
     if d == hyphen then Range x y ∷ entries_of rest else Single x ∷ entries_of (d ∷ y ∷ rest)
 
 -- c and x are the same character. Case-insensitively, two of ASCII are the same too if they are equal once capital
--- letters are made small.
+-- letters are in lower case.
 abbrev pub is_same : (case : Bool) → ℕ → ℕ → Bool
 is_same case c x =
     c == x || (not case && is_ascii c && is_ascii x && to_ascii_lowercase c == to_ascii_lowercase x)

@@ -25,7 +25,7 @@ pub record Fault : Type 0 where
   pub message : List ℕ
 
 -- The fault at place f, where a unit should begin and none does. The character there is a `[` that is not closed, or
--- the first of several stars: of three or more, or of two that are no component of their own, because of what stands
+-- the first of several stars: of three or more, or of two that are no component of their own, because of what is
 -- before them or else because of what follows.
 abbrev pub fault_at : Text → ℕ → Fault
 fault_at text f =
@@ -38,7 +38,7 @@ fault_at text f =
 abbrev pub NoUnitAt : Text → ℕ → Type 0
 NoUnitAt text f = (t : Token) (e : ℕ) → ¬ (UnitAt text f t e)
 
--- The first fault from the left: units reach a place before the end at which none stands.
+-- The first fault from the left: units reach a place before the end at which none is.
 unfoldable pub IsFault : Text → Fault → Type 0
 IsFault text fault =
     (f : ℕ) × (units : List Token)

@@ -1,4 +1,4 @@
--- The grammar of patterns: which unit stands where, and which texts are accepted.
+-- The grammar of patterns: which unit is where, and which texts are accepted.
 use Rattle.std.specs.Prelude.{◌≡◌, ◌≢◌, ℕ, ◌+◌, ◌-◌, ◌<◌, ◌≤◌, ◌⊎◌, List, [], ◌∷◌, length, IsTrue}
 use Rattle.glob_text.specs.Characters.{slash}
 use Rattle.glob_pattern.specs.Grammar.Characters.{star, question_mark, open_bracket, close_bracket, exclamation_mark}
@@ -7,14 +7,14 @@ use Rattle.glob_pattern.specs.Grammar.Brackets.{entries_of}
 use Rattle.glob_pattern.specs.Grammar.Tokens.{Token, tokens_of_units}
 use Rattle.glob_pattern.specs.declared.token.Token.TheVariants.{Literal, AnyChar, AnySequence, Recursive, OneOf, NoneOf}
 
--- Exactly n stars stand together from place f on: there is none right before or after them.
+-- Exactly n stars are together from place f on: there is none right before or after them.
 abbrev pub StarsAt : Text → ℕ → ℕ → Type 0
 StarsAt text f n =
     ((k : ℕ) → f ≤ k → k < f + n → Has text k star)
     × (¬ (Has text (f + n) star))
     × (0 < f → ¬ (Has text (f - 1) star))
 
--- no `]` stands from place i up to place j
+-- no `]` is from place i up to place j
 abbrev pub NoCloseBetween : Text → ℕ → ℕ → Type 0
 NoCloseBetween text i j = (k : ℕ) → i ≤ k → k < j → ¬ (Has text k close_bracket)
 
@@ -22,7 +22,7 @@ NoCloseBetween text i j = (k : ℕ) → i ≤ k → k < j → ¬ (Has text k clo
 abbrev pub ClosesBefore : Text → ℕ → ℕ → Type 0
 ClosesBefore text i e = (i < e) × Has text (e - 1) close_bracket × NoCloseBetween text i (e - 1)
 
--- the unit of this token stands from place f up to place e
+-- the unit of this token is from place f up to place e
 abbrev pub UnitAt : Text → ℕ → Token → ℕ → Type 0
 UnitAt text f (Literal c) e =
     Has text f c × (c ≢ question_mark) × (c ≢ star) × (c ≢ open_bracket) × (e ≡ f + 1)
@@ -41,7 +41,7 @@ UnitAt text f (NoneOf entries) e =
     Has text f open_bracket × Has text (f + 1) exclamation_mark × ClosesBefore text (f + 3) e
     × (entries ≡ entries_of (between text (f + 2) (e - 1)))
 
--- units of these tokens stand one after another from place f up to place e
+-- units of these tokens are one after another from place f up to place e
 abbrev pub UnitsBetween : Text → ℕ → List Token → ℕ → Type 0
 UnitsBetween text f [] e = f ≡ e
 UnitsBetween text f (t ∷ ts) e = (m : ℕ) × UnitAt text f t m × UnitsBetween text m ts e
@@ -54,7 +54,7 @@ HasUnits text units = UnitsBetween text 0 units (length text)
 unfoldable pub IsAccepted : Text → Type 0
 IsAccepted text = (units : List Token) × HasUnits text units
 
--- The text is accepted, and these are its tokens: those of its units, where neighbouring deep ones are one.
+-- The text is accepted, and these are its tokens: those of its units, where neighbouring `**` are one.
 abbrev pub HasTokens : Text → List Token → Type 0
 HasTokens text tokens =
     (units : List Token) × HasUnits text units × (tokens ≡ tokens_of_units units)

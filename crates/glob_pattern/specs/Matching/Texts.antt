@@ -9,7 +9,7 @@ use Rattle.glob_pattern.specs.Grammar.Units.{HasTokens}
 use Rattle.glob_pattern.specs.declared.options.MatchOptions.{MatchOptions}
 use Rattle.glob_pattern.specs.declared.token.Token.TheVariants.{Literal, AnyChar, AnySequence, Recursive, OneOf, NoneOf}
 
--- the token takes each character of the piece, which stands from place k of the text on
+-- the token takes each character of the piece, which is from place k of the text on
 abbrev pub TakesPiece : MatchOptions → Text → Token → ℕ → Text → Type 0
 TakesPiece o text t k piece =
     (i : ℕ) → i < length piece → IsTrue (takes o (opens text (k + i)) (slice_index piece i) t)

@@ -1,4 +1,4 @@
--- Bytes of a pattern that stand in each text that it matches.
+-- Bytes of a pattern that are in each text that it matches.
 use Rattle.std.specs.Prelude.{◌≡◌, ℕ, ◌+◌, ◌<◌, ◌≤◌, List, ◌++◌, length, map, take, drop, encode_utf8_all, slice_index_or}
 use Rattle.std.specs.Char.{to_ascii_lowercase}
 use Rattle.std.specs.Int.{bit_at}
@@ -21,12 +21,12 @@ pub record AreLanes (bytes : List ℕ) (from x lanes : ℕ) : Type 0 where
       → to_ascii_lowercase (slice_index_or bytes (from + k) 0) ≡ to_ascii_lowercase x
       → bit_at lanes k ≡ 1
 
--- the needle stands at the offset, once letters are in lower case
+-- the needle is at the offset, once letters are in lower case
 pub record IsAt (bytes needle : List ℕ) (offset : ℕ) : Type 0 where
   pub within : offset + length needle ≤ length bytes
   pub folded : map to_ascii_lowercase (take (length needle) (drop offset bytes)) ≡ map to_ascii_lowercase needle
 
--- the needle stands at some offset
+-- the needle is at some offset
 pub record ContainsFolded (bytes needle : List ℕ) : Type 0 where
   pub offset : ℕ
   pub stands : IsAt bytes needle offset

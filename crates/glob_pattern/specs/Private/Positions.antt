@@ -14,7 +14,7 @@ abbrev pub word_end : List Shape → (start : ℕ) → ℕ
 word_end shapes start = min (start + 63) (length shapes)
 
 -- Of the shapes from number `start` up to `end`, the bits say which there are, which may have pieces of any length, and
--- which are deep and have others after them.
+-- which are `Deep` and have others after them.
 pub record HasShapes (shapes : List Shape) (start end : ℕ) (word : ShapeWord) : Type 0 where
   pub tokens : (j : ℕ) → j < 64 → IsBitSet word.tokens j ↔ (start + j < end)
   pub wildcards : (j : ℕ) → j < 64

@@ -8,7 +8,7 @@ place_before text rest = length text - length rest
 
 -- What is known of the character before the rest: which it is, and whether its place opens; and whether the place of
 -- the rest opens.
-pub record StandsBefore (text rest : Text) (current : ℕ) (opened opening : Bool) : Type 0 where
+pub record IsSteppedTo (text rest : Text) (current : ℕ) (opened opening : Bool) : Type 0 where
   pub left : rest ≡ drop (place_before text rest) text
   pub here : opening ≡ opens text (place_before text rest)
   pub last : 0 < place_before text rest → current ≡ slice_index text (place_before text rest - 1)

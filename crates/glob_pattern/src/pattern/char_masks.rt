@@ -82,7 +82,7 @@ impl CharMasks {
         undecided: 0,
     };
 
-    /// Makes these the masks of the tokens from number `start` on, where they stand: they are too large to be moved.
+    /// Makes these the masks of the tokens from number `start` on, where they are: they are too large to be moved.
     fn fill<A: Allocator>(&mut self, tokens: &[Token<Bracket<A>>], start: usize)
         requires { start ≤ length tokens.now }
         ensures { IsCharMasks tokens.now start self.new }

@@ -5,7 +5,7 @@ ghost use Rattle.std.specs.Int.{IsBitSet};
 ghost use Rattle.std.specs.Str.{IsAscii};
 ghost use Rattle.std.specs.Str.Iter.{chars_rest};
 ghost use Rattle.glob_pattern.specs.Matching.Taking as taking;
-ghost use Rattle.glob_pattern.specs.Private.Stepping.{StandsBefore, place_before};
+ghost use Rattle.glob_pattern.specs.Private.Stepping.{IsSteppedTo, place_before};
 ghost use Rattle.glob_pattern.specs.Private.TextTable.{table_of, TakesBit};
 ghost use Rattle.glob_pattern.specs.Private.CharMasks.{AreCharMasks};
 
@@ -31,7 +31,7 @@ pub struct TextJudge<'a, A: Allocator> {
     before: char,
     count: u128,
     ghost masked: { AreCharMasks tokens.now masks.now },
-    ghost stands: { StandsBefore (chars text.now) (chars (chars_rest rest)) current (before == slash) (current == slash) },
+    ghost stepped: { IsSteppedTo (chars text.now) (chars (chars_rest rest)) current (before == slash) (current == slash) },
 }
 
 impl<'a, A: Allocator> TextJudge<'a, A> {

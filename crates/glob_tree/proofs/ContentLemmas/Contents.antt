@@ -19,7 +19,7 @@ use Rattle.glob_tree.proofs.ContentLemmas.Membership.{Contains-tail, Contains-ca
 pub same_key-Decides : (k l : Key) → Decides (same_key k l) (k ≡ l)
 same_key-Decides k l = pointwise_decides bytes_eq-Decides k l
 
--- what stands at a key of the list is what its entry says
+-- what is at a key of the list is what its entry says
 find_entry : (es : List (Key × Kind)) (e : Key × Kind) → are_distinct es ≡ true → Contains es e → find (λ f. same_key e.0 f.0) es ≡ Some e
 find_entry [] e h in' = absurd (Contains-nil e in')
 find_entry (f ∷ es) e h in' =
@@ -78,12 +78,12 @@ option_map_is : {A B : Type 0} (f : A → B) (o : Option A) (y : B) → option_m
 option_map_is f None y h = absurd (none-some y h)
 option_map_is f (Some x) y h = (x, refl, same_Some (f x) y h)
 
--- an entry of the list is what stands at its key
+-- an entry of the list is what is at its key
 pub kind_at-entry : (c : Content) → IsContent c → (e : Key × Kind) → Contains c.kinds e → kind_at c e.0 ≡ Some e.1
 unfolding kind_at
 kind_at-entry c w e in' = ap (λ o. option_map (λ f. f.1) o) (find_entry c.kinds e w.distinct in')
 
--- what stands at a key is in the list
+-- what is at a key is in the list
 pub contains_kind_at : (c : Content) (k : Key) (kind : Kind) → kind_at c k ≡ Some kind → Contains c.kinds (k, kind)
 unfolding kind_at
 contains_kind_at c k kind h =
@@ -91,7 +91,7 @@ contains_kind_at c k kind h =
     let (in', at) = found_entry c.kinds k e found in
     subst (Contains c.kinds) (λ i. (at i, is i)) in'
 
--- what stands at the key of a directory's name, which is proper
+-- what is at the key of a directory's name, which is proper
 pub record IsChild (c : Content) (k : Key) (e : DirEntry) : Type 0 where
   pub kind : Kind
   pub held : kind_at c (k ++ e.0 ∷ []) ≡ Some kind

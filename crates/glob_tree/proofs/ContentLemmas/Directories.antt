@@ -52,7 +52,7 @@ pub step_name : (c : Content) (k : Key) (name : Text) → IsName name → is_dir
     → step c name k ≡ Some (k ++ name ∷ [])
 step_name c k name n d kind held = rw (d, n.leads, n.down, held) refl
 
--- what stands at a key tells whether it is a directory
+-- what is at a key tells whether it is a directory
 pub is_dir_at-kind : (c : Content) (k : Key) (kind : Kind) → kind_at c k ≡ Some kind → is_dir_at c k ≡ is_dir kind
 is_dir_at-kind c k kind h = rw h refl
 

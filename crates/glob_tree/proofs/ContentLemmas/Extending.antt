@@ -61,7 +61,7 @@ are_distinct-push (f ∷ es) e h apart =
     (not_from_false (list_any (λ g. same_key f.0 g.0) (es ++ e ∷ [])) none)
     (are_distinct-push es e both.1 (λ g in'. apart g (Contains-tail f es g in')))
 
--- the names of a key that something stands at
+-- the names of a key that something is at
 pub names_at : (c : Content) → IsContent c → (k : Key) → is_dir_at c k ≡ true → list_all (λ name. is_utf8 name && is_proper name) k ≡ true
 names_at c w k h = of_kind (kind_at c k) refl h
   where
@@ -69,7 +69,7 @@ names_at c w k h = of_kind (kind_at c k) refl h
     of_kind None is h = absurd (both_ways false refl h)
     of_kind (Some kind) is h = (and_parts (list_all (λ name. is_utf8 name && is_proper name) k) (is_dir_at c (parent_key k)) (list_all-contains (is_placed c) c.kinds (k, kind) w.placed (contains_kind_at c k kind is))).0
 
--- A proper name in a directory, where nothing stands yet, may be added.
+-- A proper name in a directory, where nothing is yet, may be added.
 pub is_content-extended : (c : Content) → IsContent c → (k : Key) (name : Text) (kind : Kind) → is_dir_at c k ≡ true → is_utf8 name ≡ true → is_proper name ≡ true
     → kind_at c (k ++ name ∷ []) ≡ None → is_content (extended_content c (k ++ name ∷ [], kind)) ≡ true
 unfolding is_content

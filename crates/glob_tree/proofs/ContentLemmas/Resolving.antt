@@ -22,7 +22,7 @@ cut_more false c (p ∷ ps) qs h = refl
 pub pieces_some : (path : Text) → 0 < length (pieces path)
 pieces_some path = omega (arith, length-slice_split (λ c. c == slash) path)
 
--- a separator stands between the pieces before it and those after it
+-- a separator is between the pieces before it and those after it
 pub pieces-append : (path more : Text) → pieces (path ++ slash ∷ more) ≡ pieces path ++ pieces more
 pieces-append [] more = refl
 pieces-append (c ∷ cs) more =

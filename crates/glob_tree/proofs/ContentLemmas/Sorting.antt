@@ -59,16 +59,16 @@ sorted_entries-contains (e ∷ es) x h = insert_entry-contains e (sorted_entries
     (λ later. Contains-tail e (sorted_entries es) x (sorted_entries-contains es x later))
     (Contains-cases e es x h))
 
--- by the bytes of names, e stands before f
+-- by the bytes of names, e is before f
 abbrev Before : DirEntry → DirEntry → Type 0
 Before e f = slice_cmp nat_cmp e.0 f.0 ≡ Less
 
--- each entry stands before those after it
+-- each entry is before those after it
 abbrev pub IsRising : List DirEntry → Type 0
 IsRising [] = ⊤
 IsRising (e ∷ es) = ((f : DirEntry) → Contains es f → Before e f) × IsRising es
 
--- no name stands twice
+-- no name is twice
 abbrev pub AreApart : List DirEntry → Type 0
 AreApart [] = ⊤
 AreApart (e ∷ es) = ((f : DirEntry) → Contains es f → e.0 ≢ f.0) × AreApart es
@@ -87,7 +87,7 @@ not_itself e h = not_both e e h h
 Before-trans : (e f g : DirEntry) → Before e f → Before f g → Before e g
 Before-trans e f g h k = nat_list_cmp_total.trans e.0 f.0 g.0 h k
 
--- of two names that differ, one stands before the other
+-- of two names that differ, one is before the other
 by_order : {P : Type 0} (e f : DirEntry) → e.0 ≢ f.0 → (is_before e f ≡ true → Before e f → P) → (is_before e f ≡ false → Before f e → P) → P
 by_order {P} e f n first then = by_answer (slice_cmp nat_cmp e.0 f.0) refl
   where
@@ -190,7 +190,7 @@ children_apart_from k (e ∷ es) h =
       rest,
     )
 
--- no name stands twice in a directory
+-- no name is twice in a directory
 pub children_apart : (c : Content) → IsContent c → (k : Key) → AreApart (children c k)
 unfolding children
 children_apart c w k = children_apart_from k c.kinds w.distinct

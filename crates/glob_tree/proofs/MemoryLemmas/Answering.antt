@@ -1,4 +1,4 @@
--- What a tree answers of a path, by what stands where the path leads.
+-- What a tree answers of a path, by what is where the path leads.
 use Rattle.std.proofs.Common.{◌≡◌, ℕ, true, false, List, [], Option, Some, None, refl, ap, sym, ◌∙◌}
 use Rattle.std.specs.Prelude.{option_and_then, option_map}
 use Rattle.std.specs.declared.io.ErrorKind.TheVariants.{NotFound}
@@ -27,7 +27,7 @@ AnswersNothing-from_resolve c path r = record {
   fault = ap (λ k. kind_fault (option_and_then (kind_at c) k)) r;
 }
 
--- and one that leads to a key where this stands
+-- and one that leads to a key where this is
 pub record AnswersKind (c : Content) (path : Text) (k : Key) (kind : Kind) : Type 0 where
   pub look : look_result c path ≡ look_of (Some kind)
   pub list : list_result c path ≡ list_of c k (Some kind)

@@ -44,7 +44,7 @@ key_of_none (x ∷ xs) h =
     let other : (x == slash) ≡ false = ne_eqb x slash (λ same. h xs (ap (λ c. c ∷ xs) same)) in
     ap (λ b. cond (b && list_all is_proper (pieces xs)) (Some (pieces xs)) None) other
 
--- what stands above a directory is one
+-- what is above a directory is one
 pub above : (c : Content) → IsContent c → (k : Key) (name : Text) → is_dir_at c (k ++ name ∷ []) ≡ true → is_dir_at c k ≡ true
 above c w k name d = of_kind (kind_at c (k ++ name ∷ [])) refl d
   where
@@ -58,7 +58,7 @@ pub all_above : (c : Content) → IsContent c → (k names : Key) → is_dir_at 
 all_above c w k [] d = ap (is_dir_at c) (sym (append-nil k)) ∙ d
 all_above c w k (name ∷ names) d = above c w k name (all_above c w (k ++ name ∷ []) names (ap (is_dir_at c) (append_assoc k (name ∷ []) names) ∙ d))
 
--- what stands where a directory is
+-- what is where a directory is
 pub directory_kind : (c : Content) (k : Key) → is_dir_at c k ≡ true → (kind : Kind) × (kind_at c k ≡ Some kind)
 directory_kind c k d = of_kind (kind_at c k) refl d
   where
@@ -128,18 +128,18 @@ module _ (entries : List (Key × Kind)) (root : ℕ) (content : is_content (root
   find_directory names proper (Some n) leads =
       (leads.1, steps_along (rooted_content entries) [] (pieces names) (key_numbered entries n) proper (sym (leads.0 ∙ resolve_names names proper)))
 
--- a text whose last name stands after a separator
+-- a text whose last name is after a separator
 pub pieces_last : (names directory name rest : Text) → names ≡ directory ++ slash ∷ name → name ≡ rest → NoCharPasses (λ c. c == slash) rest
     → pieces names ≡ pieces directory ++ name ∷ []
 pieces_last names directory name rest whole is none =
     ap pieces whole ∙ pieces-append directory name ∙ ap (λ ps. pieces directory ++ ps) (pieces_one name (no_slash_from_chars name rest is none))
 
--- a text cut at a place where a separator stands
+-- a text cut at a place where a separator is
 pub cut_at_slash : (names directory name : Text) (i j : ℕ) → directory ≡ take i names → name ≡ drop j names → HasCharAt slash names i j → names ≡ directory ++ slash ∷ name
 cut_at_slash names directory name i j before after at =
     sym (take-append-drop i names) ∙ (λ k. sym before k ++ (drop_at_char slash names i j at (lit< tt) ∙ ap (λ rest. slash ∷ rest) (sym after)) k)
 
--- what stands after a separator of a text is one
+-- what is after a separator of a text is one
 pub utf8_after : (names name : Text) (i j : ℕ) → IsUtf8 names → name ≡ drop j names → HasCharAt slash names i j → is_utf8 name ≡ true
 utf8_after names name i j text after at =
     is_utf8-from_IsUtf8 name (subst IsUtf8 (sym after) (IsUtf8-drop names j text (subst (IsCharBoundary names) (sym at.ends) at.after)))

@@ -1,4 +1,4 @@
--- What refuses a further key of a tree in memory, and where it is to stand.
+-- What refuses a further key of a tree in memory, and where it is to be.
 use Rattle.std.proofs.Common.{◌≡◌, ℕ, ◌<◌, true, false, cond, not, ◌&&◌, List, [], ◌∷◌, ◌++◌, length, Option, Some, None, refl, ap, sym, ◌∙◌, arith}
 use Rattle.std.specs.Prelude.{bytes_eq, Bool, is_some, is_ok, OnOk, Result, Ok, Err}
 use Rattle.std.specs.List.{list_all}
@@ -23,7 +23,7 @@ use Rattle.glob_tree.proofs.ContentLemmas.Directories.{is_dir_at-kind}
 use Rattle.glob_tree.proofs.ContentLemmas.Contents.{IsContent-from_test, kind_at-entry, parent_key-append}
 use Rattle.glob_tree.proofs.ContentLemmas.Extending.{is_content-extended}
 
--- what stands at a key does not depend on the current directory
+-- what is at a key does not depend on the current directory
 pub kind_any : (entries : List (Key × Kind)) (m n k : Key)
     → kind_at (record { kinds = entries; current = m }) k ≡ kind_at (record { kinds = entries; current = n }) k
 unfolding kind_at

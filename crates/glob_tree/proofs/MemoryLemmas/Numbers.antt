@@ -72,7 +72,7 @@ module _ {A : Type 0} (nodes : List (Node A)) (entries : List (Key × Kind)) (ar
       i_is : (i : ℕ) → i ≡ i + 1 - 1
       i_is i = omega arith
 
-  -- a node that has the name in the directory stands at the key of that name
+  -- a node that has the name in the directory is at the key of that name
   pub child_some : (directory : ℕ) (name : Text) (i : ℕ) → position (is_named directory name) nodes ≡ Some i
       → (Some (key_numbered entries (i + 1)) ≡ child_key (rooted_content entries) (key_numbered entries directory) name) × (i + 1 < length entries)
   child_some directory name i h =
@@ -90,7 +90,7 @@ module _ {A : Type 0} (nodes : List (Node A)) (entries : List (Key × Kind)) (ar
       kind_at-entry (rooted_content entries) entries_content (k ++ name ∷ [], node.kind) (subst (Contains entries) is (Contains-get_or entries (i + 1) root_entry long)) in
       (ap (λ e. Some e.0) is ∙ sym (ap (λ o. cond (is_some o) (Some (k ++ name ∷ [])) None) held_there), long)
 
-  -- where no node has the name in the directory, nothing stands at that key
+  -- where no node has the name in the directory, nothing is at that key
   pub child_none : (directory : ℕ) (name : Text) → directory < length entries → position (is_named directory name) nodes ≡ None
       → child_key (rooted_content entries) (key_numbered entries directory) name ≡ None
   child_none directory name within h = by_kind (kind_at (rooted_content entries) (k ++ name ∷ [])) refl
@@ -119,7 +119,7 @@ module _ {A : Type 0} (nodes : List (Node A)) (entries : List (Key × Kind)) (ar
       by_kind None e = rw e refl
       by_kind (Some kind) e = let (j, long, is) = contains_kind_at (rooted_content entries) (k ++ name ∷ []) kind e in absurd (at_number j kind long is)
 
-  -- what stands at the key of a number
+  -- what is at the key of a number
   pub kind_at-numbered : (number : ℕ) → number < length entries → kind_at (rooted_content entries) (key_numbered entries number) ≡ Some (kind_numbered entries number)
   kind_at-numbered number within = kind_at-entry (rooted_content entries) entries_content (entry_numbered entries number) (Contains-get_or entries number root_entry within)
 

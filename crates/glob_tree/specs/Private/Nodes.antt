@@ -36,7 +36,7 @@ entries_after entries nodes = fold (λ es node. es ++ entry_of es node ∷ []) e
 abbrev pub entries_of_nodes : {A : Type 0} → List (Node A) → List (Key × Kind)
 entries_of_nodes nodes = entries_after (root_entry ∷ []) nodes
 
--- each node stands after its parent, where n is the number of the first
+-- each node is after its parent, where n is the number of the first
 abbrev pub are_after_parents : {A : Type 0} → ℕ → List (Node A) → Bool
 are_after_parents n [] = true
 are_after_parents n (node ∷ nodes) = nat_le (suc node.parent) n && are_after_parents (suc n) nodes

@@ -14,11 +14,11 @@ IsNode entries number node = MatchOption node
     ((number ≡ 0) × (entry_numbered entries number ≡ root_entry))
     (λ node. (entry_numbered entries number ≡ entry_of entries node.now) × (node.now.parent < length entries))
 
--- this kind stands at the key of the number
+-- this kind is at the key of the number
 abbrev pub IsKindAt : List (Key × Kind) → ℕ → Kind → Type 0
 IsKindAt entries number kind = kind_at (rooted_content entries) (key_numbered entries number) ≡ Some kind
 
--- nothing stands under this name in the directory of the number
+-- nothing is under this name in the directory of the number
 abbrev pub IsFree : List (Key × Kind) → (directory : ℕ) → (name : Text) → Type 0
 IsFree entries directory name = kind_at (rooted_content entries) (key_within entries directory name) ≡ None
 

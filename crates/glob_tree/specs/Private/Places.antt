@@ -1,4 +1,4 @@
--- Where a path has a further key stand, by the number of its directory.
+-- Where a path puts a further key, by the number of its directory.
 use Rattle.std.specs.Prelude.{◌≡◌, ℕ, ◌<◌, true, length, Some, None}
 use Rattle.std.specs.List.{list_all}
 use Rattle.std.specs.Str.{is_utf8}
@@ -13,7 +13,7 @@ use Rattle.glob_tree.specs.Private.Nodes.{key_numbered, kind_numbered, key_withi
 abbrev pub AreNames : (path names : Text) → Type 0
 AreNames path names = (key_of path ≡ Some (pieces names)) × (list_all is_proper (pieces names) ≡ true)
 
--- A further key may stand in the directory of this number, under this name: the path names it, and it is free.
+-- A further key may be in the directory of this number, under this name: the path names it, and it is free.
 pub record IsPlace (c : Content) (path : Text) (number : ℕ) (name : Text) : Type 0 where
   pub key : key_of path ≡ Some (key_within c.kinds number name)
   pub inside : number < length c.kinds

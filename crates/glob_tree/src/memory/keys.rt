@@ -28,7 +28,7 @@ fn are_proper(names: &str) -> bool
     names.split('/').all(is_proper)
 }
 
-/// What stands before the last `/`, and the last name.
+/// What is before the last `/`, and the last name.
 pub(super) fn last_name(names: &str) -> (Option<&str>, &str)
     ensures names { pieces names.now ≡ directory_names result.0 ++ result.1.now ∷ [] }
     ensures utf8 { is_utf8 result.1.now ≡ true }

@@ -6,7 +6,7 @@ pub enum TreeRefusal {
     Improper,
     /// The path without its last name leads to no directory.
     NoParent,
-    /// Something stands at the path already.
+    /// Something is at the path already.
     Taken,
     /// The path leads to no directory, so it cannot become the current one.
     NoDirectory,

@@ -3,16 +3,16 @@ use Rattle.std.proofs.lemmas.Str.{chars_past_char}
 use Rattle.std.specs.Str.{IsUtf8}
 use Rattle.std.specs.Str.Iter.{chars_rest}
 use Rattle.glob_pattern.specs.Private.TextTable.{table_of}
-use Rattle.glob_pattern.proofs.MatchingLemmas.Stepping.{StandsBefore-step, place_before-step}
+use Rattle.glob_pattern.proofs.MatchingLemmas.Stepping.{IsSteppedTo-step, place_before-step}
 use Rattle.glob_pattern.proofs.pattern.judge.TextJudgeJudge.step.Goals as goal
 
 pub invariant_of-self-2 : goal.invariant_of-self-2
 invariant_of-self-2 g c =
     let e = chars_past_char (chars_rest c.args.self.now.rest) (chars_rest c.next.new.self) c.in-Some.c (subst IsUtf8 c.as_str-left.ensures c.as_str-left.utf8) c.in-Some.ensures.steps.0 in
-    record { masked = c.args.self.now.masked; stands = StandsBefore-step _ _ _ _ _ _ (rw e at c.args.self.now.stands) }
+    record { masked = c.args.self.now.masked; stepped = IsSteppedTo-step _ _ _ _ _ _ (rw e at c.args.self.now.stepped) }
 
 pub returns-clause-stepped : goal.returns-clause-stepped
 unfolding table_of
 returns-clause-stepped g c = λ _.
     let e = chars_past_char (chars_rest c.args.self.now.rest) (chars_rest c.next.new.self) c.in-Some.c (subst IsUtf8 c.as_str-left.ensures c.as_str-left.utf8) c.in-Some.ensures.steps.0 in
-    rw e (place_before-step _ _ _ _ _ _ (rw e at c.args.self.now.stands))
+    rw e (place_before-step _ _ _ _ _ _ (rw e at c.args.self.now.stepped))

@@ -12,17 +12,17 @@ take_left-requires g c = λ j a. let at = c.requires.tokens j a in (at.1, at.2)
 pub returns-in_default-clause-took : goal.returns-in_default-clause-took
 unfolding table_of
 returns-in_default-clause-took g c =
-    let stands = c.args.self.now.stands in
-    rw (← (stands.last c.requires.stepped), ← (stands.before c.requires.stepped)) c.take_left.ensures
+    let stepped = c.args.self.now.stepped in
+    rw (← (stepped.last c.requires.stepped), ← (stepped.before c.requires.stepped)) c.take_left.ensures
 
 pub returns-then-class-ne-BEYOND-clause-took : goal.returns-then-class-ne-BEYOND-clause-took
 unfolding table_of
 returns-then-class-ne-BEYOND-clause-took g c = λ j lt.
     let judge = c.args.self.now in
-    let stands = judge.stands in
+    let stepped = judge.stepped in
     let look = c.in-Some.ensures.lookup in
     let here = subst (IsCharMasks judge.tokens.now (63 * c.args.word)) (sym look.1) (judge.masked.each c.args.word c.in-Some.masks.now look.3.0) in
-    rw (← (stands.last c.requires.stepped), ← (stands.before c.requires.stepped)) (
+    rw (← (stepped.last c.requires.stepped), ← (stepped.before c.requires.stepped)) (
       λ s. let a = ((IsBitSet-and c.args.asked _ j).0 s).0 in let at = c.requires.tokens j a in
           (a, known-taken judge.options _ judge.current c.args.asked judge.tokens.now _ j c.in-Some.masks.now here at.0 at.2 (rw c.class_of-class.ensures at s)),
       λ (a, t). let at = c.requires.tokens j a in ⊎_elim
@@ -35,10 +35,10 @@ pub returns-then-left-eq0-clause-took : goal.returns-then-left-eq0-clause-took
 unfolding table_of
 returns-then-left-eq0-clause-took g c = λ j lt.
     let judge = c.args.self.now in
-    let stands = judge.stands in
+    let stepped = judge.stepped in
     let look = c.in-Some.ensures.lookup in
     let here = subst (IsCharMasks judge.tokens.now (63 * c.args.word)) (sym look.1) (judge.masked.each c.args.word c.in-Some.masks.now look.3.0) in
-    rw (← (stands.last c.requires.stepped), ← (stands.before c.requires.stepped)) (
+    rw (← (stepped.last c.requires.stepped), ← (stepped.before c.requires.stepped)) (
       λ s. let a = ((IsBitSet-and c.args.asked _ j).0 s).0 in let at = c.requires.tokens j a in
           (a, known-taken judge.options _ judge.current c.args.asked judge.tokens.now _ j c.in-Some.masks.now here at.0 at.2 (rw c.class_of-class.ensures at s)),
       λ (a, t). let at = c.requires.tokens j a in ⊎_elim
@@ -55,12 +55,12 @@ pub returns-clause-took : goal.returns-clause-took
 unfolding table_of
 returns-clause-took g c = λ j lt.
     let judge = c.args.self.now in
-    let stands = judge.stands in
+    let stepped = judge.stepped in
     let look = c.in-Some.ensures.lookup in
     let here = subst (IsCharMasks judge.tokens.now (63 * c.args.word)) (sym look.1) (judge.masked.each c.args.word c.in-Some.masks.now look.3.0) in
     let left = c.take_left-2.ensures j lt in
     let or = IsBitSet-or (bit_and c.args.asked (get_or c.in-Some.masks.now.masks c.class_of-class.result 0)) c.take_left-2.result j in
-    rw (← (stands.last c.requires.stepped), ← (stands.before c.requires.stepped)) (
+    rw (← (stepped.last c.requires.stepped), ← (stepped.before c.requires.stepped)) (
       λ s. ⊎_elim
           (λ s. let a = ((IsBitSet-and c.args.asked _ j).0 s).0 in let at = c.requires.tokens j a in
           (a, known-taken judge.options _ judge.current c.args.asked judge.tokens.now _ j c.in-Some.masks.now here at.0 at.2 (rw c.class_of-class.ensures at s)))
