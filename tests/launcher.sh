@@ -141,9 +141,9 @@ ended_by() {
 
 for signal in TERM INT HUP; do
     anew
-    ended_by "$signal" 1 "$program" match x
+    ended_by "$signal" 2 "$program" match x
     sed -i '/ended/!d' "$work/err"
-    check "ended by SIG$signal, it ends its rt" "$((128 + $(kill -l "$signal")))" '1\n' \
+    check "ended by SIG$signal, it ends each rt" "$((128 + $(kill -l "$signal")))" '2\n' \
         'glob_run: ended before it was built. The next call goes on from here\n'
     anew
     cp -a "$root/tests" "$work/a copy"

@@ -139,10 +139,10 @@ impl<A: Allocator + Copy> Pattern<A> {
         }
     }
 
-    /// The answer of [`matches_with`](Self::matches_with), and how many questions it took: how often it was asked
-    /// whether a token takes a character. Their number is at most the pattern's characters times the text's, and for a
-    /// match at least the text's characters. So `a` and the text `a` take one question, and the answer is `(true, 1)`.
-    /// The error is that of [`matches_with`](Self::matches_with).
+    /// The answer of [`matches_with`](Self::matches_with), and how many questions it takes without the prefilter: how
+    /// often it is asked whether a token takes a character. Their number is at most the pattern's characters times the
+    /// text's, and for a match at least the text's characters. So `a` and the text `a` take one question, and the answer
+    /// is `(true, 1)`. The error is that of [`matches_with`](Self::matches_with).
     #[inline(always)]
     pub fn matches_counted(
         &self,

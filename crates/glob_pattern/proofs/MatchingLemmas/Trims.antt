@@ -1,5 +1,5 @@
 -- Characters that tokens of one character take at the ends of a text: what is left of a match is between them.
-use Rattle.std.proofs.Common.{◌≡◌, ℕ, zero, suc, ◌+◌, ◌-◌, ◌<◌, ◌≤◌, ◌↔◌, ◌==◌, ◌&&◌, Bool, true, false, List, ◌++◌, length, map, take, drop, get_or, slice_index, IsTrue, refl, sym, ap, ap₂, ◌∙◌, ⊎_elim, arith, add-one, below_more, chars, rules}
+use Rattle.std.proofs.Common.{◌≡◌, ℕ, zero, suc, ◌+◌, ◌-◌, ◌<◌, ◌≤◌, ◌↔◌, ◌==◌, ◌&&◌, not, Bool, true, false, List, ◌++◌, length, map, take, drop, get_or, slice_index, IsTrue, refl, sym, ap, ap₂, ◌∙◌, ⊎_elim, arith, add-one, below_more, chars, rules}
 use Rattle.std.proofs.Math.Bool.{and-false}
 use Rattle.std.proofs.lemmas.Bool.{cases_Bool, cases_eq, false≢true}
 use Rattle.std.proofs.lemmas.List.{take-append-drop, take-take, length-append, length-drop, length-map, length-take-le, drop_more, get_or_append_left, get_or-append_right, get_or-take, get_or-drop, get_or_past, get_or_read, get_or_default, get_or-map, drop_all}
@@ -10,7 +10,7 @@ use Rattle.glob_text.specs.Characters.{slash, dot}
 use Rattle.glob_text.specs.Text.{Text, opens}
 use Rattle.glob_pattern.specs.Grammar.Brackets.{is_same}
 use Rattle.glob_pattern.specs.Grammar.Tokens.{Token, shape_of}
-use Rattle.glob_pattern.specs.Matching.Taking.{takes, is_excluded_dot}
+use Rattle.glob_pattern.specs.Matching.Taking.{takes, is_excluded_dot, is_excluded_separator}
 use Rattle.glob_pattern.specs.Matching.Texts.{TokensMatch}
 use Rattle.glob_pattern.specs.Private.Prefixes.{PrefixSplits, IsAlive, IsTakenPrefix}
 use Rattle.glob_pattern.specs.Private.Prefilters.{Excludes, IsFoldedFirst}
@@ -33,7 +33,7 @@ excluded_alike : (o : MatchOptions) (opening : Bool) (c : ℕ) → is_excluded_d
 excluded_alike o true c free = free ∙ sym (ap (λ b. b && c == dot) (and-false o.require_literal_leading_dot))
 excluded_alike o false c free = refl
 
--- so each token takes it alike at all places
+-- each token takes it alike at all places
 takes_alike : (o : MatchOptions) (opening : Bool) (c : ℕ) (t : Token) → is_excluded_dot o true c ≡ false → takes o opening c t ≡ takes o false c t
 takes_alike o opening c (Literal x) free = refl
 takes_alike o opening c AnyChar free = rw (excluded_alike o opening c free) refl
@@ -41,6 +41,30 @@ takes_alike o opening c AnySequence free = rw (excluded_alike o opening c free) 
 takes_alike o opening c Recursive free = rw (excluded_alike o opening c free) refl
 takes_alike o opening c (OneOf e) free = rw (excluded_alike o opening c free) refl
 takes_alike o opening c (NoneOf e) free = rw (excluded_alike o opening c free) refl
+
+-- what a token takes where a component starts, it takes elsewhere
+takes_elsewhere : (o : MatchOptions) (c : ℕ) (t : Token) → takes o true c t ≡ true → takes o false c t ≡ true
+takes_elsewhere o c t taken = ⊎_elim (excluded t taken) (λ free. sym (takes_alike o true c t free) ∙ taken) (cases_Bool (is_excluded_dot o true c))
+  where
+    -- of tokens only literals take a dot that is excluded
+    excluded : (u : Token) → takes o true c u ≡ true → is_excluded_dot o true c ≡ true → takes o false c u ≡ true
+    excluded (Literal x) taken is = taken
+    excluded AnyChar taken is = absurd (false≢true (sym (and-false (not (is_excluded_separator o c))) ∙ rw is at taken))
+    excluded AnySequence taken is = absurd (false≢true (sym (and-false (not (is_excluded_separator o c))) ∙ rw is at taken))
+    excluded Recursive taken is = absurd (false≢true (rw is at taken))
+    excluded (OneOf e) taken is = absurd (false≢true (rw (is, and-false (not (is_excluded_separator o c))) at taken))
+    excluded (NoneOf e) taken is = absurd (false≢true (rw (is, and-false (not (is_excluded_separator o c))) at taken))
+
+-- so it takes it at all places
+takes_anywhere : (o : MatchOptions) (opening : Bool) (c : ℕ) (t : Token) → takes o true c t ≡ true → takes o opening c t ≡ true
+takes_anywhere o true c t taken = taken
+takes_anywhere o false c t taken = takes_elsewhere o c t taken
+
+-- and what it does not take elsewhere, it takes nowhere
+takes_nowhere : (o : MatchOptions) (opening : Bool) (c : ℕ) (t : Token) → takes o false c t ≡ false → takes o opening c t ≡ false
+takes_nowhere o false c t none = none
+takes_nowhere o true c t none =
+    ⊎_elim (λ taken. absurd (false≢true (sym none ∙ takes_elsewhere o c t taken))) (λ other. other) (cases_Bool (takes o true c t))
 
 -- two texts that begin with the same characters have the same tables before the place after them
 table_of-same : (o : MatchOptions) (tokens : List Token) (text other : Text) (n : ℕ) → ((j : ℕ) → j < n → slice_index text j ≡ slice_index other j)
@@ -244,28 +268,25 @@ reject_letter o tokens bytes first begins excludes utf8 =
     (cases_Bool (is_same o.case_sensitive (get_or bytes 0 0) c)) in
     reject_first o tokens bytes 0 1 (Literal c) (IsTrim-nothing o tokens bytes) ones (omega arith) excludes.some excludes.ascii (sym at ∙ get_or_default tokens 0 _ _ some) utf8 other
 
--- the next last token, and the character that it is compared with, which is no leading dot
+-- the next last token, and the character that it is compared with
 module _ (o : MatchOptions) (tokens : List Token) (bytes : List ℕ) (start end trail : ℕ) (t : Token) (trim : IsTrim o tokens bytes start end) (ones : HasOnes (map shape_of tokens) start trail)
     (some : end < trail) (within : start + end < length bytes) (low : get_or bytes (length bytes - 1 - end) 0 < 128)
-    (free : is_excluded_dot o true (get_or bytes (length bytes - 1 - end) 0) ≡ false) (at : t ≡ get_or tokens (length tokens - 1 - end) t) where
+    (at : t ≡ get_or tokens (length tokens - 1 - end) t) where
   token_last : t ≡ get_or tokens (length tokens - 1 - end) AnyChar
   token_last = get_or_read tokens (length tokens - 1 - end) t (omega (arith, ones.within, length-map tokens shape_of)) at AnyChar
 
-  alike_last : (opening : Bool) → takes o opening (get_or bytes (length bytes - 1 - end) 0) (get_or tokens (length tokens - 1 - end) AnyChar) ≡ takes o false (get_or bytes (length bytes - 1 - end) 0) t
-  alike_last opening = rw (sym token_last) (takes_alike o opening (get_or bytes (length bytes - 1 - end) 0) t free)
-
-  -- it takes the character
-  pub IsTrim-last : takes o false (get_or bytes (length bytes - 1 - end) 0) t ≡ true → IsTrim o tokens bytes start (end + 1)
+  -- it takes the character, wherever components start
+  pub IsTrim-last : takes o true (get_or bytes (length bytes - 1 - end) 0) t ≡ true → IsTrim o tokens bytes start (end + 1)
   IsTrim-last taken = record {
     ones = HasOnes-fewer (map shape_of tokens) start trail start (end + 1) ones (omega arith) (omega arith);
     within = omega arith;
     front = trim.front;
     back = IsAscii-drop_more bytes end (omega arith) low trim.back;
     first = trim.first;
-    last = below_more _ _ trim.last (λ opening. alike_last opening ∙ taken);
+    last = below_more _ _ trim.last (λ opening. rw (sym token_last) (takes_anywhere o opening (get_or bytes (length bytes - 1 - end) 0) t taken));
   }
 
-  -- or it does not, and the tokens do not match
+  -- or it takes it nowhere, and the tokens do not match
   pub reject_last : IsUtf8 bytes → takes o false (get_or bytes (length bytes - 1 - end) 0) t ≡ false → TokensMatch o tokens (chars bytes) → ⊥
   unfolding table_of
   reject_last utf8 none match =
@@ -279,4 +300,5 @@ module _ (o : MatchOptions) (tokens : List Token) (bytes : List ℕ) (start end 
       let place : length text - end ≡ suc (length text - 1 - end) = omega arith in
       let prefix = rw (shape, place) at ((match-iff_prefix o tokens bytes start end utf8 trim).0 match) in
       let last = one-from_PrefixSplits (table_of o tokens text) (map shape_of tokens) (length tokens - 1 - end) (length text - 1 - end) (rw many at (ones.last end some)) prefix in
-      false≢true (sym none ∙ (sym (alike_last (opens text (length text - 1 - end))) ∙ (rw here at last.0)))
+      let nowhere = takes_nowhere o (opens text (length text - 1 - end)) (get_or bytes (length bytes - 1 - end) 0) t none in
+      false≢true (sym (rw token_last at nowhere) ∙ (rw here at last.0))

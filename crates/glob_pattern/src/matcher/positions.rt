@@ -1,6 +1,6 @@
-//! Matching by position sets: which numbers of leading tokens may have split the characters so far. Bit n of a word is
-//! set where the tokens before the word's nth are done, or the nth has begun and may go on. A character moves all
-//! positions at once.
+//! A bit-parallel automaton (NFA). Its states are positions: which numbers of leading tokens may have split the characters
+//! so far. Bit n of a word is set where the tokens before the word's nth are done, or the nth has begun and may go on. A
+//! character moves all positions at once.
 ghost use Rattle.std.specs.Prelude.{◌≡◌, ℕ, ◌+◌, ◌-◌, ◌*◌, ◌^◌, ◌<◌, ◌≤◌, ◌↔◌, false, length, slice_index, slice_index_or, IsTrue, IsOk, IfOk, IsSome, IfSome, bit_and, map};
 ghost use Rattle.glob_pattern.specs.Matching.Splits.{Table};
 ghost use Rattle.glob_pattern.specs.Private.Prefixes.{IsAlive, IsTakenPrefix};

@@ -12,7 +12,7 @@ use crate::options::MatchOptions;
 use crate::pattern::needle::{CASE, Needle};
 use crate::token::Token;
 use crate::token::bracket::Bracket;
-use crate::token::taking::{is_excluded_dot, takes};
+use crate::token::taking::takes;
 use std::alloc::Allocator;
 
 /// What each matching text has at its ends and between them.
@@ -164,7 +164,7 @@ fn trim_start<A: Allocator>(
 }
 
 /// How many characters at the end of the text the last `trail` tokens take, besides the first `start` characters. It
-/// stops at a dot where the dot rule may exclude it, so that it need not know where components start.
+/// stops where that depends on whether a component starts, as it may of a dot under the dot rule.
 #[inline(always)]
 fn trim_end<A: Allocator>(
     tokens: &[Token<Bracket<A>>],
@@ -182,11 +182,14 @@ fn trim_end<A: Allocator>(
     let mut end = 0;
     while end < trail && end < bytes.len() - start {
         let byte = bytes[bytes.len() - 1 - end];
-        if !byte.is_ascii() || is_excluded_dot(options, true, byte as char) {
+        if !byte.is_ascii() {
             break;
         }
         let token = &tokens[tokens.len() - 1 - end];
-        if !takes(token, options, false, byte as char) {
+        if !takes(token, options, true, byte as char) {
+            if takes(token, options, false, byte as char) {
+                break;
+            }
             return None;
         }
         end += 1;

@@ -19,18 +19,19 @@ pub fn takes<A: Allocator>(
     if let Token::Literal(x) = token {
         return bracket::is_same(options.case_sensitive, c, *x);
     }
-    // A copy of the fields, made here alone: a call needs the options in memory.
+    // The call needs the options in memory. With a copy, which is made on this path alone, those of the caller stay in
+    // registers.
     let copy = MatchOptions {
         case_sensitive: options.case_sensitive,
         require_literal_separator: options.require_literal_separator,
         require_literal_leading_dot: options.require_literal_leading_dot,
     };
-    takes_listed(token, copy, opening, c)
+    takes_nonliteral(token, copy, opening, c)
 }
 
-/// [`takes`], out of line: it is asked of tokens that are no plain character.
+/// [`takes`], out of line, for a token that is no literal.
 #[inline(never)]
-fn takes_listed<A: Allocator>(
+fn takes_nonliteral<A: Allocator>(
     token: &Token<Bracket<A>>,
     options: MatchOptions,
     opening: bool,

@@ -10,13 +10,13 @@ overflow_sub-bytes g c = omega (arith, c.loop-end.invariant.taken.within)
 pub returns-then-not-takes : goal.returns-then-not-takes
 returns-then-not-takes g c = λ utf8.
     reject_last c.args.options c.args.tokens.now c.args.bytes.now c.args.start c.loop-end.end c.args.trail c.index-tokens-tokens.result c.loop-end.invariant.taken c.requires.ones
-    (omega arith) (omega arith) (ltb-true _ 128 (sym c.is_ascii.ensures ∙ c.if-not-is_ascii.false)) (sym c.is_excluded_dot.ensures ∙ c.if-is_excluded_dot.false)
-    c.index-tokens-tokens.is (IsUtf8-from_is_utf8 c.args.bytes.now utf8) (sym c.takes.ensures ∙ c.if-not-takes.true)
+    (omega arith) (omega arith) (ltb-true _ 128 (sym c.is_ascii.ensures ∙ c.if-not-is_ascii.false))
+    c.index-tokens-tokens.is (IsUtf8-from_is_utf8 c.args.bytes.now utf8) (sym c.takes-then-not-takes.ensures ∙ c.if-takes.false)
 
 pub loop-end-preserved : goal.loop-end-preserved
 loop-end-preserved g c = record {
   within = omega arith;
   taken = IsTrim-last c.args.options c.args.tokens.now c.args.bytes.now c.args.start c.loop-end.end c.args.trail c.index-tokens-tokens.result c.loop-end.invariant.taken c.requires.ones
-      (omega arith) (omega arith) (ltb-true _ 128 (sym c.is_ascii.ensures ∙ c.if-not-is_ascii.false)) (sym c.is_excluded_dot.ensures ∙ c.if-is_excluded_dot.false)
+      (omega arith) (omega arith) (ltb-true _ 128 (sym c.is_ascii.ensures ∙ c.if-not-is_ascii.false))
       c.index-tokens-tokens.is (sym c.takes.ensures ∙ c.if-not-takes.false);
 }
