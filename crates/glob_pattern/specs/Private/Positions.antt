@@ -49,22 +49,21 @@ pub record IsTakenWord (table : Table) (shapes : List Shape) (start k word : ℕ
 pub record AreAlive (table : Table) (shapes : List Shape) (k low high : ℕ) (alive : List ℕ) : Type 0 where
   pub word : (i : ℕ) → low ≤ i → i < high → IsAliveWord table shapes (63 * i) k (slice_index alive i)
 
--- What holds of the word of place k that a step leads to: `took` has the tokens that took the character before place k,
--- `opens` says whether place k opens, and `whole` whether the shapes before `start` split the characters up to it.
-abbrev pub AfterStep : ShapeWord → (took : ℕ) → (opens whole : Bool)
-    → (holds : Table → List Shape → (start k : ℕ) → Type 0) → Type 0
-AfterStep word took opens whole holds =
+-- A step leads to the word `next` of any place k: `took` has the tokens that took the character before place k, `opens`
+-- says whether place k opens, and `whole` whether the shapes before `start` split the characters up to it.
+abbrev pub LeadsTo : ShapeWord → (took : ℕ) → (opens whole : Bool) → (next : ℕ) → Type 0
+LeadsTo word took opens whole next =
     (table : Table) (shapes : List Shape) (start k : ℕ)
     → start ≤ length shapes → IsShapeWord shapes start word
     → IsTakenWord table shapes start k took → opens ≡ table.opens k
-    → IsTrue whole ↔ PrefixSplits table shapes start k → holds table shapes start k
+    → IsTrue whole ↔ PrefixSplits table shapes start k → IsAliveWord table shapes start k next
 
 -- `keep` is no answer of tokens, or the word is alone, and the tokens of `keep` lead from it to itself where no
 -- component starts.
 abbrev pub Keeps : ShapeWord → (alone : Bool) → (alive keep : ℕ) → Type 0
 Keeps word alone alive keep =
     ¬ (IsBitSet keep 63)
-    → IsTrue alone × AfterStep word keep false false (λ table shapes start k. IsAliveWord table shapes start k alive)
+    → IsTrue alone × LeadsTo word keep false false alive
 
 -- the shape is in the first word, and the last before `end`, its pieces may have any length, and its token takes all
 -- characters

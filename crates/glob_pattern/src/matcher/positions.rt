@@ -4,7 +4,7 @@
 ghost use Rattle.std.specs.Prelude.{◌≡◌, ℕ, ◌+◌, ◌-◌, ◌*◌, ◌^◌, ◌<◌, ◌≤◌, ◌↔◌, false, length, slice_index, slice_index_or, IsTrue, IsOk, IfOk, IsSome, IfSome, bit_and, map};
 ghost use Rattle.glob_pattern.specs.Matching.Splits.{Table};
 ghost use Rattle.glob_pattern.specs.Private.Prefixes.{IsAlive, IsTakenPrefix};
-ghost use Rattle.glob_pattern.specs.Private.Positions.{IsShapeWord, AreShapeWords, IsAliveWord, AreAlive, AfterStep, Keeps, CanRun, HasAsked, CanStepRest, HasSteppedRest};
+ghost use Rattle.glob_pattern.specs.Private.Positions.{IsShapeWord, AreShapeWords, IsAliveWord, AreAlive, LeadsTo, Keeps, CanRun, HasAsked, CanStepRest, HasSteppedRest};
 
 use super::shape_word::{ShapeWord, last_before};
 use super::{Judge, Shape, Shaped, WORD};
@@ -149,10 +149,8 @@ fn ask_next<T: Shaped, J: Judge>(
 /// `a` and the set stays what it is, the same answer about `b` leaves it, and the answer about `.` does not.
 #[inline(always)]
 fn answer_to_keep(word: ShapeWord, alone: bool, old: u64, took: u64, opens: bool, next: u64) -> u64
-    requires stepped { AfterStep word took opens false
-        (λ table shapes start k. IsAliveWord table shapes start k next) }
-    requires unbound { bit_and took word.recursive ≡ 0 → AfterStep word took false false
-        (λ table shapes start k. IsAliveWord table shapes start k next) }
+    requires stepped { LeadsTo word took opens false next }
+    requires unbound { bit_and took word.recursive ≡ 0 → LeadsTo word took false false next }
     ensures { Keeps word alone next result }
 {
     if alone && next == old && (!opens || took & word.recursive == 0) {
@@ -196,7 +194,7 @@ fn is_alive<T: Shaped>(tokens: &[T], alive: &[u64], position: usize) -> bool
     (alive[word] >> (position - WORD * word)) & 1 != 0
 }
 
-/// Steps the words after the first, which is of the judge's place already. Returns the union of all words.
+/// Steps the words after the first, which is of the judge's place already. Returns 0 if no position is alive.
 #[inline(always)]
 fn step_rest<T: Shaped, J: Judge>(
     tokens: &[T],
