@@ -2,7 +2,8 @@
    with a `/` at the end. It is read by blocks of 4 KiB twice, and then of 32 KiB, and each name is looked up by its path as
    it is met. The directory is closed before the walk goes on below it.
 
-   usage: calls DEPTH    walks the current directory, DEPTH levels deep, and prints how many entries it met */
+   usage: calls DEPTH [names]    walks the current directory, DEPTH levels deep, and prints how many entries it met; with
+                                 `names` it looks up none of the last level */
 #define _GNU_SOURCE
 #include <fcntl.h>
 #include <stdio.h>
@@ -60,8 +61,9 @@ static int is_dir(const char *entry_path) {
     return statx(AT_FDCWD, entry_path, 0, STATX_BASIC_STATS | STATX_BTIME, &found) == 0 && S_ISDIR(found.stx_mode);
 }
 
-/* looks up the names of a block, below the path's first END bytes, and adds those of directories to `below` */
-static void meet(long count, size_t end, struct names *below) {
+/* looks up the names of a block, below the path's first END bytes, unless they alone are wanted, and adds those of
+   directories to `below` */
+static void meet(long count, size_t end, int alone, struct names *below) {
     const struct entry *entry;
     for (long at = 0; at < count; at += entry->length) {
         entry = (const struct entry *)(block + at);
@@ -70,13 +72,13 @@ static void meet(long count, size_t end, struct names *below) {
             continue;
         memcpy(path + end, entry->name, size);
         entries++;
-        if (is_dir(end == BELOW ? path : path + BELOW))
+        if (!alone && is_dir(end == BELOW ? path : path + BELOW))
             add(below, entry->name, size);
     }
 }
 
 /* the names of the directories in the one whose path, with a `/`, ends at END */
-static struct names list(size_t end) {
+static struct names list(size_t end, int alone) {
     struct names below = {NULL, 0, 0};
     path[end] = 0;
     int fd = open(end == BELOW ? path : path + BELOW, O_RDONLY | O_NOFOLLOW | O_DIRECTORY | O_CLOEXEC);
@@ -87,7 +89,7 @@ static struct names list(size_t end) {
         count = syscall(SYS_getdents64, fd, block, reads < BLOCK_READS ? BLOCK : LARGE_BLOCK);
         if (count <= 0)
             break;
-        meet(count, end, &below);
+        meet(count, end, alone, &below);
     }
     if (count < 0)
         fail("calls");
@@ -95,25 +97,25 @@ static struct names list(size_t end) {
     return below;
 }
 
-static void walk(size_t end, unsigned long depth) {
-    struct names below = list(end);
+static void walk(size_t end, unsigned long depth, int names) {
+    struct names below = list(end, names && depth == 1);
     for (size_t at = 0; depth > 1 && at < below.length;) {
         size_t size = strlen(below.text + at) + 1;
         memcpy(path + end, below.text + at, size - 1);
         path[end + size - 1] = '/';
-        walk(end + size, depth - 1);
+        walk(end + size, depth - 1, names);
         at += size;
     }
     free(below.text);
 }
 
 int main(int count, char **words) {
-    if (count != 2) {
-        fprintf(stderr, "usage: calls DEPTH\n");
+    if (count < 2 || count > 3 || (count == 3 && strcmp(words[2], "names") != 0)) {
+        fprintf(stderr, "usage: calls DEPTH [names]\n");
         return 2;
     }
     is_dir(".");
-    walk(BELOW, strtoul(words[1], NULL, 10));
+    walk(BELOW, strtoul(words[1], NULL, 10), count == 3);
     printf("%lu\n", entries);
     return 0;
 }

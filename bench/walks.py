@@ -20,10 +20,13 @@ Run = namedtuple("Run", "busy clock peak")
 # What some runs come to, with the number of system calls or None.
 Cell = namedtuple("Cell", "busy clock peak calls")
 
-PATTERNS = ["**/*.txt", "*", "**", "*/*/*.rs"]
+PATTERNS = ["**/*.txt", "*", "*.rs", "**", "*/*/*.rs"]
 
 # How deep a pattern leads, for the programs that take a depth.
-DEPTHS = {"**/*.txt": None, "*": 1, "**": None, "*/*/*.rs": 3}
+DEPTHS = {"**/*.txt": None, "*": 1, "*.rs": 1, "**": None, "*/*/*.rs": 3}
+
+# Those for which a walk looks up no entry of the last level.
+NAMES = ["*", "*.rs", "*/*/*.rs"]
 
 SUFFIXES = ["txt", "rs"]
 
@@ -65,6 +68,7 @@ def find_words(pattern):
     return {
         "**/*.txt": ["-name", "*.txt"],
         "*": ["-maxdepth", "1"],
+        "*.rs": ["-maxdepth", "1", "-name", "*.rs"],
         "**": ["-type", "d"],
         "*/*/*.rs": ["-mindepth", "3", "-maxdepth", "3", "-name", "*.rs"],
     }[pattern]
@@ -74,6 +78,7 @@ def fd_words(pattern):
     return {
         "**/*.txt": ["--glob", "*.txt"],
         "*": ["--max-depth", "1", "."],
+        "*.rs": ["--max-depth", "1", "--glob", "*.rs"],
         "**": ["--type", "d", "."],
         "*/*/*.rs": ["--exact-depth", "3", "--glob", "*.rs"],
     }[pattern]
@@ -92,7 +97,7 @@ def commands(folder, pattern):
     some = {
         "ours": [folder / "ours/program", "find", pattern],
         "the crate": [folder / "original/walk", pattern],
-        "the calls alone": [folder / "calls", str(depth)],
+        "the calls alone": [folder / "calls", str(depth), *(["names"] if pattern in NAMES else [])],
         "find": [shutil.which("find"), ".", "-mindepth", "1", *find_words(pattern)],
         "fd, one thread": [fd, "--unrestricted", "--threads", "1", "--color", "never", *fd_words(pattern)],
         "bash": [shutil.which("bash"), *bash_words(pattern)],

@@ -45,8 +45,8 @@ begins_recursive [] = false
 begins_recursive (t ∷ ts) = is_recursive t
 
 -- `.` and `..`
-abbrev pub is_special_name : Text → Bool
-is_special_name component = bytes_eq component cur_dir || bytes_eq component parent_dir
+abbrev pub is_current_or_parent : Text → Bool
+is_current_or_parent component = bytes_eq component cur_dir || bytes_eq component parent_dir
 
 pub data ComponentKind : Type 0 where
   Literal : ComponentKind

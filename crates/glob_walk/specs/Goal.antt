@@ -7,7 +7,7 @@ use Rattle.glob_text.specs.Characters.{slash, dot}
 use Rattle.glob_text.specs.Text.{Text}
 use Rattle.glob_text.specs.Pieces.{is_empty, begins_with}
 use Rattle.glob_tree.specs.Content.{Content, is_content, Key, is_dir, names_past, kind_at, resolve}
-use Rattle.glob_walk.specs.Components.{components, has_root, wants_directories, without_end_separator, is_literal, is_recursive, is_special_name, walk_fault}
+use Rattle.glob_walk.specs.Components.{components, has_root, wants_directories, without_end_separator, is_literal, is_recursive, is_current_or_parent, walk_fault}
 use Rattle.glob_pattern.specs.Computing.Deciding.{is_match}
 use Rattle.glob_walk.specs.Marks.{Item, Unread, paths}
 use Rattle.glob_pattern.specs.declared.options.MatchOptions.{MatchOptions}
@@ -17,7 +17,7 @@ use Rattle.glob_tree.specs.declared.kind.Kind.TheVariants.{Dir, Shut, Other}
 -- The component is neither empty, nor `.`, nor `..`; and if it has a wildcard and begins with a dot, `**` is before it.
 abbrev pub is_plain_component : (after_recursive : Bool) → Text → Bool
 is_plain_component after_recursive t =
-    not (is_empty t) && not (is_special_name t) && (is_literal t || not (begins_with dot t) || after_recursive)
+    not (is_empty t) && not (is_current_or_parent t) && (is_literal t || not (begins_with dot t) || after_recursive)
 
 abbrev pub are_plain : (after_recursive : Bool) → List Text → Bool
 are_plain after_recursive [] = true

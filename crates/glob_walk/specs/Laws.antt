@@ -38,7 +38,7 @@ PlainWalkGives =
     (c : Content) (o : MatchOptions) (pattern : Text) → IsPlainWalk c o pattern → IsTrue (is_readable c pattern)
     → GivesGoal c o pattern (items (listing c o pattern))
 
--- a plain walk gives its paths once and in order, as far as the runs of `**` allow
+-- a plain walk gives its paths once and in order, as far as each `**` allows
 abbrev pub PlainWalkOrderly : Type 0
 PlainWalkOrderly =
     (c : Content) (o : MatchOptions) (pattern : Text) → IsPlainWalk c o pattern

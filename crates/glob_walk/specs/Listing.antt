@@ -8,7 +8,7 @@ use Rattle.glob_text.specs.Pieces.{begins_with}
 use Rattle.glob_tree.specs.Looks.{is_there, is_directory}
 use Rattle.glob_tree.specs.Paths.{join, child}
 use Rattle.glob_tree.specs.Content.{Content, ListAnswer, Entries, Fails, NoDirectory, look_result, list_result, sorted_entries}
-use Rattle.glob_walk.specs.Components.{start, components, wants_directories, Literal, Recursive, Wild, component_kind, is_special_name, begins_recursive, matches_name}
+use Rattle.glob_walk.specs.Components.{start, components, wants_directories, Literal, Recursive, Wild, component_kind, is_current_or_parent, begins_recursive, matches_name}
 use Rattle.glob_pattern.specs.declared.options.MatchOptions.{MatchOptions}
 use Rattle.glob_tree.specs.declared.tree.Look.{Look}
 
@@ -24,7 +24,7 @@ look_up c is_found next path =
 -- A component that stands for itself is looked up, and no option touches it. `.` and `..` are there in a directory.
 abbrev pub by_name : Content → (next : Next) → (component path : Text) → Bool → List Mark
 by_name c next component path d =
-    look_up c (λ seen. if is_special_name component then d else is_there seen) next (child path component)
+    look_up c (λ seen. if is_current_or_parent component then d else is_there seen) next (child path component)
 
 -- What comes of a listing: a unit for each entry, what stands before the entries, and then what comes of each in
 -- ascending byte order of names; or else an error. Over a content only directories are listed, so nothing comes of the
@@ -60,11 +60,11 @@ abbrev pub by_match : Content → MatchOptions → (next : Next) → (component 
 by_match c o next component path =
     list_directory c path (special_names c o next component path) (λ name d. match_at o next component (child path name) name d)
 
--- a run of `**` enters the entry: a directory, and under the dot rule no dotted one
+-- `**` enters the entry: a directory, and under the dot rule no dotted one
 abbrev pub is_entered : MatchOptions → (name : Text) → Bool → Bool
 is_entered o name d = d && not (o.require_literal_leading_dot && begins_with dot name)
 
--- A run of `**` from a directory on, down n levels: of each entry `each` says what comes of it by its path and name,
+-- `**` from a directory on, down n levels: of each entry `each` says what comes of it by its path and name,
 -- and then it is entered.
 unfoldable pub descent : Content → MatchOptions → (each : Text → Text → Bool → List Mark) → ℕ → (path : Text) → List Mark
 descent c o each zero path = []
@@ -94,7 +94,7 @@ module _ (c : Content) (o : MatchOptions) (directories : Bool) where
           else []
     ]
 
-    -- what comes of an entry under a run of `**`, with these components left after the run
+    -- what comes of an entry under `**`, with these components left after it
     pub meet : List Text → (path name : Text) → Bool → List Mark
     meet [] path name d = if is_entered o name d then Give (Found path) ∷ [] else []
     meet (t ∷ ts) path name d = match_at o (enter ts) t path name d

@@ -64,30 +64,30 @@ saying (step.Item item) = Says (outcome item)
 saying step.Done = Ends
 
 -- the item after a listing that failed
-abbrev pub fault_said : (path : Text) → ListError → Outcome
-fault_said path (Read e) = Gives (Unread path (error_kind e))
-fault_said path Memory = NoMemory
+abbrev pub list_error_outcome : (path : Text) → ListError → Outcome
+list_error_outcome path (Read e) = Gives (Unread path (error_kind e))
+list_error_outcome path Memory = NoMemory
 
 -- the item of a step
-abbrev pub outcome_said : Saying → Option Outcome
-outcome_said AsksLook = None
-outcome_said (AsksList kinds) = None
-outcome_said (Says o) = Some o
-outcome_said Ends = None
+abbrev pub step_outcome : Saying → Option Outcome
+step_outcome AsksLook = None
+step_outcome (AsksList kinds) = None
+step_outcome (Says o) = Some o
+step_outcome Ends = None
 
 -- only `Done` follows
-abbrev pub is_last_said : Saying → Bool
-is_last_said AsksLook = false
-is_last_said (AsksList kinds) = false
-is_last_said (Says o) = is_last (Some o)
-is_last_said Ends = true
+abbrev pub is_last_step : Saying → Bool
+is_last_step AsksLook = false
+is_last_step (AsksList kinds) = false
+is_last_step (Says o) = is_last (Some o)
+is_last_step Ends = true
 
 -- the unit of a question
-abbrev pub units_said : Saying → ℕ
-units_said AsksLook = 1
-units_said (AsksList kinds) = 1
-units_said (Says o) = 0
-units_said Ends = 0
+abbrev pub step_units : Saying → ℕ
+step_units AsksLook = 1
+step_units (AsksList kinds) = 1
+step_units (Says o) = 0
+step_units Ends = 0
 
 -- the question that is open after a step
 abbrev pub IsAskedAfter : Saying → Option Question → Type 0
@@ -100,7 +100,7 @@ IsAskedAfter Ends q = q ≡ None
 -- all of the limit is spent, and it does not pay for the entries and one unit more.
 abbrev pub IsCharged : {A : Type 0} → ℕ → MachineState A → Saying → MachineState A → Type 0
 IsCharged n old (Says (LimitAt path)) new = (new.spent ≡ new.limit) × (new.limit ≤ old.spent + n)
-IsCharged n old s new = new.spent ≡ old.spent + n + units_said s
+IsCharged n old s new = new.spent ≡ old.spent + n + step_units s
 
 -- whatever was answered: what a step does to the counts
 pub record StepCounts {A : Type 0} (n : ℕ) (old : MachineState A) (s : Saying) (new : MachineState A) : Type 0 where
@@ -109,10 +109,10 @@ pub record StepCounts {A : Type 0} (n : ℕ) (old : MachineState A) (s : Saying)
   pub grows : old.spent ≤ new.spent
   pub within : new.spent ≤ new.limit
   pub charged : IsCharged n old s new
-  pub given : new.given ≡ old.given + item_number (outcome_said s)
+  pub given : new.given ≡ old.given + item_number (step_outcome s)
   pub few : new.given ≤ new.spent + 1
   pub asks : IsAskedAfter s new.asked
-  pub ends : new.over ≡ is_last_said s
+  pub ends : new.over ≡ is_last_step s
   pub stays : old.over ≡ true → (s ≡ Ends) × (new ≡ old)
 
 -- the next unit is at the path, and it and the ones before it are charged

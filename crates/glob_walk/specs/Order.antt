@@ -10,20 +10,20 @@ use Rattle.glob_text.specs.Pieces.{is_empty, pieces}
 use Rattle.glob_walk.specs.Components.{components, is_recursive}
 
 -- the components from the first `**` on
-abbrev pub from_run : List Text → List Text
-from_run ts = drop (prefix_len (λ t. not (is_recursive t)) ts) ts
+abbrev pub from_first_recursive : List Text → List Text
+from_first_recursive ts = drop (prefix_len (λ t. not (is_recursive t)) ts) ts
 
--- the components after the first run of `**`
-abbrev pub after_run : List Text → List Text
-after_run ts = drop (prefix_len is_recursive (from_run ts)) (from_run ts)
+-- the components after the first `**`, and those `**` that follow it at once
+abbrev pub after_first_recursive : List Text → List Text
+after_first_recursive ts = drop (prefix_len is_recursive (from_first_recursive ts)) (from_first_recursive ts)
 
--- the pattern has at most one run of `**`
-abbrev pub has_one_run : (pattern : Text) → Bool
-has_one_run pattern = not (list_any is_recursive (after_run (components pattern)))
+-- `**` is in at most one place of the pattern, `**/**` being one
+abbrev pub has_one_recursive : (pattern : Text) → Bool
+has_one_recursive pattern = not (list_any is_recursive (after_first_recursive (components pattern)))
 
--- the pattern has no `**`, or one run with at most one component after it
+-- the pattern has no `**`, or one with at most one component after it
 abbrev pub keeps_order : (pattern : Text) → Bool
-keeps_order pattern = has_one_run pattern && nat_le (length (after_run (components pattern))) 1
+keeps_order pattern = has_one_recursive pattern && nat_le (length (after_first_recursive (components pattern))) 1
 
 abbrev pub names_of : (path : Text) → List Text
 names_of path = filter (λ piece. not (is_empty piece)) (pieces path)
@@ -40,7 +40,7 @@ IsOnce paths = AllPairs (λ path later. path ≢ later) paths
 abbrev pub IsAscending : List Text → Type 0
 IsAscending paths = AllPairs (λ path later. path_cmp path later ≡ Less) paths
 
--- each path once if there is at most one run of `**`, and in order if at most one component follows it
+-- each path once if `**` is in at most one place, and in order if at most one component follows it
 pub record IsOrderly (pattern : Text) (paths : List Text) : Type 0 where
-  pub once : has_one_run pattern ≡ true → IsOnce paths
+  pub once : has_one_recursive pattern ≡ true → IsOnce paths
   pub ascending : keeps_order pattern ≡ true → IsAscending paths

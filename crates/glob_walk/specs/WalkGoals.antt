@@ -41,7 +41,7 @@ FindsExactly told o pattern end answers =
     (c : Content) → WalksPlainly told c o pattern → IsTrue (is_readable c pattern) → end ≡ Done
     → GivesGoal c o pattern (given_items answers)
 
--- each path comes once and in order, as far as the runs of `**` allow
+-- each path comes once and in order, as far as each `**` allows
 unfoldable pub FindsInOrder : {A : Type 0} → (told : Option Content) → MatchOptions → (pattern : Text) → Answers A → Type 0
 FindsInOrder told o pattern answers =
     (c : Content) → WalksPlainly told c o pattern → IsOrderly pattern (paths (given_items answers))

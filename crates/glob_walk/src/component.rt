@@ -2,7 +2,7 @@
 ghost use Rattle.std.specs.Prelude.{◌≡◌, None, IfOk, IfErr};
 ghost use Rattle.std.specs.List.{list_any};
 ghost use Rattle.glob_pattern.specs.Grammar.Characters.{is_wildcard};
-ghost use Rattle.glob_walk.specs.Components.{is_special_name, is_literal as is_literal_text, is_recursive as is_recursive_text};
+ghost use Rattle.glob_walk.specs.Components.{is_current_or_parent as is_current_or_parent_text, is_literal as is_literal_text, is_recursive as is_recursive_text};
 ghost use Rattle.glob_walk.specs.Private.Forms.{same_texts, takes_name, text_fault};
 ghost use Rattle.glob_walk.specs.Walks.{RefusesWith};
 
@@ -72,7 +72,7 @@ impl<A: Allocator> Component<A> {
 impl<A: Allocator + Copy> Component<A> {
     /// Reads a component. One with a fault is refused with it; and any may be refused with `Memory`.
     pub fn read(alloc: A, text: &str) -> Result<Self, PatternRefusal>
-        ensures text { IfOk result (λ part. part ≡ text.now) }
+        ensures text { IfOk result (λ component. component ≡ text.now) }
         ensures accepted { IfOk result (λ _. text_fault text.now ≡ None) }
         ensures refused { IfErr result (RefusesWith (text_fault text.now)) }
     {
@@ -155,8 +155,8 @@ fn has_wildcard(component: &str) -> bool
 }
 
 /// Whether the component is `.` or `..`.
-pub fn is_special(component: &str) -> bool
-    ensures { result ≡ is_special_name component.now }
+pub fn is_current_or_parent(component: &str) -> bool
+    ensures { result ≡ is_current_or_parent_text component.now }
 {
     component == "." || component == ".."
 }

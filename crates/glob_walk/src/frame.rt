@@ -4,8 +4,8 @@
 //! from the tree once, as a whole. Each step moves the cursor on by one, and makes at most one task, so that a child's
 //! path is made only where the child is met or entered.
 //!
-//! In a run of `**` each entry has two steps. First it is met by the component after the run, or given at the pattern's
-//! end; then, if it is a directory, the run goes on in it.
+//! Under `**` each entry has two steps. First it is met by the component after the `**`, or given at the pattern's end;
+//! then, if it is a directory, the `**` goes on in it.
 ghost use Rattle.std.specs.Prelude.{◌≡◌, ◌+◌, ◌<◌, ◌≤◌, ◌++◌, false, IfOk, None, OnOk, vec_len};
 ghost use Rattle.glob_tree.specs.Content.{Content};
 ghost use Rattle.glob_walk.specs.Private.Tasks.{next_marks, next_ready, question_of, IsNextSound};
@@ -27,7 +27,7 @@ pub enum Cursor {
     Current,
     /// Before the entry with the number.
     At(usize),
-    /// In the entry with the number: it was met, and a run of `**` is still to enter it.
+    /// In the entry with the number: it was met, and `**` is still to enter it.
     Inside(usize),
 }
 

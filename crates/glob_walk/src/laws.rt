@@ -21,8 +21,8 @@ pub fn plain_walk_gives_the_goal()
     ensures { PlainWalkGives }
 {}
 
-/// A plain walk gives each path once where the pattern has at most one run of `**`, and in order where at most one
-/// component follows the run. So `**/*` gives `d` before `d/x`, and each once.
+/// A plain walk gives each path once where `**` is in at most one place of the pattern, `**/**` being one, and in
+/// order where at most one component follows it. So `**/*` gives `d` before `d/x`, and each once.
 pub fn plain_walk_is_orderly()
     ensures { PlainWalkOrderly }
 {}

@@ -4,7 +4,7 @@ ghost use Rattle.std.specs.Path.{root_dir, cur_dir};
 ghost use Rattle.glob_tree.specs.Answers.{entry_count};
 ghost use Rattle.glob_tree.specs.Content.{Content};
 ghost use Rattle.glob_walk.specs.Aims.{listing_of};
-ghost use Rattle.glob_walk.specs.Machines.{IsFreshMachine, Says, StepGoes, fault_said, left_of, saying};
+ghost use Rattle.glob_walk.specs.Machines.{IsFreshMachine, Says, StepGoes, list_error_outcome, left_of, saying};
 ghost use Rattle.glob_walk.specs.Components.{walk_fault};
 ghost use Rattle.glob_walk.specs.Listing.{listing};
 ghost use Rattle.glob_walk.specs.Marks.{Item, Mark};
@@ -174,7 +174,7 @@ impl<A: Allocator + Copy> WalkMachine<A> {
     pub fn listed(&mut self, listed: Result<Vec<Entry<A>, A>, ListError>) -> Step<A>
         requires asked { IsList self.old.asked }
         ensures failed { IfErr listed
-            (λ e. saying result ≡ Says (fault_said (question_path self.old.asked) e)) }
+            (λ e. saying result ≡ Says (list_error_outcome (question_path self.old.asked) e)) }
         ensures steps { StepGoes (IsListedIn self.old.asked listed) (entry_count listed)
             self.old (saying result) self.new }
         ensures driven { (c : Content) → (all : List Mark) → (given : List Item)

@@ -5,7 +5,7 @@ ghost use Rattle.glob_walk.specs.Components.{walk_fault};
 ghost use Rattle.glob_walk.specs.Goal.{are_plain, is_plain, is_plain_component};
 ghost use Rattle.glob_walk.specs.Walks.{RefusesWith};
 
-use crate::component::{is_literal, is_recursive, is_special};
+use crate::component::{is_current_or_parent, is_literal, is_recursive};
 use crate::path_text::begins_with_dot;
 use crate::plan::{Plan, past_root};
 use glob_pattern::{MatchOptions, PatternRefusal};
@@ -46,6 +46,6 @@ fn is_plain_component(after_recursive: bool, component: &str) -> bool
     ensures { result ≡ is_plain_component after_recursive component.now }
 {
     !component.is_empty()
-        && !is_special(component)
+        && !is_current_or_parent(component)
         && (is_literal(component) || !begins_with_dot(component) || after_recursive)
 }

@@ -4,7 +4,7 @@
 //! a task of its own, kept here before the directories. And a directory in which nothing is left is not on the stack: it
 //! goes, with its names, in its last step. In a directory that `**` is listed for, the last step enters the last entry. It
 //! comes after that entry was met, so the directory stays while the components after `**` go on in the entry. Down a chain
-//! of directories with one entry each, the stack holds at most one directory for each run and one more, and not the chain.
+//! of directories with one entry each, the stack holds at most one directory for each `**` and one more, and not the chain.
 ghost use Rattle.std.specs.Prelude.{◌≡◌, ◌+◌, ◌<◌, ◌≤◌, ◌++◌, true, false, [], None, IfOk, OnOk, vec_len};
 ghost use Rattle.glob_tree.specs.Content.{Content};
 ghost use Rattle.glob_walk.specs.Private.Frames.{frame_marks, unmet, IsFrameSound};

@@ -1,9 +1,13 @@
 //! What a walk does next: at one path, with the components from a number on.
 
-ghost use Rattle.std.specs.Prelude.{◌≡◌, if◌then◌else◌};
-ghost use Rattle.glob_tree.specs.Looks.{is_there};
+ghost use Rattle.std.specs.Prelude.{◌≡◌, ◌≤◌, ◌∷◌, None, string_bytes, if◌then◌else◌};
+ghost use Rattle.glob_tree.specs.Content.{Content, look_result};
+ghost use Rattle.glob_tree.specs.Looks.{is_there, is_directory as is_directory_look};
 ghost use Rattle.glob_tree.specs.declared.tree.Look.{Look as LookOf};
-ghost use Rattle.glob_walk.specs.Private.Tasks.{is_wanted as is_wanted_look};
+ghost use Rattle.glob_walk.specs.Marks.{Work};
+ghost use Rattle.glob_walk.specs.declared.plan.Plan.{Plan as PlanOf};
+ghost use Rattle.glob_walk.specs.Private.Stacks.{next_weight};
+ghost use Rattle.glob_walk.specs.Private.Tasks.{is_wanted as is_wanted_look, next_marks, next_ready, question_of, sight_marks, IsNextSound};
 
 use glob_tree::Look;
 use std::alloc::Allocator;
@@ -53,11 +57,11 @@ pub struct Task<A: Allocator> {
 impl Wanted {
     /// What is wanted of the look at a literal component in a path that is a directory or not: `.` and `..` are there in
     /// a directory, whatever the look says.
-    pub fn of_literal(is_special: bool, is_dir: bool) -> Wanted
+    pub fn of_literal(is_current_or_parent: bool, is_dir: bool) -> Wanted
         ensures { (seen : LookOf)
-            → is_wanted_look result seen ≡ (if is_special then is_dir else is_there seen) }
+            → is_wanted_look result seen ≡ (if is_current_or_parent then is_dir else is_there seen) }
     {
-        if !is_special {
+        if !is_current_or_parent {
             Wanted::Present
         } else if is_dir {
             Wanted::Any
@@ -79,4 +83,42 @@ impl Wanted {
             Wanted::Nothing => false,
         }
     }
+}
+
+/// Whether the answer to a look is that of a directory.
+fn is_directory(seen: Look) -> bool
+    ensures { result ≡ is_directory_look seen }
+{
+    match seen {
+        Look::Dir => true,
+        Look::Other | Look::Missing => false,
+    }
+}
+
+/// The task that follows a look: to go on at the path with the same component, or nothing where the answer is not the
+/// one that is wanted.
+pub fn task_after_look<A: Allocator>(
+    path: String<A>,
+    component: usize,
+    wanted: Wanted,
+    seen: Look,
+) -> Option<Task<A>>
+    ensures marks { (c : Content) → (plan : PlanOf A) → seen ≡ look_result c (string_bytes path)
+        → sight_marks c plan component (string_bytes path) (Sight.Unseen wanted)
+        ≡ Work (string_bytes path) ∷ next_marks c plan result }
+    ensures sound { (c : Content) → seen ≡ look_result c (string_bytes path)
+        → IsNextSound c result }
+    ensures weight { next_weight result ≤ 2 }
+    ensures ready { (plan : PlanOf A) → next_ready plan result ≤ 1 }
+    ensures free { question_of result ≡ None }
+{
+    if !wanted.is_met(seen) {
+        return None;
+    }
+    let sight = Sight::Seen(is_directory(seen));
+    Some(Task {
+        path,
+        component,
+        sight,
+    })
 }

@@ -11,28 +11,25 @@
 //! The written listing is what a walk does, mark by mark. Each method of [`Walker`] has the same contract, `TurnsTo`: what
 //! was left of the listing begins with what the turn charged and gave, and what the stack then stands for is the rest.
 ghost use Rattle.std.specs.Prelude.{◌≡◌, ◌≢◌, ◌+◌, ◌<◌, ◌≤◌, ◌∷◌, true, false, [], None, string_bytes, vec_len, drop, not, ◌||◌, IfOk, IfErr, Some, if◌then◌else◌};
-ghost use Rattle.glob_tree.specs.Content.{Content, look_result};
-ghost use Rattle.glob_walk.specs.Machines.{Says, fault_said};
-ghost use Rattle.glob_walk.specs.Marks.{Work};
+ghost use Rattle.glob_tree.specs.Content.{Content};
+ghost use Rattle.glob_walk.specs.Machines.{Says, list_error_outcome};
 ghost use Rattle.glob_walk.specs.Walks.{NoMemory};
 ghost use Rattle.glob_walk.specs.Components.{is_literal};
-ghost use Rattle.glob_walk.specs.declared.plan.Plan.{Plan as PlanOf};
-ghost use Rattle.glob_tree.specs.Looks.{is_directory as is_directory_look};
 ghost use Rattle.glob_tree.specs.Answers.{entry_count};
 ghost use Rattle.glob_walk.specs.Questions.{IsSomeContent, IsLook, IsList, IsSeenIn, IsListedIn, question_path};
-ghost use Rattle.glob_walk.specs.Private.Tasks.{task_marks, enter_from, IsListedFor, IsOpened, sight_marks, next_marks, next_ready, IsNextSound, IsNextOpened, question_of};
+ghost use Rattle.glob_walk.specs.Private.Tasks.{task_marks, enter_from, IsListedFor, IsOpened, next_ready, IsNextSound, IsNextOpened, question_of};
 ghost use Rattle.glob_walk.specs.Private.Stacks.{next_weight, weight, IsWithin};
 ghost use Rattle.glob_walk.specs.Private.Walking.{is_last_turn, turn_saying};
 ghost use Rattle.glob_walk.specs.Private.Turns.{TurnsTo, with_task, AreListedAt, IfFailed, IsAnswer, IsAnswered, IsQuestion, answer_count};
 
-use crate::component::{Component, is_special};
+use crate::component::{Component, is_current_or_parent};
 use crate::frame::{Cursor, Frame};
 use crate::machine::Answer;
 use crate::meter::{Meter, sort_entries};
 use crate::path_text::child;
 use crate::plan::Plan;
 use crate::stack::Stack;
-use crate::task::{Sight, Task, Wanted};
+use crate::task::{Sight, Task, Wanted, task_after_look};
 use crate::turn::Turn;
 use glob_tree::{Entry, ListError, Look};
 use std::alloc::{AllocError, Allocator};
@@ -42,44 +39,6 @@ use std::alloc::{AllocError, Allocator};
 pub struct Walker<A: Allocator> {
     pub meter: Meter,
     pub stack: Stack<A>,
-}
-
-/// Whether the answer to a look is that of a directory.
-fn is_directory(seen: Look) -> bool
-    ensures { result ≡ is_directory_look seen }
-{
-    match seen {
-        Look::Dir => true,
-        Look::Other | Look::Missing => false,
-    }
-}
-
-/// The task that follows a look: to go on at the path with the same component, or nothing where the answer is not the
-/// one that is wanted.
-fn task_after_look<A: Allocator>(
-    path: String<A>,
-    component: usize,
-    wanted: Wanted,
-    seen: Look,
-) -> Option<Task<A>>
-    ensures marks { (c : Content) → (plan : PlanOf A) → seen ≡ look_result c (string_bytes path)
-        → sight_marks c plan component (string_bytes path) (Sight.Unseen wanted)
-        ≡ Work (string_bytes path) ∷ next_marks c plan result }
-    ensures sound { (c : Content) → seen ≡ look_result c (string_bytes path)
-        → IsNextSound c result }
-    ensures weight { next_weight result ≤ 2 }
-    ensures ready { (plan : PlanOf A) → next_ready plan result ≤ 1 }
-    ensures free { question_of result ≡ None }
-{
-    if !wanted.is_met(seen) {
-        return None;
-    }
-    let sight = Sight::Seen(is_directory(seen));
-    Some(Task {
-        path,
-        component,
-        sight,
-    })
 }
 
 impl<A: Allocator + Copy> Walker<A> {
@@ -310,7 +269,7 @@ impl<A: Allocator + Copy> Walker<A> {
         requires opened { IsNextOpened self.old.stack.plan self.old.stack.next }
         requires asked { IsList (question_of self.old.stack.next) }
         ensures failed { IfErr answer (λ e. turn_saying result
-            ≡ Says (fault_said (question_path (question_of self.old.stack.next)) e)) }
+            ≡ Says (list_error_outcome (question_path (question_of self.old.stack.next)) e)) }
         ensures turn { TurnsTo (IsListedIn (question_of self.old.stack.next) answer)
             (entry_count answer)
             self.old.meter self.old.stack result
@@ -402,7 +361,7 @@ fn literal_task<A: Allocator + Copy>(
     ensures sound { IfOk result (λ task. (c : Content) → IsNextSound c (Some task)) }
 {
     let name = component.as_str();
-    let wanted = Wanted::of_literal(is_special(name), is_dir);
+    let wanted = Wanted::of_literal(is_current_or_parent(name), is_dir);
     Ok(Task {
         path: child(plan.alloc, path, name)?,
         component: number + 1,

@@ -12,7 +12,7 @@ use Rattle.glob_walk.specs.Components.{components, matches_name}
 use Rattle.glob_walk.specs.Marks.{Mark, Item, items, paths, IsBeginning}
 use Rattle.glob_walk.specs.Listing.{descent, listing}
 use Rattle.glob_walk.specs.Goal.{is_plain, matches_undivided, text_below, IsPlainWalk, ReachesGoal, GivesGoal}
-use Rattle.glob_walk.specs.Order.{has_one_run, IsOnce, IsAscending}
+use Rattle.glob_walk.specs.Order.{has_one_recursive, IsOnce, IsAscending}
 use Rattle.glob_walk.specs.Laws.{are_names}
 use Rattle.glob_pattern.specs.Matching.Components.{takes_names}
 use Rattle.glob_pattern.specs.declared.options.MatchOptions.{MatchOptions}
@@ -147,7 +147,7 @@ abbrev unordered : Content
 unordered = at_root (dir "d" ∷ dir "d/a" ∷ file "d/a/x" ∷ file "d/q" ∷ [])
 
 -- in order by any pattern with one run of `**`: `**/*/*` gives `d/q` before `d/a/x`
-two_components_after_a_run_break_the_order : ¬ (PathsHave (λ pattern paths. has_one_run pattern ≡ true → IsAscending paths))
+two_components_after_a_run_break_the_order : ¬ (PathsHave (λ pattern paths. has_one_recursive pattern ≡ true → IsAscending paths))
 unfolding computed
 two_components_after_a_run_break_the_order claim =
     let given : List Item = items (listing unordered new (codes "**/*/*")) in

@@ -1,7 +1,7 @@
 -- The order of paths: by their lists of names, and not by their bytes.
 use Rattle.std.specs.Prelude.{◌≡◌, true, false, [], ◌∷◌, codes, refl}
 use Rattle.glob_tree.specs.Content.{Content}
-use Rattle.glob_walk.specs.Order.{has_one_run, keeps_order, path_cmp}
+use Rattle.glob_walk.specs.Order.{has_one_recursive, keeps_order, path_cmp}
 use Rattle.std.specs.declared.cmp.Ordering.TheVariants.{Less}
 use Rattle.glob_pattern.proofs.Examples.Options.{new}
 use Rattle.glob_walk.proofs.Examples.Trees.{computed, dir, file, at_root, Gives}
@@ -22,7 +22,7 @@ ascending_names :
 ascending_names = (refl, refl, refl)
 
 runs :
-    (has_one_run (codes "**/a/**/b") ≡ false) × (has_one_run (codes "a/**/**/b/c") ≡ true)
+    (has_one_recursive (codes "**/a/**/b") ≡ false) × (has_one_recursive (codes "a/**/**/b/c") ≡ true)
     × (keeps_order (codes "**/*/*") ≡ false) × (keeps_order (codes "**/*") ≡ true)
     × (keeps_order (codes "a/**/") ≡ true) × (keeps_order (codes "a/b/c") ≡ true)
 runs = (refl, refl, refl, refl, refl, refl)

@@ -6,7 +6,7 @@ use Rattle.std.specs.declared.io.ErrorKind.TheVariants.{PermissionDenied}
 use Rattle.glob_walk.specs.Marks.{Found, Unread, items, front, paths}
 use Rattle.glob_walk.specs.Listing.{listing}
 use Rattle.glob_walk.specs.Goal.{goal, is_plain, is_readable}
-use Rattle.glob_walk.specs.Order.{has_one_run, keeps_order}
+use Rattle.glob_walk.specs.Order.{has_one_recursive, keeps_order}
 use Rattle.glob_pattern.specs.declared.options.MatchOptions.{MatchOptions}
 use Rattle.glob_pattern.proofs.Examples.Options.{options, new}
 use Rattle.glob_walk.proofs.Examples.Trees.{computed, at_root, dir, file, shut}
@@ -70,8 +70,8 @@ rooted_counts = (refl, refl, refl, refl)
 
 -- two runs give a path twice, and two components after a run break the order
 runs_count :
-    (has_one_run (codes "**/a/**/b") ≡ false) × IsGiven nested new "**/a/**/b" ("a/a/b" ∷ "a/a/b" ∷ [])
-    × (has_one_run (codes "**/*/*") ≡ true) × (keeps_order (codes "**/*/*") ≡ false) × IsGiven crossed new "**/*/*" ("a/c" ∷ "a/x" ∷ "a/c/d" ∷ [])
+    (has_one_recursive (codes "**/a/**/b") ≡ false) × IsGiven nested new "**/a/**/b" ("a/a/b" ∷ "a/a/b" ∷ [])
+    × (has_one_recursive (codes "**/*/*") ≡ true) × (keeps_order (codes "**/*/*") ≡ false) × IsGiven crossed new "**/*/*" ("a/c" ∷ "a/x" ∷ "a/c/d" ∷ [])
 unfolding computed
 runs_count = (refl, refl, refl, refl, refl)
 

@@ -17,7 +17,7 @@ use Rattle.glob_tree.proofs.ContentLemmas.Membership.{Contains-nil}
 use Rattle.glob_tree.proofs.ContentLemmas.Contents.{IsContent}
 use Rattle.glob_walk.proofs.GoalLemmas.KeysBelow.{Here, Here-entry, held-deeper}
 use Rattle.glob_walk.proofs.GoalLemmas.FoundParts.{hit-below, hit-cond, hit-one, hit-listed}
-use Rattle.glob_walk.proofs.GoalLemmas.TakenNames.{takes, takes-one, MetBy, run-met, run-enter, run-from_run}
+use Rattle.glob_walk.proofs.GoalLemmas.TakenNames.{takes, takes-one, MetBy, run-met, run-enter, run-from_first_recursive}
 use Rattle.glob_pattern.specs.Matching.Components.{is_open}
 use Rattle.glob_walk.proofs.GoalLemmas.Finds.{at_entry, at_name, past_entry, run_entry, Hit, below, found_names, descent_names, enter_names, meet_names}
 use Rattle.glob_walk.proofs.GoalLemmas.ListingFinds.{kind-Literal, kind-Recursive, kind-Wild, literal_not_recursive, names-literal, names-wild, names-wild_none, names-run, names-recursive_none, names-levels}
@@ -158,7 +158,7 @@ module _ (c : Content) (w : IsContent c) (o : MatchOptions) (directories : Bool)
 
     taken-run : (t : Text) (ts : List Text) → is_recursive t ≡ true → begins_recursive ts ≡ true → (k names : Key) → IsTakenAt c o directories ts k names → IsTakenAt c o directories (t ∷ ts) k names
     taken-run t [] r more k names is = absurd (false≢true more)
-    taken-run t (u ∷ us) r more k names is = record { kind = is.kind; held = is.held; taken = run-from_run o t u us names r more is.taken; allowed = is.allowed }
+    taken-run t (u ∷ us) r more k names is = record { kind = is.kind; held = is.held; taken = run-from_first_recursive o t u us names r more is.taken; allowed = is.allowed }
 
     taken-recursive : (t : Text) (ts : List Text) → component_kind t ≡ Recursive → EachTaken ts → (b : Bool) → begins_recursive ts ≡ b → Entered (t ∷ ts)
     taken-recursive t ts kind next true more k d at names h =

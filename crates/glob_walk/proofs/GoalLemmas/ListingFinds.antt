@@ -12,7 +12,7 @@ use Rattle.glob_text.specs.Pieces.{is_empty, begins_with}
 use Rattle.glob_tree.specs.Paths.{stays, child}
 use Rattle.glob_tree.specs.Content.{Content, Key, DirEntry, kind_at, is_dir, is_dir_at, children, sorted_entries, resolve, look_result, look_of, list_result, kind_found, step}
 use Rattle.glob_walk.specs.Marks.{Item, Mark, Work, Give, Found, items}
-use Rattle.glob_walk.specs.Components.{Literal, Recursive, Wild, component_kind, ComponentKind, begins_recursive, is_recursive, is_literal, is_special_name, matches_name}
+use Rattle.glob_walk.specs.Components.{Literal, Recursive, Wild, component_kind, ComponentKind, begins_recursive, is_recursive, is_literal, is_current_or_parent, matches_name}
 use Rattle.glob_walk.specs.Listing.{Next, by_name, match_at, special_names, after_listing, list_directory, is_entered, descent, levels, enter, meet}
 use Rattle.glob_tree.specs.Looks.{is_there, is_directory}
 use Rattle.glob_walk.specs.Goal.{is_plain_component, are_plain}
@@ -145,13 +145,13 @@ record IsOwnName (t : Text) : Type 0 where
   plain : has_no_slash t ≡ true
   leads : stays t ≡ false
   down : bytes_eq t parent_dir ≡ false
-  special : is_special_name t ≡ false
+  special : is_current_or_parent t ≡ false
 
 own_name : (after : Bool) (t : Text) → is_plain_component after t ≡ true → has_no_slash t ≡ true → IsOwnName t
 own_name after t h plain =
-    let outer = and_parts (not (is_empty t) && not (is_special_name t)) (is_literal t || not (begins_with dot t) || after) h in
-    let inner = and_parts (not (is_empty t)) (not (is_special_name t)) outer.0 in
-    let special = not-true (is_special_name t) inner.1 in
+    let outer = and_parts (not (is_empty t) && not (is_current_or_parent t)) (is_literal t || not (begins_with dot t) || after) h in
+    let inner = and_parts (not (is_empty t)) (not (is_current_or_parent t)) outer.0 in
+    let special = not-true (is_current_or_parent t) inner.1 in
     let parts = or_parts (bytes_eq t cur_dir) (bytes_eq t parent_dir) special in
     record { some = some t (not-true (is_empty t) inner.0); plain = plain; leads = stays_no t (not-true (is_empty t) inner.0) parts.0; down = parts.1; special = special }
   where
@@ -230,7 +230,7 @@ plain-after t ts r h =
 -- a wildcard component finds no special names, but right after `**`
 no_specials : (c : Content) (o : MatchOptions) (next : Next) (t path : Text) → is_plain_component false t ≡ true → is_literal t ≡ false → special_names c o next t path ≡ []
 no_specials c o next t path h wild =
-    let outer = and_parts (not (is_empty t) && not (is_special_name t)) (is_literal t || not (begins_with dot t) || false) h in
+    let outer = and_parts (not (is_empty t) && not (is_current_or_parent t)) (is_literal t || not (begins_with dot t) || false) h in
     by_test (begins_with dot t) refl outer.1
   where
     by_test : (b : Bool) → begins_with dot t ≡ b → (is_literal t || not b || false) ≡ true → special_names c o next t path ≡ []

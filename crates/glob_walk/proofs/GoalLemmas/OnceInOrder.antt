@@ -17,7 +17,7 @@ use Rattle.glob_walk.specs.Marks.{Item, items, paths, IsBeginning}
 use Rattle.glob_walk.specs.Components.{start, components, wants_directories, begins_recursive, is_recursive}
 use Rattle.glob_walk.specs.Listing.{listing}
 use Rattle.glob_walk.specs.Goal.{IsPlainWalk, start_key}
-use Rattle.glob_walk.specs.Order.{from_run, after_run, has_one_run, keeps_order, names_of, path_cmp, IsOnce, IsAscending, IsOrderly}
+use Rattle.glob_walk.specs.Order.{from_first_recursive, after_first_recursive, has_one_recursive, keeps_order, names_of, path_cmp, IsOnce, IsAscending, IsOrderly}
 use Rattle.glob_pattern.specs.declared.options.MatchOptions.{MatchOptions}
 use Rattle.glob_tree.proofs.ContentLemmas.Membership.{Contains-head, Contains-tail, All-from_contains}
 use Rattle.glob_tree.proofs.ContentLemmas.Contents.{IsContent, IsContent-from_test}
@@ -74,16 +74,16 @@ rises-shorter m z [] (n ∷ b) l h = refl
 rises-shorter m z (x ∷ a) b l h = absurd (omega arith)
 
 -- the components after the first run
-from_run-other : (t : Text) (ts : List Text) → is_recursive t ≡ false → from_run (t ∷ ts) ≡ from_run ts
-from_run-other t ts e =
+from_first_recursive-other : (t : Text) (ts : List Text) → is_recursive t ≡ false → from_first_recursive (t ∷ ts) ≡ from_first_recursive ts
+from_first_recursive-other t ts e =
     let one : 1 + prefix_len (λ u. not (is_recursive u)) ts ≡ suc (prefix_len (λ u. not (is_recursive u)) ts) = omega arith in
     ap (λ k. drop k (t ∷ ts)) (cond-true (not (is_recursive t)) _ 0 (not_from_false (is_recursive t) e) ∙ one)
 
-from_run-run : (t : Text) (ts : List Text) → is_recursive t ≡ true → from_run (t ∷ ts) ≡ t ∷ ts
-from_run-run t ts e = ap (λ b. drop (cond (not b) (1 + prefix_len (λ u. not (is_recursive u)) ts) 0) (t ∷ ts)) e
+from_first_recursive-run : (t : Text) (ts : List Text) → is_recursive t ≡ true → from_first_recursive (t ∷ ts) ≡ t ∷ ts
+from_first_recursive-run t ts e = ap (λ b. drop (cond (not b) (1 + prefix_len (λ u. not (is_recursive u)) ts) 0) (t ∷ ts)) e
 
-after_run-other : (t : Text) (ts : List Text) → is_recursive t ≡ false → after_run (t ∷ ts) ≡ after_run ts
-after_run-other t ts e = ap (λ us. drop (prefix_len is_recursive us) us) (from_run-other t ts e)
+after_first_recursive-other : (t : Text) (ts : List Text) → is_recursive t ≡ false → after_first_recursive (t ∷ ts) ≡ after_first_recursive ts
+after_first_recursive-other t ts e = ap (λ us. drop (prefix_len is_recursive us) us) (from_first_recursive-other t ts e)
 
 past : List Text → List Text
 past ts = drop (prefix_len is_recursive ts) ts
@@ -99,14 +99,14 @@ unfolding past
 past-other [] e = refl
 past-other (t ∷ ts) e = ap (λ k. drop k (t ∷ ts)) (cond-false (is_recursive t) _ 0 e)
 
-after_run-run : (t : Text) (ts : List Text) → is_recursive t ≡ true → after_run (t ∷ ts) ≡ past ts
+after_first_recursive-run : (t : Text) (ts : List Text) → is_recursive t ≡ true → after_first_recursive (t ∷ ts) ≡ past ts
 unfolding past
-after_run-run t ts e = ap (λ us. drop (prefix_len is_recursive us) us) (from_run-run t ts e) ∙ past-run t ts e
+after_first_recursive-run t ts e = ap (λ us. drop (prefix_len is_recursive us) us) (from_first_recursive-run t ts e) ∙ past-run t ts e
 
-after_run-more : (ts : List Text) → begins_recursive ts ≡ true → after_run ts ≡ past ts
+after_first_recursive-more : (ts : List Text) → begins_recursive ts ≡ true → after_first_recursive ts ≡ past ts
 unfolding past
-after_run-more [] e = absurd (false≢true e)
-after_run-more (t ∷ ts) e = after_run-run t ts e ∙ sym (past-run t ts e)
+after_first_recursive-more [] e = absurd (false≢true e)
+after_first_recursive-more (t ∷ ts) e = after_first_recursive-run t ts e ∙ sym (past-run t ts e)
 
 -- where no `**` is left
 at_no_run : (R : Key → Key → Type 0) (ts : List Text) → list_any is_recursive ts ≡ false → AtRuns R ts
@@ -115,21 +115,21 @@ at_no_run R (t ∷ ts) h =
     let both = or_parts (is_recursive t) (list_any is_recursive ts) h in
     ((λ r last. absurd (both_ways (is_recursive t) both.0 r)), at_no_run R ts both.1)
 
-at_runs : (R : Key → Key → Type 0) (ts : List Text) → list_any is_recursive (after_run ts) ≡ false → Shorter R (length (after_run ts) - 1) → AtRuns R ts
+at_runs : (R : Key → Key → Type 0) (ts : List Text) → list_any is_recursive (after_first_recursive ts) ≡ false → Shorter R (length (after_first_recursive ts) - 1) → AtRuns R ts
 at_runs R [] h shorter = tt
 at_runs R (t ∷ ts) h shorter = by_test (is_recursive t) refl
     (λ e. at_runs R ts (subst (λ us. list_any is_recursive us ≡ false) e h) (subst (λ us. Shorter R (length us - 1)) e shorter))
   where
-    by_next : is_recursive t ≡ true → (b : Bool) → begins_recursive ts ≡ b → (after_run (t ∷ ts) ≡ after_run ts → AtRuns R ts) → AtRuns R (t ∷ ts)
-    by_next r true more further = ((λ q last. absurd (both_ways (begins_recursive ts) last more)), further (after_run-run t ts r ∙ sym (after_run-more ts more)))
+    by_next : is_recursive t ≡ true → (b : Bool) → begins_recursive ts ≡ b → (after_first_recursive (t ∷ ts) ≡ after_first_recursive ts → AtRuns R ts) → AtRuns R (t ∷ ts)
+    by_next r true more further = ((λ q last. absurd (both_ways (begins_recursive ts) last more)), further (after_first_recursive-run t ts r ∙ sym (after_first_recursive-more ts more)))
     by_next r false last further =
-        let e : after_run (t ∷ ts) ≡ ts = after_run-run t ts r ∙ past-other ts last in
+        let e : after_first_recursive (t ∷ ts) ≡ ts = after_first_recursive-run t ts r ∙ past-other ts last in
         let plain = subst (λ us. list_any is_recursive us ≡ false) e h in
         ((λ q l. (plain, subst (λ us. Shorter R (length us - 1)) e shorter)), at_no_run R ts plain)
 
-    by_test : (b : Bool) → is_recursive t ≡ b → (after_run (t ∷ ts) ≡ after_run ts → AtRuns R ts) → AtRuns R (t ∷ ts)
+    by_test : (b : Bool) → is_recursive t ≡ b → (after_first_recursive (t ∷ ts) ≡ after_first_recursive ts → AtRuns R ts) → AtRuns R (t ∷ ts)
     by_test true r further = by_next r (begins_recursive ts) refl further
-    by_test false r further = ((λ q last. absurd (both_ways (is_recursive t) r q)), further (after_run-other t ts r))
+    by_test false r further = ((λ q last. absurd (both_ways (is_recursive t) r q)), further (after_first_recursive-other t ts r))
 
 -- the paths of what is found
 Pairs-paths : (R : Key → Key → Type 0) (S : Text → Text → Type 0) (path : Text) (fs : List Find)
@@ -181,17 +181,17 @@ module _ (c : Content) (o : MatchOptions) (pattern : Text) (p : IsPlainWalk c o 
   pub plain_walk_orderly : (given : List Item) → IsBeginning given (items (listing c o pattern)) → IsOrderly pattern (paths given)
   plain_walk_orderly given begins = record { once = once; ascending = ascending }
     where
-      once : has_one_run pattern ≡ true → IsOnce (paths given)
+      once : has_one_recursive pattern ≡ true → IsOnce (paths given)
       once h = given_pairs Differ (λ p q. p ≢ q)
           (ordered_finds c w Differ (record { under = differ-under; first = differ-first }) o (wants_directories pattern) (components pattern)
-          (at_runs Differ (components pattern) (not-true _ h) (differ-shorter (length (after_run (components pattern)) - 1))) (start_key c pattern) true)
+          (at_runs Differ (components pattern) (not-true _ h) (differ-shorter (length (after_first_recursive (components pattern)) - 1))) (start_key c pattern) true)
           (λ p q r e. r (ap names_of e)) given begins
 
       ascending : keeps_order pattern ≡ true → IsAscending (paths given)
       ascending h =
-          let both = and_parts (has_one_run pattern) (nat_le (length (after_run (components pattern))) 1) h in
-          let few : length (after_run (components pattern)) ≤ 1 = leb-true _ 1 both.1 in
+          let both = and_parts (has_one_recursive pattern) (nat_le (length (after_first_recursive (components pattern))) 1) h in
+          let few : length (after_first_recursive (components pattern)) ≤ 1 = leb-true _ 1 both.1 in
           given_pairs Rises (λ p q. path_cmp p q ≡ Less)
           (ordered_finds c w Rises (record { under = rises-under; first = rises-first }) o (wants_directories pattern) (components pattern)
-          (at_runs Rises (components pattern) (not-true _ both.0) (rises-shorter (length (after_run (components pattern)) - 1) (omega arith))) (start_key c pattern) true)
+          (at_runs Rises (components pattern) (not-true _ both.0) (rises-shorter (length (after_first_recursive (components pattern)) - 1) (omega arith))) (start_key c pattern) true)
           (λ p q r. r) given begins

@@ -60,6 +60,6 @@ run-run o t u us (n ∷ ns) r q h = ⊎_elim (λ here. here)
     (λ on. let both = and_parts (is_open o n) (run_before o (takes o (u ∷ us)) ns) on in run-enter o u us n ns q both.0 (run-run o t u us ns r q (takes-before o t u us ns r ∙ both.1)))
     (or_cases (takes o (u ∷ us) (n ∷ ns)) (is_open o n && run_before o (takes o (u ∷ us)) ns) (sym (takes-before o t u us (n ∷ ns) r) ∙ h))
 
-pub run-from_run : (o : MatchOptions) (t u : Text) (us : List Text) (names : Key) → is_recursive t ≡ true → is_recursive u ≡ true → takes o (u ∷ us) names ≡ true → takes o (t ∷ u ∷ us) names ≡ true
-run-from_run o t u us [] r q h = absurd (run-nil o u us q h)
-run-from_run o t u us (n ∷ ns) r q h = takes-before o t u us (n ∷ ns) r ∙ or_left (takes o (u ∷ us) (n ∷ ns)) _ h
+pub run-from_first_recursive : (o : MatchOptions) (t u : Text) (us : List Text) (names : Key) → is_recursive t ≡ true → is_recursive u ≡ true → takes o (u ∷ us) names ≡ true → takes o (t ∷ u ∷ us) names ≡ true
+run-from_first_recursive o t u us [] r q h = absurd (run-nil o u us q h)
+run-from_first_recursive o t u us (n ∷ ns) r q h = takes-before o t u us (n ∷ ns) r ∙ or_left (takes o (u ∷ us) (n ∷ ns)) _ h

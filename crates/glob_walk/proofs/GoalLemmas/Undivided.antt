@@ -18,7 +18,7 @@ use Rattle.glob_pattern.specs.Grammar.Units.{IsAccepted}
 use Rattle.glob_pattern.specs.Grammar.Faults.{Fault}
 use Rattle.glob_pattern.specs.Computing.Reading.{reading_of}
 use Rattle.glob_pattern.specs.Computing.Deciding.{is_match}
-use Rattle.glob_walk.specs.Components.{has_root, without_root, without_end_separator, components, is_literal, is_recursive, is_special_name, matches_name, first_fault, walk_fault}
+use Rattle.glob_walk.specs.Components.{has_root, without_root, without_end_separator, components, is_literal, is_recursive, is_current_or_parent, matches_name, first_fault, walk_fault}
 use Rattle.glob_walk.specs.Goal.{is_plain_component, are_plain, is_plain, text_below, goal_options, matches_undivided}
 use Rattle.glob_pattern.specs.declared.options.MatchOptions.{MatchOptions}
 use Rattle.glob_pattern.proofs.MatchingLemmas.Computed.{accepted_by_reading}
@@ -83,8 +83,8 @@ are_components after (t ∷ ts) utf8 flat plain none =
     let plains = and_parts (is_plain_component after t) (are_plain (is_recursive t) ts) plain in
     let nones = none-parts (result_err (reading_of (chars t))) (first_fault ts) none in
     let accepted = accepted-from_none (chars t) nones.0 in
-    let inner = and_parts (not (is_empty t) && not (is_special_name t)) (is_literal t || not (begins_with dot t) || after) plains.0 in
-    let some = not-true (is_empty t) (and_parts (not (is_empty t)) (not (is_special_name t)) inner.0).0 in
+    let inner = and_parts (not (is_empty t) && not (is_current_or_parent t)) (is_literal t || not (begins_with dot t) || after) plains.0 in
+    let some = not-true (is_empty t) (and_parts (not (is_empty t)) (not (is_current_or_parent t)) inner.0).0 in
     ((accepted, no_slash-chars t utf8.0 ∙ flats.0, some-chars (chars t) refl some), are_components (is_recursive t) ts utf8.1 flats.1 plains.1 nones.1)
   where
     nothing : (t : Text) → t ≡ [] → is_empty t ≡ true

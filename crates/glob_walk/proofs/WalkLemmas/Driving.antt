@@ -11,7 +11,7 @@ use Rattle.glob_tree.specs.declared.tree.ListError.{ListError}
 use Rattle.glob_walk.specs.Aims.{listing_of}
 use Rattle.glob_walk.specs.Marks.{Mark, Work, Give}
 use Rattle.glob_walk.specs.Questions.{Question, LookAt, ListAt, IsLook, IsList, IsListWith, IsSomeContent, IsSeenIn, IsListedIn, question_path}
-use Rattle.glob_walk.specs.Machines.{MachineState, Agrees, Saying, AsksLook, AsksList, Says, Ends, StepCounts, StepGoes, TakesStep, IsCharged, IsAskedAfter, left_of, outcome_said, is_last_said, units_said}
+use Rattle.glob_walk.specs.Machines.{MachineState, Agrees, Saying, AsksLook, AsksList, Says, Ends, StepCounts, StepGoes, TakesStep, IsCharged, IsAskedAfter, left_of, step_outcome, is_last_step, step_units}
 use Rattle.glob_walk.specs.Walks.{Gives, LimitAt, NoMemory, Walking, Charges, IsUpTo, TakesFront, IsAsked, Takes, Goes, is_last, item_number}
 use Rattle.glob_walk.specs.Private.Walking.{IsDriven}
 use Rattle.glob_walk.proofs.WalkLemmas.Gathering.{IsUpTo-item}
@@ -32,7 +32,7 @@ seen_walk tells t c = record {
 -- what was asked of the tree, by what was charged; the question that is open was not asked yet
 abbrev pub IsAskedSo : {X A : Type 0} → (X → ℕ) → Walking X → Saying → X → MachineState A → Type 0
 IsAskedSo asks v (Says (LimitAt p)) t c = (c.spent ≡ c.limit) × (asks v.tree + c.spent ≤ asks t + v.spent)
-IsAskedSo asks v s t c = asks t + units_said s + v.spent ≡ asks v.tree + c.spent
+IsAskedSo asks v s t c = asks t + step_units s + v.spent ≡ asks v.tree + c.spent
 
 -- what the steps since one item took, over a content
 pub record DriveTakes {X A : Type 0} (v : Walking X) (c : MachineState A) (s : Saying) (x : Content) : Type 0 where
@@ -48,10 +48,10 @@ pub record Drives {X A : Type 0} (asks : X → ℕ) (tells : X → Option Conten
   pub aim : c.aim ≡ v.aim
   pub grows : v.spent ≤ c.spent
   pub within : c.spent ≤ c.limit
-  pub given : c.given ≡ v.given + item_number (outcome_said s)
+  pub given : c.given ≡ v.given + item_number (step_outcome s)
   pub few : c.given ≤ c.spent + 1
   pub asks_next : IsAskedAfter s c.asked
-  pub ends : c.over ≡ is_last_said s
+  pub ends : c.over ≡ is_last_step s
   pub stays : v.over ≡ true → (s ≡ Ends) × (seen_walk tells t c ≡ v)
   pub told : tells t ≡ tells v.tree
   pub asked : IsAskedSo asks v s t c
@@ -98,7 +98,7 @@ module _ {X A : Type 0} (asks : X → ℕ) (tells : X → Option Content) where
 
 module _ {X A : Type 0} (asks : X → ℕ) (tells : X → Option Content) (v : Walking X) where
   -- the question that was open is answered
-  pub Drives-after : (t t' : X) (c c' : MachineState A) (s s' : Saying) (n : ℕ) (Fits : Content → Type 0) → units_said s ≡ 1 → Drives asks tells v t c s
+  pub Drives-after : (t t' : X) (c c' : MachineState A) (s s' : Saying) (n : ℕ) (Fits : Content → Type 0) → step_units s ≡ 1 → Drives asks tells v t c s
       → asks t' ≡ asks t + 1 + n → tells t' ≡ tells t → ((x : Content) → IsTold (tells t) x → Fits x) → StepGoes Fits n c s' c' → Drives asks tells v t' c' s'
   Drives-after t t' c c' s s' n Fits question h more same fits k = record {
     limit = k.counts.limit ∙ h.limit;
@@ -124,22 +124,22 @@ module _ {X A : Type 0} (asks : X → ℕ) (tells : X → Option Content) (v : W
         };
   }
     where
-      none : (s : Saying) → units_said s ≡ 1 → item_number (outcome_said s) ≡ 0
+      none : (s : Saying) → step_units s ≡ 1 → item_number (step_outcome s) ≡ 0
       none AsksLook q = refl
       none (AsksList kinds) q = refl
       none (Says o) q = absurd (omega (arith, q))
       none Ends q = refl
 
-      asking : (s : Saying) → units_said s ≡ 1 → s ≡ Ends → ⊥
-      asking s q e = let z : units_said s ≡ 0 = ap units_said e in omega (arith, z, q)
+      asking : (s : Saying) → step_units s ≡ 1 → s ≡ Ends → ⊥
+      asking s q e = let z : step_units s ≡ 0 = ap step_units e in omega (arith, z, q)
 
-      lasting : (s : Saying) → units_said s ≡ 1 → is_last_said s ≡ false
+      lasting : (s : Saying) → step_units s ≡ 1 → is_last_step s ≡ false
       lasting AsksLook q = refl
       lasting (AsksList kinds) q = refl
       lasting (Says o) q = absurd (omega (arith, q))
       lasting Ends q = absurd (omega (arith, q))
 
-      asked_before : (s : Saying) → units_said s ≡ 1 → IsAskedSo asks v s t c → asks t + 1 + v.spent ≡ asks v.tree + c.spent
+      asked_before : (s : Saying) → step_units s ≡ 1 → IsAskedSo asks v s t c → asks t + 1 + v.spent ≡ asks v.tree + c.spent
       asked_before AsksLook q e = e
       asked_before (AsksList kinds) q e = e
       asked_before (Says o) q e = absurd (omega (arith, q))
@@ -153,14 +153,14 @@ module _ {X A : Type 0} (asks : X → ℕ) (tells : X → Option Content) (v : W
       by_saying (Says NoMemory) b e = omega (arith, b, e, more)
       by_saying Ends b e = omega (arith, b, e, more)
 
-      charged_before : (s : Saying) → units_said s ≡ 1 → (x : Content) (old : List Mark) → TakesStep old v.spent s c.asked (left_of x c) c.spent → Charges old v.spent (left_of x c) c.spent
+      charged_before : (s : Saying) → step_units s ≡ 1 → (x : Content) (old : List Mark) → TakesStep old v.spent s c.asked (left_of x c) c.spent → Charges old v.spent (left_of x c) c.spent
       charged_before AsksLook q x old h = Charges-asked old (left_of x c) v.spent c.spent (question_path c.asked) h
       charged_before (AsksList kinds) q x old h = Charges-asked old (left_of x c) v.spent c.spent (question_path c.asked) h
       charged_before (Says o) q x old h = absurd (omega (arith, q))
       charged_before Ends q x old h = absurd (omega (arith, q))
 
   -- an item, or the end
-  pub Drives-last : (t : X) (c : MachineState A) (s : Saying) → units_said s ≡ 0 → Drives asks tells v t c s → Goes asks tells v (outcome_said s) (seen_walk tells t c)
+  pub Drives-last : (t : X) (c : MachineState A) (s : Saying) → step_units s ≡ 0 → Drives asks tells v t c s → Goes asks tells v (step_outcome s) (seen_walk tells t c)
   Drives-last t c s item h = record {
     counts = record {
       limit = h.limit;
@@ -171,19 +171,19 @@ module _ {X A : Type 0} (asks : X → ℕ) (tells : X → Option Content) (v : W
       few = h.few;
       asked = by_saying s item h.asked;
       ends = h.ends ∙ lasts s item;
-      stays = λ over. let r = h.stays over in (ap outcome_said r.0, r.1);
+      stays = λ over. let r = h.stays over in (ap step_outcome r.0, r.1);
     };
     told = h.told;
     takes = λ x told. by_over v.over refl x told;
   }
     where
-      lasts : (s : Saying) → units_said s ≡ 0 → is_last_said s ≡ is_last (outcome_said s)
+      lasts : (s : Saying) → step_units s ≡ 0 → is_last_step s ≡ is_last (step_outcome s)
       lasts AsksLook q = absurd (omega (arith, q))
       lasts (AsksList kinds) q = absurd (omega (arith, q))
       lasts (Says o) q = refl
       lasts Ends q = refl
 
-      by_saying : (s : Saying) → units_said s ≡ 0 → IsAskedSo asks v s t c → IsAsked asks v (outcome_said s) (seen_walk tells t c)
+      by_saying : (s : Saying) → step_units s ≡ 0 → IsAskedSo asks v s t c → IsAsked asks v (step_outcome s) (seen_walk tells t c)
       by_saying AsksLook q e = absurd (omega (arith, q))
       by_saying (AsksList kinds) q e = absurd (omega (arith, q))
       by_saying (Says (Gives item)) q e = omega (arith, e)
@@ -191,7 +191,7 @@ module _ {X A : Type 0} (asks : X → ℕ) (tells : X → Option Content) (v : W
       by_saying (Says NoMemory) q e = omega (arith, e)
       by_saying Ends q e = omega (arith, e)
 
-      taken : (s : Saying) → units_said s ≡ 0 → (x : Content) (old : List Mark) → TakesStep old v.spent s c.asked (left_of x c) c.spent → TakesFront old v.spent (outcome_said s) (left_of x c) c.spent
+      taken : (s : Saying) → step_units s ≡ 0 → (x : Content) (old : List Mark) → TakesStep old v.spent s c.asked (left_of x c) c.spent → TakesFront old v.spent (step_outcome s) (left_of x c) c.spent
       taken AsksLook q x old k = absurd (omega (arith, q))
       taken (AsksList kinds) q x old k = absurd (omega (arith, q))
       taken (Says o) q x old k = k
@@ -200,7 +200,7 @@ module _ {X A : Type 0} (asks : X → ℕ) (tells : X → Option Content) (v : W
       has' : (x : Content) → IsTold (tells v.tree) x → option_map (λ y. left_of y c) (tells t) ≡ Some (left_of x c)
       has' x told = let f : Content → List Mark = λ y. left_of y c in ap (option_map f) (h.told ∙ told.0)
 
-      by_over : (b : Bool) → v.over ≡ b → (x : Content) → IsTold (tells v.tree) x → Takes tells v (outcome_said s) (seen_walk tells t c) x
+      by_over : (b : Bool) → v.over ≡ b → (x : Content) → IsTold (tells v.tree) x → Takes tells v (step_outcome s) (seen_walk tells t c) x
       by_over false e x told =
           let a = h.takes x told e in
           record {
@@ -222,7 +222,7 @@ module _ {X A : Type 0} (asks : X → ℕ) (tells : X → Option Content) (v : W
         takes = λ going. absurd (both_ways v.over going e);
       }
 
-  pub IsDriven-last : (t : X) (c : MachineState A) (s : Saying) → units_said s ≡ 0 → Drives asks tells v t c s → IsDriven tells t c
+  pub IsDriven-last : (t : X) (c : MachineState A) (s : Saying) → step_units s ≡ 0 → Drives asks tells v t c s → IsDriven tells t c
   IsDriven-last t c s item h = record {
     free = free s item h.asks_next;
     agrees = λ x told going. (h.takes x (sym h.told ∙ told.0, told.1) (of_first v.over refl going)).agrees;
@@ -231,7 +231,7 @@ module _ {X A : Type 0} (asks : X → ℕ) (tells : X → Option Content) (v : W
         subst (λ aim. IsUpTo (listing_of x aim) c.spent (left_of x c)) (sym h.aim) (up_to s item (h.ends) going x a.old_left a.upto a.takes);
   }
     where
-      up_to : (s : Saying) → units_said s ≡ 0 → c.over ≡ is_last_said s → c.over ≡ false → (x : Content) (old : List Mark) → IsUpTo (listing_of x v.aim) v.spent old → TakesStep old v.spent s c.asked (left_of x c) c.spent
+      up_to : (s : Saying) → step_units s ≡ 0 → c.over ≡ is_last_step s → c.over ≡ false → (x : Content) (old : List Mark) → IsUpTo (listing_of x v.aim) v.spent old → TakesStep old v.spent s c.asked (left_of x c) c.spent
           → IsUpTo (listing_of x v.aim) c.spent (left_of x c)
       up_to AsksLook q e going x old u k = absurd (omega (arith, q))
       up_to (AsksList kinds) q e going x old u k = absurd (omega (arith, q))
@@ -240,7 +240,7 @@ module _ {X A : Type 0} (asks : X → ℕ) (tells : X → Option Content) (v : W
       up_to (Says NoMemory) q e going x old u k = absurd (both_ways c.over going e)
       up_to Ends q e going x old u k = absurd (both_ways c.over going e)
 
-      free : (s : Saying) → units_said s ≡ 0 → IsAskedAfter s c.asked → c.asked ≡ None
+      free : (s : Saying) → step_units s ≡ 0 → IsAskedAfter s c.asked → c.asked ≡ None
       free AsksLook q e = absurd (omega (arith, q))
       free (AsksList kinds) q e = absurd (omega (arith, q))
       free (Says o) q e = e
@@ -251,10 +251,10 @@ module _ {X A : Type 0} (asks : X → ℕ) (tells : X → Option Content) (v : W
       of_first true e going = ap (λ w. w.over) (sym (h.stays e).1) ∙ going
 
 -- an answer leaves fewer questions within the limit
-pub fewer : {A : Type 0} (n : ℕ) (c c' : MachineState A) (s s' : Saying) → units_said s ≡ 1 → StepCounts n c s' c' → 2 * (c'.limit - c'.spent) + units_said s' < 2 * (c.limit - c.spent) + units_said s
+pub fewer : {A : Type 0} (n : ℕ) (c c' : MachineState A) (s s' : Saying) → step_units s ≡ 1 → StepCounts n c s' c' → 2 * (c'.limit - c'.spent) + step_units s' < 2 * (c.limit - c.spent) + step_units s
 fewer {A} n c c' s s' question h = by_saying s' h.charged
   where
-    by_saying : (x : Saying) → IsCharged n c x c' → 2 * (c'.limit - c'.spent) + units_said x < 2 * (c.limit - c.spent) + units_said s
+    by_saying : (x : Saying) → IsCharged n c x c' → 2 * (c'.limit - c'.spent) + step_units x < 2 * (c.limit - c.spent) + step_units s
     by_saying AsksLook e = omega (arith, question, h.limit, h.within, e)
     by_saying (AsksList kinds) e = omega (arith, question, h.limit, h.within, e)
     by_saying (Says o) e = omega (arith, question, h.limit, h.within, h.grows)

@@ -48,7 +48,7 @@ first_match : {A : Type 0} (c : Content) (plan : Plan A) (component : ℕ) (path
 first_match c plan component path name d t e =
     ap (λ ts. first_of c plan.options plan.directories false ts path (name, d)) e ∙ matched c plan t (component + 1) path name d (takes_name plan.options t name)
 
--- the component after the run is asked
+-- the component after the `**` is asked
 first_in_run : {A : Type 0} (c : Content) (plan : Plan A) (component : ℕ) (path name : Text) (d : Bool) (r t : Text)
     → drop component plan.components.items ≡ r ∷ drop (component + 1) plan.components.items
     → drop (component + 1) plan.components.items ≡ t ∷ drop (component + 1 + 1) plan.components.items
@@ -60,7 +60,7 @@ first_in_run c plan component path name d r t e f =
     ∙ matched c plan t (component + 1 + 1) path name d (takes_name plan.options t name)
     ∙ ap (λ n. met_marks c plan path (name, d) (cond (takes_name plan.options t name) (Some n) None)) two
 
--- the run is the last component
+-- the `**` is the last component
 first_at_end : {A : Type 0} (c : Content) (plan : Plan A) (component : ℕ) (path name : Text) (d : Bool) (r : Text)
     → drop component plan.components.items ≡ r ∷ drop (component + 1) plan.components.items
     → drop (component + 1) plan.components.items ≡ []
@@ -84,7 +84,7 @@ pub IfOk-each : {T E : Type 0} {P Q : T → Type 0} (r : Result T E) → ((x : T
 IfOk-each (Ok x) f h = f x h
 IfOk-each (Err e) f h = h
 
--- an entry is met by the component, or in a run by the one after it, if there is one
+-- an entry is met by the component, or under `**` by the one after it, if there is one
 module _ {A : Type 0} (c : Content) (plan : Plan A) (component : ℕ) (path name : Text) (d : Bool) (here : component < length plan.components.items) where
   at_part : drop component plan.components.items ≡ get_or plan.components.items component [] ∷ drop (component + 1) plan.components.items
   at_part = drop_more plan.components.items component [] here

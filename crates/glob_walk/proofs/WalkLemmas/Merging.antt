@@ -112,10 +112,10 @@ module _ (c : Content) (o : MatchOptions) (directories : Bool) where
       by_kind Wild k path false = enter_none c o directories t xs path k ∙ sym (enter_none c o directories t ys path k)
       by_kind Recursive k path d = absurd (both_ways (is_recursive t) other (kind_recursive t k))
 
-  after_run : (t u : Text) (xs ys : List Text) → is_recursive t ≡ true → is_recursive u ≡ false → enter c o directories xs ≡ enter c o directories ys
+  after_first_recursive : (t u : Text) (xs ys : List Text) → is_recursive t ≡ true → is_recursive u ≡ false → enter c o directories xs ≡ enter c o directories ys
       → enter c o directories (t ∷ u ∷ xs) ≡ enter c o directories (t ∷ u ∷ ys)
   unfolding meet
-  after_run t u xs ys h other e = λ i path d. by_directory path d i
+  after_first_recursive t u xs ys h other e = λ i path d. by_directory path d i
     where
       same : meet c o directories (u ∷ xs) ≡ meet c o directories (u ∷ ys)
       same = ap (λ f path name d. match_at o f u path name d) e
@@ -149,7 +149,7 @@ module _ (c : Content) (o : MatchOptions) (directories : Bool) where
           ap (λ s. enter c o directories (s ∷ merged_after true us)) (stars t h ∙ sym (stars u more))
           ∙ later.1 u more
           ∙ (λ i path d. sym (enter-run c o directories t (u ∷ us) path d (recursive_kind t h) more) i)
-      after later t h false other = after_run t u (merged us) us h other later.0
+      after later t h false other = after_first_recursive t u (merged us) us h other later.0
 
   pub enter-merged : (ts : List Text) → enter c o directories (merged ts) ≡ enter c o directories ts
   enter-merged ts = (as_merged ts).0

@@ -4,7 +4,7 @@ use Rattle.glob_text.specs.Text.{Text}
 use Rattle.glob_walk.specs.Marks.{Give, Found}
 use Rattle.glob_tree.specs.Paths.{child}
 use Rattle.glob_tree.specs.Content.{Content}
-use Rattle.glob_walk.specs.Components.{is_literal, is_recursive, is_special_name, Literal, Recursive, Wild}
+use Rattle.glob_walk.specs.Components.{is_literal, is_recursive, is_current_or_parent, Literal, Recursive, Wild}
 use Rattle.glob_walk.specs.Listing.{enter, look_up}
 use Rattle.glob_tree.specs.Looks.{is_there}
 use Rattle.glob_pattern.specs.declared.options.MatchOptions.{MatchOptions}
@@ -17,7 +17,7 @@ use Rattle.glob_walk.proofs.WalkLemmas.Entering.{enter-end}
 
 pub literal_marks : {A : Type 0} (c : Content) (plan : Plan A) (component : ℕ) (path : Text) (d : Bool) (t : Text) (w : Wanted)
     → drop component plan.components.items ≡ t ∷ drop (component + 1) plan.components.items → is_literal t ≡ true
-    → ((seen : Look) → is_wanted w seen ≡ cond (is_special_name t) d (is_there seen))
+    → ((seen : Look) → is_wanted w seen ≡ cond (is_current_or_parent t) d (is_there seen))
     → enter_from c plan component path d ≡ look_up c (is_wanted w) (enter_from c plan (component + 1)) (child path t)
 literal_marks c plan component path d t w at kind same =
     ap (λ ts. enter c plan.options plan.directories ts path d) at

@@ -47,7 +47,7 @@ before c o dirs recursive [] path = []
 before c o dirs false (t ∷ ts) path = special_names c o (enter c o dirs ts) t path
 before c o dirs true (t ∷ ts) path = []
 
--- what comes of an entry, under a run of `**`
+-- what comes of an entry, under `**`
 met_same : (c : Content) (o : MatchOptions) (dirs : Bool) (t : Text) (ts : List Text) (path name : Text) (d : Bool) → begins_recursive ts ≡ false
     → meet c o dirs ts (child path name) name d ≡ first_of c o dirs true (t ∷ ts) path (name, d)
 met_same c o dirs t [] path name d last = refl

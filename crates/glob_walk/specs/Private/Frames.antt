@@ -25,7 +25,7 @@ met_marks c plan path e (Some at) = enter_from c plan at (child path e.0) e.1
 abbrev pub take_at : MatchOptions → (next : Next) → (component path name : Text) → Bool → List Mark
 take_at o next component path name d = if takes_name o component name then next path d else []
 
--- an entry is met: by the component, or in a run of `**` by what follows the run
+-- an entry is met: by the component, or under `**` by what follows it
 abbrev pub first_of : Content → MatchOptions → Bool → Bool → List Text → Text → DirEntry → List Mark
 first_of c o dirs recursive [] path e = []
 first_of c o dirs false (t ∷ ts) path e = take_at o (enter c o dirs ts) t (child path e.0) e.0 e.1
@@ -35,7 +35,7 @@ first_of c o dirs true (t ∷ u ∷ us) path e = take_at o (enter c o dirs us) u
 abbrev pub first_part : {A : Type 0} → Content → Plan A → Bool → ℕ → Text → DirEntry → List Mark
 first_part c plan recursive component path e = first_of c plan.options plan.directories recursive (drop component plan.components.items) path e
 
--- and then a run of `**` enters it
+-- and then `**` enters it
 abbrev pub second_part : {A : Type 0} → Content → Plan A → Bool → ℕ → Text → DirEntry → List Mark
 second_part c plan false component path e = []
 second_part c plan true component path e =
@@ -64,7 +64,7 @@ special_marks c plan component path name =
 abbrev pub entries_marks : {A : Type 0} → Content → Plan A → Bool → ℕ → Text → List DirEntry → List Mark
 entries_marks c plan recursive component path es = flat_map (entry_marks c plan recursive component path) es
 
--- what is left after an entry was met: the run enters it, and the entries after it follow
+-- what is left after an entry was met: `**` enters it, and the entries after it follow
 abbrev pub inside_marks : {A : Type 0} → Content → Plan A → Bool → ℕ → Text → List DirEntry → List Mark
 inside_marks c plan recursive component path [] = []
 inside_marks c plan recursive component path (e ∷ es) =

@@ -3,11 +3,11 @@ use Rattle.std.specs.Prelude.{Bool, true, false, ◌&&◌, not, if◌then◌else
 use Rattle.glob_text.specs.Text.{Text}
 use Rattle.glob_walk.specs.Components.{is_recursive, begins_recursive}
 
--- the components with one `**` for neighbouring ones, where `run` says whether a `**` stands before them
-abbrev pub merged_after : (run : Bool) → List Text → List Text
-merged_after run [] = []
-merged_after run (t ∷ ts) =
-    if run && is_recursive t then merged_after true ts else t ∷ merged_after (is_recursive t) ts
+-- the components with one `**` for neighbouring ones, where `after` says whether they follow one
+abbrev pub merged_after : (after : Bool) → List Text → List Text
+merged_after after [] = []
+merged_after after (t ∷ ts) =
+    if after && is_recursive t then merged_after true ts else t ∷ merged_after (is_recursive t) ts
 
 -- the components with one `**` for neighbouring ones
 abbrev pub merged : List Text → List Text

@@ -9,7 +9,7 @@ use Rattle.glob_walk.specs.declared.turn.Turn.TheVariants as turn
 use Rattle.glob_walk.specs.declared.machine.Answer.{Answer}
 use Rattle.glob_walk.specs.declared.machine.Answer.TheVariants as answer
 use Rattle.glob_walk.specs.Questions.{Question, IsLook, IsList, IsListWith, IsSomeContent, IsSeenIn, IsListedIn, question_path}
-use Rattle.glob_walk.specs.Machines.{AsksNext, fault_said}
+use Rattle.glob_walk.specs.Machines.{AsksNext, list_error_outcome}
 use Rattle.glob_walk.specs.Walks.{Outcome, NoMemory, Charges, StopsAt, BreaksOff}
 use Rattle.glob_tree.specs.Content.{Content, list_result}
 use Rattle.glob_tree.specs.Answers.{IsEntriesAnswer, entries_of, entry_count}
@@ -111,7 +111,7 @@ IsAnswered q (answer.List r) c = IsListedIn q r c
 abbrev pub IfFailed : {A : Type 0} → Answer A → (path : Text) → (Outcome → Type 0) → Type 0
 IfFailed answer.Nothing path P = ⊤
 IfFailed (answer.Look r) path P = IfErr r (λ _. P NoMemory)
-IfFailed (answer.List r) path P = IfErr r (λ e. P (fault_said path e))
+IfFailed (answer.List r) path P = IfErr r (λ e. P (list_error_outcome path e))
 
 -- how many entries were answered
 abbrev pub answer_count : {A : Type 0} → Answer A → ℕ

@@ -33,7 +33,7 @@ pub record IsGood {A : Type 0} (meter : Meter) (stack : Stack A) (given : ℕ) (
   pub going : over ≡ false → IsUnderWay meter stack given
   pub ended : over ≡ true → question_of stack.next ≡ None
 
--- what a turn that ends a run says
+-- what a turn says that ends the loop of turns
 abbrev pub turn_outcome : {A : Type 0} → Turn A → Option Outcome
 turn_outcome turn.Went = None
 turn_outcome turn.Look = None

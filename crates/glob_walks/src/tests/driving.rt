@@ -9,7 +9,8 @@ use super::memory::{WALKS, small_tree};
 use super::random::COMPONENTS;
 use super::reference::Job;
 use crate::trees::{
-    Descending, Endless, FalseDirectory, Fickle, Liar, LyingTree, NoMemory, Noting, noted,
+    Descending, Endless, FalseDirectory, Fickle, Liar, LyingTree, NamesAlone, NoMemory, Noting,
+    noted,
 };
 use glob::{GlobResult, Step, Tree, WalkMachine};
 use glob_testing::rationing::Rationed;
@@ -225,6 +226,33 @@ fn drivers_that_lie(rt: HostRuntime) -> Result<(), Fail> {
             compare_liars(&rt, FalseDirectory { alloc }, FalseDirectory { alloc }, job)?;
             compare_liars(&rt, NoMemory, NoMemory, job)?;
         }
+    }
+    Ok(())
+}
+
+/// Patterns, and what a walk gives whose driver answers names alone where a listing is asked for: nothing is listed below
+/// them, and no directory is among them.
+const BELOW_NAMES: [(&str, &str); 7] = [
+    ("*", "a c d"),
+    ("**/*", "a c d"),
+    ("**", ""),
+    ("*/*", ""),
+    ("*/", ""),
+    ("*/b", "a/b"),
+    ("*/.", ""),
+];
+
+#[test]
+fn a_driver_that_answers_names_alone(rt: HostRuntime) -> Result<(), Fail> {
+    let content = at_root(rt.alloc(), "a/ a/b c d/ d/e")?;
+    for (pattern, words) in BELOW_NAMES {
+        let tree = tree_of(&rt, &content)?;
+        let mut names = LyingTree::new(NamesAlone { tree });
+        let (driven, _) = drive_most(&rt, &mut names, Job::of(pattern), u64::MAX)?;
+        let known = read_items(rt.alloc(), words, ErrorKind::Other)?;
+        let items = items_of(rt.alloc(), driven.items.as_slice())?;
+        assert!(rt; driven.done, "{pattern}");
+        assert!(rt; are(items.as_slice(), known.as_slice()), "{pattern}");
     }
     Ok(())
 }

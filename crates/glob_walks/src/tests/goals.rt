@@ -25,14 +25,14 @@ fn is_wild(component: &str) -> bool {
 /// Whether the undivided pattern, which is accepted, says what a walk finds: no component is empty, `.` or `..`, and one
 /// with wildcards that begins with a dot stands right after a `**`.
 pub(super) fn is_plain(pattern: &str) -> bool {
-    let mut after_run = false;
+    let mut after_first_recursive = false;
     for component in components(pattern) {
         let special = component.is_empty() || component == "." || component == "..";
         let dotted = is_wild(component) && component.starts_with('.');
-        if special || (dotted && !after_run) {
+        if special || (dotted && !after_first_recursive) {
             return false;
         }
-        after_run = component == "**";
+        after_first_recursive = component == "**";
     }
     true
 }
@@ -201,7 +201,7 @@ fn runs(pattern: &str) -> (u32, u32) {
     (runs, after)
 }
 
-/// Each path is given once where there is at most one run of `**`, and in order where at most one component follows it.
+/// Each path is given once where `**` is in at most one place, and in order where at most one component follows it.
 fn check_order(rt: &impl Abort, pattern: &str, paths: Vec<&str>) {
     let (runs, after) = runs(pattern);
     if runs == 0 || (runs == 1 && after <= 1) {

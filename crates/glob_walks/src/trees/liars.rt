@@ -337,3 +337,26 @@ impl<A: Allocator + Copy> Liar for Noting<'_, A> {
         Ok(entries)
     }
 }
+
+/// A tree in memory that answers each listing with names alone: it says of every entry that it is no directory.
+#[derive(Drop)]
+pub struct NamesAlone {
+    /// Its other answers.
+    pub tree: MemTree,
+}
+
+impl Liar for NamesAlone {
+    type Alloc = Global;
+
+    fn look(&mut self, path: &str) -> Result<Look, AllocError> {
+        self.tree.look(path)
+    }
+
+    fn list(&mut self, path: &str) -> Result<Vec<Entry>, ListError> {
+        let mut entries = self.tree.list(path)?;
+        for entry in entries.iter_mut() {
+            entry.is_dir = false;
+        }
+        Ok(entries)
+    }
+}

@@ -1,6 +1,6 @@
 use Rattle.std.proofs.Common.{rules, ◌≡◌, ◌+◌, true, false, ap, arith, subst}
 use Rattle.glob_tree.specs.Answers.{entry_count}
-use Rattle.glob_walk.specs.Machines.{IsAskedAfter, Says, Ends, saying, units_said}
+use Rattle.glob_walk.specs.Machines.{IsAskedAfter, Says, Ends, saying, step_units}
 use Rattle.glob_walk.specs.Questions.{IsSeenIn, IsListWith, IsListedIn}
 use Rattle.glob_walk.specs.Walks.{outcome}
 use Rattle.glob_walk.proofs.WalkLemmas.Driving.{Drives, Drives-first, Drives-after, Drives-last, IsDriven-last, seen_fits, listed_fits}
@@ -23,7 +23,7 @@ returns-in-Done-clause-steps g c =
 pub loop-step-preserved-in-Look : goal.loop-step-preserved-in-Look
 loop-step-preserved-in-Look g c =
     let machine = c.loop-step.self-inside.machine in
-    let asks : units_said (saying c.loop-step.step) ≡ 1 = ap (λ s. units_said (saying s)) c.in-Look.is in
+    let asks : step_units (saying c.loop-step.step) ≡ 1 = ap (λ s. step_units (saying s)) c.in-Look.is in
     let more : g.T.Tree.asks c.look-seen.new.self ≡ g.T.Tree.asks c.loop-step.self-inside.tree + 1 + 0 = let m = c.look-seen.ensures.asks in omega (arith, m) in
     Drives-after g.T.Tree.asks g.T.Tree.tells c.args.self.now c.loop-step.self-inside.tree c.look-seen.new.self machine c.looked.new.self (saying c.loop-step.step) (saying c.looked.result)
     0 (IsSeenIn machine.asked c.look-seen.result) asks c.loop-step.invariant more c.look-seen.ensures.content
@@ -32,7 +32,7 @@ loop-step-preserved-in-Look g c =
 pub loop-step-preserved-in-List : goal.loop-step-preserved-in-List
 loop-step-preserved-in-List g c =
     let machine = c.loop-step.self-inside.machine in
-    let asks : units_said (saying c.loop-step.step) ≡ 1 = ap (λ s. units_said (saying s)) c.in-List.is in
+    let asks : step_units (saying c.loop-step.step) ≡ 1 = ap (λ s. step_units (saying s)) c.in-List.is in
     let asked : IsListWith true machine.asked = subst (λ s. IsAskedAfter (saying s) machine.asked) c.in-List.is c.loop-step.invariant.asks_next in
     Drives-after g.T.Tree.asks g.T.Tree.tells c.args.self.now c.loop-step.self-inside.tree c.list-listed.new.self machine c.listed.new.self (saying c.loop-step.step) (saying c.listed.result)
     (entry_count c.list-listed.result) (IsListedIn machine.asked c.list-listed.result) asks c.loop-step.invariant c.list-listed.ensures.asks c.list-listed.ensures.content
@@ -41,7 +41,7 @@ loop-step-preserved-in-List g c =
 pub loop-step-preserved : goal.loop-step-preserved
 loop-step-preserved g c =
     let machine = c.loop-step.self-inside.machine in
-    let asks : units_said (saying c.loop-step.step) ≡ 1 = ap (λ s. units_said (saying s)) c.in-ListNames.is in
+    let asks : step_units (saying c.loop-step.step) ≡ 1 = ap (λ s. step_units (saying s)) c.in-ListNames.is in
     let asked : IsListWith false machine.asked = subst (λ s. IsAskedAfter (saying s) machine.asked) c.in-ListNames.is c.loop-step.invariant.asks_next in
     Drives-after g.T.Tree.asks g.T.Tree.tells c.args.self.now c.loop-step.self-inside.tree c.list_names-named.new.self machine c.listed-in-ListNames.new.self (saying c.loop-step.step) (saying c.listed-in-ListNames.result)
     (entry_count c.list_names-named.result) (IsListedIn machine.asked c.list_names-named.result) asks c.loop-step.invariant c.list_names-named.ensures.asks c.list_names-named.ensures.content
