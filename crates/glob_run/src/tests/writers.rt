@@ -81,7 +81,7 @@ impl Write for Moody<'_> {
 }
 
 /// The directories `000` to `299` in the current one, whose asks are counted in a place that it is lent. In the first there
-/// are files `x1` and `x2`, and in the others so many files `y`.
+/// are files `x1` and `x2`, and in the others so many files `y`. A lookup finds what is in the first two alone.
 #[derive(Drop)]
 struct Hall<'a> {
     alloc: Global,
@@ -133,10 +133,14 @@ impl Tree for Hall<'_> {
 
     ghost asks = { λ tree. tree.asks };
 
-    fn look(&mut self, _path: &str) -> Result<Look, AllocError> {
+    fn look(&mut self, path: &str) -> Result<Look, AllocError> {
         self.asks = self.asks.after(1);
         self.count(1);
-        Ok(Look::Dir)
+        if path == "." || path.starts_with("000") || path.starts_with("001") {
+            Ok(Look::Dir)
+        } else {
+            Ok(Look::Missing)
+        }
     }
 
     fn list(&mut self, path: &str) -> Result<Vec<Entry>, ListError> {
@@ -303,22 +307,26 @@ fn a_line_that_is_not_formatted_is_written_in_pieces(rt: HostRuntime) -> Result<
     ensure(errors.as_slice() == b"words\n".as_slice(), "the line")
 }
 
-/// How many asks the walk to the second path takes: a lookup, two listings, and their entries.
-const BEFORE: u64 = 305;
+/// A pattern, how many files there are, and the asks before the first path, before the second, and at most before that
+/// is written: a lookup, listings and their entries, and then a hundred lookups, listings or entries.
+const WAITS: &[(&str, u32, u64, u64, u64)] = &[
+    ("*/x*", 0, 305, 305, 406),
+    ("*/x*", 30, 305, 305, 430),
+    ("*/x*", 150, 305, 305, 457),
+    ("*/x1", 0, 303, 304, 405),
+];
 
-/// The first path is written before the next ask. The second waits for a hundred asks: directories that are listed, or
-/// entries.
+/// The first path is written before the next ask. The second waits for a hundred asks.
 #[test]
 fn a_path_waits_for_few_asks(rt: HostRuntime) -> Result<(), Fail> {
-    for (files, most) in [(0, 101), (30, 125), (150, 152)] {
+    for (pattern, files, first, second, most) in WAITS {
         let asked = Cell::new(0);
         let moods = [Mood::Willing, Mood::Willing];
-        let (status, output, _) = run(rt.alloc(), &["find", "*/x*"], files, moods, &asked);
+        let (status, output, _) = run(rt.alloc(), &["find", *pattern], *files, moods, &asked);
         ensure(status == 0 && output.times.len() == 2, "two writes")?;
-        let (first, second) = (output.times[0], output.times[1]);
-        ensure(first == BEFORE, format_args!("{first}"))?;
-        let is_soon = second <= BEFORE.saturating_add(most);
-        ensure(BEFORE < second && is_soon, format_args!("{second}"))?;
+        let (early, late) = (output.times[0], output.times[1]);
+        ensure(early == *first, format_args!("{early}"))?;
+        ensure(*second < late && late <= *most, format_args!("{late}"))?;
     }
     Ok(())
 }

@@ -98,6 +98,17 @@ fn a_thousand_files_take_a_request_for_each_path(rt: HostRuntime) -> Result<(), 
     Ok(())
 }
 
+/// A directory of many files is walked whole.
+#[test]
+fn twenty_thousand_files(rt: HostRuntime) -> Result<(), Fail> {
+    for whole in [false, true] {
+        let cost = ample_cost(&rt, 20_000, "d/*", whole)?;
+        assert_eq!(rt; cost.paths, 20_000);
+        assert!(rt; cost.requests <= 20_050, "{cost:?}");
+    }
+    Ok(())
+}
+
 /// A part of a pattern that is repeated, and the most requests and bytes that each further one takes.
 const PARTS: [(&str, u64, u64); 6] = [
     ("a", 0, 3),
