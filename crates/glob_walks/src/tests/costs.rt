@@ -18,7 +18,7 @@ struct Cost {
 }
 
 /// What a walk over so many files costs, item by item or as a whole. The tree itself takes no memory then.
-fn cost<A: Allocator + Copy>(
+fn cost_in<A: Allocator + Copy>(
     alloc: A,
     ration: &Ration,
     files: u32,
@@ -60,7 +60,7 @@ fn ample_cost(
     whole: bool,
 ) -> Result<Cost, PatternRefusal> {
     let ample = Rationed::refusing(0, rt.alloc());
-    cost(&ample, &ample.ration, files, pattern, whole)
+    cost_in(&ample, &ample.ration, files, pattern, whole)
 }
 
 /// A pattern, how many paths a walk over a thousand files gives, and the most requests beside one for each path.
