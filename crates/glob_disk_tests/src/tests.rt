@@ -22,6 +22,7 @@ const PATHS: &[(&str, Kind)] = &[
     ("d/ring/", Kind::Lost(ErrorKind::FilesystemLoop)),
     ("d/hidden", Kind::Link(ErrorKind::PermissionDenied)),
     ("empty/", Kind::Dir(&[])),
+    ("./", Kind::Dir(&[b"f\0"])),
     ("large/", Kind::Dir(&[b"a\0", b"b\0", b"c\0d\0", b"e\0"])),
     ("large/d", Kind::Dir(&[])),
     ("shut/", Kind::Shut(ErrorKind::PermissionDenied)),
