@@ -17,7 +17,8 @@ struct Cost {
     paths: u64,
 }
 
-/// What a walk over so many files costs, item by item or as a whole. The tree itself takes no memory then.
+/// What a walk over so many files costs, item by item or as a whole, where it comes to its end. The tree itself takes no
+/// memory then.
 fn cost_in<A: Allocator + Copy>(
     alloc: A,
     ration: &Ration,
@@ -33,14 +34,16 @@ fn cost_in<A: Allocator + Copy>(
     let mut paths = 0u64;
     if whole {
         let walk = gather(alloc, tree, Job::of(pattern))?;
-        if walk.end == End::Done {
-            paths = walk.items.len() as u64;
+        if walk.end != End::Done {
+            return Err(PatternRefusal::Memory);
         }
+        paths = walk.items.len() as u64;
     } else {
         let mut walk = start(alloc, tree, Job::of(pattern))?;
         for _ in 0..u64::MAX {
             match next_of(&mut walk) {
-                Some(item) => paths = paths.saturating_add(u64::from(item.is_ok())),
+                Some(Ok(_)) => paths = paths.saturating_add(1),
+                Some(Err(_)) => return Err(PatternRefusal::Memory),
                 None => break,
             }
         }
