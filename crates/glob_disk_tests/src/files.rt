@@ -12,6 +12,8 @@ pub enum Kind<'a> {
     Dir(&'a [&'a [u8]]),
     /// A directory that cannot be opened, and why.
     Shut(ErrorKind),
+    /// A directory that fails so where it is opened, or else where it is read.
+    Failing(io::Error, bool),
     /// A directory of which these blocks are read, and then a read fails, and why.
     Torn(&'a [&'a [u8]], ErrorKind),
     /// A link to a file.
@@ -66,7 +68,7 @@ impl<'a> Written<'a> {
     }
 
     /// The directory of these blocks, opened.
-    fn opened(&self, blocks: &'a [&'a [u8]], failure: Option<ErrorKind>) -> Names<'a> {
+    fn opened(&self, blocks: &'a [&'a [u8]], failure: Option<io::Error>) -> Names<'a> {
         Names {
             blocks,
             failure,
@@ -89,7 +91,7 @@ impl<'a> Written<'a> {
 #[derive(Drop)]
 pub struct Names<'a> {
     blocks: &'a [&'a [u8]],
-    failure: Option<ErrorKind>,
+    failure: Option<io::Error>,
     room: &'a Cell<u64>,
 }
 
@@ -99,7 +101,7 @@ impl Read for Names<'_> {
         let blocks = self.blocks;
         if blocks.is_empty() {
             return match self.failure {
-                Some(kind) => Err(io::Error::from(kind)),
+                Some(error) => Err(error),
                 None => Ok(0),
             };
         }
@@ -124,7 +126,9 @@ impl<'a> Files for Written<'a> {
         add(&self.calls.opens, 1);
         match self.kind(path) {
             Kind::Dir(blocks) => Ok(self.opened(blocks, None)),
-            Kind::Torn(blocks, kind) => Ok(self.opened(blocks, Some(kind))),
+            Kind::Torn(blocks, kind) => Ok(self.opened(blocks, Some(io::Error::from(kind)))),
+            Kind::Failing(error, true) => Err(error),
+            Kind::Failing(error, false) => Ok(self.opened(&[], Some(error))),
             Kind::Shut(kind) | Kind::Link(kind) | Kind::Lost(kind) => Err(io::Error::from(kind)),
             Kind::File | Kind::LinkToFile => Err(io::Error::from(ErrorKind::NotADirectory)),
             Kind::LinkToDir => Err(unsupported()),
@@ -135,7 +139,7 @@ impl<'a> Files for Written<'a> {
         add(&self.calls.lookups, 1);
         match self.kind(path) {
             Kind::File | Kind::LinkToFile => Ok(Metadata::of_file(0)),
-            Kind::Dir(_) | Kind::Shut(_) | Kind::Torn(..) | Kind::LinkToDir => {
+            Kind::Dir(_) | Kind::Shut(_) | Kind::Failing(..) | Kind::Torn(..) | Kind::LinkToDir => {
                 Ok(Metadata::of_dir())
             }
             Kind::Link(kind) | Kind::Lost(kind) => Err(io::Error::from(kind)),

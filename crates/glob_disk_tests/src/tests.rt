@@ -1,7 +1,8 @@
 use crate::files::{Calls, Kind, Written};
 use glob::{Disk, ListError, Look, Tree};
-use std::io::ErrorKind;
+use std::io::{self, ErrorKind};
 use std::process::Abort;
+use std::test::Fail;
 
 const PATHS: &[(&str, Kind)] = &[
     ("d", Kind::Dir(&[])),
@@ -21,6 +22,7 @@ const PATHS: &[(&str, Kind)] = &[
     ("d/ring/", Kind::Lost(ErrorKind::FilesystemLoop)),
     ("d/hidden", Kind::Link(ErrorKind::PermissionDenied)),
     ("empty/", Kind::Dir(&[])),
+    ("./", Kind::Dir(&[b"f\0"])),
     ("large/", Kind::Dir(&[b"a\0", b"b\0", b"c\0d\0", b"e\0"])),
     ("large/d", Kind::Dir(&[])),
     ("shut/", Kind::Shut(ErrorKind::PermissionDenied)),
@@ -171,6 +173,24 @@ fn listings(rt: HostRuntime) {
     }
 }
 
+/// The names alone are those of the listing, without a lookup.
+#[test]
+fn names_alone(rt: HostRuntime) {
+    for (path, reads, wanted) in LISTINGS {
+        let calls = Calls::new();
+        let mut disk = Disk::new(Written::new(PATHS, &calls), rt.alloc());
+        let Ok(entries) = disk.list_names(path) else {
+            panic!(rt; "{path}");
+        };
+        assert_eq!(rt; entries.len(), wanted.len(), "{path}");
+        check_calls(&rt, &calls, path, 0, *reads);
+        for (entry, (name, _)) in entries.iter().zip(*wanted) {
+            assert_eq!(rt; entry.name.as_str(), *name, "{path}");
+            assert!(rt; !entry.is_dir, "{path}");
+        }
+    }
+}
+
 /// A directory of a thousand reads has an end.
 #[test]
 fn a_large_directory_is_listed_whole(rt: HostRuntime) {
@@ -183,6 +203,10 @@ fn a_large_directory_is_listed_whole(rt: HostRuntime) {
         Err(_) => panic!(rt; "the directory is not listed"),
     }
     check_calls(&rt, &calls, "a", 2_000, 1_001);
+    match disk.list_names("a") {
+        Ok(entries) => assert_eq!(rt; entries.len(), 2_000),
+        Err(_) => panic!(rt; "the names are not listed"),
+    }
 }
 
 /// The kind of the error that a listing fails with, and `None` where memory was missing.
@@ -201,15 +225,44 @@ const FAILURES: &[(&str, Option<ErrorKind>)] = &[
     ("fills", None),
 ];
 
+/// Where a listing fails, names alone fail so, but for what only a lookup of an entry meets.
 #[test]
 fn failing_listings(rt: HostRuntime) {
     let calls = Calls::new();
     let mut disk = Disk::new(Written::new(PATHS, &calls), rt.alloc());
     for (path, wanted) in FAILURES {
-        match disk.list(path) {
-            Ok(_) => panic!(rt; "{path}"),
-            Err(ListError::Read(error)) => assert!(rt; Some(error.kind()) == *wanted, "{path}"),
-            Err(ListError::Memory) => assert!(rt; wanted.is_none(), "{path}"),
+        for listed in [disk.list(path), disk.list_names(path)] {
+            match listed {
+                Ok(_) => assert_eq!(rt; *path, "fills"),
+                Err(ListError::Read(error)) => assert!(rt; Some(error.kind()) == *wanted, "{path}"),
+                Err(ListError::Memory) => assert!(rt; wanted.is_none(), "{path}"),
+            }
+        }
+        assert!(rt; disk.list(path).is_err(), "{path}");
+    }
+}
+
+/// The error of a listing is that of the system, with its code and its words.
+#[test]
+fn a_fault_of_a_listing_is_handed_on(rt: HostRuntime) -> Result<(), Fail> {
+    for error in [
+        io::Error::from_raw_os_error(13),
+        io::Error::from_raw_os_error(116),
+        io::Error::new(ErrorKind::InvalidData, "words of its own"),
+    ] {
+        for opening in [true, false] {
+            let calls = Calls::new();
+            let paths = [("a/", Kind::Failing(error, opening))];
+            let mut disk = Disk::new(Written::new(&paths, &calls), rt.alloc());
+            let Err(ListError::Read(found)) = disk.list("a") else {
+                panic!(rt; "{error}");
+            };
+            assert!(rt; found.kind() == error.kind(), "{error}");
+            assert!(rt; found.raw_os_error() == error.raw_os_error(), "{error}");
+            let words = format!(in rt.alloc(); "{found}")?;
+            let wanted = format!(in rt.alloc(); "{error}")?;
+            assert_eq!(rt; words.as_str(), wanted.as_str());
         }
     }
+    Ok(())
 }

@@ -5,6 +5,7 @@ mod looks;
 mod pages;
 mod runs;
 mod told;
+mod writers;
 
 use super::*;
 use runs::{Row, check, check_failing_output, check_rows, check_usage_faults};

@@ -1,15 +1,18 @@
-//! An allocator that counts the requests for memory and the blocks that are held, and refuses a chosen request.
+//! An allocator that counts the requests for memory, their bytes and the blocks that are held, and refuses a chosen
+//! request.
 ghost use Rattle.std.specs.Prelude.{◌≡◌, false, Option, None, Some, ℕ};
 
 use std::alloc::{AllocError, Allocator};
 use std::cell::Cell;
 use std::marker::Model;
 
-/// The number of requests for memory so far, how many blocks were given back, and which request is refused, if any.
+/// The number of requests for memory so far and of their bytes, how many blocks were given back, and which request is
+/// refused, if any.
 #[derive(Drop)]
 pub struct Ration {
     asked: Cell<u64>,
     given_back: Cell<u64>,
+    bytes: Cell<u64>,
     refused: Option<u64>,
 }
 
@@ -28,6 +31,7 @@ impl Ration {
         Ration {
             asked: Cell::new(0),
             given_back: Cell::new(0),
+            bytes: Cell::new(0),
             refused: None,
         }
     }
@@ -40,6 +44,7 @@ impl Ration {
         Ration {
             asked: Cell::new(0),
             given_back: Cell::new(0),
+            bytes: Cell::new(0),
             refused: Some(number),
         }
     }
@@ -47,6 +52,11 @@ impl Ration {
     /// How many requests were counted so far, those that were refused or failed among them.
     pub fn asked(&self) -> u64 {
         self.asked.get()
+    }
+
+    /// How many bytes these requests were for, in total. To grow a block counts with its new size.
+    pub fn bytes(&self) -> u64 {
+        self.bytes.get()
     }
 
     /// How many blocks are held: those that were asked for and not refused, without those that were given back. A
@@ -69,13 +79,14 @@ impl Ration {
         self.given_back.set(number);
     }
 
-    /// Counts a request, and says whether it is the refused one.
-    /// The count stops at `u64::MAX`.
-    pub fn refuses_next(&self) -> bool
+    /// Counts a request for so many bytes, and says whether it is the refused one.
+    /// The counts stop at `u64::MAX`.
+    pub fn refuses_next(&self, size: usize) -> bool
         ensures { self.now ≡ None → result ≡ false }
     {
         let number = self.asked.get().saturating_add(1);
         self.asked.set(number);
+        self.bytes.set(self.bytes.get().saturating_add(size as u64));
         self.refused == Some(number)
     }
 }
@@ -113,7 +124,7 @@ unsafe impl<A: Allocator> Allocator for Rationed<A> {
     ghost dealloc_token = { λ rationed. A.dealloc_token rationed.inner };
 
     fn allocate(&self, size: usize, align: usize) -> Result<*mut u8, AllocError> {
-        if self.ration.refuses_next() {
+        if self.ration.refuses_next(size) {
             return Err(AllocError);
         }
         self.inner.allocate(size, align)
@@ -163,6 +174,7 @@ mod tests {
         assert_eq!(rt; ample.ration.held(), 0);
         let requests = ample.ration.asked();
         assert!(rt; requests > 2);
+        assert!(rt; ample.ration.bytes() >= 80);
 
         for number in 1..=requests {
             let scarce = Rationed::refusing(number, rt.alloc());
@@ -179,6 +191,7 @@ mod tests {
         assert!(rt; sums(&scarce, &[1, 2]).is_err());
         assert_eq!(rt; sums(&scarce, &[1, 2])?.as_slice(), [1, 3].as_slice());
         assert_eq!(rt; scarce.ration.asked(), 2);
+        assert_eq!(rt; scarce.ration.bytes() % 2, 0);
         Ok(())
     }
 }

@@ -1,6 +1,7 @@
 mod chance;
 mod checks;
 mod contents;
+mod costs;
 mod driving;
 mod failing;
 mod files;

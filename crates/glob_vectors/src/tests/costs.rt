@@ -117,6 +117,9 @@ fn most_writes(bytes: usize) -> u64 {
 /// How often memory may be requested: a few times for each doubling of the input and of the output.
 const MOST_REQUESTS: u64 = 64;
 
+/// For how many bytes memory may be requested, beside four times the input and the output, which grow by doubling.
+const MOST_ROOM: u64 = 512 * 1024;
+
 /// Reads and writes are few, and so are the requests for memory.
 fn check_calls(rt: &(impl Abort + AllocGlobal), flow: &Flow) -> Result<(), Fail> {
     let input = text_of(rt, &[(flow.line, flow.lines)])?;
@@ -142,6 +145,10 @@ fn check_calls(rt: &(impl Abort + AllocGlobal), flow: &Flow) -> Result<(), Fail>
     assert!(rt; flow.writes <= writes, "{writes} writes");
     let requests = counted.ration.asked();
     assert!(rt; requests <= MOST_REQUESTS, "{requests} requests");
+    let moved = input.len().saturating_add(written) as u64;
+    let room = moved.saturating_mul(4).saturating_add(MOST_ROOM);
+    let bytes = counted.ration.bytes();
+    assert!(rt; bytes <= room, "{bytes} bytes");
     assert_eq!(rt; counted.ration.held(), 0);
     Ok(())
 }
@@ -194,6 +201,46 @@ const FLOWS: [Flow; 5] = [
 fn many_lines_take_few_calls(rt: HostRuntime) -> Result<(), Fail> {
     for flow in &FLOWS {
         check_calls(&rt, flow)?;
+    }
+    Ok(())
+}
+
+/// A part that is repeated, how many bytes a pattern of it takes at most for each, and besides.
+const ROOMS: [(&str, u64, u64); 5] = [
+    ("a", 110, 0),
+    ("?", 110, 0),
+    ("[a]", 170, 0),
+    ("*a", 300, 4_096),
+    ("**/", 100, 4_096),
+];
+
+#[test]
+fn a_pattern_takes_little_room(rt: HostRuntime) -> Result<(), Fail> {
+    for (part, each, besides) in ROOMS {
+        for times in [1, 10, 63, 64, 1_000] {
+            let text = text_of(&rt, &[(part, times)])?;
+            let counted = Rationed::refusing(0, rt.alloc());
+            Pattern::new(&counted, text.as_str())?;
+            let (requests, bytes) = (counted.ration.asked(), counted.ration.bytes());
+            assert!(rt; requests <= 9, "{requests} requests for {part}");
+            let most = each.saturating_mul(times as u64).saturating_add(besides);
+            assert!(rt; bytes <= most, "{bytes} bytes for {times} times {part}");
+        }
+    }
+    Ok(())
+}
+
+/// An escaped text takes one request, of its length.
+#[test]
+fn an_escaped_text_takes_its_room(rt: HostRuntime) -> Result<(), Fail> {
+    for part in ["a", "?", "[]", "a*", "\u{e9}"] {
+        for times in [1, 10, 1_000] {
+            let text = text_of(&rt, &[(part, times)])?;
+            let counted = Rationed::refusing(0, rt.alloc());
+            let escaped = Pattern::escape(&counted, text.as_str())?;
+            assert_eq!(rt; counted.ration.asked(), 1, "{part}");
+            assert_eq!(rt; counted.ration.bytes(), escaped.len() as u64, "{part}");
+        }
     }
     Ok(())
 }

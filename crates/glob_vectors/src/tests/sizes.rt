@@ -177,8 +177,13 @@ fn patterns_of_1_024(rt: HostRuntime) -> Result<(), Fail> {
 }
 
 #[test]
+fn patterns_of_8_192(rt: HostRuntime) -> Result<(), Fail> {
+    check_patterns(&rt, SQUARE.saturating_add(1), 8_193)
+}
+
+#[test]
 fn patterns_of_32_768(rt: HostRuntime) -> Result<(), Fail> {
-    check_patterns(&rt, SQUARE.saturating_add(1), 32_769)
+    check_patterns(&rt, 16_383, 32_769)
 }
 
 #[test]

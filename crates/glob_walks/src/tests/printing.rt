@@ -112,14 +112,14 @@ fn unreadable_directories(rt: HostRuntime) -> Result<(), Fail> {
 #[test]
 fn refusals(rt: HostRuntime) -> Result<(), Fail> {
     let error = last_error(&rt, LyingTree::new(NoMemory), Job::of("a"))?;
-    assert!(rt; error.error().kind() == ErrorKind::OutOfMemory);
+    check_same(&rt, *error.error(), io::Error::from(ErrorKind::OutOfMemory))?;
     check_printed(&rt, error, "out of memory")?;
     let long = repeated(&rt, "\u{e9}", 20_000)?;
     for (pattern, limit, path) in [("a", 0, "."), (long.as_str(), 1, long.as_str())] {
         let endless = LyingTree::new(Endless { alloc: rt.alloc() });
         let error = last_error(&rt, endless, Job::of(pattern).within(limit))?;
         assert!(rt; error.path().as_str() == path);
-        assert!(rt; error.error().kind() == ErrorKind::Other);
+        check_same(&rt, *error.error(), io::Error::other("walk limit reached"))?;
         check_printed(&rt, error, "walk limit reached")?;
     }
     Ok(())

@@ -63,7 +63,7 @@ fn check_name(rt: &(impl Abort + AllocGlobal), name: &str) -> Result<(), Fail> {
 /// as the list has three sizes for each power.
 #[test]
 fn names(rt: HostRuntime) -> Result<(), Fail> {
-    for (place, size) in sizes_to(&rt, 17)?.iter().enumerate() {
+    for (place, size) in sizes_to(&rt, 12)?.iter().enumerate() {
         let name = repeated(&rt, CHARACTERS[place % 4], (*size).max(1))?;
         check_name(&rt, name.as_str())?;
     }
@@ -88,7 +88,7 @@ fn check_at_once<T: Tree<Alloc = Global>>(
 /// Directories of so many files, with none as well.
 #[test]
 fn entries(rt: HostRuntime) -> Result<(), Fail> {
-    for size in sizes_to(&rt, 15)? {
+    for size in sizes_to(&rt, 10)? {
         let files = u32::try_from(size)?;
         let Ok(ready) = Ready::files(rt.alloc(), files) else {
             panic!(rt; "out of memory");

@@ -2,6 +2,7 @@
 --     Wrapped, Held      the handle's row, and what a `&` to a ration holds
 --     Asks, at_asks, asks-goes, asks-gives      `refuses_next` at its call: its contract, what it is handed, and what it leaves, a `bool` and the token
 use Rattle.std.proofs.Common.{◌≡◌, ℕ, ◌+◌, Bool, true, false, Option, None, List, [], ◌∷◌, Ok, Err, refl, ap, w64}
+use Prim.Native.Nat.{◌<◌, ◌^◌}
 use seplogic.Ra.Ura.{Ura}
 use mir.Syntax.{Args, Fn, a_type, dnil, dcons}
 use mir.Val.{Val, vbool, vint, vptr}
@@ -15,7 +16,7 @@ use contract.BorrowLft.{◌⊑◌, ⊑_trans}
 use contract.Monad.{Fun, fact}
 use contract.Running.{tables, tables_of}
 use sound.WpLaws.{fm_of}
-use types.Kit.{Item, ‵, raw, ◌⊛◌, some, later, given, at_ret, ⋆, ◌$◌, ◌∵◌, !, qed, by, move, keep, use0, use1, use2, split, join, pick, learn, fsplit, fjoin, feq_i, feq_l, check, show, await, updating, now as at_once, done}
+use types.Kit.{Item, ‵, raw, ◌⊛◌, some, later, given, at_ret, ⋆, ◌$◌, ◌∵◌, !, qed, by, move, keep, use0, use1, use2, split, join, pick, learn, fsplit, fjoin, feq_i, feq_l, flt_i, check, show, await, updating, now as at_once, done}
 use types.Run.{stop, fld, addr, lit, no_more, and_then, first, branches, skips, exec, returns, returns_within, enter}
 use types.ByLocal.{alloc_all, pass_all, free_all, look_at, get, through, sets, lands_as, env}
 use types.Part.{agg}
@@ -59,19 +60,20 @@ module _ {M : Type 1} {𝓤 : Ura M} (𝓛 : Logic 𝓤) (at_mem : Memory → SP
   abbrev Asks : Contract 𝓤
   Asks = triple_of 𝓛 asks.signature (asks.spec 𝓛 at_mem run)
 
-  module _ (κ : Lft) (q : Share) (p : ℕ × ℕ) (refused : Option ℕ) where
+  module _ (κ : Lft) (q : Share) (p : ℕ × ℕ) (refused : Option ℕ) (n : ℕ) where
     abbrev at_asks : Asks.Ghost
-    at_asks = (((κ, tt), (q, tt), tt, (record { ref_ptr = p; now = refused }, tt), (vptr p.0 p.1 ∷ [], tt)), tt)
+    at_asks = (((κ, tt), (q, tt), tt, (record { ref_ptr = p; now = refused }, (n, tt)), (vptr p.0 p.1 ∷ [], (vint w64 n ∷ [], tt))), tt)
 
-    asks-goes : ent 𝓤 (sep 𝓤 (sem 𝓛 (Held κ p refused)) (A.lft κ q)) (Asks.pre at_asks)
-    asks-goes = qed 𝓛 (‵ (Held κ p refused) ∷ ‵ (flft κ q) ∷ []) ∵
-        feq_i ! (List Val) (vptr p.0 p.1 ∷ []) (vptr p.0 p.1 ∷ []) refl $ fjoin ! $ nothing ! $ move ! (1 ∷ 0 ∷ []) $ fjoin ! $
-        nothing ! $ move ! (2 ∷ 0 ∷ []) $ join ! $ join ! $ nothing ! $ move ! (1 ∷ 0 ∷ []) $ done !
+    asks-goes : n < 2 ^ 64 → ent 𝓤 (sep 𝓤 (sem 𝓛 (Held κ p refused)) (A.lft κ q)) (Asks.pre at_asks)
+    asks-goes fits = qed 𝓛 (‵ (Held κ p refused) ∷ ‵ (flft κ q) ∷ []) ∵
+        nothing ! $ flt_i ! n (2 ^ 64) fits $ feq_i ! (List Val) (vint w64 n ∷ []) (vint w64 n ∷ []) refl $ fjoin ! $ fjoin ! $
+        move ! (1 ∷ []) $ feq_i ! (List Val) (vptr p.0 p.1 ∷ []) (vptr p.0 p.1 ∷ []) refl $ fjoin ! $ fjoin ! $
+        nothing ! $ move ! (2 ∷ 0 ∷ []) $ join ! $ join ! $ nothing ! $ move ! (1 ∷ 0 ∷ []) $ join ! $ done !
 
     asks-gives : (v : Val) → ent 𝓤 (Asks.post at_asks v) (H.⇛ (ex 𝓤 (λ (y : Bool). guard 𝓤 (v ≡ vbool y) (A.lft κ q))))
     asks-gives v = qed 𝓛 (raw (Asks.post at_asks v) ∷ []) ∵ updating ! $
         use1 𝓛 (later (some (λ (y : Bool). ((‵ (flft κ q) ⊛ ‵ ftrue) ⊛ ‵ (bool.own_val y (v ∷ [])))
-        ⊛ some (λ (ws : Unit {0} × Unit {0}). ‵ (fsep ftrue ftrue) ⊛ given (refused ≡ None → y ≡ false) (‵ ftrue))))) (id⊢ 𝓤 _) $ await ! tt $ pick ! (λ y.
+        ⊛ some (λ (ws : Unit {0} × (Unit {0} × Unit {0})). ‵ (fsep ftrue (fsep ftrue ftrue)) ⊛ given (refused ≡ None → y ≡ false) (‵ ftrue))))) (id⊢ 𝓤 _) $ await ! tt $ pick ! (λ y.
         split ! $ split ! $ move ! (1 ∷ []) $ feq_l ! (λ e. split ! $ at_once ! $ show ! (λ (z : Bool). guard 𝓤 (v ≡ vbool z) (A.lft κ q)) y $ check ! (ap only e) $ keep ! (0 ∷ []) $ done !))
 
 pub allocate_spec : {M : Type 1} → statement M
@@ -88,11 +90,11 @@ allocate_spec 𝓤 𝓛 𝓜 𝓡 wired Y L g d d' met _ =
     (λ κs. (shr_vals, (uint_vals w64, (uint_vals w64, tt)))) (λ κs. ((λ r vs s. s.0), (uint_Tells w64, (uint_Tells w64, tt))))
     (λ κs qs bounds a τ are.
     let r = a.0 in let n = a.1.0 in let al = a.1.1.0 in let h : Y.Denot = r.now.inner in let κ : Lft = κs.0 in let κ' : Lft = κs.1.0 in let q : Share = qs.0 in
-    let counter : ℕ × ℕ = (r.ref_ptr.0, r.ref_ptr.1 + 0) in let inner : ℕ × ℕ = (r.ref_ptr.0, r.ref_ptr.1 + up (align (α Z)) 32) in
+    let counter : ℕ × ℕ = (r.ref_ptr.0, r.ref_ptr.1 + 0) in let inner : ℕ × ℕ = (r.ref_ptr.0, r.ref_ptr.1 + up (align (α Z)) 40) in
     let z : (walk_of 𝓛 En hs c).Ghost = ((κs, qs, bounds, a, (shr_vals r, (vint w64 n ∷ [], (vint w64 al ∷ [], tt)))), τ) in
     let Post : Val → SProp 𝓤 = (walk_of 𝓛 En hs c).post z in
     let Said : Type 0 = (capped (size τ) ≡ n) × (capped (align τ) ≡ al) in
-    let Asked = Asks 𝓛 𝓜.mem 𝓡.returns in let asked : Asked.Ghost = at_asks 𝓛 𝓜.mem 𝓡.returns κ q counter r.now.ration in
+    let Asked = Asks 𝓛 𝓜.mem 𝓡.returns in let asked : Asked.Ghost = at_asks 𝓛 𝓜.mem 𝓡.returns κ q counter r.now.ration n in
     let Taken = Takes Z 𝓛 𝓜.mem 𝓡.returns in let taken : Taken.Ghost = at_takes Z 𝓛 𝓜.mem 𝓡.returns κ q inner h n al τ in
     let Tokens : SProp 𝓤 = alive 𝓛 En.signature κs qs in let Rest : Item 𝓤 = ‵ (flft κ' qs.1.0) ⊛ ‵ ftrue in
     let ends : (v : Val) (y : Answer.Denot) → ent 𝓤 (⋆ 𝓛 (‵ (Answer.own_val y (v ∷ [])) ∷ ‵ (block_if_ok (token Z h) τ y) ∷ raw Tokens ∷ [])) (Post v) = λ v y.
@@ -105,9 +107,9 @@ allocate_spec 𝓤 𝓛 𝓜 𝓡 wired Y L g d d' met _ =
     -- [the ration; the token of κ; the inner allocator; the other token]
     enter ! _ _ _ _ _ $ alloc_all ! (λ l. pass_all ! refl ((tt, tt), ((tt, record { fits = are.1.0.1 }), ((tt, record { fits = are.1.1.0.1 }), tt))) $
     sets ! (addr ! (through ! refl (fld ! refl (stop !)))) refl (tt, tt) $
-    use2 𝓛 (raw (Asked.pre asked)) (asks-goes 𝓛 𝓜.mem 𝓡.returns κ q counter r.now.ration) $
-    calls_at ! fm Asked (asks_met.met 𝓤 𝓛 𝓜 𝓡 (code.calls-glob_testing::rationing::Ration::refuses_next 𝓡.env wired)) asked (and_then ! (get ! refl) (no_more !)) (λ u.
-    use1 𝓛 (later (some (λ (y : Bool). given (u ≡ vbool y) (‵ (flft κ q))))) (asks-gives 𝓛 𝓜.mem 𝓡.returns κ q counter r.now.ration u) $ await ! tt $ pick ! (λ y. learn ! (λ is. lands_as ! is refl (tt, tt) $
+    use2 𝓛 (raw (Asked.pre asked)) (asks-goes 𝓛 𝓜.mem 𝓡.returns κ q counter r.now.ration n are.1.0.1) $
+    calls_at ! fm Asked (asks_met.met 𝓤 𝓛 𝓜 𝓡 (code.calls-glob_testing::rationing::Ration::refuses_next 𝓡.env wired)) asked (and_then ! (get ! refl) (and_then ! (get ! refl) (no_more !))) (λ u.
+    use1 𝓛 (later (some (λ (y : Bool). given (u ≡ vbool y) (‵ (flft κ q))))) (asks-gives 𝓛 𝓜.mem 𝓡.returns κ q counter r.now.ration n u) $ await ! tt $ pick ! (λ y. learn ! (λ is. lands_as ! is refl (tt, tt) $
     first ! $ branches ! (get ! refl)
     (λ _. move ! (0 ∷ 2 ∷ []) $ join ! $ sets ! (agg ! (no_more !)) refl (tt, tt) $ sets ! (agg ! (and_then ! (lit ! tt) (and_then ! (get ! refl) (no_more !)))) refl (Answer-typed false 0 0) $
     returns_within ! Post refl (look_at ! 0 refl) $ free_all ! refl $ nothing ! $

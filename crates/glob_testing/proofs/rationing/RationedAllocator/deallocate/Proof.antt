@@ -89,7 +89,7 @@ deallocate_spec 𝓤 𝓛 𝓜 𝓡 wired Y L g d d' met _ =
     (λ κs. (shr_vals, (rawptr_vals, (uint_vals w64, (uint_vals w64, tt))))) (λ κs. ((λ r vs s. s.0), (rawptr_Tells, (uint_Tells w64, (uint_Tells w64, tt)))))
     (λ κs qs bounds a τ are.
     let r = a.0 in let n = a.1.1.0 in let al = a.1.1.1.0 in let h : Y.Denot = r.now.inner in let κ : Lft = κs.0 in let κ' : Lft = κs.1.0 in let q : Share = qs.0 in
-    let counter : ℕ × ℕ = (r.ref_ptr.0, r.ref_ptr.1 + 0) in let inner : ℕ × ℕ = (r.ref_ptr.0, r.ref_ptr.1 + up (align (α Z)) 32) in
+    let counter : ℕ × ℕ = (r.ref_ptr.0, r.ref_ptr.1 + 0) in let inner : ℕ × ℕ = (r.ref_ptr.0, r.ref_ptr.1 + up (align (α Z)) 40) in
     let vs : Ptr → List Val = λ x. vptr r.ref_ptr.0 r.ref_ptr.1 ∷ ptr_val x ∷ vint w64 n ∷ vint w64 al ∷ [] in
     let z : Ptr → (walk_of 𝓛 En hs c).Ghost = λ x. ((κs, qs, bounds, (r, (x, (n, (al, tt)))), (shr_vals r, (rawptr_vals x, (vint w64 n ∷ [], (vint w64 al ∷ [], tt))))), τ) in
     let Post : Ptr → Val → SProp 𝓤 = λ x. (walk_of 𝓛 En hs c).post (z x) in
