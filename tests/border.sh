@@ -32,15 +32,32 @@ has() {
     command -v "$1" >/dev/null
 }
 
+# The symbols of the library have one prefix.
+one_prefix() {
+    nm -g --defined-only "$CADMIUMDOVE_LIBRARY/libcadmiumdove.a" >"$work/symbols" &&
+        grep -q ' T cadmiumdove_pattern_new$' "$work/symbols" && ! grep -E ' [A-Z] ' "$work/symbols" | grep -v ' T cadmiumdove_'
+}
+
+# build OUT SOURCE OPTION..: builds a program in C that calls the library
+build() {
+    local out=$1 source=$2
+    shift 2
+    "$@" -std=c11 -Wall -Wextra -pedantic -Werror -g -I "$root/include" "$source" \
+        "$CADMIUMDOVE_LIBRARY/libcadmiumdove.a" -Wl,--wrap=malloc,--wrap=realloc,--wrap=free -o "$out"
+}
+
 calls_from_c() {
-    has cc || { left_out "calls from C, since there is no cc"; return; }
-    check 'C is compiled' cc -std=c11 -Wall -Wextra -Werror -g -I "$root/include" "$root/tests/border/calls.c" \
-        "$CADMIUMDOVE_LIBRARY/libcadmiumdove.a" -Wl,--wrap=malloc,--wrap=realloc,--wrap=free -o "$work/calls"
-    if has valgrind; then
-        check 'calls from C, under valgrind' valgrind -q --leak-check=full --error-exitcode=9 "$work/calls"
-    else
-        check 'calls from C, without valgrind' "$work/calls"
-    fi
+    local cc
+    check 'one prefix' one_prefix
+    for cc in gcc clang; do
+        has "$cc" || { left_out "calls from C by $cc"; continue; }
+        check "C is compiled by $cc" build "$work/calls" "$root/tests/border/calls.c" "$cc"
+        if has valgrind; then
+            check "calls from C by $cc, under valgrind" valgrind -q --leak-check=full --error-exitcode=9 "$work/calls"
+        else
+            check "calls from C by $cc, without valgrind" "$work/calls"
+        fi
+    done
 }
 
 # the folder of the crate's sources

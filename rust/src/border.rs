@@ -21,13 +21,17 @@ const MESSAGES: [&str; 3] = [
     "invalid range pattern",
 ];
 
-/// `struct glob_pattern`.
+/// The flag for a text that is known to be UTF-8.
+const IS_UTF8: u32 = 8;
+
+/// `struct cadmiumdove_pattern`.
 #[repr(C)]
 struct Handle {
     at: *mut u8,
+    full: bool,
 }
 
-/// `struct glob_fault`.
+/// `struct cadmiumdove_fault`.
 #[repr(C)]
 struct Fault {
     place: usize,
@@ -35,43 +39,48 @@ struct Fault {
 }
 
 extern "C" {
-    fn glob_pattern_new(slot: &mut Handle, pattern: *const u8, length: usize, fault: &mut Fault) -> u32;
-    fn glob_pattern_matches_text(slot: &mut Handle, text: *const u8, length: usize, flags: u32) -> u32;
-    fn glob_pattern_escape(text: *const u8, length: usize, out: *mut u8, room: usize, needed: &mut usize) -> u32;
-    fn glob_pattern_free(slot: &mut Handle);
+    fn cadmiumdove_pattern_new(handle: &mut Handle, pattern: *const u8, length: usize, fault: &mut Fault) -> u32;
+    fn cadmiumdove_pattern_matches_at(at: *const u8, text: *const u8, length: usize, flags: u32) -> u32;
+    fn cadmiumdove_pattern_escape(text: *const u8, length: usize, out: *mut u8, room: usize, needed: &mut usize)
+        -> u32;
+    fn cadmiumdove_pattern_free(handle: &mut Handle);
 }
 
-/// A slot that has a pattern, from when it is made until it is dropped.
-///
-/// Each call takes the slot by `&mut`, so one call at a time has it.
+/// A handle that has a pattern, from when it is made until it is dropped.
 pub(crate) struct Slot {
     handle: Handle,
     /// Neither `Send` nor `Sync` but as is written below.
     owns: PhantomData<*mut u8>,
 }
 
-// SAFETY: `crates/glob_c` proves that its slot is `Send`. What Rust moves to another thread it orders by that thread's
-// start, a lock or a channel.
+// SAFETY: `crates/glob_c` proves that what a handle has is `Send`. What Rust moves to another thread it orders by that
+// thread's start, a lock or a channel.
 unsafe impl Send for Slot {}
+
+// SAFETY: a match takes the pattern as a `&` does, by the contract of `cadmiumdove_pattern_matches_at`.
+unsafe impl Sync for Slot {}
 
 impl Slot {
     pub(crate) fn new(pattern: &str) -> Result<Slot, PatternError> {
-        let mut handle = Handle { at: ptr::null_mut() };
+        let mut handle = Handle { at: ptr::null_mut(), full: false };
         let mut fault = Fault { place: 0, message: 0 };
-        // SAFETY: the slot is empty, and the pointer and the length are those of one `&str`.
-        let answer = unsafe { glob_pattern_new(&mut handle, pattern.as_ptr(), pattern.len(), &mut fault) };
+        // SAFETY: the handle is empty, and the pointer and the length are those of one `&str`.
+        let answer = unsafe { cadmiumdove_pattern_new(&mut handle, pattern.as_ptr(), pattern.len(), &mut fault) };
         match answer {
             DONE => Ok(Slot { handle, owns: PhantomData }),
             SYNTAX_FAULT => Err(PatternError { pos: fault.place, msg: MESSAGES[fault.message as usize] }),
-            // A `&str` is UTF-8, so no other answer is left.
+            // A `&str` is UTF-8, and the handle was empty, so no other answer is left.
             _ => out_of_memory(),
         }
     }
 
     #[inline]
-    pub(crate) fn matches(&mut self, text: &str, flags: u32) -> bool {
-        // SAFETY: the slot has a pattern, and the pointer and the length are those of one `&str`, which is UTF-8.
-        let answer = unsafe { glob_pattern_matches_text(&mut self.handle, text.as_ptr(), text.len(), flags) };
+    pub(crate) fn matches(&self, text: &str, flags: u32) -> bool {
+        // SAFETY: the handle has a pattern, which is freed only once no `&self` is left, and the pointer and the length
+        // are those of one `&str`, which is UTF-8.
+        let answer = unsafe {
+            cadmiumdove_pattern_matches_at(self.handle.at, text.as_ptr(), text.len(), flags | IS_UTF8)
+        };
         match answer {
             NO => false,
             YES => true,
@@ -82,8 +91,8 @@ impl Slot {
 
 impl Drop for Slot {
     fn drop(&mut self) {
-        // SAFETY: the slot has a pattern, and nothing uses it after this.
-        unsafe { glob_pattern_free(&mut self.handle) }
+        // SAFETY: nothing uses the handle after this.
+        unsafe { cadmiumdove_pattern_free(&mut self.handle) }
     }
 }
 
@@ -94,7 +103,7 @@ pub(crate) fn escape(text: &str) -> String {
     let mut needed = 0;
     // SAFETY: the pointers and lengths are those of one `&str` and of one `Vec<u8>`.
     let answer = unsafe {
-        glob_pattern_escape(text.as_ptr(), text.len(), bytes.as_mut_ptr(), bytes.len(), &mut needed)
+        cadmiumdove_pattern_escape(text.as_ptr(), text.len(), bytes.as_mut_ptr(), bytes.len(), &mut needed)
     };
     if answer == OUT_OF_MEMORY {
         out_of_memory()

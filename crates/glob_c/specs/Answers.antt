@@ -23,6 +23,14 @@ not_utf8 = 3
 abbrev pub too_short : ℕ
 too_short = 4
 
+-- a flag has no meaning
+abbrev pub unknown_flag : ℕ
+unknown_flag = 5
+
+-- the handle is not empty
+abbrev pub in_use : ℕ
+in_use = 6
+
 -- the text does not match
 abbrev pub no : ℕ
 no = 0

@@ -1,4 +1,5 @@
 pub mod Answers
 pub mod Escaped
+pub mod Matches
 pub mod Refusals
 pub mod Slots

@@ -3,6 +3,7 @@
 
 mod escape;
 mod fault;
+mod handle;
 mod loose;
 mod pattern;
 mod slot;
