@@ -1,4 +1,5 @@
-/* Unix shell patterns, matched by a library whose every function is proved (crates/glob_c), for Linux on x86-64-v2.
+/* Unix shell patterns, matched and walked by a library whose every function is proved (crates/glob_c), for Linux on
+ * x86-64-v2.
  *
  *     #include <stdio.h>
  *     #include <string.h>
@@ -135,6 +136,83 @@ uint32_t cadmiumdove_pattern_escape(const char *text, size_t length, char *out, 
 
 /* Frees the pattern, if there is one, and leaves `pattern` empty. */
 void cadmiumdove_pattern_free(struct cadmiumdove_pattern *pattern);
+
+/* Where a walk is kept. `{0}` is an empty one. */
+struct cadmiumdove_walk {
+    void *at;
+    bool full;
+};
+
+/* What a walk does next. */
+enum cadmiumdove_step {
+    CADMIUMDOVE_LOOK = 0,       /* it asks what the path leads to: cadmiumdove_walk_looked answers */
+    CADMIUMDOVE_LIST = 1,       /* it asks for the entries of the directory at the path */
+    CADMIUMDOVE_LIST_NAMES = 2, /* the same, where `is_dir` may be false at each entry */
+    CADMIUMDOVE_PATH = 3,       /* the path is found */
+    CADMIUMDOVE_UNREAD = 4,     /* the directory at the path could not be listed; the walk goes on */
+    CADMIUMDOVE_LIMIT = 5,      /* the limit is reached; only CADMIUMDOVE_END follows */
+    CADMIUMDOVE_MEMORY = 6,     /* an allocation failed; only CADMIUMDOVE_END follows */
+    CADMIUMDOVE_END = 8         /* nothing is left */
+};
+
+/* What cadmiumdove_walk_looked says of a path. A symbolic link is what it leads to, and OTHER if it leads nowhere. */
+enum cadmiumdove_look {
+    CADMIUMDOVE_DIRECTORY = 0,
+    CADMIUMDOVE_OTHER = 1,
+    CADMIUMDOVE_MISSING = 2
+};
+
+/* What the answers of a walk return, besides DONE, OUT_OF_MEMORY, NOT_UTF8 and EMPTY. */
+enum cadmiumdove_refusal {
+    CADMIUMDOVE_NOT_ASKED = 9, /* the walk did not ask that; nothing has changed */
+    CADMIUMDOVE_NO_NAME = 10   /* empty, `.`, `..`, or with `/` or NUL; nothing has changed */
+};
+
+/* Begins a walk after a pattern, from the root if it begins with `/`, and else from the current directory, with at most
+ * `limit` units of work: one for each question and for each entry. The answer is that of cadmiumdove_pattern_new, or
+ * UNKNOWN_FLAG. It reads no file: the caller answers its questions, as from a file system or an archive.
+ *
+ *     while ((step = cadmiumdove_walk_next(&walk)) != CADMIUMDOVE_END) {
+ *         cadmiumdove_walk_path(&walk, path, sizeof path - 1, &length);
+ *         path[length] = 0;
+ *         if (step == CADMIUMDOVE_LOOK)
+ *             cadmiumdove_walk_looked(&walk, look(path));
+ *         else if (step == CADMIUMDOVE_LIST || step == CADMIUMDOVE_LIST_NAMES)
+ *             list(&walk, path);
+ *         else if (step == CADMIUMDOVE_PATH)
+ *             puts(path);
+ *     }
+ *
+ * Its items are those that are written down for its pattern as long as each answer is that of one tree. Whatever is
+ * answered, it keeps its limit, and so it ends. examples/find.c has `look` and `list`. */
+uint32_t cadmiumdove_walk_new(struct cadmiumdove_walk *walk, const char *pattern, size_t length, uint32_t flags,
+                              uint64_t limit, struct cadmiumdove_fault *fault);
+
+/* Goes on to the next step, with what was answered since the last. A question that was not answered in full is asked
+ * again, and what was answered of it is forgotten. The answer is a step, or EMPTY. */
+uint32_t cadmiumdove_walk_next(struct cadmiumdove_walk *walk);
+
+/* Writes the path of the last step to `out`, which has room for `room` bytes, and its length to `needed`. No zero byte
+ * follows it. The answer is DONE, EMPTY, or TOO_SHORT, and then `needed` is the room that suffices.
+ * The caller owes: `out` and `needed` do not overlap. */
+uint32_t cadmiumdove_walk_path(struct cadmiumdove_walk *walk, char *out, size_t room, size_t *needed);
+
+/* Answers CADMIUMDOVE_LOOK: DONE, EMPTY or NOT_ASKED. */
+uint32_t cadmiumdove_walk_looked(struct cadmiumdove_walk *walk, uint32_t look);
+
+/* Answers CADMIUMDOVE_LIST or CADMIUMDOVE_LIST_NAMES by one entry more, in any order: DONE, OUT_OF_MEMORY, NOT_UTF8, EMPTY,
+ * NOT_ASKED or NO_NAME. `is_dir` is also true of a symbolic link to a directory. */
+uint32_t cadmiumdove_walk_entry(struct cadmiumdove_walk *walk, const char *name, size_t length, bool is_dir);
+
+/* Says that the entries were all: DONE, EMPTY or NOT_ASKED. */
+uint32_t cadmiumdove_walk_listed(struct cadmiumdove_walk *walk);
+
+/* Says that the directory could not be listed, for the reason of `code`, as errno has it: DONE, EMPTY or NOT_ASKED. The
+ * next step is then CADMIUMDOVE_UNREAD. */
+uint32_t cadmiumdove_walk_unread(struct cadmiumdove_walk *walk, int32_t code);
+
+/* Ends the walk, if there is one, and leaves `walk` empty. It may be in the middle. */
+void cadmiumdove_walk_free(struct cadmiumdove_walk *walk);
 
 #ifdef __cplusplus
 }

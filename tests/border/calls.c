@@ -172,6 +172,128 @@ static int memory(void) {
     return 0;
 }
 
+/* Answers as a tree of a directory `d` with a file `x`, and of a directory `shut` that cannot be listed, until the walk
+ * ends or an answer is refused. */
+static uint32_t drive(struct cadmiumdove_walk *walk, int *found, int *unread) {
+    char path[64];
+    size_t length;
+    uint32_t step, answer = CADMIUMDOVE_DONE;
+    while ((step = cadmiumdove_walk_next(walk)) != CADMIUMDOVE_END && step != CADMIUMDOVE_EMPTY) {
+        if (cadmiumdove_walk_path(walk, path, sizeof path - 1, &length) != CADMIUMDOVE_DONE)
+            return 100;
+        path[length] = 0;
+        if (step == CADMIUMDOVE_LOOK)
+            answer = cadmiumdove_walk_looked(walk, strchr(path, 'x') ? CADMIUMDOVE_OTHER : CADMIUMDOVE_DIRECTORY);
+        else if (step == CADMIUMDOVE_PATH)
+            ++*found;
+        else if (step == CADMIUMDOVE_UNREAD)
+            ++*unread;
+        else if (step == CADMIUMDOVE_MEMORY || step == CADMIUMDOVE_LIMIT)
+            answer = step;
+        else if (strstr(path, "shut"))
+            answer = cadmiumdove_walk_unread(walk, 13);
+        else if (!strcmp(path, ".")) {
+            answer = cadmiumdove_walk_entry(walk, "shut", 4, true);
+            if (answer == CADMIUMDOVE_DONE)
+                answer = cadmiumdove_walk_entry(walk, "d", 1, true);
+            if (answer == CADMIUMDOVE_DONE)
+                answer = cadmiumdove_walk_listed(walk);
+        } else {
+            answer = cadmiumdove_walk_entry(walk, "x", 1, false);
+            if (answer == CADMIUMDOVE_DONE)
+                answer = cadmiumdove_walk_listed(walk);
+        }
+        if (answer != CADMIUMDOVE_DONE)
+            return answer;
+    }
+    return step;
+}
+
+static uint32_t begin(struct cadmiumdove_walk *walk, const char *pattern, uint64_t limit) {
+    struct cadmiumdove_fault fault;
+    return cadmiumdove_walk_new(walk, pattern, strlen(pattern), 0, limit, &fault);
+}
+
+static int walking(void) {
+    struct cadmiumdove_walk walk = {0};
+    struct cadmiumdove_fault fault = {7, 7};
+    int found = 0, unread = 0;
+    CHECK(begin(&walk, "*/*", 1000) == CADMIUMDOVE_DONE);
+    CHECK(begin(&walk, "*", 1) == CADMIUMDOVE_IN_USE);
+    CHECK(drive(&walk, &found, &unread) == CADMIUMDOVE_END && found == 1 && unread == 1);
+    CHECK(cadmiumdove_walk_next(&walk) == CADMIUMDOVE_END);
+    cadmiumdove_walk_free(&walk);
+    cadmiumdove_walk_free(&walk);
+    CHECK(cadmiumdove_walk_next(&walk) == CADMIUMDOVE_EMPTY);
+    CHECK(begin(&walk, "**", 0) == CADMIUMDOVE_DONE);
+    CHECK(drive(&walk, &found, &unread) == CADMIUMDOVE_LIMIT);
+    CHECK(cadmiumdove_walk_next(&walk) == CADMIUMDOVE_END);
+    cadmiumdove_walk_free(&walk);
+    CHECK(cadmiumdove_walk_new(&walk, "d/a**", 5, 0, 9, &fault) == CADMIUMDOVE_SYNTAX_FAULT);
+    CHECK(fault.place == 2 && fault.message == CADMIUMDOVE_RECURSIVE);
+    CHECK(cadmiumdove_walk_new(&walk, "a", 1, 8, 9, &fault) == CADMIUMDOVE_UNKNOWN_FLAG);
+    CHECK(cadmiumdove_walk_new(&walk, "\xff", 1, 0, 9, &fault) == CADMIUMDOVE_NOT_UTF8);
+    return 0;
+}
+
+/* A driver that answers what was not asked, or not in full, and stops in the middle. */
+static int wrong_answers(void) {
+    struct cadmiumdove_walk walk = {0};
+    char path[2];
+    size_t length = 0;
+    CHECK(cadmiumdove_walk_looked(&walk, 0) == CADMIUMDOVE_EMPTY);
+    CHECK(cadmiumdove_walk_entry(&walk, "x", 1, false) == CADMIUMDOVE_EMPTY);
+    CHECK(cadmiumdove_walk_listed(&walk) == CADMIUMDOVE_EMPTY);
+    CHECK(cadmiumdove_walk_unread(&walk, 1) == CADMIUMDOVE_EMPTY);
+    CHECK(cadmiumdove_walk_path(&walk, path, 1, &length) == CADMIUMDOVE_EMPTY);
+    CHECK(begin(&walk, "*", 1000) == CADMIUMDOVE_DONE);
+    CHECK(cadmiumdove_walk_looked(&walk, 0) == CADMIUMDOVE_NOT_ASKED);
+    CHECK(cadmiumdove_walk_next(&walk) == CADMIUMDOVE_LOOK);
+    CHECK(cadmiumdove_walk_path(&walk, path, 0, &length) == CADMIUMDOVE_TOO_SHORT && length == 1);
+    CHECK(cadmiumdove_walk_entry(&walk, "x", 1, false) == CADMIUMDOVE_NOT_ASKED);
+    CHECK(cadmiumdove_walk_listed(&walk) == CADMIUMDOVE_NOT_ASKED);
+    CHECK(cadmiumdove_walk_unread(&walk, 1) == CADMIUMDOVE_NOT_ASKED);
+    CHECK(cadmiumdove_walk_next(&walk) == CADMIUMDOVE_LOOK);
+    CHECK(cadmiumdove_walk_looked(&walk, CADMIUMDOVE_DIRECTORY) == CADMIUMDOVE_DONE);
+    CHECK(cadmiumdove_walk_next(&walk) == CADMIUMDOVE_LIST_NAMES);
+    CHECK(cadmiumdove_walk_looked(&walk, 0) == CADMIUMDOVE_NOT_ASKED);
+    CHECK(cadmiumdove_walk_entry(&walk, "forgotten", 9, false) == CADMIUMDOVE_DONE);
+    CHECK(cadmiumdove_walk_next(&walk) == CADMIUMDOVE_LIST_NAMES);
+    CHECK(cadmiumdove_walk_entry(&walk, "..", 2, true) == CADMIUMDOVE_NO_NAME);
+    CHECK(cadmiumdove_walk_entry(&walk, "a/b", 3, true) == CADMIUMDOVE_NO_NAME);
+    CHECK(cadmiumdove_walk_entry(&walk, "", 0, true) == CADMIUMDOVE_NO_NAME);
+    CHECK(cadmiumdove_walk_entry(&walk, "\xff", 1, true) == CADMIUMDOVE_NOT_UTF8);
+    CHECK(cadmiumdove_walk_entry(&walk, "y", 1, false) == CADMIUMDOVE_DONE);
+    CHECK(cadmiumdove_walk_entry(&walk, "x", 1, true) == CADMIUMDOVE_DONE);
+    CHECK(cadmiumdove_walk_listed(&walk) == CADMIUMDOVE_DONE);
+    CHECK(cadmiumdove_walk_entry(&walk, "z", 1, true) == CADMIUMDOVE_NOT_ASKED);
+    CHECK(cadmiumdove_walk_listed(&walk) == CADMIUMDOVE_NOT_ASKED);
+    CHECK(cadmiumdove_walk_next(&walk) == CADMIUMDOVE_PATH);
+    CHECK(cadmiumdove_walk_path(&walk, path, 2, &length) == CADMIUMDOVE_DONE && length == 1 && path[0] == 'x');
+    cadmiumdove_walk_free(&walk);
+    return 0;
+}
+
+/* Each request for memory of a walk fails in turn, and nothing is lost by it. */
+static int memory_of_a_walk(void) {
+    struct cadmiumdove_walk walk = {0};
+    uint32_t answer = CADMIUMDOVE_OUT_OF_MEMORY;
+    int requests = 0, found = 0, unread = 0;
+    for (; answer != CADMIUMDOVE_END; requests++) {
+        allowed = requests;
+        found = unread = 0;
+        answer = begin(&walk, "*/**/x", 1000);
+        if (answer == CADMIUMDOVE_DONE)
+            answer = drive(&walk, &found, &unread);
+        CHECK(answer == CADMIUMDOVE_END || answer == CADMIUMDOVE_OUT_OF_MEMORY || answer == CADMIUMDOVE_MEMORY);
+        cadmiumdove_walk_free(&walk);
+        CHECK(blocks == 0);
+    }
+    allowed = -1;
+    CHECK(requests >= 10 && found == 1 && unread == 1);
+    return 0;
+}
+
 /* The calls leave no block behind. */
 static int leave_nothing(int calls(void)) {
     if (calls())
@@ -182,5 +304,6 @@ static int leave_nothing(int calls(void)) {
 
 int main(void) {
     return leave_nothing(blocks_of_a_pattern) || leave_nothing(matching) || leave_nothing(faults)
-        || leave_nothing(escaping) || leave_nothing(memory);
+        || leave_nothing(escaping) || leave_nothing(memory) || leave_nothing(walking) || leave_nothing(wrong_answers)
+        || leave_nothing(memory_of_a_walk);
 }

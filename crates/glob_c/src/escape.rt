@@ -7,7 +7,7 @@ use crate::pattern::{DONE, NOT_UTF8, OUT_OF_MEMORY};
 use glob_pattern::Pattern;
 use std::alloc::Global;
 
-const TOO_SHORT: u32 = 4;
+pub(crate) const TOO_SHORT: u32 = 4;
 
 /// Writes the pattern that stands for the text alone to the start of `out`, and its length in bytes to `needed`.
 ///

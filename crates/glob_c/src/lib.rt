@@ -6,4 +6,8 @@ mod fault;
 mod handle;
 mod loose;
 mod pattern;
+mod session;
 mod slot;
+mod walk;
+mod walk_handle;
+mod walk_slot;
