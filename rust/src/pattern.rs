@@ -44,7 +44,7 @@ impl Pattern {
 
     /// Whether the pattern matches the whole path. One that is not UTF-8 never matches.
     pub fn matches_path_with(&self, path: &Path, options: MatchOptions) -> bool {
-        path.to_str().map_or(false, |text| self.matches_with(text, options))
+        path.to_str().is_some_and(|text| self.matches_with(text, options))
     }
 
     /// The text that the pattern was parsed from.

@@ -124,7 +124,7 @@ fn look(path: &Path) -> Look {
 /// Whether the entry is a directory, or a link to one. One whose kind cannot be learned is none.
 fn is_dir(entry: &DirEntry) -> bool {
     match entry.file_type() {
-        Ok(kind) if kind.is_symlink() => fs::metadata(entry.path()).map_or(false, |metadata| metadata.is_dir()),
+        Ok(kind) if kind.is_symlink() => fs::metadata(entry.path()).is_ok_and(|metadata| metadata.is_dir()),
         Ok(kind) => kind.is_dir(),
         Err(_) => false,
     }

@@ -63,10 +63,12 @@ const MOST: usize = 100_000;
 
 /// Compares walks over random trees. Under the dot rule 0.3.0 lets `**` enter dotted directories, so there it is left out.
 pub fn compare(random: &mut Random, count: &mut Count, walks: usize) {
-    let root = env::temp_dir().join(format!("beside-{}", process::id()));
+    // `.*` matches `..`: a pattern of four components stays below `top`
+    let top = env::temp_dir().join(format!("beside-{}", process::id()));
+    let root = top.join("t/t/t/t");
     let (mut compared, mut given, mut errors, mut refused) = (0, 0, 0, 0);
     while compared < walks {
-        fs::create_dir(&root).unwrap();
+        fs::create_dir_all(&root).unwrap();
         fill(random, &root, 4).unwrap();
         env::set_current_dir(&root).unwrap();
         for _ in 0..20 {
@@ -90,7 +92,10 @@ pub fn compare(random: &mut Random, count: &mut Count, walks: usize) {
                         .collect();
                     given += ours.len();
                     errors += ours.iter().filter(|item| item.is_err()).count();
-                    count.check(ours == theirs, || format!("{pattern:?} {bits}: {ours:?}, and not {theirs:?}"));
+                    count.check(ours == theirs, || {
+                        let first = ours.iter().zip(&theirs).position(|(ours, theirs)| ours != theirs);
+                        format!("{pattern:?} {bits}: {} items, not {}, at {first:?}", ours.len(), theirs.len())
+                    });
                 }
                 (Err(ours), Err(theirs)) => {
                     refused += 1;
@@ -101,7 +106,7 @@ pub fn compare(random: &mut Random, count: &mut Count, walks: usize) {
             compared += 1;
         }
         env::set_current_dir("/").unwrap();
-        clear(&root).unwrap();
+        clear(&top).unwrap();
     }
     println!("{compared} walks, {given} items, {errors} of them errors, and {refused} refused patterns");
 }
