@@ -9,14 +9,15 @@ use crate::{options, Count, Random};
 
 const NAMES: [&str; 12] = ["a", "b", "ab", "A", ".a", ".b", "a.rs", "b.rs", "a\nb", "é", "[", "-"];
 
-const COMPONENTS: [&str; 20] = [
+const COMPONENTS: [&str; 22] = [
     "a", "b", "ab", ".a", "*", "*", "*", "**", "**", "?", "a*", "*b", "*.rs", ".*", "[ab]", "[!a]", "[a-b]?", "[[]", "é",
     "*\n*",
+    "b**", "[a",
 ];
 
 /// Fills a directory, and the directories in it.
 fn fill(random: &mut Random, at: &Path, depth: usize) -> io::Result<()> {
-    for _ in 0..random.below(5) {
+    for _ in 0..random.below(4) + 2 {
         let path = at.join(NAMES[random.below(NAMES.len())]);
         if path.symlink_metadata().is_ok() {
             continue;
@@ -72,7 +73,7 @@ pub fn compare(random: &mut Random, count: &mut Count, walks: usize) {
         fill(random, &root, 4).unwrap();
         env::set_current_dir(&root).unwrap();
         for _ in 0..20 {
-            let components: Vec<&str> = (0..random.below(4) + 1).map(|_| COMPONENTS[random.below(20)]).collect();
+            let components: Vec<&str> = (0..random.below(4) + 1).map(|_| COMPONENTS[random.below(22)]).collect();
             let start = if random.below(4) == 0 { format!("{}/", root.display()) } else { String::new() };
             let pattern = start + &components.join("/") + ["", "", "/"][random.below(3)];
             let bits = random.below(8);
