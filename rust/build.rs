@@ -1,13 +1,16 @@
-//! Links the static library that `bin/c_library` makes.
+//! Links the static library: that of the folder that `CADMIUMDOVE_LIBRARY` names, or the one in `lib/` of this crate, as a
+//! release has it, or the one that `bin/c_library` makes.
 
 use std::path::PathBuf;
 use std::{env, process};
 
 fn main() {
     println!("cargo:rerun-if-env-changed=CADMIUMDOVE_LIBRARY");
+    let here = PathBuf::from(env::var_os("CARGO_MANIFEST_DIR").expect("Cargo sets it"));
     let folder = match env::var_os("CADMIUMDOVE_LIBRARY") {
         Some(folder) => PathBuf::from(folder),
-        None => PathBuf::from(env!("CARGO_MANIFEST_DIR")).join("../crates/glob_c/out"),
+        None if here.join("lib").is_dir() => here.join("lib"),
+        None => here.join("../crates/glob_c/out"),
     };
     let archive = folder.join("libcadmiumdove.a");
     println!("cargo:rerun-if-changed={}", archive.display());

@@ -3,18 +3,14 @@ use std::fmt;
 use std::hash::{Hash, Hasher};
 use std::path::Path;
 use std::str::FromStr;
-use std::sync::{Mutex, PoisonError};
 
 use crate::border::{self, Slot};
 use crate::{MatchOptions, PatternError};
 
 /// A parsed pattern, which matches texts.
-///
-/// Threads may share one. Then a lock gives it to one match at a time, so a clone for each thread is faster.
 pub struct Pattern {
     text: String,
-    /// `Sync` comes from this lock: a call needs the slot for itself.
-    slot: Mutex<Slot>,
+    slot: Slot,
 }
 
 impl Pattern {
@@ -22,7 +18,7 @@ impl Pattern {
     ///
     /// The error has the first fault from the left.
     pub fn new(pattern: &str) -> Result<Self, PatternError> {
-        let slot = Mutex::new(Slot::new(pattern)?);
+        let slot = Slot::new(pattern)?;
         Ok(Pattern { text: pattern.to_owned(), slot })
     }
 
@@ -43,13 +39,12 @@ impl Pattern {
 
     /// Whether the pattern matches the whole text.
     pub fn matches_with(&self, str: &str, options: MatchOptions) -> bool {
-        let mut slot = self.slot.lock().unwrap_or_else(PoisonError::into_inner);
-        slot.matches(str, options.flags())
+        self.slot.matches(str, options.flags())
     }
 
     /// Whether the pattern matches the whole path. One that is not UTF-8 never matches.
     pub fn matches_path_with(&self, path: &Path, options: MatchOptions) -> bool {
-        path.to_str().map_or(false, |text| self.matches_with(text, options))
+        path.to_str().is_some_and(|text| self.matches_with(text, options))
     }
 
     /// The text that the pattern was parsed from.

@@ -51,48 +51,64 @@ void __wrap_free(void *block) {
     __real_free(block);
 }
 
-static uint32_t matches(struct glob_pattern *pattern, const char *text, uint32_t flags) {
-    return glob_pattern_matches_text(pattern, text, strlen(text), flags);
+static uint32_t matches(const struct cadmiumdove_pattern *pattern, const char *text, uint32_t flags) {
+    return cadmiumdove_pattern_matches(pattern, text, strlen(text), flags);
 }
 
 /* the answer of a text, which is freed again where it is a pattern */
-static uint32_t parse(const char *text, struct glob_fault *fault) {
-    struct glob_pattern pattern = {0};
-    uint32_t answer = glob_pattern_new(&pattern, text, strlen(text), fault);
-    if (answer == GLOB_DONE)
-        glob_pattern_free(&pattern);
+static uint32_t parse(const char *text, struct cadmiumdove_fault *fault) {
+    struct cadmiumdove_pattern pattern = {0};
+    uint32_t answer = cadmiumdove_pattern_new(&pattern, text, strlen(text), fault);
+    if (answer == CADMIUMDOVE_DONE)
+        cadmiumdove_pattern_free(&pattern);
     return answer;
 }
 
 static int matching(void) {
-    struct glob_pattern pattern = {0};
-    struct glob_fault fault = {7, 7};
-    CHECK(glob_pattern_new(&pattern, "A*", 2, &fault) == GLOB_DONE);
+    struct cadmiumdove_pattern pattern = {0};
+    struct cadmiumdove_fault fault = {7, 7};
+    CHECK(cadmiumdove_pattern_new(&pattern, "A*", 2, &fault) == CADMIUMDOVE_DONE);
     CHECK(fault.place == 7 && fault.message == 7);
-    CHECK(matches(&pattern, "A/b", 0) == GLOB_YES);
-    CHECK(matches(&pattern, "a/b", 0) == GLOB_NO);
-    CHECK(matches(&pattern, "a/b", GLOB_WITHOUT_CASE) == GLOB_YES);
-    CHECK(matches(&pattern, "A/b", GLOB_LITERAL_SEPARATOR) == GLOB_NO);
-    CHECK(matches(&pattern, "a/b", GLOB_WITHOUT_CASE | GLOB_LITERAL_SEPARATOR) == GLOB_NO);
-    struct glob_pattern moved = pattern;
-    CHECK(matches(&moved, "A", 0) == GLOB_YES);
-    glob_pattern_free(&moved);
-    CHECK(glob_pattern_new(&moved, "*", 1, &fault) == GLOB_DONE);
-    CHECK(matches(&moved, ".x", 0) == GLOB_YES);
-    CHECK(matches(&moved, ".x", GLOB_LITERAL_LEADING_DOT) == GLOB_NO);
-    CHECK(matches(&moved, "", 0) == GLOB_YES);
-    glob_pattern_free(&moved);
+    CHECK(matches(&pattern, "A/b", 0) == CADMIUMDOVE_YES);
+    CHECK(matches(&pattern, "a/b", 0) == CADMIUMDOVE_NO);
+    CHECK(matches(&pattern, "a/b", CADMIUMDOVE_WITHOUT_CASE) == CADMIUMDOVE_YES);
+    CHECK(matches(&pattern, "A/b", CADMIUMDOVE_LITERAL_SEPARATOR) == CADMIUMDOVE_NO);
+    CHECK(matches(&pattern, "a/b", CADMIUMDOVE_WITHOUT_CASE | CADMIUMDOVE_LITERAL_SEPARATOR) == CADMIUMDOVE_NO);
+    struct cadmiumdove_pattern moved = pattern;
+    CHECK(matches(&moved, "A", 0) == CADMIUMDOVE_YES);
+    cadmiumdove_pattern_free(&moved);
+    CHECK(cadmiumdove_pattern_new(&moved, "*", 1, &fault) == CADMIUMDOVE_DONE);
+    CHECK(matches(&moved, ".x", 0) == CADMIUMDOVE_YES);
+    CHECK(matches(&moved, ".x", CADMIUMDOVE_LITERAL_LEADING_DOT) == CADMIUMDOVE_NO);
+    CHECK(matches(&moved, "", 0) == CADMIUMDOVE_YES);
+    CHECK(matches(&moved, "\xff", 0) == CADMIUMDOVE_NOT_UTF8);
+    CHECK(matches(&moved, "a", 8) == CADMIUMDOVE_UNKNOWN_FLAG);
+    CHECK(cadmiumdove_pattern_matches_unchecked(&moved, "a", 1, 0) == CADMIUMDOVE_YES);
+    CHECK(cadmiumdove_pattern_matches_unchecked(&moved, "a", 1, 16) == CADMIUMDOVE_UNKNOWN_FLAG);
+    CHECK(cadmiumdove_pattern_matches_at(moved.at, "a", 1, 16) == CADMIUMDOVE_UNKNOWN_FLAG);
+    CHECK(cadmiumdove_pattern_new(&moved, "b", 1, &fault) == CADMIUMDOVE_IN_USE);
+    CHECK(matches(&moved, "a", 0) == CADMIUMDOVE_YES);
+    cadmiumdove_pattern_free(&moved);
+    cadmiumdove_pattern_free(&moved);
+    CHECK(matches(&moved, "a", 0) == CADMIUMDOVE_EMPTY);
+    CHECK(cadmiumdove_pattern_matches_unchecked(&moved, "a", 1, 0) == CADMIUMDOVE_EMPTY);
+    CHECK(cadmiumdove_pattern_new(&moved, "b", 1, &fault) == CADMIUMDOVE_DONE);
+    CHECK(matches(&moved, "a", 0) == CADMIUMDOVE_NO);
+    cadmiumdove_pattern_free(&moved);
     return 0;
 }
 
 static int faults(void) {
-    struct glob_fault fault;
-    CHECK(parse("", &fault) == GLOB_DONE);
-    CHECK(parse("a/**b", &fault) == GLOB_SYNTAX_FAULT && fault.place == 4 && fault.message == GLOB_RECURSIVE);
-    CHECK(parse("a/*****", &fault) == GLOB_SYNTAX_FAULT && fault.place == 4 && fault.message == GLOB_WILDCARDS);
+    struct cadmiumdove_fault fault;
+    CHECK(parse("", &fault) == CADMIUMDOVE_DONE);
+    CHECK(parse("a/**b", &fault) == CADMIUMDOVE_SYNTAX_FAULT && fault.place == 4 && fault.message == CADMIUMDOVE_RECURSIVE);
+    CHECK(parse("a/*****", &fault) == CADMIUMDOVE_SYNTAX_FAULT && fault.place == 4 && fault.message == CADMIUMDOVE_WILDCARDS);
     /* e with an acute accent is one character of two bytes */
-    CHECK(parse("\xc3\xa9[a", &fault) == GLOB_SYNTAX_FAULT && fault.place == 1 && fault.message == GLOB_RANGE);
-    CHECK(parse("a\xff", &fault) == GLOB_NOT_UTF8);
+    CHECK(parse("\xc3\xa9[a", &fault) == CADMIUMDOVE_SYNTAX_FAULT && fault.place == 1 && fault.message == CADMIUMDOVE_RANGE);
+    CHECK(!strcmp(cadmiumdove_message_text(0), "wildcards are either regular `*` or recursive `**`"));
+    CHECK(!strcmp(cadmiumdove_message_text(1), "recursive wildcards must form a single path component"));
+    CHECK(!strcmp(cadmiumdove_message_text(2), "invalid range pattern"));
+    CHECK(parse("a\xff", &fault) == CADMIUMDOVE_NOT_UTF8);
     return 0;
 }
 
@@ -100,27 +116,27 @@ static int escaping(void) {
     char out[16];
     size_t needed = 0;
     memset(out, '.', sizeof out);
-    CHECK(glob_pattern_escape("a[1]", 4, out, 7, &needed) == GLOB_TOO_SHORT && needed == 8 && out[0] == '.');
-    CHECK(glob_pattern_escape("a[1]", 4, out, 8, &needed) == GLOB_DONE && needed == 8);
+    CHECK(cadmiumdove_pattern_escape("a[1]", 4, out, 7, &needed) == CADMIUMDOVE_TOO_SHORT && needed == 8 && out[0] == '.');
+    CHECK(cadmiumdove_pattern_escape("a[1]", 4, out, 8, &needed) == CADMIUMDOVE_DONE && needed == 8);
     CHECK(memcmp(out, "a[[]1[]].", 9) == 0);
     /* the length alone is asked for, with no room */
     needed = 0;
-    CHECK(glob_pattern_escape("a[1]", 4, out, 0, &needed) == GLOB_TOO_SHORT && needed == 8);
-    CHECK(glob_pattern_escape("ab", 2, out, 0, &needed) == GLOB_TOO_SHORT && needed == 2);
-    CHECK(glob_pattern_escape("", 0, out, 0, &needed) == GLOB_DONE && needed == 0);
+    CHECK(cadmiumdove_pattern_escape("a[1]", 4, out, 0, &needed) == CADMIUMDOVE_TOO_SHORT && needed == 8);
+    CHECK(cadmiumdove_pattern_escape("ab", 2, out, 0, &needed) == CADMIUMDOVE_TOO_SHORT && needed == 2);
+    CHECK(cadmiumdove_pattern_escape("", 0, out, 0, &needed) == CADMIUMDOVE_DONE && needed == 0);
     CHECK(memcmp(out, "a[[]1[]].", 9) == 0);
-    CHECK(glob_pattern_escape("\xff", 1, out, 16, &needed) == GLOB_NOT_UTF8);
+    CHECK(cadmiumdove_pattern_escape("\xff", 1, out, 16, &needed) == CADMIUMDOVE_NOT_UTF8);
     return 0;
 }
 
 /* A pattern holds some blocks until it is freed, and then none. */
 static int blocks_of_a_pattern(void) {
-    struct glob_pattern pattern = {0};
-    struct glob_fault fault;
+    struct cadmiumdove_pattern pattern = {0};
+    struct cadmiumdove_fault fault;
     CHECK(blocks == 0);
-    CHECK(glob_pattern_new(&pattern, "a/**/[b-d]*", 11, &fault) == GLOB_DONE);
+    CHECK(cadmiumdove_pattern_new(&pattern, "a/**/[b-d]*", 11, &fault) == CADMIUMDOVE_DONE);
     CHECK(blocks > 0);
-    glob_pattern_free(&pattern);
+    cadmiumdove_pattern_free(&pattern);
     CHECK(blocks == 0);
     return 0;
 }
@@ -128,31 +144,153 @@ static int blocks_of_a_pattern(void) {
 /* Each request for memory fails in turn, and nothing is lost by it. */
 static int memory(void) {
     char longest[401] = {0};
-    struct glob_pattern pattern = {0};
-    struct glob_fault fault;
+    struct cadmiumdove_pattern pattern = {0};
+    struct cadmiumdove_fault fault;
     char out[16];
     size_t needed;
     int requests = -1;
     uint32_t answer;
     do {
         allowed = ++requests;
-        answer = glob_pattern_new(&pattern, "a/**/[b-d]*", 11, &fault);
-        CHECK(answer == GLOB_DONE || answer == GLOB_OUT_OF_MEMORY);
-    } while (answer != GLOB_DONE);
+        answer = cadmiumdove_pattern_new(&pattern, "a/**/[b-d]*", 11, &fault);
+        CHECK(answer == CADMIUMDOVE_DONE || answer == CADMIUMDOVE_OUT_OF_MEMORY);
+    } while (answer != CADMIUMDOVE_DONE);
     CHECK(requests >= 4);
     allowed = 0;
-    CHECK(matches(&pattern, "a/x/c", 0) == GLOB_YES);
-    CHECK(glob_pattern_escape("a", 1, out, 16, &needed) == GLOB_OUT_OF_MEMORY);
-    glob_pattern_free(&pattern);
+    CHECK(matches(&pattern, "a/x/c", 0) == CADMIUMDOVE_YES);
+    CHECK(cadmiumdove_pattern_escape("a", 1, out, 16, &needed) == CADMIUMDOVE_OUT_OF_MEMORY);
+    cadmiumdove_pattern_free(&pattern);
     allowed = -1;
     for (int i = 0; i < 400; i += 2)
         memcpy(longest + i, "*a", 2);
-    CHECK(glob_pattern_new(&pattern, longest, strlen(longest), &fault) == GLOB_DONE);
+    CHECK(cadmiumdove_pattern_new(&pattern, longest, strlen(longest), &fault) == CADMIUMDOVE_DONE);
     allowed = 0;
-    CHECK(matches(&pattern, longest, 0) == GLOB_OUT_OF_MEMORY);
+    CHECK(matches(&pattern, longest, 0) == CADMIUMDOVE_OUT_OF_MEMORY);
     allowed = -1;
-    CHECK(matches(&pattern, longest, 0) == GLOB_YES);
-    glob_pattern_free(&pattern);
+    CHECK(matches(&pattern, longest, 0) == CADMIUMDOVE_YES);
+    cadmiumdove_pattern_free(&pattern);
+    return 0;
+}
+
+/* Answers as a tree of a directory `d` with a file `x`, and of a directory `shut` that cannot be listed, until the walk
+ * ends or an answer is refused. */
+static uint32_t drive(struct cadmiumdove_walk *walk, int *found, int *unread) {
+    char path[64];
+    size_t length;
+    uint32_t step, answer = CADMIUMDOVE_DONE;
+    while ((step = cadmiumdove_walk_next(walk)) != CADMIUMDOVE_END && step != CADMIUMDOVE_EMPTY) {
+        if (cadmiumdove_walk_path(walk, path, sizeof path - 1, &length) != CADMIUMDOVE_DONE)
+            return 100;
+        path[length] = 0;
+        if (step == CADMIUMDOVE_LOOK)
+            answer = cadmiumdove_walk_looked(walk, strchr(path, 'x') ? CADMIUMDOVE_OTHER : CADMIUMDOVE_DIRECTORY);
+        else if (step == CADMIUMDOVE_PATH)
+            ++*found;
+        else if (step == CADMIUMDOVE_UNREAD)
+            ++*unread;
+        else if (step == CADMIUMDOVE_MEMORY || step == CADMIUMDOVE_LIMIT)
+            answer = step;
+        else if (strstr(path, "shut"))
+            answer = cadmiumdove_walk_unread(walk, 13);
+        else if (!strcmp(path, ".")) {
+            answer = cadmiumdove_walk_entry(walk, "shut", 4, true);
+            if (answer == CADMIUMDOVE_DONE)
+                answer = cadmiumdove_walk_entry(walk, "d", 1, true);
+            if (answer == CADMIUMDOVE_DONE)
+                answer = cadmiumdove_walk_listed(walk);
+        } else {
+            answer = cadmiumdove_walk_entry(walk, "x", 1, false);
+            if (answer == CADMIUMDOVE_DONE)
+                answer = cadmiumdove_walk_listed(walk);
+        }
+        if (answer != CADMIUMDOVE_DONE)
+            return answer;
+    }
+    return step;
+}
+
+static uint32_t begin(struct cadmiumdove_walk *walk, const char *pattern, uint64_t limit) {
+    struct cadmiumdove_fault fault;
+    return cadmiumdove_walk_new(walk, pattern, strlen(pattern), 0, limit, &fault);
+}
+
+static int walking(void) {
+    struct cadmiumdove_walk walk = {0};
+    struct cadmiumdove_fault fault = {7, 7};
+    int found = 0, unread = 0;
+    CHECK(begin(&walk, "*/*", 1000) == CADMIUMDOVE_DONE);
+    CHECK(begin(&walk, "*", 1) == CADMIUMDOVE_IN_USE);
+    CHECK(drive(&walk, &found, &unread) == CADMIUMDOVE_END && found == 1 && unread == 1);
+    CHECK(cadmiumdove_walk_next(&walk) == CADMIUMDOVE_END);
+    cadmiumdove_walk_free(&walk);
+    cadmiumdove_walk_free(&walk);
+    CHECK(cadmiumdove_walk_next(&walk) == CADMIUMDOVE_EMPTY);
+    CHECK(begin(&walk, "**", 0) == CADMIUMDOVE_DONE);
+    CHECK(drive(&walk, &found, &unread) == CADMIUMDOVE_LIMIT);
+    CHECK(cadmiumdove_walk_next(&walk) == CADMIUMDOVE_END);
+    cadmiumdove_walk_free(&walk);
+    CHECK(cadmiumdove_walk_new(&walk, "d/a**", 5, 0, 9, &fault) == CADMIUMDOVE_SYNTAX_FAULT);
+    CHECK(fault.place == 2 && fault.message == CADMIUMDOVE_RECURSIVE);
+    CHECK(cadmiumdove_walk_new(&walk, "a", 1, 8, 9, &fault) == CADMIUMDOVE_UNKNOWN_FLAG);
+    CHECK(cadmiumdove_walk_new(&walk, "\xff", 1, 0, 9, &fault) == CADMIUMDOVE_NOT_UTF8);
+    return 0;
+}
+
+/* A driver that answers what was not asked, or not in full, and stops in the middle. */
+static int wrong_answers(void) {
+    struct cadmiumdove_walk walk = {0};
+    char path[2];
+    size_t length = 0;
+    CHECK(cadmiumdove_walk_looked(&walk, 0) == CADMIUMDOVE_EMPTY);
+    CHECK(cadmiumdove_walk_entry(&walk, "x", 1, false) == CADMIUMDOVE_EMPTY);
+    CHECK(cadmiumdove_walk_listed(&walk) == CADMIUMDOVE_EMPTY);
+    CHECK(cadmiumdove_walk_unread(&walk, 1) == CADMIUMDOVE_EMPTY);
+    CHECK(cadmiumdove_walk_path(&walk, path, 1, &length) == CADMIUMDOVE_EMPTY);
+    CHECK(begin(&walk, "*", 1000) == CADMIUMDOVE_DONE);
+    CHECK(cadmiumdove_walk_looked(&walk, 0) == CADMIUMDOVE_NOT_ASKED);
+    CHECK(cadmiumdove_walk_next(&walk) == CADMIUMDOVE_LOOK);
+    CHECK(cadmiumdove_walk_path(&walk, path, 0, &length) == CADMIUMDOVE_TOO_SHORT && length == 1);
+    CHECK(cadmiumdove_walk_entry(&walk, "x", 1, false) == CADMIUMDOVE_NOT_ASKED);
+    CHECK(cadmiumdove_walk_listed(&walk) == CADMIUMDOVE_NOT_ASKED);
+    CHECK(cadmiumdove_walk_unread(&walk, 1) == CADMIUMDOVE_NOT_ASKED);
+    CHECK(cadmiumdove_walk_next(&walk) == CADMIUMDOVE_LOOK);
+    CHECK(cadmiumdove_walk_looked(&walk, CADMIUMDOVE_DIRECTORY) == CADMIUMDOVE_DONE);
+    CHECK(cadmiumdove_walk_next(&walk) == CADMIUMDOVE_LIST_NAMES);
+    CHECK(cadmiumdove_walk_looked(&walk, 0) == CADMIUMDOVE_NOT_ASKED);
+    CHECK(cadmiumdove_walk_entry(&walk, "forgotten", 9, false) == CADMIUMDOVE_DONE);
+    CHECK(cadmiumdove_walk_next(&walk) == CADMIUMDOVE_LIST_NAMES);
+    CHECK(cadmiumdove_walk_entry(&walk, "..", 2, true) == CADMIUMDOVE_NO_NAME);
+    CHECK(cadmiumdove_walk_entry(&walk, "a/b", 3, true) == CADMIUMDOVE_NO_NAME);
+    CHECK(cadmiumdove_walk_entry(&walk, "", 0, true) == CADMIUMDOVE_NO_NAME);
+    CHECK(cadmiumdove_walk_entry(&walk, "\xff", 1, true) == CADMIUMDOVE_NOT_UTF8);
+    CHECK(cadmiumdove_walk_entry(&walk, "y", 1, false) == CADMIUMDOVE_DONE);
+    CHECK(cadmiumdove_walk_entry(&walk, "x", 1, true) == CADMIUMDOVE_DONE);
+    CHECK(cadmiumdove_walk_listed(&walk) == CADMIUMDOVE_DONE);
+    CHECK(cadmiumdove_walk_entry(&walk, "z", 1, true) == CADMIUMDOVE_NOT_ASKED);
+    CHECK(cadmiumdove_walk_listed(&walk) == CADMIUMDOVE_NOT_ASKED);
+    CHECK(cadmiumdove_walk_next(&walk) == CADMIUMDOVE_PATH);
+    CHECK(cadmiumdove_walk_path(&walk, path, 2, &length) == CADMIUMDOVE_DONE && length == 1 && path[0] == 'x');
+    cadmiumdove_walk_free(&walk);
+    return 0;
+}
+
+/* Each request for memory of a walk fails in turn, and nothing is lost by it. */
+static int memory_of_a_walk(void) {
+    struct cadmiumdove_walk walk = {0};
+    uint32_t answer = CADMIUMDOVE_OUT_OF_MEMORY;
+    int requests = 0, found = 0, unread = 0;
+    for (; answer != CADMIUMDOVE_END; requests++) {
+        allowed = requests;
+        found = unread = 0;
+        answer = begin(&walk, "*/**/x", 1000);
+        if (answer == CADMIUMDOVE_DONE)
+            answer = drive(&walk, &found, &unread);
+        CHECK(answer == CADMIUMDOVE_END || answer == CADMIUMDOVE_OUT_OF_MEMORY || answer == CADMIUMDOVE_MEMORY);
+        cadmiumdove_walk_free(&walk);
+        CHECK(blocks == 0);
+    }
+    allowed = -1;
+    CHECK(requests >= 10 && found == 1 && unread == 1);
     return 0;
 }
 
@@ -166,5 +304,6 @@ static int leave_nothing(int calls(void)) {
 
 int main(void) {
     return leave_nothing(blocks_of_a_pattern) || leave_nothing(matching) || leave_nothing(faults)
-        || leave_nothing(escaping) || leave_nothing(memory);
+        || leave_nothing(escaping) || leave_nothing(memory) || leave_nothing(walking) || leave_nothing(wrong_answers)
+        || leave_nothing(memory_of_a_walk);
 }

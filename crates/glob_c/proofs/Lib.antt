@@ -1,4 +1,5 @@
 pub mod LooseValues
 pub mod Messages
 pub mod SlotValues
+pub mod WalkSlotValues
 pub mod Written

@@ -1,5 +1,5 @@
 -- The machine value of a `Slot`.
-use Rattle.std.proofs.Common.{◌≡◌, ℕ, List, [], ◌∷◌, ◌++◌, refl, subst}
+use Rattle.std.proofs.Common.{IsSome, ◌≡◌, ℕ, List, [], ◌∷◌, ◌++◌, refl, subst}
 use seplogic.Ra.Ura.{Ura}
 use mir.Val.{Val, vstruct, vcons, vnil, of_list}
 use types.Logic.{Logic}
@@ -11,6 +11,8 @@ use denote.Steps.{nothing}
 use denote.Struct.Struct.{within}
 use denote.Struct.Owning.{shape}
 use Rattle.std.specs.declared.option.Option.{Option}
+use Rattle.std.specs.declared.option.Option.TheVariants.{None, Some}
+use Rattle.std.proofs.lemmas.Bool.{false≢true}
 use Rattle.glob_c.specs.Slots.{slot_owns}
 use Rattle.glob_c.specs.contracts.slot.Slot as slot
 
@@ -19,6 +21,11 @@ Slot = slot.the_row
 
 abbrev pub slot_val : Ptr → Val
 slot_val p = vstruct (vcons (ptr_val p) vnil)
+
+-- what an option that is not empty has
+pub kept : {X : Type 0} (o : Option X) → IsSome o → (x : X) × (o ≡ Some x)
+kept None is = absurd (false≢true is)
+kept (Some x) is = (x, refl)
 
 module _ {M : Type 1} {𝓤 : Ura M} {𝓛 : Logic 𝓤} {K : Type 0} {Γ : List (Item 𝓤)} {G : Goal 𝓤 𝓛.H} where
   -- a slot taken apart

@@ -1,5 +1,5 @@
 -- What the calls answer, as numbers.
-use Rattle.std.specs.Prelude.{ℕ, ◌==◌, if◌then◌else◌, List, bit_and}
+use Rattle.std.specs.Prelude.{ℕ, ◌==◌, if◌then◌else◌, List, bit_and, bytes_eq}
 use Rattle.glob_pattern.specs.Grammar.Faults.{Fault, wildcards_message, recursive_message, range_message}
 use Rattle.glob_pattern.specs.declared.options.MatchOptions.{MatchOptions}
 
@@ -23,6 +23,26 @@ not_utf8 = 3
 abbrev pub too_short : ℕ
 too_short = 4
 
+-- a flag has no meaning
+abbrev pub unknown_flag : ℕ
+unknown_flag = 5
+
+-- the handle is not empty
+abbrev pub in_use : ℕ
+in_use = 6
+
+-- the handle is empty
+abbrev pub empty : ℕ
+empty = 7
+
+-- nothing was asked that this answers
+abbrev pub not_asked : ℕ
+not_asked = 9
+
+-- the text is no name
+abbrev pub no_name : ℕ
+no_name = 10
+
 -- the text does not match
 abbrev pub no : ℕ
 no = 0
@@ -34,6 +54,10 @@ yes = 1
 -- the message of a number
 abbrev pub message_of : ℕ → List ℕ
 message_of n = if n == 0 then wildcards_message else if n == 1 then recursive_message else range_message
+
+-- the number of a message
+abbrev pub number_of : List ℕ → ℕ
+number_of m = if bytes_eq m wildcards_message then 0 else if bytes_eq m recursive_message then 1 else 2
 
 -- a fault by the number of its message
 abbrev pub fault_of : ℕ → ℕ → Fault

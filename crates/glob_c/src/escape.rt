@@ -7,14 +7,14 @@ use crate::pattern::{DONE, NOT_UTF8, OUT_OF_MEMORY};
 use glob_pattern::Pattern;
 use std::alloc::Global;
 
-const TOO_SHORT: u32 = 4;
+pub(crate) const TOO_SHORT: u32 = 4;
 
 /// Writes the pattern that stands for the text alone to the start of `out`, and its length in bytes to `needed`.
 ///
 /// The answer is 0; or 2 if an allocation fails; or 3 for bytes that are no UTF-8; or 4 if `out` is too short, and then
 /// `needed` is the length that would do. Nothing is written to `out` but after 0.
 #[unsafe(no_mangle)]
-pub extern "C" fn glob_pattern_escape(
+pub extern "C" fn cadmiumdove_pattern_escape(
     alloc: Global,
     text: &[u8],
     out: &mut [u8],

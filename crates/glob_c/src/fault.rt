@@ -1,7 +1,7 @@
 ghost use Rattle.std.specs.Prelude.{◌≡◌, ◌≤◌, IfOk, IfErr, IsUtf8, chars};
 ghost use Rattle.glob_pattern.specs.Grammar.Units.{IsAccepted};
 ghost use Rattle.glob_pattern.specs.Grammar.Faults.{wildcards_message, recursive_message, range_message};
-ghost use Rattle.glob_c.specs.Answers.{message_of};
+ghost use Rattle.glob_c.specs.Answers.{message_of, number_of};
 ghost use Rattle.glob_c.specs.Refusals.{RefusesBytes};
 
 use glob_pattern::{Pattern, PatternError, PatternRefusal};
@@ -35,6 +35,19 @@ fn number_of(message: &str) -> u32
         → message.now ≡ range_message }
     ensures message { message_of result ≡ message.now }
     ensures range { result ≤ 2 }
+{
+    if message == WILDCARDS {
+        0
+    } else if message == RECURSIVE {
+        1
+    } else {
+        2
+    }
+}
+
+/// The same number, of any text.
+pub(crate) fn code_of(message: &str) -> u32
+    ensures { result ≡ number_of message.now }
 {
     if message == WILDCARDS {
         0

@@ -3,6 +3,11 @@
 
 mod escape;
 mod fault;
+mod handle;
 mod loose;
 mod pattern;
+mod session;
 mod slot;
+mod walk;
+mod walk_handle;
+mod walk_slot;

@@ -1,54 +1,65 @@
-ghost use Rattle.std.specs.Prelude.{◌≡◌, ◌≤◌, ◌<◌, ℕ, List, IsUtf8, chars};
+ghost use Rattle.std.specs.Prelude.{◌≡◌, ◌≤◌, ℕ, List, IsUtf8, IsSome, chars};
 ghost use Rattle.std.specs.declared.option.Option.TheVariants.{None, Some};
 ghost use Rattle.glob_pattern.specs.Grammar.Units.{IsAccepted};
 ghost use Rattle.glob_pattern.specs.Grammar.Faults.{IsFault};
-ghost use Rattle.glob_pattern.specs.Matching.Short.{IsShort};
-ghost use Rattle.glob_pattern.specs.Matching.Texts.{Matches};
-ghost use Rattle.glob_c.specs.Answers.{done, syntax_fault, out_of_memory, not_utf8, no, yes, fault_of, options_of};
+ghost use Rattle.glob_c.specs.Answers.{done, syntax_fault, not_utf8, in_use, fault_of, options_of};
+ghost use Rattle.glob_c.specs.Matches.{Answers, IsPromised};
+ghost use Rattle.glob_c.specs.Slots.{PatternRow};
+ghost use base.Fml.{Lft, Share, fsep, flft};
+ghost use types.Logic.{sem};
+ghost use denote.Struct.Lending.{lent_at};
 
 use crate::fault::{self, Fault, Refusal};
-use crate::slot::Slot;
-use glob_pattern::MatchOptions;
+use crate::handle::Handle;
+use glob_pattern::{MatchOptions, Pattern};
 use std::alloc::Global;
 
 pub(crate) const DONE: u32 = 0;
 
-const SYNTAX_FAULT: u32 = 1;
+pub(crate) const SYNTAX_FAULT: u32 = 1;
 
 pub(crate) const OUT_OF_MEMORY: u32 = 2;
 
 pub(crate) const NOT_UTF8: u32 = 3;
 
+pub(crate) const IN_USE: u32 = 6;
+
+pub(crate) const UNKNOWN_FLAG: u32 = 5;
+
 const NO: u32 = 0;
 
 const YES: u32 = 1;
 
-/// Parses the bytes as a pattern, and puts it into the slot.
+/// Parses the bytes as a pattern, and puts it into the handle.
 ///
 /// The answer is 0; or 1 for bytes that are no pattern, with their first fault in `fault`; or 2 if an allocation fails;
-/// or 3 for bytes that are no UTF-8. After a refusal the slot is empty.
+/// or 3 for bytes that are no UTF-8; or 6 if the handle has a pattern. After a refusal the handle is as it was.
 #[unsafe(no_mangle)]
-pub extern "C" fn glob_pattern_new(
+pub extern "C" fn cadmiumdove_pattern_new(
     alloc: Global,
-    slot: &mut Slot,
+    handle: &mut Handle,
     pattern: &[u8],
     fault: &mut Fault,
 ) -> u32
-    requires empty { slot.old.text ≡ None }
-    ensures range { result ≤ not_utf8 }
+    ensures range { result ≤ in_use }
+    ensures was_empty { result ≡ done → handle.old.slot.text ≡ None }
     ensures accepted { result ≡ done → IsAccepted (chars pattern.now) }
     ensures utf8 { result ≡ done → IsUtf8 pattern.now }
-    ensures text { result ≡ done → slot.new.text ≡ Some pattern.now }
+    ensures text { result ≡ done → handle.new.slot.text ≡ Some pattern.now }
     ensures syntax { result ≡ syntax_fault →
         IsFault (chars pattern.now) (fault_of fault.new.place fault.new.message) }
     ensures message { result ≡ syntax_fault → fault.new.message ≤ 2 }
     ensures not_utf8 { result ≡ not_utf8 → ¬ (IsUtf8 pattern.now) }
-    ensures refused { ¬ (result ≡ done) → slot.new.text ≡ None }
+    ensures in_use { result ≡ in_use → IsSome handle.old.slot.text }
+    ensures refused { ¬ (result ≡ done) → handle.new.slot.text ≡ handle.old.slot.text }
     ensures untold { ¬ (result ≡ syntax_fault) → fault.new ≡ fault.old }
 {
+    if handle.is_full() {
+        return IN_USE;
+    }
     match fault::parse(alloc, pattern) {
         Ok(pattern) => {
-            slot.fill(pattern);
+            handle.fill(pattern);
             DONE
         }
         Err(Refusal::Syntax(first)) => {
@@ -60,48 +71,55 @@ pub extern "C" fn glob_pattern_new(
     }
 }
 
-/// Whether the slot's pattern matches the text, under the options that the flags say.
+/// Whether the pattern at `at`, which is the `at` of a handle that has one, matches the text, under the options that the
+/// flags say. With the flag 8 the caller promises that the text is UTF-8, and nothing checks it.
 ///
-/// The answer is 0 for no, 1 for yes, and 2 if an allocation fails.
+/// The answer is 0 for no, 1 for yes, 2 if an allocation fails, 3 for bytes that are no UTF-8, and 5 for an unknown flag.
 #[unsafe(no_mangle)]
-pub extern "C" fn glob_pattern_matches_text(
-    alloc: Global,
-    slot: &mut Slot,
-    text: &[u8],
-    flags: u32,
-) -> u32
-    ghost pattern: { List ℕ }
-    requires full { slot.old.text ≡ Some pattern }
-    requires utf8 { IsUtf8 text.now }
-    ensures kept { slot.new.text ≡ slot.old.text }
-    ensures range { result ≤ out_of_memory }
-    ensures yes { result ≡ yes → Matches (options_of flags) (chars pattern) (chars text.now) }
-    ensures no { result ≡ no → ¬ (Matches (options_of flags) (chars pattern) (chars text.now)) }
-    ensures short { IsShort (chars pattern) → result < out_of_memory }
+pub extern "C" fn cadmiumdove_pattern_matches_at(at: *const u8, text: &[u8], flags: u32) -> u32
+    ghost lent: { List ℕ × Lft × Share }
+    requires* shared { sem 𝓛 (fsep (lent_at PatternRow at lent.0 lent.1) (flft lent.1 lent.2)) }
+    requires utf8 { IsPromised flags text.now }
+    ensures* back { sem 𝓛 (flft lent.1 lent.2) }
+    ensures answers { Answers lent.0 text.now flags result }
 {
-    let text = unsafe { str::from_utf8_unchecked(text) };
-    let boxed = slot.take(alloc);
-    let answer = boxed.matches_with(text, options_of(flags));
-    slot.fill(boxed);
-    match answer {
+    let pattern = unsafe { &*(at as *const Pattern<Global>) };
+    answer_of(pattern, text, flags)
+}
+
+/// Whether the pattern matches the text.
+fn answer_of(pattern: &Pattern<Global>, text: &[u8], flags: u32) -> u32
+    requires { IsPromised flags text.now }
+    ensures { Answers pattern.now text.now flags result }
+{
+    if flags > 15 {
+        return UNKNOWN_FLAG;
+    }
+    let text = if flags & 8 == 0 {
+        match str::from_utf8(text) {
+            Ok(text) => text,
+            Err(_) => return NOT_UTF8,
+        }
+    } else {
+        unsafe { str::from_utf8_unchecked(text) }
+    };
+    match pattern.matches_with(text, options_of(flags)) {
         Ok(true) => YES,
         Ok(false) => NO,
         Err(_) => OUT_OF_MEMORY,
     }
 }
 
-/// Frees the slot's pattern, and leaves the slot empty.
+/// Frees the handle's pattern, if there is one, and leaves the handle empty.
 #[unsafe(no_mangle)]
-pub extern "C" fn glob_pattern_free(alloc: Global, slot: &mut Slot)
-    ghost pattern: { List ℕ }
-    requires full { slot.old.text ≡ Some pattern }
-    ensures empty { slot.new.text ≡ None }
+pub extern "C" fn cadmiumdove_pattern_free(alloc: Global, handle: &mut Handle)
+    ensures empty { handle.new.slot.text ≡ None }
 {
-    drop(slot.take(alloc));
+    drop(handle.take(alloc));
 }
 
 /// The options that the flags say.
-fn options_of(flags: u32) -> MatchOptions
+pub(crate) fn options_of(flags: u32) -> MatchOptions
     ensures { result ≡ options_of flags }
 {
     MatchOptions {

@@ -7,9 +7,9 @@ use crate::loose::Loose;
 use glob_pattern::Pattern;
 use std::alloc::Global;
 use std::marker::Model;
-use std::{mem, ptr};
+use std::ptr;
 
-/// Where a C program keeps a pattern. A slot is empty, or it has the pattern of a text and owns its memory.
+/// A pointer to nothing, or to the pattern of a text, whose memory it owns.
 #[repr(C)]
 pub struct Slot {
     at: *mut u8,
@@ -24,34 +24,8 @@ impl Model for Slot {
 unsafe impl Send for Slot {}
 
 impl Slot {
-    /// Puts a pattern into an empty slot.
-    pub(crate) fn fill(&mut self, pattern: Box<Pattern<Global>, Global>)
-        requires { self.old.text ≡ None }
-        ensures { self.new.text ≡ Some pattern.value }
-    {
-        mem::replace(self, Slot::of(Loose::of(pattern))).close();
-    }
-
-    /// Takes the pattern out of a slot.
-    pub(crate) fn take(&mut self, alloc: Global) -> Box<Pattern<Global>, Global>
-        requires { IsSome self.old.text }
-        ensures empty { self.new.text ≡ None }
-        ensures value { self.old.text ≡ Some result.value }
-    {
-        let loose = self.vacate().into_loose(alloc);
-        loose.into_box()
-    }
-
-    /// Takes what the slot owns.
-    fn vacate(&mut self) -> Slot
-        ensures empty { self.new.text ≡ None }
-        ensures value { result.text ≡ self.old.text }
-    {
-        mem::replace(self, Slot::empty())
-    }
-
     /// A slot with no pattern.
-    fn empty() -> Slot
+    pub(crate) fn empty() -> Slot
         ensures { result.text ≡ None }
     {
         Slot {
@@ -60,7 +34,7 @@ impl Slot {
     }
 
     /// A slot with the pattern of the box.
-    fn of(pattern: Loose<Pattern<Global>, Global>) -> Slot
+    pub(crate) fn of(pattern: Loose<Pattern<Global>, Global>) -> Slot
         ensures { result.text ≡ Some pattern.value }
     {
         let Loose { at, alloc: _ } = pattern;
@@ -68,7 +42,7 @@ impl Slot {
     }
 
     /// The box of the slot's pattern.
-    fn into_loose(self, alloc: Global) -> Loose<Pattern<Global>, Global>
+    pub(crate) fn into_loose(self, alloc: Global) -> Loose<Pattern<Global>, Global>
         requires { IsSome self.text }
         ensures { self.text ≡ Some result.value }
     {
@@ -80,7 +54,7 @@ impl Slot {
     }
 
     /// Lets an empty slot go, so that no pattern is lost.
-    fn close(self)
+    pub(crate) fn close(self)
         requires { self.text ≡ None }
     {
         let Slot { at: _ } = self;

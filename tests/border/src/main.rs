@@ -1,5 +1,7 @@
-//! Compares patterns of `cadmiumdove` with those of `glob` on random patterns and texts: `beside MATCHES`. The last
-//! line is `N passed, M failed`.
+//! Compares patterns and walks of `cadmiumdove` with those of `glob`, on random patterns and texts, and on random patterns
+//! and trees in a folder of its own: `beside MATCHES WALKS`. The last line is `N passed, M failed`.
+
+mod walks;
 
 use std::{env, process};
 
@@ -85,6 +87,8 @@ fn main() {
         count.check(escaped == glob::Pattern::escape(&text), || format!("escape {text:?}"));
     }
     println!("{compared} matches, {matched} of them yes, and {refused} refused patterns");
+    let walks = env::args().nth(2).and_then(|word| word.parse().ok()).unwrap_or(0);
+    walks::compare(&mut random, &mut count, walks);
     println!("{} passed, {} failed", count.passed, count.failed);
     process::exit((count.failed > 0) as i32);
 }

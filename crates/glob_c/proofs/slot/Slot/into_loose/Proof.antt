@@ -25,21 +25,15 @@ use Rattle.std.specs.contracts.alloc.Global as heap
 use Rattle.std.proofs.alloc.Global.TheLaws as heap_laws
 use Rattle.std.specs.contracts.impls.GlobalAllocator.TheImpl.{ghosts}
 use Rattle.std.specs.declared.option.Option.{Option}
-use Rattle.std.specs.declared.option.Option.TheVariants.{None, Some}
-use Rattle.std.proofs.lemmas.Bool.{false≢true}
+use Rattle.std.specs.declared.option.Option.TheVariants.{Some}
 use Rattle.std.proofs.raw_atomic.Walks.{proved_at, leaves}
 use Rattle.glob_c.specs.Slots.{PatternRow, slot_owns}
 use Rattle.glob_c.proofs.LooseValues.{both, Loose, loose_good, loose_in}
-use Rattle.glob_c.proofs.SlotValues.{Slot, slot_val, slot_out}
+use Rattle.glob_c.proofs.SlotValues.{Slot, kept, slot_val, slot_out}
 use Rattle.glob_c.specs.contracts.slot.Slot.into_loose.{ended, clauses}
 use Rattle.glob_c.specs.contracts.slot.Slot.into_loose.Key.{name as #self}
 use Rattle.glob_c.proofs.slot.Slot.into_loose.Statement.{statement}
 use Rattle.glob_c.proofs.slot.Slot.into_loose.Code as code
-
--- what an option that is not empty has
-kept : (text : Option (List ℕ)) → IsSome text → (t : List ℕ) × (text ≡ Some t)
-kept None is = absurd (false≢true is)
-kept (Some t) is = (t, refl)
 
 pub into_loose_spec : {M : Type 1} → statement M
 into_loose_spec 𝓤 𝓛 𝓜 𝓡 wired =

@@ -1,0 +1,35 @@
+-- `empty` makes a slot that owns nothing.
+use Rattle.std.proofs.Common.{[], ◌∷◌, refl, lit<}
+use Rattle.std.proofs.raw_atomic.Walks.{proved}
+use base.Fml.{ftrue}
+use types.Kit.{‵, raw, ◌$◌, ◌∵◌, !, qed, done, drop, suffices}
+use types.Run.{enter, lit, no_more, and_then, returns}
+use types.ByLocal.{alloc_all, pass_all, free_all, look_at, sets}
+use types.Part.{agg}
+use denote.RawPtr.{null_ptr}
+use denote.Steps.{nothing}
+use denote.Triple.Entry.{on_entry}
+use denote.Triple.Walked.{Stays, walk_of, says, ends_at}
+use Rattle.std.specs.declared.option.Option.TheVariants.{None}
+use Rattle.glob_c.proofs.WalkSlotValues.{walk_val, walk_in_slot}
+use Rattle.glob_c.specs.contracts.walk_slot.WalkSlot.empty as f
+use Rattle.glob_c.proofs.walk_slot.WalkSlot.empty.Statement.{statement}
+use Rattle.glob_c.proofs.walk_slot.WalkSlot.empty.Code as code
+
+abbrev stayed : Stays f.ended.signature.params f.ended.kept
+stayed = tt
+
+pub empty_spec : {M : Type 1} → statement M
+empty_spec 𝓤 𝓛 𝓜 𝓡 wired =
+    let c = f.clauses 𝓛 𝓜.mem 𝓡.returns in let W = walk_of 𝓛 f.ended stayed c in
+    proved 𝓛 f.ended stayed c 𝓜 𝓡 tt
+    f.Key.name code.function (code.unfolded 𝓤 𝓛.H 𝓜 𝓡 wired)
+    (λ κs. tt) (λ κs. tt) (λ κs qs bounds a n are.
+    let y : W.Ghost = ((κs, qs, bounds, a, tt), tt) in
+    qed 𝓛 (raw (on_entry 𝓛 f.signature κs qs a y.0.4) ∷ ‵ ftrue ∷ []) ∵ drop ! $ drop ! $
+    enter ! _ _ _ _ _ $ alloc_all ! (λ l. pass_all ! refl tt $
+    sets ! (agg ! (and_then ! (lit ! tt) (no_more !))) refl (tt, (record { fits = lit< tt }, tt)) $
+    nothing ! $ walk_in_slot ! null_ptr None $
+    returns ! (look_at ! 0 refl) $ free_all ! refl $
+    suffices ! _ (ends_at 𝓛 f.ended stayed c y (walk_val null_ptr) (record { at = null_ptr; walk = None }) tt tt) $ says ! refl $
+    nothing ! $ nothing ! $ done !))

@@ -1,0 +1,20 @@
+-- What a match answers.
+use Rattle.std.specs.Prelude.{◌≡◌, ℕ, ◌≤◌, ◌<◌, List, IsUtf8, chars, bit_and}
+use Rattle.glob_pattern.specs.Matching.Short.{IsShort}
+use Rattle.glob_pattern.specs.Matching.Texts.{Matches}
+use Rattle.glob_c.specs.Answers.{no, yes, out_of_memory, not_utf8, unknown_flag, options_of}
+
+-- with the flag 8 the text is UTF-8
+abbrev pub IsPromised : ℕ → List ℕ → Type 0
+IsPromised flags text = ¬ (bit_and flags 8 ≡ 0) → IsUtf8 text
+
+-- whether the pattern of the text matches the other text, or why it was not tried
+pub record Answers (pattern text : List ℕ) (flags answer : ℕ) : Type 0 where
+  pub range : answer ≤ unknown_flag
+  pub yes : answer ≡ yes → Matches (options_of flags) (chars pattern) (chars text)
+  pub no : answer ≡ no → ¬ (Matches (options_of flags) (chars pattern) (chars text))
+  pub utf8 : answer < not_utf8 → IsUtf8 text
+  pub short : IsShort (chars pattern) → ¬ (answer ≡ out_of_memory)
+  pub not_utf8 : answer ≡ not_utf8 → ¬ (IsUtf8 text)
+  pub known : ¬ (answer ≡ unknown_flag) → flags ≤ 15
+  pub unknown : answer ≡ unknown_flag → 15 < flags

@@ -1,0 +1,75 @@
+-- A walk that is driven through C.
+use Rattle.std.specs.Prelude.{◌≡◌, ℕ, Bool, true, false, nat_eq, if◌then◌else◌, Ok, List, Option, Some, None, ⊤}
+use Rattle.std.specs.declared.alloc.Global.{Global}
+use Rattle.glob_tree.specs.Answers.{entries_of, entry_count}
+use Rattle.glob_tree.specs.Content.{Content, DirEntry, look_result}
+use Rattle.glob_tree.specs.declared.tree.Look.{Look}
+use Rattle.glob_tree.specs.declared.tree.Look.TheVariants as look
+use Rattle.glob_walk.specs.Machines.{MachineState, Saying, AsksLook, AsksList, Says, Ends, StepCounts}
+use Rattle.glob_walk.specs.Marks.{Found, Unread}
+use Rattle.glob_walk.specs.Questions.{IsSomeContent, IsListedIn, question_path}
+use Rattle.glob_walk.specs.Walks.{Gives, LimitAt, NoMemory}
+use Rattle.glob_c.specs.declared.session.Reply.{Reply}
+use Rattle.glob_c.specs.declared.session.Reply.TheVariants as reply
+
+-- what contracts see of it: the walk, its last step, and what was answered since
+pub record Sitting : Type 0 where
+  pub machine : MachineState Global
+  pub said : Saying
+  pub reply : Reply
+
+-- the number of a step
+abbrev pub kind_of : Saying → ℕ
+kind_of AsksLook = 0
+kind_of (AsksList true) = 1
+kind_of (AsksList false) = 2
+kind_of (Says (Gives (Found path))) = 3
+kind_of (Says (Gives (Unread path kind))) = 4
+kind_of (Says (LimitAt path)) = 5
+kind_of (Says NoMemory) = 6
+kind_of Ends = 8
+
+-- what was answered is what the content has, where a question is open
+abbrev pub RepliesTo : Saying → Reply → MachineState Global → Content → Type 0
+RepliesTo AsksLook (reply.Look seen) walk c = IsSomeContent c × (seen ≡ look_result c (question_path walk.asked))
+RepliesTo (AsksList kinds) (reply.Listed r) walk c = IsListedIn walk.asked r c
+RepliesTo _ _ walk c = IsSomeContent c
+
+abbrev pub Replies : Sitting → Content → Type 0
+Replies s c = RepliesTo s.said s.reply s.machine c
+
+-- no question is open, or it was answered
+abbrev pub IsAnswered : Saying → Reply → Type 0
+IsAnswered AsksLook (reply.Look seen) = ⊤
+IsAnswered AsksLook _ = ⊥
+IsAnswered (AsksList kinds) (reply.Listed r) = ⊤
+IsAnswered (AsksList kinds) _ = ⊥
+IsAnswered _ _ = ⊤
+
+-- how many entries were answered
+abbrev pub entries_said : Saying → Reply → ℕ
+entries_said (AsksList kinds) (reply.Listed r) = entry_count r
+entries_said _ _ = 0
+
+-- what the next step does to the counts, whatever was answered
+pub record Counts (said : Saying) (r : Reply) (old : MachineState Global) (s : Saying) (new : MachineState Global) : Type 0 where
+  pub answered : IsAnswered said r → StepCounts (entries_said said r) old s new
+  pub waits : ¬ (IsAnswered said r) → (s ≡ said) × (new ≡ old)
+
+-- the entries that were answered so far
+abbrev pub entries_so_far : Reply → Option (List DirEntry)
+entries_so_far (reply.Entries v) = Some (entries_of v.items)
+entries_so_far _ = None
+
+-- these entries are the answer
+abbrev pub AreListed : List DirEntry → Reply → Type 0
+AreListed es (reply.Listed (Ok v)) = entries_of v.items ≡ es
+AreListed es _ = ⊥
+
+-- what a path leads to, by its number
+abbrev pub look_of : ℕ → Look
+look_of n = if nat_eq n 0 then look.Dir else if nat_eq n 1 then look.Other else look.Missing
+
+-- a look was answered by this number
+abbrev pub looked_at : ℕ → Sitting → Sitting
+looked_at n s = record s { reply = reply.Look (look_of n) }

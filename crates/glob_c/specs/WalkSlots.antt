@@ -1,0 +1,50 @@
+-- What a slot of a walk owns, and what a call does to its walk.
+use Rattle.std.specs.Prelude.{◌≡◌, ℕ, List, []}
+use Rattle.glob_tree.specs.Content.{Content, DirEntry}
+use Rattle.glob_walk.specs.Machines.{Ends}
+use Rattle.glob_walk.specs.Marks.{Item, Mark}
+use Rattle.glob_walk.specs.Driven.{HasGiven, GivesNext}
+use base.Fml.{Fml, ftrue}
+use denote.RattleType.{RattleType}
+use denote.RawPtr.{Ptr}
+use Rattle.std.specs.contracts.impls.GlobalAllocator.TheImpl.{ghosts}
+use Rattle.std.specs.declared.option.Option.{Option}
+use Rattle.std.specs.declared.option.Option.TheVariants.{None, Some}
+use Rattle.std_alloc.specs.Box.Ownership.{box_owns}
+use Rattle.glob_c.specs.Slots.{c_heap}
+use Rattle.glob_c.specs.Sessions.{Sitting, Counts, entries_so_far, kind_of, AreListed}
+use Rattle.glob_c.specs.contracts.session.Session as session
+
+-- a walk over the heap of the C library
+abbrev pub SessionRow : RattleType
+SessionRow = session.the_row
+
+-- an empty slot owns nothing, and one with a walk its box
+abbrev pub walk_owns : Ptr → Option Sitting → Fml
+walk_owns p None = ftrue
+walk_owns p (Some walk) = box_owns (ghosts.dealloc_token c_heap) SessionRow p walk
+
+-- the slot has a walk that has done nothing yet, over this listing
+abbrev pub IsBegun : List Mark → Content → Option Sitting → Type 0
+IsBegun all c None = ⊥
+IsBegun all c (Some s) = HasGiven all c [] s.machine × (s.said ≡ Ends)
+
+-- the slot has the walk after a step of this number
+abbrev pub IsAdvanced : List Mark → Content → List Item → ℕ → Option Sitting → Type 0
+IsAdvanced all c given kind None = ⊥
+IsAdvanced all c given kind (Some s) = (kind ≡ kind_of s.said) × GivesNext all c given s.said s.machine
+
+-- the slot has the walk after one step more, with its counts
+abbrev pub IsCounted : Sitting → Option Sitting → Type 0
+IsCounted old None = ⊥
+IsCounted old (Some s) = Counts old.said old.reply old.machine s.said s.machine
+
+-- these entries were answered so far
+abbrev pub HasEntries : Sitting → List DirEntry → Option Sitting → Type 0
+HasEntries old es None = ⊥
+HasEntries old es (Some s) = (s.machine ≡ old.machine) × (s.said ≡ old.said) × (entries_so_far s.reply ≡ Some es)
+
+-- these entries are the answer
+abbrev pub HasListed : Sitting → List DirEntry → Option Sitting → Type 0
+HasListed old es None = ⊥
+HasListed old es (Some s) = (s.machine ≡ old.machine) × (s.said ≡ old.said) × AreListed es s.reply

@@ -1,0 +1,252 @@
+//! A walk that is driven through C: its last step, and what was answered since.
+ghost use Rattle.std.specs.Prelude.{◌≡◌, ◌++◌, [], ◌∷◌, Bool, List, None, Some, IsSome};
+ghost use Rattle.glob_tree.specs.Content.{Content, DirEntry};
+ghost use Rattle.glob_walk.specs.Machines.{AsksList, AsksLook, Ends, IsAskedAfter, Says, saying};
+ghost use Rattle.glob_text.specs.Text.{Text};
+ghost use Rattle.glob_walk.specs.Questions.{question_path};
+ghost use Rattle.glob_walk.specs.Walks.{Gives, outcome};
+ghost use Rattle.glob_walk.specs.Marks.{Found, Item, Mark};
+ghost use Rattle.glob_walk.specs.Driven.{HasGiven, GivesNext};
+ghost use Rattle.glob_c.specs.Answers.{done, not_asked};
+ghost use Rattle.glob_c.specs.Sessions.{AreListed, Counts, Replies, RepliesTo, entries_so_far, kind_of};
+
+use crate::pattern::{DONE, NOT_UTF8, OUT_OF_MEMORY};
+use glob_tree::{Entry, ListError, Look, Name};
+use glob_walk::{GlobCause, GlobResult, Step, WalkMachine};
+use std::alloc::Global;
+use std::marker::Model;
+use std::{io, mem};
+
+const NOT_ASKED: u32 = 9;
+
+const NO_NAME: u32 = 10;
+
+/// What was answered since the last step.
+#[derive(Drop)]
+pub(crate) enum Reply {
+    /// Nothing.
+    Nothing,
+    /// What the path leads to.
+    Look(Look),
+    /// Some of the entries.
+    Entries(Vec<Entry<Global>, Global>),
+    /// All entries, or why there are none.
+    Listed(Result<Vec<Entry<Global>, Global>, ListError>),
+}
+
+/// A walk, its last step, and the answer to it.
+#[derive(Drop)]
+pub(crate) struct Session {
+    machine: WalkMachine<Global>,
+    step: Step<Global>,
+    reply: Reply,
+}
+
+impl Model for Session {
+    ghost use Rattle.glob_walk.specs.Machines.{IsAskedAfter, saying};
+    ghost use Rattle.glob_c.specs.Sessions.{Sitting};
+
+    ghost Value = { Sitting };
+
+    ghost view = { λ s. record {
+      machine = s.machine;
+      said = saying s.step;
+      reply = s.reply;
+    } };
+
+    ghost invariant = { λ s. IsAskedAfter (saying s.step) s.machine.asked };
+}
+
+impl Session {
+    /// A session of a walk that has done nothing yet.
+    pub(crate) fn new(machine: WalkMachine<Global>) -> Session
+        requires { machine.asked ≡ None }
+        ensures machine { result.machine ≡ machine }
+        ensures said { result.said ≡ Ends }
+    {
+        Session {
+            machine,
+            step: Step::Done,
+            reply: Reply::Nothing,
+        }
+    }
+
+    /// Goes on to the next step, with what was answered. A question that was not answered in full is asked again.
+    pub(crate) fn advance(&mut self, alloc: Global) -> u32
+        ensures kind { result ≡ kind_of self.new.said }
+        ensures begun { (kinds : Bool) → self.new.said ≡ AsksList kinds
+            → entries_so_far self.new.reply ≡ Some [] }
+        ensures counts { Counts self.old.said self.old.reply self.old.machine
+            self.new.said self.new.machine }
+        ensures driven { (c : Content) → (all : List Mark) → (given : List Item)
+            → Replies self.old c → HasGiven all c given self.old.machine
+            → GivesNext all c given self.new.said self.new.machine }
+    {
+        let said = mem::replace(&mut self.step, Step::Done);
+        let reply = mem::replace(&mut self.reply, Reply::Nothing);
+        self.step = step_after(&mut self.machine, said, reply);
+        self.reply = first_reply(alloc, &self.step);
+        kind_of(&self.step)
+    }
+
+    /// Answers what the path leads to: 0, or 9 where that was not asked.
+    pub(crate) fn looked(&mut self, seen: Look) -> u32
+        ensures answered { result ≡ done → self.new ≡ record self.old { reply = Reply.Look seen } }
+        ensures asked { self.old.said ≡ AsksLook → result ≡ done }
+        ensures kept { ¬ (result ≡ done) → self.new ≡ self.old }
+    {
+        match self.step {
+            Step::Look => {
+                self.reply = Reply::Look(seen);
+                DONE
+            }
+            Step::List | Step::ListNames | Step::Item(_) | Step::Done => NOT_ASKED,
+        }
+    }
+
+    /// Answers one entry more: 0, or 2 if an allocation fails, 3 for bytes that are no UTF-8, 9 where no entries are asked
+    /// for, and 10 for what is no name. After all but 0 nothing has changed.
+    pub(crate) fn entry(&mut self, alloc: Global, name: &[u8], is_dir: bool) -> u32
+        ensures machine { self.new.machine ≡ self.old.machine }
+        ensures said { self.new.said ≡ self.old.said }
+        ensures added { result ≡ done → (es : List DirEntry)
+            → entries_so_far self.old.reply ≡ Some es
+            → entries_so_far self.new.reply ≡ Some (es ++ (name.now, is_dir) ∷ []) }
+        ensures refused { ¬ (result ≡ done)
+            → entries_so_far self.new.reply ≡ entries_so_far self.old.reply }
+    {
+        let Reply::Entries(entries) = &mut self.reply else {
+            return NOT_ASKED;
+        };
+        let Ok(text) = str::from_utf8(name) else {
+            return NOT_UTF8;
+        };
+        let Ok(text) = String::from_str(alloc, text) else {
+            return OUT_OF_MEMORY;
+        };
+        let Ok(name) = Name::new(text) else {
+            return NO_NAME;
+        };
+        match entries.push(Entry { name, is_dir }) {
+            Ok(()) => DONE,
+            Err(_) => OUT_OF_MEMORY,
+        }
+    }
+
+    /// All entries were answered: 0, or 9 where none were asked for.
+    pub(crate) fn listed(&mut self) -> u32
+        ensures machine { self.new.machine ≡ self.old.machine }
+        ensures said { self.new.said ≡ self.old.said }
+        ensures listed { (es : List DirEntry) → entries_so_far self.old.reply ≡ Some es
+            → AreListed es self.new.reply }
+        ensures done { (es : List DirEntry) → entries_so_far self.old.reply ≡ Some es
+            → result ≡ done }
+        ensures kept { ¬ (result ≡ done) → self.new ≡ self.old }
+    {
+        match mem::replace(&mut self.reply, Reply::Nothing) {
+            Reply::Entries(entries) => {
+                self.reply = Reply::Listed(Ok(entries));
+                DONE
+            }
+            other => {
+                self.reply = other;
+                NOT_ASKED
+            }
+        }
+    }
+
+    /// The directory could not be listed, for the system's reason of this number: 0, or 9 where none was to be listed.
+    pub(crate) fn unread(&mut self, code: i32) -> u32
+        ensures machine { self.new.machine ≡ self.old.machine }
+        ensures said { self.new.said ≡ self.old.said }
+        ensures asked { (kinds : Bool) → self.old.said ≡ AsksList kinds → result ≡ done }
+        ensures kept { ¬ (result ≡ done) → self.new ≡ self.old }
+    {
+        match self.step {
+            Step::List | Step::ListNames => {
+                let error = io::Error::from_raw_os_error(code);
+                self.reply = Reply::Listed(Err(ListError::Read(error)));
+                DONE
+            }
+            Step::Look | Step::Item(_) | Step::Done => NOT_ASKED,
+        }
+    }
+
+    /// The path of the last step.
+    pub(crate) fn path(&self) -> &str
+        ensures asked { IsSome self.now.machine.asked
+            → result.now ≡ question_path self.now.machine.asked }
+        ensures found { (path : Text) → self.now.said ≡ Says (Gives (Found path))
+            → result.now ≡ path }
+    {
+        match &self.step {
+            Step::Look | Step::List | Step::ListNames | Step::Done => self.machine.path(),
+            Step::Item(Ok(path)) => path.as_str(),
+            Step::Item(Err(error)) => error.path().as_str(),
+        }
+    }
+}
+
+/// What is answered before anything is: no entries where they are asked for.
+fn first_reply(alloc: Global, step: &Step<Global>) -> Reply
+    ensures { (kinds : Bool) → saying step.now ≡ AsksList kinds
+        → entries_so_far result ≡ Some [] }
+{
+    match step {
+        Step::List | Step::ListNames => Reply::Entries(Vec::new(alloc)),
+        Step::Look | Step::Item(_) | Step::Done => Reply::Nothing,
+    }
+}
+
+/// The step after another one and a reply.
+fn step_after(machine: &mut WalkMachine<Global>, said: Step<Global>, reply: Reply) -> Step<Global>
+    requires { IsAskedAfter (saying said) machine.old.asked }
+    ensures asks { IsAskedAfter (saying result) machine.new.asked }
+    ensures counts { Counts (saying said) reply machine.old (saying result) machine.new }
+    ensures driven { (c : Content) → (all : List Mark) → (given : List Item)
+        → RepliesTo (saying said) reply machine.old c → HasGiven all c given machine.old
+        → GivesNext all c given (saying result) machine.new }
+{
+    match said {
+        Step::Look => match reply {
+            Reply::Look(seen) => machine.looked(Ok(seen)),
+            Reply::Nothing | Reply::Entries(_) | Reply::Listed(_) => Step::Look,
+        },
+        Step::List => match reply {
+            Reply::Listed(listed) => machine.listed(listed),
+            Reply::Nothing | Reply::Entries(_) | Reply::Look(_) => Step::List,
+        },
+        Step::ListNames => match reply {
+            Reply::Listed(listed) => machine.listed(listed),
+            Reply::Nothing | Reply::Entries(_) | Reply::Look(_) => Step::ListNames,
+        },
+        Step::Item(_) | Step::Done => machine.next(),
+    }
+}
+
+/// The number of a step.
+fn kind_of(step: &Step<Global>) -> u32
+    ensures { result ≡ kind_of (saying step.now) }
+{
+    match step {
+        Step::Look => 0,
+        Step::List => 1,
+        Step::ListNames => 2,
+        Step::Item(item) => kind_of_item(item),
+        Step::Done => 8,
+    }
+}
+
+/// The number of an item's step.
+fn kind_of_item(item: &GlobResult<Global>) -> u32
+    ensures { result ≡ kind_of (Says (outcome item.now)) }
+{
+    match item {
+        Ok(_) => 3,
+        Err(error) => match error.cause() {
+            GlobCause::Read => 4,
+            GlobCause::Limit => 5,
+            GlobCause::Memory => 6,
+        },
+    }
+}

@@ -1,0 +1,254 @@
+//! Walks for C: the caller answers what a walk asks for.
+ghost use Rattle.std.specs.Prelude.{◌≡◌, ◌≤◌, ◌++◌, ◌∷◌, IsSome, IsUtf8, [], List, length, take, drop};
+ghost use Rattle.std.specs.declared.option.Option.TheVariants.{None, Some};
+ghost use Rattle.glob_pattern.specs.Grammar.Faults.{Fault as TextFault};
+ghost use Rattle.glob_tree.specs.Content.{Content, DirEntry};
+ghost use Rattle.glob_text.specs.Text.{Text};
+ghost use Rattle.glob_walk.specs.Machines.{AsksLook, Says};
+ghost use Rattle.glob_walk.specs.Questions.{question_path};
+ghost use Rattle.glob_walk.specs.Walks.{Gives};
+ghost use Rattle.glob_walk.specs.Components.{walk_fault};
+ghost use Rattle.glob_walk.specs.Listing.{listing};
+ghost use Rattle.glob_walk.specs.Marks.{Found, Item, Mark};
+ghost use Rattle.glob_walk.specs.Driven.{HasGiven};
+ghost use Rattle.glob_c.specs.Answers.{done, empty, in_use, not_utf8, number_of, options_of, syntax_fault, too_short};
+ghost use Rattle.glob_c.specs.Sessions.{Replies, Sitting, entries_so_far, look_of, looked_at};
+ghost use Rattle.glob_c.specs.WalkSlots.{HasEntries, HasListed, IsAdvanced, IsBegun, IsCounted};
+
+use crate::escape::TOO_SHORT;
+use crate::fault::{self, Fault};
+use crate::pattern::{
+    DONE, IN_USE, NOT_UTF8, OUT_OF_MEMORY, SYNTAX_FAULT, UNKNOWN_FLAG, options_of,
+};
+use crate::session::Session;
+use crate::walk_handle::WalkHandle;
+use glob_pattern::{PatternError, PatternRefusal};
+use glob_tree::Look;
+use glob_walk::WalkMachine;
+use std::alloc::Global;
+
+const EMPTY: u32 = 7;
+
+/// Begins a walk after the bytes as a pattern, with at most `limit` units of work, and puts it into the handle.
+///
+/// The answer is 0; or 1 for bytes that are no pattern, with their first fault in `fault`; or 2 if an allocation fails; or
+/// 3 for bytes that are no UTF-8; or 5 for an unknown flag; or 6 if the handle has a walk. After a refusal the handle is as
+/// it was.
+#[unsafe(no_mangle)]
+pub extern "C" fn cadmiumdove_walk_new(
+    alloc: Global,
+    handle: &mut WalkHandle,
+    pattern: &[u8],
+    flags: u32,
+    limit: u64,
+    fault: &mut Fault,
+) -> u32
+    ensures range { result ≤ in_use }
+    ensures was_empty { result ≡ done → handle.old.slot.walk ≡ None }
+    ensures utf8 { result ≡ done → IsUtf8 pattern.now }
+    ensures known { result ≡ done → flags ≤ 7 }
+    ensures accepted { result ≡ done → walk_fault pattern.now ≡ None }
+    ensures begun { result ≡ done → (c : Content)
+        → IsBegun (listing c (options_of flags) pattern.now) c handle.new.slot.walk }
+    ensures syntax { result ≡ syntax_fault → (f : TextFault) → walk_fault pattern.now ≡ Some f →
+        (fault.new.place ≡ f.place) × (fault.new.message ≡ number_of f.message) }
+    ensures faulty { result ≡ syntax_fault → IsSome (walk_fault pattern.now) }
+    ensures not_utf8 { result ≡ not_utf8 → ¬ (IsUtf8 pattern.now) }
+    ensures refused { ¬ (result ≡ done) → handle.new.slot.walk ≡ handle.old.slot.walk }
+    ensures untold { ¬ (result ≡ syntax_fault) → fault.new ≡ fault.old }
+{
+    if handle.is_full() {
+        return IN_USE;
+    }
+    if flags > 7 {
+        return UNKNOWN_FLAG;
+    }
+    let Ok(text) = str::from_utf8(pattern) else {
+        return NOT_UTF8;
+    };
+    match WalkMachine::new(alloc, text, options_of(flags), limit) {
+        Ok(machine) => match Box::new(alloc, Session::new(machine)) {
+            Ok(session) => {
+                handle.fill(session);
+                DONE
+            }
+            Err(_) => OUT_OF_MEMORY,
+        },
+        Err(PatternRefusal::Syntax(error)) => {
+            let PatternError { pos, msg } = error;
+            *fault = Fault {
+                place: pos,
+                message: fault::code_of(msg),
+            };
+            SYNTAX_FAULT
+        }
+        Err(PatternRefusal::Memory) => OUT_OF_MEMORY,
+    }
+}
+
+/// Goes on to the next step, with what was answered since the last: 0 where it is asked what the path leads to, 1 for a
+/// listing, 2 for names alone, 3 for a path, 4 for a directory that could not be listed, 5 at the limit, 6 if an allocation
+/// failed, 8 where nothing is left; and 7 if the handle is empty. A question that was not answered in full is asked again.
+#[unsafe(no_mangle)]
+pub extern "C" fn cadmiumdove_walk_next(alloc: Global, handle: &mut WalkHandle) -> u32
+    ensures empty { handle.old.slot.walk ≡ None → result ≡ empty }
+    ensures kept { handle.old.slot.walk ≡ None → handle.new.slot.walk ≡ None }
+    ensures driven { (s : Sitting) → handle.old.slot.walk ≡ Some s
+        → (c : Content) → (all : List Mark) → (given : List Item) → Replies s c
+        → HasGiven all c given s.machine
+        → IsAdvanced all c given result handle.new.slot.walk }
+    ensures counts { (s : Sitting) → handle.old.slot.walk ≡ Some s
+        → IsCounted s handle.new.slot.walk }
+{
+    let Some(mut session) = handle.take(alloc) else {
+        return EMPTY;
+    };
+    let step = session.advance(alloc);
+    handle.fill(session);
+    step
+}
+
+/// Writes the path of the last step to the start of `out`, and its length to `needed`.
+///
+/// The answer is 0; or 4 if `out` is too short, and then `needed` is the length that would do; or 7 if the handle is empty.
+#[unsafe(no_mangle)]
+pub extern "C" fn cadmiumdove_walk_path(
+    alloc: Global,
+    handle: &mut WalkHandle,
+    out: &mut [u8],
+    needed: &mut usize,
+) -> u32
+    ensures kept { handle.new.slot.walk ≡ handle.old.slot.walk }
+    ensures empty { handle.old.slot.walk ≡ None → result ≡ empty }
+    ensures fits { result ≡ done → needed.new ≤ length out.old }
+    ensures rest { result ≡ done → drop needed.new out.new ≡ drop needed.new out.old }
+    ensures unwritten { ¬ (result ≡ done) → out.new ≡ out.old }
+    ensures asked { (s : Sitting) → handle.old.slot.walk ≡ Some s → result ≡ done
+        → IsSome s.machine.asked → take needed.new out.new ≡ question_path s.machine.asked }
+    ensures found { (s : Sitting) → handle.old.slot.walk ≡ Some s → result ≡ done
+        → (path : Text) → s.said ≡ Says (Gives (Found path)) → take needed.new out.new ≡ path }
+{
+    let Some(session) = handle.take(alloc) else {
+        return EMPTY;
+    };
+    let answer = write(session.path().as_bytes(), out, needed);
+    handle.fill(session);
+    answer
+}
+
+/// Writes the bytes to the start of `out`, and their number to `needed`.
+fn write(bytes: &[u8], out: &mut [u8], needed: &mut usize) -> u32
+    ensures range { ¬ (result ≡ done) → result ≡ too_short }
+    ensures fits { result ≡ done → needed.new ≤ length out.old }
+    ensures written { result ≡ done → take needed.new out.new ≡ bytes.now }
+    ensures rest { result ≡ done → drop needed.new out.new ≡ drop needed.new out.old }
+    ensures unwritten { ¬ (result ≡ done) → out.new ≡ out.old }
+{
+    *needed = bytes.len();
+    if out.len() < bytes.len() {
+        return TOO_SHORT;
+    }
+    out[..bytes.len()].copy_from_slice(bytes);
+    DONE
+}
+
+/// Answers what the path leads to: `kind` is 0 for a directory, 1 for something else, and any other number for nothing.
+///
+/// The answer is 0; or 7 if the handle is empty; or 9 where that was not asked.
+#[unsafe(no_mangle)]
+pub extern "C" fn cadmiumdove_walk_looked(alloc: Global, handle: &mut WalkHandle, kind: u32) -> u32
+    ensures empty { handle.old.slot.walk ≡ None → result ≡ empty }
+    ensures looked { (s : Sitting) → handle.old.slot.walk ≡ Some s → s.said ≡ AsksLook
+        → handle.new.slot.walk ≡ Some (looked_at kind s) }
+    ensures kept { ¬ (result ≡ done) → handle.new.slot.walk ≡ handle.old.slot.walk }
+{
+    let Some(mut session) = handle.take(alloc) else {
+        return EMPTY;
+    };
+    let answer = session.looked(look_of(kind));
+    handle.fill(session);
+    answer
+}
+
+/// What the number says.
+fn look_of(kind: u32) -> Look
+    ensures { result ≡ look_of kind }
+{
+    if kind == 0 {
+        Look::Dir
+    } else if kind == 1 {
+        Look::Other
+    } else {
+        Look::Missing
+    }
+}
+
+/// Answers one entry of the directory, with its name.
+///
+/// The answer is 0; or 2 if an allocation fails; or 3 for bytes that are no UTF-8; or 7 if the handle is empty; or 9 where no
+/// entries are asked for; or 10 for what is no name. After all but 0 the entries are those of before.
+#[unsafe(no_mangle)]
+pub extern "C" fn cadmiumdove_walk_entry(
+    alloc: Global,
+    handle: &mut WalkHandle,
+    name: &[u8],
+    is_dir: bool,
+) -> u32
+    ensures empty { handle.old.slot.walk ≡ None → result ≡ empty }
+    ensures added { (s : Sitting) → handle.old.slot.walk ≡ Some s → result ≡ done
+        → (es : List DirEntry) → entries_so_far s.reply ≡ Some es
+        → HasEntries s (es ++ (name.now, is_dir) ∷ []) handle.new.slot.walk }
+    ensures refused { (s : Sitting) → handle.old.slot.walk ≡ Some s → ¬ (result ≡ done)
+        → (es : List DirEntry) → entries_so_far s.reply ≡ Some es
+        → HasEntries s es handle.new.slot.walk }
+{
+    let Some(mut session) = handle.take(alloc) else {
+        return EMPTY;
+    };
+    let answer = session.entry(alloc, name, is_dir);
+    handle.fill(session);
+    answer
+}
+
+/// All entries were answered.
+///
+/// The answer is 0; or 7 if the handle is empty; or 9 where no entries are asked for.
+#[unsafe(no_mangle)]
+pub extern "C" fn cadmiumdove_walk_listed(alloc: Global, handle: &mut WalkHandle) -> u32
+    ensures empty { handle.old.slot.walk ≡ None → result ≡ empty }
+    ensures listed { (s : Sitting) → handle.old.slot.walk ≡ Some s
+        → (es : List DirEntry) → entries_so_far s.reply ≡ Some es
+        → HasListed s es handle.new.slot.walk }
+    ensures kept { ¬ (result ≡ done) → handle.new.slot.walk ≡ handle.old.slot.walk }
+{
+    let Some(mut session) = handle.take(alloc) else {
+        return EMPTY;
+    };
+    let answer = session.listed();
+    handle.fill(session);
+    answer
+}
+
+/// The directory could not be listed, for the system's reason of this number, as `errno` has it.
+///
+/// The answer is 0; or 7 if the handle is empty; or 9 where no directory was to be listed.
+#[unsafe(no_mangle)]
+pub extern "C" fn cadmiumdove_walk_unread(alloc: Global, handle: &mut WalkHandle, code: i32) -> u32
+    ensures empty { handle.old.slot.walk ≡ None → result ≡ empty }
+    ensures kept { ¬ (result ≡ done) → handle.new.slot.walk ≡ handle.old.slot.walk }
+{
+    let Some(mut session) = handle.take(alloc) else {
+        return EMPTY;
+    };
+    let answer = session.unread(code);
+    handle.fill(session);
+    answer
+}
+
+/// Ends a walk, if there is one, and leaves the handle empty.
+#[unsafe(no_mangle)]
+pub extern "C" fn cadmiumdove_walk_free(alloc: Global, handle: &mut WalkHandle)
+    ensures empty { handle.new.slot.walk ≡ None }
+{
+    drop(handle.take(alloc));
+}

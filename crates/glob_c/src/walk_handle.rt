@@ -1,0 +1,62 @@
+ghost use Rattle.std.specs.Prelude.{◌≡◌, MatchOption, is_some};
+ghost use Rattle.std.specs.declared.option.Option.TheVariants.{None, Some};
+
+use crate::loose::Loose;
+use crate::session::Session;
+use crate::walk_slot::WalkSlot;
+use std::alloc::Global;
+use std::mem;
+
+/// Where a C program keeps a walk, or none.
+#[repr(C)]
+pub struct WalkHandle {
+    pub(crate) slot: WalkSlot,
+    /// Whether the slot has a walk.
+    full: bool,
+    ghost tied: { full ≡ is_some slot.walk },
+}
+
+impl WalkHandle {
+    /// Whether there is a walk.
+    pub(crate) fn is_full(&self) -> bool
+        ensures { result ≡ is_some self.now.slot.walk }
+    {
+        self.full
+    }
+
+    /// Puts a walk where none is.
+    pub(crate) fn fill(&mut self, walk: Box<Session, Global>)
+        requires { self.old.slot.walk ≡ None }
+        ensures { self.new.slot.walk ≡ Some walk.value }
+    {
+        let WalkHandle { slot, full: _ } = mem::replace(
+            self,
+            WalkHandle {
+                slot: WalkSlot::of(Loose::of(walk)),
+                full: true,
+            },
+        );
+        slot.close();
+    }
+
+    /// Takes the walk out, if there is one.
+    pub(crate) fn take(&mut self, alloc: Global) -> Option<Box<Session, Global>>
+        ensures empty { self.new.slot.walk ≡ None }
+        ensures value { MatchOption result (self.old.slot.walk ≡ None)
+            (λ b. self.old.slot.walk ≡ Some b.value) }
+    {
+        let WalkHandle { slot, full } = mem::replace(
+            self,
+            WalkHandle {
+                slot: WalkSlot::empty(),
+                full: false,
+            },
+        );
+        if full {
+            Some(slot.into_loose(alloc).into_box())
+        } else {
+            slot.close();
+            None
+        }
+    }
+}

@@ -1,0 +1,80 @@
+#!/usr/bin/env bash
+# Makes a release, unpacks it in an empty folder, and uses each part of it there, with neither the repository nor `rt` in
+# reach. Its last line is 'N passed, M failed'.
+set -uo pipefail
+root=$(cd "$(dirname "$(readlink -f "${BASH_SOURCE[0]}")")/.." && pwd)
+work=$(mktemp -d) || exit 2
+trap 'rm -rf "$work"' EXIT
+passed=0 failed=0
+
+# check NAME COMMAND..
+check() {
+    local name=$1
+    shift
+    if "$@" >"$work/log" 2>&1; then
+        passed=$((passed + 1))
+    else
+        failed=$((failed + 1))
+        echo "failed: $name"
+        tail -n 20 "$work/log"
+    fi
+}
+
+# alone COMMAND..: in the unpacked folder, without `rt` and the toolchain on PATH
+alone() {
+    (cd "$work"/there/* && PATH=$(tr : '\n' <<<"$PATH" | while read -r folder; do
+        [ -e "$folder/rt" ] || printf '%s:' "$folder"
+    done) && export PATH && "$@")
+}
+
+program() {
+    [ "$(printf 'src/a.rs\nb.c\n' | bin/glob_run match '*.rs')" = src/a.rs ] && bin/glob_run --version
+}
+
+# By the flags of pkg-config.
+from_c() {
+    local flags
+    read -ra flags < <(PKG_CONFIG_PATH=lib/pkgconfig pkg-config --cflags --libs cadmiumdove) &&
+        cc -Wall -Wextra -pedantic -Werror share/doc/cadmiumdove/find.c "${flags[@]}" -o "$work/find" &&
+        [ "$("$work/find" 'inclu*/*.h')" = include/cadmiumdove.h ]
+}
+
+from_rust() {
+    mkdir -p "$work/user/src" && cat >"$work/user/Cargo.toml" <<EOF && cat >"$work/user/src/main.rs" <<'EOF2'
+[package]
+name = "user"
+version = "0.0.0"
+edition = "2021"
+
+[dependencies]
+glob = { package = "cadmiumdove", path = "$PWD/rust" }
+EOF
+use glob::{glob, Pattern};
+
+fn main() {
+    assert!(Pattern::new("*.rs").unwrap().matches("main.rs"));
+    for path in glob("inclu*/*.h").unwrap().flatten() {
+        println!("{}", path.display());
+    }
+}
+EOF2
+    [ "$(env -u CADMIUMDOVE_LIBRARY CARGO_TARGET_DIR="$work/target" \
+        cargo run -q --offline --manifest-path "$work/user/Cargo.toml")" = include/cadmiumdove.h ]
+}
+
+# A line of a commit, and of each crate that its proofs were found.
+built() {
+    grep -qE '^commit [0-9a-f]{40}' BUILT && [ "$(grep -c ': logic=proved ' BUILT)" = 8 ]
+}
+
+check 'a release' "$root/bin/release" "$work/made"
+mkdir "$work/there"
+check 'it is unpacked' tar -C "$work/there" -xf "$work/made"/*.tar.gz
+check 'the program' alone program
+check 'its man page' alone test -s share/man/man1/glob_run.1
+check 'from C' alone from_c
+check 'from Rust' alone from_rust
+check 'what it was made from' alone built
+check 'licences' alone test -s LICENSE-MIT -a -s rust/LICENSE-APACHE
+echo "$passed passed, $failed failed"
+[ "$failed" = 0 ]
