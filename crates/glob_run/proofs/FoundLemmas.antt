@@ -7,18 +7,20 @@ use Rattle.std.specs.declared.io.ErrorKind.{ErrorKind}
 use Rattle.std.specs.declared.path.buf.PathBuf.{PathBuf}
 use Rattle.std.proofs.KnownBytes.{Appends-nil}
 use Rattle.std.proofs.lemmas.List.Concat.{flat_map-append}
-use Rattle.glob.specs.Answers.{IsTold}
-use Rattle.glob.specs.Content.{Content}
-use Rattle.glob.specs.Machines.{MachineState, Saying, AsksLook, AsksList, Says, Ends, IsAskedAfter, IsCharged, StepCounts, StepGoes, is_last_step, left_of, step_outcome, step_units}
-use Rattle.glob.specs.Lines.{ended_line, with_line_feeds}
-use Rattle.glob.specs.Marks.{Mark, Item, Found, Unread, items, cost, front, paths, IsBeginning}
-use Rattle.glob.specs.Questions.{IsSomeContent}
-use Rattle.glob.specs.Text.{Text}
-use Rattle.glob.specs.Driven.{HasGiven, GivesNext}
-use Rattle.glob.specs.Types.{End, GlobCause, GlobError}
-use Rattle.glob.specs.Variants.End as end
-use Rattle.glob.specs.Variants.GlobCause as cause
-use Rattle.glob.specs.Walks.{Outcome, Gives, LimitAt, NoMemory, outcome, error_outcome, item_number}
+use Rattle.glob_tree.specs.Answers.{IsTold}
+use Rattle.glob_tree.specs.Content.{Content}
+use Rattle.glob_walk.specs.Machines.{MachineState, Saying, AsksLook, AsksList, Says, Ends, IsAskedAfter, IsCharged, StepCounts, StepGoes, is_last_step, left_of, step_outcome, step_units}
+use Rattle.glob_lines.specs.Lines.{ended_line, with_line_feeds}
+use Rattle.glob_walk.specs.Marks.{Mark, Item, Found, Unread, items, cost, front, paths, IsBeginning}
+use Rattle.glob_walk.specs.Questions.{IsSomeContent}
+use Rattle.glob_text.specs.Text.{Text}
+use Rattle.glob_walk.specs.Driven.{HasGiven, GivesNext}
+use Rattle.glob_walk.specs.declared.walk.End.{End}
+use Rattle.glob_walk.specs.declared.error.GlobCause.{GlobCause}
+use Rattle.glob_walk.specs.declared.error.GlobError.{GlobError}
+use Rattle.glob_walk.specs.declared.walk.End.TheVariants as end
+use Rattle.glob_walk.specs.declared.error.GlobCause.TheVariants as cause
+use Rattle.glob_walk.specs.Walks.{Outcome, Gives, LimitAt, NoMemory, outcome, error_outcome, item_number}
 use Rattle.glob_walk.proofs.ListingLemmas.Marks.{IsBeginning-append}
 use Rattle.glob_run.specs.FoundPaths.{FindsPaths, FindsSomeBytes, GaveItems, has_any, has_unread, item_line, noting}
 use Rattle.glob_run.specs.Outcomes.{AppendsSome, Queues}

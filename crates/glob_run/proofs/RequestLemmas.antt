@@ -2,7 +2,7 @@
 use Rattle.std.proofs.Common.{◌≡◌, ℕ, ◌-◌, ◌≤◌, ◌&&◌, ◌||◌, Bool, true, false, List, [], ◌∷◌, Some, length, get_or, take, drop, map, refl, sym, subst, Bor, arith}
 use Rattle.std.specs.Prelude.{codes, bytes_eq}
 use Rattle.std.proofs.lemmas.List.{take_rest}
-use Rattle.glob.specs.Types.{MatchOptions}
+use Rattle.glob_pattern.specs.declared.options.MatchOptions.{MatchOptions}
 use Rattle.glob_run.specs.CommandLine.{is_option, is_match_option, with_option, limit_of, paths_request}
 
 first_of_each : (a p q r : Bool) → ((a && p) || ((a && q) || (a && r))) ≡ true → a ≡ true

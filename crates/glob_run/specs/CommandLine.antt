@@ -3,8 +3,8 @@ use Rattle.std.specs.Prelude.{ℕ, ◌^◌, ◌-◌, ◌==◌, ◌&&◌, ◌||�
 use Rattle.std.specs.List.{list_all}
 use Rattle.std.specs.Char.{is_ascii_digit}
 use Rattle.std.specs.Str.Parse.{digits_value}
-use Rattle.glob.specs.Types.{MatchOptions}
-use Rattle.glob.specs.Matching.Options.{new_options}
+use Rattle.glob_pattern.specs.declared.options.MatchOptions.{MatchOptions}
+use Rattle.glob_pattern.specs.Matching.Options.{new_options}
 use Rattle.glob_run.specs.Requests.{Request}
 use Rattle.glob_run.specs.Requests.{Lines, Escaped, Paths, Page, VersionLine}
 

@@ -3,13 +3,14 @@ use Rattle.std.specs.Prelude.{◌≡◌, ℕ, ◌<◌, ◌≤◌, ◌⊎◌, if�
 use Rattle.std.specs.Io.KnownBytes.{Appends}
 use Rattle.std.specs.Path.{path_buf_bytes}
 use Rattle.std.specs.declared.path.buf.PathBuf.{PathBuf}
-use Rattle.glob.specs.Components.{walk_fault}
-use Rattle.glob.specs.Lines.{ended_line, with_line_feeds}
-use Rattle.glob.specs.Marks.{Mark, Item, Found, Unread, items, cost, front, paths}
-use Rattle.glob.specs.Text.{Text}
-use Rattle.glob.specs.Types.{End, GlobError}
-use Rattle.glob.specs.Variants.End as end
-use Rattle.glob.specs.Walks.{Outcome, Gives, LimitAt, NoMemory, IsCutShort, RefusesWith}
+use Rattle.glob_walk.specs.Components.{walk_fault}
+use Rattle.glob_lines.specs.Lines.{ended_line, with_line_feeds}
+use Rattle.glob_walk.specs.Marks.{Mark, Item, Found, Unread, items, cost, front, paths}
+use Rattle.glob_text.specs.Text.{Text}
+use Rattle.glob_walk.specs.declared.walk.End.{End}
+use Rattle.glob_walk.specs.declared.error.GlobError.{GlobError}
+use Rattle.glob_walk.specs.declared.walk.End.TheVariants as end
+use Rattle.glob_walk.specs.Walks.{Outcome, Gives, LimitAt, NoMemory, IsCutShort, RefusesWith}
 use Rattle.glob_run.specs.Outcomes.{AppendsSome}
 use Rattle.glob_run.specs.declared.find.fault.FindFault.{FindFault}
 use Rattle.glob_run.specs.declared.find.fault.FindFault.TheVariants.{Pattern, Write}

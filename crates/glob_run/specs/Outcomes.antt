@@ -1,9 +1,9 @@
 -- What a run comes to: its status, and what its output gained.
 use Rattle.std.specs.Prelude.{◌≡◌, ℕ, ◌<◌, ◌⊎◌, ◌++◌, List, Option, chars, take}
 use Rattle.std.specs.Io.KnownBytes.{Appends, Keeps}
-use Rattle.glob.specs.Escaping.{escaped_text}
-use Rattle.glob.specs.Lines.{FiltersLines, FiltersSomeBytes, ended_line}
-use Rattle.glob.specs.Types.{MatchOptions}
+use Rattle.glob_pattern.specs.Escaping.{escaped_text}
+use Rattle.glob_lines.specs.Lines.{FiltersLines, FiltersSomeBytes, ended_line}
+use Rattle.glob_pattern.specs.declared.options.MatchOptions.{MatchOptions}
 
 -- a fault before anything was done with the output
 abbrev pub IsRefused : {W : Type 0} → (old new : W) → (status : ℕ) → Type 0

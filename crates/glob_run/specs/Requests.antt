@@ -1,6 +1,6 @@
 -- What the words of a command line ask of the program.
 use Rattle.std.specs.Prelude.{ℕ, List}
-use Rattle.glob.specs.Types.{MatchOptions}
+use Rattle.glob_pattern.specs.declared.options.MatchOptions.{MatchOptions}
 use Rattle.glob_run.specs.declared.command.Command.{Command}
 use Rattle.glob_run.specs.declared.command.Command.TheVariants.{Match, Escape, Find, Help, Version}
 use Rattle.glob_run.specs.declared.command.Search.{Search}

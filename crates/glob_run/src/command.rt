@@ -4,9 +4,9 @@ ghost use Rattle.std.specs.Char.{is_ascii_digit};
 ghost use Rattle.std.specs.List.{list_all};
 ghost use Rattle.glob_run.specs.CommandLine.{is_match_option, limit_of, lines_request, operand_of, paths_request, request_asked, with_option};
 ghost use Rattle.glob_run.specs.Requests.{request_of, search_request};
-ghost use Rattle.glob.specs.Matching.Options.{new_options};
+ghost use Rattle.glob_pattern.specs.Matching.Options.{new_options};
 
-use glob::MatchOptions;
+use glob_pattern::MatchOptions;
 
 /// What a list of words asks of the program.
 pub enum Command<'a> {

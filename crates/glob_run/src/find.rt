@@ -1,11 +1,11 @@
 //! The command `find`: what a walk of a tree finds, a line for each path.
 ghost use Rattle.std.specs.Prelude.{◌≡◌, ◌≢◌, ◌≤◌, ◌++◌, [], List, None, IfOk, IfErr, IsErrAnd, OnErr, OnOk};
-ghost use Rattle.glob.specs.Answers.{IsTold};
-ghost use Rattle.glob.specs.Components.{walk_fault};
-ghost use Rattle.glob.specs.Content.{Content};
-ghost use Rattle.glob.specs.Listing.{listing};
-ghost use Rattle.glob.specs.Marks.{Mark};
-ghost use Rattle.glob.specs.Driven.{HasGiven};
+ghost use Rattle.glob_tree.specs.Answers.{IsTold};
+ghost use Rattle.glob_walk.specs.Components.{walk_fault};
+ghost use Rattle.glob_tree.specs.Content.{Content};
+ghost use Rattle.glob_walk.specs.Listing.{listing};
+ghost use Rattle.glob_walk.specs.Marks.{Mark};
+ghost use Rattle.glob_walk.specs.Driven.{HasGiven};
 ghost use Rattle.glob_run.specs.FoundPaths.{FindsPaths, FindsSomeBytes, IsFindFault, IsFindStatus, IsRefusal, WritesFound, item_line};
 ghost use Rattle.glob_run.specs.Outcomes.{AppendsSome, IsRefused, Queues};
 
@@ -17,7 +17,8 @@ use crate::command::Search;
 use crate::{fault, write_line};
 use fault::FindFault;
 use findings::Findings;
-use glob::{GlobResult, Step, Tree, WalkMachine};
+use glob_tree::Tree;
+use glob_walk::{GlobResult, Step, WalkMachine};
 use lines::Lines;
 use std::alloc::Allocator;
 use std::io::{self, Write};

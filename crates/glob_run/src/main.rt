@@ -4,13 +4,13 @@
 #![tactic(auto)]
 
 ghost use Rattle.std.specs.Prelude.{◌≡◌, ◌≢◌, ◌≤◌, List, ℕ, Some, None, IfOk, OnErr, chars, map, string_bytes};
-ghost use Rattle.glob.specs.Answers.{IsTold};
-ghost use Rattle.glob.specs.Components.{walk_fault};
-ghost use Rattle.glob.specs.Content.{Content};
-ghost use Rattle.glob.specs.Grammar.Units.{IsAccepted};
-ghost use Rattle.glob.specs.Lines.{FiltersLines, FiltersSomeBytes};
-ghost use Rattle.glob.specs.Listing.{listing};
-ghost use Rattle.glob.specs.Types.{MatchOptions};
+ghost use Rattle.glob_tree.specs.Answers.{IsTold};
+ghost use Rattle.glob_walk.specs.Components.{walk_fault};
+ghost use Rattle.glob_tree.specs.Content.{Content};
+ghost use Rattle.glob_pattern.specs.Grammar.Units.{IsAccepted};
+ghost use Rattle.glob_lines.specs.Lines.{FiltersLines, FiltersSomeBytes};
+ghost use Rattle.glob_walk.specs.Listing.{listing};
+ghost use Rattle.glob_pattern.specs.declared.options.MatchOptions.{MatchOptions};
 ghost use Rattle.glob_run.specs.CommandLine.{request_asked};
 ghost use Rattle.glob_run.specs.FoundPaths.{IsFindStatus, WritesFound};
 ghost use Rattle.glob_run.specs.Outcomes.{CopiesLines, IsEscapedLine, IsRefused, WritesEscaped, WritesText};
@@ -25,7 +25,10 @@ mod writing;
 
 use command::Command;
 use find::run_find;
-use glob::{Disk, LineFault, MatchOptions, Pattern, Tree, Watch, filter_lines};
+use glob_lines::{LineFault, Watch, filter_lines};
+use glob_pattern::{MatchOptions, Pattern};
+use glob_tree::Tree;
+use glob_walk::Disk;
 use lent::Lent;
 use std::alloc::{AllocError, Allocator};
 use std::env;

@@ -1,6 +1,6 @@
 use Rattle.std.proofs.Common.{rules}
 use Rattle.std.proofs.lemmas.Result.{IfOk-weaker, on_err_weaker}
-use Rattle.glob.proofs.LineLemmas.{lines_elsewhere, some_bytes_elsewhere, some_bytes_at_fault}
+use Rattle.glob_lines.proofs.CallerLemmas.{lines_elsewhere, some_bytes_elsewhere, some_bytes_at_fault}
 use Rattle.glob_run.proofs.CopyLemmas.{Appends-lent}
 use Rattle.glob_run.proofs.filter_input.Goals as goal
 

@@ -1,6 +1,6 @@
 use Rattle.std.proofs.Common.{◌≡◌, ◌∙◌, sym}
 use Rattle.std.proofs.KnownBytes.{Keeps-refl}
-use Rattle.glob.proofs.LineLemmas.{some_bytes_by_keeping}
+use Rattle.glob_lines.proofs.CallerLemmas.{some_bytes_by_keeping}
 use Rattle.glob_run.specs.Outcomes.{CopiesLines}
 use Rattle.glob_run.proofs.run_match.Goals as goal
 

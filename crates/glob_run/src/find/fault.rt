@@ -1,5 +1,5 @@
 //! Why `find` wrote less than it found.
-use glob::PatternRefusal;
+use glob_pattern::PatternRefusal;
 use std::fmt::{self, Display};
 use std::io::{self, ErrorKind};
 

@@ -1,11 +1,11 @@
 //! What a search came to.
 ghost use Rattle.std.specs.Prelude.{◌≡◌, ◌≤◌, false};
-ghost use Rattle.glob.specs.Variants.End as end;
-ghost use Rattle.glob.specs.Walks.{outcome};
+ghost use Rattle.glob_walk.specs.declared.walk.End.TheVariants as end;
+ghost use Rattle.glob_walk.specs.Walks.{outcome};
 ghost use Rattle.glob_run.specs.FoundPaths.{noting, status_of};
 
 use crate::{FAULT, MATCHED, UNMATCHED};
-use glob::{End, GlobCause, GlobResult};
+use glob_walk::{End, GlobCause, GlobResult};
 use std::alloc::Allocator;
 
 /// What a walk came to whose paths were written.

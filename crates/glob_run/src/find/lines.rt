@@ -1,6 +1,6 @@
 //! Lines that wait for others before they are written.
 ghost use Rattle.std.specs.Prelude.{◌≡◌, ◌++◌, [], IfOk, OnErr, OnOk};
-ghost use Rattle.glob.specs.Lines.{ended_line};
+ghost use Rattle.glob_lines.specs.Lines.{ended_line};
 ghost use Rattle.glob_run.specs.Outcomes.{AppendsSome, Queues};
 
 use crate::writing::write_whole;

@@ -2,7 +2,9 @@
 //! of the original crate make, but for links.
 use super::check;
 use super::folder::{Folder, ensure};
-use glob::{GlobCause, MatchOptions, Paths, Pattern, Tree, glob, glob_with};
+use glob_pattern::{MatchOptions, Pattern};
+use glob_tree::Tree;
+use glob_walk::{GlobCause, Paths, glob, glob_with};
 use std::alloc::{AllocError, Global};
 use std::fs::Files;
 use std::io::ErrorKind;

@@ -2,7 +2,7 @@
 use super::FAULT_LINE;
 use super::folder::Folder;
 use super::runs::{self, check_failing_output, check_usage_faults};
-use glob::Pattern;
+use glob_pattern::Pattern;
 use std::env;
 use std::fs::Files;
 use std::test::Fail;

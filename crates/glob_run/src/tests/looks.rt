@@ -1,6 +1,7 @@
 //! What a look at a path of the disk finds.
 use super::folder::{Folder, ensure};
-use glob::{Disk, Look, Tree};
+use glob_tree::{Look, Tree};
+use glob_walk::Disk;
 use std::os::unix::fs::symlink;
 use std::test::Fail;
 

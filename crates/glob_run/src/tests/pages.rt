@@ -2,7 +2,7 @@
 use super::folder::ensure;
 use super::runs::{Row, check_rows};
 use crate::run_words;
-use glob::Disk;
+use glob_walk::Disk;
 use std::test::Fail;
 
 /// What the page says of each command, option, wildcard and status, a line for each.

@@ -2,7 +2,7 @@
 use super::Unwritable;
 use super::folder::ensure;
 use crate::run_words;
-use glob::Disk;
+use glob_walk::Disk;
 use std::fs::Files;
 use std::io::{Read, Write};
 use std::process::Abort;

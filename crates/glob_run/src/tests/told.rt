@@ -3,7 +3,9 @@ use super::folder::ensure;
 use crate::command::Search;
 use crate::find::find_in;
 use crate::run_words;
-use glob::{End, MatchOptions, MemTree, TreeRefusal};
+use glob_pattern::MatchOptions;
+use glob_tree::{MemTree, TreeRefusal};
+use glob_walk::End;
 use std::io::ErrorKind;
 use std::test::Fail;
 

@@ -4,7 +4,7 @@ ghost use Rattle.std.specs.Prelude.{◌≡◌, None};
 use super::folder::ensure;
 use super::{FAULT_LINE, USAGE_LINE};
 use crate::{run_words, write_line};
-use glob::{Asks, Entry, ListError, Look, Name, Tree};
+use glob_tree::{Asks, Entry, ListError, Look, Name, Tree};
 use std::alloc::{AllocError, Global};
 use std::cell::Cell;
 use std::fmt::{self, Display};

@@ -1,5 +1,5 @@
 use Rattle.std.proofs.Common.{subst}
-use Rattle.glob.specs.Listing.{listing}
+use Rattle.glob_walk.specs.Listing.{listing}
 use Rattle.glob_run.specs.FoundPaths.{FindsPaths}
 use Rattle.glob_run.proofs.find.find_in.Goals as goal
 

@@ -1,5 +1,5 @@
 use Rattle.std.proofs.Common.{◌++◌, OnErr, subst, sym}
-use Rattle.glob.specs.Lines.{ended_line}
+use Rattle.glob_lines.specs.Lines.{ended_line}
 use Rattle.glob_run.specs.FoundPaths.{item_line}
 use Rattle.glob_run.specs.Outcomes.{AppendsSome}
 use Rattle.glob_run.proofs.find.write_item.Goals as goal

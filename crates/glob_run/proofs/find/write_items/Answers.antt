@@ -1,7 +1,7 @@
 use Rattle.std.proofs.Common.{true, false, ap, subst, sym}
-use Rattle.glob.specs.Answers.{entry_count}
-use Rattle.glob.specs.Machines.{IsAskedAfter, saying, step_units}
-use Rattle.glob.specs.Questions.{IsSeenIn, IsListedIn}
+use Rattle.glob_tree.specs.Answers.{entry_count}
+use Rattle.glob_walk.specs.Machines.{IsAskedAfter, saying, step_units}
+use Rattle.glob_walk.specs.Questions.{IsSeenIn, IsListedIn}
 use Rattle.glob_walk.proofs.WalkLemmas.Driving.{seen_fits, listed_fits, lists}
 use Rattle.glob_run.proofs.FoundLemmas.{Written, Written-first, Written-answer, Written-item, Written-fault, Written-before, Written-end, fewer_steps, step_number}
 use Rattle.glob_run.proofs.WritingLemmas.{OnErr-from}

@@ -1,6 +1,6 @@
 -- The items before the step were written, or wait.
 use Rattle.std.proofs.Common.{◌+◌, ◌-◌, ◌*◌}
-use Rattle.glob.specs.Machines.{saying}
+use Rattle.glob_walk.specs.Machines.{saying}
 use Rattle.glob_run.proofs.FoundLemmas.{Written, step_number}
 use Rattle.glob_run.proofs.find.write_items.Given as goal
 

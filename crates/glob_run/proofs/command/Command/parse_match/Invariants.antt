@@ -1,6 +1,6 @@
 -- What the rest asks for under the options so far is what all words ask for.
 use Rattle.std.proofs.Common.{◌≡◌, length, map}
-use Rattle.glob.specs.Matching.Options.{new_options}
+use Rattle.glob_pattern.specs.Matching.Options.{new_options}
 use Rattle.glob_run.specs.CommandLine.{lines_request}
 use Rattle.glob_run.proofs.command.Command.parse_match.Given as goal
 
