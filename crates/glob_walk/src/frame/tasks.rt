@@ -1,6 +1,6 @@
-//! The tasks that come of the places in a directory.
+//! The tasks that come of a directory's entries, and of `.` and `..` in it.
 //!
-//! Each place leaves at most one task, and a child's path is made only with its task.
+//! Each step leaves at most one task, and a child's path is made only with its task.
 ghost use Rattle.std.specs.Prelude.{◌≡◌, ◌+◌, ◌<◌, None, IfOk, string_bytes, if◌then◌else◌, vec_len};
 ghost use Rattle.glob_tree.specs.Content.{Content};
 ghost use Rattle.glob_walk.specs.Listing.{is_entered as is_entered_entry};
