@@ -9,7 +9,7 @@ use Rattle.std.proofs.KnownBytes.{Appends-nil}
 use Rattle.std.proofs.lemmas.List.Concat.{flat_map-append}
 use Rattle.glob.specs.Answers.{IsTold}
 use Rattle.glob.specs.Content.{Content}
-use Rattle.glob.specs.Machines.{MachineState, Saying, AsksLook, AsksList, Says, Ends, IsAskedAfter, IsCharged, StepCounts, StepGoes, is_last_said, left_of, outcome_said, units_said}
+use Rattle.glob.specs.Machines.{MachineState, Saying, AsksLook, AsksList, Says, Ends, IsAskedAfter, IsCharged, StepCounts, StepGoes, is_last_step, left_of, step_outcome, step_units}
 use Rattle.glob.specs.Lines.{ended_line, with_line_feeds}
 use Rattle.glob.specs.Marks.{Mark, Item, Found, Unread, items, cost, front, paths, IsBeginning}
 use Rattle.glob.specs.Questions.{IsSomeContent}
@@ -66,7 +66,7 @@ pub record Written {X A : Type 0} (tells : X → Option Content) (of : X) (first
   pub within : walk.spent ≤ walk.limit
   pub few : walk.given ≤ walk.spent + 1
   pub asks : IsAskedAfter s walk.asked
-  pub ends : walk.over ≡ is_last_said s
+  pub ends : walk.over ≡ is_last_step s
   pub queued : Queues old [] held waiting (with_line_feeds (paths given))
   pub path : findings.has_path ≡ has_any (paths given)
   pub error : findings.has_error ≡ has_unread given
@@ -114,7 +114,7 @@ no_path cause.Limit e = tt
 
 module _ {X A : Type 0} (tells : X → Option Content) (of : X) (first : MachineState A) (old : Option (List ℕ)) (tree : X) (walk : MachineState A) (findings : Findings) (held : Option (List ℕ)) (waiting : List ℕ) where
   -- the tree answered a question
-  pub Written-answer : (s s' : Saying) → units_said s ≡ 1 → Written tells of first old tree s walk findings held waiting
+  pub Written-answer : (s s' : Saying) → step_units s ≡ 1 → Written tells of first old tree s walk findings held waiting
       → (tree' : X) (walk' : MachineState A) (held' : Option (List ℕ)) (waiting' : List ℕ) (n : ℕ) (Fits : Content → Type 0) → tells tree' ≡ tells tree → Queues held waiting held' waiting' []
       → ((x : Content) → IsTold (tells tree) x → Fits x) → StepGoes Fits n walk s' walk' → TellsStep Fits walk s' walk'
       → Written tells of first old tree' s' walk' findings held' waiting'
@@ -134,7 +134,7 @@ module _ {X A : Type 0} (tells : X → Option Content) (of : X) (first : Machine
     going = still w.going;
   }
     where
-      kept : (s : Saying) (c : Content) (ms : List Mark) → units_said s ≡ 1 → GivesNext ms c w.given s walk → HasGiven ms c w.given walk
+      kept : (s : Saying) (c : Content) (ms : List Mark) → step_units s ≡ 1 → GivesNext ms c w.given s walk → HasGiven ms c w.given walk
       kept AsksLook c ms q h = h
       kept (AsksList kinds) c ms q h = h
       kept (Says o) c ms q h = absurd (omega (arith, q))
@@ -142,7 +142,7 @@ module _ {X A : Type 0} (tells : X → Option Content) (of : X) (first : Machine
 
       still : GoesOn tells of first w.given s walk findings.end → GoesOn tells of first w.given s' walk' findings.end
       still (inl (done, said)) = inl (done, λ c told ms begun. next c ms w.given (fits c (w.same ∙ told.0, told.1)) (kept s c ms question (said c told ms begun)))
-      still (inr (is, gave)) = let z : units_said s ≡ 0 = ap units_said is in absurd (omega (arith, z, question))
+      still (inr (is, gave)) = let z : step_units s ≡ 0 = ap step_units is in absurd (omega (arith, z, question))
 
   -- some of the lines that wait were written
   pub Written-before : (s : Saying) → Written tells of first old tree s walk findings held waiting → (held' : Option (List ℕ)) → AppendsSome held held' waiting
@@ -234,7 +234,7 @@ module _ {X A : Type 0} (tells : X → Option Content) (of : X) (first : Machine
           }
 
       -- a refusal ended the walk
-      Written-refusal : (e : End) → is_last_said (Says o) ≡ true → Queues held waiting held' waiting' [] → Over tells of first (λ ms c. GaveItems ms first.limit e w.given)
+      Written-refusal : (e : End) → is_last_step (Says o) ≡ true → Queues held waiting held' waiting' [] → Over tells of first (λ ms c. GaveItems ms first.limit e w.given)
           → Written tells of first old tree s' walk' (record findings { end = e }) held' waiting'
       Written-refusal e last queued gave = record {
         given = w.given;
@@ -255,10 +255,12 @@ module _ {X A : Type 0} (tells : X → Option Content) (of : X) (first : Machine
       Written-error : (r : Outcome) → o ≡ r → IsNoPath r → Queues held waiting held' waiting' [] → Written tells of first old tree s' walk' (noting findings r) held' waiting'
       Written-error (Gives (Found p)) is plain queued = absurd plain
       Written-error (Gives (Unread p k)) is plain queued = Written-unread p k is queued
-      Written-error (LimitAt p) is plain queued = Written-refusal end.Limit (ap (λ r. is_last_said (Says r)) is) queued (λ c told ms begun.
+      Written-error (LimitAt p) is plain queued = Written-refusal end.Limit (ap (λ r. is_last_step (Says r)) is) queued (λ c told ms begun.
           let (all, less, are) = subst (λ r. GivesNext ms c w.given (Says r) walk) is ((going_on w.going).1 c told ms begun) in
           (subst (λ n. n < cost ms) w.limit less, subst (λ n. w.given ≡ items (front n ms)) w.limit are))
-      Written-error NoMemory is plain queued = Written-refusal end.Memory (ap (λ r. is_last_said (Says r)) is) queued w.begins
+      Written-error NoMemory is plain queued = Written-refusal end.Memory (ap (λ r. is_last_step (Says r)) is) queued (λ c told ms begun.
+          let cut = subst (λ r. GivesNext ms c w.given (Says r) walk) is ((going_on w.going).1 c told ms begun) in
+          (walk.spent, subst (λ n. walk.spent ≤ n) w.limit w.within, cut))
 
   -- an item was written, or waits
   pub Written-item : (item : Result (PathBuf A) (GlobError A)) → Written tells of first old tree (Says (outcome item)) walk findings held waiting
@@ -286,7 +288,7 @@ pub fewer_steps : {A : Type 0} (n : ℕ) (c c' : MachineState A) (s s' : Saying)
     → 2 * (c'.limit - c'.spent) + 2 * (c'.limit + 1 - c'.given) + step_number s' < 2 * (c.limit - c.spent) + 2 * (c.limit + 1 - c.given) + step_number s
 fewer_steps {A} n c c' s s' one h = by_saying s' h.charged h.given
   where
-    by_saying : (x : Saying) → IsCharged n c x c' → c'.given ≡ c.given + item_number (outcome_said x)
+    by_saying : (x : Saying) → IsCharged n c x c' → c'.given ≡ c.given + item_number (step_outcome x)
         → 2 * (c'.limit - c'.spent) + 2 * (c'.limit + 1 - c'.given) + step_number x < 2 * (c.limit - c.spent) + 2 * (c.limit + 1 - c.given) + step_number s
     by_saying AsksLook e g = omega (arith, one, h.limit, h.within, e, g)
     by_saying (AsksList kinds) e g = omega (arith, one, h.limit, h.within, e, g)

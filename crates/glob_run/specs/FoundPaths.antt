@@ -5,11 +5,11 @@ use Rattle.std.specs.Path.{path_buf_bytes}
 use Rattle.std.specs.declared.path.buf.PathBuf.{PathBuf}
 use Rattle.glob.specs.Components.{walk_fault}
 use Rattle.glob.specs.Lines.{ended_line, with_line_feeds}
-use Rattle.glob.specs.Marks.{Mark, Item, Found, Unread, items, cost, front, paths, IsBeginning}
+use Rattle.glob.specs.Marks.{Mark, Item, Found, Unread, items, cost, front, paths}
 use Rattle.glob.specs.Text.{Text}
 use Rattle.glob.specs.Types.{End, GlobError}
 use Rattle.glob.specs.Variants.End as end
-use Rattle.glob.specs.Walks.{Outcome, Gives, LimitAt, NoMemory, RefusesWith}
+use Rattle.glob.specs.Walks.{Outcome, Gives, LimitAt, NoMemory, IsCutShort, RefusesWith}
 use Rattle.glob_run.specs.Outcomes.{AppendsSome}
 use Rattle.glob_run.specs.declared.find.fault.FindFault.{FindFault}
 use Rattle.glob_run.specs.declared.find.fault.FindFault.TheVariants.{Pattern, Write}
@@ -31,11 +31,11 @@ abbrev pub found_status : List Item → ℕ
 found_status is = if has_unread is then 2 else (if has_any (paths is) then 0 else 1)
 
 -- What a walk gave that came to this end within the limit: all items of the listing; those before the first unit of work
--- that does not fit; or, without memory, a beginning of them.
+-- that does not fit; or, without memory, those of what was charged, but for at most the last.
 abbrev pub GaveItems : (listing : List Mark) → (limit : ℕ) → End → List Item → Type 0
 GaveItems ms limit end.Done given = (cost ms ≤ limit) × (given ≡ items ms)
 GaveItems ms limit end.Limit given = (limit < cost ms) × (given ≡ items (front limit ms))
-GaveItems ms limit end.Memory given = IsBeginning given (items ms)
+GaveItems ms limit end.Memory given = (spent : ℕ) × (spent ≤ limit) × IsCutShort ms spent given
 
 -- The paths of what the walk gave were written, a line each, in order, also those between errors and after them.
 abbrev pub FindsPaths : (listing : List Mark) → (limit : ℕ) → (old new : Option (List ℕ)) → Findings → Type 0

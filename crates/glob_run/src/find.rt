@@ -17,7 +17,7 @@ use crate::command::Search;
 use crate::{fault, write_line};
 use fault::FindFault;
 use findings::Findings;
-use glob::{Entry, GlobResult, ListError, Step, Tree, WalkMachine};
+use glob::{GlobResult, Step, Tree, WalkMachine};
 use lines::Lines;
 use std::alloc::Allocator;
 use std::io::{self, Write};
@@ -101,20 +101,18 @@ fn write_items<T: Tree, W: Write, E: Write>(
     loop {
         step = match step {
             Step::Look => {
-                lines.before_ask(output)?;
+                lines.before_ask(walk.spent(), output)?;
                 let seen = tree.look(walk.path());
                 walk.looked(seen)
             }
             Step::List => {
-                lines.before_ask(output)?;
+                lines.before_ask(walk.spent(), output)?;
                 let listed = tree.list(walk.path());
-                lines.count(entries_in(&listed));
                 walk.listed(listed)
             }
             Step::ListNames => {
-                lines.before_ask(output)?;
+                lines.before_ask(walk.spent(), output)?;
                 let named = tree.list_names(walk.path());
-                lines.count(entries_in(&named));
                 walk.listed(named)
             }
             Step::Item(item) => {
@@ -127,14 +125,6 @@ fn write_items<T: Tree, W: Write, E: Write>(
                 return Ok(findings);
             }
         };
-    }
-}
-
-/// How many entries a listing has; one that failed has none.
-fn entries_in<A: Allocator>(listed: &Result<Vec<Entry<A>, A>, ListError>) -> usize {
-    match listed {
-        Ok(entries) => entries.len(),
-        Err(_) => 0,
     }
 }
 

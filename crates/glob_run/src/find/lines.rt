@@ -7,19 +7,19 @@ use crate::writing::write_whole;
 use std::alloc::{AllocError, Allocator};
 use std::io::{self, Write};
 
-/// For how many asks of the walk a line waits: lookups, listings and entries of listings.
-const PATIENCE: usize = 100;
+/// After how many units of the walk waiting lines are written.
+const PATIENCE: u64 = 100;
 
 /// How many bytes of lines wait. The buffer has room for one more line, of the longest path of most systems.
 const CAPACITY: usize = 8192;
 
 /// Lines on their way to a writer. The first is written at once. Later ones are written together: when the buffer is
-/// full, before a lookup or listing if the first of them has waited for `PATIENCE` asks, and when they are flushed.
+/// full, before a question `PATIENCE` units after the last such time, and when they are flushed.
 #[derive(Drop)]
 pub struct Lines<A: Allocator> {
     waiting: Vec<u8, A>,
-    /// For how many asks the first line that waits has waited.
-    asks: usize,
+    /// How many units the walk had spent the last time that they were written before a question.
+    spent: u64,
     has_line: bool,
 }
 
@@ -30,7 +30,7 @@ impl<A: Allocator> Lines<A> {
     {
         Ok(Lines {
             waiting: Vec::with_capacity(alloc, 2 * CAPACITY)?,
-            asks: 0,
+            spent: 0,
             has_line: false,
         })
     }
@@ -51,27 +51,18 @@ impl<A: Allocator> Lines<A> {
         self.flush(output)
     }
 
-    /// Writes the lines that wait, if the first of them has waited long, and counts a lookup or listing.
-    pub fn before_ask<W: Write>(&mut self, output: &mut W) -> io::Result<()>
+    /// Writes the lines that wait, if they may have waited long, before a question of a walk that has spent so much.
+    pub fn before_ask<W: Write>(&mut self, spent: u64, output: &mut W) -> io::Result<()>
         ensures keeps { OnOk result (Queues (W.contents output.old) self.old.waiting.items
             (W.contents output.new) self.new.waiting.items []) }
         ensures some { OnErr result (AppendsSome (W.contents output.old) (W.contents output.new)
             self.old.waiting.items) }
     {
-        if self.asks >= PATIENCE {
+        if spent.saturating_sub(self.spent) >= PATIENCE {
+            self.spent = spent;
             self.flush(output)?;
         }
-        self.count(1);
         Ok(())
-    }
-
-    /// Counts asks of the walk, for which a line that waits has waited longer.
-    pub fn count(&mut self, asks: usize)
-        ensures { self.new.waiting ≡ self.old.waiting }
-    {
-        if !self.waiting.is_empty() {
-            self.asks = self.asks.saturating_add(asks);
-        }
     }
 
     /// Writes the lines that wait. Where it fails, the first bytes of them may have been written.
@@ -82,7 +73,6 @@ impl<A: Allocator> Lines<A> {
         ensures some { OnErr result (AppendsSome (W.contents output.old) (W.contents output.new)
             self.old.waiting.items) }
     {
-        self.asks = 0;
         write_whole(output, self.waiting.as_slice())?;
         self.waiting.clear();
         output.flush()

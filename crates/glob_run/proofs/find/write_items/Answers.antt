@@ -1,9 +1,8 @@
-use Rattle.std.proofs.Common.{[], true, false, ap, subst, sym}
+use Rattle.std.proofs.Common.{true, false, ap, subst, sym}
 use Rattle.glob.specs.Answers.{entry_count}
-use Rattle.glob.specs.Machines.{IsAskedAfter, saying, units_said}
+use Rattle.glob.specs.Machines.{IsAskedAfter, saying, step_units}
 use Rattle.glob.specs.Questions.{IsSeenIn, IsListedIn}
 use Rattle.glob_walk.proofs.WalkLemmas.Driving.{seen_fits, listed_fits, lists}
-use Rattle.glob_run.specs.Outcomes.{Queues}
 use Rattle.glob_run.proofs.FoundLemmas.{Written, Written-first, Written-answer, Written-item, Written-fault, Written-before, Written-end, fewer_steps, step_number}
 use Rattle.glob_run.proofs.WritingLemmas.{OnErr-from}
 use Rattle.glob_run.proofs.find.write_items.Goals as goal
@@ -67,7 +66,7 @@ loop-step-preserved-in_ok-before_ask-in-Look g c =
     let seen = c.look-seen in
     let is = subst (λ s. IsAskedAfter (saying s) asked) c.in-Look.is c.loop-step.invariant.asks in
     Written-answer g.T.Tree.tells c.args.tree c.args.walk (held c.args.output.now) c.loop-step.tree c.loop-step.walk c.loop-step.findings (held c.loop-step.output) c.loop-step.lines.waiting.items
-    (saying c.loop-step.step) (saying c.looked.result) (ap (λ s. units_said (saying s)) c.in-Look.is) c.loop-step.invariant
+    (saying c.loop-step.step) (saying c.looked.result) (ap (λ s. step_units (saying s)) c.in-Look.is) c.loop-step.invariant
     seen.new.self c.looked.new.self (held c.before_ask.new.output) c.before_ask.new.self.waiting.items 0 (IsSeenIn asked seen.result) seen.ensures.content c.in_ok-before_ask-in-Look.ensures.keeps
     (λ x told. seen_fits asked seen.result x c.path.result.now is c.path.ensures told.1 (seen.ensures.seen x told)) c.looked.ensures.steps c.looked.ensures.driven
 
@@ -85,10 +84,9 @@ loop-step-preserved-in_ok-before_ask-in-List g c =
     let asked = c.loop-step.walk.asked in
     let listed = c.list-listed in
     let is = subst (λ s. IsAskedAfter (saying s) asked) c.in-List.is c.loop-step.invariant.asks in
-    let queued = subst (λ v. Queues (held c.loop-step.output) c.loop-step.lines.waiting.items (held c.before_ask-in-List.new.output) v.items []) (sym c.count.ensures) c.in_ok-before_ask-in-List.ensures.keeps in
     Written-answer g.T.Tree.tells c.args.tree c.args.walk (held c.args.output.now) c.loop-step.tree c.loop-step.walk c.loop-step.findings (held c.loop-step.output) c.loop-step.lines.waiting.items
-    (saying c.loop-step.step) (saying c.listed.result) (ap (λ s. units_said (saying s)) c.in-List.is) c.loop-step.invariant
-    listed.new.self c.listed.new.self (held c.before_ask-in-List.new.output) c.count.new.self.waiting.items (entry_count listed.result) (IsListedIn asked listed.result) listed.ensures.content queued
+    (saying c.loop-step.step) (saying c.listed.result) (ap (λ s. step_units (saying s)) c.in-List.is) c.loop-step.invariant
+    listed.new.self c.listed.new.self (held c.before_ask-in-List.new.output) c.before_ask-in-List.new.self.waiting.items (entry_count listed.result) (IsListedIn asked listed.result) listed.ensures.content c.in_ok-before_ask-in-List.ensures.keeps
     (λ x told. listed_fits true asked listed.result x c.path-in-List.result.now is c.path-in-List.ensures told.1 (listed.ensures.entries x told) (listed.ensures.fails x told)) c.listed.ensures.steps c.listed.ensures.driven
 
 pub loop-step-preserved-in_ok-before_ask-in-ListNames : goal.loop-step-preserved-in_ok-before_ask-in-ListNames
@@ -97,10 +95,9 @@ loop-step-preserved-in_ok-before_ask-in-ListNames g c =
     let asked = c.loop-step.walk.asked in
     let listed = c.list_names-named in
     let is = subst (λ s. IsAskedAfter (saying s) asked) c.in-ListNames.is c.loop-step.invariant.asks in
-    let queued = subst (λ v. Queues (held c.loop-step.output) c.loop-step.lines.waiting.items (held c.before_ask-in-ListNames.new.output) v.items []) (sym c.count-in-ListNames.ensures) c.in_ok-before_ask-in-ListNames.ensures.keeps in
     Written-answer g.T.Tree.tells c.args.tree c.args.walk (held c.args.output.now) c.loop-step.tree c.loop-step.walk c.loop-step.findings (held c.loop-step.output) c.loop-step.lines.waiting.items
-    (saying c.loop-step.step) (saying c.listed-in-ListNames.result) (ap (λ s. units_said (saying s)) c.in-ListNames.is) c.loop-step.invariant
-    listed.new.self c.listed-in-ListNames.new.self (held c.before_ask-in-ListNames.new.output) c.count-in-ListNames.new.self.waiting.items (entry_count listed.result) (IsListedIn asked listed.result) listed.ensures.content queued
+    (saying c.loop-step.step) (saying c.listed-in-ListNames.result) (ap (λ s. step_units (saying s)) c.in-ListNames.is) c.loop-step.invariant
+    listed.new.self c.listed-in-ListNames.new.self (held c.before_ask-in-ListNames.new.output) c.before_ask-in-ListNames.new.self.waiting.items (entry_count listed.result) (IsListedIn asked listed.result) listed.ensures.content c.in_ok-before_ask-in-ListNames.ensures.keeps
     (λ x told. listed_fits false asked listed.result x c.path-in-ListNames.result.now is c.path-in-ListNames.ensures told.1 (listed.ensures.names x told) (listed.ensures.fails x told)) c.listed-in-ListNames.ensures.steps c.listed-in-ListNames.ensures.driven
 
 pub loop-step-smaller : goal.loop-step-smaller
