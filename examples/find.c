@@ -41,10 +41,14 @@ static void list(struct cadmiumdove_walk *walk) {
         if (answer == CADMIUMDOVE_NO_NAME) /* `.` and `..` */
             answer = CADMIUMDOVE_DONE;
     }
-    if (answer == CADMIUMDOVE_DONE && errno == 0)
-        cadmiumdove_walk_listed(walk);
+    if (answer == CADMIUMDOVE_NOT_UTF8)
+        cadmiumdove_walk_unread(walk, EILSEQ);
+    else if (answer == CADMIUMDOVE_OUT_OF_MEMORY)
+        cadmiumdove_walk_unread(walk, ENOMEM);
+    else if (errno != 0)
+        cadmiumdove_walk_unread(walk, errno);
     else
-        cadmiumdove_walk_unread(walk, answer == CADMIUMDOVE_NOT_UTF8 ? EILSEQ : answer == CADMIUMDOVE_DONE ? errno : ENOMEM);
+        cadmiumdove_walk_listed(walk);
     closedir(directory);
 }
 
@@ -69,7 +73,7 @@ int main(int count, char **words) {
         case CADMIUMDOVE_LIST:
         case CADMIUMDOVE_LIST_NAMES: list(&walk); break;
         case CADMIUMDOVE_PATH: puts(path), status = 0; break;
-        default: fprintf(stderr, "%s: %s\n", path, step == CADMIUMDOVE_UNREAD ? "unread" : "out of memory"), failed = true;
+        default: fprintf(stderr, "%s: %s\n", path, step == CADMIUMDOVE_UNREAD ? "unread" : "no memory"), failed = true;
         }
     }
     cadmiumdove_walk_free(&walk);

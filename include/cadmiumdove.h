@@ -103,8 +103,8 @@ static inline const char *cadmiumdove_message_text(uint32_t message) {
 uint32_t cadmiumdove_pattern_new(struct cadmiumdove_pattern *pattern, const char *text, size_t length,
                                  struct cadmiumdove_fault *fault);
 
-/* The call behind the two that follow: `at` is that of a handle that has a pattern. With the flag 8 the caller owes that
- * the text is UTF-8. */
+/* The call behind the two that follow: `at` is that of a handle that has a pattern. With the flag 8 the caller owes
+ * that the text is UTF-8. */
 uint32_t cadmiumdove_pattern_matches_at(const void *at, const char *text, size_t length, uint32_t flags);
 
 /* Whether the pattern matches all of the text, under the options whose flags are added up: YES, NO, EMPTY,
@@ -128,9 +128,9 @@ static inline uint32_t cadmiumdove_pattern_matches_unchecked(const struct cadmiu
 }
 
 /* Writes the pattern that stands for the text alone to `out`, which has room for `room` bytes, and its length to
- * `needed`. No zero byte follows it. The answer is DONE, OUT_OF_MEMORY, NOT_UTF8, or TOO_SHORT, and then `needed` is the
- * room that suffices. But for DONE `out` is as it was. Three times `length` is enough, since a character becomes three at
- * most.
+ * `needed`. No zero byte follows it. The answer is DONE, OUT_OF_MEMORY, NOT_UTF8, or TOO_SHORT, and then `needed` is
+ * the room that suffices. But for DONE `out` is as it was. Three times `length` is enough, since a character becomes
+ * three at most.
  * The caller owes: `out`, `needed` and the text do not overlap. */
 uint32_t cadmiumdove_pattern_escape(const char *text, size_t length, char *out, size_t room, size_t *needed);
 
@@ -200,8 +200,8 @@ uint32_t cadmiumdove_walk_path(struct cadmiumdove_walk *walk, char *out, size_t 
 /* Answers CADMIUMDOVE_LOOK: DONE, EMPTY or NOT_ASKED. */
 uint32_t cadmiumdove_walk_looked(struct cadmiumdove_walk *walk, uint32_t look);
 
-/* Answers CADMIUMDOVE_LIST or CADMIUMDOVE_LIST_NAMES by one entry more, in any order: DONE, OUT_OF_MEMORY, NOT_UTF8, EMPTY,
- * NOT_ASKED or NO_NAME. `is_dir` is also true of a symbolic link to a directory. */
+/* Answers CADMIUMDOVE_LIST or CADMIUMDOVE_LIST_NAMES by one entry more, in any order: DONE, OUT_OF_MEMORY, NOT_UTF8,
+ * EMPTY, NOT_ASKED or NO_NAME. `is_dir` is also true of a symbolic link to a directory. */
 uint32_t cadmiumdove_walk_entry(struct cadmiumdove_walk *walk, const char *name, size_t length, bool is_dir);
 
 /* Says that the entries were all: DONE, EMPTY or NOT_ASKED. */

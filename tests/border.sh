@@ -1,8 +1,8 @@
 #!/usr/bin/env bash
 # Runs the static library for C and Rust: calls from C under valgrind and the sanitizers, the example, the tests of the
-# Cargo crate, and a million random matches and some thousand walks (WALKS) beside the Rust crate `glob`, of the Debian
-# package librust-glob-dev. What cannot be had here is left out, and said. Its last line is 'N passed, M failed'. Ended by
-# a signal, it ends what it started.
+# Cargo crate, and a million random matches and 5,000 walks (or WALKS) beside the Rust crate `glob`, of the Debian
+# package librust-glob-dev. What cannot be had here is left out, and said. Its last line is 'N passed, M failed'. Ended
+# by a signal, it ends what it started.
 set -uo pipefail
 root=$(cd "$(dirname "$(readlink -f "${BASH_SOURCE[0]}")")/.." && pwd)
 work=$(mktemp -d) || exit 2
@@ -36,7 +36,8 @@ has() {
 # The symbols of the library have one prefix.
 one_prefix() {
     nm -g --defined-only "$CADMIUMDOVE_LIBRARY/libcadmiumdove.a" >"$work/symbols" &&
-        grep -q ' T cadmiumdove_pattern_new$' "$work/symbols" && ! grep -E ' [A-Z] ' "$work/symbols" | grep -v ' T cadmiumdove_'
+        grep -q ' T cadmiumdove_pattern_new$' "$work/symbols" &&
+        ! grep -E ' [A-Z] ' "$work/symbols" | grep -v ' T cadmiumdove_'
 }
 
 # build OUT SOURCE COMMAND..: builds a program in C that calls the library

@@ -1,6 +1,6 @@
 #!/usr/bin/env bash
-# Makes a release, unpacks it in an empty folder, and uses each part of it there, with neither the repository nor `rt` in
-# reach. Its last line is 'N passed, M failed'.
+# Makes a release, unpacks it in an empty folder, and uses each part of it there, with neither the repository nor `rt`
+# in reach. Its last line is 'N passed, M failed'.
 set -uo pipefail
 root=$(cd "$(dirname "$(readlink -f "${BASH_SOURCE[0]}")")/.." && pwd)
 work=$(mktemp -d) || exit 2

@@ -147,8 +147,7 @@ pub(crate) struct Walk {
     owns: PhantomData<*mut u8>,
 }
 
-// SAFETY: a walk is memory of its own, which `malloc` gave, and Rust orders what it moves to another thread. That it may
-// move is proved of patterns alone.
+// SAFETY: as of a pattern.
 unsafe impl Send for Walk {}
 
 // SAFETY: no call takes a `&Walk`.

@@ -84,3 +84,73 @@ fn threads_share_a_pattern() {
     });
     std::thread::spawn(move || drop(pattern)).join().unwrap();
 }
+
+/// Each row: a pattern, texts that it matches, and texts that it does not.
+#[test]
+fn rows() {
+    let rows: &[(&str, &[&str], &[&str])] = &[
+        ("a*b*c", &["abc", "a_b_c", "a__b/c", "abcabc"], &["abcd", "ab", "acb", ""]),
+        ("a*a*a*a*a*a*a*a*a", &["aaaaaaaaa", "aaaaaaaaaaaaaaaaaaaaaaaa"], &["aaaaaaaa", "aaaaaaaab"]),
+        ("some/**/needle", &["some/needle", "some/a/needle", "some/a/b/needle"], &["some/notneedle", "other/needle"]),
+        ("**", &["", "a", "a/b", ".x", "a/.x"], &[]),
+        ("/**/x", &["/x", "/a/x", "/a/b/x"], &["x", "/ax", "a/x"]),
+        ("**/test", &["test", "a/test", "a/b/test"], &["atest", "test/a"]),
+        ("**/**/a/*", &["a/b", "x/a/b"], &["a", "b"]),
+        ("a[0-9]b", &["a0b", "a5b", "a9b"], &["a_b", "ab", "a00b"]),
+        ("a[!0-9]b", &["a_b", "aab"], &["a0b", "a9b", "ab"]),
+        ("[a-z123]", &["a", "q", "z", "1", "3"], &["4", "A", "-"]),
+        ("[123a-z]", &["a", "q", "z", "1", "3"], &["4", "A", "-"]),
+        ("[abc-]", &["a", "c", "-"], &["d", "]"]),
+        ("[-abc]", &["a", "c", "-"], &["d"]),
+        ("[!-]", &["a", "]"], &["-"]),
+        ("[]-]", &["]", "-"], &["[", "a"]),
+        ("[!]a-]", &["b"], &["]", "a", "-"]),
+        ("[a-c]/[?]*[[]", &["a/?[", "c/?x["], &["a/x[", "d/?["]),
+        ("é?", &["éé", "éa"], &["é", "e", "éab"]),
+        ("[à-ü]", &["é"], &["e", "É"]),
+        ("", &[""], &["a"]),
+        ("a?b", &["a/b", "a.b"], &["ab"]),
+    ];
+    for (text, matched, others) in rows {
+        let pattern = Pattern::new(text).unwrap();
+        assert!(matched.iter().all(|text| pattern.matches(text)), "{text} matches all of {matched:?}");
+        assert!(!others.iter().any(|text| pattern.matches(text)), "{text} matches none of {others:?}");
+    }
+}
+
+#[test]
+fn rows_under_options() {
+    let any_case = MatchOptions { case_sensitive: false, ..MatchOptions::new() };
+    let literal = MatchOptions { require_literal_separator: true, ..MatchOptions::new() };
+    let dots = MatchOptions { require_literal_leading_dot: true, ..MatchOptions::new() };
+    for (options, text, path, expected) in [
+        (any_case, "aBcDeFg", "AbCdEfG", true),
+        (any_case, "[a-z]x", "QX", true),
+        (any_case, "[A-Z]x", "qX", true),
+        (any_case, "[!a-z]", "Q", false),
+        (any_case, "é", "É", false),
+        (literal, "abc/def", "abc/def", true),
+        (literal, "abc?def", "abc/def", false),
+        (literal, "abc*def", "abc/def", false),
+        (literal, "abc[/]def", "abc/def", false),
+        (literal, "a/**/d", "a/b/c/d", true),
+        (dots, ".*.txt", ".hello.txt", true),
+        (dots, "*.txt", ".hello.txt", false),
+        (dots, "?x", ".x", false),
+        (dots, "[.]x", ".x", false),
+        (dots, "a/*", "a/.x", false),
+        (dots, "**/x", "a/.b/x", false),
+        (dots, "a*", "a.x", true),
+    ] {
+        assert_eq!(Pattern::new(text).unwrap().matches_with(path, options), expected, "{text} {path}");
+    }
+}
+
+#[test]
+fn refused_texts() {
+    for (text, pos) in
+        [("a**", 0), ("**b", 2), ("***", 2), ("a/**b", 4), ("abc[def", 3), ("abc[!", 3), ("abc[", 3), ("[]", 0)]
+    {
+        assert_eq!(Pattern::new(text).map_err(|error| error.pos).unwrap_err(), pos, "{text}");
+    }
+}

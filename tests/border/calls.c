@@ -15,8 +15,8 @@
         }                                              \
     } while (0)
 
-/* How many requests for memory succeed before the others fail, or -1 for all. The linker puts these three in the place of
- * malloc, realloc and free. */
+/* How many requests for memory succeed before the others fail, or -1 for all. The linker puts these three in the place
+ * of malloc, realloc and free. */
 static int allowed = -1;
 
 /* How many blocks are held. */
@@ -101,10 +101,13 @@ static int matching(void) {
 static int faults(void) {
     struct cadmiumdove_fault fault;
     CHECK(parse("", &fault) == CADMIUMDOVE_DONE);
-    CHECK(parse("a/**b", &fault) == CADMIUMDOVE_SYNTAX_FAULT && fault.place == 4 && fault.message == CADMIUMDOVE_RECURSIVE);
-    CHECK(parse("a/*****", &fault) == CADMIUMDOVE_SYNTAX_FAULT && fault.place == 4 && fault.message == CADMIUMDOVE_WILDCARDS);
+    CHECK(parse("a/**b", &fault) == CADMIUMDOVE_SYNTAX_FAULT && fault.place == 4
+          && fault.message == CADMIUMDOVE_RECURSIVE);
+    CHECK(parse("a/*****", &fault) == CADMIUMDOVE_SYNTAX_FAULT && fault.place == 4
+          && fault.message == CADMIUMDOVE_WILDCARDS);
     /* e with an acute accent is one character of two bytes */
-    CHECK(parse("\xc3\xa9[a", &fault) == CADMIUMDOVE_SYNTAX_FAULT && fault.place == 1 && fault.message == CADMIUMDOVE_RANGE);
+    CHECK(parse("\xc3\xa9[a", &fault) == CADMIUMDOVE_SYNTAX_FAULT && fault.place == 1
+          && fault.message == CADMIUMDOVE_RANGE);
     CHECK(!strcmp(cadmiumdove_message_text(0), "wildcards are either regular `*` or recursive `**`"));
     CHECK(!strcmp(cadmiumdove_message_text(1), "recursive wildcards must form a single path component"));
     CHECK(!strcmp(cadmiumdove_message_text(2), "invalid range pattern"));
@@ -116,7 +119,8 @@ static int escaping(void) {
     char out[16];
     size_t needed = 0;
     memset(out, '.', sizeof out);
-    CHECK(cadmiumdove_pattern_escape("a[1]", 4, out, 7, &needed) == CADMIUMDOVE_TOO_SHORT && needed == 8 && out[0] == '.');
+    CHECK(cadmiumdove_pattern_escape("a[1]", 4, out, 7, &needed) == CADMIUMDOVE_TOO_SHORT && needed == 8
+          && out[0] == '.');
     CHECK(cadmiumdove_pattern_escape("a[1]", 4, out, 8, &needed) == CADMIUMDOVE_DONE && needed == 8);
     CHECK(memcmp(out, "a[[]1[]].", 9) == 0);
     /* the length alone is asked for, with no room */

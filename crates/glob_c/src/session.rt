@@ -23,7 +23,7 @@ const NO_NAME: u32 = 10;
 
 /// What was answered since the last step.
 #[derive(Drop)]
-pub(crate) enum Reply {
+pub enum Reply {
     /// Nothing.
     Nothing,
     /// What the path leads to.
@@ -36,7 +36,7 @@ pub(crate) enum Reply {
 
 /// A walk, its last step, and the answer to it.
 #[derive(Drop)]
-pub(crate) struct Session {
+pub struct Session {
     machine: WalkMachine<Global>,
     step: Step<Global>,
     reply: Reply,

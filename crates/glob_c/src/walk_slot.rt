@@ -21,6 +21,9 @@ impl Model for WalkSlot {
     ghost also_owns = { λ s. walk_owns s.at s.walk };
 }
 
+/// A slot may go to another thread, since its walk may.
+unsafe impl Send for WalkSlot {}
+
 impl WalkSlot {
     /// A slot with no walk.
     pub(crate) fn empty() -> WalkSlot

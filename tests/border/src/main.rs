@@ -1,5 +1,5 @@
-//! Compares patterns and walks of `cadmiumdove` with those of `glob`, on random patterns and texts, and on random patterns
-//! and trees in a folder of its own: `beside MATCHES WALKS`. The last line is `N passed, M failed`.
+//! Compares patterns and walks of `cadmiumdove` with those of `glob`, on random patterns and texts, and on random
+//! patterns and trees in a folder of its own: `beside MATCHES WALKS`. The last line is `N passed, M failed`.
 
 mod walks;
 

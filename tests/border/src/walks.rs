@@ -10,9 +10,8 @@ use crate::{options, Count, Random};
 const NAMES: [&str; 12] = ["a", "b", "ab", "A", ".a", ".b", "a.rs", "b.rs", "a\nb", "é", "[", "-"];
 
 const COMPONENTS: [&str; 22] = [
-    "a", "b", "ab", ".a", "*", "*", "*", "**", "**", "?", "a*", "*b", "*.rs", ".*", "[ab]", "[!a]", "[a-b]?", "[[]", "é",
-    "*\n*",
-    "b**", "[a",
+    "a", "b", "ab", ".a", "*", "*", "*", "**", "**", "?", "a*", "*b", "*.rs", ".*", "[ab]", "[!a]", "[a-b]?", "[[]",
+    "é", "*\n*", "b**", "[a",
 ];
 
 /// Fills a directory, and the directories in it.
@@ -62,7 +61,8 @@ type Item = Result<PathBuf, (PathBuf, io::ErrorKind)>;
 
 const MOST: usize = 100_000;
 
-/// Compares walks over random trees. Under the dot rule 0.3.0 lets `**` enter dotted directories, so there it is left out.
+/// Compares walks over random trees. Under the dot rule 0.3.0 lets `**` enter dotted directories, so there it is left
+/// out.
 pub fn compare(random: &mut Random, count: &mut Count, walks: usize) {
     // `.*` matches `..`: a pattern of four components stays below `top`
     let top = env::temp_dir().join(format!("beside-{}", process::id()));
