@@ -397,6 +397,20 @@ longest=deepx$(printf '%2045s' '' | sed 's| |/d|g')
 [ "$(tail -n 1 "$work/out")" = "$longest" ] && wc -l <"$work/out" >"$work/count" && cp "$work/count" "$work/out"
 begins 'a directory whose path is as long as can be is not listed' 2 '2045\n' "$(unread "$longest")"
 
+# How many system calls name an entry: none where the names alone matter, and one for each under `**`.
+row='entries are looked up only where their kinds matter'
+mkdir kinds && seq -f 'kinds/%03.0f.rs' 100 | xargs touch
+if strace -o "$work/calls" true 2>/dev/null; then
+    for pattern in 'kinds/*.rs' 'kinds/*' 'kinds/**'; do
+        strace -f -e trace=%file -o "$work/calls" "$binary" find "$pattern" >/dev/null
+        grep -c '"kinds/[01]' "$work/calls"
+    done >"$work/out" 2>"$work/err"
+    status=''
+    check "$row" '' '0\n0\n100\n' ''
+else
+    skip "$row" 'strace is not there, or may trace nothing'
+fi
+
 mkdir many && seq -f 'many/%06.0f' 20000 | xargs touch
 run find 'many/*'
 seq -f 'many/%06.0f' 20000 | cmp -s - "$work/out" && : >"$work/out"

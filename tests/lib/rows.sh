@@ -65,9 +65,9 @@ ends() {
     status=$?
 }
 
-# skip NAME: says that a row is not run, because root may do what it needs forbidden
+# skip NAME [WHY]: says that a row is not run, because root may do what it needs forbidden, or why else
 skip() {
-    echo "skipped: $1: root may do all, and no other user can run the program here"
+    echo "skipped: $1: ${2:-root may do all, and no other user can run the program here}"
 }
 
 # unread PATH: the beginning of the line for a path that cannot be read
