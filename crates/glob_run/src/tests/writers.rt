@@ -80,8 +80,8 @@ impl Write for Moody<'_> {
     }
 }
 
-/// The directories `000` to `299` in the current one, whose asks are counted in a place that it is lent. In the first are
-/// files `x1` and `x2`, and in the others so many files `y`. A lookup finds what is in the first two alone.
+/// The directories `000` to `299` in the current one, whose asks are counted in a place that it is lent. In the first
+/// are files `x1` and `x2`, and in the others so many files `y`. A lookup finds what is in the first two alone.
 #[derive(Drop)]
 struct Hall<'a> {
     alloc: Global,
