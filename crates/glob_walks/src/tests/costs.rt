@@ -17,8 +17,8 @@ struct Cost {
     paths: u64,
 }
 
-/// What a walk over so many files costs, item by item or as a whole, where it comes to its end. The tree itself takes no
-/// memory then.
+/// What a walk over so many files costs, item by item or as a whole, where it comes to its end. The tree itself takes
+/// no memory then.
 fn cost_in<A: Allocator + Copy>(
     alloc: A,
     ration: &Ration,
@@ -77,8 +77,8 @@ const WALKS: [(&str, u64, u64); 7] = [
     ("d/**", 0, 11),
 ];
 
-/// A child's path is made for what is given alone, in one request of its length. Items of a whole walk are gathered in a
-/// list that grows with them.
+/// A child's path is made for what is given alone, in one request of its length. Items of a whole walk are gathered in
+/// a list that grows with them.
 #[test]
 fn a_thousand_files_take_a_request_for_each_path(rt: HostRuntime) -> Result<(), Fail> {
     for (pattern, paths, most) in WALKS {
