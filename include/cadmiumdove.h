@@ -173,7 +173,8 @@ enum cadmiumdove_refusal {
  * UNKNOWN_FLAG. It reads no file: the caller answers its questions, as from a file system or an archive.
  *
  *     while ((step = cadmiumdove_walk_next(&walk)) != CADMIUMDOVE_END) {
- *         cadmiumdove_walk_path(&walk, path, sizeof path - 1, &length);
+ *         if (cadmiumdove_walk_path(&walk, path, sizeof path - 1, &length) != CADMIUMDOVE_DONE)
+ *             break;
  *         path[length] = 0;
  *         if (step == CADMIUMDOVE_LOOK)
  *             cadmiumdove_walk_looked(&walk, look(path));

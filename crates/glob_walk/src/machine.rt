@@ -169,8 +169,8 @@ impl<A: Allocator + Copy> WalkMachine<A> {
     }
 
     /// Answers the listing that is asked for, of entries or of names alone, with its entries in any order, and returns the
-    /// next step. After `Err(ListError::Read(e))` that is an error with the path, `e` and the cause `Read`, and the walk goes
-    /// on; after `Err(ListError::Memory)` it is one with the cause `Memory`, and the walk is over.
+    /// next step. After `Err(ListError::Read(e))` that is an error with the path, the kind of `e` and the cause `Read`, and
+    /// the walk goes on; after `Err(ListError::Memory)` it is one with the cause `Memory`, and the walk is over.
     pub fn listed(&mut self, listed: Result<Vec<Entry<A>, A>, ListError>) -> Step<A>
         requires asked { IsList self.old.asked }
         ensures failed { IfErr listed

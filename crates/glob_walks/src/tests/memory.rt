@@ -4,14 +4,47 @@ use super::contents::{Kind, plant};
 use super::items::Item::{self, Memory, Unread};
 use super::items::{item_of, read_items};
 use super::reference::Job;
-use crate::trees::{LyingTree, Noting, Unreadable};
+use crate::trees::{LyingTree, Noting, Ready, Unreadable};
 use glob::{End, GlobResult, MemTree, Paths, PatternRefusal, Tree, TreeRefusal};
-use glob_testing::rationing::Rationed;
+use glob_testing::rationing::{Ration, Rationed};
 use std::alloc::{Allocator, Global};
 use std::cell::Cell;
 use std::io::{self, ErrorKind};
 use std::process::Abort;
 use std::test::Fail;
+
+const FILES: u32 = 1_000;
+
+/// The first item of a walk over a thousand files is the first of them. Gives how many requests for memory were made
+/// before the walk.
+fn check_first<A: Allocator + Copy>(
+    rt: &impl Abort,
+    alloc: A,
+    ration: &Ration,
+) -> Result<u64, PatternRefusal> {
+    let Ok(ready) = Ready::files(alloc, FILES) else {
+        return Err(PatternRefusal::Memory);
+    };
+    let before = ration.asked();
+    let mut paths = start(alloc, LyingTree::new(ready), Job::of("*"))?;
+    match next_of(&mut paths) {
+        Some(Ok(path)) => assert_eq!(rt; path.as_str(), "00000"),
+        _ => panic!(rt; "no path is given"),
+    }
+    Ok(before)
+}
+
+#[test]
+fn a_thousand_files_take_few_requests(rt: HostRuntime) -> Result<(), Fail> {
+    let ample = Rationed::refusing(0, rt.alloc());
+    let before = check_first(&rt, &ample, &ample.ration)?;
+    assert!(rt; before > u64::from(FILES));
+
+    let scarce = Rationed::refusing(before.saturating_add(501), rt.alloc());
+    check_first(&rt, &scarce, &scarce.ration)?;
+    assert!(rt; scarce.ration.asked() <= before.saturating_add(500));
+    Ok(())
+}
 
 const KEYS: [(&str, Kind); 6] = [
     ("/a", Kind::Dir),
