@@ -149,8 +149,8 @@ for signal in TERM INT HUP; do
     cp -a "$root/tests" "$work/a copy"
     # the gate calls it
     echo >"$work/a copy/tests/launcher.sh"
-    ended_by "$signal" 2 "$work/a copy/bin/test"
-    check "ended by SIG$signal, the gate ends each rt" "$((128 + $(kill -l "$signal")))" '2\n' ''
+    ended_by "$signal" 1 "$work/a copy/bin/test"
+    check "ended by SIG$signal, the gate ends its rt" "$((128 + $(kill -l "$signal")))" '1\n' ''
 done
 
 anew
