@@ -38,9 +38,9 @@
 #include <stdint.h>
 
 #define CADMIUMDOVE_VERSION_MAJOR 0
-#define CADMIUMDOVE_VERSION_MINOR 2
+#define CADMIUMDOVE_VERSION_MINOR 3
 #define CADMIUMDOVE_VERSION_PATCH 0
-#define CADMIUMDOVE_VERSION "0.2.0"
+#define CADMIUMDOVE_VERSION "0.3.0"
 
 #ifdef __cplusplus
 extern "C" {

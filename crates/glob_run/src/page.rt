@@ -1,7 +1,7 @@
 //! What `--help` and `--version` write.
 
 /// The version, as the changelog has it at its top.
-pub const VERSION: &str = "glob_run 0.2.0\n";
+pub const VERSION: &str = "glob_run 0.3.0\n";
 
 /// The page that teaches the program.
 pub const HELP: &str = "\

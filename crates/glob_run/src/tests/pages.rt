@@ -30,8 +30,8 @@ const HELP_BEGINS: &[&str] = &[
 ];
 
 const VERSIONS: &[Row] = &[
-    ("--version", b"", (0, "glob_run 0.2.0\n", "")),
-    ("--version x", b"", (0, "glob_run 0.2.0\n", "")),
+    ("--version", b"", (0, "glob_run 0.3.0\n", "")),
+    ("--version x", b"", (0, "glob_run 0.3.0\n", "")),
 ];
 
 #[test]
