@@ -29,6 +29,11 @@ abbrev pub IsBegun : List Mark → Content → Option Sitting → Type 0
 IsBegun all c None = ⊥
 IsBegun all c (Some s) = HasGiven all c [] s.machine × (s.said ≡ Ends)
 
+-- the slot has a walk with this limit of units, of which none is spent
+abbrev pub HasLimit : ℕ → Option Sitting → Type 0
+HasLimit most None = ⊥
+HasLimit most (Some s) = (s.machine.limit ≡ most) × (s.machine.spent ≡ 0)
+
 -- the slot has the walk after a step of this number
 abbrev pub IsAdvanced : List Mark → Content → List Item → ℕ → Option Sitting → Type 0
 IsAdvanced all c given kind None = ⊥

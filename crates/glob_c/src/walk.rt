@@ -13,7 +13,7 @@ ghost use Rattle.glob_walk.specs.Marks.{Found, Item, Mark};
 ghost use Rattle.glob_walk.specs.Driven.{HasGiven};
 ghost use Rattle.glob_c.specs.Answers.{done, empty, in_use, not_utf8, number_of, options_of, syntax_fault, too_short};
 ghost use Rattle.glob_c.specs.Sessions.{Replies, Sitting, entries_so_far, look_of, looked_at};
-ghost use Rattle.glob_c.specs.WalkSlots.{HasEntries, HasListed, IsAdvanced, IsBegun, IsCounted};
+ghost use Rattle.glob_c.specs.WalkSlots.{HasEntries, HasLimit, HasListed, IsAdvanced, IsBegun, IsCounted};
 
 use crate::escape::TOO_SHORT;
 use crate::fault::{self, Fault};
@@ -48,6 +48,7 @@ pub extern "C" fn cadmiumdove_walk_new(
     ensures utf8 { result ≡ done → IsUtf8 pattern.now }
     ensures known { result ≡ done → flags ≤ 7 }
     ensures accepted { result ≡ done → walk_fault pattern.now ≡ None }
+    ensures limit { result ≡ done → HasLimit limit handle.new.slot.walk }
     ensures begun { result ≡ done → (c : Content)
         → IsBegun (listing c (options_of flags) pattern.now) c handle.new.slot.walk }
     ensures syntax { result ≡ syntax_fault → (f : TextFault) → walk_fault pattern.now ≡ Some f →
