@@ -1,8 +1,11 @@
 -- A walk that is driven through C.
-use Rattle.std.specs.Prelude.{◌≡◌, ℕ, Bool, true, false, nat_eq, if◌then◌else◌, Ok, List, Option, Some, None, ⊤}
+use Rattle.std.specs.Prelude.{◌≡◌, ℕ, Bool, true, false, nat_eq, if◌then◌else◌, Ok, Err, List, Option, Some, None, ⊤}
+use Rattle.std.specs.IoError.{error_kind}
 use Rattle.std.specs.declared.alloc.Global.{Global}
+use Rattle.std.specs.declared.io.ErrorKind.{ErrorKind}
 use Rattle.glob_tree.specs.Answers.{entries_of, entry_count}
 use Rattle.glob_tree.specs.Content.{Content, DirEntry, look_result}
+use Rattle.glob_tree.specs.declared.tree.ListError.TheVariants.{Read}
 use Rattle.glob_tree.specs.declared.tree.Look.{Look}
 use Rattle.glob_tree.specs.declared.tree.Look.TheVariants as look
 use Rattle.glob_walk.specs.Machines.{MachineState, Saying, AsksLook, AsksList, Says, Ends, StepCounts}
@@ -65,6 +68,11 @@ entries_so_far _ = None
 abbrev pub AreListed : List DirEntry → Reply → Type 0
 AreListed es (reply.Listed (Ok v)) = entries_of v.items ≡ es
 AreListed es _ = ⊥
+
+-- the answer is that the directory cannot be listed, for a reason of this kind
+abbrev pub IsUnread : ErrorKind → Reply → Type 0
+IsUnread kind (reply.Listed (Err (Read e))) = error_kind e ≡ kind
+IsUnread kind _ = ⊥
 
 -- what a path leads to, by its number
 abbrev pub look_of : ℕ → Look

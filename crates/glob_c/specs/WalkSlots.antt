@@ -1,5 +1,6 @@
 -- What a slot of a walk owns, and what a call does to its walk.
 use Rattle.std.specs.Prelude.{◌≡◌, ℕ, List, []}
+use Rattle.std.specs.declared.io.ErrorKind.{ErrorKind}
 use Rattle.glob_tree.specs.Content.{Content, DirEntry}
 use Rattle.glob_walk.specs.Machines.{Ends}
 use Rattle.glob_walk.specs.Marks.{Item, Mark}
@@ -12,7 +13,7 @@ use Rattle.std.specs.declared.option.Option.{Option}
 use Rattle.std.specs.declared.option.Option.TheVariants.{None, Some}
 use Rattle.std_alloc.specs.Box.Ownership.{box_owns}
 use Rattle.glob_c.specs.Slots.{c_heap}
-use Rattle.glob_c.specs.Sessions.{Sitting, Counts, entries_so_far, kind_of, AreListed}
+use Rattle.glob_c.specs.Sessions.{Sitting, Counts, entries_so_far, kind_of, AreListed, IsUnread}
 use Rattle.glob_c.specs.contracts.session.Session as session
 
 -- a walk over the heap of the C library
@@ -53,3 +54,8 @@ HasEntries old es (Some s) = (s.machine ≡ old.machine) × (s.said ≡ old.said
 abbrev pub HasListed : Sitting → List DirEntry → Option Sitting → Type 0
 HasListed old es None = ⊥
 HasListed old es (Some s) = (s.machine ≡ old.machine) × (s.said ≡ old.said) × AreListed es s.reply
+
+-- that the directory cannot be listed, for a reason of this kind, is the answer
+abbrev pub HasUnread : Sitting → ErrorKind → Option Sitting → Type 0
+HasUnread old kind None = ⊥
+HasUnread old kind (Some s) = (s.machine ≡ old.machine) × (s.said ≡ old.said) × IsUnread kind s.reply

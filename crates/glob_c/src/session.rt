@@ -1,5 +1,6 @@
 //! A walk that is driven through C: its last step, and what was answered since.
 ghost use Rattle.std.specs.Prelude.{◌≡◌, ◌++◌, [], ◌∷◌, Bool, List, None, Some, IsSome};
+ghost use Rattle.std.specs.IoError.{os_error_kind};
 ghost use Rattle.glob_tree.specs.Content.{Content, DirEntry};
 ghost use Rattle.glob_walk.specs.Machines.{AsksList, AsksLook, Ends, IsAskedAfter, Says, saying};
 ghost use Rattle.glob_text.specs.Text.{Text};
@@ -8,7 +9,7 @@ ghost use Rattle.glob_walk.specs.Walks.{Gives, outcome};
 ghost use Rattle.glob_walk.specs.Marks.{Found, Item, Mark};
 ghost use Rattle.glob_walk.specs.Driven.{HasGiven, GivesNext};
 ghost use Rattle.glob_c.specs.Answers.{done, not_asked};
-ghost use Rattle.glob_c.specs.Sessions.{AreListed, Counts, Replies, RepliesTo, entries_so_far, kind_of};
+ghost use Rattle.glob_c.specs.Sessions.{AreListed, Counts, IsUnread, Replies, RepliesTo, entries_so_far, kind_of};
 
 use crate::pattern::{DONE, NOT_UTF8, OUT_OF_MEMORY};
 use glob_tree::{Entry, ListError, Look, Name};
@@ -159,6 +160,7 @@ impl Session {
     pub(crate) fn unread(&mut self, code: i32) -> u32
         ensures machine { self.new.machine ≡ self.old.machine }
         ensures said { self.new.said ≡ self.old.said }
+        ensures failed { result ≡ done → IsUnread (os_error_kind code) self.new.reply }
         ensures asked { (kinds : Bool) → self.old.said ≡ AsksList kinds → result ≡ done }
         ensures kept { ¬ (result ≡ done) → self.new ≡ self.old }
     {

@@ -1,10 +1,11 @@
 //! Walks for C: the caller answers what a walk asks for.
-ghost use Rattle.std.specs.Prelude.{◌≡◌, ◌≤◌, ◌++◌, ◌∷◌, IsSome, IsUtf8, [], List, length, take, drop};
+ghost use Rattle.std.specs.Prelude.{◌≡◌, ◌≤◌, ◌++◌, ◌∷◌, Bool, IsSome, IsUtf8, [], List, length, take, drop};
+ghost use Rattle.std.specs.IoError.{os_error_kind};
 ghost use Rattle.std.specs.declared.option.Option.TheVariants.{None, Some};
 ghost use Rattle.glob_pattern.specs.Grammar.Faults.{Fault as TextFault};
 ghost use Rattle.glob_tree.specs.Content.{Content, DirEntry};
 ghost use Rattle.glob_text.specs.Text.{Text};
-ghost use Rattle.glob_walk.specs.Machines.{AsksLook, Says};
+ghost use Rattle.glob_walk.specs.Machines.{AsksList, AsksLook, Says};
 ghost use Rattle.glob_walk.specs.Questions.{question_path};
 ghost use Rattle.glob_walk.specs.Walks.{Gives};
 ghost use Rattle.glob_walk.specs.Components.{walk_fault};
@@ -13,7 +14,7 @@ ghost use Rattle.glob_walk.specs.Marks.{Found, Item, Mark};
 ghost use Rattle.glob_walk.specs.Driven.{HasGiven};
 ghost use Rattle.glob_c.specs.Answers.{done, empty, in_use, not_utf8, number_of, options_of, syntax_fault, too_short};
 ghost use Rattle.glob_c.specs.Sessions.{Replies, Sitting, entries_so_far, look_of, looked_at};
-ghost use Rattle.glob_c.specs.WalkSlots.{HasEntries, HasLimit, HasListed, IsAdvanced, IsBegun, IsCounted};
+ghost use Rattle.glob_c.specs.WalkSlots.{HasEntries, HasLimit, HasListed, HasUnread, IsAdvanced, IsBegun, IsCounted};
 
 use crate::escape::TOO_SHORT;
 use crate::fault::{self, Fault};
@@ -161,6 +162,8 @@ pub extern "C" fn cadmiumdove_walk_looked(alloc: Global, handle: &mut WalkHandle
     ensures empty { handle.old.slot.walk ≡ None → result ≡ empty }
     ensures looked { (s : Sitting) → handle.old.slot.walk ≡ Some s → s.said ≡ AsksLook
         → handle.new.slot.walk ≡ Some (looked_at kind s) }
+    ensures asked { (s : Sitting) → handle.old.slot.walk ≡ Some s → s.said ≡ AsksLook
+        → result ≡ done }
     ensures kept { ¬ (result ≡ done) → handle.new.slot.walk ≡ handle.old.slot.walk }
 {
     let Some(mut session) = handle.take(alloc) else {
@@ -220,6 +223,8 @@ pub extern "C" fn cadmiumdove_walk_listed(alloc: Global, handle: &mut WalkHandle
     ensures listed { (s : Sitting) → handle.old.slot.walk ≡ Some s
         → (es : List DirEntry) → entries_so_far s.reply ≡ Some es
         → HasListed s es handle.new.slot.walk }
+    ensures asked { (s : Sitting) → handle.old.slot.walk ≡ Some s
+        → (es : List DirEntry) → entries_so_far s.reply ≡ Some es → result ≡ done }
     ensures kept { ¬ (result ≡ done) → handle.new.slot.walk ≡ handle.old.slot.walk }
 {
     let Some(mut session) = handle.take(alloc) else {
@@ -236,6 +241,10 @@ pub extern "C" fn cadmiumdove_walk_listed(alloc: Global, handle: &mut WalkHandle
 #[unsafe(no_mangle)]
 pub extern "C" fn cadmiumdove_walk_unread(alloc: Global, handle: &mut WalkHandle, code: i32) -> u32
     ensures empty { handle.old.slot.walk ≡ None → result ≡ empty }
+    ensures failed { (s : Sitting) → handle.old.slot.walk ≡ Some s → result ≡ done
+        → HasUnread s (os_error_kind code) handle.new.slot.walk }
+    ensures asked { (s : Sitting) → handle.old.slot.walk ≡ Some s
+        → (kinds : Bool) → s.said ≡ AsksList kinds → result ≡ done }
     ensures kept { ¬ (result ≡ done) → handle.new.slot.walk ≡ handle.old.slot.walk }
 {
     let Some(mut session) = handle.take(alloc) else {
