@@ -1,5 +1,5 @@
 //! Walks for C: the caller answers what a walk asks for.
-ghost use Rattle.std.specs.Prelude.{◌≡◌, ◌≤◌, ◌++◌, ◌∷◌, Bool, IsSome, IsUtf8, [], List, length, take, drop};
+ghost use Rattle.std.specs.Prelude.{◌≡◌, ◌≤◌, ◌<◌, ◌++◌, ◌∷◌, Bool, IsSome, IsUtf8, [], List, length, take, drop};
 ghost use Rattle.std.specs.IoError.{os_error_kind};
 ghost use Rattle.std.specs.declared.option.Option.TheVariants.{None, Some};
 ghost use Rattle.glob_pattern.specs.Grammar.Faults.{Fault as TextFault};
@@ -122,6 +122,8 @@ pub extern "C" fn cadmiumdove_walk_path(
 ) -> u32
     ensures kept { handle.new.slot.walk ≡ handle.old.slot.walk }
     ensures empty { handle.old.slot.walk ≡ None → result ≡ empty }
+    ensures range { IsSome handle.old.slot.walk → ¬ (result ≡ done) → result ≡ too_short }
+    ensures short { result ≡ too_short → length out.old < needed.new }
     ensures fits { result ≡ done → needed.new ≤ length out.old }
     ensures rest { result ≡ done → drop needed.new out.new ≡ drop needed.new out.old }
     ensures unwritten { ¬ (result ≡ done) → out.new ≡ out.old }
@@ -129,6 +131,10 @@ pub extern "C" fn cadmiumdove_walk_path(
         → IsSome s.machine.asked → take needed.new out.new ≡ question_path s.machine.asked }
     ensures found { (s : Sitting) → handle.old.slot.walk ≡ Some s → result ≡ done
         → (path : Text) → s.said ≡ Says (Gives (Found path)) → take needed.new out.new ≡ path }
+    ensures needed { (s : Sitting) → handle.old.slot.walk ≡ Some s → IsSome s.machine.asked
+        → needed.new ≡ length (question_path s.machine.asked) }
+    ensures needed_found { (s : Sitting) → handle.old.slot.walk ≡ Some s
+        → (path : Text) → s.said ≡ Says (Gives (Found path)) → needed.new ≡ length path }
 {
     let Some(session) = handle.take(alloc) else {
         return EMPTY;
@@ -141,6 +147,8 @@ pub extern "C" fn cadmiumdove_walk_path(
 /// Writes the bytes to the start of `out`, and their number to `needed`.
 fn write(bytes: &[u8], out: &mut [u8], needed: &mut usize) -> u32
     ensures range { ¬ (result ≡ done) → result ≡ too_short }
+    ensures needed { needed.new ≡ length bytes.now }
+    ensures short { result ≡ too_short → length out.old < needed.new }
     ensures fits { result ≡ done → needed.new ≤ length out.old }
     ensures written { result ≡ done → take needed.new out.new ≡ bytes.now }
     ensures rest { result ≡ done → drop needed.new out.new ≡ drop needed.new out.old }
