@@ -19,7 +19,7 @@ edits       28 glob_walk
 edits       14 glob_run
 edits        9 glob_tree
 edits        8 glob_lines
-edits        6 glob_c
+edits        8 glob_c
 edits        4 glob_uses
 edits      100 all crates
 functions  150 glob_pattern
