@@ -1,8 +1,9 @@
 -- A walk that is driven through C.
-use Rattle.std.specs.Prelude.{◌≡◌, ℕ, Bool, true, false, nat_eq, if◌then◌else◌, Ok, Err, List, Option, Some, None, ⊤}
+use Rattle.std.specs.Prelude.{◌≡◌, ℕ, true, false, nat_eq, if◌then◌else◌, Ok, Err, List, Option, Some, None, ⊤}
 use Rattle.std.specs.IoError.{error_kind}
 use Rattle.std.specs.declared.alloc.Global.{Global}
 use Rattle.std.specs.declared.io.ErrorKind.{ErrorKind}
+use Rattle.glob_text.specs.Text.{Text}
 use Rattle.glob_tree.specs.Answers.{entries_of, entry_count}
 use Rattle.glob_tree.specs.Content.{Content, DirEntry, look_result}
 use Rattle.glob_tree.specs.declared.tree.ListError.TheVariants.{Read}
@@ -31,6 +32,12 @@ kind_of (Says (Gives (Unread path kind))) = 4
 kind_of (Says (LimitAt path)) = 5
 kind_of (Says NoMemory) = 6
 kind_of Ends = 8
+
+-- the path of an error, or the one at which the limit was reached
+abbrev pub error_path : Saying → Option Text
+error_path (Says (Gives (Unread path kind))) = Some path
+error_path (Says (LimitAt path)) = Some path
+error_path _ = None
 
 -- what was answered is what the content has, where a question is open
 abbrev pub RepliesTo : Saying → Reply → MachineState Global → Content → Type 0

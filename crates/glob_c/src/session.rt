@@ -9,7 +9,7 @@ ghost use Rattle.glob_walk.specs.Walks.{Gives, outcome};
 ghost use Rattle.glob_walk.specs.Marks.{Found, Item, Mark};
 ghost use Rattle.glob_walk.specs.Driven.{HasGiven, GivesNext};
 ghost use Rattle.glob_c.specs.Answers.{done, not_asked};
-ghost use Rattle.glob_c.specs.Sessions.{AreListed, Counts, IsUnread, Replies, RepliesTo, entries_so_far, kind_of};
+ghost use Rattle.glob_c.specs.Sessions.{AreListed, Counts, IsUnread, Replies, RepliesTo, entries_so_far, error_path, kind_of};
 
 use crate::pattern::{DONE, NOT_UTF8, OUT_OF_MEMORY};
 use glob_tree::{Entry, ListError, Look, Name};
@@ -179,6 +179,8 @@ impl Session {
         ensures asked { IsSome self.now.machine.asked
             → result.now ≡ question_path self.now.machine.asked }
         ensures found { (path : Text) → self.now.said ≡ Says (Gives (Found path))
+            → result.now ≡ path }
+        ensures error { (path : Text) → error_path self.now.said ≡ Some path
             → result.now ≡ path }
     {
         match &self.step {

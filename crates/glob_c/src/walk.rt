@@ -13,7 +13,7 @@ ghost use Rattle.glob_walk.specs.Listing.{listing};
 ghost use Rattle.glob_walk.specs.Marks.{Found, Item, Mark};
 ghost use Rattle.glob_walk.specs.Driven.{HasGiven};
 ghost use Rattle.glob_c.specs.Answers.{done, empty, in_use, not_utf8, number_of, options_of, syntax_fault, too_short};
-ghost use Rattle.glob_c.specs.Sessions.{Replies, Sitting, entries_so_far, look_of, looked_at};
+ghost use Rattle.glob_c.specs.Sessions.{Replies, Sitting, entries_so_far, error_path, look_of, looked_at};
 ghost use Rattle.glob_c.specs.WalkSlots.{HasEntries, HasLimit, HasListed, HasUnread, IsAdvanced, IsBegun, IsCounted};
 
 use crate::escape::TOO_SHORT;
@@ -131,10 +131,14 @@ pub extern "C" fn cadmiumdove_walk_path(
         → IsSome s.machine.asked → take needed.new out.new ≡ question_path s.machine.asked }
     ensures found { (s : Sitting) → handle.old.slot.walk ≡ Some s → result ≡ done
         → (path : Text) → s.said ≡ Says (Gives (Found path)) → take needed.new out.new ≡ path }
+    ensures error { (s : Sitting) → handle.old.slot.walk ≡ Some s → result ≡ done
+        → (path : Text) → error_path s.said ≡ Some path → take needed.new out.new ≡ path }
     ensures needed { (s : Sitting) → handle.old.slot.walk ≡ Some s → IsSome s.machine.asked
         → needed.new ≡ length (question_path s.machine.asked) }
     ensures needed_found { (s : Sitting) → handle.old.slot.walk ≡ Some s
         → (path : Text) → s.said ≡ Says (Gives (Found path)) → needed.new ≡ length path }
+    ensures needed_error { (s : Sitting) → handle.old.slot.walk ≡ Some s
+        → (path : Text) → error_path s.said ≡ Some path → needed.new ≡ length path }
 {
     let Some(session) = handle.take(alloc) else {
         return EMPTY;
