@@ -77,7 +77,9 @@ int main(int count, char **words) {
         case CADMIUMDOVE_LIST:
         case CADMIUMDOVE_LIST_NAMES: list(&walk); break;
         case CADMIUMDOVE_PATH: puts(path), status = 0; break;
-        default: fprintf(stderr, "%s: %s\n", path, step == CADMIUMDOVE_UNREAD ? "cannot be listed" : "out of memory"), failed = true;
+        default:
+            fprintf(stderr, "%s: %s\n", path, step == CADMIUMDOVE_UNREAD ? "cannot be listed" : "out of memory");
+            failed = true;
         }
     }
     cadmiumdove_walk_free(&walk);
