@@ -175,8 +175,8 @@ enum cadmiumdove_refusal {
 /* Begins a walk after a pattern, from the root if it begins with `/`, and else from the current directory, with at most
  * `limit` units of work: one for each question and for each entry. A listing's entries are all kept before they count.
  * The answer is that of cadmiumdove_pattern_new, or UNKNOWN_FLAG. Each component is also a pattern of its own, and a
- * fault of one alone has its place in it. It reads no file: the caller answers its questions, as from a file system or an
- * archive.
+ * fault of one alone has its place in it. It reads no file: the caller answers its questions, as from a file system or
+ * an archive.
  *
  *     while ((step = cadmiumdove_walk_next(&walk)) != CADMIUMDOVE_END) {
  *         if (cadmiumdove_walk_path(&walk, path, sizeof path - 1, &length) != CADMIUMDOVE_DONE)

@@ -75,6 +75,12 @@ fn a_path_that_is_no_text_never_matches() {
 }
 
 #[test]
+fn a_joined_path_is_a_pattern() {
+    let path = Path::new("one").join(Path::new("**/*.rs"));
+    assert!(Pattern::new(path.to_str().unwrap()).unwrap().matches("one/a/b.rs"));
+}
+
+#[test]
 fn threads_share_a_pattern() {
     let pattern = Pattern::new("*a").unwrap();
     std::thread::scope(|scope| {
@@ -94,12 +100,15 @@ fn rows() {
         ("some/**/needle", &["some/needle", "some/a/needle", "some/a/b/needle"], &["some/notneedle", "other/needle"]),
         ("**", &["", "a", "a/b", ".x", "a/.x"], &[]),
         ("/**/x", &["/x", "/a/x", "/a/b/x"], &["x", "/ax", "a/x"]),
+        ("**/.*", &[".abc", "abc/.abc"], &["ab.c", "abc/ab.c"]),
         ("**/test", &["test", "a/test", "a/b/test"], &["atest", "test/a"]),
         ("**/**/a/*", &["a/b", "x/a/b"], &["a", "b"]),
         ("a[0-9]b", &["a0b", "a5b", "a9b"], &["a_b", "ab", "a00b"]),
         ("a[!0-9]b", &["a_b", "aab"], &["a0b", "a9b", "ab"]),
         ("[a-z123]", &["a", "q", "z", "1", "3"], &["4", "A", "-"]),
         ("[123a-z]", &["a", "q", "z", "1", "3"], &["4", "A", "-"]),
+        ("[2-1]", &[], &["1", "2", "-"]),
+        ("[-]", &["-"], &["[", "a"]),
         ("[abc-]", &["a", "c", "-"], &["d", "]"]),
         ("[-abc]", &["a", "c", "-"], &["d"]),
         ("[!-]", &["a", "]"], &["-"]),
@@ -148,9 +157,19 @@ fn rows_under_options() {
 
 #[test]
 fn refused_texts() {
-    for (text, pos) in
-        [("a**", 0), ("**b", 2), ("***", 2), ("a/**b", 4), ("abc[def", 3), ("abc[!", 3), ("abc[", 3), ("[]", 0)]
-    {
+    for (text, pos) in [
+        ("a**", 0),
+        ("**b", 2),
+        ("***", 2),
+        ("a/**b", 4),
+        ("a/b**c**d", 2),
+        ("abc[def", 3),
+        ("abc[!", 3),
+        ("abc[!d", 3),
+        ("abc[", 3),
+        ("[]", 0),
+        ("[!]", 0),
+    ] {
         assert_eq!(Pattern::new(text).map_err(|error| error.pos).unwrap_err(), pos, "{text}");
     }
 }
