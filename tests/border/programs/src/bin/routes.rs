@@ -9,7 +9,6 @@ use std::error::Error;
 use std::fs;
 use std::path::PathBuf;
 use std::str::FromStr;
-use std::sync::atomic::{AtomicUsize, Ordering};
 use std::sync::{mpsc, Arc, Mutex, RwLock};
 use std::thread;
 use std::{env, process};
@@ -47,7 +46,6 @@ impl FromStr for Route {
 struct Table {
     routes: RwLock<Arc<Vec<Route>>>,
     kept: Mutex<HashMap<String, Option<usize>>>,
-    asked: AtomicUsize,
 }
 
 impl Table {
@@ -61,10 +59,7 @@ impl Table {
             return kept;
         }
         let routes = Arc::clone(&self.routes.read().unwrap());
-        let found = routes.iter().position(|route| {
-            self.asked.fetch_add(1, Ordering::Relaxed);
-            route.pattern.matches_with(text, route.options)
-        });
+        let found = routes.iter().position(|route| route.pattern.matches_with(text, route.options));
         self.kept.lock().unwrap().insert(text.to_owned(), found);
         found
     }
@@ -140,7 +135,7 @@ fn run(table: &str, texts: &str) -> Result<(), Box<dyn Error + Send + Sync>> {
     for round in 1..=2 {
         shared.replace(routes.clone());
         let found = route_all(&shared, &texts);
-        println!("round {round}: {} routes, {} questions", routes.len(), shared.asked.swap(0, Ordering::Relaxed));
+        println!("round {round}: {} routes, {} texts", routes.len(), shared.kept.lock().unwrap().len());
         for (text, number) in texts.iter().zip(&found) {
             let handler = number.map_or("-", |number| routes[number].handler.as_str());
             println!("{handler:>8} {text}");
