@@ -87,6 +87,9 @@ fn brackets() {
     folder.finds("[![]", &["!", "*", "?", "]"]);
     folder.finds("[!]]", &["!", "*", "?", "["]);
     folder.finds("[!!]", &["*", "?", "[", "]"]);
+    folder.finds("[!*]", &["!", "?", "[", "]"]);
+    folder.finds("[!?]", &["!", "*", "[", "]"]);
+    folder.finds("!", &["!"]);
 }
 
 #[test]
@@ -172,6 +175,7 @@ fn refusals() {
     assert_eq!((error.pos, error.msg), (4 + 2, "recursive wildcards must form a single path component"));
     let error = glob("a/[b").map(|_| ()).unwrap_err();
     assert_eq!((error.pos, error.msg), (2, "invalid range pattern"));
+    assert_eq!(glob("a/**b").map(|_| ()).unwrap_err().pos, 4);
     // each component is a pattern of its own
     let error = glob("a/[/]b").map(|_| ()).unwrap_err();
     assert_eq!((error.pos, error.msg), (0, "invalid range pattern"));
