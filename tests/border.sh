@@ -67,9 +67,11 @@ header_in_cpp() {
         <<<'#include "cadmiumdove.h"'
 }
 
-# The example finds what `find` does.
+# The example finds what `find` does, and says what is wrong with a pattern.
 finds() {
-    (cd "$root" && "$1" 'rust/**/*.rs' | sort >"$work/found" && find rust -name '*.rs' | sort | cmp - "$work/found")
+    (cd "$root" && "$1" 'rust/**/*.rs' | sort >"$work/found" && find rust -name '*.rs' | sort | cmp - "$work/found") &&
+        [ "$("$1" 'a/b[' 2>&1)" = '3: invalid range pattern' ] &&
+        [ "$("$1" $'a\xff' 2>&1)" = 'the pattern is not UTF-8' ]
 }
 
 calls_from_c() {
