@@ -123,7 +123,7 @@ calls_from_rust() {
         check 'the Cargo crate, as another user' cargo test -q --offline --tests --manifest-path "$crate" \
             --config "target.'cfg(unix)'.runner = '${as[*]}'"
     fi
-    if has cargo-clippy; then
+    if cargo clippy --version >/dev/null 2>&1; then
         check 'clippy' cargo clippy -q --offline --all-targets --manifest-path "$crate" -- -D warnings
     else
         left_out 'clippy, which is not there'
