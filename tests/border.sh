@@ -117,7 +117,7 @@ programs() {
 calls_from_rust() {
     local file crate=$work/rust/Cargo.toml
     has cargo || { left_out "calls from Rust, since there is no cargo"; return; }
-    cp -r "$root/rust" "$work/rust"
+    cp -r "$root/rust" "$work/rust" && chmod -R a+rX "$work/rust"
     check 'the Cargo crate' cargo test -q --offline --manifest-path "$crate"
     if [ "${#as[@]}" != 0 ]; then
         check 'the Cargo crate, as another user' cargo test -q --offline --tests --manifest-path "$crate" \
@@ -145,6 +145,7 @@ calls_from_rust() {
 }
 
 # Root may list each directory, so what is to meet one that is shut runs as somebody else.
+umask 022
 as=()
 if [ "$(id -u)" = 0 ] && has setpriv; then
     chmod 711 "$work"
