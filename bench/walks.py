@@ -3,8 +3,8 @@
 
 usage: walks.py FOLDER ROUNDS SHARE
 
-FOLDER has ours/program, measure and calls and, where it could be had, original/walk. In each of ROUNDS rounds every program
-runs once, and its least time counts. SHARE divides the size of the trees.
+FOLDER has ours/program or ours/walk, measure and calls and, where it could be had, original/walk. In each of ROUNDS
+rounds every program runs once, and its least time counts. SHARE divides the size of the trees.
 """
 
 import os
@@ -90,12 +90,18 @@ def bash_words(pattern):
     return ["-O", "globstar", "-O", "dotglob", "-O", "nullglob", "-c", f'printf "%s\\n" {word}']
 
 
+def ours(folder, pattern):
+    """The crate's program over ours, if that is what was built, or else our program."""
+    walk = folder / "ours/walk"
+    return [walk, pattern] if walk.exists() else [folder / "ours/program", "find", pattern]
+
+
 def commands(folder, pattern):
     """The programs that can be had, by the heads of their columns, and what each is started with."""
     depth = DEPTHS[pattern] or 1_000_000
     fd = shutil.which("fdfind") or shutil.which("fd")
     some = {
-        "ours": [folder / "ours/program", "find", pattern],
+        "ours": ours(folder, pattern),
         "the crate": [folder / "original/walk", pattern],
         "the calls alone": [folder / "calls", str(depth), *(["names"] if pattern in NAMES else [])],
         "find": [shutil.which("find"), ".", "-mindepth", "1", *find_words(pattern)],

@@ -54,15 +54,19 @@ static void list(struct cadmiumdove_walk *walk) {
 
 int main(int count, char **words) {
     struct cadmiumdove_walk walk = {0};
-    struct cadmiumdove_fault fault = {0, 0};
+    struct cadmiumdove_fault fault;
     int status = 1;
     bool failed = false;
     size_t length;
     if (count != 2)
         return 2;
-    if (cadmiumdove_walk_new(&walk, words[1], strlen(words[1]), 0, UINT64_MAX, &fault) != CADMIUMDOVE_DONE) {
+    switch (cadmiumdove_walk_new(&walk, words[1], strlen(words[1]), 0, UINT64_MAX, &fault)) {
+    case CADMIUMDOVE_DONE: break;
+    case CADMIUMDOVE_SYNTAX_FAULT:
         fprintf(stderr, "%zu: %s\n", fault.place, cadmiumdove_message_text(fault.message));
         return 2;
+    case CADMIUMDOVE_NOT_UTF8: fputs("the pattern is not UTF-8\n", stderr); return 2;
+    default: fputs("out of memory\n", stderr); return 2;
     }
     for (uint32_t step; (step = cadmiumdove_walk_next(&walk)) != CADMIUMDOVE_END;) {
         if (cadmiumdove_walk_path(&walk, path, sizeof path - 1, &length) != CADMIUMDOVE_DONE)
@@ -73,7 +77,9 @@ int main(int count, char **words) {
         case CADMIUMDOVE_LIST:
         case CADMIUMDOVE_LIST_NAMES: list(&walk); break;
         case CADMIUMDOVE_PATH: puts(path), status = 0; break;
-        default: fprintf(stderr, "%s: %s\n", path, step == CADMIUMDOVE_UNREAD ? "unread" : "no memory"), failed = true;
+        default:
+            fprintf(stderr, "%s: %s\n", path, step == CADMIUMDOVE_UNREAD ? "cannot be listed" : "out of memory");
+            failed = true;
         }
     }
     cadmiumdove_walk_free(&walk);

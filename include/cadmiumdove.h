@@ -20,6 +20,10 @@
  *
  *     cc -Iinclude main.c crates/glob_c/out/libcadmiumdove.a
  *
+ * With a release, and PKG_CONFIG_PATH its lib/pkgconfig:
+ *
+ *     cc main.c $(pkg-config --cflags --libs cadmiumdove)
+ *
  * What is proved of a call holds where its caller keeps these rules, which nothing checks:
  *
  * - A pointer is not null, not even with a length of 0. Its memory is there for the call, and no other call or thread
@@ -169,8 +173,10 @@ enum cadmiumdove_refusal {
 };
 
 /* Begins a walk after a pattern, from the root if it begins with `/`, and else from the current directory, with at most
- * `limit` units of work: one for each question and for each entry. The answer is that of cadmiumdove_pattern_new, or
- * UNKNOWN_FLAG. It reads no file: the caller answers its questions, as from a file system or an archive.
+ * `limit` units of work: one for each question and for each entry. A listing's entries are all kept before they count.
+ * The answer is that of cadmiumdove_pattern_new, or UNKNOWN_FLAG. Each component is also a pattern of its own, and a
+ * fault of one alone has its place in it. It reads no file: the caller answers its questions, as from a file system or
+ * an archive.
  *
  *     while ((step = cadmiumdove_walk_next(&walk)) != CADMIUMDOVE_END) {
  *         if (cadmiumdove_walk_path(&walk, path, sizeof path - 1, &length) != CADMIUMDOVE_DONE)
@@ -185,20 +191,23 @@ enum cadmiumdove_refusal {
  *     }
  *
  * Its items are those that are written down for its pattern as long as each answer is that of one tree. Whatever is
- * answered, it keeps its limit, and so it ends. examples/find.c has `look` and `list`. */
+ * answered, it keeps its limit, and so it ends once each question is answered; one that never is, is asked for ever.
+ * examples/find.c has `look` and `list`. */
 uint32_t cadmiumdove_walk_new(struct cadmiumdove_walk *walk, const char *pattern, size_t length, uint32_t flags,
                               uint64_t limit, struct cadmiumdove_fault *fault);
 
 /* Goes on to the next step, with what was answered since the last. A question that was not answered in full is asked
- * again, and what was answered of it is forgotten. The answer is a step, or EMPTY. */
+ * again, and what was answered of it is forgotten. Of several answers the last counts: a second `looked`, or `unread`
+ * after entries or `listed`. The answer is a step, or EMPTY. */
 uint32_t cadmiumdove_walk_next(struct cadmiumdove_walk *walk);
 
 /* Writes the path of the last step to `out`, which has room for `room` bytes, and its length to `needed`. No zero byte
- * follows it. The answer is DONE, EMPTY, or TOO_SHORT, and then `needed` is the room that suffices.
+ * follows it. It is empty before the first step and at END, and at MEMORY nothing is promised of it. The answer is
+ * DONE, EMPTY, or TOO_SHORT, and then `needed` is the room that suffices.
  * The caller owes: `out` and `needed` do not overlap. */
 uint32_t cadmiumdove_walk_path(struct cadmiumdove_walk *walk, char *out, size_t room, size_t *needed);
 
-/* Answers CADMIUMDOVE_LOOK: DONE, EMPTY or NOT_ASKED. */
+/* Answers CADMIUMDOVE_LOOK: DONE, EMPTY or NOT_ASKED. A number that is no cadmiumdove_look is MISSING. */
 uint32_t cadmiumdove_walk_looked(struct cadmiumdove_walk *walk, uint32_t look);
 
 /* Answers CADMIUMDOVE_LIST or CADMIUMDOVE_LIST_NAMES by one entry more, in any order: DONE, OUT_OF_MEMORY, NOT_UTF8,

@@ -1,6 +1,6 @@
 #!/usr/bin/env bash
 # Makes a release, unpacks it in an empty folder, and uses each part of it there, with neither the repository nor `rt`
-# in reach. Its last line is 'N passed, M failed'.
+# in reach. What cannot be had here is left out, and said. Its last line is 'N passed, M failed'.
 set -uo pipefail
 root=$(cd "$(dirname "$(readlink -f "${BASH_SOURCE[0]}")")/.." && pwd)
 work=$(mktemp -d) || exit 2
@@ -17,6 +17,15 @@ check() {
         failed=$((failed + 1))
         echo "failed: $name"
         tail -n 20 "$work/log"
+    fi
+}
+
+# if_there TOOL NAME COMMAND..: a row that needs a tool
+if_there() {
+    if command -v "$1" >/dev/null; then
+        check "${@:2}"
+    else
+        echo "left out: $2, since there is no $1"
     fi
 }
 
@@ -73,9 +82,9 @@ mkdir "$work/there"
 check 'it is unpacked' tar -C "$work/there" -xf "$work/made"/*.tar.gz
 check 'the program' alone program
 check 'its man page' alone test -s share/man/man1/glob_run.1
-check 'from C' alone from_c
-check 'from Rust' alone from_rust
+if_there pkg-config 'from C' alone from_c
+if_there cargo 'from Rust' alone from_rust
 check 'what it was made from' alone built
-check 'licences' alone test -s LICENSE-MIT -a -s rust/LICENSE-APACHE
+check 'licences and the page' alone test -s LICENSE-MIT -a -s rust/LICENSE-APACHE -a -s README.md
 echo "$passed passed, $failed failed"
 [ "$failed" = 0 ]

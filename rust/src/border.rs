@@ -15,6 +15,7 @@ use crate::PatternError;
 const DONE: u32 = 0;
 const SYNTAX_FAULT: u32 = 1;
 const OUT_OF_MEMORY: u32 = 2;
+const NOT_UTF8: u32 = 3;
 
 const NO: u32 = 0;
 const YES: u32 = 1;
@@ -198,7 +199,7 @@ impl Walk {
                 cadmiumdove_walk_path(&mut self.handle, self.path.as_mut_ptr(), self.path.len(), &mut needed)
             };
         }
-        debug_assert_eq!(answer, DONE);
+        assert_eq!(answer, DONE, "the room that was needed suffices");
         self.path.truncate(needed);
     }
 
@@ -208,7 +209,8 @@ impl Walk {
     }
 
     pub(crate) fn looked(&mut self, seen: Look) {
-        unsafe { cadmiumdove_walk_looked(&mut self.handle, seen as u32) };
+        let answer = unsafe { cadmiumdove_walk_looked(&mut self.handle, seen as u32) };
+        debug_assert_eq!(answer, DONE);
     }
 
     pub(crate) fn entry(&mut self, name: &[u8], is_dir: bool) -> Entry {
@@ -216,16 +218,22 @@ impl Walk {
         match unsafe { cadmiumdove_walk_entry(&mut self.handle, name.as_ptr(), name.len(), is_dir) } {
             DONE => Entry::Taken,
             OUT_OF_MEMORY => out_of_memory(),
-            _ => Entry::Refused,
+            answer => {
+                debug_assert_eq!(answer, NOT_UTF8);
+                Entry::Refused
+            }
         }
     }
 
     pub(crate) fn listed(&mut self) {
-        unsafe { cadmiumdove_walk_listed(&mut self.handle) };
+        let answer = unsafe { cadmiumdove_walk_listed(&mut self.handle) };
+        debug_assert_eq!(answer, DONE);
     }
 
     pub(crate) fn unread(&mut self, error: &io::Error) {
-        unsafe { cadmiumdove_walk_unread(&mut self.handle, error.raw_os_error().unwrap_or(0)) };
+        let code = error.raw_os_error().unwrap_or(0);
+        let answer = unsafe { cadmiumdove_walk_unread(&mut self.handle, code) };
+        debug_assert_eq!(answer, DONE);
     }
 }
 

@@ -75,6 +75,12 @@ fn a_path_that_is_no_text_never_matches() {
 }
 
 #[test]
+fn a_joined_path_is_a_pattern() {
+    let path = Path::new("one").join(Path::new("**/*.rs"));
+    assert!(Pattern::new(path.to_str().unwrap()).unwrap().matches("one/a/b.rs"));
+}
+
+#[test]
 fn threads_share_a_pattern() {
     let pattern = Pattern::new("*a").unwrap();
     std::thread::scope(|scope| {
@@ -91,17 +97,27 @@ fn rows() {
     let rows: &[(&str, &[&str], &[&str])] = &[
         ("a*b*c", &["abc", "a_b_c", "a__b/c", "abcabc"], &["abcd", "ab", "acb", ""]),
         ("a*a*a*a*a*a*a*a*a", &["aaaaaaaaa", "aaaaaaaaaaaaaaaaaaaaaaaa"], &["aaaaaaaa", "aaaaaaaab"]),
+        ("abc*abc*abc", &["abcabcabcabcabcabcabc"], &["abcabcabcabcabcabcabca"]),
+        ("a*b[xyz]c*d", &["abxcdbxcddd"], &["abxcdbxcdde"]),
+        ("*hello.txt", &["hello.txt", "a_hello.txt", "a\\b\\hello.txt", "/a/hello.txt"], &["hello.txt-", "bye.txt"]),
+        ("*b/hello.txt", &["b/hello.txt", "a/b/hello.txt"], &["b/hello.txt-", "a/c/hello.txt"]),
+        ("some/**/**/needle", &["some/needle", "some/a/needle", "some/a/b/needle"], &["some/notneedle"]),
         ("some/**/needle", &["some/needle", "some/a/needle", "some/a/b/needle"], &["some/notneedle", "other/needle"]),
         ("**", &["", "a", "a/b", ".x", "a/.x"], &[]),
         ("/**/x", &["/x", "/a/x", "/a/b/x"], &["x", "/ax", "a/x"]),
+        ("**/.*", &[".abc", "abc/.abc"], &["ab.c", "abc/ab.c"]),
         ("**/test", &["test", "a/test", "a/b/test"], &["atest", "test/a"]),
         ("**/**/a/*", &["a/b", "x/a/b"], &["a", "b"]),
         ("a[0-9]b", &["a0b", "a5b", "a9b"], &["a_b", "ab", "a00b"]),
         ("a[!0-9]b", &["a_b", "aab"], &["a0b", "a9b", "ab"]),
         ("[a-z123]", &["a", "q", "z", "1", "3"], &["4", "A", "-"]),
+        ("[1a-z23]", &["a", "q", "z", "1", "3"], &["4", "A", "-"]),
         ("[123a-z]", &["a", "q", "z", "1", "3"], &["4", "A", "-"]),
+        ("[2-1]", &[], &["1", "2", "-"]),
+        ("[-]", &["-"], &["[", "a"]),
         ("[abc-]", &["a", "c", "-"], &["d", "]"]),
         ("[-abc]", &["a", "c", "-"], &["d"]),
+        ("[a-c-]", &["a", "b", "c", "-"], &["d"]),
         ("[!-]", &["a", "]"], &["-"]),
         ("[]-]", &["]", "-"], &["[", "a"]),
         ("[!]a-]", &["b"], &["]", "a", "-"]),
@@ -128,6 +144,8 @@ fn rows_under_options() {
         (any_case, "[a-z]x", "QX", true),
         (any_case, "[A-Z]x", "qX", true),
         (any_case, "[!a-z]", "Q", false),
+        (any_case, "[a]", "A", true),
+        (any_case, "[!a]", "A", false),
         (any_case, "é", "É", false),
         (literal, "abc/def", "abc/def", true),
         (literal, "abc?def", "abc/def", false),
@@ -136,9 +154,15 @@ fn rows_under_options() {
         (literal, "a/**/d", "a/b/c/d", true),
         (dots, ".*.txt", ".hello.txt", true),
         (dots, "*.txt", ".hello.txt", false),
+        (dots, ".*.*", ".hello.txt", true),
+        (dots, "**/*", ".bbb", false),
         (dots, "?x", ".x", false),
         (dots, "[.]x", ".x", false),
         (dots, "a/*", "a/.x", false),
+        (dots, "a/*", "a/c.c.c.", true),
+        (dots, "a/.*", "a/.x", true),
+        (dots, "a/?b", "a/.b", false),
+        (dots, "a/[.]b", "a/.b", false),
         (dots, "**/x", "a/.b/x", false),
         (dots, "a*", "a.x", true),
     ] {
@@ -148,9 +172,24 @@ fn rows_under_options() {
 
 #[test]
 fn refused_texts() {
-    for (text, pos) in
-        [("a**", 0), ("**b", 2), ("***", 2), ("a/**b", 4), ("abc[def", 3), ("abc[!", 3), ("abc[", 3), ("[]", 0)]
-    {
+    for (text, pos) in [
+        ("a**", 0),
+        ("a**b", 0),
+        ("**b", 2),
+        ("***", 2),
+        ("a/**b", 4),
+        ("a/b**c**d", 2),
+        ("abc[def", 3),
+        ("abc[!def", 3),
+        ("abc[!", 3),
+        ("abc[d", 3),
+        ("abc[!d", 3),
+        ("abc[", 3),
+        ("abc[]", 3),
+        ("abc[!]", 3),
+        ("[]", 0),
+        ("[!]", 0),
+    ] {
         assert_eq!(Pattern::new(text).map_err(|error| error.pos).unwrap_err(), pos, "{text}");
     }
 }

@@ -78,6 +78,36 @@ fn recursive_wildcards() {
 }
 
 #[test]
+fn brackets() {
+    let folder = Folder::new("brackets", &["!", "*", "?", "[", "]"]);
+    folder.finds("[[]", &["["]);
+    folder.finds("[]]", &["]"]);
+    folder.finds("[*]", &["*"]);
+    folder.finds("[?]", &["?"]);
+    folder.finds("[![]", &["!", "*", "?", "]"]);
+    folder.finds("[!]]", &["!", "*", "?", "["]);
+    folder.finds("[!!]", &["*", "?", "[", "]"]);
+    folder.finds("[!*]", &["!", "?", "[", "]"]);
+    folder.finds("[!?]", &["!", "*", "[", "]"]);
+    folder.finds("!", &["!"]);
+}
+
+#[test]
+fn dots() {
+    let folder = Folder::new("dots", &["aaa/f", "bbb/"]);
+    folder.finds("*/..", &["aaa/..", "bbb/.."]);
+    folder.finds("aaa/../bbb", &["aaa/../bbb"]);
+    folder.finds("nothing/../bbb", &[]);
+    folder.finds("aaa/f/..", &[]);
+    folder.finds("aaa/f/.", &[]);
+}
+
+#[test]
+fn many_files() {
+    assert!(glob("/*/*/*/*").unwrap().take(10_000).count() > 100);
+}
+
+#[test]
 fn options() {
     let folder = Folder::new("options", &["A/B", "a/b", ".h", ".i/x"]);
     let new = MatchOptions::new();
@@ -131,6 +161,10 @@ fn relative_and_absolute() {
     assert_eq!(found, [Path::new("tests/walks.rs")]);
     let found: Vec<_> = glob("/").unwrap().flatten().collect();
     assert_eq!(found, [Path::new("/")]);
+    for (pattern, path) in [("//", "/"), (".", "."), ("..", "..")] {
+        let found: Vec<_> = glob(pattern).unwrap().flatten().collect();
+        assert_eq!(found, [Path::new(path)], "{pattern}");
+    }
     assert_eq!(glob("").unwrap().count(), 0);
     assert!(glob("/*").unwrap().flatten().any(|path| path == Path::new("/tmp")));
 }
@@ -141,6 +175,7 @@ fn refusals() {
     assert_eq!((error.pos, error.msg), (4 + 2, "recursive wildcards must form a single path component"));
     let error = glob("a/[b").map(|_| ()).unwrap_err();
     assert_eq!((error.pos, error.msg), (2, "invalid range pattern"));
+    assert_eq!(glob("a/**b").map(|_| ()).unwrap_err().pos, 4);
     // each component is a pattern of its own
     let error = glob("a/[/]b").map(|_| ()).unwrap_err();
     assert_eq!((error.pos, error.msg), (0, "invalid range pattern"));

@@ -278,6 +278,38 @@ static int wrong_answers(void) {
     return 0;
 }
 
+/* Of several answers the last counts, and a number that is no look is MISSING. The path is empty before the first step
+ * and at the end. */
+static int last_answers(void) {
+    struct cadmiumdove_walk walk = {0};
+    char path[2];
+    size_t length = 7;
+    CHECK(begin(&walk, "*", 1000) == CADMIUMDOVE_DONE);
+    CHECK(cadmiumdove_walk_path(&walk, path, 0, &length) == CADMIUMDOVE_DONE && length == 0);
+    CHECK(cadmiumdove_walk_next(&walk) == CADMIUMDOVE_LOOK);
+    CHECK(cadmiumdove_walk_looked(&walk, CADMIUMDOVE_MISSING) == CADMIUMDOVE_DONE);
+    CHECK(cadmiumdove_walk_looked(&walk, CADMIUMDOVE_DIRECTORY) == CADMIUMDOVE_DONE);
+    CHECK(cadmiumdove_walk_next(&walk) == CADMIUMDOVE_LIST_NAMES);
+    CHECK(cadmiumdove_walk_entry(&walk, "x", 1, false) == CADMIUMDOVE_DONE);
+    CHECK(cadmiumdove_walk_listed(&walk) == CADMIUMDOVE_DONE);
+    CHECK(cadmiumdove_walk_unread(&walk, 13) == CADMIUMDOVE_DONE);
+    CHECK(cadmiumdove_walk_listed(&walk) == CADMIUMDOVE_NOT_ASKED);
+    CHECK(cadmiumdove_walk_next(&walk) == CADMIUMDOVE_UNREAD);
+    CHECK(cadmiumdove_walk_next(&walk) == CADMIUMDOVE_END);
+    length = 7;
+    CHECK(cadmiumdove_walk_path(&walk, path, 0, &length) == CADMIUMDOVE_DONE && length == 0);
+    cadmiumdove_walk_free(&walk);
+    CHECK(begin(&walk, "a", 1000) == CADMIUMDOVE_DONE);
+    CHECK(cadmiumdove_walk_next(&walk) == CADMIUMDOVE_LOOK);
+    CHECK(cadmiumdove_walk_looked(&walk, CADMIUMDOVE_DIRECTORY) == CADMIUMDOVE_DONE);
+    CHECK(cadmiumdove_walk_next(&walk) == CADMIUMDOVE_LOOK);
+    CHECK(cadmiumdove_walk_looked(&walk, CADMIUMDOVE_OTHER) == CADMIUMDOVE_DONE);
+    CHECK(cadmiumdove_walk_looked(&walk, 77) == CADMIUMDOVE_DONE);
+    CHECK(cadmiumdove_walk_next(&walk) == CADMIUMDOVE_END);
+    cadmiumdove_walk_free(&walk);
+    return 0;
+}
+
 /* Each request for memory of a walk fails in turn, and nothing is lost by it. */
 static int memory_of_a_walk(void) {
     struct cadmiumdove_walk walk = {0};
@@ -309,5 +341,5 @@ static int leave_nothing(int calls(void)) {
 int main(void) {
     return leave_nothing(blocks_of_a_pattern) || leave_nothing(matching) || leave_nothing(faults)
         || leave_nothing(escaping) || leave_nothing(memory) || leave_nothing(walking) || leave_nothing(wrong_answers)
-        || leave_nothing(memory_of_a_walk);
+        || leave_nothing(last_answers) || leave_nothing(memory_of_a_walk);
 }

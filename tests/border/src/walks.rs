@@ -9,9 +9,9 @@ use crate::{options, Count, Random};
 
 const NAMES: [&str; 12] = ["a", "b", "ab", "A", ".a", ".b", "a.rs", "b.rs", "a\nb", "é", "[", "-"];
 
-const COMPONENTS: [&str; 22] = [
+const COMPONENTS: [&str; 24] = [
     "a", "b", "ab", ".a", "*", "*", "*", "**", "**", "?", "a*", "*b", "*.rs", ".*", "[ab]", "[!a]", "[a-b]?", "[[]",
-    "é", "*\n*", "b**", "[a",
+    "é", "*\n*", "b**", "[a", ".", "..",
 ];
 
 /// Fills a directory, and the directories in it.
@@ -64,7 +64,7 @@ const MOST: usize = 100_000;
 /// Compares walks over random trees. Under the dot rule 0.3.0 lets `**` enter dotted directories, so there it is left
 /// out.
 pub fn compare(random: &mut Random, count: &mut Count, walks: usize) {
-    // `.*` matches `..`: a pattern of four components stays below `top`
+    // with `..`, which `.*` matches, a pattern of four components stays below `top`
     let top = env::temp_dir().join(format!("beside-{}", process::id()));
     let root = top.join("t/t/t/t");
     let (mut compared, mut given, mut errors, mut refused) = (0, 0, 0, 0);
@@ -73,7 +73,7 @@ pub fn compare(random: &mut Random, count: &mut Count, walks: usize) {
         fill(random, &root, 4).unwrap();
         env::set_current_dir(&root).unwrap();
         for _ in 0..20 {
-            let components: Vec<&str> = (0..random.below(4) + 1).map(|_| COMPONENTS[random.below(22)]).collect();
+            let components: Vec<&str> = (0..random.below(4) + 1).map(|_| COMPONENTS[random.below(COMPONENTS.len())]).collect();
             let start = if random.below(4) == 0 { format!("{}/", root.display()) } else { String::new() };
             let pattern = start + &components.join("/") + ["", "", "/"][random.below(3)];
             let bits = random.below(8);

@@ -1,0 +1,71 @@
+//! Where `glob` answers otherwise: names that are not UTF-8, and kinds that come with a listing.
+
+use std::error::Error;
+use std::ffi::OsStr;
+use std::fs::{self, File, Permissions};
+use std::io::ErrorKind;
+use std::os::unix::ffi::OsStrExt;
+use std::os::unix::fs::PermissionsExt;
+use std::path::PathBuf;
+use std::{env, process};
+
+use cadmiumdove::{glob, GlobError, GlobResult};
+
+/// A directory of its own.
+fn folder(name: &str) -> PathBuf {
+    let root = env::temp_dir().join(format!("cadmiumdove-{}-{name}", process::id()));
+    fs::create_dir(&root).unwrap();
+    root
+}
+
+#[test]
+fn a_name_that_is_not_utf8_is_an_error_of_its_directory() {
+    let root = folder("bytes");
+    File::create(root.join("a")).unwrap();
+    File::create(root.join(OsStr::from_bytes(b"\xff"))).unwrap();
+    let mut items: Vec<GlobResult> = glob(&format!("{}/*", root.display())).unwrap().collect();
+    // a literal lists nothing
+    let named = glob(&format!("{}/a", root.display())).unwrap().filter(Result::is_ok).count();
+    fs::remove_dir_all(&root).unwrap();
+    assert_eq!((items.len(), named), (1, 1));
+    let error: GlobError = items.remove(0).unwrap_err();
+    assert_eq!(error.path(), root);
+    assert_eq!(error.error().kind(), ErrorKind::InvalidData);
+    let text = format!("attempting to read `{}` resulted in an error: a name is not UTF-8", root.display());
+    assert_eq!(error.to_string(), text);
+    assert_eq!(error.source().map(ToString::to_string), Some("a name is not UTF-8".to_owned()));
+    assert_eq!(error.into_error().kind(), ErrorKind::InvalidData);
+}
+
+#[test]
+fn a_directory_that_may_not_be_searched_has_the_kinds_of_its_listing() {
+    let root = folder("unsearched");
+    let shut = root.join("shut");
+    fs::create_dir_all(shut.join("d")).unwrap();
+    File::create(shut.join("f")).unwrap();
+    fs::set_permissions(&shut, Permissions::from_mode(0o400)).unwrap();
+    // root may
+    let is_searched = shut.join("d").is_dir();
+    let items: Vec<GlobResult> = glob(&format!("{}/shut/*/*", root.display())).unwrap().collect();
+    fs::set_permissions(&shut, Permissions::from_mode(0o700)).unwrap();
+    fs::remove_dir_all(&root).unwrap();
+    let errors: Vec<_> = items.into_iter().map(|item| item.unwrap_err()).collect();
+    let found: Vec<_> = errors.iter().map(|error| (error.path().to_owned(), error.error().kind())).collect();
+    let expected = [(shut.join("d"), ErrorKind::PermissionDenied)];
+    assert_eq!(found, expected[is_searched as usize..]);
+}
+
+#[test]
+fn a_directory_that_vanishes_after_it_was_listed_is_an_error() {
+    let root = folder("vanishing");
+    for name in ["a/x", "b/x"] {
+        fs::create_dir_all(root.join(name)).unwrap();
+    }
+    let mut paths = glob(&format!("{}/*/*", root.display())).unwrap();
+    assert_eq!(paths.next().unwrap().unwrap(), root.join("a/x"));
+    fs::remove_dir_all(root.join("b")).unwrap();
+    let error = paths.next().unwrap().unwrap_err();
+    assert_eq!((error.path(), error.error().kind()), (&*root.join("b"), ErrorKind::NotFound));
+    assert!(paths.next().is_none());
+    fs::remove_dir_all(&root).unwrap();
+}
