@@ -4,11 +4,10 @@ use super::contents::{Kind, plant};
 use super::items::Item::{self, Memory, Unread};
 use super::items::{item_of, read_items};
 use super::reference::Job;
-use crate::trees::{LyingTree, Noting, Ready, Unreadable};
+use crate::trees::{LyingTree, Ready, Unreadable};
 use glob::{End, GlobResult, MemTree, Paths, PatternRefusal, Tree, TreeRefusal};
 use glob_testing::rationing::{Ration, Rationed};
 use std::alloc::{Allocator, Global};
-use std::cell::Cell;
 use std::io::{self, ErrorKind};
 use std::process::Abort;
 use std::test::Fail;
@@ -95,7 +94,7 @@ fn is_beginning<A: Allocator>(given: &[GlobResult<A>], known: &[Item<'_>]) -> bo
     true
 }
 
-/// Walks with memory from `alloc` by `walk_in`, and gives whether memory sufficed. A refusal comes before any question.
+/// Walks with memory from `alloc` by `walk_in`, and gives whether memory sufficed.
 fn gathers<A: Allocator + Copy>(
     rt: &impl Abort,
     alloc: A,
@@ -105,15 +104,9 @@ fn gathers<A: Allocator + Copy>(
     let Ok(tree) = small_tree(alloc) else {
         return false;
     };
-    let number = Cell::new(0);
-    let tree = Noting {
-        tree,
-        number: &number,
-    };
-    match gather(alloc, LyingTree::new(tree), Job::of(pattern)) {
+    match gather(alloc, tree, Job::of(pattern)) {
         Err(refusal) => {
             assert!(rt; matches!(refusal, PatternRefusal::Memory));
-            assert_eq!(rt; number.get(), 0);
             false
         }
         Ok(walk) => {
