@@ -60,7 +60,9 @@ impl<A: Allocator> Lines<A> {
     {
         if spent.saturating_sub(self.spent) >= PATIENCE {
             self.spent = spent;
-            self.flush(output)?;
+            if !self.waiting.is_empty() {
+                self.flush(output)?;
+            }
         }
         Ok(())
     }
