@@ -34,7 +34,7 @@ excluded_alike o true c free = free ∙ sym (ap (λ b. b && c == dot) (and-false
 excluded_alike o false c free = refl
 
 -- each token takes it alike at all places
-takes_alike : (o : MatchOptions) (opening : Bool) (c : ℕ) (t : Token) → is_excluded_dot o true c ≡ false → takes o opening c t ≡ takes o false c t
+pub takes_alike : (o : MatchOptions) (opening : Bool) (c : ℕ) (t : Token) → is_excluded_dot o true c ≡ false → takes o opening c t ≡ takes o false c t
 takes_alike o opening c (Literal x) free = refl
 takes_alike o opening c AnyChar free = rw (excluded_alike o opening c free) refl
 takes_alike o opening c AnySequence free = rw (excluded_alike o opening c free) refl

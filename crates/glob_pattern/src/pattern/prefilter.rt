@@ -12,7 +12,7 @@ use crate::options::MatchOptions;
 use crate::pattern::needle::{CASE, Needle};
 use crate::token::Token;
 use crate::token::bracket::Bracket;
-use crate::token::taking::takes;
+use crate::token::taking::{is_excluded_dot, takes};
 use std::alloc::Allocator;
 
 /// What each matching text has at its ends and between them.
@@ -187,10 +187,13 @@ fn trim_end<A: Allocator>(
         }
         let token = &tokens[tokens.len() - 1 - end];
         if !takes(token, options, true, byte as char) {
-            if takes(token, options, false, byte as char) {
-                break;
+            if !is_excluded_dot(options, true, byte as char) {
+                return None;
             }
-            return None;
+            if !takes(token, options, false, byte as char) {
+                return None;
+            }
+            break;
         }
         end += 1;
     }

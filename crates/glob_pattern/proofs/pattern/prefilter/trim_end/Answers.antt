@@ -1,17 +1,26 @@
-use Rattle.std.proofs.Common.{◌∙◌, sym, arith}
+use Rattle.std.proofs.Common.{◌∙◌, true, sym, arith}
 use Rattle.std.proofs.lemmas.Bool.{ltb-true}
 use Rattle.std.proofs.lemmas.Str.{IsUtf8-from_is_utf8}
-use Rattle.glob_pattern.proofs.MatchingLemmas.Trims.{IsTrim-last, reject_last}
+use Rattle.glob_pattern.proofs.MatchingLemmas.Trims.{IsTrim-last, reject_last, takes_alike}
 use Rattle.glob_pattern.proofs.pattern.prefilter.trim_end.Goals as goal
 
 pub overflow_sub-bytes : goal.overflow_sub-bytes
 overflow_sub-bytes g c = omega (arith, c.loop-end.invariant.taken.within)
 
-pub returns-then-not-takes : goal.returns-then-not-takes
-returns-then-not-takes g c = λ utf8.
+-- where no rule depends on whether a component starts, the token takes the character nowhere
+pub returns-then-not-is_excluded_dot : goal.returns-then-not-is_excluded_dot
+returns-then-not-is_excluded_dot g c = λ utf8.
+    let free = sym c.is_excluded_dot.ensures ∙ c.if-not-is_excluded_dot.true in
+    let nowhere = sym (takes_alike c.args.options true _ _ free) ∙ (sym c.takes.ensures ∙ c.if-not-takes.true) in
     reject_last c.args.options c.args.tokens.now c.args.bytes.now c.args.start c.loop-end.end c.args.trail c.index-tokens-tokens.result c.loop-end.invariant.taken c.requires.ones
     (omega arith) (omega arith) (ltb-true _ 128 (sym c.is_ascii.ensures ∙ c.if-not-is_ascii.false))
-    c.index-tokens-tokens.is (IsUtf8-from_is_utf8 c.args.bytes.now utf8) (sym c.takes-then-not-takes.ensures ∙ c.if-takes.false)
+    c.index-tokens-tokens.is (IsUtf8-from_is_utf8 c.args.bytes.now utf8) nowhere
+
+pub returns-then-not-takes-2 : goal.returns-then-not-takes-2
+returns-then-not-takes-2 g c = λ utf8.
+    reject_last c.args.options c.args.tokens.now c.args.bytes.now c.args.start c.loop-end.end c.args.trail c.index-tokens-tokens.result c.loop-end.invariant.taken c.requires.ones
+    (omega arith) (omega arith) (ltb-true _ 128 (sym c.is_ascii.ensures ∙ c.if-not-is_ascii.false))
+    c.index-tokens-tokens.is (IsUtf8-from_is_utf8 c.args.bytes.now utf8) (sym c.takes-then-not-takes.ensures ∙ c.if-not-takes-2.true)
 
 pub loop-end-preserved : goal.loop-end-preserved
 loop-end-preserved g c = record {
