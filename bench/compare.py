@@ -3,7 +3,7 @@
 
 usage: compare.py FOLDER ROUNDS SHARE
 
-FOLDER has paths.txt, ours/library, ours/program and, where the crate could be had, original/library and
+FOLDER has paths.txt, ours/library, ours/program and, where the crate is installed, original/library and
 original/program. With no ours/program the programs' rows are left out. Of ROUNDS runs the least time counts. SHARE
 divides how many times over a case is done.
 """

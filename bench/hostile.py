@@ -3,7 +3,7 @@
 
 usage: hostile.py FOLDER ROUNDS SHARE
 
-FOLDER has ours/program, ours/library and measure and, where they could be had, original/library and original/walk. Of
+FOLDER has ours/program, ours/library and measure and, where they are built, original/library and original/walk. Of
 ROUNDS runs the least time counts. It is the processor's, not that of the clock, since other programs run beside. SHARE
 divides the sizes. All of ours is run with a stack of STACK kilobytes. The exit status is 1 where a run failed, where
 the two sides differ, or where a stack grew.

@@ -1,9 +1,9 @@
 #!/usr/bin/env python3
-"""Makes trees on the disk, walks them by each program that can be had, and prints the tables.
+"""Makes trees on the disk, walks them by each program that is installed, and prints the tables.
 
 usage: walks.py FOLDER ROUNDS SHARE
 
-FOLDER has ours/program or ours/walk, measure and calls and, where it could be had, original/walk. In each of ROUNDS
+FOLDER has ours/program or ours/walk, measure and calls and, where it is built, original/walk. In each of ROUNDS
 rounds every program runs once, and its least time counts. SHARE divides the size of the trees.
 """
 
@@ -97,7 +97,7 @@ def ours(folder, pattern):
 
 
 def commands(folder, pattern):
-    """The programs that can be had, by the heads of their columns, and what each is started with."""
+    """The programs that are installed, by the heads of their columns, and what each is started with."""
     depth = DEPTHS[pattern] or 1_000_000
     fd = shutil.which("fdfind") or shutil.which("fd")
     some = {

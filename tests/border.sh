@@ -1,37 +1,17 @@
 #!/usr/bin/env bash
 # Runs the static library for C and Rust: calls from C under valgrind and the sanitizers, the example, and the tests of
 # the Cargo crate; and beside the Rust crate `glob`, of the Debian package librust-glob-dev, a million random matches,
-# 5,000 walks (or WALKS) and programs of users. What cannot be had here is left out, and said. Its last line is
+# 5,000 walks (or WALKS) and programs of users. What is not installed is left out, and said. Its last line is
 # 'N passed, M failed'. Ended by a signal, it ends what it started.
 set -uo pipefail
 root=$(cd "$(dirname "$(readlink -f "${BASH_SOURCE[0]}")")/.." && pwd)
 work=$(mktemp -d) || exit 2
 . "$root/tests/lib/ending.sh"
+. "$root/tests/lib/commands.sh"
 end_all_by_signal
 trap 'rm -rf "$work"' EXIT
 export CADMIUMDOVE_LIBRARY=$root/crates/glob_c/out CARGO_TARGET_DIR=$work/target
 passed=0 failed=0
-
-# check NAME COMMAND..: one more row, which passes if the command does
-check() {
-    local name=$1
-    shift
-    if as_job "$@" >"$work/log" 2>&1; then
-        passed=$((passed + 1))
-    else
-        failed=$((failed + 1))
-        echo "failed: $name"
-        tail -n 40 "$work/log"
-    fi
-}
-
-left_out() {
-    echo "left out: $1"
-}
-
-has() {
-    command -v "$1" >/dev/null
-}
 
 # The symbols of the library have one prefix.
 one_prefix() {

@@ -176,7 +176,7 @@ if "${as_user[@]}" true 2>/dev/null; then
     check 'a folder that cannot be written' 2 '' \
         "glob_run: nothing can be written into $work/a copy/crates/glob_text: copy the repository to a folder of your own\n"
 else
-    echo 'skipped: a folder that cannot be written: root writes it, and no other user can be had here'
+    echo 'skipped: a folder that cannot be written: root writes it, and there is no other user'
 fi
 
 echo "$passed passed, $failed failed"

@@ -1,6 +1,6 @@
 #!/usr/bin/env python3
 """Runs each example of the man page, and each call of the program that the README shows. Checks the man page where
-`mandoc` or `groff` can be had, asks bash, fish and zsh what their completions offer, installs all of it, and compares
+`mandoc` or `groff` is installed, asks bash, fish and zsh what their completions offer, installs all of it, and compares
 what the launcher answers before anything is built. Prints what is wrong, and last how many checks passed and failed."""
 
 import contextlib
@@ -123,13 +123,13 @@ def run_example(command, output, folder, path):
 
 
 def lint():
-    """What a checker of man pages says of the page, and None where none can be had."""
+    """What a checker of man pages says of the page, and None where none is installed."""
     checkers = (["mandoc", "-Tlint", "-Wwarning"], ["groff", "-man", "-ww", "-z"])
     for words in checkers:
         if shutil.which(words[0]):
             ran = subprocess.run([*words, PAGE], capture_output=True, text=True)
             return [ran.stdout + ran.stderr] if ran.returncode or ran.stdout or ran.stderr else []
-    print("skipped: neither mandoc nor groff can be had, so nothing checks the man page")
+    print("skipped: neither mandoc nor groff is installed, so nothing checks the man page")
     return None
 
 
@@ -156,7 +156,7 @@ def naming_faults():
 
 
 def fish_faults(line, wanted, folder):
-    """What fish offers otherwise than it should, and None where it cannot be had."""
+    """What fish offers otherwise than it should, and None where it is not installed."""
     if not shutil.which("fish"):
         return None
     script = "source $argv[1]; complete -C $argv[2]"
@@ -181,7 +181,7 @@ def run_in_terminal(words, **how):
 
 
 def zsh_faults(folder, home):
-    """What zsh offers otherwise than it should, of each line. An empty list where it cannot be had."""
+    """What zsh offers otherwise than it should, of each line. An empty list where it is not installed."""
     if not shutil.which("zsh"):
         print("skipped: there is no zsh, so it is not asked what it offers")
         return []
@@ -200,7 +200,7 @@ def zsh_faults(folder, home):
 
 
 def syntax_faults(shell, file):
-    """What a shell says of a file that it cannot read, and None where the shell cannot be had."""
+    """What a shell says of a file that it cannot read, and None where the shell is not installed."""
     if not shutil.which(shell):
         print(f"skipped: there is no {shell}, so {file} is not read")
         return None

@@ -1,31 +1,21 @@
 #!/usr/bin/env bash
 # Makes a release, unpacks it in an empty folder, and uses each part of it there, with neither the repository nor `rt`
-# in reach. What cannot be had here is left out, and said. Its last line is 'N passed, M failed'.
+# in reach. What is not installed is left out, and said. Its last line is 'N passed, M failed'.
 set -uo pipefail
 root=$(cd "$(dirname "$(readlink -f "${BASH_SOURCE[0]}")")/.." && pwd)
 work=$(mktemp -d) || exit 2
+. "$root/tests/lib/ending.sh"
+. "$root/tests/lib/commands.sh"
+end_all_by_signal
 trap 'rm -rf "$work"' EXIT
 passed=0 failed=0
 
-# check NAME COMMAND..
-check() {
-    local name=$1
-    shift
-    if "$@" >"$work/log" 2>&1; then
-        passed=$((passed + 1))
-    else
-        failed=$((failed + 1))
-        echo "failed: $name"
-        tail -n 20 "$work/log"
-    fi
-}
-
 # if_there TOOL NAME COMMAND..: a row that needs a tool
 if_there() {
-    if command -v "$1" >/dev/null; then
+    if has "$1"; then
         check "${@:2}"
     else
-        echo "left out: $2, since there is no $1"
+        left_out "$2, since there is no $1"
     fi
 }
 

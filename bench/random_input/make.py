@@ -168,7 +168,7 @@ def links(source, directories, files):
 
 
 def tree(source, may_shut):
-    """A tree of directories, files, links and, where they can be had, directories that cannot be listed."""
+    """A tree of directories, files, links and, where they can be made, directories that cannot be listed."""
     nodes, directories = {}, []
     for _ in range(source.randint(1, NODES)):
         place = source.choice(["", *directories[-4:]])

@@ -1,4 +1,4 @@
-# What ends all that a script started, once a signal ends the script. Sourced by bin/test and tests/border.sh.
+# What ends all that a script started, once a signal ends the script. Sourced by bin/test and by tests of commands.
 
 # the process groups of what is at work, each named by its first process
 declare -A at_work=()

@@ -92,7 +92,8 @@ impl Session {
 
     /// Answers what the path leads to: 0, or 9 where that was not asked.
     pub(crate) fn looked(&mut self, seen: Look) -> u32
-        ensures answered { result ≡ done → self.new ≡ record self.old { reply = Reply.Look seen } }
+        ensures answered { result ≡ done
+            → self.new ≡ record self.old { reply = Reply.Look seen } }
         ensures asked { self.old.said ≡ AsksLook → result ≡ done }
         ensures kept { ¬ (result ≡ done) → self.new ≡ self.old }
     {

@@ -52,8 +52,8 @@ pub extern "C" fn cadmiumdove_walk_new(
     ensures limit { result ≡ done → HasLimit limit handle.new.slot.walk }
     ensures begun { result ≡ done → (c : Content)
         → IsBegun (listing c (options_of flags) pattern.now) c handle.new.slot.walk }
-    ensures syntax { result ≡ syntax_fault → (f : TextFault) → walk_fault pattern.now ≡ Some f →
-        (fault.new.place ≡ f.place) × (fault.new.message ≡ number_of f.message) }
+    ensures syntax { result ≡ syntax_fault → (f : TextFault) → walk_fault pattern.now ≡ Some f
+        → (fault.new.place ≡ f.place) × (fault.new.message ≡ number_of f.message) }
     ensures faulty { result ≡ syntax_fault → IsSome (walk_fault pattern.now) }
     ensures not_utf8 { result ≡ not_utf8 → ¬ (IsUtf8 pattern.now) }
     ensures refused { ¬ (result ≡ done) → handle.new.slot.walk ≡ handle.old.slot.walk }
@@ -130,7 +130,8 @@ pub extern "C" fn cadmiumdove_walk_path(
     ensures asked { (s : Sitting) → handle.old.slot.walk ≡ Some s → result ≡ done
         → IsSome s.machine.asked → take needed.new out.new ≡ question_path s.machine.asked }
     ensures found { (s : Sitting) → handle.old.slot.walk ≡ Some s → result ≡ done
-        → (path : Text) → s.said ≡ Says (Gives (Found path)) → take needed.new out.new ≡ path }
+        → (path : Text) → s.said ≡ Says (Gives (Found path))
+        → take needed.new out.new ≡ path }
     ensures error { (s : Sitting) → handle.old.slot.walk ≡ Some s → result ≡ done
         → (path : Text) → error_path s.said ≡ Some path → take needed.new out.new ≡ path }
     ensures needed { (s : Sitting) → handle.old.slot.walk ≡ Some s → IsSome s.machine.asked

@@ -45,7 +45,8 @@ pub fn filter_lines<A: Allocator + Copy, B: Allocator + Copy, R: Read, W: Write>
     requires reader { reader.old.failed ≡ false }
     requires writer { writer.old.failed ≡ false }
     ensures lines { IfOk result (FiltersLines options pattern.now
-        (R.remaining reader.old.inner) (W.contents writer.old.inner) (W.contents writer.new.inner)) }
+        (R.remaining reader.old.inner)
+        (W.contents writer.old.inner) (W.contents writer.new.inner)) }
     ensures end { OnOk result (IsAtEnd (R.remaining reader.new.inner)) }
     ensures read_failed { IsTrue reader.new.failed ↔ IsErrAnd result IsRead }
     ensures write_failed { IsTrue writer.new.failed ↔ IsErrAnd result IsWrite }
@@ -96,7 +97,8 @@ fn read_piece<A: Allocator, R: Read>(
     ensures front { take filled input.new.items ≡ take filled input.old.items }
     ensures fits { IfOk result (λ n. filled + n ≤ vec_len input.new) }
     ensures bytes { IfOk result (λ n.
-        Consumes (R.remaining reader.old.inner) (R.remaining reader.new.inner) (take n (drop filled input.new.items))) }
+        Consumes (R.remaining reader.old.inner) (R.remaining reader.new.inner)
+        (take n (drop filled input.new.items))) }
     ensures end { IfOk result (λ n. n ≡ 0 → IsAtEnd (R.remaining reader.new.inner)) }
     ensures failed { IsTrue reader.new.failed ↔ IsErrAnd result IsRead }
     ensures no_write { ¬ (IsErrAnd result IsWrite) }

@@ -16,7 +16,7 @@ pub record HasGiven {A : Type 0} (listing : List Mark) (c : Content) (given : Li
   pub same : given ≡ items done
 
 -- What the next step makes of it: a question keeps it, an item is the next one, `Done` says that it was all, a limit
--- refusal that the limit does not suffice, and one for want of memory that what was charged begins the listing.
+-- refusal that the limit does not suffice, and an allocation failure that what was charged begins the listing.
 abbrev pub GivesNext : {A : Type 0} → List Mark → Content → List Item → Saying → MachineState A → Type 0
 GivesNext listing c given AsksLook walk = HasGiven listing c given walk
 GivesNext listing c given (AsksList kinds) walk = HasGiven listing c given walk

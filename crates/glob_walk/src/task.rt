@@ -58,8 +58,8 @@ impl Wanted {
     /// What is wanted of the look at a literal component in a path that is a directory or not: `.` and `..` are there in
     /// a directory, whatever the look says.
     pub fn of_literal(is_current_or_parent: bool, is_dir: bool) -> Wanted
-        ensures { (seen : LookOf)
-            → is_wanted_look result seen ≡ (if is_current_or_parent then is_dir else is_there seen) }
+        ensures { (seen : LookOf) → is_wanted_look result seen
+            ≡ (if is_current_or_parent then is_dir else is_there seen) }
     {
         if !is_current_or_parent {
             Wanted::Present

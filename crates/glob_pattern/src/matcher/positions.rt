@@ -52,9 +52,11 @@ pub fn decide<A: Allocator + Copy, T: Shaped, J: Judge>(
     requires { CanRun (J.table judge.old) (map T.shape tokens.now) words.now span
         (J.place judge.old) (J.count judge.old) }
     ensures answer { IfOk result (λ yes. IsTrue yes
-        ↔ IsAlive (J.table judge.old) (map T.shape tokens.now) span.end (J.table judge.old).characters) }
+        ↔ IsAlive (J.table judge.old) (map T.shape tokens.now)
+        span.end (J.table judge.old).characters) }
     ensures most { J.count judge.new
-        ≤ J.count judge.old + length (map T.shape tokens.now) * ((J.table judge.old).characters - span.start) }
+        ≤ J.count judge.old
+        + length (map T.shape tokens.now) * ((J.table judge.old).characters - span.start) }
     ensures least { IfOk result (λ yes. IsTrue yes → span.enough ≡ 0
         → J.count judge.old + (J.table judge.old).characters ≤ J.count judge.new + span.start) }
     ensures monotone { J.count judge.old ≤ J.count judge.new }
@@ -82,9 +84,11 @@ fn run<T: Shaped, J: Judge>(
         (J.place judge.old) (J.count judge.old) }
     requires length { length alive.old ≡ length words.now }
     ensures answer { IsTrue result
-        ↔ IsAlive (J.table judge.old) (map T.shape tokens.now) span.end (J.table judge.old).characters }
+        ↔ IsAlive (J.table judge.old) (map T.shape tokens.now)
+        span.end (J.table judge.old).characters }
     ensures most { J.count judge.new
-        ≤ J.count judge.old + length (map T.shape tokens.now) * ((J.table judge.old).characters - span.start) }
+        ≤ J.count judge.old
+        + length (map T.shape tokens.now) * ((J.table judge.old).characters - span.start) }
     ensures least { IsTrue result → span.enough ≡ 0
         → J.count judge.old + (J.table judge.old).characters ≤ J.count judge.new + span.start }
     ensures monotone { J.count judge.old ≤ J.count judge.new }

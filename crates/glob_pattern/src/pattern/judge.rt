@@ -31,7 +31,8 @@ pub struct TextJudge<'a, A: Allocator> {
     before: char,
     count: u128,
     ghost masked: { AreCharMasks tokens.now masks.now },
-    ghost stepped: { IsSteppedTo (chars text.now) (chars (chars_rest rest)) current (before == slash) (current == slash) },
+    ghost stepped: { IsSteppedTo (chars text.now) (chars (chars_rest rest)) current
+        (before == slash) (current == slash) },
 }
 
 impl<'a, A: Allocator> TextJudge<'a, A> {

@@ -158,8 +158,8 @@ impl<A: Allocator> Nodes<A> {
     /// Where the pieces of a path lead from `start`, one after another.
     fn follow(&self, start: usize, path: &str) -> Option<usize>
         requires { start < length self.now }
-        ensures { Leads self.now result
-            (steps (rooted_content self.now) (Some (key_numbered self.now start)) (pieces path.now)) }
+        ensures { Leads self.now result (steps (rooted_content self.now)
+            (Some (key_numbered self.now start)) (pieces path.now)) }
     {
         let mut number = start;
         for piece in path.split('/') {
@@ -219,8 +219,8 @@ impl<A: Allocator + Copy> Nodes<A> {
     /// The entries of a directory.
     pub(super) fn entries(&self, alloc: A, directory: usize) -> Result<Vec<Entry<A>, A>, AllocError>
         requires { directory < length self.now }
-        ensures { IfOk result (λ v.
-            entries_of v.items ≡ children (rooted_content self.now) (key_numbered self.now directory)) }
+        ensures { IfOk result (λ v. entries_of v.items
+            ≡ children (rooted_content self.now) (key_numbered self.now directory)) }
     {
         entries_in(alloc, self.nodes.as_slice(), directory)
     }
