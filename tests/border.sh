@@ -5,13 +5,8 @@
 # 'N passed, M failed'. Ended by a signal, it ends what it started.
 set -uo pipefail
 root=$(cd "$(dirname "$(readlink -f "${BASH_SOURCE[0]}")")/.." && pwd)
-work=$(mktemp -d) || exit 2
-. "$root/tests/lib/ending.sh"
 . "$root/tests/lib/commands.sh"
-end_all_by_signal
-trap 'rm -rf "$work"' EXIT
 export CADMIUMDOVE_LIBRARY=$root/crates/glob_c/out CARGO_TARGET_DIR=$work/target
-passed=0 failed=0
 
 # The symbols of the library have one prefix.
 one_prefix() {

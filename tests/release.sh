@@ -3,12 +3,7 @@
 # in reach. What is not installed is left out, and said. Its last line is 'N passed, M failed'.
 set -uo pipefail
 root=$(cd "$(dirname "$(readlink -f "${BASH_SOURCE[0]}")")/.." && pwd)
-work=$(mktemp -d) || exit 2
-. "$root/tests/lib/ending.sh"
 . "$root/tests/lib/commands.sh"
-end_all_by_signal
-trap 'rm -rf "$work"' EXIT
-passed=0 failed=0
 
 # if_there TOOL NAME COMMAND..: a row that needs a tool
 if_there() {

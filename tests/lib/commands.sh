@@ -1,5 +1,11 @@
-# What the rows of border.sh and release.sh are made of, each a command that has to end well. Sourced after ending.sh, with
-# these set: $work, a folder; $passed and $failed, how many rows did.
+# What the rows of border.sh and release.sh are made of, each a command that has to end well. Sourced with $root set. Sets
+# $work, a folder that goes when the script ends; $passed and $failed, how many rows did.
+
+work=$(mktemp -d) || exit 2
+. "$root/tests/lib/ending.sh"
+end_all_by_signal
+trap 'rm -rf "$work"' EXIT
+passed=0 failed=0
 
 # check NAME COMMAND..: one more row, which passes if the command does
 check() {
