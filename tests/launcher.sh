@@ -19,7 +19,7 @@ anew() {
     for crate in $(sed -n 's/^\([a-z_]*\)[ :].*/\1/p' "$root/crates.txt"); do
         mkdir -p "$work/a copy/crates/$crate/src" && touch "$work/a copy/crates/$crate/src/lib.rt"
     done
-    cp -a "$root/crates/glob_run/src/page.rt" "$work/a copy/crates/glob_run/src"
+    cp -a "$root/crates/glob_run/src/help.rt" "$work/a copy/crates/glob_run/src"
 }
 
 # It runs in the folder of a crate, once those that the crate depends on are made. A run makes a program that writes its

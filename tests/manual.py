@@ -227,7 +227,7 @@ def refusal_faults(words):
 
 def launcher_faults(prefix, copy):
     """Which words the launcher answers otherwise than the program does, where nothing is built."""
-    source = "crates/glob_run/src/page.rt"
+    source = "crates/glob_run/src/help.rt"
     (copy / source).parent.mkdir(parents=True)
     shutil.copy(ROOT / source, copy / source)
     shutil.copy(ROOT / "crates.txt", copy)

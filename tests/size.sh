@@ -20,7 +20,7 @@ edits       14 glob_run
 edits        9 glob_tree
 edits        8 glob_lines
 edits        8 glob_c
-edits        4 glob_uses
+edits        4 glob_examples
 edits      100 all crates
 functions  150 glob_pattern
 '

@@ -15,21 +15,21 @@ ghost use Rattle.glob_run.specs.CommandLine.{request_asked};
 ghost use Rattle.glob_run.specs.FoundPaths.{IsFindStatus, WritesFound};
 ghost use Rattle.glob_run.specs.Outcomes.{CopiesLines, IsEscapedLine, IsRefused, WritesEscaped, WritesText};
 ghost use Rattle.glob_run.specs.Requests.{Escaped, Lines, Page, Paths, VersionLine};
-ghost use Rattle.glob_run.specs.declared.page.TheConstants.{HELP, VERSION};
+ghost use Rattle.glob_run.specs.declared.help.TheConstants.{HELP, VERSION};
 
+mod borrowed;
 mod command;
 mod find;
-mod lent;
-mod page;
+mod help;
 mod writing;
 
+use borrowed::Borrowed;
 use command::Command;
 use find::run_find;
 use glob_lines::{LineFault, Watch, filter_lines};
 use glob_pattern::{MatchOptions, Pattern};
 use glob_tree::Tree;
 use glob_walk::Disk;
-use lent::Lent;
 use std::alloc::{AllocError, Allocator};
 use std::env;
 use std::fmt::Display;
@@ -105,8 +105,8 @@ pub fn run_words<T: Tree, R: Read + Drop, W: Write, E: Write>(
         }
         Command::Escape { text } => run_escape(alloc, text, output, errors),
         Command::Find(search) => run_find(alloc, tree, search, output, errors),
-        Command::Help => write_text(alloc, page::HELP, output, errors),
-        Command::Version => write_text(alloc, page::VERSION, output, errors),
+        Command::Help => write_text(alloc, help::HELP, output, errors),
+        Command::Version => write_text(alloc, help::VERSION, output, errors),
     }
 }
 
@@ -166,9 +166,9 @@ fn filter_input<A: Allocator + Copy, R: Read + Drop, W: Write>(
         (W.contents output.old) (W.contents output.new)) }
 {
     let mut reader = Watch::new(input);
-    let mut writer = Watch::new(Lent { writer: output });
+    let mut writer = Watch::new(Borrowed { writer: output });
     let answer = filter_lines(alloc, pattern, options, &mut reader, &mut writer);
-    let Lent { writer: output } = writer.into_inner();
+    let Borrowed { writer: output } = writer.into_inner();
     // No effect at run time. The proof reads here what the output holds.
     let _ = &*output;
     answer

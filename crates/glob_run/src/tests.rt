@@ -1,10 +1,10 @@
 mod disk;
 mod find;
 mod folder;
-mod looks;
-mod pages;
+mod help_page;
+mod known_trees;
+mod links;
 mod runs;
-mod told;
 mod writers;
 
 use super::*;

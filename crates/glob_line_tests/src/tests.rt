@@ -1,0 +1,6 @@
+mod copies;
+mod costs;
+mod memory;
+mod printing;
+mod sizes;
+mod watching;

@@ -1,0 +1,15 @@
+mod costs;
+mod counted;
+mod escaping;
+mod faults;
+mod hostile;
+mod judges;
+mod matching;
+mod memory;
+mod options;
+mod plain_parts;
+mod printing;
+mod questions;
+mod readme;
+mod sizes;
+mod texts;

@@ -1,0 +1,157 @@
+//! How many questions a match takes.
+use crate::judges::{Answers, TableJudge};
+use glob_pattern::{Judge, MatchOptions, Pattern, Shape, run_positions};
+use glob_testing::texts::{Parts, text_of};
+use std::alloc::AllocError;
+use std::process::Abort;
+use std::test::Fail;
+
+const FREE: MatchOptions = MatchOptions {
+    case_sensitive: true,
+    require_literal_separator: false,
+    require_literal_leading_dot: false,
+};
+
+const SEPARATOR: MatchOptions = MatchOptions {
+    case_sensitive: true,
+    require_literal_separator: true,
+    require_literal_leading_dot: false,
+};
+
+/// A pattern, a text, options, whether the pattern matches the text, and the most questions that this may take.
+type Row = (Parts<'static>, Parts<'static>, MatchOptions, bool, u128);
+
+const ROWS: [Row; 9] = [
+    (
+        &[("*a", 60), ("b", 1)],
+        &[("a", 200), ("/", 1)],
+        SEPARATOR,
+        false,
+        24_321,
+    ),
+    (&[("*a", 6), ("*b", 1)], &[("a", 40)], FREE, false, 560),
+    (&[("?", 63)], &[("a", 63)], FREE, true, 3_969),
+    (&[("?", 63)], &[("a", 62)], FREE, false, 3_906),
+    (&[("?", 63)], &[("a", 64)], FREE, false, 4_032),
+    (&[("?", 64)], &[("a", 64)], FREE, true, 4_096),
+    (&[("?", 64)], &[("a", 63)], FREE, false, 4_032),
+    (&[("[a]", 42)], &[("a", 42)], FREE, true, 1_764),
+    (
+        &[("**/", 1), ("?", 62)],
+        &[("x/", 1), ("a", 62)],
+        FREE,
+        true,
+        4_032,
+    ),
+];
+
+#[test]
+fn a_match_takes_few_questions(rt: HostRuntime) -> Result<(), Fail> {
+    for (pattern, text, options, answer, most) in ROWS {
+        let pattern = Pattern::new(rt.alloc(), text_of(&rt, pattern)?.as_str())?;
+        let text = text_of(&rt, text)?;
+        let (found, asked) = pattern.matches_counted(text.as_str(), options)?;
+        assert_eq!(rt; found, answer, "{} on {text}", pattern.as_str());
+        assert!(rt;
+            asked <= most,
+            "{asked} questions for {} on {text}",
+            pattern.as_str()
+        );
+        assert!(rt; !answer || text.len() as u128 <= asked, "{asked} questions");
+    }
+    Ok(())
+}
+
+/// Adds the token beside the place of each character that it does not take. `*` and `?` take all.
+fn add_refused(
+    refused: &mut Vec<(usize, usize)>,
+    token: usize,
+    unit: char,
+    text: &str,
+) -> Result<(), AllocError> {
+    for (place, c) in text.chars().enumerate() {
+        if !matches!(unit, '*' | '?') && unit != c {
+            refused.push((token, place))?;
+        }
+    }
+    Ok(())
+}
+
+/// How many questions are asked of a judge of the same table, which counts them by itself. In the pattern `*` is any
+/// number of characters, `?` one, and each other character is itself.
+fn questions(rt: &(impl Abort + AllocGlobal), pattern: &str, text: &str) -> Result<u128, Fail> {
+    let mut shapes = Vec::new(rt.alloc());
+    let mut refused = Vec::new(rt.alloc());
+    for (token, unit) in pattern.chars().enumerate() {
+        shapes.push(if unit == '*' { Shape::Run } else { Shape::One })?;
+        add_refused(&mut refused, token, unit, text)?;
+    }
+    let answers = Answers {
+        characters: text.chars().count(),
+        tokens: shapes.len(),
+        opening: &[],
+        refused: refused.as_slice(),
+    };
+    let mut judge = TableJudge::new(answers);
+    run_positions(rt.alloc(), shapes.as_slice(), &mut judge)?;
+    Ok(judge.asked())
+}
+
+/// Patterns, each with texts that it matches and texts that it does not.
+const COUNTED: [(Parts<'static>, &[Parts<'static>]); 9] = [
+    (&[("", 1)], &[&[], &[("a", 1)]]),
+    (
+        &[("abc", 1)],
+        &[
+            &[("abc", 1)],
+            &[("abd", 1)],
+            &[("b", 1)],
+            &[("abcd", 1)],
+            &[],
+        ],
+    ),
+    (
+        &[("*.rs", 1)],
+        &[&[("main.rs", 1)], &[("main.c", 1)], &[(".rs", 9)], &[]],
+    ),
+    (
+        &[("a?*b", 1)],
+        &[&[("a\u{e9}\u{20ac}b", 1)], &[("ab", 1)], &[("ac", 20)]],
+    ),
+    (&[("*a", 6), ("*b", 1)], &[&[("a", 40)], &[("ab", 20)]]),
+    (
+        &[("?", 63), ("*", 1)],
+        &[&[("a", 63)], &[("a", 64)], &[("a", 62)]],
+    ),
+    (
+        &[("*", 1), ("?", 64)],
+        &[&[("a", 63)], &[("a", 64)], &[("b", 70)]],
+    ),
+    (
+        &[("*a", 40), ("z", 1)],
+        &[&[("a", 60)], &[("a", 60), ("z", 1)]],
+    ),
+    (
+        &[("*a", 33), ("z", 1)],
+        &[
+            &[("a", 100), ("z", 1)],
+            &[("a", 40), ("b", 20), ("ab", 5), ("a", 30), ("z", 1)],
+            &[("a", 40), ("/", 1), ("a", 40), ("\u{e9}", 5), ("a/z", 1)],
+        ],
+    ),
+];
+
+#[test]
+fn the_count_is_that_of_the_questions(rt: HostRuntime) -> Result<(), Fail> {
+    for (pattern, texts) in COUNTED {
+        let source = text_of(&rt, pattern)?;
+        let pattern = Pattern::new(rt.alloc(), source.as_str())?;
+        for text in texts {
+            let text = text_of(&rt, text)?;
+            let known = questions(&rt, source.as_str(), text.as_str())?;
+            let (_, asked) = pattern.matches_counted(text.as_str(), FREE)?;
+            assert_eq!(rt; asked, known, "{source} on {text}");
+        }
+    }
+    Ok(())
+}

@@ -1,0 +1,6 @@
+//! Tests of `glob_tree`, and a tree that is written outside the library.
+#![tactic(auto)]
+
+#[cfg(test)]
+mod tests;
+pub mod trees;
