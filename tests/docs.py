@@ -26,11 +26,11 @@ ANSWERS_OF_STD = ["eq", "cmp", "hash_input", "output", "is_default"]
 # The pages with examples: the file that has each block of Rust or of proofs word for word, in the order of the page.
 EXAMPLES = {
     "README.md": [
-        "crates/glob_vectors/src/tests/readme.rt",
+        "crates/glob_examples/src/tests/readme.rt",
         "rust/tests/glob.rs",
     ],
     "crates/glob/CALLING.md": [
-        "crates/glob_vectors/src/tests/readme.rt",
+        "crates/glob_examples/src/tests/readme.rt",
         "crates/glob_examples/src/lists.rt",
         "crates/glob_examples/proofs/lists/first_match/Invariants.antt",
         "crates/glob_examples/proofs/lists/first_match/Answers.antt",
@@ -38,15 +38,15 @@ EXAMPLES = {
         "crates/glob_examples/src/ignore.rt",
         "crates/glob_examples/src/literals.rt",
         "crates/glob_examples/proofs/literals/matches_main/Answers.antt",
-        "crates/glob_vectors/src/uses.rt",
-        "crates/glob_vectors/proofs/uses/reread/Answers.antt",
-        "crates/glob_vectors/src/tests/lines.rt",
+        "crates/glob_examples/src/texts.rt",
+        "crates/glob_examples/proofs/texts/reread/Answers.antt",
+        "crates/glob_line_tests/src/tests/copies.rt",
         "crates/glob_run/src/tests/disk.rt",
         "crates/glob_run/src/tests/disk.rt",
         "crates/glob_examples/src/sources.rt",
         "crates/glob_examples/specs/Sources.antt",
         "crates/glob_run/src/find.rt",
-        "crates/glob_vectors/src/trees.rt",
+        "crates/glob_tree_tests/src/trees.rt",
         "crates/glob_examples/src/one_file.rt",
         "crates/glob_examples/src/one_file.rt",
         "crates/glob_examples/proofs/one_file/walk_over_main/Answers.antt",
@@ -137,7 +137,7 @@ def unknown_clauses():
         before, colon, after = re.sub(r"(\w)::(\w)", r"\1.\2", part).partition(":")
         calls = [name.split(".")[-1] for name in re.findall(r"`([\w.]+)`", before)]
         clauses = set().union(*(known[call] for call in calls if call in known), *([] if calls else known.values()))
-        if calls in (["laws"], ["glob_vectors"]):
+        if calls in (["laws"], ["glob_examples"]):
             calls, clauses = [], set(known)
         found += [name for name in calls if name not in known and not re.match(r"[A-Z]", name)]
         found += [f"{'/'.join(calls)}: {name}" for name in re.findall(r"`(\w+)`", after) if name not in clauses]

@@ -1,4 +1,6 @@
 //! Each call once, with ample memory: that it answers. What it answers is proved.
+mod readme;
+
 use crate::copy::{CopyRules, paths_to_copy, pattern_below};
 use crate::ignore::IgnoreList;
 use crate::lists::{any_match, first_match, last_match, path_options, read_patterns};

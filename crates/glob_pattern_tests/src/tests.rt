@@ -10,6 +10,5 @@ mod options;
 mod plain_parts;
 mod printing;
 mod questions;
-mod readme;
 mod sizes;
 mod texts;

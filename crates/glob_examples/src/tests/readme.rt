@@ -1,5 +1,5 @@
 //! The example of the README, word for word.
-use glob_pattern::{MatchOptions, Pattern};
+use glob::{MatchOptions, Pattern};
 use std::test::Fail;
 
 #[test]
