@@ -30,7 +30,16 @@ _glob_run() {
         [ "${COMP_WORDS[1]}" = find ] || return 0
         # Only these are names of files: a folder `match` makes no word of the program one.
         compopt -o filenames 2>/dev/null || true
-        mapfile -t COMPREPLY < <(compgen -f -- "$word")
+        # A name with [, ], * or ? is offered as the pattern that stands for it alone, as br[[]1[]] for br[1].
+        mapfile -t COMPREPLY < <(compgen -f -- "$(sed 's/\\//g; s/\[\([][*?]\)\]/\1/g' <<<"$word")")
+        for i in "${!COMPREPLY[@]}"; do
+            case ${COMPREPLY[i]} in
+            *[][*?]*)
+                last=$([ ! -d "${COMPREPLY[i]}" ] || echo /)
+                COMPREPLY[i]=$(sed 's/[][*?]/[&]/g' <<<"${COMPREPLY[i]}")$last
+                ;;
+            esac
+        done
         ;;
     esac
 }

@@ -20,6 +20,13 @@ function __glob_run_options -d 'Whether nothing but options stands after one of 
     test $is_limit = no
 end
 
+function __glob_run_names -d 'Names of files, as the patterns that stand for them alone: br[[]1[]] for br[1]'
+    set -l word (commandline -ct | string replace -ra '\\[([][*?])\\]' '$1')
+    for name in (__fish_complete_path $word '' | string split -f 1 \t)
+        string replace -ra '([][*?])' '[$1]' -- $name
+    end
+end
+
 complete -c glob_run -f
 complete -c glob_run -n __glob_run_first -a match -d 'Copy the matching lines of standard input'
 complete -c glob_run -n __glob_run_first -a find -d 'Write the paths of the disk that match'
@@ -30,4 +37,4 @@ complete -c glob_run -n '__glob_run_options match find' -o i -d 'ASCII letters i
 complete -c glob_run -n '__glob_run_options match find' -o s -d 'Wildcards and brackets take no separator'
 complete -c glob_run -n '__glob_run_options match find' -o d -d 'Wildcards and brackets take no leading dot'
 complete -c glob_run -n '__glob_run_options find' -o n -x -d 'The most lookups, listings and entries'
-complete -c glob_run -n '__glob_run_options find' -F
+complete -c glob_run -n '__glob_run_options find' -a '(__glob_run_names)'

@@ -35,6 +35,8 @@ COMPLETIONS = [
     ("glob_run find -n 5 fo", "folder"),
     ("glob_run find -- fo", "folder"),
     ("glob_run find folder fo", ""),
+    ("glob_run find br", "br[[]1[]]/"),
+    ("glob_run find br[[]1", "br[[]1[]]/"),
     ("glob_run match fo", ""),
     ("glob_run escape -", "--"),
     ("glob_run --help ", ""),
@@ -57,6 +59,9 @@ ZSH = {
     "glob_run match -i -": "-d -i -s",
     "glob_run find -": "-d -i -n -s",
     "glob_run find -n 5 -": "-d -i -n -s",
+    "glob_run find br": r"br\[\[\]1\[\]\]",
+    # It has no unquoted [ after a name.
+    "glob_run find br[[]1": "",
     "glob_run escape -": "",
 }
 
@@ -240,14 +245,16 @@ def launcher_faults(prefix, copy):
 def main():
     with tempfile.TemporaryDirectory() as work:
         prefix, folder = Path(work, "prefix"), Path(work, "here")
-        (folder / "folder").mkdir(parents=True)
+        for name in ("folder", "br[1]"):
+            (folder / name).mkdir(parents=True)
         checks = [install_faults(prefix), lint(), refusal_faults([]), refusal_faults(["--help"])]
         checks += [naming_faults(), launcher_faults(prefix, Path(work, "copy"))]
         checks += [completion_faults(*it, folder) for it in COMPLETIONS]
         checks += [fish_faults(line, FISH.get(line, wanted), folder) for line, wanted in COMPLETIONS]
         checks += zsh_faults(folder, Path(work))
         checks += [syntax_faults("zsh", "completions/_glob_run"), syntax_faults("fish", "completions/glob_run.fish")]
-        (folder / "folder").rmdir()
+        for name in ("folder", "br[1]"):
+            (folder / name).rmdir()
         checks += [run_example(*it, folder, prefix / "bin") for it in examples()]
         checks += [run_example(*it, ROOT, os.environ["PATH"]) for it in shown_calls()]
     done = [faults for faults in checks if faults is not None]
