@@ -18,6 +18,18 @@ pub fn text_of<R: AllocGlobal>(rt: &R, parts: Parts<'_>) -> Result<String, Alloc
     Ok(text)
 }
 
+/// So many characters, less those that are none, as far apart from one another: the first is number 15. At a distance
+/// that is a multiple of 17 none of them has a meaning in patterns.
+pub fn all_over<R: AllocGlobal>(rt: &R, steps: u32, distance: u32) -> Result<String, AllocError> {
+    let mut text = String::new(rt.alloc());
+    for step in 0..steps {
+        if let Some(c) = char::from_u32(step.saturating_mul(distance).saturating_add(15)) {
+            text.push(c)?;
+        }
+    }
+    Ok(text)
+}
+
 /// Whether a value is printed as this text, alone and between others.
 pub fn prints_as<R: AllocGlobal, T: Display>(
     rt: &R,

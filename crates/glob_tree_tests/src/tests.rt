@@ -1,3 +1,4 @@
 mod answers;
+mod made;
 mod memory;
 mod sizes;

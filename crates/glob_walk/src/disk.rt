@@ -8,9 +8,8 @@ ghost use Rattle.glob_walk.specs.Components.{walk_fault};
 ghost use Rattle.glob_walk.specs.Listing.{listing};
 ghost use Rattle.glob_walk.specs.Walks.{IsFresh, RefusesWith};
 
-use crate::begin::glob_in;
 use crate::path_text::join;
-use crate::paths::Paths;
+use crate::paths::{Paths, glob_in};
 use glob_pattern::{MatchOptions, PatternRefusal};
 use glob_tree::{Asks, Entry, ListError, Look, Name, Tree};
 use std::alloc::{AllocError, Allocator, Global};

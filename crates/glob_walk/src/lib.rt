@@ -1,7 +1,6 @@
 //! Walks over a tree, after the components of a pattern.
 #![tactic(auto)]
 
-mod begin;
 mod component;
 mod disk;
 mod error;
@@ -19,10 +18,9 @@ mod turn;
 mod walk;
 mod walker;
 
-pub use begin::glob_in;
 pub use disk::{Disk, glob, glob_with};
 pub use error::{GlobCause, GlobError, GlobResult};
 pub use machine::{Step, WalkMachine};
-pub use paths::Paths;
+pub use paths::{Paths, glob_in};
 pub use plain::is_plain;
 pub use walk::{End, Walk, walk_in};

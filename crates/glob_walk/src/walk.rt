@@ -8,9 +8,8 @@ ghost use Rattle.glob_walk.specs.Private.Walking.{EndsAs, refusal_end};
 ghost use Rattle.glob_walk.specs.WalkGoals.{FindsGoal, FindsExactly, FindsInOrder};
 ghost use Rattle.glob_walk.specs.Walks.{outcome, HasNoRefusal, IsFresh, IsWalk, IsWalkAsked, RefusesWith, Walking};
 
-use crate::begin::glob_in;
 use crate::error::{GlobCause, GlobResult};
-use crate::paths::Paths;
+use crate::paths::{Paths, glob_in};
 use glob_pattern::{MatchOptions, PatternRefusal};
 use glob_tree::Tree;
 use std::alloc::Allocator;

@@ -94,7 +94,7 @@ fn run<T: Shaped, J: Judge>(
     ensures monotone { J.count judge.old ≤ J.count judge.new }
     ensures same { J.table judge.new ≡ J.table judge.old }
 {
-    begin(tokens, words, span.start, judge.opens(), alive);
+    set_start(tokens, words, span.start, judge.opens(), alive);
     let first = words[0];
     let mut keep = NO_ANSWER;
     'sets: while alive[0] & span.enough == 0 {
@@ -167,7 +167,7 @@ fn answer_to_keep(word: ShapeWord, alone: bool, old: u64, took: u64, opens: bool
 /// Sets the words to the position set after the characters of the first `start` shapes, which took one each: as if the
 /// last of them had just taken its character.
 #[inline(always)]
-fn begin<T: Shaped>(tokens: &[T], words: &[ShapeWord], start: usize, opens: bool, alive: &mut [u64])
+fn set_start<T: Shaped>(tokens: &[T], words: &[ShapeWord], start: usize, opens: bool, alive: &mut [u64])
     requires words { AreShapeWords (map T.shape tokens.now) words.now }
     requires length { length alive.old ≡ length words.now }
     ensures length { length alive.new ≡ length alive.old }

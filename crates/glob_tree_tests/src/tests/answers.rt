@@ -1,10 +1,10 @@
 //! A tree in memory: what it refuses and what it answers.
+use super::made::{check, empty_tree, listed, looked};
 use crate::trees::LyingTree;
-use glob_tree::{ListError, Look, MemTree, Tree, TreeRefusal};
+use glob_tree::{Entry, ListError, Look, MemTree, Tree, TreeRefusal};
 use std::alloc::Allocator;
 use std::io::ErrorKind;
 use std::process::Abort;
-use std::test::Fail;
 
 /// A call that changes a tree.
 #[derive(Clone, Copy)]
@@ -33,9 +33,9 @@ impl Change {
 }
 
 /// Makes each change in turn, and compares what it answers.
-fn check(rt: &impl Abort, tree: &mut MemTree, rows: &[(Change, Result<(), TreeRefusal>)]) {
+fn check_changes(rt: &impl Abort, tree: &mut MemTree, rows: &[(Change, Result<(), TreeRefusal>)]) {
     for (change, answer) in rows {
-        assert!(rt; change.make(tree) == *answer);
+        check(rt, change.make(tree) == *answer, "a change");
     }
 }
 
@@ -88,56 +88,59 @@ const UNREADABLE: [(&str, ErrorKind); 4] = [
 ];
 
 #[test]
-fn refusals(rt: HostRuntime) -> Result<(), Fail> {
-    let mut tree = MemTree::new(rt.alloc())?;
-    check(&rt, &mut tree, &REFUSALS);
-    Ok(())
+fn refusals(rt: HostRuntime) {
+    check_changes(&rt, &mut empty_tree(&rt), &REFUSALS);
+}
+
+/// A tree in which each change was made.
+fn changed_tree(rt: &(impl Abort + AllocGlobal)) -> MemTree {
+    let mut tree = empty_tree(rt);
+    check_changes(rt, &mut tree, &CHANGES);
+    tree
+}
+
+/// Whether the directory cannot be read, by an error of this kind.
+fn fails_with(tree: &mut MemTree, path: &str, kind: ErrorKind) -> bool {
+    match tree.list(path) {
+        Err(ListError::Read(error)) => error.kind() == kind,
+        _ => false,
+    }
 }
 
 #[test]
-fn answers(rt: HostRuntime) -> Result<(), Fail> {
-    let mut tree = MemTree::new(rt.alloc())?;
-    check(&rt, &mut tree, &CHANGES);
+fn answers(rt: HostRuntime) {
+    let mut tree = changed_tree(&rt);
     for (path, look) in LOOKS {
-        assert!(rt; tree.look(path)? == look, "{path}");
+        check(&rt, looked(&rt, &mut tree, path) == look, path);
     }
     for (path, kind) in UNREADABLE {
-        match tree.list(path) {
-            Err(ListError::Read(error)) => assert!(rt; error.kind() == kind, "{path}"),
-            _ => panic!(rt; "{path} is listed"),
-        }
+        check(&rt, fails_with(&mut tree, path, kind), path);
     }
-    Ok(())
+}
+
+/// The entries are those of the root once each change was made.
+pub(super) fn check_root<A: Allocator>(rt: &impl Abort, entries: &[Entry<A>]) {
+    check(rt, entries.len() == 2, "two entries");
+    for entry in entries {
+        let name = entry.name.as_str();
+        let wanted = if entry.is_dir { "s" } else { "f" };
+        check(rt, name == wanted, name);
+    }
 }
 
 #[test]
-fn the_root_is_listed(rt: HostRuntime) -> Result<(), Fail> {
-    let mut tree = MemTree::new(rt.alloc())?;
-    check(&rt, &mut tree, &CHANGES);
-    let Ok(entries) = tree.list("/") else {
-        panic!(rt; "the root is not listed");
-    };
-    assert_eq!(rt; entries.len(), 2);
-    for entry in entries.iter() {
-        match entry.name.as_str() {
-            "s" => assert!(rt; entry.is_dir),
-            "f" => assert!(rt; !entry.is_dir),
-            name => panic!(rt; "{name} is listed"),
-        }
-    }
-    Ok(())
+fn the_root_is_listed(rt: HostRuntime) {
+    let mut tree = changed_tree(&rt);
+    check_root(&rt, listed(&rt, &mut tree, "/").as_slice());
 }
 
 #[test]
-fn a_tree_outside_the_library(rt: HostRuntime) -> Result<(), Fail> {
+fn a_tree_outside_the_library(rt: HostRuntime) {
     let mut tree = LyingTree::new(rt.alloc());
-    assert!(rt; tree.look("/missing")? == Look::Dir);
-    let Ok(entries) = tree.list("/missing") else {
-        panic!(rt; "a lie is not listed");
-    };
-    assert_eq!(rt; entries.len(), 2);
-    for entry in entries.iter() {
-        assert_eq!(rt; entry.name.as_str(), "same");
+    check(&rt, looked(&rt, &mut tree, "/missing") == Look::Dir, "look");
+    let entries = listed(&rt, &mut tree, "/missing");
+    check(&rt, entries.len() == 2, "two entries");
+    for entry in entries.as_slice() {
+        check(&rt, entry.name.as_str() == "same", entry.name.as_str());
     }
-    Ok(())
 }

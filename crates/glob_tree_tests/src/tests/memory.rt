@@ -1,10 +1,10 @@
 //! Each request for memory refused in turn: the answer is out of memory, or that with ample memory. No block is left.
-use super::answers::CHANGES;
+use super::answers::{CHANGES, check_root};
+use super::made::{check, looked};
 use glob_testing::rationing::Rationed;
 use glob_tree::{ListError, Look, MemTree, Tree, TreeRefusal};
 use std::alloc::Allocator;
 use std::process::Abort;
-use std::test::Fail;
 
 /// Makes each change, and again where it is refused for memory: the tree is then as it was. Gives how many were so.
 fn change_all<A: Allocator + Copy>(rt: &impl Abort, tree: &mut MemTree<A>) -> u32 {
@@ -15,7 +15,7 @@ fn change_all<A: Allocator + Copy>(rt: &impl Abort, tree: &mut MemTree<A>) -> u3
             refused = refused.saturating_add(1);
             found = change.make(tree);
         }
-        assert!(rt; found == *answer);
+        check(rt, found == *answer, "a change");
     }
     refused
 }
@@ -24,51 +24,52 @@ fn change_all<A: Allocator + Copy>(rt: &impl Abort, tree: &mut MemTree<A>) -> u3
 fn lists<A: Allocator + Copy>(rt: &impl Abort, tree: &mut MemTree<A>) -> bool {
     match tree.list("/") {
         Ok(entries) => {
-            assert_eq!(rt; entries.len(), 2);
-            for entry in entries.iter() {
-                let is_dir = entry.name.as_str() == "s";
-                assert!(rt; is_dir || entry.name.as_str() == "f");
-                assert_eq!(rt; entry.is_dir, is_dir);
-            }
+            check_root(rt, entries.as_slice());
             true
         }
         Err(error) => {
-            assert!(rt; matches!(error, ListError::Memory));
+            check(rt, matches!(error, ListError::Memory), "out of memory");
             false
         }
     }
 }
 
+/// Changes and lists the tree. Gives how many calls were refused.
+fn changes_and_lists<A: Allocator + Copy>(rt: &impl Abort, tree: &mut MemTree<A>) -> u32 {
+    let refused = change_all(rt, tree);
+    let is_listed = lists(rt, tree);
+    check(rt, is_listed || lists(rt, tree), "a second listing");
+    check(rt, looked(rt, tree, "x") == Look::Dir, "look");
+    refused.saturating_add(u32::from(!is_listed))
+}
+
 /// Changes and lists a tree with memory from `alloc`. Gives how many calls were refused.
 fn uses_tree<A: Allocator + Copy>(rt: &impl Abort, alloc: A) -> u32 {
-    let Ok(mut tree) = MemTree::new(alloc) else {
-        return 1;
-    };
-    let mut refused = change_all(rt, &mut tree);
-    if !lists(rt, &mut tree) {
-        assert!(rt; lists(rt, &mut tree));
-        refused = refused.saturating_add(1);
+    match MemTree::new(alloc) {
+        Ok(mut tree) => changes_and_lists(rt, &mut tree),
+        Err(_) => 1,
     }
-    assert!(rt; tree.look("x") == Ok(Look::Dir));
-    refused
+}
+
+/// Where the request of this number is refused, or none at 0, so many calls are. Gives how many requests there were.
+fn check_uses(rt: &(impl Abort + AllocGlobal), number: u64, refused: u32) -> u64 {
+    let scarce = Rationed::refusing(number, rt.alloc());
+    let found = uses_tree(rt, &scarce);
+    assert!(rt; found == refused, "{number}");
+    check(rt, scarce.ration.held() == 0, "blocks");
+    scarce.ration.asked()
 }
 
 #[test]
 fn trees(rt: HostRuntime) {
-    let ample = Rationed::refusing(0, rt.alloc());
-    assert_eq!(rt; uses_tree(&rt, &ample), 0);
-    assert_eq!(rt; ample.ration.held(), 0);
-    for number in 1..=ample.ration.asked() {
-        let scarce = Rationed::refusing(number, rt.alloc());
-        assert_eq!(rt; uses_tree(&rt, &scarce), 1, "{number}");
-        assert_eq!(rt; scarce.ration.held(), 0);
+    for number in 1..=check_uses(&rt, 0, 0) {
+        check_uses(&rt, number, 1);
     }
 }
 
 #[test]
-fn an_empty_tree_needs_no_memory(rt: HostRuntime) -> Result<(), Fail> {
+fn an_empty_tree_needs_no_memory(rt: HostRuntime) {
     let counted = Rationed::refusing(0, rt.alloc());
-    MemTree::new(&counted)?;
-    assert_eq!(rt; counted.ration.asked(), 0);
-    Ok(())
+    check(&rt, MemTree::new(&counted).is_ok(), "a tree");
+    check(&rt, counted.ration.asked() == 0, "requests");
 }

@@ -1,65 +1,83 @@
 //! Names and listings of many sizes, with ample memory.
-use glob_testing::sizes::{CHARACTERS, sizes_to};
-use glob_testing::texts::text_of;
-use glob_tree::{Look, MemTree, Tree, TreeRefusal};
+use super::made::{check, empty_tree, listed, looked, sizes, text};
+use glob_testing::sizes::CHARACTERS;
+use glob_testing::texts::all_over;
+use glob_tree::{Entry, Look, MemTree, TreeRefusal};
 use std::io::ErrorKind;
 use std::process::Abort;
-use std::test::Fail;
 
-/// A directory of this name is added, becomes the current one and is listed.
-fn check_name(rt: &(impl Abort + AllocGlobal), tree: &mut MemTree, name: &str) -> Result<(), Fail> {
-    let path = format!(in rt.alloc(); "/{name}")?;
-    let path = path.as_str();
-    let below = format!(in rt.alloc(); "{path}/{name}")?;
-    assert!(rt; tree.add_dir(path).is_ok());
-    assert!(rt; tree.add_shut(path, ErrorKind::NotFound) == Err(TreeRefusal::Taken));
-    assert!(rt; tree.set_current(path).is_ok());
-    let Ok(none) = tree.list(path) else {
-        panic!(rt; "an empty directory is not listed");
-    };
-    assert!(rt; none.is_empty());
-    assert!(rt; tree.add_other(below.as_str()).is_ok());
-    assert!(rt; tree.look(name)? == Look::Other);
-    let Ok(entries) = tree.list(".") else {
-        panic!(rt; "the directory is not listed");
-    };
-    assert_eq!(rt; entries.len(), 1);
-    for entry in entries.iter() {
-        assert!(rt; entry.name.as_str() == name && !entry.is_dir);
+/// A directory at the path is added, becomes the current one and is listed.
+fn check_dir(rt: &impl Abort, tree: &mut MemTree, path: &str) {
+    check(rt, tree.add_dir(path).is_ok(), path);
+    let again = tree.add_shut(path, ErrorKind::NotFound);
+    check(rt, again == Err(TreeRefusal::Taken), path);
+    check(rt, tree.set_current(path).is_ok(), path);
+    check(rt, listed(rt, tree, path).is_empty(), path);
+}
+
+/// They are one file of this name.
+fn check_one(rt: &impl Abort, entries: &[Entry], name: &str) {
+    check(rt, entries.len() == 1, name);
+    for entry in entries {
+        check(rt, entry.name.as_str() == name && !entry.is_dir, name);
     }
-    Ok(())
+}
+
+/// A file at the path is added, found by its name in the current directory, and listed there alone.
+fn check_file(rt: &impl Abort, tree: &mut MemTree, path: &str, name: &str) {
+    check(rt, tree.add_other(path).is_ok(), path);
+    check(rt, looked(rt, tree, name) == Look::Other, name);
+    check_one(rt, listed(rt, tree, ".").as_slice(), name);
+}
+
+/// A directory of this name and a file of the same name in it are added and listed.
+fn check_name(rt: &(impl Abort + AllocGlobal), name: &str) {
+    let mut tree = empty_tree(rt);
+    let path = text(rt, &[("/", 1), (name, 1)]);
+    check_dir(rt, &mut tree, path.as_str());
+    let below = text(rt, &[(path.as_str(), 2)]);
+    check_file(rt, &mut tree, below.as_str(), name);
 }
 
 /// At the first sizes each of the characters is tried, and else one after another.
-#[test]
-fn names(rt: HostRuntime) -> Result<(), Fail> {
-    for (place, size) in sizes_to(&rt, 17)?.iter().enumerate() {
-        for (number, character) in CHARACTERS.iter().enumerate() {
-            if place < 20 || place % 8 == number {
-                let name = text_of(&rt, &[(character, (*size).max(1))])?;
-                let mut tree = MemTree::new(rt.alloc())?;
-                check_name(&rt, &mut tree, name.as_str())?;
-            }
+fn check_names(rt: &(impl Abort + AllocGlobal), place: usize, size: usize) {
+    for (number, character) in CHARACTERS.iter().enumerate() {
+        if place < 20 || place % 8 == number {
+            check_name(rt, text(rt, &[(character, size.max(1))]).as_str());
         }
     }
-    Ok(())
+}
+
+#[test]
+fn names(rt: HostRuntime) {
+    for (place, size) in sizes(&rt, 17).iter().enumerate() {
+        check_names(&rt, place, *size);
+    }
+}
+
+#[test]
+fn a_name_of_characters_all_over(rt: HostRuntime) {
+    let name = all_over(&rt, 65_536, 17).expect(&rt, "memory");
+    check_name(&rt, name.as_str());
+}
+
+/// Adds the files of these numbers to the root.
+fn add_files(rt: &(impl Abort + AllocGlobal), tree: &mut MemTree, from: usize, to: usize) {
+    for number in from..to {
+        let path = format!(in rt.alloc(); "/{number}").expect(rt, "memory");
+        check(rt, tree.add_other(path.as_str()).is_ok(), path.as_str());
+    }
 }
 
 /// A tree of more and more files is listed at each size.
 #[test]
-fn entries(rt: HostRuntime) -> Result<(), Fail> {
-    let mut tree = MemTree::new(rt.alloc())?;
+fn entries(rt: HostRuntime) {
+    let mut tree = empty_tree(&rt);
     let mut count = 0usize;
-    for size in sizes_to(&rt, 10)? {
-        for number in count..size {
-            let path = format!(in rt.alloc(); "/{number}")?;
-            assert!(rt; tree.add_other(path.as_str()).is_ok());
-        }
+    for size in sizes(&rt, 10).iter().copied() {
+        add_files(&rt, &mut tree, count, size);
         count = size;
-        match tree.list("/") {
-            Ok(entries) => assert_eq!(rt; entries.len(), size),
-            Err(_) => panic!(rt; "{size} entries are not listed"),
-        }
+        let found = listed(&rt, &mut tree, "/").len();
+        assert!(rt; found == size, "{size} entries");
     }
-    Ok(())
 }

@@ -3,7 +3,7 @@ use Rattle.glob_pattern.specs.Private.Positions.{AreAlive}
 use Rattle.glob_pattern.specs.Matching.Splits.{Table}
 use Rattle.glob_pattern.specs.Private.Prefixes.{IsTakenPrefix}
 use Rattle.glob_pattern.proofs.PositionLemmas.Words.{whole-at_start, IsTakenWord-prefix, AreAlive-set, carry-whole}
-use Rattle.glob_pattern.proofs.matcher.positions.begin.Goals as goal
+use Rattle.glob_pattern.proofs.matcher.positions.set_start.Goals as goal
 
 pub loop-n-init : goal.loop-n-init
 loop-n-init g c = record {

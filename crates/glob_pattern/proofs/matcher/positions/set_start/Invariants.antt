@@ -2,7 +2,7 @@ use Rattle.std.proofs.Common.{◌≡◌, ◌*◌, ◌≤◌, ◌↔◌, length, 
 use Rattle.glob_pattern.specs.Matching.Splits.{Table}
 use Rattle.glob_pattern.specs.Private.Prefixes.{PrefixSplits, IsTakenPrefix}
 use Rattle.glob_pattern.specs.Private.Positions.{AreAlive}
-use Rattle.glob_pattern.proofs.matcher.positions.begin.Given as goal
+use Rattle.glob_pattern.proofs.matcher.positions.set_start.Given as goal
 
 abbrev pub invariant-loop-n : goal.invariant-loop-n
 invariant-loop-n g l = record {
