@@ -1,5 +1,6 @@
 mod copies;
 mod costs;
+mod made;
 mod memory;
 mod printing;
 mod sizes;

@@ -1,11 +1,11 @@
 //! The lines that a pattern matches, copied; and readers and writers that fail.
+use super::made::{bytes_of, check, pattern_of};
 use crate::readers::{Refusal, ShortReader, ShortWriter};
 use glob_lines::{LineFault, Watch, filter_lines};
-use glob_pattern::{MatchOptions, Pattern};
+use glob_pattern::MatchOptions;
 use glob_testing::texts::are_same;
 use std::io::{self, ErrorKind};
 use std::process::Abort;
-use std::test::Fail;
 
 /// What a copy of the lines that a pattern matches came to.
 #[derive(Drop)]
@@ -18,22 +18,22 @@ struct Outcome {
 
 /// Copies the lines of the reader that the pattern matches to the writer.
 fn copy(
-    rt: &impl AllocGlobal,
+    rt: &(impl Abort + AllocGlobal),
     pattern: &str,
     reader: ShortReader<'_>,
     writer: ShortWriter,
-) -> Result<Outcome, Fail> {
-    let pattern = Pattern::new(rt.alloc(), pattern)?;
+) -> Outcome {
+    let pattern = pattern_of(rt, rt.alloc(), pattern);
     let mut reader = Watch::new(reader);
     let mut writer = Watch::new(writer);
     let options = MatchOptions::new();
     let answer = filter_lines(rt.alloc(), &pattern, options, &mut reader, &mut writer);
-    Ok(Outcome {
+    Outcome {
         answer,
         reader_failed: reader.failed(),
         writer_failed: writer.failed(),
-        written: Vec::from_slice(rt.alloc(), writer.into_inner().written())?,
-    })
+        written: bytes_of(rt, rt.alloc(), writer.into_inner().written()),
+    }
 }
 
 /// Copies the lines of the input that the pattern matches, at most so many bytes a call: how many, and what is written.
@@ -42,11 +42,31 @@ pub(super) fn copied(
     pattern: &str,
     input: &[u8],
     most: usize,
-) -> Result<(u64, Vec<u8>), Fail> {
+) -> (u64, Vec<u8>) {
     let writer = ShortWriter::new(rt.alloc(), most);
-    let outcome = copy(rt, pattern, ShortReader::new(input, most), writer)?;
-    assert!(rt; !outcome.reader_failed && !outcome.writer_failed);
-    Ok((outcome.answer?, outcome.written))
+    let outcome = copy(rt, pattern, ShortReader::new(input, most), writer);
+    check(
+        rt,
+        !outcome.reader_failed && !outcome.writer_failed,
+        pattern,
+    );
+    match outcome.answer {
+        Ok(count) => (count, outcome.written),
+        Err(_) => panic!(rt; "{pattern}: a fault"),
+    }
+}
+
+/// So many lines and these bytes are copied.
+fn check_copied(
+    rt: &(impl Abort + AllocGlobal),
+    pattern: &str,
+    input: &[u8],
+    most: usize,
+    output: &[u8],
+    lines: u64,
+) {
+    let (count, written) = copied(rt, pattern, input, most);
+    check(rt, count == lines && written.as_slice() == output, pattern);
 }
 
 /// A pattern, an input, what is copied of it, and how many lines that is.
@@ -69,15 +89,12 @@ const ROWS: [(&str, &[u8], &[u8], u64); 8] = [
 ];
 
 #[test]
-fn matching_lines_are_copied(rt: HostRuntime) -> Result<(), Fail> {
+fn matching_lines_are_copied(rt: HostRuntime) {
     for (pattern, input, output, lines) in ROWS {
         for most in [1, 3, 100] {
-            let (count, written) = copied(&rt, pattern, input, most)?;
-            assert_eq!(rt; count, lines, "{pattern}");
-            assert_eq!(rt; written.as_slice(), output, "{pattern}");
+            check_copied(&rt, pattern, input, most, output, lines);
         }
     }
-    Ok(())
 }
 
 /// Errors that a reader or a writer may answer, none of which is passed over.
@@ -93,6 +110,11 @@ fn faults() -> [io::Error; 7] {
     ]
 }
 
+/// The errors are the same.
+fn check_error(rt: &(impl Abort + AllocGlobal), found: io::Error, known: io::Error) {
+    check(rt, are_same(rt, found, known) == Ok(true), "another error");
+}
+
 /// A reader that gives so many bytes a call and fails at a call: its error is returned, and nothing is written.
 fn check_reader(
     rt: &(impl Abort + AllocGlobal),
@@ -100,29 +122,29 @@ fn check_reader(
     most: usize,
     call: u64,
     error: io::Error,
-) -> Result<(), Fail> {
+) {
     let reader = ShortReader::new(input, most).failing_at(call, error);
-    let outcome = copy(rt, "*", reader, ShortWriter::new(rt.alloc(), 100))?;
+    let outcome = copy(rt, "*", reader, ShortWriter::new(rt.alloc(), 100));
+    check(rt, outcome.reader_failed, "the reader has not failed");
+    check(rt, !outcome.writer_failed, "the writer has failed");
+    check(rt, outcome.written.is_empty(), "something is written");
     match outcome.answer {
-        Err(LineFault::Read(found)) => assert!(rt; are_same(rt, found, error)?),
+        Err(LineFault::Read(found)) => check_error(rt, found, error),
         _ => panic!(rt; "no fault of the reader"),
     }
-    assert!(rt; outcome.reader_failed && !outcome.writer_failed);
-    assert!(rt; outcome.written.is_empty());
-    Ok(())
 }
 
 /// Each beginning of the input is read, before the fault.
 #[test]
-fn a_reader_that_fails_writes_nothing(rt: HostRuntime) -> Result<(), Fail> {
+fn a_reader_that_fails_writes_nothing(rt: HostRuntime) {
     let input = b"ab\n\nc\n\xff\nd";
     for error in faults() {
         for call in 0..=input.len() {
-            check_reader(&rt, input, 1, call as u64, error)?;
-            check_reader(&rt, &input[..call], 100, call.min(1) as u64, error)?;
+            check_reader(&rt, input, 1, call as u64, error);
+            check_reader(&rt, &input[..call], 100, call.min(1) as u64, error);
         }
     }
-    check_reader(&rt, b"ab\nc\n", 3, 1, io::Error::other("words"))
+    check_reader(&rt, b"ab\nc\n", 3, 1, io::Error::other("words"));
 }
 
 /// A writer that takes so many bytes a call and refuses at a call: its error is returned, and this was written before.
@@ -132,54 +154,68 @@ fn check_writer(
     call: u64,
     refusal: Refusal,
     written: &[u8],
-) -> Result<(), Fail> {
+) {
     let writer = ShortWriter::new(rt.alloc(), most).refusing_at(call, refusal);
-    let outcome = copy(rt, "*", ShortReader::new(b"ab\n\xff\nc", 100), writer)?;
+    let outcome = copy(rt, "*", ShortReader::new(b"ab\n\xff\nc", 100), writer);
+    check(rt, outcome.writer_failed, "the writer has not failed");
+    check(rt, !outcome.reader_failed, "the reader has failed");
+    check(
+        rt,
+        outcome.written.as_slice() == written,
+        "other bytes are written",
+    );
     let error = match refusal {
         Refusal::Fails(error) => error,
         Refusal::TakesNone => io::Error::from(ErrorKind::WriteZero),
     };
     match outcome.answer {
-        Err(LineFault::Write(found)) => assert!(rt; are_same(rt, found, error)?),
+        Err(LineFault::Write(found)) => check_error(rt, found, error),
         _ => panic!(rt; "no fault of the writer"),
     }
-    assert!(rt; outcome.writer_failed && !outcome.reader_failed);
-    assert_eq!(rt; outcome.written.as_slice(), written);
-    Ok(())
+}
+
+/// Each refusal of a writer at a call, before which this was written.
+fn check_refusals(rt: &(impl Abort + AllocGlobal), most: usize, call: u64, written: &[u8]) {
+    for error in faults() {
+        check_writer(rt, most, call, Refusal::Fails(error), written);
+    }
+    check_writer(rt, most, call, Refusal::TakesNone, written);
 }
 
 #[test]
-fn a_writer_that_fails_ends_the_copy(rt: HostRuntime) -> Result<(), Fail> {
+fn a_writer_that_fails_ends_the_copy(rt: HostRuntime) {
     let output = b"ab\nc\n";
     for most in 1..=3usize {
         for call in 0..output.len() {
             let taken = call.saturating_mul(most);
             if taken < output.len() {
-                let written = &output[..taken];
-                for error in faults() {
-                    check_writer(&rt, most, call as u64, Refusal::Fails(error), written)?;
-                }
-                check_writer(&rt, most, call as u64, Refusal::TakesNone, written)?;
+                check_refusals(&rt, most, call as u64, &output[..taken]);
             }
         }
     }
-    Ok(())
+}
+
+/// The input, with the line feed that it may lack, and how many lines that are.
+fn ended(rt: &(impl Abort + AllocGlobal), input: &[u8]) -> (Vec<u8>, u64) {
+    let mut output = bytes_of(rt, rt.alloc(), input);
+    if !input.is_empty() && !input.ends_with(b"\n") {
+        output.push(b'\n').expect(rt, "memory");
+    }
+    let mut lines = 0u64;
+    for byte in output.as_slice() {
+        lines = lines.saturating_add(u64::from(*byte == b'\n'));
+    }
+    (output, lines)
 }
 
 /// Each beginning of a text, as the whole input, is copied in pieces of each size, with the line feed that it lacks.
 #[test]
-fn each_beginning_is_copied(rt: HostRuntime) -> Result<(), Fail> {
+fn each_beginning_is_copied(rt: HostRuntime) {
     let input = b"ab\n\n\r\nc d\n\n\ne";
     for end in 0..=input.len() {
-        let part = &input[..end];
-        let mut output = Vec::from_slice(rt.alloc(), part)?;
-        if !part.is_empty() && !part.ends_with(b"\n") {
-            output.push(b'\n')?;
-        }
+        let (output, lines) = ended(&rt, &input[..end]);
         for most in 1..=input.len() {
-            let (_, written) = copied(&rt, "*", part, most)?;
-            assert_eq!(rt; written.as_slice(), output.as_slice());
+            check_copied(&rt, "*", &input[..end], most, output.as_slice(), lines);
         }
     }
-    Ok(())
 }

@@ -1,13 +1,13 @@
 //! How many requests for memory a copy of lines makes and for how many bytes, and how many calls of its reader and its
 //! writer. The clock is not asked.
+use super::made::{check, check_most, pattern_of, text};
 use crate::readers::{Counted, ShortReader, ShortWriter};
 use glob_lines::{Watch, filter_lines};
-use glob_pattern::{MatchOptions, Pattern};
+use glob_pattern::MatchOptions;
 use glob_testing::rationing::Rationed;
-use glob_testing::texts::text_of;
+use std::alloc::Global;
 use std::cell::Cell;
 use std::process::Abort;
-use std::test::Fail;
 
 /// Lines, and how they are read and written.
 struct Flow {
@@ -32,11 +32,23 @@ const MOST_REQUESTS: u64 = 64;
 /// For how many bytes memory may be requested, beside four times the input and the output, which grow by doubling.
 const MOST_ROOM: u64 = 512 * 1024;
 
-/// Reads and writes are few, and so are the requests for memory.
-fn check_calls(rt: &(impl Abort + AllocGlobal), flow: &Flow) -> Result<(), Fail> {
-    let input = text_of(rt, &[(flow.line, flow.lines)])?;
+/// How many calls a copy of lines made, and how many bytes it wrote.
+#[derive(Clone, Copy)]
+struct Calls {
+    reads: u64,
+    writes: u64,
+    written: usize,
+}
+
+/// Copies the lines of the input, with memory from `alloc`.
+fn copy(
+    rt: &(impl Abort + AllocGlobal),
+    alloc: &Rationed<Global>,
+    flow: &Flow,
+    input: &[u8],
+) -> Calls {
     let (reads, writes) = (Cell::new(0), Cell::new(0));
-    let inner = ShortReader::new(input.as_bytes(), flow.most);
+    let inner = ShortReader::new(input, flow.most);
     let mut reader = Watch::new(Counted {
         calls: &reads,
         inner,
@@ -46,23 +58,31 @@ fn check_calls(rt: &(impl Abort + AllocGlobal), flow: &Flow) -> Result<(), Fail>
         calls: &writes,
         inner,
     });
-    let counted = Rationed::refusing(0, rt.alloc());
-    let pattern = Pattern::new(rt.alloc(), flow.pattern)?;
+    let pattern = pattern_of(rt, rt.alloc(), flow.pattern);
     let options = MatchOptions::new();
-    filter_lines(&counted, &pattern, options, &mut reader, &mut writer)?;
+    let answer = filter_lines(alloc, &pattern, options, &mut reader, &mut writer);
+    check(rt, answer.is_ok(), flow.pattern);
     let written = writer.into_inner().inner.written().len();
-    let (reads, writes) = (reads.get(), writes.get());
-    assert!(rt; reads <= flow.reads, "{reads} reads");
-    assert!(rt; writes <= most_writes(written), "{writes} writes");
-    assert!(rt; flow.writes <= writes, "{writes} writes");
-    let requests = counted.ration.asked();
-    assert!(rt; requests <= MOST_REQUESTS, "{requests} requests");
-    let moved = input.len().saturating_add(written) as u64;
+    Calls {
+        reads: reads.get(),
+        writes: writes.get(),
+        written,
+    }
+}
+
+/// Reads and writes are few, and so are the requests for memory.
+fn check_calls(rt: &(impl Abort + AllocGlobal), flow: &Flow) {
+    let input = text(rt, &[(flow.line, flow.lines)]);
+    let counted = Rationed::refusing(0, rt.alloc());
+    let calls = copy(rt, &counted, flow, input.as_bytes());
+    check_most(rt, calls.reads, flow.reads, "reads");
+    check_most(rt, calls.writes, most_writes(calls.written), "writes");
+    check_most(rt, flow.writes, calls.writes, "writes at least");
+    check_most(rt, counted.ration.asked(), MOST_REQUESTS, "requests");
+    let moved = input.len().saturating_add(calls.written) as u64;
     let room = moved.saturating_mul(4).saturating_add(MOST_ROOM);
-    let bytes = counted.ration.bytes();
-    assert!(rt; bytes <= room, "{bytes} bytes");
-    assert_eq!(rt; counted.ration.held(), 0);
-    Ok(())
+    check_most(rt, counted.ration.bytes(), room, "bytes");
+    check_most(rt, counted.ration.held(), 0, "blocks");
 }
 
 /// Lines without number, of which all or none match, one line, and reads of few bytes.
@@ -110,9 +130,8 @@ const FLOWS: [Flow; 5] = [
 ];
 
 #[test]
-fn many_lines_take_few_calls(rt: HostRuntime) -> Result<(), Fail> {
+fn many_lines_take_few_calls(rt: HostRuntime) {
     for flow in &FLOWS {
-        check_calls(&rt, flow)?;
+        check_calls(&rt, flow);
     }
-    Ok(())
 }

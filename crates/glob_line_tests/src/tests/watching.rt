@@ -1,11 +1,11 @@
 //! A watched reader or writer: each call is one call of the inner one, whose answer is handed on.
+use super::made::check;
 use crate::readers::{Counted, Same};
 use glob_lines::Watch;
 use glob_testing::texts::are_same;
 use std::cell::Cell;
 use std::io::{self, ErrorKind};
 use std::process::Abort;
-use std::test::Fail;
 
 /// What a watched reader, or else writer, answers to one call for so many bytes of three. That is one call of the inner
 /// one, and the watch has failed then exactly if the answer is an error.
@@ -21,7 +21,7 @@ fn answer_of(
         calls: &calls,
         inner,
     });
-    assert!(rt; !watch.failed());
+    check(rt, !watch.failed(), "it fails before a call");
     let mut bytes = [0u8; 3];
     let len = len.min(3);
     let found = if reads {
@@ -29,8 +29,8 @@ fn answer_of(
     } else {
         watch.write(&bytes[..len])
     };
-    assert_eq!(rt; calls.get(), 1);
-    assert_eq!(rt; watch.failed(), found.is_err());
+    check(rt, calls.get() == 1, "one call");
+    check(rt, watch.failed() == found.is_err(), "what it reports");
     watch.into_inner();
     found
 }
@@ -53,50 +53,50 @@ const KINDS: [ErrorKind; 14] = [
 ];
 
 /// A fault of the inner one is handed on as it is.
-fn check_fault(rt: &(impl Abort + AllocGlobal), error: io::Error) -> Result<(), Fail> {
+fn check_fault(rt: &(impl Abort + AllocGlobal), error: io::Error) {
     for reads in [true, false] {
         for len in 0..=3 {
             match answer_of(rt, Err(error), reads, len) {
-                Err(found) => assert!(rt; are_same(rt, found, error)?),
+                Err(found) => check(rt, are_same(rt, found, error) == Ok(true), "another fault"),
                 Ok(_) => panic!(rt; "a fault is hidden"),
             }
         }
     }
-    Ok(())
 }
 
 #[test]
-fn each_fault_is_handed_on(rt: HostRuntime) -> Result<(), Fail> {
+fn each_fault_is_handed_on(rt: HostRuntime) {
     for kind in KINDS {
-        check_fault(&rt, io::Error::from(kind))?;
-        check_fault(&rt, io::Error::new(kind, "words of its own"))?;
-        check_fault(&rt, io::Error::new(kind, ""))?;
+        check_fault(&rt, io::Error::from(kind));
+        check_fault(&rt, io::Error::new(kind, "words of its own"));
+        check_fault(&rt, io::Error::new(kind, ""));
     }
     for code in [0, 4, 5, 11, 28, 32, 110] {
-        check_fault(&rt, io::Error::from_raw_os_error(code))?;
+        check_fault(&rt, io::Error::from_raw_os_error(code));
     }
-    Ok(())
 }
 
 /// An answer without a fault is handed on, and it is a fault only that a writer takes none of some bytes.
+fn check_number(rt: &impl Abort, reads: bool, len: usize, count: usize) {
+    let moved = count.min(len);
+    let takes_none = !reads && moved == 0 && len > 0;
+    match answer_of(rt, Ok(count), reads, len) {
+        Ok(found) => check(rt, found == moved && !takes_none, "a number"),
+        Err(error) => check(
+            rt,
+            takes_none && error.kind() == ErrorKind::WriteZero,
+            "a fault",
+        ),
+    }
+}
+
 #[test]
-fn each_number_is_handed_on(rt: HostRuntime) -> Result<(), Fail> {
+fn each_number_is_handed_on(rt: HostRuntime) {
     for reads in [true, false] {
         for len in 0..=3usize {
             for count in 0..=3usize {
-                let moved = count.min(len);
-                match answer_of(&rt, Ok(count), reads, len) {
-                    Ok(found) => {
-                        assert_eq!(rt; found, moved);
-                        assert!(rt; reads || moved > 0 || len == 0);
-                    }
-                    Err(error) => {
-                        assert!(rt; !reads && moved == 0 && len > 0);
-                        assert!(rt; error.kind() == ErrorKind::WriteZero);
-                    }
-                }
+                check_number(&rt, reads, len, count);
             }
         }
     }
-    Ok(())
 }
