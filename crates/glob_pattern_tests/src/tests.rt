@@ -4,6 +4,7 @@ mod escaping;
 mod faults;
 mod hostile;
 mod judges;
+mod made;
 mod matching;
 mod memory;
 mod options;

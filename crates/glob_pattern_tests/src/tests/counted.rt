@@ -1,10 +1,10 @@
 //! How many questions a match takes.
+use super::made::{add, check, counted, made, pattern_of, text};
 use crate::judges::{Answers, TableJudge};
 use glob_pattern::{Judge, MatchOptions, Pattern, Shape, run_positions};
-use glob_testing::texts::{Parts, text_of};
+use glob_testing::texts::Parts;
 use std::alloc::AllocError;
 use std::process::Abort;
-use std::test::Fail;
 
 const FREE: MatchOptions = MatchOptions {
     case_sensitive: true,
@@ -45,21 +45,29 @@ const ROWS: [Row; 9] = [
     ),
 ];
 
+/// The pattern matches the text so, by at most so many questions.
+fn check_few(
+    rt: &(impl Abort + AllocGlobal),
+    pattern: &str,
+    text: &str,
+    options: MatchOptions,
+    answer: bool,
+    most: u128,
+) {
+    let pattern = pattern_of(rt, rt.alloc(), pattern);
+    let (found, asked) = counted(rt, &pattern, text, options);
+    check(rt, found == answer, pattern.as_str());
+    assert!(rt; asked <= most, "{asked} questions: {pattern}");
+    check(rt, !answer || text.len() as u128 <= asked, pattern.as_str());
+}
+
 #[test]
-fn a_match_takes_few_questions(rt: HostRuntime) -> Result<(), Fail> {
-    for (pattern, text, options, answer, most) in ROWS {
-        let pattern = Pattern::new(rt.alloc(), text_of(&rt, pattern)?.as_str())?;
-        let text = text_of(&rt, text)?;
-        let (found, asked) = pattern.matches_counted(text.as_str(), options)?;
-        assert_eq!(rt; found, answer, "{} on {text}", pattern.as_str());
-        assert!(rt;
-            asked <= most,
-            "{asked} questions for {} on {text}",
-            pattern.as_str()
-        );
-        assert!(rt; !answer || text.len() as u128 <= asked, "{asked} questions");
+fn a_match_takes_few_questions(rt: HostRuntime) {
+    for (pattern, str, options, answer, most) in ROWS {
+        let pattern = text(&rt, pattern);
+        let str = text(&rt, str);
+        check_few(&rt, pattern.as_str(), str.as_str(), options, answer, most);
     }
-    Ok(())
 }
 
 /// Adds the token beside the place of each character that it does not take. `*` and `?` take all.
@@ -79,12 +87,13 @@ fn add_refused(
 
 /// How many questions are asked of a judge of the same table, which counts them by itself. In the pattern `*` is any
 /// number of characters, `?` one, and each other character is itself.
-fn questions(rt: &(impl Abort + AllocGlobal), pattern: &str, text: &str) -> Result<u128, Fail> {
+fn questions(rt: &(impl Abort + AllocGlobal), pattern: &str, text: &str) -> u128 {
     let mut shapes = Vec::new(rt.alloc());
     let mut refused = Vec::new(rt.alloc());
     for (token, unit) in pattern.chars().enumerate() {
-        shapes.push(if unit == '*' { Shape::Run } else { Shape::One })?;
-        add_refused(&mut refused, token, unit, text)?;
+        let shape = if unit == '*' { Shape::Run } else { Shape::One };
+        add(rt, &mut shapes, shape);
+        made(rt, add_refused(&mut refused, token, unit, text));
     }
     let answers = Answers {
         characters: text.chars().count(),
@@ -93,8 +102,8 @@ fn questions(rt: &(impl Abort + AllocGlobal), pattern: &str, text: &str) -> Resu
         refused: refused.as_slice(),
     };
     let mut judge = TableJudge::new(answers);
-    run_positions(rt.alloc(), shapes.as_slice(), &mut judge)?;
-    Ok(judge.asked())
+    made(rt, run_positions(rt.alloc(), shapes.as_slice(), &mut judge));
+    judge.asked()
 }
 
 /// Patterns, each with texts that it matches and texts that it does not.
@@ -141,17 +150,19 @@ const COUNTED: [(Parts<'static>, &[Parts<'static>]); 9] = [
     ),
 ];
 
+/// As many questions are counted as are asked.
+fn check_count(rt: &(impl Abort + AllocGlobal), pattern: &Pattern, text: &str) {
+    let known = questions(rt, pattern.as_str(), text);
+    let (_, asked) = counted(rt, pattern, text, FREE);
+    assert!(rt; asked == known, "{pattern} on {text}");
+}
+
 #[test]
-fn the_count_is_that_of_the_questions(rt: HostRuntime) -> Result<(), Fail> {
+fn the_count_is_that_of_the_questions(rt: HostRuntime) {
     for (pattern, texts) in COUNTED {
-        let source = text_of(&rt, pattern)?;
-        let pattern = Pattern::new(rt.alloc(), source.as_str())?;
-        for text in texts {
-            let text = text_of(&rt, text)?;
-            let known = questions(&rt, source.as_str(), text.as_str())?;
-            let (_, asked) = pattern.matches_counted(text.as_str(), FREE)?;
-            assert_eq!(rt; asked, known, "{source} on {text}");
+        let pattern = pattern_of(&rt, rt.alloc(), text(&rt, pattern).as_str());
+        for str in texts {
+            check_count(&rt, &pattern, text(&rt, str).as_str());
         }
     }
-    Ok(())
 }

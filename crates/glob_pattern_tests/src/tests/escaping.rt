@@ -1,18 +1,9 @@
 //! Texts written as patterns, and patterns copied and compared.
+use super::made::{add, check, is_matched, made, pattern_of, text};
 use glob_pattern::{MatchOptions, Pattern};
 use std::hash::{DefaultHasher, Hash, Hasher};
 use std::path::Path;
 use std::process::Abort;
-use std::test::Fail;
-
-/// `escape` gives this pattern for the text, and the pattern matches it.
-fn check_escaped(rt: &(impl AllocGlobal + Abort), text: &str, escaped: &str) -> Result<(), Fail> {
-    let answer = Pattern::escape(rt.alloc(), text)?;
-    assert_eq!(rt; answer.as_str(), escaped);
-    let pattern = Pattern::new(rt.alloc(), escaped)?;
-    assert!(rt; pattern.matches(text)?, "{escaped} matches {text}");
-    Ok(())
-}
 
 /// Texts, each with its escaped form.
 const ESCAPED: [(&str, &str); 5] = [
@@ -23,72 +14,78 @@ const ESCAPED: [(&str, &str); 5] = [
     ("é[ü]**", "é[[]ü[]][*][*]"),
 ];
 
+/// `escape` gives this pattern for the text, and the pattern matches it.
+fn check_escaped(rt: &(impl AllocGlobal + Abort), text: &str, escaped: &str) {
+    let answer = made(rt, Pattern::escape(rt.alloc(), text));
+    check(rt, answer.as_str() == escaped, text);
+    let pattern = pattern_of(rt, rt.alloc(), escaped);
+    check(
+        rt,
+        is_matched(rt, &pattern, text, MatchOptions::new()),
+        text,
+    );
+}
+
 #[test]
-fn special_characters_get_brackets(rt: HostRuntime) -> Result<(), Fail> {
+fn special_characters_get_brackets(rt: HostRuntime) {
     for (text, escaped) in ESCAPED {
-        check_escaped(&rt, text, escaped)?;
+        check_escaped(&rt, text, escaped);
     }
-    Ok(())
 }
 
-const CHARACTERS: [char; 11] = ['a', '?', '*', '[', ']', '!', '-', '/', '.', '\\', 'é'];
-
-/// Each of the texts with each of the characters after it.
-fn longer(rt: &HostRuntime, texts: &[String]) -> Result<Vec<String>, Fail> {
-    let mut longer = Vec::new(rt.alloc());
-    for text in texts {
-        for c in CHARACTERS {
-            longer.push(format!(in rt.alloc(); "{text}{c}")?)?;
-        }
-    }
-    Ok(longer)
-}
+const CHARACTERS: [&str; 11] = ["a", "?", "*", "[", "]", "!", "-", "/", ".", "\\", "\u{e9}"];
 
 /// The texts of up to three of the characters.
-fn short_texts(rt: &HostRuntime) -> Result<Vec<String>, Fail> {
+fn short_texts(rt: &(impl AllocGlobal + Abort)) -> Vec<String> {
     let mut texts = Vec::new(rt.alloc());
-    let mut last = Vec::new(rt.alloc());
-    last.push(String::new(rt.alloc()))?;
-    for _ in 0..3 {
-        let mut next = longer(rt, last.as_slice())?;
-        texts.append(&mut last)?;
-        last.append(&mut next)?;
-    }
-    texts.append(&mut last)?;
-    Ok(texts)
-}
-
-#[test]
-fn an_escaped_text_matches_itself_alone(rt: HostRuntime) -> Result<(), Fail> {
-    let texts = short_texts(&rt)?;
-    assert_eq!(rt; texts.len(), 1464);
-    for text in &texts {
-        let escaped = Pattern::escape(rt.alloc(), text.as_str())?;
-        let pattern = Pattern::new(rt.alloc(), escaped.as_str())?;
-        for other in &texts {
-            let same = text.as_str() == other.as_str();
-            assert_eq!(rt;
-                pattern.matches(other.as_str())?,
-                same,
-                "{escaped} on {other}"
-            );
+    add(rt, &mut texts, String::new(rt.alloc()));
+    // Each text of fewer than three is one of the first 1 + 11 + 121.
+    for number in 0..133usize {
+        for character in CHARACTERS {
+            let longer = text(rt, &[(texts[number].as_str(), 1), (character, 1)]);
+            add(rt, &mut texts, longer);
         }
     }
-    Ok(())
+    texts
+}
+
+/// The text's escaped form matches of all texts that one alone.
+fn check_alone(rt: &(impl AllocGlobal + Abort), escaped_text: &str, texts: &[String]) {
+    let escaped = made(rt, Pattern::escape(rt.alloc(), escaped_text));
+    let pattern = pattern_of(rt, rt.alloc(), escaped.as_str());
+    for other in texts {
+        let found = is_matched(rt, &pattern, other.as_str(), MatchOptions::new());
+        let is_same = escaped_text == other.as_str();
+        assert!(rt; found == is_same, "{pattern} on {other}");
+    }
 }
 
 #[test]
-fn a_copy_matches_alike(rt: HostRuntime) -> Result<(), Fail> {
-    let read = Pattern::from_str(rt.alloc(), "a*b")?;
-    let copy = read.clone()?;
-    assert!(rt; copy == read);
-    for pattern in [read, copy] {
-        assert_eq!(rt; pattern.as_str(), "a*b");
-        assert!(rt; pattern.matches("a_b")?);
-        assert!(rt; pattern.matches_path(Path::new("a_b"))?);
-        assert!(rt; pattern.matches_path_with(Path::new("a_b"), MatchOptions::new())?);
+fn an_escaped_text_matches_itself_alone(rt: HostRuntime) {
+    let texts = short_texts(&rt);
+    check(&rt, texts.len() == 1464, "the number of texts");
+    for text in texts.as_slice() {
+        check_alone(&rt, text.as_str(), texts.as_slice());
     }
-    Ok(())
+}
+
+/// It is the pattern `a*b`, by each form of matching.
+fn check_pattern(rt: &impl Abort, pattern: &Pattern) {
+    let (path, options) = (Path::new("a_b"), MatchOptions::new());
+    check(rt, pattern.as_str() == "a*b", "the text");
+    check(rt, made(rt, pattern.matches("a_b")), "matches");
+    check(rt, made(rt, pattern.matches_path(path)), "matches_path");
+    let found = made(rt, pattern.matches_path_with(path, options));
+    check(rt, found, "matches_path_with");
+}
+
+#[test]
+fn a_copy_matches_alike(rt: HostRuntime) {
+    let read = Pattern::from_str(rt.alloc(), "a*b").expect(&rt, "a pattern");
+    let copy = made(&rt, read.clone());
+    check(&rt, copy == read, "equality");
+    check_pattern(&rt, &read);
+    check_pattern(&rt, &copy);
 }
 
 fn hash_of(pattern: &Pattern) -> u64 {
@@ -98,27 +95,22 @@ fn hash_of(pattern: &Pattern) -> u64 {
 }
 
 /// The patterns of two texts compare and hash as the texts do.
-fn check_compared(rt: &(impl AllocGlobal + Abort), left: &str, right: &str) -> Result<(), Fail> {
-    let x = Pattern::new(rt.alloc(), left)?;
-    let y = Pattern::new(rt.alloc(), right)?;
-    assert_eq!(rt; x == y, left == right, "{left} and {right}");
-    assert_eq!(rt; x.cmp(&y), left.cmp(right), "{left} and {right}");
-    assert_eq!(rt; x < y, left < right, "{left} and {right}");
-    assert_eq!(rt;
-        hash_of(&x) == hash_of(&y),
-        left == right,
-        "{left} and {right}"
-    );
-    Ok(())
+fn check_compared(rt: &(impl AllocGlobal + Abort), left: &str, right: &str) {
+    let x = pattern_of(rt, rt.alloc(), left);
+    let y = pattern_of(rt, rt.alloc(), right);
+    let is_same = left == right;
+    check(rt, (x == y) == is_same, left);
+    check(rt, x.cmp(&y) == left.cmp(right), left);
+    check(rt, (x < y) == (left < right), left);
+    check(rt, (hash_of(&x) == hash_of(&y)) == is_same, left);
 }
 
 #[test]
-fn patterns_compare_as_their_texts(rt: HostRuntime) -> Result<(), Fail> {
+fn patterns_compare_as_their_texts(rt: HostRuntime) {
     let texts = ["", "*", "**", "[a]", "[a]*", "a", "a*b"];
     for left in texts {
         for right in texts {
-            check_compared(&rt, left, right)?;
+            check_compared(&rt, left, right);
         }
     }
-    Ok(())
 }

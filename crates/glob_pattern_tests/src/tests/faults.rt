@@ -1,6 +1,8 @@
 //! Texts that are no pattern: where the fault is, and its words.
+use super::made::{check, made, pattern_of};
 use glob_pattern::{Pattern, PatternRefusal};
-use std::test::Fail;
+use glob_testing::texts::prints_as;
+use std::process::Abort;
 
 const WILDCARDS: &str = "wildcards are either regular `*` or recursive `**`";
 
@@ -34,19 +36,23 @@ fn the_first_fault_is_told(rt: HostRuntime) {
         ("[!]", 0, RANGE),
     ];
     for (pattern, pos, msg) in rows {
-        match Pattern::new(rt.alloc(), pattern) {
-            Err(PatternRefusal::Syntax(error)) => {
-                assert_eq!(rt; error.pos, pos, "{pattern}");
-                assert_eq!(rt; error.msg, msg, "{pattern}");
-            }
-            Err(PatternRefusal::Memory) => panic!(rt; "{pattern}: out of memory"),
-            Ok(_) => panic!(rt; "{pattern} is accepted"),
+        check_fault(&rt, pattern, pos, msg);
+    }
+}
+
+/// The pattern is refused with this fault.
+fn check_fault(rt: &(impl Abort + AllocGlobal), pattern: &str, pos: usize, msg: &str) {
+    match Pattern::new(rt.alloc(), pattern) {
+        Err(PatternRefusal::Syntax(error)) => {
+            check(rt, error.pos == pos && error.msg == msg, pattern);
         }
+        Err(PatternRefusal::Memory) => panic!(rt; "{pattern}: out of memory"),
+        Ok(_) => panic!(rt; "{pattern} is accepted"),
     }
 }
 
 #[test]
-fn accepted_texts_stay_as_they_are(rt: HostRuntime) -> Result<(), Fail> {
+fn accepted_texts_stay_as_they_are(rt: HostRuntime) {
     for text in [
         "",
         "a*b",
@@ -57,26 +63,18 @@ fn accepted_texts_stay_as_they_are(rt: HostRuntime) -> Result<(), Fail> {
         "[!]]",
         "[]-a]",
         "a]b",
-        "é*[ü]",
+        "\u{e9}*[\u{fc}]",
     ] {
-        let pattern = Pattern::new(rt.alloc(), text)?;
-        assert_eq!(rt; pattern.as_str(), text);
+        let pattern = pattern_of(&rt, rt.alloc(), text);
+        check(&rt, pattern.as_str() == text, text);
     }
-    Ok(())
 }
 
 #[test]
 fn a_fault_is_printed(rt: HostRuntime) {
-    let refusal = match Pattern::new(rt.alloc(), "abc[def") {
-        Err(refusal) => refusal,
-        Ok(_) => panic!(rt; "it is accepted"),
+    let Err(refusal) = Pattern::new(rt.alloc(), "abc[def") else {
+        panic!(rt; "it is accepted");
     };
-    let line = match format!(in rt.alloc(); "{refusal}") {
-        Ok(line) => line,
-        Err(_) => panic!(rt; "out of memory"),
-    };
-    assert_eq!(rt;
-        line.as_str(),
-        "Pattern syntax error near position 3: invalid range pattern"
-    );
+    let line = "Pattern syntax error near position 3: invalid range pattern";
+    check(&rt, made(&rt, prints_as(&rt, &refusal, line)), line);
 }

@@ -1,8 +1,9 @@
 //! Patterns on which a search that goes back would take long, and patterns of many tokens.
+use super::made::{pattern_of, text};
 use super::options::check_match;
-use glob_pattern::{MatchOptions, Pattern};
-use glob_testing::texts::{Parts, text_of};
-use std::test::Fail;
+use glob_pattern::MatchOptions;
+use glob_testing::texts::Parts;
+use std::process::Abort;
 
 /// A pattern, a text, and whether the pattern matches the text case-sensitively, with the separator rule or without it.
 /// No text is refused for its end alone, which is tested first: each row runs the matcher.
@@ -48,17 +49,22 @@ const ROWS: [Row; 20] = [
 ];
 
 #[test]
-fn many_tokens(rt: HostRuntime) -> Result<(), Fail> {
-    for (pattern, text, answer) in ROWS {
-        let pattern = Pattern::new(rt.alloc(), text_of(&rt, pattern)?.as_str())?;
-        let text = text_of(&rt, text)?;
-        for require_literal_separator in [false, true] {
-            let options = MatchOptions {
-                require_literal_separator,
-                ..MatchOptions::new()
-            };
-            check_match(&rt, &pattern, text.as_str(), options, answer)?;
-        }
+fn many_tokens(rt: HostRuntime) {
+    for (pattern, str, answer) in ROWS {
+        let pattern = text(&rt, pattern);
+        let str = text(&rt, str);
+        check_rules(&rt, pattern.as_str(), str.as_str(), answer);
     }
-    Ok(())
+}
+
+/// The pattern matches the text so with the separator rule, and without it.
+fn check_rules(rt: &(impl Abort + AllocGlobal), pattern: &str, text: &str, answer: bool) {
+    let pattern = pattern_of(rt, rt.alloc(), pattern);
+    for require_literal_separator in [false, true] {
+        let options = MatchOptions {
+            require_literal_separator,
+            ..MatchOptions::new()
+        };
+        check_match(rt, &pattern, text, options, answer);
+    }
 }

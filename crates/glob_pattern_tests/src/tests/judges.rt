@@ -1,23 +1,33 @@
 //! Which characters split into pieces, by judges whose answers are written down.
+use super::made::{add, check, made};
 use crate::judges::{Answers, TableJudge};
 use glob_pattern::{Judge, Shape, run_positions};
-use std::alloc::AllocError;
 use std::process::Abort;
-use std::test::Fail;
 
 /// What `run_positions` answers, where the bounds on its asks hold.
-fn decided<R: Abort + AllocGlobal>(
-    rt: &R,
+fn decided(rt: &(impl Abort + AllocGlobal), shapes: &[Shape], answers: Answers<'_>) -> bool {
+    check(rt, shapes.len() <= answers.tokens, "too few tokens");
+    let mut judge = TableJudge::new(answers);
+    let found = made(rt, run_positions(rt.alloc(), shapes, &mut judge));
+    let characters = answers.characters as u128;
+    let most = shapes.len() as u128 * characters;
+    check(rt, judge.asked() <= most, "too many questions");
+    check(
+        rt,
+        !found || characters <= judge.asked(),
+        "too few questions",
+    );
+    found
+}
+
+/// The shapes are answered right.
+pub(super) fn check_shapes(
+    rt: &impl Abort,
+    is_right: bool,
     shapes: &[Shape],
     answers: Answers<'_>,
-) -> Result<bool, AllocError> {
-    assert!(rt; shapes.len() <= answers.tokens);
-    let mut judge = TableJudge::new(answers);
-    let found = run_positions(rt.alloc(), shapes, &mut judge)?;
-    let characters = answers.characters as u128;
-    assert!(rt; judge.asked() <= shapes.len() as u128 * characters);
-    assert!(rt; !found || characters <= judge.asked());
-    Ok(found)
+) {
+    assert!(rt; is_right, "{shapes:?} on {answers:?}");
 }
 
 /// Shapes, the number of characters, the places that open, the tokens and characters that do not go together, and
@@ -41,7 +51,7 @@ pub(super) const ROWS: [Row; 7] = [
 ];
 
 #[test]
-fn written_rows(rt: HostRuntime) -> Result<(), Fail> {
+fn written_rows(rt: HostRuntime) {
     for (shapes, characters, opening, refused, answer) in ROWS {
         let answers = Answers {
             characters,
@@ -49,13 +59,9 @@ fn written_rows(rt: HostRuntime) -> Result<(), Fail> {
             opening,
             refused,
         };
-        assert_eq!(rt;
-            decided(&rt, shapes, answers)?,
-            answer,
-            "{shapes:?} on {answers:?}"
-        );
+        let is_right = decided(&rt, shapes, answers) == answer;
+        check_shapes(&rt, is_right, shapes, answers);
     }
-    Ok(())
 }
 
 /// Numbers that look random, the same in each run.
@@ -84,36 +90,36 @@ impl Random {
 }
 
 /// Places up to the number of characters, each of them every second time.
-pub(super) fn some_places<R: AllocGlobal>(
-    rt: &R,
+pub(super) fn some_places(
+    rt: &(impl Abort + AllocGlobal),
     random: &mut Random,
     characters: usize,
-) -> Result<Vec<usize>, AllocError> {
+) -> Vec<usize> {
     let mut places = Vec::new(rt.alloc());
     for place in 0..=characters {
         if random.once_in(2) {
-            places.push(place)?;
+            add(rt, &mut places, place);
         }
     }
-    Ok(places)
+    places
 }
 
 /// Pairs of a token and a character, each of them every fourth time.
-pub(super) fn some_pairs<R: AllocGlobal>(
-    rt: &R,
+pub(super) fn some_pairs(
+    rt: &(impl Abort + AllocGlobal),
     random: &mut Random,
     tokens: usize,
     characters: usize,
-) -> Result<Vec<(usize, usize)>, AllocError> {
+) -> Vec<(usize, usize)> {
     let mut pairs = Vec::new(rt.alloc());
     for token in 0..tokens {
         for character in 0..characters {
             if random.once_in(4) {
-                pairs.push((token, character))?;
+                add(rt, &mut pairs, (token, character));
             }
         }
     }
-    Ok(pairs)
+    pairs
 }
 
 /// Whether a piece of the shape may stand from one place up to another, where `others` are the shapes after it.
@@ -149,72 +155,65 @@ fn splits_from(answers: &Answers<'_>, token: usize, shapes: &[Shape], from: usiz
 }
 
 /// The list of shapes of this length that has this number.
-fn listed<R: AllocGlobal>(rt: &R, length: usize, number: usize) -> Result<Vec<Shape>, AllocError> {
+fn listed(rt: &(impl Abort + AllocGlobal), length: usize, number: usize) -> Vec<Shape> {
     let shape_numbers = [Shape::One, Shape::Run, Shape::Deep];
     let mut shapes = Vec::new(rt.alloc());
     let mut rest = number;
     for _ in 0..length {
-        shapes.push(shape_numbers[rest % 3])?;
+        add(rt, &mut shapes, shape_numbers[rest % 3]);
         rest /= 3;
     }
-    Ok(shapes)
-}
-
-/// Each list of up to four shapes.
-fn all_lists<R: AllocGlobal>(rt: &R) -> Result<Vec<Vec<Shape>>, AllocError> {
-    let mut lists = Vec::new(rt.alloc());
-    for (length, count) in [(0, 1), (1, 3), (2, 9), (3, 27), (4, 81)] {
-        for number in 0..count {
-            lists.push(listed(rt, length, number)?)?;
-        }
-    }
-    Ok(lists)
+    shapes
 }
 
 /// How many tables are tried for each list of shapes and each number of characters.
 const TABLES: u64 = 100;
 
-/// Compares the answers on random tables with those of the search, and counts those that are yes.
-fn compare<R: Abort + AllocGlobal>(
-    rt: &R,
+/// Compares the answer on a random table with that of the search.
+fn compare(
+    rt: &(impl Abort + AllocGlobal),
     random: &mut Random,
     shapes: &[Shape],
     characters: usize,
-) -> Result<u64, AllocError> {
-    let mut yes = 0u64;
-    for _ in 0..TABLES {
-        let opening = some_places(rt, random, characters)?;
-        let refused = some_pairs(rt, random, shapes.len(), characters)?;
-        let answers = Answers {
-            characters,
-            tokens: shapes.len(),
-            opening: opening.as_slice(),
-            refused: refused.as_slice(),
-        };
-        let found = decided(rt, shapes, answers)?;
-        assert_eq!(rt;
-            found,
-            splits_from(&answers, 0, shapes, 0),
-            "{shapes:?} on {answers:?}"
-        );
-        yes = yes.saturating_add(u64::from(found));
-    }
-    Ok(yes)
+) -> bool {
+    let opening = some_places(rt, random, characters);
+    let refused = some_pairs(rt, random, shapes.len(), characters);
+    let answers = Answers {
+        characters,
+        tokens: shapes.len(),
+        opening: opening.as_slice(),
+        refused: refused.as_slice(),
+    };
+    let found = decided(rt, shapes, answers);
+    let is_right = found == splits_from(&answers, 0, shapes, 0);
+    check_shapes(rt, is_right, shapes, answers);
+    found
 }
 
-#[test]
-fn random_tables(rt: HostRuntime) -> Result<(), Fail> {
-    let mut random = Random::new(88_172_645_463_325_252);
-    let lists = all_lists(&rt)?;
-    assert_eq!(rt; lists.len(), 121);
+/// Compares the answers on random tables of up to four characters, and counts those that are yes.
+fn compare_tables(rt: &(impl Abort + AllocGlobal), random: &mut Random, shapes: &[Shape]) -> u64 {
     let mut yes = 0u64;
-    for shapes in &lists {
-        for characters in 0..=4 {
-            let found = compare(&rt, &mut random, shapes.as_slice(), characters)?;
+    for characters in 0..=4 {
+        for _ in 0..TABLES {
+            let found = compare(rt, random, shapes, characters);
+            yes = yes.saturating_add(u64::from(found));
+        }
+    }
+    yes
+}
+
+/// Each list of up to four shapes.
+#[test]
+fn random_tables(rt: HostRuntime) {
+    let mut random = Random::new(88_172_645_463_325_252);
+    let mut yes = 0u64;
+    for (length, count) in [(0, 1), (1, 3), (2, 9), (3, 27), (4, 81)] {
+        for number in 0..count {
+            let shapes = listed(&rt, length, number);
+            let found = compare_tables(&rt, &mut random, shapes.as_slice());
             yes = yes.saturating_add(found);
         }
     }
     // Neither answer is rare among the 60,500 tables.
     assert!(rt; yes > 10_000 && yes < 50_000, "{yes}");
-    Ok(())
 }

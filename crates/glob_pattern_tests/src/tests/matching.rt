@@ -1,9 +1,8 @@
 //! Which texts a pattern matches case-sensitively and without the separator rule and the dot rule.
+use super::made::{check, made, pattern_of};
 use glob_pattern::{MatchOptions, Pattern};
-use std::alloc::AllocError;
 use std::path::Path;
 use std::process::Abort;
-use std::test::Fail;
 
 /// A pattern, the texts that it matches, and some that it does not.
 type Row = (
@@ -113,62 +112,54 @@ const BRACKETS: [Row; 20] = [
 ];
 
 /// The pattern gives this answer for each of the texts.
-fn check_texts(
-    rt: &impl Abort,
-    pattern: &Pattern,
-    texts: &[&str],
-    answer: bool,
-) -> Result<(), AllocError> {
+fn check_texts(rt: &impl Abort, pattern: &Pattern, texts: &[&str], answer: bool) {
     for text in texts {
-        let found = pattern.matches(text)?;
-        assert_eq!(rt; found, answer, "{pattern} on {text}");
+        let found = made(rt, pattern.matches(text));
+        assert!(rt; found == answer, "{pattern} on {text}");
     }
-    Ok(())
 }
 
-fn check(rt: &(impl Abort + AllocGlobal), rows: &[Row]) -> Result<(), Fail> {
+fn check_rows(rt: &(impl Abort + AllocGlobal), rows: &[Row]) {
     for (text, yes, no) in rows {
-        let pattern = Pattern::new(rt.alloc(), text)?;
-        check_texts(rt, &pattern, yes, true)?;
-        check_texts(rt, &pattern, no, false)?;
+        let pattern = pattern_of(rt, rt.alloc(), text);
+        check_texts(rt, &pattern, yes, true);
+        check_texts(rt, &pattern, no, false);
     }
-    Ok(())
 }
 
 #[test]
-fn stars(rt: HostRuntime) -> Result<(), Fail> {
-    check(&rt, &STARS)
+fn stars(rt: HostRuntime) {
+    check_rows(&rt, &STARS);
 }
 
 #[test]
-fn deep_runs(rt: HostRuntime) -> Result<(), Fail> {
-    check(&rt, &DEEP_RUNS)
+fn deep_runs(rt: HostRuntime) {
+    check_rows(&rt, &DEEP_RUNS);
 }
 
 #[test]
-fn brackets(rt: HostRuntime) -> Result<(), Fail> {
-    check(&rt, &BRACKETS)
+fn brackets(rt: HostRuntime) {
+    check_rows(&rt, &BRACKETS);
 }
 
 #[test]
-fn lists_and_ranges_in_one_bracket(rt: HostRuntime) -> Result<(), Fail> {
+fn lists_and_ranges_in_one_bracket(rt: HostRuntime) {
     for text in ["[a-z123]", "[1a-z23]", "[123a-z]"] {
-        let pattern = Pattern::new(rt.alloc(), text)?;
-        for c in ('a'..='z').chain('1'..='3') {
-            let str = format!(in rt.alloc(); "{c}")?;
-            assert!(rt; pattern.matches(str.as_str())?, "{text} matches {c}");
+        let pattern = pattern_of(&rt, rt.alloc(), text);
+        for letter in ('a'..='z').chain('1'..='3') {
+            let str = made(&rt, letter.to_string(rt.alloc()));
+            check_texts(&rt, &pattern, &[str.as_str()], true);
         }
-        assert!(rt; !pattern.matches("A")?);
-        assert!(rt; !pattern.matches("4")?);
+        check_texts(&rt, &pattern, &["A", "4"], false);
     }
-    Ok(())
 }
 
 #[test]
-fn paths(rt: HostRuntime) -> Result<(), Fail> {
-    let pattern = Pattern::new(rt.alloc(), "a/b")?;
-    assert!(rt; pattern.matches_path(Path::new("a/b"))?);
-    assert!(rt; !pattern.matches_path(Path::new("a"))?);
-    assert!(rt; pattern.matches_path_with(Path::new("a/b"), MatchOptions::new())?);
-    Ok(())
+fn paths(rt: HostRuntime) {
+    let pattern = pattern_of(&rt, rt.alloc(), "a/b");
+    let (path, other) = (Path::new("a/b"), Path::new("a"));
+    check(&rt, made(&rt, pattern.matches_path(path)), "a/b");
+    check(&rt, !made(&rt, pattern.matches_path(other)), "a");
+    let found = pattern.matches_path_with(path, MatchOptions::new());
+    check(&rt, made(&rt, found), "a/b with options");
 }

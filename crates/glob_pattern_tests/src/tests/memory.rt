@@ -1,12 +1,12 @@
 //! Each request for memory refused in turn: the answer is out of memory, or that with ample memory. No block is left.
+use super::made::{add, check, pattern_of, text};
 use crate::judges::{Answers, TableJudge};
 use glob_pattern::{MatchOptions, Pattern, PatternRefusal, Shape, run_positions};
 use glob_testing::rationing::Rationed;
-use glob_testing::texts::{Parts, text_of};
-use std::alloc::Allocator;
+use glob_testing::texts::Parts;
+use std::alloc::{Allocator, Global};
 use std::path::Path;
 use std::process::Abort;
-use std::test::Fail;
 
 /// A text, the place of its first fault, and its escaped form.
 type Text = (&'static str, Option<usize>, &'static str);
@@ -30,11 +30,11 @@ const TEXTS: [Text; 10] = [
 
 /// Copies a pattern of the text. Gives whether memory sufficed.
 fn copies<A: Allocator + Copy>(rt: &impl Abort, pattern: &Pattern<A>, text: &str) -> bool {
-    assert!(rt; pattern.as_str() == text);
+    check(rt, pattern.as_str() == text, text);
     let Ok(copy) = pattern.clone() else {
         return false;
     };
-    assert!(rt; copy == *pattern, "{text}");
+    check(rt, copy == *pattern, text);
     true
 }
 
@@ -56,11 +56,11 @@ fn reads<A: Allocator + Copy>(rt: &impl Abort, alloc: A, row: Text, by_from_str:
     let (text, fault, _) = row;
     match read(alloc, text, by_from_str) {
         Ok(pattern) => {
-            assert!(rt; fault.is_none(), "{text}");
+            check(rt, fault.is_none(), text);
             copies(rt, &pattern, text)
         }
         Err(PatternRefusal::Syntax(error)) => {
-            assert!(rt; Some(error.pos) == fault, "{text}");
+            check(rt, Some(error.pos) == fault, text);
             true
         }
         Err(PatternRefusal::Memory) => false,
@@ -71,7 +71,7 @@ fn reads<A: Allocator + Copy>(rt: &impl Abort, alloc: A, row: Text, by_from_str:
 fn escapes<A: Allocator + Copy>(rt: &impl Abort, alloc: A, row: Text) -> bool {
     match Pattern::escape(alloc, row.0) {
         Ok(escaped) => {
-            assert!(rt; escaped.as_str() == row.2, "{}", row.0);
+            check(rt, escaped.as_str() == row.2, row.0);
             true
         }
         Err(_) => false,
@@ -87,18 +87,22 @@ fn makes<A: Allocator + Copy>(rt: &impl Abort, alloc: A, row: Text, call: u32) -
     }
 }
 
+/// Where the request of this number is refused, or none at 0: whether memory sufficed, and how many requests there were.
+fn refuse(rt: &(impl Abort + AllocGlobal), row: Text, call: u32, number: u64) -> (bool, u64) {
+    let scarce = Rationed::refusing(number, rt.alloc());
+    let suffices = makes(rt, &scarce, row, call);
+    check(rt, scarce.ration.held() == 0, row.0);
+    (suffices, scarce.ration.asked())
+}
+
 /// Refuses each request for memory in turn. Gives how often memory did not suffice.
 fn check_made(rt: &(impl Abort + AllocGlobal), row: Text, call: u32) -> u32 {
-    let ample = Rationed::refusing(0, rt.alloc());
-    assert!(rt; makes(rt, &ample, row, call), "{}", row.0);
-    assert_eq!(rt; ample.ration.held(), 0);
+    let (suffices, requests) = refuse(rt, row, call, 0);
+    check(rt, suffices, row.0);
     let mut short = 0u32;
-    for number in 1..=ample.ration.asked() {
-        let scarce = Rationed::refusing(number, rt.alloc());
-        if !makes(rt, &scarce, row, call) {
-            short = short.saturating_add(1);
-        }
-        assert_eq!(rt; scarce.ration.held(), 0);
+    for number in 1..=requests {
+        let (suffices, _) = refuse(rt, row, call, number);
+        short = short.saturating_add(u32::from(!suffices));
     }
     short
 }
@@ -108,7 +112,7 @@ fn texts(rt: HostRuntime) {
     for row in TEXTS {
         for call in 0..3 {
             let short = check_made(&rt, row, call);
-            assert!(rt; short > 0 || row.0.len() < 2, "{}", row.0);
+            check(&rt, short > 0 || row.0.len() < 2, row.0);
         }
     }
 }
@@ -175,25 +179,55 @@ fn unanswered<A: Allocator + Copy>(
     let mut without = [false; 6];
     for (form, found) in forms(pattern, str).iter().enumerate() {
         match found {
-            Some(found) => assert!(rt; *found == answer, "{}", pattern.as_str()),
+            Some(found) => check(rt, *found == answer, pattern.as_str()),
             None => without[form] = true,
         }
     }
     without
 }
 
+/// Each form of matching answers.
+fn check_answered<A: Allocator + Copy>(
+    rt: &impl Abort,
+    pattern: &Pattern<A>,
+    str: &str,
+    answer: bool,
+) {
+    let without = unanswered(rt, pattern, str, answer);
+    check(rt, without == [false; 6], pattern.as_str());
+}
+
+/// Each form of matching answers, without a request for memory.
+fn check_short(rt: &(impl Abort + AllocGlobal), pattern: &str, str: &str, answer: bool) {
+    let ample = Rationed::refusing(0, rt.alloc());
+    let pattern = pattern_of(rt, &ample, pattern);
+    let requests = ample.ration.asked();
+    check_answered(rt, &pattern, str, answer);
+    check(rt, ample.ration.asked() == requests, "requests");
+}
+
 #[test]
-fn short_patterns_match_without_memory(rt: HostRuntime) -> Result<(), Fail> {
+fn short_patterns_match_without_memory(rt: HostRuntime) {
     for (pattern, str, answer) in SHORT {
-        let text = text_of(&rt, pattern)?;
-        let str = text_of(&rt, str)?;
-        let ample = Rationed::refusing(0, rt.alloc());
-        let pattern = Pattern::new(&ample, text.as_str())?;
-        let requests = ample.ration.asked();
-        assert_eq!(rt; unanswered(&rt, &pattern, str.as_str(), answer), [false; 6]);
-        assert_eq!(rt; ample.ration.asked(), requests, "{text}");
+        let pattern = text(&rt, pattern);
+        check_short(&rt, pattern.as_str(), text(&rt, str).as_str(), answer);
     }
-    Ok(())
+}
+
+/// One form of matching is out of memory. It is noted.
+fn check_one_form(
+    rt: &impl Abort,
+    pattern: &Pattern<&Rationed<Global>>,
+    str: &str,
+    answer: bool,
+    asking: &mut [bool; 6],
+) {
+    let mut short = 0u32;
+    for (form, refused) in unanswered(rt, pattern, str, answer).iter().enumerate() {
+        asking[form] = asking[form] || *refused;
+        short = short.saturating_add(u32::from(*refused));
+    }
+    check(rt, short == 1, pattern.as_str());
 }
 
 /// Where this request of a match is refused, one form of matching is out of memory, and it is noted. The pattern of the
@@ -204,73 +238,77 @@ fn check_refused(
     number: u64,
     blocks: u64,
     asking: &mut [bool; 6],
-) -> Result<(), PatternRefusal> {
+) {
     let scarce = Rationed::refusing(number, rt.alloc());
-    let pattern = Pattern::new(&scarce, text)?;
-    let mut short = 0u32;
-    for (form, refused) in unanswered(rt, &pattern, str, answer).iter().enumerate() {
-        asking[form] = asking[form] || *refused;
-        short = short.saturating_add(u32::from(*refused));
-    }
-    assert_eq!(rt; short, 1, "{text}");
-    assert_eq!(rt; scarce.ration.held(), blocks);
-    assert_eq!(rt; unanswered(rt, &pattern, str, answer), [false; 6]);
+    let pattern = pattern_of(rt, &scarce, text);
+    check_one_form(rt, &pattern, str, answer, asking);
+    check(rt, scarce.ration.held() == blocks, text);
+    check_answered(rt, &pattern, str, answer);
     drop(pattern);
-    assert_eq!(rt; scarce.ration.held(), 0);
-    Ok(())
+    check(rt, scarce.ration.held() == 0, text);
+}
+
+/// With ample memory each form of matching answers, and leaves as many blocks as there were. Gives the number of the
+/// first request of a match, that of the last, and the blocks.
+fn check_ample(
+    rt: &(impl Abort + AllocGlobal),
+    (text, str, answer): (&str, &str, bool),
+) -> (u64, u64, u64) {
+    let ample = Rationed::refusing(0, rt.alloc());
+    let pattern = pattern_of(rt, &ample, text);
+    let first = ample.ration.asked().saturating_add(1);
+    let blocks = ample.ration.held();
+    check_answered(rt, &pattern, str, answer);
+    check(rt, ample.ration.held() == blocks, text);
+    (first, ample.ration.asked(), blocks)
 }
 
 /// Each request of a match is refused in turn. Each form of matching asks for memory.
-fn check_long(
-    rt: &(impl Abort + AllocGlobal),
-    text: &str,
-    str: &str,
-    answer: bool,
-) -> Result<(), PatternRefusal> {
-    let ample = Rationed::refusing(0, rt.alloc());
-    let pattern = Pattern::new(&ample, text)?;
-    let first = ample.ration.asked().saturating_add(1);
-    let blocks = ample.ration.held();
-    assert_eq!(rt; unanswered(rt, &pattern, str, answer), [false; 6]);
-    assert_eq!(rt; ample.ration.held(), blocks);
+fn check_long(rt: &(impl Abort + AllocGlobal), row: (&str, &str, bool)) {
+    let (first, last, blocks) = check_ample(rt, row);
     let mut asking = [false; 6];
-    for number in first..=ample.ration.asked() {
-        check_refused(rt, (text, str, answer), number, blocks, &mut asking)?;
+    for number in first..=last {
+        check_refused(rt, row, number, blocks, &mut asking);
     }
-    assert_eq!(rt; asking, [true; 6], "{text}");
-    Ok(())
+    check(rt, asking == [true; 6], row.0);
 }
 
 #[test]
-fn long_patterns_match_with_memory(rt: HostRuntime) -> Result<(), Fail> {
+fn long_patterns_match_with_memory(rt: HostRuntime) {
     for (pattern, str, answer) in LONG {
-        let text = text_of(&rt, pattern)?;
-        let str = text_of(&rt, str)?;
-        check_long(&rt, text.as_str(), str.as_str(), answer)?;
+        let pattern = text(&rt, pattern);
+        check_long(&rt, (pattern.as_str(), text(&rt, str).as_str(), answer));
     }
-    Ok(())
 }
 
 /// Where the one request of a list of 64 shapes and more is refused, the answer is out of memory.
+fn check_shapes(rt: &(impl Abort + AllocGlobal), shapes: &[Shape], refused: u64) {
+    let answers = Answers {
+        characters: 3,
+        tokens: shapes.len(),
+        opening: &[],
+        refused: &[],
+    };
+    let scarce = Rationed::refusing(refused, rt.alloc());
+    let found = run_positions(&scarce, shapes, &mut TableJudge::new(answers));
+    let asked = scarce.ration.asked();
+    let is_short = refused == asked && asked > 0;
+    let is_right = if is_short {
+        found.is_err()
+    } else {
+        found == Ok(true)
+    };
+    assert!(rt; is_right, "{} shapes", shapes.len());
+    check(rt, scarce.ration.held() == 0, "a block is left");
+}
+
 #[test]
-fn long_lists_of_shapes_need_memory(rt: HostRuntime) -> Result<(), Fail> {
+fn long_lists_of_shapes_need_memory(rt: HostRuntime) {
     let mut shapes = Vec::new(rt.alloc());
-    for number in 1..=200usize {
-        shapes.push(Shape::Run)?;
+    for _ in 0..200 {
+        add(&rt, &mut shapes, Shape::Run);
         for refused in 0..=2 {
-            let answers = Answers {
-                characters: 3,
-                tokens: shapes.len(),
-                opening: &[],
-                refused: &[],
-            };
-            let scarce = Rationed::refusing(refused, rt.alloc());
-            let found = run_positions(&scarce, shapes.as_slice(), &mut TableJudge::new(answers));
-            let asked = scarce.ration.asked();
-            assert_eq!(rt; found.is_err(), refused == asked && asked > 0, "{number}");
-            assert!(rt; found.is_err() || found == Ok(true));
-            assert_eq!(rt; scarce.ration.held(), 0);
+            check_shapes(&rt, shapes.as_slice(), refused);
         }
     }
-    Ok(())
 }

@@ -1,8 +1,7 @@
 //! Which texts a pattern matches under other options.
+use super::made::{check, is_matched, made, pattern_of};
 use glob_pattern::{MatchOptions, Pattern};
-use std::alloc::AllocError;
 use std::process::Abort;
-use std::test::Fail;
 
 /// Neither case nor rules.
 const ANY_CASE: MatchOptions = MatchOptions {
@@ -128,60 +127,60 @@ pub(super) fn check_match(
     text: &str,
     options: MatchOptions,
     answer: bool,
-) -> Result<(), AllocError> {
-    let found = pattern.matches_with(text, options)?;
-    assert_eq!(rt; found, answer, "{pattern} on {text} under {options:?}");
-    Ok(())
+) {
+    let found = is_matched(rt, pattern, text, options);
+    assert!(rt; found == answer, "{pattern} on {text} under {options:?}");
 }
 
-fn check(rt: &(impl Abort + AllocGlobal), rows: &[Row]) -> Result<(), Fail> {
+fn check_rows(rt: &(impl Abort + AllocGlobal), rows: &[Row]) {
     for (pattern, text, settings, answer) in rows {
-        let pattern = Pattern::new(rt.alloc(), pattern)?;
+        let pattern = pattern_of(rt, rt.alloc(), pattern);
         for options in *settings {
-            check_match(rt, &pattern, text, *options, *answer)?;
+            check_match(rt, &pattern, text, *options, *answer);
         }
     }
-    Ok(())
 }
 
 #[test]
-fn case(rt: HostRuntime) -> Result<(), Fail> {
-    check(&rt, &CASES)
+fn case(rt: HostRuntime) {
+    check_rows(&rt, &CASES);
 }
 
 #[test]
-fn rules(rt: HostRuntime) -> Result<(), Fail> {
-    check(&rt, &RULES)
+fn rules(rt: HostRuntime) {
+    check_rows(&rt, &RULES);
+}
+
+/// The pattern gives this answer for the character, case-insensitively.
+fn check_letter(rt: &(impl Abort + AllocGlobal), pattern: &Pattern, letter: char, answer: bool) {
+    let text = made(rt, letter.to_string(rt.alloc()));
+    check_match(rt, pattern, text.as_str(), ANY_CASE, answer);
 }
 
 #[test]
-fn capital_letters_in_brackets(rt: HostRuntime) -> Result<(), Fail> {
+fn capital_letters_in_brackets(rt: HostRuntime) {
     for text in ["[a-z123]", "[1a-z23]", "[123a-z]"] {
-        let pattern = Pattern::new(rt.alloc(), text)?;
-        for c in 'A'..='Z' {
-            let letter = format!(in rt.alloc(); "{c}")?;
-            check_match(&rt, &pattern, letter.as_str(), ANY_CASE, true)?;
+        let pattern = pattern_of(&rt, rt.alloc(), text);
+        for letter in 'A'..='Z' {
+            check_letter(&rt, &pattern, letter, true);
         }
     }
-    Ok(())
 }
 
 #[test]
-fn brackets_without_case(rt: HostRuntime) -> Result<(), Fail> {
+fn brackets_without_case(rt: HostRuntime) {
     for (text, held) in BRACKETS {
-        let pattern = Pattern::new(rt.alloc(), text)?;
-        for c in TRIED.chars() {
-            let tried = format!(in rt.alloc(); "{c}")?;
-            check_match(&rt, &pattern, tried.as_str(), ANY_CASE, held.contains(c))?;
+        let pattern = pattern_of(&rt, rt.alloc(), text);
+        for letter in TRIED.chars() {
+            check_letter(&rt, &pattern, letter, held.contains(letter));
         }
     }
-    Ok(())
 }
 
 #[test]
 fn settings(rt: HostRuntime) {
-    assert_eq!(rt; MatchOptions::new(), CASE);
-    assert_eq!(rt; MatchOptions::default(), ANY_CASE);
+    check(&rt, MatchOptions::new() == CASE, "new");
+    check(&rt, MatchOptions::default() == ANY_CASE, "default");
     let dot_alone = MatchOptions {
         require_literal_leading_dot: true,
         ..ANY_CASE
@@ -194,6 +193,6 @@ fn settings(rt: HostRuntime) {
         require_literal_leading_dot: true,
         ..separator_alone
     };
-    assert!(rt; dot_alone < separator_alone);
-    assert!(rt; rules_alone < CASE);
+    check(&rt, dot_alone < separator_alone, "rules");
+    check(&rt, rules_alone < CASE, "case");
 }

@@ -1,9 +1,9 @@
 //! Patterns with plain characters at their end or inside, which are looked for in a text before the pattern is matched.
+use super::made::{check, counted, pattern_of, text};
 use super::options::check_match;
 use glob_pattern::{MatchOptions, Pattern};
-use glob_testing::texts::{Parts, text_of};
+use glob_testing::texts::Parts;
 use std::process::Abort;
-use std::test::Fail;
 
 /// A pattern, a text, and whether the pattern matches the text case-sensitively, and case-insensitively.
 type Row = (Parts<'static>, Parts<'static>, bool, bool);
@@ -132,78 +132,86 @@ const STRETCHES: [Row; 16] = [
     (&[("*[!config?]z*", 1)], &[("configz", 3)], false, false),
 ];
 
-/// The pattern matches the text so case-sensitively, and so case-insensitively.
-fn check(
-    rt: &(impl Abort + AllocGlobal),
-    pattern: &str,
+/// The pattern matches the text so under the options, also where questions are counted.
+fn check_options(
+    rt: &impl Abort,
+    pattern: &Pattern,
     text: &str,
-    with_case: bool,
-    without_case: bool,
-) -> Result<(), Fail> {
-    let pattern = Pattern::new(rt.alloc(), pattern)?;
-    for (case_sensitive, answer) in [(true, with_case), (false, without_case)] {
+    options: MatchOptions,
+    answer: bool,
+) {
+    check_match(rt, pattern, text, options, answer);
+    let (found, _) = counted(rt, pattern, text, options);
+    check(rt, found == answer, text);
+}
+
+/// The pattern matches the text so case-sensitively, and so case-insensitively.
+fn check_cases(rt: &impl Abort, pattern: &Pattern, text: &str, with_case: bool, without: bool) {
+    for (case_sensitive, answer) in [(true, with_case), (false, without)] {
         let options = MatchOptions {
             case_sensitive,
             ..MatchOptions::new()
         };
-        check_match(rt, &pattern, text, options, answer)?;
-        let (found, _) = pattern.matches_counted(text, options)?;
-        assert_eq!(rt; found, answer);
+        check_options(rt, pattern, text, options, answer);
     }
-    Ok(())
 }
 
-fn check_rows(rt: &(impl Abort + AllocGlobal), rows: &[Row]) -> Result<(), Fail> {
-    for (pattern, text, with_case, without_case) in rows {
-        let pattern = text_of(rt, pattern)?;
-        let text = text_of(rt, text)?;
-        check(
-            rt,
-            pattern.as_str(),
-            text.as_str(),
-            *with_case,
-            *without_case,
-        )?;
+fn check_rows(rt: &(impl Abort + AllocGlobal), rows: &[Row]) {
+    for (pattern, str, with_case, without) in rows {
+        let pattern = pattern_of(rt, rt.alloc(), text(rt, pattern).as_str());
+        check_cases(rt, &pattern, text(rt, str).as_str(), *with_case, *without);
     }
-    Ok(())
 }
 
 #[test]
-fn ends(rt: HostRuntime) -> Result<(), Fail> {
-    check_rows(&rt, &ENDS)
+fn ends(rt: HostRuntime) {
+    check_rows(&rt, &ENDS);
 }
 
 #[test]
-fn lengths(rt: HostRuntime) -> Result<(), Fail> {
-    check_rows(&rt, &LENGTHS)
+fn lengths(rt: HostRuntime) {
+    check_rows(&rt, &LENGTHS);
 }
 
 #[test]
-fn long_stretches(rt: HostRuntime) -> Result<(), Fail> {
-    check_rows(&rt, &STRETCHES)
+fn long_stretches(rt: HostRuntime) {
+    check_rows(&rt, &STRETCHES);
+}
+
+/// Words, and whether `*config*` matches a text that has one inside, case-sensitively and case-insensitively.
+const WORDS: [(&str, bool, bool); 6] = [
+    ("config", true, true),
+    ("CONFIG", false, true),
+    ("conFig", false, true),
+    ("confi_", false, false),
+    ("_onfig", false, false),
+    ("con_fi", false, false),
+];
+
+/// A text of so many bytes with the word after so many of them is matched so.
+fn check_word(
+    rt: &(impl Abort + AllocGlobal),
+    pattern: &Pattern,
+    (word, with_case, without): (&str, bool, bool),
+    before: usize,
+    size: usize,
+) {
+    let after = size.saturating_sub(before.saturating_add(6));
+    let text = text(rt, &[("c", before), (word, 1), ("F", after)]);
+    check(rt, text.len() == size, text.as_str());
+    check_cases(rt, pattern, text.as_str(), with_case, without);
 }
 
 /// The word at each place of a text whose other bytes are in it, in either case. A text of 15 bytes is matched at once,
 /// and a longer one is searched sixteen bytes at a time.
 #[test]
-fn words(rt: HostRuntime) -> Result<(), Fail> {
-    let words = [
-        ("config", true, true),
-        ("CONFIG", false, true),
-        ("conFig", false, true),
-        ("confi_", false, false),
-        ("_onfig", false, false),
-        ("con_fi", false, false),
-    ];
+fn words(rt: HostRuntime) {
+    let pattern = pattern_of(&rt, rt.alloc(), "*config*");
     for size in 15..=34usize {
-        for (word, with_case, without_case) in words {
+        for word in WORDS {
             for before in 0..=size - 6 {
-                let after = size - 6 - before;
-                let text = text_of(&rt, &[("c", before), (word, 1), ("F", after)])?;
-                assert_eq!(rt; text.len(), size);
-                check(&rt, "*config*", text.as_str(), with_case, without_case)?;
+                check_word(&rt, &pattern, word, before, size);
             }
         }
     }
-    Ok(())
 }

@@ -1,7 +1,9 @@
 //! What is printed of each public type, whole.
+use super::made::{check, made, pattern_of, text};
 use glob_pattern::{Pattern, PatternError, PatternRefusal};
-use glob_testing::texts::{prints_as, text_of};
-use std::test::Fail;
+use glob_testing::texts::prints_as;
+use std::fmt::Display;
+use std::process::Abort;
 
 /// Places with their digits, and messages.
 const FAULTS: [(usize, &str, &str); 6] = [
@@ -23,43 +25,46 @@ const FAULTS: [(usize, &str, &str); 6] = [
     ),
 ];
 
-#[test]
-fn faults(rt: HostRuntime) -> Result<(), Fail> {
-    for (pos, digits, msg) in FAULTS {
-        let mut line = String::from_str(rt.alloc(), "Pattern syntax error near position ")?;
-        line.push_str(digits)?;
-        line.push_str(": ")?;
-        line.push_str(msg)?;
-        assert!(rt; prints_as(&rt, &PatternError { pos, msg }, line.as_str())?);
-        let refusal = PatternRefusal::Syntax(PatternError { pos, msg });
-        assert!(rt; prints_as(&rt, &refusal, line.as_str())?);
-    }
-    assert!(rt; prints_as(&rt, &PatternRefusal::Memory, "out of memory")?);
-    Ok(())
+/// The value is printed as this text.
+fn check_printed<T: Display>(rt: &(impl Abort + AllocGlobal), value: &T, text: &str) {
+    check(rt, made(rt, prints_as(rt, value, text)), text);
 }
 
 #[test]
-fn patterns(rt: HostRuntime) -> Result<(), Fail> {
-    assert!(rt; prints_as(&rt, &Pattern::default(rt.alloc()), "")?);
+fn faults(rt: HostRuntime) {
+    for (pos, digits, msg) in FAULTS {
+        let before = "Pattern syntax error near position ";
+        let line = text(&rt, &[(before, 1), (digits, 1), (": ", 1), (msg, 1)]);
+        let error = PatternError { pos, msg };
+        check_printed(&rt, &error, line.as_str());
+        check_printed(&rt, &PatternRefusal::Syntax(error), line.as_str());
+    }
+    check_printed(&rt, &PatternRefusal::Memory, "out of memory");
+}
+
+#[test]
+fn patterns(rt: HostRuntime) {
+    check_printed(&rt, &Pattern::default(rt.alloc()), "");
     for unit in ["a", "[!\u{e9}-\u{20ac}]", "\u{10fffe}/**/?", "one/**/[!b]"] {
         for times in [1, 100, 10_000] {
-            let text = text_of(&rt, &[(unit, times)])?;
-            let pattern = Pattern::new(rt.alloc(), text.as_str())?;
-            assert!(rt; prints_as(&rt, &pattern, text.as_str())?);
+            let text = text(&rt, &[(unit, times)]);
+            let pattern = pattern_of(&rt, rt.alloc(), text.as_str());
+            check_printed(&rt, &pattern, text.as_str());
         }
     }
-    Ok(())
 }
 
 /// What is printed for the eyes of a programmer begins with the type, and has the text in quotes.
+fn check_debug(rt: &(impl Abort + AllocGlobal), pattern: &Pattern) {
+    let line = format!(in rt.alloc(); "{pattern:?}").expect(rt, "memory");
+    let quoted = text(rt, &[("\"", 1), (pattern.as_str(), 1), ("\"", 1)]);
+    check(rt, line.starts_with("Pattern"), line.as_str());
+    check(rt, line.contains(quoted.as_str()), line.as_str());
+}
+
 #[test]
-fn a_pattern_for_debugging(rt: HostRuntime) -> Result<(), Fail> {
+fn a_pattern_for_debugging(rt: HostRuntime) {
     for text in ["", "a", "src/**/[!a-c]?*.rs", "\u{e9}[x]"] {
-        let pattern = Pattern::new(rt.alloc(), text)?;
-        let line = format!(in rt.alloc(); "{pattern:?}")?;
-        let quoted = format!(in rt.alloc(); "\"{text}\"")?;
-        assert!(rt; line.starts_with("Pattern"), "{line}");
-        assert!(rt; line.contains(quoted.as_str()), "{line}");
+        check_debug(&rt, &pattern_of(&rt, rt.alloc(), text));
     }
-    Ok(())
 }

@@ -1,10 +1,9 @@
 //! Which questions `run_positions` asks, by judges that note each of them.
-use super::judges::{ROWS, Random, some_pairs, some_places};
+use super::judges::{ROWS, Random, check_shapes, some_pairs, some_places};
+use super::made::{add, made};
 use crate::judges::{Answers, TableJudge};
 use glob_pattern::{Judge, Shape, run_positions};
-use std::alloc::AllocError;
 use std::process::Abort;
-use std::test::Fail;
 
 /// Tokens that were asked at once: the number of characters stepped over, the number of a word of 63 tokens, and a bit
 /// for each of these.
@@ -82,15 +81,10 @@ impl<'a> Judge for WordJudge<'a> {
 }
 
 /// The notes are of as many questions as were counted, and no token was asked twice about a character.
-fn check_notes<R: Abort + AllocGlobal>(
-    rt: &R,
-    notes: &[Note],
-    asked: u128,
-    answers: Answers<'_>,
-) -> Result<(), AllocError> {
+fn check_notes(rt: &(impl Abort + AllocGlobal), notes: &[Note], asked: u128, answers: Answers<'_>) {
     let words = (answers.tokens / 63).saturating_add(1);
     let places = answers.characters.saturating_add(1);
-    let mut seen = vec![in rt.alloc(); 0u64; places.saturating_mul(words)]?;
+    let mut seen = vec![in rt.alloc(); 0u64; places.saturating_mul(words)].expect(rt, "memory");
     let mut questions = 0u128;
     for (place, word, bits) in notes.iter().copied() {
         let at = place.saturating_mul(words).saturating_add(word);
@@ -101,39 +95,51 @@ fn check_notes<R: Abort + AllocGlobal>(
         seen[at] |= bits;
         questions = questions.saturating_add(u128::from(bits.count_ones()));
     }
-    assert_eq!(rt; questions, asked, "{answers:?}");
-    Ok(())
+    check_shapes(rt, questions == asked, &[], answers);
+}
+
+/// What `run_positions` answers by a judge that is asked each token, and how many questions it was asked.
+fn by_token(
+    rt: &(impl Abort + AllocGlobal),
+    shapes: &[Shape],
+    answers: Answers<'_>,
+) -> (bool, u128) {
+    let mut judge = TokenJudge {
+        answers: TableJudge::new(answers),
+        notes: Vec::new(rt.alloc()),
+    };
+    let found = made(rt, run_positions(rt.alloc(), shapes, &mut judge));
+    check_notes(rt, judge.notes.as_slice(), judge.asked(), answers);
+    (found, judge.asked())
+}
+
+/// What `run_positions` answers by a judge that is asked whole words of tokens, and how many questions it was asked.
+fn by_word(
+    rt: &(impl Abort + AllocGlobal),
+    shapes: &[Shape],
+    answers: Answers<'_>,
+) -> (bool, u128) {
+    let mut judge = WordJudge {
+        answers: TableJudge::new(answers),
+        notes: Vec::new(rt.alloc()),
+    };
+    let found = made(rt, run_positions(rt.alloc(), shapes, &mut judge));
+    check_notes(rt, judge.notes.as_slice(), judge.asked(), answers);
+    (found, judge.asked())
 }
 
 /// What `run_positions` answers by both judges, of which each is asked the same number of questions.
-fn noted<R: Abort + AllocGlobal>(
-    rt: &R,
-    shapes: &[Shape],
-    answers: Answers<'_>,
-) -> Result<bool, AllocError> {
-    assert!(rt; shapes.len() <= answers.tokens);
-    let mut by_token = TokenJudge {
-        answers: TableJudge::new(answers),
-        notes: Vec::new(rt.alloc()),
-    };
-    let found = run_positions(rt.alloc(), shapes, &mut by_token)?;
-    check_notes(rt, by_token.notes.as_slice(), by_token.asked(), answers)?;
-    let mut by_word = WordJudge {
-        answers: TableJudge::new(answers),
-        notes: Vec::new(rt.alloc()),
-    };
-    assert_eq!(rt;
-        run_positions(rt.alloc(), shapes, &mut by_word)?,
-        found,
-        "{answers:?}"
-    );
-    check_notes(rt, by_word.notes.as_slice(), by_word.asked(), answers)?;
-    assert_eq!(rt; by_token.asked(), by_word.asked(), "{answers:?}");
-    Ok(found)
+fn noted(rt: &(impl Abort + AllocGlobal), shapes: &[Shape], answers: Answers<'_>) -> bool {
+    check_shapes(rt, shapes.len() <= answers.tokens, shapes, answers);
+    let (found, asked) = by_token(rt, shapes, answers);
+    let (found_too, asked_too) = by_word(rt, shapes, answers);
+    let is_same = found == found_too && asked == asked_too;
+    check_shapes(rt, is_same, shapes, answers);
+    found
 }
 
 #[test]
-fn rows_ask_no_token_twice(rt: HostRuntime) -> Result<(), Fail> {
+fn rows_ask_no_token_twice(rt: HostRuntime) {
     for (shapes, characters, opening, refused, answer) in ROWS {
         let answers = Answers {
             characters,
@@ -141,33 +147,30 @@ fn rows_ask_no_token_twice(rt: HostRuntime) -> Result<(), Fail> {
             opening,
             refused,
         };
-        assert_eq!(rt;
-            noted(&rt, shapes, answers)?,
-            answer,
-            "{shapes:?} on {answers:?}"
-        );
+        let is_right = noted(&rt, shapes, answers) == answer;
+        check_shapes(&rt, is_right, shapes, answers);
     }
-    Ok(())
 }
 
 /// So many shapes, of which about one in so many takes one character.
-fn some_shapes<R: AllocGlobal>(
-    rt: &R,
+fn some_shapes(
+    rt: &(impl Abort + AllocGlobal),
     random: &mut Random,
     length: usize,
     one_in: u64,
-) -> Result<Vec<Shape>, AllocError> {
+) -> Vec<Shape> {
     let mut shapes = Vec::new(rt.alloc());
     for _ in 0..length {
-        shapes.push(if random.once_in(one_in) {
+        let shape = if random.once_in(one_in) {
             Shape::One
         } else if random.once_in(2) {
             Shape::Run
         } else {
             Shape::Deep
-        })?;
+        };
+        add(rt, &mut shapes, shape);
     }
-    Ok(shapes)
+    shapes
 }
 
 /// How many shapes a table has, or up to three more: some of them fill one word of 63, or two.
@@ -176,25 +179,30 @@ const LENGTHS: [usize; 10] = [0, 1, 2, 4, 8, 30, 62, 70, 126, 140];
 /// Which shapes take one character: about one in so many.
 const ONES: [u64; 3] = [2, 20, 100];
 
+/// The answer on a random table of this number.
+fn noted_table(rt: &(impl Abort + AllocGlobal), random: &mut Random, number: usize) -> bool {
+    let length = LENGTHS[number % 10].saturating_add(number / 10 % 4);
+    let shapes = some_shapes(rt, random, length, ONES[number % 3]);
+    let characters = number % 7;
+    let opening = some_places(rt, random, characters);
+    let refused = some_pairs(rt, random, length, characters);
+    let answers = Answers {
+        characters,
+        tokens: length,
+        opening: opening.as_slice(),
+        refused: refused.as_slice(),
+    };
+    noted(rt, shapes.as_slice(), answers)
+}
+
 #[test]
-fn random_tables_ask_no_token_twice(rt: HostRuntime) -> Result<(), Fail> {
+fn random_tables_ask_no_token_twice(rt: HostRuntime) {
     let mut random = Random::new(0x9e37_79b9_7f4a_7c15);
     let mut yes = 0u64;
     for number in 0..1_000usize {
-        let length = LENGTHS[number % 10].saturating_add(number / 10 % 4);
-        let shapes = some_shapes(&rt, &mut random, length, ONES[number % 3])?;
-        let characters = number % 7;
-        let opening = some_places(&rt, &mut random, characters)?;
-        let refused = some_pairs(&rt, &mut random, length, characters)?;
-        let answers = Answers {
-            characters,
-            tokens: length,
-            opening: opening.as_slice(),
-            refused: refused.as_slice(),
-        };
-        yes = yes.saturating_add(u64::from(noted(&rt, shapes.as_slice(), answers)?));
+        let found = noted_table(&rt, &mut random, number);
+        yes = yes.saturating_add(u64::from(found));
     }
     // Neither answer is rare.
     assert!(rt; yes > 200 && yes < 800, "{yes}");
-    Ok(())
 }

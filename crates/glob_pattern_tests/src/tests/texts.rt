@@ -1,42 +1,45 @@
 //! Texts and patterns of a million characters.
+use super::made::{check, made, pattern_of, text};
 use glob_pattern::{Pattern, PatternRefusal};
-use glob_testing::texts::text_of;
-use std::test::Fail;
+use std::process::Abort;
 
 const MILLION: usize = 1_000_000;
 
 #[test]
-fn a_long_pattern_is_refused_at_its_first_fault(rt: HostRuntime) -> Result<(), Fail> {
-    let text = text_of(&rt, &[("[", 100_000)])?;
+fn a_long_pattern_is_refused_at_its_first_fault(rt: HostRuntime) {
+    let text = text(&rt, &[("[", 100_000)]);
     match Pattern::new(rt.alloc(), text.as_str()) {
-        Err(PatternRefusal::Syntax(error)) => assert_eq!(rt; error.pos, 0),
+        Err(PatternRefusal::Syntax(error)) => check(&rt, error.pos == 0, "the place"),
         _ => panic!(rt; "no fault is told"),
     }
-    Ok(())
+}
+
+/// The text so many times is a pattern that matches this one so.
+fn check_long(rt: &(impl Abort + AllocGlobal), unit: &str, times: usize, str: &str, answer: bool) {
+    let source = text(rt, &[(unit, times)]);
+    let pattern = pattern_of(rt, rt.alloc(), source.as_str());
+    check(rt, made(rt, pattern.matches(str)) == answer, unit);
 }
 
 #[test]
-fn a_long_text_is_matched(rt: HostRuntime) -> Result<(), Fail> {
-    let text = text_of(&rt, &[("a", MILLION)])?;
-    let pattern = Pattern::new(rt.alloc(), "*a")?;
-    assert!(rt; pattern.matches(text.as_str())?);
-    Ok(())
+fn a_long_text_is_matched(rt: HostRuntime) {
+    check_long(&rt, "*a", 1, text(&rt, &[("a", MILLION)]).as_str(), true);
 }
 
 #[test]
-fn a_long_pattern_is_read(rt: HostRuntime) -> Result<(), Fail> {
-    let text = text_of(&rt, &[("[b-y]", MILLION / 5)])?;
-    let pattern = Pattern::new(rt.alloc(), text.as_str())?;
-    assert!(rt; !pattern.matches("b")?);
-    Ok(())
+fn a_long_pattern_is_read(rt: HostRuntime) {
+    check_long(&rt, "[b-y]", MILLION / 5, "b", false);
 }
 
 #[test]
-fn a_long_pattern_is_matched_with_a_long_text(rt: HostRuntime) -> Result<(), Fail> {
-    let text = text_of(&rt, &[("a", MILLION)])?;
-    let pattern = Pattern::new(rt.alloc(), text.as_str())?;
-    assert!(rt; pattern.matches(text.as_str())?);
-    let shorter = text_of(&rt, &[("a", MILLION - 1)])?;
-    assert!(rt; !pattern.matches(shorter.as_str())?);
-    Ok(())
+fn a_long_pattern_is_matched_with_a_long_text(rt: HostRuntime) {
+    check_long(
+        &rt,
+        "a",
+        MILLION,
+        text(&rt, &[("a", MILLION)]).as_str(),
+        true,
+    );
+    let shorter = text(&rt, &[("a", MILLION - 1)]);
+    check_long(&rt, "a", MILLION, shorter.as_str(), false);
 }
