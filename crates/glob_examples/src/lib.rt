@@ -9,6 +9,4 @@ pub mod literals;
 pub mod one_file;
 pub mod router;
 pub mod sources;
-#[cfg(test)]
-mod tests;
 pub mod texts;

@@ -16,7 +16,5 @@
 
 mod judge;
 mod pattern;
-#[cfg(test)]
-mod tests;
 
 pub use pattern::PathPattern;

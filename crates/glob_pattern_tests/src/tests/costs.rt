@@ -15,17 +15,8 @@ fn the_empty_pattern_needs_no_memory(rt: HostRuntime) {
     check(&rt, pattern == other && !(pattern < other), "equality");
     check(&rt, pattern.as_str().is_empty(), "the text");
     pattern.hash(&mut DefaultHasher::new());
-    let options = MatchOptions::new();
-    check(
-        &rt,
-        is_matched(&rt, &pattern, "", options),
-        "the empty text",
-    );
-    check(
-        &rt,
-        !is_matched(&rt, &pattern, "a", options),
-        "another text",
-    );
+    check(&rt, made(&rt, pattern.matches("")), "the empty text");
+    check(&rt, !made(&rt, pattern.matches("a")), "another text");
     made(&rt, pattern.clone());
     check(&rt, counted.ration.asked() == 0, "requests");
 }

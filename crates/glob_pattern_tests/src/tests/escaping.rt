@@ -1,5 +1,5 @@
 //! Texts written as patterns, and patterns copied and compared.
-use super::made::{add, check, is_matched, made, pattern_of, text};
+use super::made::{add, check, made, pattern_of, text};
 use glob_pattern::{MatchOptions, Pattern};
 use std::hash::{DefaultHasher, Hash, Hasher};
 use std::path::Path;
@@ -19,11 +19,7 @@ fn check_escaped(rt: &(impl AllocGlobal + Abort), text: &str, escaped: &str) {
     let answer = made(rt, Pattern::escape(rt.alloc(), text));
     check(rt, answer.as_str() == escaped, text);
     let pattern = pattern_of(rt, rt.alloc(), escaped);
-    check(
-        rt,
-        is_matched(rt, &pattern, text, MatchOptions::new()),
-        text,
-    );
+    check(rt, made(rt, pattern.matches(text)), text);
 }
 
 #[test]
@@ -54,7 +50,7 @@ fn check_alone(rt: &(impl AllocGlobal + Abort), escaped_text: &str, texts: &[Str
     let escaped = made(rt, Pattern::escape(rt.alloc(), escaped_text));
     let pattern = pattern_of(rt, rt.alloc(), escaped.as_str());
     for other in texts {
-        let found = is_matched(rt, &pattern, other.as_str(), MatchOptions::new());
+        let found = made(rt, pattern.matches(other.as_str()));
         let is_same = escaped_text == other.as_str();
         assert!(rt; found == is_same, "{pattern} on {other}");
     }

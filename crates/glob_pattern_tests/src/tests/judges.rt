@@ -6,7 +6,7 @@ use std::process::Abort;
 
 /// What `run_positions` answers, where the bounds on its asks hold.
 fn decided(rt: &(impl Abort + AllocGlobal), shapes: &[Shape], answers: Answers<'_>) -> bool {
-    check(rt, shapes.len() <= answers.tokens, "too few tokens");
+    assert!(rt; shapes.len() <= answers.tokens);
     let mut judge = TableJudge::new(answers);
     let found = made(rt, run_positions(rt.alloc(), shapes, &mut judge));
     let characters = answers.characters as u128;
@@ -206,14 +206,16 @@ fn compare_tables(rt: &(impl Abort + AllocGlobal), random: &mut Random, shapes: 
 #[test]
 fn random_tables(rt: HostRuntime) {
     let mut random = Random::new(88_172_645_463_325_252);
-    let mut yes = 0u64;
+    let (mut lists, mut yes) = (0u64, 0u64);
     for (length, count) in [(0, 1), (1, 3), (2, 9), (3, 27), (4, 81)] {
         for number in 0..count {
+            lists = lists.saturating_add(1);
             let shapes = listed(&rt, length, number);
             let found = compare_tables(&rt, &mut random, shapes.as_slice());
             yes = yes.saturating_add(found);
         }
     }
+    check(&rt, lists == 121, "the number of lists");
     // Neither answer is rare among the 60,500 tables.
     assert!(rt; yes > 10_000 && yes < 50_000, "{yes}");
 }

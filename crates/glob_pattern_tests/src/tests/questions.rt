@@ -104,6 +104,7 @@ fn by_token(
     shapes: &[Shape],
     answers: Answers<'_>,
 ) -> (bool, u128) {
+    assert!(rt; shapes.len() <= answers.tokens);
     let mut judge = TokenJudge {
         answers: TableJudge::new(answers),
         notes: Vec::new(rt.alloc()),
@@ -119,6 +120,7 @@ fn by_word(
     shapes: &[Shape],
     answers: Answers<'_>,
 ) -> (bool, u128) {
+    assert!(rt; shapes.len() <= answers.tokens);
     let mut judge = WordJudge {
         answers: TableJudge::new(answers),
         notes: Vec::new(rt.alloc()),
@@ -130,7 +132,6 @@ fn by_word(
 
 /// What `run_positions` answers by both judges, of which each is asked the same number of questions.
 fn noted(rt: &(impl Abort + AllocGlobal), shapes: &[Shape], answers: Answers<'_>) -> bool {
-    check_shapes(rt, shapes.len() <= answers.tokens, shapes, answers);
     let (found, asked) = by_token(rt, shapes, answers);
     let (found_too, asked_too) = by_word(rt, shapes, answers);
     let is_same = found == found_too && asked == asked_too;

@@ -217,8 +217,7 @@ fn check_escaped(rt: &(impl Abort + AllocGlobal), part: &str, size: usize, each:
     check(rt, escaped.len() == size.saturating_mul(each), part);
     let pattern = pattern_of(rt, rt.alloc(), escaped.as_str());
     let is_square = SQUARE < size && !part.is_ascii();
-    let options = MatchOptions::new();
-    let is_right = is_square || is_matched(rt, &pattern, str.as_str(), options);
+    let is_right = is_square || made(rt, pattern.matches(str.as_str()));
     check(rt, is_right, part);
 }
 

@@ -1,0 +1,3 @@
+mod callers;
+mod names;
+mod readme;
