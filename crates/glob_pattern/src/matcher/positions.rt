@@ -167,7 +167,13 @@ fn answer_to_keep(word: ShapeWord, alone: bool, old: u64, took: u64, opens: bool
 /// Sets the words to the position set after the characters of the first `start` shapes, which took one each: as if the
 /// last of them had just taken its character.
 #[inline(always)]
-fn set_start<T: Shaped>(tokens: &[T], words: &[ShapeWord], start: usize, opens: bool, alive: &mut [u64])
+fn set_start<T: Shaped>(
+    tokens: &[T],
+    words: &[ShapeWord],
+    start: usize,
+    opens: bool,
+    alive: &mut [u64],
+)
     requires words { AreShapeWords (map T.shape tokens.now) words.now }
     requires length { length alive.old ≡ length words.now }
     ensures length { length alive.new ≡ length alive.old }
