@@ -4,20 +4,29 @@ use crate::judges::{Answers, TableJudge};
 use glob_pattern::{MatchOptions, Pattern, Shape, run_positions};
 use glob_testing::rationing::Rationed;
 use glob_testing::texts::Parts;
+use std::alloc::Allocator;
 use std::hash::{DefaultHasher, Hash};
 use std::process::Abort;
+
+/// Both are empty patterns.
+fn check_empty<A: Allocator + Copy>(rt: &impl Abort, pattern: &Pattern<A>, other: &Pattern<A>) {
+    check(rt, pattern == other, "equality");
+    check(rt, !(pattern < other), "order");
+    check(rt, pattern.as_str().is_empty(), "the text");
+    pattern.hash(&mut DefaultHasher::new());
+    check(rt, made(rt, pattern.matches("")), "the empty text");
+    check(rt, !made(rt, pattern.matches("a")), "another text");
+    drop(made(rt, pattern.clone()));
+}
 
 #[test]
 fn the_empty_pattern_needs_no_memory(rt: HostRuntime) {
     let counted = Rationed::refusing(0, rt.alloc());
-    let pattern = Pattern::default(&counted);
-    let other = Pattern::default(&counted);
-    check(&rt, pattern == other && !(pattern < other), "equality");
-    check(&rt, pattern.as_str().is_empty(), "the text");
-    pattern.hash(&mut DefaultHasher::new());
-    check(&rt, made(&rt, pattern.matches("")), "the empty text");
-    check(&rt, !made(&rt, pattern.matches("a")), "another text");
-    made(&rt, pattern.clone());
+    check_empty(
+        &rt,
+        &Pattern::default(&counted),
+        &Pattern::default(&counted),
+    );
     check(&rt, counted.ration.asked() == 0, "requests");
 }
 
