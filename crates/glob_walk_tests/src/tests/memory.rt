@@ -3,6 +3,7 @@ use super::checks::{check_ended, gather, next_of, start};
 use super::contents::{Kind, plant};
 use super::items::Item::{self, Memory, Unread};
 use super::items::{item_of, read_items};
+use super::made::{check_number, made};
 use super::reference::Job;
 use crate::trees::{LyingTree, Ready, Unreadable};
 use glob::{End, GlobResult, MemTree, Paths, PatternRefusal, Tree, TreeRefusal};
@@ -10,39 +11,31 @@ use glob_testing::rationing::{Ration, Rationed};
 use std::alloc::{Allocator, Global};
 use std::io::{self, ErrorKind};
 use std::process::Abort;
-use std::test::Fail;
 
 const FILES: u32 = 1_000;
 
 /// The first item of a walk over a thousand files is the first of them. Gives how many requests for memory were made
 /// before the walk.
-fn check_first<A: Allocator + Copy>(
-    rt: &impl Abort,
-    alloc: A,
-    ration: &Ration,
-) -> Result<u64, PatternRefusal> {
-    let Ok(ready) = Ready::files(alloc, FILES) else {
-        return Err(PatternRefusal::Memory);
-    };
+fn check_first<A: Allocator + Copy>(rt: &impl Abort, alloc: A, ration: &Ration) -> u64 {
+    let ready = made(rt, Ready::files(alloc, FILES));
     let before = ration.asked();
-    let mut paths = start(alloc, LyingTree::new(ready), Job::of("*"))?;
+    let mut paths = made(rt, start(alloc, LyingTree::new(ready), Job::of("*")));
     match next_of(&mut paths) {
-        Some(Ok(path)) => assert_eq!(rt; path.as_str(), "00000"),
+        Some(Ok(path)) => assert!(rt; path.as_str() == "00000"),
         _ => panic!(rt; "no path is given"),
     }
-    Ok(before)
+    before
 }
 
 #[test]
-fn a_thousand_files_take_few_requests(rt: HostRuntime) -> Result<(), Fail> {
+fn a_thousand_files_take_few_requests(rt: HostRuntime) {
     let ample = Rationed::refusing(0, rt.alloc());
-    let before = check_first(&rt, &ample, &ample.ration)?;
+    let before = check_first(&rt, &ample, &ample.ration);
     assert!(rt; before > u64::from(FILES));
 
     let scarce = Rationed::refusing(before.saturating_add(501), rt.alloc());
-    check_first(&rt, &scarce, &scarce.ration)?;
+    check_first(&rt, &scarce, &scarce.ration);
     assert!(rt; scarce.ration.asked() <= before.saturating_add(500));
-    Ok(())
 }
 
 const KEYS: [(&str, Kind); 6] = [
@@ -59,10 +52,18 @@ pub(super) fn small_tree<A: Allocator + Copy>(alloc: A) -> Result<MemTree<A>, Tr
     let Ok(mut tree) = MemTree::new(alloc) else {
         return Err(TreeRefusal::Memory);
     };
-    for (path, kind) in KEYS {
-        plant(&mut tree, path, kind)?;
+    match plant_all(&mut tree) {
+        Ok(()) => Ok(tree),
+        Err(refusal) => Err(refusal),
     }
-    Ok(tree)
+}
+
+/// Adds the few files to a tree.
+fn plant_all<A: Allocator + Copy>(tree: &mut MemTree<A>) -> Result<(), TreeRefusal> {
+    for (path, kind) in KEYS {
+        plant(tree, path, kind)?;
+    }
+    Ok(())
 }
 
 /// Patterns, and the items of a walk after each in that tree. The last has more than 63 tokens.
@@ -172,7 +173,7 @@ fn walks(
     } else {
         gathers(rt, alloc, pattern, known)
     };
-    assert_eq!(rt; alloc.ration.held(), 0);
+    assert!(rt; alloc.ration.held() == 0);
     sufficed
 }
 
@@ -203,15 +204,14 @@ fn check_walks(
 }
 
 #[test]
-fn each_request_of_a_walk_is_refused(rt: HostRuntime) -> Result<(), Fail> {
+fn each_request_of_a_walk_is_refused(rt: HostRuntime) {
     for (pattern, words) in WALKS {
-        let known = read_items(rt.alloc(), words, ErrorKind::PermissionDenied)?;
+        let known = read_items(&rt, words, ErrorKind::PermissionDenied);
         for by_steps in [true, false] {
             let short = check_walks(&rt, pattern, known.as_slice(), by_steps);
-            assert!(rt; short > 2, "{short} for {pattern}");
+            check_number(&rt, short > 2, u64::from(short), pattern);
         }
     }
-    Ok(())
 }
 
 /// A walk to its end within a limit: once it is over it holds what it held before its first item, without the path at
@@ -236,46 +236,49 @@ fn check_kept(
             break;
         }
     }
-    assert_eq!(rt;
-        alloc.ration.held().saturating_add(1),
-        before,
-        "{limit} for {pattern}"
-    );
+    let kept = alloc.ration.held().saturating_add(1);
+    check_number(rt, kept == before, limit, pattern);
     Ok(())
 }
 
 /// A walk that is over keeps its tree and its pattern alone, also where a refusal came amid directories.
 #[test]
-fn a_walk_that_is_over_keeps_no_directory(rt: HostRuntime) -> Result<(), Fail> {
+fn a_walk_that_is_over_keeps_no_directory(rt: HostRuntime) {
     let mut started = 0u32;
     for (pattern, _) in WALKS {
         let ample = Rationed::refusing(0, rt.alloc());
         for limit in 0..=20 {
-            check_kept(&rt, &ample, pattern, limit)?;
+            made(&rt, check_kept(&rt, &ample, pattern, limit));
         }
-        let whole = Rationed::refusing(0, rt.alloc());
-        check_kept(&rt, &whole, pattern, u64::MAX)?;
-        for number in requests_of_tree(&rt)..=whole.ration.asked() {
-            let scarce = Rationed::refusing(number, rt.alloc());
-            if check_kept(&rt, &scarce, pattern, u64::MAX).is_ok() {
-                started = started.saturating_add(1);
-            }
-        }
+        started = started.saturating_add(check_scarce(&rt, pattern));
     }
     assert!(rt; started > 30, "{started}");
-    Ok(())
+}
+
+/// The same where each request for memory of the walk is refused in turn. Gives how often it started.
+fn check_scarce(rt: &(impl Abort + AllocGlobal), pattern: &str) -> u32 {
+    let whole = Rationed::refusing(0, rt.alloc());
+    made(rt, check_kept(rt, &whole, pattern, u64::MAX));
+    let mut started = 0u32;
+    for number in requests_of_tree(rt)..=whole.ration.asked() {
+        let scarce = Rationed::refusing(number, rt.alloc());
+        if check_kept(rt, &scarce, pattern, u64::MAX).is_ok() {
+            started = started.saturating_add(1);
+        }
+    }
+    started
 }
 
 /// An error's calls, and those that tell how far a walk is, make no request. Neither does a walk that has ended.
 #[test]
-fn what_needs_no_memory(rt: HostRuntime) -> Result<(), Fail> {
+fn what_needs_no_memory(rt: HostRuntime) {
     let counted = Rationed::refusing(0, rt.alloc());
     let error = io::Error::new(ErrorKind::InvalidData, "words");
     let tree = LyingTree::new(Unreadable {
         alloc: &counted,
         error,
     });
-    let mut paths = start(&counted, tree, Job::of("some/path/*"))?;
+    let mut paths = made(&rt, start(&counted, tree, Job::of("some/path/*")));
     let Some(Err(found)) = next_of(&mut paths) else {
         panic!(rt; "no error");
     };
@@ -283,8 +286,7 @@ fn what_needs_no_memory(rt: HostRuntime) -> Result<(), Fail> {
     assert!(rt; item_of(&Err(found)) == Unread("some/path", ErrorKind::InvalidData));
     assert!(rt; next_of(&mut paths).is_none());
     check_ended(&rt, &mut paths, u64::MAX, 1);
-    assert_eq!(rt; counted.ration.asked(), requests);
+    assert!(rt; counted.ration.asked() == requests);
     drop(paths);
-    assert_eq!(rt; counted.ration.held(), 0);
-    Ok(())
+    assert!(rt; counted.ration.held() == 0);
 }

@@ -5,11 +5,13 @@
 ghost use Rattle.std.specs.Prelude.{◌<◌, IfOk};
 
 use super::items::Item;
+use super::made::push;
 use glob::{
     Entry, ListError, Look, MatchOptions, MemTree, Pattern, PatternError, PatternRefusal, Tree,
 };
 use std::alloc::{AllocError, Global};
 use std::io::ErrorKind;
+use std::process::Abort;
 
 /// A pattern, with what a walk after it needs to know.
 #[derive(Clone, Copy)]
@@ -25,6 +27,17 @@ enum Given {
     Path(String),
     Unread(String, ErrorKind),
     Limit(String),
+}
+
+impl Given {
+    /// The item itself.
+    fn item(&self) -> Item<'_> {
+        match self {
+            Given::Path(path) => Item::Path(path.as_str()),
+            Given::Unread(path, kind) => Item::Unread(path.as_str(), *kind),
+            Given::Limit(path) => Item::Limit(path.as_str()),
+        }
+    }
 }
 
 /// Why a walk is not gone on with.
@@ -64,16 +77,12 @@ pub(super) struct Walked {
 
 impl Walked {
     /// Its items, the refusal at a limit too.
-    pub(super) fn items(&self, alloc: Global) -> Result<Vec<Item<'_>>, AllocError> {
-        let mut items = Vec::new(alloc);
+    pub(super) fn items(&self, rt: &(impl Abort + AllocGlobal)) -> Vec<Item<'_>> {
+        let mut items = Vec::new(rt.alloc());
         for given in &self.given {
-            items.push(match given {
-                Given::Path(path) => Item::Path(path.as_str()),
-                Given::Unread(path, kind) => Item::Unread(path.as_str(), *kind),
-                Given::Limit(path) => Item::Limit(path.as_str()),
-            })?;
+            push(rt, &mut items, given.item());
         }
-        Ok(items)
+        items
     }
 }
 
