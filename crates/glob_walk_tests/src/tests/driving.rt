@@ -4,7 +4,7 @@ ghost use Rattle.std.specs.Prelude.{◌≡◌, None};
 use super::chance::{Random, some_options, some_pattern, some_tree};
 use super::checks::{CASE, check_spent, one_by_one};
 use super::contents::{Content, at_root, tree_of};
-use super::items::{Item, are, item_of, items_of, read_items};
+use super::items::{Item, are, begins, item_of, items_of, read_items};
 use super::made::{check_number, check_row, made};
 use super::memory::{WALKS, small_tree};
 use super::random::COMPONENTS;
@@ -157,7 +157,7 @@ fn check_half(
 ) {
     let (stopped, _) = drive_most(rt, &mut tree_of(rt, content), job, most);
     let first = items_of(rt, stopped.items.as_slice());
-    check_row(rt, known.starts_with(first.as_slice()), job.pattern);
+    check_row(rt, begins(known, first.as_slice()), job.pattern);
 }
 
 /// Random walks, each within each limit up to some.

@@ -76,3 +76,11 @@ pub(super) fn read_items<'a>(
 pub(super) fn are(found: &[Item<'_>], expected: &[Item<'_>]) -> bool {
     found == expected
 }
+
+/// Whether the items begin with these.
+pub(super) fn begins(items: &[Item<'_>], first: &[Item<'_>]) -> bool {
+    match items.get(..first.len()) {
+        Some(beginning) => are(beginning, first),
+        None => false,
+    }
+}

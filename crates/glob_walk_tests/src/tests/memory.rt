@@ -60,8 +60,8 @@ pub(super) fn small_tree<A: Allocator + Copy>(alloc: A) -> Result<MemTree<A>, Tr
 
 /// Adds the few files to a tree.
 fn plant_all<A: Allocator + Copy>(tree: &mut MemTree<A>) -> Result<(), TreeRefusal> {
-    for (path, kind) in KEYS {
-        plant(tree, path, kind)?;
+    for (path, kind) in &KEYS {
+        plant(tree, path, *kind)?;
     }
     Ok(())
 }
