@@ -1,5 +1,5 @@
 //! What looks random, and is the same in each run.
-use super::contents::{Content, Key, Kind};
+use super::contents::{Content, Key, Kind, path_below};
 use super::made::{joined, made, push};
 use glob::{MatchOptions, MemTree, TreeRefusal};
 use std::process::Abort;
@@ -72,7 +72,7 @@ fn some_key(
 ) -> Key {
     let directory = random.directory(keys);
     let name = random.text(&NAMES);
-    let path = joined(rt, &[directory, "/", name]);
+    let path = path_below(rt, directory, name);
     let kind = some_kind(random, shut_in);
     Key { path, kind }
 }

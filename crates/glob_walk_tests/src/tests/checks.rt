@@ -77,6 +77,14 @@ pub(super) fn next_of<T: Tree>(paths: &mut Paths<T>) -> Option<GlobResult<T::All
     paths.next()
 }
 
+/// The next item of a walk is this path.
+pub(super) fn check_next<T: Tree>(rt: &impl Abort, paths: &mut Paths<T>, wanted: &str) {
+    match next_of(paths) {
+        Some(Ok(path)) => check_row(rt, path.as_str() == wanted, wanted),
+        _ => panic!(rt; "{wanted} is not found"),
+    }
+}
+
 /// All items of a walk.
 pub(super) fn gather<T: Tree>(
     alloc: T::Alloc,

@@ -31,7 +31,7 @@ impl Key {
         } else {
             (word, Kind::Other)
         };
-        let path = joined(rt, &[below, "/", names]);
+        let path = path_below(rt, below, names);
         Key { path, kind }
     }
 
@@ -49,6 +49,11 @@ impl Key {
     pub(super) fn add_to(&self, tree: &mut MemTree) -> Result<(), TreeRefusal> {
         plant(tree, self.path.as_str(), self.kind)
     }
+}
+
+/// The path of names below a directory.
+pub(super) fn path_below(rt: &(impl Abort + AllocGlobal), directory: &str, names: &str) -> String {
+    joined(rt, &[directory, "/", names])
 }
 
 /// Adds a key to a tree.

@@ -4,7 +4,7 @@ ghost use Rattle.std.specs.Prelude.{◌≡◌, None};
 use super::chance::{Random, some_options, some_pattern, some_tree};
 use super::checks::{CASE, check_spent, one_by_one};
 use super::contents::{Content, at_root, tree_of};
-use super::items::{Item, are, begins, item_of, items_of, read_items};
+use super::items::{Item, are, begins, check_item, items_of, read_items};
 use super::made::{check_number, check_row, made};
 use super::memory::{WALKS, small_tree};
 use super::random::COMPONENTS;
@@ -284,10 +284,7 @@ fn drives<A: Allocator + Copy>(
     let mut sufficed = true;
     for item in driven.items.iter() {
         assert!(rt; sufficed);
-        match item_of(item) {
-            Item::Memory => sufficed = false,
-            item => assert!(rt; known.get(place) == Some(&item)),
-        }
+        sufficed = check_item(rt, item, known, place);
         place = place.saturating_add(1);
     }
     assert!(rt; !sufficed || place == known.len());

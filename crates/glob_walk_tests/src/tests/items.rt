@@ -77,6 +77,22 @@ pub(super) fn are(found: &[Item<'_>], expected: &[Item<'_>]) -> bool {
     found == expected
 }
 
+/// The item at this place was given, or memory ran out in its place. Gives whether memory sufficed.
+pub(super) fn check_item<A: Allocator>(
+    rt: &impl Abort,
+    given: &GlobResult<A>,
+    known: &[Item<'_>],
+    place: usize,
+) -> bool {
+    match item_of(given) {
+        Memory => false,
+        item => {
+            assert!(rt; known.get(place) == Some(&item));
+            true
+        }
+    }
+}
+
 /// Whether the items begin with these.
 pub(super) fn begins(items: &[Item<'_>], first: &[Item<'_>]) -> bool {
     match items.get(..first.len()) {

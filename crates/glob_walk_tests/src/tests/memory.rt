@@ -1,12 +1,12 @@
 //! Each request for memory refused in turn: the answer is out of memory, or the one with ample memory.
-use super::checks::{check_ended, gather, next_of, start};
+use super::checks::{check_ended, check_next, gather, next_of, start};
 use super::contents::{Kind, plant};
-use super::items::Item::{self, Memory, Unread};
-use super::items::{item_of, read_items};
+use super::items::Item::{self, Unread};
+use super::items::{begins, check_item, item_of, items_of, read_items};
 use super::made::{check_number, made};
 use super::reference::Job;
 use crate::trees::{LyingTree, Ready, Unreadable};
-use glob::{End, GlobResult, MemTree, Paths, PatternRefusal, Tree, TreeRefusal};
+use glob::{End, MemTree, Paths, PatternRefusal, Tree, TreeRefusal};
 use glob_testing::rationing::{Ration, Rationed};
 use std::alloc::{Allocator, Global};
 use std::io::{self, ErrorKind};
@@ -20,10 +20,7 @@ fn check_first<A: Allocator + Copy>(rt: &impl Abort, alloc: A, ration: &Ration) 
     let ready = made(rt, Ready::files(alloc, FILES));
     let before = ration.asked();
     let mut paths = made(rt, start(alloc, LyingTree::new(ready), Job::of("*")));
-    match next_of(&mut paths) {
-        Some(Ok(path)) => assert!(rt; path.as_str() == "00000"),
-        _ => panic!(rt; "no path is given"),
-    }
+    check_next(rt, &mut paths, "00000");
     before
 }
 
@@ -83,21 +80,9 @@ pub(super) const WALKS: [(&str, &str); 10] = [
     ),
 ];
 
-/// Whether the items that were given are the first of those that are known.
-fn is_beginning<A: Allocator>(given: &[GlobResult<A>], known: &[Item<'_>]) -> bool {
-    let mut place = 0usize;
-    for item in given {
-        if known.get(place) != Some(&item_of(item)) {
-            return false;
-        }
-        place = place.saturating_add(1);
-    }
-    true
-}
-
 /// Walks with memory from `alloc` by `walk_in`, and gives whether memory sufficed.
 fn gathers<A: Allocator + Copy>(
-    rt: &impl Abort,
+    rt: &(impl Abort + AllocGlobal),
     alloc: A,
     pattern: &str,
     known: &[Item<'_>],
@@ -111,7 +96,8 @@ fn gathers<A: Allocator + Copy>(
             false
         }
         Ok(walk) => {
-            assert!(rt; is_beginning(walk.items.as_slice(), known));
+            let items = items_of(rt, walk.items.as_slice());
+            assert!(rt; begins(known, items.as_slice()));
             let is_done = walk.end == End::Done;
             assert!(rt; is_done || walk.end == End::Memory);
             assert!(rt; !is_done || walk.items.len() == known.len());
@@ -130,10 +116,7 @@ fn check_steps<T: Tree>(rt: &impl Abort, paths: &mut Paths<T>, known: &[Item<'_>
             break;
         };
         assert!(rt; sufficed);
-        match item_of(&given) {
-            Memory => sufficed = false,
-            item => assert!(rt; known.get(place) == Some(&item)),
-        }
+        sufficed = check_item(rt, &given, known, place);
         place = place.saturating_add(1);
     }
     assert!(rt; !sufficed || place == known.len());
@@ -162,7 +145,7 @@ fn steps<A: Allocator + Copy>(
 
 /// Walks in one of both ways, and gives whether memory sufficed. All blocks are given back.
 fn walks(
-    rt: &impl Abort,
+    rt: &(impl Abort + AllocGlobal),
     alloc: &Rationed<Global>,
     pattern: &str,
     known: &[Item<'_>],
@@ -179,9 +162,9 @@ fn walks(
 
 /// How many requests for memory the tree makes.
 fn requests_of_tree(rt: &(impl Abort + AllocGlobal)) -> u64 {
-    let made = Rationed::refusing(0, rt.alloc());
-    assert!(rt; small_tree(&made).is_ok());
-    made.ration.asked()
+    let counted = Rationed::refusing(0, rt.alloc());
+    made(rt, small_tree(&counted));
+    counted.ration.asked()
 }
 
 /// Refuses each request for memory of a walk in turn. Gives how often memory did not suffice.
@@ -215,30 +198,28 @@ fn each_request_of_a_walk_is_refused(rt: HostRuntime) {
 }
 
 /// A walk to its end within a limit: once it is over it holds what it held before its first item, without the path at
-/// which it starts. Its items are dropped.
-fn check_kept(
-    rt: &impl Abort,
-    alloc: &Rationed<Global>,
-    pattern: &str,
-    limit: u64,
-) -> Result<(), PatternRefusal> {
+/// which it starts. Gives whether memory sufficed to start it.
+fn check_kept(rt: &impl Abort, alloc: &Rationed<Global>, pattern: &str, limit: u64) -> bool {
     let Ok(tree) = small_tree(alloc) else {
-        return Err(PatternRefusal::Memory);
+        return false;
     };
-    let job = Job {
-        limit,
-        ..Job::of(pattern)
+    let Ok(mut paths) = start(alloc, tree, Job::of(pattern).within(limit)) else {
+        return false;
     };
-    let mut paths = start(alloc, tree, job)?;
     let before = alloc.ration.held();
+    walk_over(&mut paths);
+    let kept = alloc.ration.held().saturating_add(1);
+    check_number(rt, kept == before, limit, pattern);
+    true
+}
+
+/// Walks to the end, and drops the items.
+fn walk_over<T: Tree>(paths: &mut Paths<T>) {
     for _ in 0..u64::MAX {
-        if next_of(&mut paths).is_none() {
+        if next_of(paths).is_none() {
             break;
         }
     }
-    let kept = alloc.ration.held().saturating_add(1);
-    check_number(rt, kept == before, limit, pattern);
-    Ok(())
 }
 
 /// A walk that is over keeps its tree and its pattern alone, also where a refusal came amid directories.
@@ -248,7 +229,7 @@ fn a_walk_that_is_over_keeps_no_directory(rt: HostRuntime) {
     for (pattern, _) in WALKS {
         let ample = Rationed::refusing(0, rt.alloc());
         for limit in 0..=20 {
-            made(&rt, check_kept(&rt, &ample, pattern, limit));
+            check_number(&rt, check_kept(&rt, &ample, pattern, limit), limit, pattern);
         }
         started = started.saturating_add(check_scarce(&rt, pattern));
     }
@@ -258,11 +239,11 @@ fn a_walk_that_is_over_keeps_no_directory(rt: HostRuntime) {
 /// The same where each request for memory of the walk is refused in turn. Gives how often it started.
 fn check_scarce(rt: &(impl Abort + AllocGlobal), pattern: &str) -> u32 {
     let whole = Rationed::refusing(0, rt.alloc());
-    made(rt, check_kept(rt, &whole, pattern, u64::MAX));
+    assert!(rt; check_kept(rt, &whole, pattern, u64::MAX));
     let mut started = 0u32;
     for number in requests_of_tree(rt)..=whole.ration.asked() {
         let scarce = Rationed::refusing(number, rt.alloc());
-        if check_kept(rt, &scarce, pattern, u64::MAX).is_ok() {
+        if check_kept(rt, &scarce, pattern, u64::MAX) {
             started = started.saturating_add(1);
         }
     }

@@ -1,11 +1,11 @@
 //! Walks at many sizes and over characters of each length. Memory is ample, so each of them is done.
-use super::checks::{at_once, check_over, check_spent, next_of, one_by_one, start};
+use super::checks::{at_once, check_next, check_over, check_spent, next_of, one_by_one, start};
 use super::items::Item::Path;
 use super::lying::repeated;
-use super::made::{check_row, joined, made, text_of};
+use super::made::{joined, made, text_of};
 use super::reference::Job;
 use crate::trees::{Endless, LyingTree, Ready};
-use glob::{End, MatchOptions, MemTree, Paths, Tree};
+use glob::{End, MatchOptions, MemTree, Tree};
 use glob_testing::sizes::{CHARACTERS, sizes_to};
 use std::alloc::Global;
 use std::process::Abort;
@@ -120,14 +120,6 @@ fn comb(rt: &(impl Abort + AllocGlobal)) -> MemTree {
         }
     }
     tree
-}
-
-/// The next item of a walk is this path.
-fn check_next(rt: &impl Abort, paths: &mut Paths<MemTree>, wanted: &str) {
-    match next_of(paths) {
-        Some(Ok(path)) => check_row(rt, path.as_str() == wanted, wanted),
-        _ => panic!(rt; "{wanted} is not found"),
-    }
 }
 
 /// A directory of each level waits while the walk is below the other one.
