@@ -5,10 +5,11 @@ use super::items::Item::{self, Unread};
 use super::items::{begins, check_item, item_of, items_of, read_items};
 use super::made::{check_number, made};
 use super::reference::Job;
-use crate::trees::{LyingTree, Ready, Unreadable};
+use crate::trees::{Asked, LyingTree, Ready, Unreadable};
 use glob::{End, MemTree, Paths, PatternRefusal, Tree, TreeRefusal};
 use glob_testing::rationing::{Ration, Rationed};
 use std::alloc::{Allocator, Global};
+use std::cell::Cell;
 use std::io::{self, ErrorKind};
 use std::process::Abort;
 
@@ -270,4 +271,49 @@ fn what_needs_no_memory(rt: HostRuntime) {
     assert!(rt; counted.ration.asked() == requests);
     drop(paths);
     assert!(rt; counted.ration.held() == 0);
+}
+
+/// A walk as a whole with rationed memory. Where it is refused for memory, nothing was asked. Gives whether it was.
+fn is_refused<'a>(
+    rt: &impl Abort,
+    alloc: &'a Rationed<Global>,
+    questions: &'a Cell<u64>,
+    pattern: &str,
+) -> bool {
+    let Ok(tree) = small_tree(alloc) else {
+        return false;
+    };
+    match gather(
+        alloc,
+        LyingTree::new(Asked { tree, questions }),
+        Job::of(pattern),
+    ) {
+        Ok(_) => false,
+        Err(refusal) => {
+            assert!(rt; matches!(refusal, PatternRefusal::Memory));
+            assert!(rt; questions.get() == 0);
+            true
+        }
+    }
+}
+
+/// The same, with a place for its questions.
+fn is_refused_at(rt: &(impl Abort + AllocGlobal), number: u64, pattern: &str) -> bool {
+    let scarce = Rationed::refusing(number, rt.alloc());
+    let questions = Cell::new(0);
+    is_refused(rt, &scarce, &questions, pattern)
+}
+
+/// Memory that does not suffice for the pattern is refused before anything is asked.
+#[test]
+fn nothing_is_asked_where_a_walk_is_refused(rt: HostRuntime) {
+    let first = requests_of_tree(&rt).saturating_add(1);
+    for (pattern, _) in &WALKS {
+        let mut refused = 0u64;
+        for number in first..first.saturating_add(100) {
+            let is_refused = is_refused_at(&rt, number, pattern);
+            refused = refused.saturating_add(u64::from(is_refused));
+        }
+        check_number(&rt, refused > 0, refused, pattern);
+    }
 }
