@@ -9,6 +9,7 @@ mod goals;
 mod items;
 mod limits;
 mod lying;
+mod made;
 mod memory;
 mod plain;
 mod printing;

@@ -5,8 +5,8 @@ mod liars;
 
 use glob::{Asks, Entry, ListError, Look, Tree};
 pub use liars::{
-    Chain, Counting, Descending, Endless, FalseDirectory, Fickle, NamesAlone, NoMemory, Noting,
-    Ready, Unlisted, Unreadable, noted,
+    Asked, Chain, Counting, Descending, Endless, FalseDirectory, Fickle, NamesAlone, NoMemory,
+    Noting, Ready, Unlisted, Unreadable, noted,
 };
 use std::alloc::{AllocError, Allocator};
 

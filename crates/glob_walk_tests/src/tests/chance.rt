@@ -1,9 +1,8 @@
 //! What looks random, and is the same in each run.
-use super::contents::{Content, Key, Kind};
+use super::contents::{Content, Key, Kind, path_below};
+use super::made::{joined, made, push};
 use glob::{MatchOptions, MemTree, TreeRefusal};
-use std::alloc::{AllocError, Global};
 use std::process::Abort;
-use std::test::Fail;
 
 /// Numbers that look random.
 #[derive(Drop)]
@@ -66,40 +65,34 @@ fn some_kind(random: &mut Random, shut_in: u64) -> Kind {
 
 /// A key in one of the directories among these keys, or in the root.
 fn some_key(
-    alloc: Global,
+    rt: &(impl Abort + AllocGlobal),
     random: &mut Random,
     keys: &[Key],
     shut_in: u64,
-) -> Result<Key, AllocError> {
+) -> Key {
     let directory = random.directory(keys);
     let name = random.text(&NAMES);
-    let path = format!(in alloc; "{directory}/{name}")?;
+    let path = path_below(rt, directory, name);
     let kind = some_kind(random, shut_in);
-    Ok(Key { path, kind })
+    Key { path, kind }
 }
 
 /// Adds a key to a tree and to these keys, unless its path is taken.
-fn grow(
-    rt: &(impl Abort + AllocGlobal),
-    keys: &mut Vec<Key>,
-    tree: &mut MemTree,
-    key: Key,
-) -> Result<(), Fail> {
+fn grow(rt: &(impl Abort + AllocGlobal), keys: &mut Vec<Key>, tree: &mut MemTree, key: Key) {
     match key.add_to(tree) {
-        Ok(()) => keys.push(key)?,
+        Ok(()) => push(rt, keys, key),
         Err(refusal) => assert!(rt; refusal == TreeRefusal::Taken),
     }
-    Ok(())
 }
 
 /// The path of the root, or of a directory among these keys.
-fn some_directory(alloc: Global, random: &mut Random, keys: &[Key]) -> Result<String, AllocError> {
+fn some_directory<'a>(random: &mut Random, keys: &'a [Key]) -> &'a str {
     let path = if random.once_in(3) {
         random.directory(keys)
     } else {
         ""
     };
-    String::from_str(alloc, if path.is_empty() { "/" } else { path })
+    if path.is_empty() { "/" } else { path }
 }
 
 /// A few keys, and a tree of them. The root or one that is a directory is the current one.
@@ -107,36 +100,33 @@ pub(super) fn some_tree(
     rt: &(impl Abort + AllocGlobal),
     random: &mut Random,
     shut_in: u64,
-) -> Result<(Content, MemTree), Fail> {
+) -> (Content, MemTree) {
     let mut keys = Vec::new(rt.alloc());
-    let mut tree = MemTree::new(rt.alloc())?;
+    let mut tree = made(rt, MemTree::new(rt.alloc()));
     for _ in 0..random.below(20) {
-        let key = some_key(rt.alloc(), random, keys.as_slice(), shut_in)?;
-        grow(rt, &mut keys, &mut tree, key)?;
+        let key = some_key(rt, random, keys.as_slice(), shut_in);
+        grow(rt, &mut keys, &mut tree, key);
     }
-    let current = some_directory(rt.alloc(), random, keys.as_slice())?;
-    assert!(rt; tree.set_current(current.as_str()).is_ok());
-    Ok((Content { current, keys }, tree))
+    let current = joined(rt, &[some_directory(random, keys.as_slice())]);
+    made(rt, tree.set_current(current.as_str()));
+    (Content { current, keys }, tree)
 }
 
 /// A pattern of a few of these components.
 pub(super) fn some_pattern(
-    rt: &impl AllocGlobal,
+    rt: &(impl Abort + AllocGlobal),
     random: &mut Random,
     components: &[&str],
-) -> Result<String, AllocError> {
-    let mut pattern = String::new(rt.alloc());
-    if random.once_in(6) {
-        pattern.push('/')?;
-    }
+) -> String {
+    let mut pattern = joined(rt, &[if random.once_in(6) { "/" } else { "" }]);
     for _ in 0..=random.below(3) {
-        pattern.push_str(random.text(components))?;
-        pattern.push('/')?;
+        made(rt, pattern.push_str(random.text(components)));
+        made(rt, pattern.push('/'));
     }
     if !random.once_in(6) {
         pattern.pop();
     }
-    Ok(pattern)
+    pattern
 }
 
 pub(super) fn some_options(random: &mut Random) -> MatchOptions {

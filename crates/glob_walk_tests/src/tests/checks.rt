@@ -1,11 +1,11 @@
 //! Walks tried in each way, beside what they are to give.
 use super::contents::{Content, tree_of};
 use super::items::{Item, are, items_of};
+use super::made::{check_row, made, push};
 use super::reference::{self, Job};
 use glob::{End, GlobResult, MatchOptions, Paths, PatternRefusal, Tree, Walk, glob_in, walk_in};
-use std::alloc::{AllocError, Global};
+use std::alloc::Global;
 use std::process::Abort;
-use std::test::Fail;
 
 /// Case-sensitive, without rules.
 pub(super) const CASE: MatchOptions = MatchOptions {
@@ -77,6 +77,14 @@ pub(super) fn next_of<T: Tree>(paths: &mut Paths<T>) -> Option<GlobResult<T::All
     paths.next()
 }
 
+/// The next item of a walk is this path.
+pub(super) fn check_next<T: Tree>(rt: &impl Abort, paths: &mut Paths<T>, wanted: &str) {
+    match next_of(paths) {
+        Some(Ok(path)) => check_row(rt, path.as_str() == wanted, wanted),
+        _ => panic!(rt; "{wanted} is not found"),
+    }
+}
+
 /// All items of a walk.
 pub(super) fn gather<T: Tree>(
     alloc: T::Alloc,
@@ -93,17 +101,17 @@ fn counts_of<T: Tree>(paths: &Paths<T>) -> (u64, u128) {
 
 /// The items that a walk has left.
 fn rest_of<T: Tree<Alloc = Global>>(
-    alloc: Global,
+    rt: &(impl Abort + AllocGlobal),
     paths: &mut Paths<T>,
-) -> Result<Vec<GlobResult>, AllocError> {
-    let mut items = Vec::new(alloc);
+) -> Vec<GlobResult> {
+    let mut items = Vec::new(rt.alloc());
     for _ in 0..u64::MAX {
         match next_of(paths) {
-            Some(item) => items.push(item)?,
-            None => return Ok(items),
+            Some(item) => push(rt, &mut items, item),
+            None => break,
         }
     }
-    Ok(items)
+    items
 }
 
 /// The walk gave so many items within the limit, and stays ended.
@@ -133,12 +141,12 @@ pub(super) fn one_by_one<T: Tree<Alloc = Global>>(
     rt: &(impl Abort + AllocGlobal),
     tree: T,
     job: Job<'_>,
-) -> Result<Given, Fail> {
-    let mut paths = start(rt.alloc(), tree, job)?;
-    let items = rest_of(rt.alloc(), &mut paths)?;
+) -> Given {
+    let mut paths = made(rt, start(rt.alloc(), tree, job));
+    let items = rest_of(rt, &mut paths);
     check_ended(rt, &mut paths, job.limit, items.len());
     let (spent, _) = counts_of(&paths);
-    Ok(Given { items, spent })
+    Given { items, spent }
 }
 
 /// Takes the items of a walk at once.
@@ -146,15 +154,15 @@ pub(super) fn at_once<T: Tree<Alloc = Global>>(
     rt: &(impl Abort + AllocGlobal),
     tree: T,
     job: Job<'_>,
-) -> Result<Walk<T>, Fail> {
-    Ok(gather(rt.alloc(), tree, job)?)
+) -> Walk<T> {
+    made(rt, gather(rt.alloc(), tree, job))
 }
 
 /// The end of a walk that gives these items, and those of them that are no refusal.
 pub(super) fn ended<'i, 'a>(items: &'i [Item<'a>]) -> (&'i [Item<'a>], End) {
-    match items {
-        [others @ .., Item::Limit(_)] => (others, End::Limit),
-        [others @ .., Item::Memory] => (others, End::Memory),
+    match items.split_last() {
+        Some((Item::Limit(_), others)) => (others, End::Limit),
+        Some((Item::Memory, others)) => (others, End::Memory),
         _ => (items, End::Done),
     }
 }
@@ -166,14 +174,19 @@ pub(super) fn check_gathered<T: Tree<Alloc = Global>>(
     job: Job<'_>,
     items: &[Item<'_>],
     spent: u64,
-) -> Result<T, Fail> {
+) -> T {
     let (others, end) = ended(items);
-    let walk = at_once(rt, tree, job)?;
-    assert!(rt; walk.end == end, "{}", job.pattern);
-    assert_eq!(rt; walk.spent, spent, "{}", job.pattern);
-    assert!(rt; end != End::Limit || spent == job.limit, "{}", job.pattern);
-    check_given(rt, walk.items.as_slice(), others, job.pattern)?;
-    Ok(walk.tree)
+    let walk = at_once(rt, tree, job);
+    check_row(rt, walk.end == end, job.pattern);
+    check_spent(rt, walk.spent, spent, job);
+    check_row(rt, end != End::Limit || spent == job.limit, job.pattern);
+    check_given(rt, walk.items.as_slice(), others, job.pattern);
+    walk.tree
+}
+
+/// The walk spends so much.
+pub(super) fn check_spent(rt: &impl Abort, found: u64, known: u64, job: Job<'_>) {
+    assert_eq!(rt; found, known, "{}", job.pattern);
 }
 
 /// The walk gives these items over the tree and spends so much, by `next`.
@@ -183,10 +196,10 @@ pub(super) fn check_stepped<T: Tree<Alloc = Global>>(
     job: Job<'_>,
     items: &[Item<'_>],
     spent: u64,
-) -> Result<(), Fail> {
-    let given = one_by_one(rt, tree, job)?;
-    assert_eq!(rt; given.spent, spent, "{}", job.pattern);
-    check_given(rt, given.items.as_slice(), items, job.pattern)
+) {
+    let given = one_by_one(rt, tree, job);
+    check_spent(rt, given.spent, spent, job);
+    check_given(rt, given.items.as_slice(), items, job.pattern);
 }
 
 /// The walk gives these items over the tree and spends so much, by `walk_in`, and then by `next` over the same tree.
@@ -196,9 +209,9 @@ pub(super) fn check_over<T: Tree<Alloc = Global>>(
     job: Job<'_>,
     items: &[Item<'_>],
     spent: u64,
-) -> Result<(), Fail> {
-    let tree = check_gathered(rt, tree, job, items, spent)?;
-    check_stepped(rt, tree, job, items, spent)
+) {
+    let tree = check_gathered(rt, tree, job, items, spent);
+    check_stepped(rt, tree, job, items, spent);
 }
 
 /// A walk after the pattern gave these items.
@@ -207,13 +220,17 @@ pub(super) fn check_given(
     given: &[GlobResult],
     items: &[Item<'_>],
     pattern: &str,
-) -> Result<(), Fail> {
-    let found = items_of(rt.alloc(), given)?;
+) {
+    let found = items_of(rt, given);
+    check_items(rt, found.as_slice(), items, pattern);
+}
+
+/// The items of a walk after the pattern are these.
+fn check_items(rt: &impl Abort, found: &[Item<'_>], items: &[Item<'_>], pattern: &str) {
     assert!(rt;
-        are(found.as_slice(), items),
+        are(found, items),
         "{pattern}: {found:?} in place of {items:?}"
     );
-    Ok(())
 }
 
 /// The walk gives these items over a tree in memory, as the reference does. Gives what it spends.
@@ -222,14 +239,10 @@ pub(super) fn check(
     content: &Content,
     job: Job<'_>,
     items: &[Item<'_>],
-) -> Result<u64, Fail> {
-    let (known, tree) = reference::walk(rt.alloc(), tree_of(rt, content)?, &job)?;
-    let expected = known.items(rt.alloc())?;
-    assert!(rt;
-        are(expected.as_slice(), items),
-        "{}: {expected:?} in place of {items:?}",
-        job.pattern
-    );
-    check_over(rt, tree, job, items, known.spent)?;
-    Ok(known.spent)
+) -> u64 {
+    let (known, tree) = made(rt, reference::walk(rt.alloc(), tree_of(rt, content), &job));
+    let expected = known.items(rt);
+    check_items(rt, expected.as_slice(), items, job.pattern);
+    check_over(rt, tree, job, items, known.spent);
+    known.spent
 }

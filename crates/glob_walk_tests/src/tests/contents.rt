@@ -1,9 +1,9 @@
 //! Trees in memory, as texts write them.
+use super::made::{joined, made, push};
 use glob::{MemTree, TreeRefusal};
-use std::alloc::{AllocError, Allocator, Global};
+use std::alloc::Allocator;
 use std::io::ErrorKind;
 use std::process::Abort;
-use std::test::Fail;
 
 /// What stands at a key.
 #[derive(Clone, Copy, PartialEq, Eq)]
@@ -23,7 +23,7 @@ pub(super) struct Key {
 
 impl Key {
     /// The key that a word writes by its names below a directory: after `#` one that is shut, before `/` a directory.
-    fn read(alloc: Global, below: &str, word: &str) -> Result<Key, AllocError> {
+    fn read(rt: &(impl Abort + AllocGlobal), below: &str, word: &str) -> Key {
         let (names, kind) = if let Some(names) = word.strip_prefix('#') {
             (names, Kind::Shut)
         } else if let Some(names) = word.strip_suffix('/') {
@@ -31,8 +31,8 @@ impl Key {
         } else {
             (word, Kind::Other)
         };
-        let path = format!(in alloc; "{below}/{names}")?;
-        Ok(Key { path, kind })
+        let path = path_below(rt, below, names);
+        Key { path, kind }
     }
 
     pub(super) fn is_dir(&self) -> bool {
@@ -49,6 +49,11 @@ impl Key {
     pub(super) fn add_to(&self, tree: &mut MemTree) -> Result<(), TreeRefusal> {
         plant(tree, self.path.as_str(), self.kind)
     }
+}
+
+/// The path of names below a directory.
+pub(super) fn path_below(rt: &(impl Abort + AllocGlobal), directory: &str, names: &str) -> String {
+    joined(rt, &[directory, "/", names])
 }
 
 /// Adds a key to a tree.
@@ -75,11 +80,10 @@ pub(super) struct Content {
 
 impl Content {
     /// Adds the keys that words write by their names below a directory.
-    fn add(&mut self, alloc: Global, below: &str, words: &str) -> Result<(), AllocError> {
+    fn add(&mut self, rt: &(impl Abort + AllocGlobal), below: &str, words: &str) {
         for word in words.split_whitespace() {
-            self.keys.push(Key::read(alloc, below, word)?)?;
+            push(rt, &mut self.keys, Key::read(rt, below, word));
         }
-        Ok(())
     }
 
     /// Shuts the directory of this path, and says whether there is one.
@@ -95,32 +99,32 @@ impl Content {
 }
 
 /// The content of these keys, whose root is the current directory.
-pub(super) fn at_root(alloc: Global, keys: &str) -> Result<Content, AllocError> {
+pub(super) fn at_root(rt: &(impl Abort + AllocGlobal), keys: &str) -> Content {
     let mut content = Content {
-        current: String::from_str(alloc, "/")?,
-        keys: Vec::new(alloc),
+        current: joined(rt, &["/"]),
+        keys: Vec::new(rt.alloc()),
     };
-    content.add(alloc, "", keys)?;
-    Ok(content)
+    content.add(rt, "", keys);
+    content
 }
 
 /// Files and directories of all kinds, and more below the current directory, which is `/w`.
-pub(super) fn files(alloc: Global, more: &str) -> Result<Content, AllocError> {
-    let mut content = at_root(alloc, "w/")?;
-    content.current.push('w')?;
-    content.add(alloc, "/w", FILES)?;
-    content.add(alloc, "/w", more)?;
-    Ok(content)
+pub(super) fn files(rt: &(impl Abort + AllocGlobal), more: &str) -> Content {
+    let mut content = at_root(rt, "w/");
+    made(rt, content.current.push('w'));
+    content.add(rt, "/w", FILES);
+    content.add(rt, "/w", more);
+    content
 }
 
 /// A tree of this content.
-pub(super) fn tree_of(rt: &(impl Abort + AllocGlobal), content: &Content) -> Result<MemTree, Fail> {
-    let mut tree = MemTree::new(rt.alloc())?;
+pub(super) fn tree_of(rt: &(impl Abort + AllocGlobal), content: &Content) -> MemTree {
+    let mut tree = made(rt, MemTree::new(rt.alloc()));
     for key in &content.keys {
-        assert!(rt; key.add_to(&mut tree).is_ok());
+        made(rt, key.add_to(&mut tree));
     }
-    assert!(rt; tree.set_current(content.current.as_str()).is_ok());
-    Ok(tree)
+    made(rt, tree.set_current(content.current.as_str()));
+    tree
 }
 
 const FILES: &str = "

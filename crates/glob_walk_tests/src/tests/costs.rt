@@ -1,13 +1,12 @@
 //! How many requests for memory a walk makes, and for how many bytes. The clock is not asked.
 use super::checks::{gather, next_of, start};
+use super::made::{check_row, made, text_of};
 use super::reference::Job;
 use crate::trees::{LyingTree, Ready};
-use glob::{End, PatternRefusal};
+use glob::{End, Paths, Tree};
 use glob_testing::rationing::{Ration, Rationed};
-use glob_testing::texts::text_of;
 use std::alloc::{Allocator, Global};
 use std::process::Abort;
-use std::test::Fail;
 
 /// How many requests were made, for how many bytes, and how many paths were given.
 #[derive(Clone, Copy, Debug)]
@@ -20,50 +19,57 @@ struct Cost {
 /// What a walk over so many files costs, item by item or as a whole, where it comes to its end. The tree itself takes
 /// no memory then.
 fn cost_in<A: Allocator + Copy>(
+    rt: &impl Abort,
     alloc: A,
     ration: &Ration,
     files: u32,
     pattern: &str,
     whole: bool,
-) -> Result<Cost, PatternRefusal> {
-    let Ok(ready) = Ready::files(alloc, files) else {
-        return Err(PatternRefusal::Memory);
-    };
-    let tree = LyingTree::new(ready);
+) -> Cost {
+    let tree = LyingTree::new(made(rt, Ready::files(alloc, files)));
     let (requests, bytes) = (ration.asked(), ration.bytes());
-    let mut paths = 0u64;
-    if whole {
-        let walk = gather(alloc, tree, Job::of(pattern))?;
-        if walk.end != End::Done {
-            return Err(PatternRefusal::Memory);
-        }
-        paths = walk.items.len() as u64;
+    let paths = if whole {
+        count_gathered(rt, alloc, tree, pattern)
     } else {
-        let mut walk = start(alloc, tree, Job::of(pattern))?;
-        for _ in 0..u64::MAX {
-            match next_of(&mut walk) {
-                Some(Ok(_)) => paths = paths.saturating_add(1),
-                Some(Err(_)) => return Err(PatternRefusal::Memory),
-                None => break,
-            }
-        }
-    }
-    Ok(Cost {
+        count_stepped(rt, &mut made(rt, start(alloc, tree, Job::of(pattern))))
+    };
+    Cost {
         requests: ration.asked().saturating_sub(requests),
         bytes: ration.bytes().saturating_sub(bytes),
         paths,
-    })
+    }
+}
+
+/// How many paths a whole walk gives, which comes to its end.
+fn count_gathered<T: Tree>(rt: &impl Abort, alloc: T::Alloc, tree: T, pattern: &str) -> u64 {
+    let walk = made(rt, gather(alloc, tree, Job::of(pattern)));
+    assert!(rt; walk.end == End::Done);
+    walk.items.len() as u64
+}
+
+/// How many paths a walk gives item by item, none of which is an error.
+fn count_stepped<T: Tree>(rt: &impl Abort, paths: &mut Paths<T>) -> u64 {
+    let mut count = 0u64;
+    for _ in 0..u64::MAX {
+        let Some(item) = next_of(paths) else {
+            break;
+        };
+        assert!(rt; item.is_ok());
+        count = count.saturating_add(1);
+    }
+    count
 }
 
 /// What a walk costs with ample memory.
-fn ample_cost(
-    rt: &impl AllocGlobal,
-    files: u32,
-    pattern: &str,
-    whole: bool,
-) -> Result<Cost, PatternRefusal> {
+fn ample_cost(rt: &(impl Abort + AllocGlobal), files: u32, pattern: &str, whole: bool) -> Cost {
     let ample = Rationed::refusing(0, rt.alloc());
-    cost_in(&ample, &ample.ration, files, pattern, whole)
+    cost_in(rt, &ample, &ample.ration, files, pattern, whole)
+}
+
+/// A walk makes at most so many requests, for at most so many bytes.
+fn check_cost(rt: &impl Abort, cost: Cost, requests: u64, bytes: u64, pattern: &str) {
+    let holds = cost.requests <= requests && cost.bytes <= bytes;
+    assert!(rt; holds, "{pattern}: {cost:?}");
 }
 
 /// A pattern, how many paths a walk over a thousand files gives, and the most requests beside one for each path.
@@ -80,36 +86,37 @@ const WALKS: [(&str, u64, u64); 7] = [
 /// A child's path is made for what is given alone, in one request of its length. Items of a whole walk are gathered in
 /// a list that grows with them.
 #[test]
-fn a_thousand_files_take_a_request_for_each_path(rt: HostRuntime) -> Result<(), Fail> {
+fn a_thousand_files_take_a_request_for_each_path(rt: HostRuntime) {
     for (pattern, paths, most) in WALKS {
-        for whole in [false, true] {
-            let cost = ample_cost(&rt, 1_000, pattern, whole)?;
-            let (most, room) = if whole {
-                (most.saturating_add(10), 400)
-            } else {
-                (most, 24)
-            };
-            let bytes = paths.saturating_mul(room).saturating_add(8_192);
-            assert_eq!(rt; cost.paths, paths, "{pattern}");
-            assert!(rt;
-                cost.requests <= paths.saturating_add(most),
-                "{pattern}: {cost:?}"
-            );
-            assert!(rt; cost.bytes <= bytes, "{pattern}: {cost:?}");
-        }
+        check_walk(&rt, pattern, paths, most, 24, false);
+        check_walk(&rt, pattern, paths, most.saturating_add(10), 400, true);
     }
-    Ok(())
+}
+
+/// A walk over a thousand files gives so many paths, with at most so many requests beside one for each path, and at most
+/// so many bytes for each.
+fn check_walk(
+    rt: &(impl Abort + AllocGlobal),
+    pattern: &str,
+    paths: u64,
+    most: u64,
+    room: u64,
+    whole: bool,
+) {
+    let cost = ample_cost(rt, 1_000, pattern, whole);
+    check_row(rt, cost.paths == paths, pattern);
+    let bytes = paths.saturating_mul(room).saturating_add(8_192);
+    check_cost(rt, cost, paths.saturating_add(most), bytes, pattern);
 }
 
 /// A directory of many files is walked whole.
 #[test]
-fn twenty_thousand_files(rt: HostRuntime) -> Result<(), Fail> {
+fn twenty_thousand_files(rt: HostRuntime) {
     for whole in [false, true] {
-        let cost = ample_cost(&rt, 20_000, "d/*", whole)?;
-        assert_eq!(rt; cost.paths, 20_000);
-        assert!(rt; cost.requests <= 20_050, "{cost:?}");
+        let cost = ample_cost(&rt, 20_000, "d/*", whole);
+        assert!(rt; cost.paths == 20_000);
+        check_cost(&rt, cost, 20_050, u64::MAX, "d/*");
     }
-    Ok(())
 }
 
 /// A part of a pattern that is repeated, and the most requests and bytes that each further one takes.
@@ -124,17 +131,15 @@ const PARTS: [(&str, u64, u64); 6] = [
 
 /// A pattern is read once: few requests and bytes for each part of it.
 #[test]
-fn a_long_pattern_takes_few_requests(rt: HostRuntime) -> Result<(), Fail> {
+fn a_long_pattern_takes_few_requests(rt: HostRuntime) {
     for (part, requests, bytes) in PARTS {
         for times in [500, 1_000] {
-            let pattern = text_of(&rt, &[(part, times)])?;
-            let cost = ample_cost(&rt, 0, pattern.as_str(), false)?;
+            let pattern = text_of(&rt, &[(part, times)]);
+            let cost = ample_cost(&rt, 0, pattern.as_str(), false);
             let times = times as u64;
-            let most = requests.saturating_mul(times).saturating_add(32);
-            assert!(rt; cost.requests <= most, "{part}: {cost:?}");
-            let most = bytes.saturating_mul(times).saturating_add(8_192);
-            assert!(rt; cost.bytes <= most, "{part}: {cost:?}");
+            let requests = requests.saturating_mul(times).saturating_add(32);
+            let bytes = bytes.saturating_mul(times).saturating_add(8_192);
+            check_cost(&rt, cost, requests, bytes, part);
         }
     }
-    Ok(())
 }

@@ -2,9 +2,10 @@
 ghost use Rattle.std.specs.Prelude.{◌≡◌, None};
 
 use super::chance::{Random, some_options, some_pattern, some_tree};
-use super::checks::{CASE, one_by_one};
+use super::checks::{CASE, check_spent, one_by_one};
 use super::contents::{Content, at_root, tree_of};
-use super::items::{Item, are, item_of, items_of, read_items};
+use super::items::{Item, are, begins, check_item, items_of, read_items};
+use super::made::{check_number, check_row, made};
 use super::memory::{WALKS, small_tree};
 use super::random::COMPONENTS;
 use super::reference::Job;
@@ -18,7 +19,6 @@ use std::alloc::{AllocError, Allocator, Global};
 use std::cell::Cell;
 use std::io::ErrorKind;
 use std::process::Abort;
-use std::test::Fail;
 
 /// What a driven walk gave, and what it asked.
 #[derive(Drop)]
@@ -106,60 +106,73 @@ fn drive_most(
     tree: &mut impl Tree<Alloc = Global>,
     job: Job<'_>,
     most: u64,
-) -> Result<(Driven, u64), Fail> {
-    let mut machine = WalkMachine::new(rt.alloc(), job.pattern, job.options, job.limit)?;
-    let driven = drive(rt.alloc(), &mut machine, tree, most)?;
+) -> (Driven, u64) {
+    let machine = WalkMachine::new(rt.alloc(), job.pattern, job.options, job.limit);
+    let mut machine = made(rt, machine);
+    let driven = made(rt, drive(rt.alloc(), &mut machine, tree, most));
     assert!(rt; machine.spent() <= job.limit);
     assert!(rt; machine.given() <= u128::from(machine.spent()) + 1);
-    Ok((driven, machine.spent()))
+    (driven, machine.spent())
 }
 
 /// A walk over a tree and one that is driven by an equal tree give, ask and spend the same. One that is driven half the way
 /// gives a beginning of it.
-fn compare(rt: &(impl Abort + AllocGlobal), content: &Content, job: Job<'_>) -> Result<(), Fail> {
+fn compare(rt: &(impl Abort + AllocGlobal), content: &Content, job: Job<'_>) {
+    if WalkMachine::new(rt.alloc(), job.pattern, job.options, job.limit).is_err() {
+        return;
+    }
     let number = Cell::new(0);
     let tree = Noting {
-        tree: tree_of(rt, content)?,
+        tree: tree_of(rt, content),
         number: &number,
     };
-    if WalkMachine::new(rt.alloc(), job.pattern, job.options, job.limit).is_err() {
-        return Ok(());
-    }
-    let given = one_by_one(rt, LyingTree::new(tree), job)?;
-    let known = items_of(rt.alloc(), given.items.as_slice())?;
-    let (whole, spent) = drive_most(rt, &mut tree_of(rt, content)?, job, u64::MAX)?;
-    assert!(rt; whole.done);
-    assert_eq!(rt; spent, given.spent);
-    assert_eq!(rt; whole.number, number.get());
-    let items = items_of(rt.alloc(), whole.items.as_slice())?;
-    assert!(rt; are(items.as_slice(), known.as_slice()));
+    let given = one_by_one(rt, LyingTree::new(tree), job);
+    let known = items_of(rt, given.items.as_slice());
+    let (whole, spent) = drive_most(rt, &mut tree_of(rt, content), job, u64::MAX);
+    check_driven(rt, &whole, known.as_slice(), job.pattern);
+    check_spent(rt, spent, given.spent, job);
+    check_row(rt, whole.number == number.get(), job.pattern);
+    check_half(rt, content, job, whole.questions / 2, known.as_slice());
+}
 
-    let half = whole.questions / 2;
-    let (stopped, _) = drive_most(rt, &mut tree_of(rt, content)?, job, half)?;
-    let first = items_of(rt.alloc(), stopped.items.as_slice())?;
-    assert!(rt; known.starts_with(first.as_slice()));
-    Ok(())
+/// A walk that was driven to its end gave these items.
+fn check_driven(
+    rt: &(impl Abort + AllocGlobal),
+    driven: &Driven,
+    known: &[Item<'_>],
+    pattern: &str,
+) {
+    let items = items_of(rt, driven.items.as_slice());
+    check_row(rt, driven.done, pattern);
+    check_row(rt, are(items.as_slice(), known), pattern);
+}
+
+/// A walk that is driven for so many questions gives a beginning of these items.
+fn check_half(
+    rt: &(impl Abort + AllocGlobal),
+    content: &Content,
+    job: Job<'_>,
+    most: u64,
+    known: &[Item<'_>],
+) {
+    let (stopped, _) = drive_most(rt, &mut tree_of(rt, content), job, most);
+    let first = items_of(rt, stopped.items.as_slice());
+    check_row(rt, begins(known, first.as_slice()), job.pattern);
 }
 
 /// Random walks, each within each limit up to some.
 #[test]
-fn driven_walks(rt: HostRuntime) -> Result<(), Fail> {
+fn driven_walks(rt: HostRuntime) {
     let mut random = Random::new();
     for _ in 0..300 {
-        let (content, _) = some_tree(&rt, &mut random, 8)?;
-        let pattern = some_pattern(&rt, &mut random, &COMPONENTS)?;
-        let options = some_options(&mut random);
+        let (content, _) = some_tree(&rt, &mut random, 8);
+        let pattern = some_pattern(&rt, &mut random, &COMPONENTS);
+        let job = Job::of(pattern.as_str()).under(some_options(&mut random));
         for limit in 0..24 {
-            let job = Job {
-                pattern: pattern.as_str(),
-                options,
-                limit,
-            };
-            compare(&rt, &content, job)?;
+            compare(&rt, &content, job.within(limit));
         }
-        compare(&rt, &content, Job::of(pattern.as_str()).under(options))?;
+        compare(&rt, &content, job);
     }
-    Ok(())
 }
 
 /// How often a walk of a small tree asks for entries, and how often for names alone.
@@ -180,15 +193,14 @@ const NAMES: [(&str, u64, u64); 12] = [
 
 /// Names alone are asked for exactly where no entry's kind can change what follows.
 #[test]
-fn names_alone_where_no_kind_matters(rt: HostRuntime) -> Result<(), Fail> {
-    let content = at_root(rt.alloc(), "a/ a/b c d/ d/e")?;
+fn names_alone_where_no_kind_matters(rt: HostRuntime) {
+    let content = at_root(&rt, "a/ a/b c d/ d/e");
     for (pattern, listings, names) in NAMES {
-        let mut tree = tree_of(&rt, &content)?;
-        let (driven, _) = drive_most(&rt, &mut tree, Job::of(pattern), u64::MAX)?;
-        assert_eq!(rt; driven.listings, listings, "{pattern}");
-        assert_eq!(rt; driven.names, names, "{pattern}");
+        let mut tree = tree_of(&rt, &content);
+        let (driven, _) = drive_most(&rt, &mut tree, Job::of(pattern), u64::MAX);
+        check_row(&rt, driven.listings == listings, pattern);
+        check_row(&rt, driven.names == names, pattern);
     }
-    Ok(())
 }
 
 /// A driver that answers what a tree does whose answers belong to no content: its walk gives and spends what the walk over
@@ -198,15 +210,12 @@ fn compare_liars<L: Liar<Alloc = Global>>(
     liar: L,
     same: L,
     job: Job<'_>,
-) -> Result<(), Fail> {
-    let given = one_by_one(rt, LyingTree::new(liar), job)?;
-    let known = items_of(rt.alloc(), given.items.as_slice())?;
-    let (driven, spent) = drive_most(rt, &mut LyingTree::new(same), job, u64::MAX)?;
-    let items = items_of(rt.alloc(), driven.items.as_slice())?;
-    assert!(rt; driven.done, "{}", job.pattern);
-    assert_eq!(rt; spent, given.spent, "{}", job.pattern);
-    assert!(rt; are(items.as_slice(), known.as_slice()), "{}", job.pattern);
-    Ok(())
+) {
+    let given = one_by_one(rt, LyingTree::new(liar), job);
+    let known = items_of(rt, given.items.as_slice());
+    let (driven, spent) = drive_most(rt, &mut LyingTree::new(same), job, u64::MAX);
+    check_driven(rt, &driven, known.as_slice(), job.pattern);
+    check_spent(rt, spent, given.spent, job);
 }
 
 /// Two trees whose answers change with each question, in the same way.
@@ -215,19 +224,18 @@ fn fickle(alloc: Global) -> Fickle {
 }
 
 #[test]
-fn drivers_that_lie(rt: HostRuntime) -> Result<(), Fail> {
+fn drivers_that_lie(rt: HostRuntime) {
     let alloc = rt.alloc();
     for pattern in ["**/*/d", "*", "*/", "d/*", "**", ".*/../d"] {
         for limit in (0..24).chain([100, 1_000]) {
             let job = Job::of(pattern).within(limit);
-            compare_liars(&rt, fickle(alloc), fickle(alloc), job)?;
-            compare_liars(&rt, Endless { alloc }, Endless { alloc }, job)?;
-            compare_liars(&rt, Descending { alloc }, Descending { alloc }, job)?;
-            compare_liars(&rt, FalseDirectory { alloc }, FalseDirectory { alloc }, job)?;
-            compare_liars(&rt, NoMemory, NoMemory, job)?;
+            compare_liars(&rt, fickle(alloc), fickle(alloc), job);
+            compare_liars(&rt, Endless { alloc }, Endless { alloc }, job);
+            compare_liars(&rt, Descending { alloc }, Descending { alloc }, job);
+            compare_liars(&rt, FalseDirectory { alloc }, FalseDirectory { alloc }, job);
+            compare_liars(&rt, NoMemory, NoMemory, job);
         }
     }
-    Ok(())
 }
 
 /// Patterns, and what a walk gives whose driver answers names alone where a listing is asked for: nothing is listed below
@@ -243,18 +251,15 @@ const BELOW_NAMES: [(&str, &str); 7] = [
 ];
 
 #[test]
-fn a_driver_that_answers_names_alone(rt: HostRuntime) -> Result<(), Fail> {
-    let content = at_root(rt.alloc(), "a/ a/b c d/ d/e")?;
+fn a_driver_that_answers_names_alone(rt: HostRuntime) {
+    let content = at_root(&rt, "a/ a/b c d/ d/e");
     for (pattern, words) in BELOW_NAMES {
-        let tree = tree_of(&rt, &content)?;
+        let tree = tree_of(&rt, &content);
         let mut names = LyingTree::new(NamesAlone { tree });
-        let (driven, _) = drive_most(&rt, &mut names, Job::of(pattern), u64::MAX)?;
-        let known = read_items(rt.alloc(), words, ErrorKind::Other)?;
-        let items = items_of(rt.alloc(), driven.items.as_slice())?;
-        assert!(rt; driven.done, "{pattern}");
-        assert!(rt; are(items.as_slice(), known.as_slice()), "{pattern}");
+        let (driven, _) = drive_most(&rt, &mut names, Job::of(pattern), u64::MAX);
+        let known = read_items(&rt, words, ErrorKind::Other);
+        check_driven(&rt, &driven, known.as_slice(), pattern);
     }
-    Ok(())
 }
 
 /// A driven walk with memory from `alloc` gives a beginning of the known items, and then says that memory ran out, or all
@@ -279,10 +284,7 @@ fn drives<A: Allocator + Copy>(
     let mut sufficed = true;
     for item in driven.items.iter() {
         assert!(rt; sufficed);
-        match item_of(item) {
-            Item::Memory => sufficed = false,
-            item => assert!(rt; known.get(place) == Some(&item)),
-        }
+        sufficed = check_item(rt, item, known, place);
         place = place.saturating_add(1);
     }
     assert!(rt; !sufficed || place == known.len());
@@ -291,19 +293,20 @@ fn drives<A: Allocator + Copy>(
 
 /// Each request for memory of a driven walk is refused in turn. All blocks are given back.
 #[test]
-fn each_request_of_a_driven_walk_is_refused(rt: HostRuntime) -> Result<(), Fail> {
+fn each_request_of_a_driven_walk_is_refused(rt: HostRuntime) {
     for (pattern, words) in WALKS {
-        let known = read_items(rt.alloc(), words, ErrorKind::PermissionDenied)?;
-        let ample = Rationed::refusing(0, rt.alloc());
-        assert!(rt; drives(&rt, &ample, pattern, known.as_slice()));
-        for number in 1..=ample.ration.asked() {
-            let scarce = Rationed::refusing(number, rt.alloc());
-            assert!(rt;
-                !drives(&rt, &scarce, pattern, known.as_slice()),
-                "{number} for {pattern}"
-            );
-            assert_eq!(rt; scarce.ration.held(), 0);
-        }
+        let known = read_items(&rt, words, ErrorKind::PermissionDenied);
+        check_drives(&rt, pattern, known.as_slice());
     }
-    Ok(())
+}
+
+/// Refuses each request for memory of a driven walk in turn.
+fn check_drives(rt: &(impl Abort + AllocGlobal), pattern: &str, known: &[Item<'_>]) {
+    let ample = Rationed::refusing(0, rt.alloc());
+    assert!(rt; drives(rt, &ample, pattern, known));
+    for number in 1..=ample.ration.asked() {
+        let scarce = Rationed::refusing(number, rt.alloc());
+        check_number(rt, !drives(rt, &scarce, pattern, known), number, pattern);
+        check_number(rt, scarce.ration.held() == 0, number, pattern);
+    }
 }

@@ -3,7 +3,6 @@ use super::checks::CASE;
 use super::contents::files as content;
 use super::tables::check_table;
 use glob::MatchOptions;
-use std::test::Fail;
 
 pub(super) const ROWS: &str = "
     r/** r/**/** => r/another r/one r/one/another r/one/another/deep r/three r/two
@@ -53,17 +52,17 @@ pub(super) const SPECIALS: &str = "
 ";
 
 #[test]
-fn files(rt: HostRuntime) -> Result<(), Fail> {
-    check_table(&rt, &content(rt.alloc(), "")?, CASE, ROWS)
+fn files(rt: HostRuntime) {
+    check_table(&rt, &content(&rt, ""), CASE, ROWS);
 }
 
 #[test]
-fn special_characters(rt: HostRuntime) -> Result<(), Fail> {
-    check_table(&rt, &content(rt.alloc(), "")?, CASE, SPECIALS)
+fn special_characters(rt: HostRuntime) {
+    check_table(&rt, &content(&rt, ""), CASE, SPECIALS);
 }
 
 #[test]
-fn dotted_names_under_the_dot_rule(rt: HostRuntime) -> Result<(), Fail> {
+fn dotted_names_under_the_dot_rule(rt: HostRuntime) {
     let more = "i/ i/qwe/ i/qwe/.bbb/ i/qwe/.aaa i/qwe/.bbb/ccc i/qwe/.bbb/.ddd i/qwe/eee";
     let options = MatchOptions {
         case_sensitive: false,
@@ -74,5 +73,5 @@ fn dotted_names_under_the_dot_rule(rt: HostRuntime) -> Result<(), Fail> {
         i/**/*a* i/**/*c* i/**/*d* =>
         i/**/*e* => i/qwe i/qwe/eee
     ";
-    check_table(&rt, &content(rt.alloc(), more)?, options, rows)
+    check_table(&rt, &content(&rt, more), options, rows);
 }

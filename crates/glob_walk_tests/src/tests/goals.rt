@@ -3,19 +3,17 @@ use super::checks::{CASE, DOT, at_once};
 use super::contents::{Content, DOTTED, Key, Kind, at_root, files, tree_of};
 use super::items::Item::{self, Path, Unread};
 use super::items::items_of;
+use super::made::{check_row, made, push};
 use super::reference::Job;
 use super::tables::rows_of;
 use super::{files as tables, rows};
 use glob::{End, MatchOptions, Pattern};
-use std::alloc::{AllocError, Global};
 use std::process::Abort;
-use std::str::Split;
-use std::test::Fail;
 
-/// The components of a pattern without its root, where one separator at the end does not count.
-fn components(pattern: &str) -> Split<'_, char> {
+/// The components of a pattern without its root, with separators between. One separator at the end does not count.
+fn bare(pattern: &str) -> &str {
     let rest = pattern.strip_prefix('/').unwrap_or(pattern);
-    rest.strip_suffix('/').unwrap_or(rest).split('/')
+    rest.strip_suffix('/').unwrap_or(rest)
 }
 
 fn is_wild(component: &str) -> bool {
@@ -26,7 +24,7 @@ fn is_wild(component: &str) -> bool {
 /// with wildcards that begins with a dot stands right after a `**`.
 pub(super) fn is_plain(pattern: &str) -> bool {
     let mut after_first_recursive = false;
-    for component in components(pattern) {
+    for component in bare(pattern).split('/') {
         let special = component.is_empty() || component == "." || component == "..";
         let dotted = is_wild(component) && component.starts_with('.');
         if special || (dotted && !after_first_recursive) {
@@ -48,40 +46,41 @@ fn text_of<'a>(content: &Content, key: &'a Key, pattern: &str) -> Option<&'a str
 
 /// Whether a walk after the pattern gives directories alone.
 fn wants_directories(pattern: &str) -> bool {
-    pattern.ends_with('/') || components(pattern).last() == Some("**")
+    pattern.ends_with('/') || pattern == "**" || pattern.ends_with("/**")
 }
 
 /// The texts of keys that the undivided pattern matches under these options.
 fn matched<'a>(
-    alloc: Global,
+    rt: &(impl Abort + AllocGlobal),
     content: &'a Content,
     pattern: &str,
     options: MatchOptions,
-) -> Result<Vec<&'a str>, Fail> {
-    let undivided = Pattern::new(alloc, pattern.strip_suffix('/').unwrap_or(pattern))?;
+) -> Vec<&'a str> {
+    let undivided = pattern.strip_suffix('/').unwrap_or(pattern);
+    let undivided = made(rt, Pattern::new(rt.alloc(), undivided));
     let directories = wants_directories(pattern);
-    let mut found = Vec::new(alloc);
+    let mut found = Vec::new(rt.alloc());
     for key in &content.keys {
         if directories && !key.is_dir() {
             continue;
         }
         if let Some(text) = text_of(content, key, pattern) {
-            if undivided.matches_with(text, options)? {
-                found.push(text)?;
+            if made(rt, undivided.matches_with(text, options)) {
+                push(rt, &mut found, text);
             }
         }
     }
-    Ok(found)
+    found
 }
 
 /// What a walk is to find: what the undivided pattern matches case-sensitively and with the separator rule.
-fn goal<'a>(alloc: Global, content: &'a Content, job: Job<'_>) -> Result<Vec<&'a str>, Fail> {
+fn goal<'a>(rt: &(impl Abort + AllocGlobal), content: &'a Content, job: Job<'_>) -> Vec<&'a str> {
     let options = MatchOptions {
         case_sensitive: true,
         require_literal_separator: true,
         require_literal_leading_dot: job.options.require_literal_leading_dot,
     };
-    matched(alloc, content, job.pattern, options)
+    matched(rt, content, job.pattern, options)
 }
 
 /// Whether the key has this text, or is the current directory where the text is `.`.
@@ -122,17 +121,19 @@ struct Found<'a> {
 }
 
 impl<'a> Found<'a> {
-    fn of(alloc: Global, items: &[Item<'a>]) -> Result<Found<'a>, AllocError> {
-        let mut paths = Vec::new(alloc);
-        let mut shut = Vec::new(alloc);
+    fn of(rt: &(impl Abort + AllocGlobal), items: &[Item<'a>]) -> Found<'a> {
+        let mut found = Found {
+            paths: Vec::new(rt.alloc()),
+            shut: Vec::new(rt.alloc()),
+        };
         for item in items {
             match item {
-                Path(path) => paths.push(*path)?,
-                Unread(path, _) => shut.push(*path)?,
+                Path(path) => push(rt, &mut found.paths, *path),
+                Unread(path, _) => push(rt, &mut found.shut, *path),
                 Item::Limit(_) | Item::Memory => {}
             }
         }
-        Ok(Found { paths, shut })
+        found
     }
 
     /// Whether the text is given, or that of a key below a directory that could not be listed.
@@ -167,6 +168,11 @@ fn is_below_any(text: &str, directories: &[&str]) -> bool {
     false
 }
 
+/// What is said of a text that a walk after the pattern gives holds.
+fn check_text(rt: &impl Abort, holds: bool, pattern: &str, text: &str) {
+    assert!(rt; holds, "{pattern}: {text}");
+}
+
 /// Each path is in the goal, and each error is a shut directory's.
 fn check_sound(
     rt: &impl Abort,
@@ -176,10 +182,10 @@ fn check_sound(
     goal: &[&str],
 ) {
     for path in &found.paths {
-        assert!(rt; has(goal, path), "{pattern}: {path}");
+        check_text(rt, has(goal, path), pattern, path);
     }
     for shut in &found.shut {
-        assert!(rt; is_shut(content, pattern, shut), "{pattern}: {shut}");
+        check_text(rt, is_shut(content, pattern, shut), pattern, shut);
     }
 }
 
@@ -188,7 +194,7 @@ fn runs(pattern: &str) -> (u32, u32) {
     let mut runs = 0u32;
     let mut after = 0u32;
     let mut in_run = false;
-    for component in components(pattern) {
+    for component in bare(pattern).split('/') {
         let is_run = component == "**";
         if is_run && !in_run {
             runs = runs.saturating_add(1);
@@ -205,10 +211,10 @@ fn runs(pattern: &str) -> (u32, u32) {
 fn check_order(rt: &impl Abort, pattern: &str, paths: Vec<&str>) {
     let (runs, after) = runs(pattern);
     if runs == 0 || (runs == 1 && after <= 1) {
-        assert!(rt; rise(paths.as_slice()), "{pattern}");
+        check_row(rt, rise(paths.as_slice()), pattern);
     }
     if runs <= 1 {
-        assert!(rt; are_apart(paths), "{pattern}");
+        check_row(rt, are_apart(paths), pattern);
     }
 }
 
@@ -240,28 +246,33 @@ pub(super) fn check_goal(
     rt: &(impl Abort + AllocGlobal),
     content: &Content,
     job: Job<'_>,
-) -> Result<Outcome, Fail> {
-    let goal = goal(rt.alloc(), content, job)?;
-    let walk = at_once(rt, tree_of(rt, content)?, job)?;
-    let items = items_of(rt.alloc(), walk.items.as_slice())?;
-    let found = Found::of(rt.alloc(), items.as_slice())?;
+) -> Outcome {
+    let goal = goal(rt, content, job);
+    let walk = at_once(rt, tree_of(rt, content), job);
+    let items = items_of(rt, walk.items.as_slice());
+    let found = Found::of(rt, items.as_slice());
     check_sound(rt, content, job.pattern, &found, goal.as_slice());
     let outcome = Outcome {
         goal: goal.len(),
         shut: found.shut.len(),
         is_done: walk.end == End::Done,
     };
-    assert!(rt; outcome.is_done || job.limit < u64::MAX, "{}", job.pattern);
+    check_row(rt, outcome.is_done || job.limit < u64::MAX, job.pattern);
     if outcome.is_done {
-        for text in &goal {
-            assert!(rt; found.accounts_for(text), "{}: {text}", job.pattern);
-        }
+        check_whole(rt, job.pattern, &found, goal.as_slice());
     }
     if is_readable(content, job.pattern) {
-        assert!(rt; found.shut.is_empty(), "{}", job.pattern);
+        check_row(rt, found.shut.is_empty(), job.pattern);
         check_order(rt, job.pattern, found.paths);
     }
-    Ok(outcome)
+    outcome
+}
+
+/// Each text of the goal is accounted for.
+fn check_whole(rt: &impl Abort, pattern: &str, found: &Found<'_>, goal: &[&str]) {
+    for text in goal {
+        check_text(rt, found.accounts_for(text), pattern, text);
+    }
 }
 
 /// What became of a walk after a plain pattern.
@@ -276,31 +287,29 @@ pub(super) struct Outcome {
 }
 
 /// The goal of a walk over the content has the texts that these words write.
-fn check_texts(
-    rt: &(impl Abort + AllocGlobal),
-    content: &Content,
-    job: Job<'_>,
-    words: &str,
-) -> Result<(), Fail> {
-    let mut goal = goal(rt.alloc(), content, job)?;
+fn check_texts(rt: &(impl Abort + AllocGlobal), content: &Content, job: Job<'_>, words: &str) {
+    let mut goal = goal(rt, content, job);
     goal.sort_unstable();
-    let known: Vec<&str> = words.split_whitespace().collect(rt.alloc())?;
-    assert!(rt; are(goal.as_slice(), known.as_slice()), "{}", job.pattern);
-    Ok(())
+    let known = words_of(rt, words);
+    check_row(rt, are(goal.as_slice(), known.as_slice()), job.pattern);
+}
+
+/// The words of a text.
+fn words_of<'a>(rt: &(impl Abort + AllocGlobal), text: &'a str) -> Vec<&'a str> {
+    let mut words = Vec::new(rt.alloc());
+    for word in text.split_whitespace() {
+        push(rt, &mut words, word);
+    }
+    words
 }
 
 /// The goals of the patterns of a table over [`DOTTED`] have its texts.
-fn check_goals(
-    rt: &(impl Abort + AllocGlobal),
-    options: MatchOptions,
-    table: &str,
-) -> Result<(), Fail> {
-    let content = at_root(rt.alloc(), DOTTED)?;
-    for row in rows_of(rt.alloc(), table)? {
+fn check_goals(rt: &(impl Abort + AllocGlobal), options: MatchOptions, table: &str) {
+    let content = at_root(rt, DOTTED);
+    for row in rows_of(rt, table).as_slice() {
         assert!(rt; is_plain(row.pattern));
-        check_texts(rt, &content, Job::of(row.pattern).under(options), row.items)?;
+        check_texts(rt, &content, Job::of(row.pattern).under(options), row.items);
     }
-    Ok(())
 }
 
 /// Whether the texts are these.
@@ -309,21 +318,20 @@ fn are(found: &[&str], expected: &[&str]) -> bool {
 }
 
 #[test]
-fn goals(rt: HostRuntime) -> Result<(), Fail> {
+fn goals(rt: HostRuntime) {
     let with_rule = "
         **/.* => .d .f s/.e
         **/* => s s/y
         **/.d/* => .d/x
     ";
-    check_goals(&rt, DOT, with_rule)?;
+    check_goals(&rt, DOT, with_rule);
     let without = "
         **/.* => .d .f s/.e
         **/* => .d .d/x .f s s/.e s/y
         **/.d/* => .d/x
     ";
-    check_goals(&rt, CASE, without)?;
+    check_goals(&rt, CASE, without);
     assert!(rt; !is_plain("*/.*"));
-    Ok(())
 }
 
 /// The walks after the plain patterns of a table give their goals. Gives how many patterns are plain, how many texts
@@ -333,60 +341,63 @@ fn check_plain(
     content: &Content,
     options: MatchOptions,
     table: &str,
-) -> Result<(usize, usize, usize), Fail> {
+) -> (usize, usize, usize) {
     let (mut plain, mut texts, mut shut) = (0usize, 0usize, 0usize);
-    for row in rows_of(rt.alloc(), table)? {
+    for row in rows_of(rt, table).as_slice() {
         if is_plain(row.pattern) {
-            let outcome = check_goal(rt, content, Job::of(row.pattern).under(options))?;
+            let outcome = check_goal(rt, content, Job::of(row.pattern).under(options));
             plain = plain.saturating_add(1);
             texts = texts.saturating_add(outcome.goal);
             shut = shut.saturating_add(outcome.shut);
         }
     }
-    Ok((plain, texts, shut))
+    (plain, texts, shut)
 }
 
 #[test]
-fn files_are_what_the_undivided_pattern_matches(rt: HostRuntime) -> Result<(), Fail> {
-    let content = files(rt.alloc(), "")?;
-    let (plain, texts, _) = check_plain(&rt, &content, CASE, tables::ROWS)?;
+fn files_are_what_the_undivided_pattern_matches(rt: HostRuntime) {
+    let content = files(&rt, "");
+    let (plain, texts, _) = check_plain(&rt, &content, CASE, tables::ROWS);
     assert!(rt; plain > 30 && texts > 50, "{plain} patterns, {texts} texts");
-    let (plain, texts, _) = check_plain(&rt, &content, CASE, tables::SPECIALS)?;
+    let (plain, texts, _) = check_plain(&rt, &content, CASE, tables::SPECIALS);
     assert!(rt;
         plain == 10 && texts == 25,
         "{plain} patterns, {texts} texts"
     );
-    Ok(())
 }
 
 #[test]
-fn dotted_names_are_what_the_undivided_pattern_matches(rt: HostRuntime) -> Result<(), Fail> {
-    let content = at_root(rt.alloc(), DOTTED)?;
+fn dotted_names_are_what_the_undivided_pattern_matches(rt: HostRuntime) {
+    let content = at_root(&rt, DOTTED);
     for require_literal_separator in [false, true] {
         for options in [CASE, DOT] {
             let options = MatchOptions {
                 require_literal_separator,
                 ..options
             };
-            let (plain, _, _) = check_plain(&rt, &content, options, rows::DOTTED_ROWS)?;
-            assert_eq!(rt; plain, 6);
+            let (plain, _, _) = check_plain(&rt, &content, options, rows::DOTTED_ROWS);
+            assert!(rt; plain == 6);
         }
     }
-    Ok(())
 }
 
 /// Where a directory cannot be listed, what is missing lies below it, and nothing else is given.
 #[test]
-fn what_is_missing_lies_below_a_shut_directory(rt: HostRuntime) -> Result<(), Fail> {
-    let whole = files(rt.alloc(), "")?;
+fn what_is_missing_lies_below_a_shut_directory(rt: HostRuntime) {
+    let whole = files(&rt, "");
     let mut met = 0usize;
     for key in &whole.keys {
-        let mut content = files(rt.alloc(), "")?;
-        if content.shut(key.path.as_str()) {
-            let (_, _, shut) = check_plain(&rt, &content, CASE, tables::ROWS)?;
-            met = met.saturating_add(shut);
-        }
+        met = met.saturating_add(shut_below(&rt, key.path.as_str()));
     }
     assert!(rt; met > 50, "{met}");
-    Ok(())
+}
+
+/// How often the walks of the table over the files meet the directory of this path, if there is one, which is shut.
+fn shut_below(rt: &(impl Abort + AllocGlobal), path: &str) -> usize {
+    let mut content = files(rt, "");
+    if !content.shut(path) {
+        return 0;
+    }
+    let (_, _, shut) = check_plain(rt, &content, CASE, tables::ROWS);
+    shut
 }

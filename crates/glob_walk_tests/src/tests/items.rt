@@ -1,7 +1,9 @@
 //! What a walk gives, as tables write it.
+use super::made::push;
 use glob::{GlobCause, GlobResult};
-use std::alloc::{AllocError, Allocator, Global};
+use std::alloc::Allocator;
 use std::io::ErrorKind;
+use std::process::Abort;
 
 /// An item of a walk.
 #[derive(Clone, Copy, Debug, PartialEq, Eq)]
@@ -34,11 +36,15 @@ pub(super) fn item_of<A: Allocator>(given: &GlobResult<A>) -> Item<'_> {
 }
 
 /// The items that a walk gave.
-pub(super) fn items_of<A: Allocator>(
-    alloc: Global,
-    given: &[GlobResult<A>],
-) -> Result<Vec<Item<'_>>, AllocError> {
-    given.iter().map(|item| item_of(item)).collect(alloc)
+pub(super) fn items_of<'a, A: Allocator>(
+    rt: &(impl Abort + AllocGlobal),
+    given: &'a [GlobResult<A>],
+) -> Vec<Item<'a>> {
+    let mut items = Vec::new(rt.alloc());
+    for item in given {
+        push(rt, &mut items, item_of(item));
+    }
+    items
 }
 
 /// The item that a word writes: after `!` a directory that could not be read for this reason, after `^` where the limit
@@ -54,19 +60,43 @@ fn read_item(word: &str, kind: ErrorKind) -> Item<'_> {
 }
 
 /// The items that words write. Those that could not be read were not for this reason.
-pub(super) fn read_items(
-    alloc: Global,
-    words: &str,
+pub(super) fn read_items<'a>(
+    rt: &(impl Abort + AllocGlobal),
+    words: &'a str,
     kind: ErrorKind,
-) -> Result<Vec<Item<'_>>, AllocError> {
-    let mut items = Vec::new(alloc);
+) -> Vec<Item<'a>> {
+    let mut items = Vec::new(rt.alloc());
     for word in words.split_whitespace() {
-        items.push(read_item(word, kind))?;
+        push(rt, &mut items, read_item(word, kind));
     }
-    Ok(items)
+    items
 }
 
 /// Whether the items are these.
 pub(super) fn are(found: &[Item<'_>], expected: &[Item<'_>]) -> bool {
     found == expected
+}
+
+/// The item at this place was given, or memory ran out in its place. Gives whether memory sufficed.
+pub(super) fn check_item<A: Allocator>(
+    rt: &impl Abort,
+    given: &GlobResult<A>,
+    known: &[Item<'_>],
+    place: usize,
+) -> bool {
+    match item_of(given) {
+        Memory => false,
+        item => {
+            assert!(rt; known.get(place) == Some(&item));
+            true
+        }
+    }
+}
+
+/// Whether the items begin with these.
+pub(super) fn begins(items: &[Item<'_>], first: &[Item<'_>]) -> bool {
+    match items.get(..first.len()) {
+        Some(beginning) => are(beginning, first),
+        None => false,
+    }
 }

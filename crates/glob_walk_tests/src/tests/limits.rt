@@ -1,10 +1,9 @@
 //! One walk within each limit.
 use super::contents::at_root;
 use super::tables::check_limits;
-use std::test::Fail;
 
 #[test]
-fn each_limit(rt: HostRuntime) -> Result<(), Fail> {
+fn each_limit(rt: HostRuntime) {
     let rows = "
         0 1 2 => ^.
         3 4 => ^a
@@ -14,10 +13,5 @@ fn each_limit(rt: HostRuntime) -> Result<(), Fail> {
         11 12 => a/a/b a/a/b ^a/a
         13 14 => a/a/b a/a/b ; 13
     ";
-    check_limits(
-        &rt,
-        &at_root(rt.alloc(), "a/ a/a/ a/a/b")?,
-        "**/a/**/b",
-        rows,
-    )
+    check_limits(&rt, &at_root(&rt, "a/ a/a/ a/a/b"), "**/a/**/b", rows);
 }

@@ -1,48 +1,39 @@
 //! Each request for memory refused in turn: the answer is out of memory, or the one with ample memory.
-use super::checks::{check_ended, gather, next_of, start};
+use super::checks::{check_ended, check_next, gather, next_of, start};
 use super::contents::{Kind, plant};
-use super::items::Item::{self, Memory, Unread};
-use super::items::{item_of, read_items};
+use super::items::Item::{self, Unread};
+use super::items::{begins, check_item, item_of, items_of, read_items};
+use super::made::{check_number, made};
 use super::reference::Job;
-use crate::trees::{LyingTree, Ready, Unreadable};
-use glob::{End, GlobResult, MemTree, Paths, PatternRefusal, Tree, TreeRefusal};
+use crate::trees::{Asked, LyingTree, Ready, Unreadable};
+use glob::{End, MemTree, Paths, PatternRefusal, Tree, TreeRefusal};
 use glob_testing::rationing::{Ration, Rationed};
 use std::alloc::{Allocator, Global};
+use std::cell::Cell;
 use std::io::{self, ErrorKind};
 use std::process::Abort;
-use std::test::Fail;
 
 const FILES: u32 = 1_000;
 
 /// The first item of a walk over a thousand files is the first of them. Gives how many requests for memory were made
 /// before the walk.
-fn check_first<A: Allocator + Copy>(
-    rt: &impl Abort,
-    alloc: A,
-    ration: &Ration,
-) -> Result<u64, PatternRefusal> {
-    let Ok(ready) = Ready::files(alloc, FILES) else {
-        return Err(PatternRefusal::Memory);
-    };
+fn check_first<A: Allocator + Copy>(rt: &impl Abort, alloc: A, ration: &Ration) -> u64 {
+    let ready = made(rt, Ready::files(alloc, FILES));
     let before = ration.asked();
-    let mut paths = start(alloc, LyingTree::new(ready), Job::of("*"))?;
-    match next_of(&mut paths) {
-        Some(Ok(path)) => assert_eq!(rt; path.as_str(), "00000"),
-        _ => panic!(rt; "no path is given"),
-    }
-    Ok(before)
+    let mut paths = made(rt, start(alloc, LyingTree::new(ready), Job::of("*")));
+    check_next(rt, &mut paths, "00000");
+    before
 }
 
 #[test]
-fn a_thousand_files_take_few_requests(rt: HostRuntime) -> Result<(), Fail> {
+fn a_thousand_files_take_few_requests(rt: HostRuntime) {
     let ample = Rationed::refusing(0, rt.alloc());
-    let before = check_first(&rt, &ample, &ample.ration)?;
+    let before = check_first(&rt, &ample, &ample.ration);
     assert!(rt; before > u64::from(FILES));
 
     let scarce = Rationed::refusing(before.saturating_add(501), rt.alloc());
-    check_first(&rt, &scarce, &scarce.ration)?;
+    check_first(&rt, &scarce, &scarce.ration);
     assert!(rt; scarce.ration.asked() <= before.saturating_add(500));
-    Ok(())
 }
 
 const KEYS: [(&str, Kind); 6] = [
@@ -59,10 +50,18 @@ pub(super) fn small_tree<A: Allocator + Copy>(alloc: A) -> Result<MemTree<A>, Tr
     let Ok(mut tree) = MemTree::new(alloc) else {
         return Err(TreeRefusal::Memory);
     };
-    for (path, kind) in KEYS {
-        plant(&mut tree, path, kind)?;
+    match plant_all(&mut tree) {
+        Ok(()) => Ok(tree),
+        Err(refusal) => Err(refusal),
     }
-    Ok(tree)
+}
+
+/// Adds the few files to a tree.
+fn plant_all<A: Allocator + Copy>(tree: &mut MemTree<A>) -> Result<(), TreeRefusal> {
+    for (path, kind) in &KEYS {
+        plant(tree, path, *kind)?;
+    }
+    Ok(())
 }
 
 /// Patterns, and the items of a walk after each in that tree. The last has more than 63 tokens.
@@ -82,21 +81,9 @@ pub(super) const WALKS: [(&str, &str); 10] = [
     ),
 ];
 
-/// Whether the items that were given are the first of those that are known.
-fn is_beginning<A: Allocator>(given: &[GlobResult<A>], known: &[Item<'_>]) -> bool {
-    let mut place = 0usize;
-    for item in given {
-        if known.get(place) != Some(&item_of(item)) {
-            return false;
-        }
-        place = place.saturating_add(1);
-    }
-    true
-}
-
 /// Walks with memory from `alloc` by `walk_in`, and gives whether memory sufficed.
 fn gathers<A: Allocator + Copy>(
-    rt: &impl Abort,
+    rt: &(impl Abort + AllocGlobal),
     alloc: A,
     pattern: &str,
     known: &[Item<'_>],
@@ -110,7 +97,8 @@ fn gathers<A: Allocator + Copy>(
             false
         }
         Ok(walk) => {
-            assert!(rt; is_beginning(walk.items.as_slice(), known));
+            let items = items_of(rt, walk.items.as_slice());
+            assert!(rt; begins(known, items.as_slice()));
             let is_done = walk.end == End::Done;
             assert!(rt; is_done || walk.end == End::Memory);
             assert!(rt; !is_done || walk.items.len() == known.len());
@@ -129,10 +117,7 @@ fn check_steps<T: Tree>(rt: &impl Abort, paths: &mut Paths<T>, known: &[Item<'_>
             break;
         };
         assert!(rt; sufficed);
-        match item_of(&given) {
-            Memory => sufficed = false,
-            item => assert!(rt; known.get(place) == Some(&item)),
-        }
+        sufficed = check_item(rt, &given, known, place);
         place = place.saturating_add(1);
     }
     assert!(rt; !sufficed || place == known.len());
@@ -161,7 +146,7 @@ fn steps<A: Allocator + Copy>(
 
 /// Walks in one of both ways, and gives whether memory sufficed. All blocks are given back.
 fn walks(
-    rt: &impl Abort,
+    rt: &(impl Abort + AllocGlobal),
     alloc: &Rationed<Global>,
     pattern: &str,
     known: &[Item<'_>],
@@ -172,15 +157,15 @@ fn walks(
     } else {
         gathers(rt, alloc, pattern, known)
     };
-    assert_eq!(rt; alloc.ration.held(), 0);
+    assert!(rt; alloc.ration.held() == 0);
     sufficed
 }
 
 /// How many requests for memory the tree makes.
 fn requests_of_tree(rt: &(impl Abort + AllocGlobal)) -> u64 {
-    let made = Rationed::refusing(0, rt.alloc());
-    assert!(rt; small_tree(&made).is_ok());
-    made.ration.asked()
+    let counted = Rationed::refusing(0, rt.alloc());
+    made(rt, small_tree(&counted));
+    counted.ration.asked()
 }
 
 /// Refuses each request for memory of a walk in turn. Gives how often memory did not suffice.
@@ -203,79 +188,79 @@ fn check_walks(
 }
 
 #[test]
-fn each_request_of_a_walk_is_refused(rt: HostRuntime) -> Result<(), Fail> {
+fn each_request_of_a_walk_is_refused(rt: HostRuntime) {
     for (pattern, words) in WALKS {
-        let known = read_items(rt.alloc(), words, ErrorKind::PermissionDenied)?;
+        let known = read_items(&rt, words, ErrorKind::PermissionDenied);
         for by_steps in [true, false] {
             let short = check_walks(&rt, pattern, known.as_slice(), by_steps);
-            assert!(rt; short > 2, "{short} for {pattern}");
+            check_number(&rt, short > 2, u64::from(short), pattern);
         }
     }
-    Ok(())
 }
 
 /// A walk to its end within a limit: once it is over it holds what it held before its first item, without the path at
-/// which it starts. Its items are dropped.
-fn check_kept(
-    rt: &impl Abort,
-    alloc: &Rationed<Global>,
-    pattern: &str,
-    limit: u64,
-) -> Result<(), PatternRefusal> {
+/// which it starts. Gives whether memory sufficed to start it.
+fn check_kept(rt: &impl Abort, alloc: &Rationed<Global>, pattern: &str, limit: u64) -> bool {
     let Ok(tree) = small_tree(alloc) else {
-        return Err(PatternRefusal::Memory);
+        return false;
     };
-    let job = Job {
-        limit,
-        ..Job::of(pattern)
+    let Ok(mut paths) = start(alloc, tree, Job::of(pattern).within(limit)) else {
+        return false;
     };
-    let mut paths = start(alloc, tree, job)?;
     let before = alloc.ration.held();
+    walk_over(&mut paths);
+    let kept = alloc.ration.held().saturating_add(1);
+    check_number(rt, kept == before, limit, pattern);
+    true
+}
+
+/// Walks to the end, and drops the items.
+fn walk_over<T: Tree>(paths: &mut Paths<T>) {
     for _ in 0..u64::MAX {
-        if next_of(&mut paths).is_none() {
+        if next_of(paths).is_none() {
             break;
         }
     }
-    assert_eq!(rt;
-        alloc.ration.held().saturating_add(1),
-        before,
-        "{limit} for {pattern}"
-    );
-    Ok(())
 }
 
 /// A walk that is over keeps its tree and its pattern alone, also where a refusal came amid directories.
 #[test]
-fn a_walk_that_is_over_keeps_no_directory(rt: HostRuntime) -> Result<(), Fail> {
+fn a_walk_that_is_over_keeps_no_directory(rt: HostRuntime) {
     let mut started = 0u32;
     for (pattern, _) in WALKS {
         let ample = Rationed::refusing(0, rt.alloc());
         for limit in 0..=20 {
-            check_kept(&rt, &ample, pattern, limit)?;
+            check_number(&rt, check_kept(&rt, &ample, pattern, limit), limit, pattern);
         }
-        let whole = Rationed::refusing(0, rt.alloc());
-        check_kept(&rt, &whole, pattern, u64::MAX)?;
-        for number in requests_of_tree(&rt)..=whole.ration.asked() {
-            let scarce = Rationed::refusing(number, rt.alloc());
-            if check_kept(&rt, &scarce, pattern, u64::MAX).is_ok() {
-                started = started.saturating_add(1);
-            }
-        }
+        started = started.saturating_add(check_scarce(&rt, pattern));
     }
     assert!(rt; started > 30, "{started}");
-    Ok(())
+}
+
+/// The same where each request for memory of the walk is refused in turn. Gives how often it started.
+fn check_scarce(rt: &(impl Abort + AllocGlobal), pattern: &str) -> u32 {
+    let whole = Rationed::refusing(0, rt.alloc());
+    assert!(rt; check_kept(rt, &whole, pattern, u64::MAX));
+    let mut started = 0u32;
+    for number in requests_of_tree(rt)..=whole.ration.asked() {
+        let scarce = Rationed::refusing(number, rt.alloc());
+        if check_kept(rt, &scarce, pattern, u64::MAX) {
+            started = started.saturating_add(1);
+        }
+    }
+    started
 }
 
 /// An error's calls, and those that tell how far a walk is, make no request. Neither does a walk that has ended.
 #[test]
-fn what_needs_no_memory(rt: HostRuntime) -> Result<(), Fail> {
+fn what_needs_no_memory(rt: HostRuntime) {
     let counted = Rationed::refusing(0, rt.alloc());
     let error = io::Error::new(ErrorKind::InvalidData, "words");
     let tree = LyingTree::new(Unreadable {
         alloc: &counted,
         error,
     });
-    let mut paths = start(&counted, tree, Job::of("some/path/*"))?;
+    let mut paths = made(&rt, start(&counted, tree, Job::of("some/path/*")));
     let Some(Err(found)) = next_of(&mut paths) else {
         panic!(rt; "no error");
     };
@@ -283,8 +268,52 @@ fn what_needs_no_memory(rt: HostRuntime) -> Result<(), Fail> {
     assert!(rt; item_of(&Err(found)) == Unread("some/path", ErrorKind::InvalidData));
     assert!(rt; next_of(&mut paths).is_none());
     check_ended(&rt, &mut paths, u64::MAX, 1);
-    assert_eq!(rt; counted.ration.asked(), requests);
+    assert!(rt; counted.ration.asked() == requests);
     drop(paths);
-    assert_eq!(rt; counted.ration.held(), 0);
-    Ok(())
+    assert!(rt; counted.ration.held() == 0);
+}
+
+/// A walk as a whole with rationed memory. Where it is refused for memory, nothing was asked. Gives whether it was.
+fn is_refused<'a>(
+    rt: &impl Abort,
+    alloc: &'a Rationed<Global>,
+    questions: &'a Cell<u64>,
+    pattern: &str,
+) -> bool {
+    let Ok(tree) = small_tree(alloc) else {
+        return false;
+    };
+    match gather(
+        alloc,
+        LyingTree::new(Asked { tree, questions }),
+        Job::of(pattern),
+    ) {
+        Ok(_) => false,
+        Err(refusal) => {
+            assert!(rt; matches!(refusal, PatternRefusal::Memory));
+            assert!(rt; questions.get() == 0);
+            true
+        }
+    }
+}
+
+/// The same, with a place for its questions.
+fn is_refused_at(rt: &(impl Abort + AllocGlobal), number: u64, pattern: &str) -> bool {
+    let scarce = Rationed::refusing(number, rt.alloc());
+    let questions = Cell::new(0);
+    is_refused(rt, &scarce, &questions, pattern)
+}
+
+/// Memory that does not suffice for the pattern is refused before anything is asked.
+#[test]
+fn nothing_is_asked_where_a_walk_is_refused(rt: HostRuntime) {
+    let first = requests_of_tree(&rt).saturating_add(1);
+    for (pattern, _) in &WALKS {
+        let mut refused = 0u64;
+        for number in first..first.saturating_add(100) {
+            let is_refused = is_refused_at(&rt, number, pattern);
+            refused = refused.saturating_add(u64::from(is_refused));
+        }
+        check_number(&rt, refused > 0, refused, pattern);
+    }
 }

@@ -1,6 +1,6 @@
 //! Which patterns are plain.
+use super::made::{check_row, made};
 use glob::{PatternRefusal, is_plain};
-use std::test::Fail;
 
 const PLAIN: [&str; 10] = [
     "a",
@@ -20,14 +20,13 @@ const NOT_PLAIN: [&str; 12] = [
 ];
 
 #[test]
-fn plain_patterns(rt: HostRuntime) -> Result<(), Fail> {
+fn plain_patterns(rt: HostRuntime) {
     for pattern in PLAIN {
-        assert!(rt; is_plain(rt.alloc(), pattern)?, "{pattern}");
+        check_row(&rt, made(&rt, is_plain(rt.alloc(), pattern)), pattern);
     }
     for pattern in NOT_PLAIN {
-        assert!(rt; !is_plain(rt.alloc(), pattern)?, "{pattern}");
+        check_row(&rt, !made(&rt, is_plain(rt.alloc(), pattern)), pattern);
     }
-    Ok(())
 }
 
 #[test]

@@ -6,7 +6,6 @@ use super::reference::{self, Job, Stop};
 use super::refusals::check_refused;
 use glob::MemTree;
 use std::process::Abort;
-use std::test::Fail;
 
 /// Some stand there more than once, so that they come more often.
 pub(super) const COMPONENTS: [&str; 26] = [
@@ -55,36 +54,31 @@ impl Tally {
 }
 
 /// The library walks as the reference does.
-fn compare(
-    rt: &(impl Abort + AllocGlobal),
-    tree: MemTree,
-    job: Job<'_>,
-    tally: &mut Tally,
-) -> Result<(), Fail> {
+fn compare(rt: &(impl Abort + AllocGlobal), tree: MemTree, job: Job<'_>, tally: &mut Tally) {
     let (known, tree) = match reference::walk(rt.alloc(), tree, &job) {
         Ok(known) => known,
         Err(Stop::Refused(fault)) => {
             tally.refused = tally.refused.saturating_add(1);
             check_refused(rt, job, fault.pos, fault.msg);
-            return Ok(());
+            return;
         }
         Err(stop) => panic!(rt; "{stop:?} at {}", job.pattern),
     };
-    let items = known.items(rt.alloc())?;
+    let items = known.items(rt);
     tally.count(items.as_slice());
-    check_over(rt, tree, job, items.as_slice(), known.spent)
+    check_over(rt, tree, job, items.as_slice(), known.spent);
 }
 
 /// How many walks are compared.
 const WALKS: u32 = 4_000;
 
 #[test]
-fn random_walks(rt: HostRuntime) -> Result<(), Fail> {
+fn random_walks(rt: HostRuntime) {
     let mut random = Random::new();
     let mut tally = Tally::default();
     for _ in 0..WALKS {
-        let (_, tree) = some_tree(&rt, &mut random, 8)?;
-        let pattern = some_pattern(&rt, &mut random, &COMPONENTS)?;
+        let (_, tree) = some_tree(&rt, &mut random, 8);
+        let pattern = some_pattern(&rt, &mut random, &COMPONENTS);
         let limit = if random.once_in(3) {
             random.below(30)
         } else {
@@ -95,9 +89,8 @@ fn random_walks(rt: HostRuntime) -> Result<(), Fail> {
             options: some_options(&mut random),
             limit,
         };
-        compare(&rt, tree, job, &mut tally)?;
+        compare(&rt, tree, job, &mut tally);
     }
     // No kind of walk is rare.
     assert!(rt; tally.fewest() > 100, "{tally:?}");
-    Ok(())
 }

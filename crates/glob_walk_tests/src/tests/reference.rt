@@ -5,11 +5,13 @@
 ghost use Rattle.std.specs.Prelude.{◌<◌, IfOk};
 
 use super::items::Item;
+use super::made::push;
 use glob::{
     Entry, ListError, Look, MatchOptions, MemTree, Pattern, PatternError, PatternRefusal, Tree,
 };
 use std::alloc::{AllocError, Global};
 use std::io::ErrorKind;
+use std::process::Abort;
 
 /// A pattern, with what a walk after it needs to know.
 #[derive(Clone, Copy)]
@@ -25,6 +27,17 @@ enum Given {
     Path(String),
     Unread(String, ErrorKind),
     Limit(String),
+}
+
+impl Given {
+    /// The item itself.
+    fn item(&self) -> Item<'_> {
+        match self {
+            Given::Path(path) => Item::Path(path.as_str()),
+            Given::Unread(path, kind) => Item::Unread(path.as_str(), *kind),
+            Given::Limit(path) => Item::Limit(path.as_str()),
+        }
+    }
 }
 
 /// Why a walk is not gone on with.
@@ -64,16 +77,12 @@ pub(super) struct Walked {
 
 impl Walked {
     /// Its items, the refusal at a limit too.
-    pub(super) fn items(&self, alloc: Global) -> Result<Vec<Item<'_>>, AllocError> {
-        let mut items = Vec::new(alloc);
+    pub(super) fn items(&self, rt: &(impl Abort + AllocGlobal)) -> Vec<Item<'_>> {
+        let mut items = Vec::new(rt.alloc());
         for given in &self.given {
-            items.push(match given {
-                Given::Path(path) => Item::Path(path.as_str()),
-                Given::Unread(path, kind) => Item::Unread(path.as_str(), *kind),
-                Given::Limit(path) => Item::Limit(path.as_str()),
-            })?;
+            push(rt, &mut items, given.item());
         }
-        Ok(items)
+        items
     }
 }
 
@@ -205,6 +214,31 @@ impl Walking {
         }
     }
 
+    /// The path of a name in the directory at a path, if something stands there, and whether it is a directory. The name `.`
+    /// or `..` stands there where `d` holds.
+    fn look_up(
+        &mut self,
+        rules: &Rules,
+        name: &str,
+        path: &str,
+        d: bool,
+    ) -> Result<Option<(String, bool)>, Stop> {
+        let path = child(rules.alloc, path, name)?;
+        let seen = self.look(rules, path.as_str())?;
+        let there = match name {
+            "." | ".." => d,
+            _ => seen != Look::Missing,
+        };
+        Ok(there.then_some((path, seen == Look::Dir)))
+    }
+
+    /// The path of a special name in the directory at a path, and whether it is a directory.
+    fn look_at(&mut self, rules: &Rules, path: &str, name: &str) -> Result<(String, bool), Stop> {
+        let path = join(rules.alloc, path, name)?;
+        let seen = self.look(rules, path.as_str())?;
+        Ok((path, seen == Look::Dir))
+    }
+
     /// The component of this number is met by a path, which is a directory's where `d` holds.
     #[cycle(walk)]
     fn enter(
@@ -220,17 +254,10 @@ impl Walking {
             return Err(Stop::TooDeep);
         };
         if component.is_literal() {
-            let name = component.text.as_str();
-            let path = child(rules.alloc, path, name)?;
-            let seen = self.look(rules, path.as_str())?;
-            let there = match name {
-                "." | ".." => d,
-                _ => seen != Look::Missing,
+            return match self.look_up(rules, component.text.as_str(), path, d)? {
+                Some((path, d)) => self.reach(rules, depth, i, path.as_str(), d),
+                None => Ok(()),
             };
-            if there {
-                self.reach(rules, depth, i, path.as_str(), seen == Look::Dir)?;
-            }
-            return Ok(());
         }
         if !d {
             return Ok(());
@@ -249,24 +276,51 @@ impl Walking {
         path: &str,
     ) -> Result<(), Stop> {
         let depth = deeper(depth)?;
-        let Some(entries) = self.list(rules, path)? else {
-            return Ok(());
-        };
-        if component.begins_with_dot() {
-            for name in ["..", "."] {
-                if component.pattern.matches_with(name, rules.options)? {
-                    let path = join(rules.alloc, path, name)?;
-                    let seen = self.look(rules, path.as_str())?;
-                    self.reach(rules, depth, i, path.as_str(), seen == Look::Dir)?;
-                }
-            }
+        match self.list(rules, path)? {
+            Some(entries) => self.by_names(rules, depth, i, component, path, entries.as_slice()),
+            None => Ok(()),
         }
-        for entry in &entries {
-            let name = entry.name.as_str();
-            let path = child(rules.alloc, path, name)?;
-            self.meet(rules, depth, i, path.as_str(), name, entry.is_dir)?;
+    }
+
+    /// A component with wildcards is met by the special names, if it begins with a dot, and by these entries.
+    #[cycle(walk)]
+    fn by_names(
+        &mut self,
+        rules: &Rules,
+        depth: u32,
+        i: usize,
+        component: &Component,
+        path: &str,
+        entries: &[Entry],
+    ) -> Result<(), Stop> {
+        let depth = deeper(depth)?;
+        if component.begins_with_dot() {
+            self.by_special(rules, depth, i, component, path, "..")?;
+            self.by_special(rules, depth, i, component, path, ".")?;
+        }
+        for entry in entries {
+            self.meet(rules, depth, i, path, entry.name.as_str(), entry.is_dir)?;
         }
         Ok(())
+    }
+
+    /// A component that begins with a dot is met by `.` or `..` in a directory.
+    #[cycle(walk)]
+    fn by_special(
+        &mut self,
+        rules: &Rules,
+        depth: u32,
+        i: usize,
+        component: &Component,
+        path: &str,
+        name: &str,
+    ) -> Result<(), Stop> {
+        let depth = deeper(depth)?;
+        if !component.pattern.matches_with(name, rules.options)? {
+            return Ok(());
+        }
+        let (path, d) = self.look_at(rules, path, name)?;
+        self.reach(rules, depth, i, path.as_str(), d)
     }
 
     /// The component of this number takes the path.
@@ -290,9 +344,25 @@ impl Walking {
         Ok(())
     }
 
-    /// The component of this number, which has wildcards, is met by an entry.
+    /// The component of this number, which has wildcards, is met by an entry of the directory at a path.
     #[cycle(walk)]
     fn meet(
+        &mut self,
+        rules: &Rules,
+        depth: u32,
+        i: usize,
+        path: &str,
+        name: &str,
+        d: bool,
+    ) -> Result<(), Stop> {
+        let depth = deeper(depth)?;
+        let path = child(rules.alloc, path, name)?;
+        self.take(rules, depth, i, path.as_str(), name, d)
+    }
+
+    /// The same, for the path of the entry itself.
+    #[cycle(walk)]
+    fn take(
         &mut self,
         rules: &Rules,
         depth: u32,
@@ -358,7 +428,7 @@ impl Rules {
 }
 
 /// How deep the recursion may go.
-const DEPTH: u32 = 200;
+const DEPTH: u32 = 400;
 
 /// Walks over a tree, which comes back.
 pub(super) fn walk(alloc: Global, tree: MemTree, job: &Job<'_>) -> Result<(Walked, MemTree), Stop> {

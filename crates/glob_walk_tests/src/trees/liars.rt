@@ -1,6 +1,7 @@
 //! What lying trees say.
 use super::Liar;
 use glob::{Entry, ListError, Look, MemTree, Name, Tree};
+use glob_testing::rationing::Rationed;
 use std::alloc::{AllocError, Allocator, Global};
 use std::cell::Cell;
 use std::io::{self, ErrorKind};
@@ -335,6 +336,38 @@ impl<A: Allocator + Copy> Liar for Noting<'_, A> {
             entry.is_dir = !entry.is_dir;
         }
         Ok(entries)
+    }
+}
+
+/// A tree in memory with memory that is rationed. It counts its questions in a place that it is lent.
+#[derive(Drop)]
+pub struct Asked<'a> {
+    /// Its answers.
+    pub tree: MemTree<&'a Rationed<Global>>,
+    /// How many questions there were.
+    pub questions: &'a Cell<u64>,
+}
+
+impl Asked<'_> {
+    fn count(&self) {
+        self.questions.set(self.questions.get().wrapping_add(1));
+    }
+}
+
+impl<'a> Liar for Asked<'a> {
+    type Alloc = &'a Rationed<Global>;
+
+    fn look(&mut self, path: &str) -> Result<Look, AllocError> {
+        self.count();
+        self.tree.look(path)
+    }
+
+    fn list(
+        &mut self,
+        path: &str,
+    ) -> Result<Vec<Entry<&'a Rationed<Global>>, &'a Rationed<Global>>, ListError> {
+        self.count();
+        self.tree.list(path)
     }
 }
 

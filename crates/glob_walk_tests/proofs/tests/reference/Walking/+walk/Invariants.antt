@@ -15,3 +15,12 @@ decreases-meet l = l.depth
 
 abbrev pub decreases-match_at : goal.decreases-match_at
 decreases-match_at l = l.depth
+
+abbrev pub decreases-by_names : goal.decreases-by_names
+decreases-by_names l = l.depth
+
+abbrev pub decreases-by_special : goal.decreases-by_special
+decreases-by_special l = l.depth
+
+abbrev pub decreases-take : goal.decreases-take
+decreases-take l = l.depth
