@@ -1,6 +1,7 @@
 //! Texts written as patterns, and patterns copied and compared.
 use super::made::{add, check, made, pattern_of, text};
 use glob_pattern::{MatchOptions, Pattern};
+use glob_testing::texts::Parts;
 use std::hash::{DefaultHasher, Hash, Hasher};
 use std::path::Path;
 use std::process::Abort;
@@ -31,15 +32,22 @@ fn special_characters_get_brackets(rt: HostRuntime) {
 
 const CHARACTERS: [&str; 11] = ["a", "?", "*", "[", "]", "!", "-", "/", ".", "\\", "\u{e9}"];
 
+/// Adds the text of these characters to a list.
+fn add_text(rt: &(impl AllocGlobal + Abort), texts: &mut Vec<String>, parts: Parts<'_>) {
+    add(rt, texts, text(rt, parts));
+}
+
 /// The texts of up to three of the characters.
 fn short_texts(rt: &(impl AllocGlobal + Abort)) -> Vec<String> {
     let mut texts = Vec::new(rt.alloc());
-    add(rt, &mut texts, String::new(rt.alloc()));
-    // Each text of fewer than three is one of the first 1 + 11 + 121.
-    for number in 0..133usize {
-        for character in CHARACTERS {
-            let longer = text(rt, &[(texts[number].as_str(), 1), (character, 1)]);
-            add(rt, &mut texts, longer);
+    add_text(rt, &mut texts, &[]);
+    for first in &CHARACTERS {
+        add_text(rt, &mut texts, &[(first, 1)]);
+        for second in &CHARACTERS {
+            add_text(rt, &mut texts, &[(first, 1), (second, 1)]);
+            for third in &CHARACTERS {
+                add_text(rt, &mut texts, &[(first, 1), (second, 1), (third, 1)]);
+            }
         }
     }
     texts

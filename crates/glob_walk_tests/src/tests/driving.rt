@@ -107,8 +107,9 @@ fn drive_most(
     job: Job<'_>,
     most: u64,
 ) -> (Driven, u64) {
-    let machine = WalkMachine::new(rt.alloc(), job.pattern, job.options, job.limit);
-    let mut machine = made(rt, machine);
+    let Ok(mut machine) = WalkMachine::new(rt.alloc(), job.pattern, job.options, job.limit) else {
+        panic!(rt; "{} is refused", job.pattern);
+    };
     let driven = made(rt, drive(rt.alloc(), &mut machine, tree, most));
     assert!(rt; machine.spent() <= job.limit);
     assert!(rt; machine.given() <= u128::from(machine.spent()) + 1);
