@@ -16,4 +16,5 @@ pub mod Running
 pub mod Splits
 pub mod Stepping
 pub mod Tokens
+pub mod TokensOf
 pub mod Trims

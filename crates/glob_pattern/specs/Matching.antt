@@ -1,4 +1,5 @@
 pub mod Components
+pub mod Literals
 pub mod Options
 pub mod Short
 pub mod Splits

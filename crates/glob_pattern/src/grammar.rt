@@ -28,7 +28,7 @@ pub fn read_tokens<A: Allocator + Copy>(
 }
 
 /// The characters of a text. Fails only if allocation fails.
-fn characters_of<A: Allocator>(alloc: A, text: &str) -> Result<Vec<char, A>, AllocError>
+pub fn characters_of<A: Allocator>(alloc: A, text: &str) -> Result<Vec<char, A>, AllocError>
     ensures { IfOk result (λ characters. characters.items ≡ chars text.now) }
 {
     let mut characters = vec![in alloc; '\0'; text.len()]?;

@@ -13,4 +13,7 @@ mod token;
 pub use error::{PatternError, PatternRefusal};
 pub use matcher::{Judge, Shape, run_positions};
 pub use options::MatchOptions;
-pub use pattern::{Pattern, Trimmed, match_trimmed, trim};
+pub use pattern::{
+    Pattern, TokenKind, Trimmed, characters_of, literal_at, match_trimmed, token_count, token_kind,
+    token_takes, tokens_len, trim,
+};

@@ -1,6 +1,7 @@
-ghost use Rattle.std.specs.Prelude.{◌≡◌, ◌*◌, ◌≤◌, ◌↔◌, [], length, IsTrue, IsOk, IfOk, IfErr, MatchOption, chars};
+ghost use Rattle.std.specs.Prelude.{◌≡◌, ◌*◌, ◌≤◌, ◌↔◌, [], length, IsTrue, IsOk, IfOk, IfErr, IfSome, MatchOption, chars};
 ghost use Rattle.std.specs.Str.{is_utf8};
 ghost use Rattle.glob_pattern.specs.Matching.Trims.{IsTrimmed};
+ghost use Rattle.glob_pattern.specs.Matching.Literals.{HasCount, HasLiteral};
 ghost use Rattle.glob_pattern.specs.Matching.Short.{IsShort};
 ghost use Rattle.std.specs.Path.{path_bytes};
 ghost use Rattle.glob_pattern.specs.Grammar.Units.{IsAccepted};
@@ -15,6 +16,7 @@ mod escape;
 mod judge;
 mod needle;
 mod prefilter;
+mod tokens;
 
 use crate::error::PatternRefusal;
 use crate::grammar;
@@ -24,6 +26,7 @@ pub use prefilter::Trimmed;
 use std::alloc::{AllocError, Allocator, Global};
 use std::marker::Model;
 use std::path::Path;
+pub use tokens::{TokenKind, characters_of, token_kind, token_takes, tokens_len};
 
 /// A parsed pattern, which matches texts.
 ///
@@ -214,4 +217,19 @@ pub fn match_trimmed<A: Allocator + Copy>(
     ensures short { IsShort (chars pattern.now) → IsOk result }
 {
     pattern.compiled.matches(str, options, trimmed)
+}
+
+/// How many tokens the pattern has: of `a*.rs` 5.
+pub fn token_count<A: Allocator>(pattern: &Pattern<A>) -> usize
+    ensures { HasCount (chars pattern.now) result }
+{
+    pattern.compiled.len()
+}
+
+/// The character that the token of this number is, counted from 0, or `None` if it is a wildcard or a bracket, or there
+/// is none: of `a*.rs` it is `.` at 2.
+pub fn literal_at<A: Allocator>(pattern: &Pattern<A>, number: usize) -> Option<char>
+    ensures { IfSome result (HasLiteral (chars pattern.now) number) }
+{
+    pattern.compiled.literal_at(number)
 }

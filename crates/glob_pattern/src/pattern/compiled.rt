@@ -1,6 +1,6 @@
 //! What a match reads of a pattern, and how a match goes: the ends of the text are compared, a needle is searched for,
 //! and what is left goes through the position sets.
-ghost use Rattle.std.specs.Prelude.{◌≡◌, ℕ, suc, ◌+◌, ◌-◌, ◌*◌, ◌<◌, ◌≤◌, ◌↔◌, [], length, map, IsTrue, IsOk, IfOk, MatchOption, chars};
+ghost use Rattle.std.specs.Prelude.{◌≡◌, ℕ, suc, ◌+◌, ◌-◌, ◌*◌, ◌<◌, ◌≤◌, ◌↔◌, [], length, map, IsTrue, IsOk, IfOk, IfSome, MatchOption, chars, slice_index_or};
 ghost use Rattle.std.specs.Str.{is_utf8};
 ghost use Rattle.std.specs.Int.{IsBitSet};
 ghost use Rattle.glob_pattern.specs.Grammar.Tokens.{shape_of};
@@ -9,6 +9,7 @@ ghost use Rattle.glob_pattern.specs.Private.Positions.{AreShapeWords, TakesRest}
 ghost use Rattle.glob_pattern.specs.Private.TextTable.{table_of};
 ghost use Rattle.glob_pattern.specs.Matching.Trims.{IsTrim};
 ghost use Rattle.glob_text.specs.Text.{Text};
+ghost use Rattle.glob_pattern.specs.declared.token.Token.TheVariants.{Literal, AnyChar};
 
 use crate::matcher::{Judge, ShapeWord, Span, WORD, decide, shape_words};
 use crate::options::MatchOptions;
@@ -47,6 +48,14 @@ impl<A: Allocator> Model for Compiled<A> {
 }
 
 impl<A: Allocator> Compiled<A> {
+    /// The tokens, in the order of the pattern.
+    #[inline(always)]
+    pub fn tokens(&self) -> &[Token<Bracket<A>>]
+        ensures { result.now ≡ self.now }
+    {
+        self.tokens.as_slice()
+    }
+
     /// How many characters at the ends of the text are taken by tokens of one character each. `None`: the text does not
     /// match. The bytes need not be UTF-8.
     #[inline(always)]
@@ -56,6 +65,23 @@ impl<A: Allocator> Compiled<A> {
             (λ t. IsTrim options self.now bytes.now t.start t.end) }
     {
         self.prefilter.trim(self.tokens.as_slice(), bytes, options)
+    }
+
+    /// How many tokens there are.
+    pub fn len(&self) -> usize
+        ensures { result ≡ length self.now }
+    {
+        self.tokens.len()
+    }
+
+    /// The character of the token of this number, if there is one and it is a literal.
+    pub fn literal_at(&self, number: usize) -> Option<char>
+        ensures { IfSome result (λ c. slice_index_or self.now number AnyChar ≡ Literal c) }
+    {
+        match self.tokens.get(number) {
+            Some(Token::Literal(c)) => Some(*c),
+            _ => None,
+        }
     }
 }
 

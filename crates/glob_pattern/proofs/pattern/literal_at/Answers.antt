@@ -1,0 +1,17 @@
+use Rattle.std.proofs.Common.{◌≡◌, ℕ, Option, None, Some, IfSome, chars, subst, get_or}
+use Rattle.glob_pattern.specs.Matching.Literals.{HasLiteral}
+use Rattle.glob_pattern.specs.declared.token.Token.TheVariants.{Literal, AnyChar}
+use Rattle.glob_pattern.proofs.GrammarLemmas.Accepted.{one_reading}
+use Rattle.glob_pattern.proofs.pattern.literal_at.Goals as goal
+
+IfSome-map : {T : Type 0} {P Q : T → Type 0} (x : Option T) → ((t : T) → P t → Q t) → IfSome x P → IfSome x Q
+IfSome-map None p h = h
+IfSome-map (Some t) p h = p t h
+
+pub returns : goal.returns
+unfolding HasLiteral
+returns g c =
+    let read = rw c.pattern.view_is at c.pattern.invariant in
+    IfSome-map c.literal_at.result
+    (λ x is tokens has. subst (λ ts. get_or ts c.args.number AnyChar ≡ Literal x) (one_reading (chars c.args.pattern.now) c.pattern.inside.compiled tokens read has) is)
+    c.literal_at.ensures

@@ -1,0 +1,89 @@
+//! The tokens of a pattern, one by one: how many there are, of which kind, and what each takes.
+ghost use Rattle.std.specs.Prelude.{◌≡◌, ◌<◌, length, slice_index_or, IfOk, chars};
+ghost use Rattle.glob_pattern.specs.Grammar.Units.{HasTokens};
+ghost use Rattle.glob_pattern.specs.Matching.Taking as taking;
+ghost use Rattle.glob_pattern.specs.Computing.Tokens.{tokens_of, kind_of};
+ghost use Rattle.glob_pattern.specs.declared.token.Token.TheVariants.{AnyChar as Wildcard};
+
+use crate::grammar;
+use crate::options::MatchOptions;
+use crate::pattern::Pattern;
+use crate::token::Token;
+use crate::token::bracket::Bracket;
+use crate::token::taking::takes;
+use std::alloc::{AllocError, Allocator};
+
+/// What kind of token it is. That of the pattern `?` is `AnyChar`.
+#[derive(Clone, Copy, Debug, PartialEq, Eq)]
+pub enum TokenKind {
+    /// A character.
+    Literal,
+    /// `?`, any one character.
+    AnyChar,
+    /// `*`, any number of characters.
+    AnySequence,
+    /// `**`, any number of whole components. Neighbours are one token.
+    Recursive,
+    /// `[..]`, a character that the bracket holds.
+    OneOf,
+    /// `[!..]`, a character that the bracket does not hold.
+    NoneOf,
+}
+
+/// How many tokens a pattern has: `[a-z]*` has two. At most one for each character.
+#[inline(always)]
+pub fn tokens_len<A: Allocator>(pattern: &Pattern<A>) -> usize
+    ensures count { result ≡ length (tokens_of (chars pattern.now)) }
+    ensures read { HasTokens (chars pattern.now) (tokens_of (chars pattern.now)) }
+{
+    tokens_in(pattern).len()
+}
+
+/// The tokens of a pattern.
+#[inline(always)]
+fn tokens_in<A: Allocator>(pattern: &Pattern<A>) -> &[Token<Bracket<A>>]
+    ensures tokens { result.now ≡ tokens_of (chars pattern.now) }
+    ensures read { HasTokens (chars pattern.now) (tokens_of (chars pattern.now)) }
+{
+    pattern.compiled.tokens()
+}
+
+/// What kind of token the one of this number is, counted from 0.
+#[inline(always)]
+pub fn token_kind<A: Allocator>(pattern: &Pattern<A>, token: usize) -> TokenKind
+    requires { token < length (tokens_of (chars pattern.now)) }
+    ensures { result ≡ kind_of (slice_index_or (tokens_of (chars pattern.now)) token Wildcard) }
+{
+    match &tokens_in(pattern)[token] {
+        Token::Literal(_) => TokenKind::Literal,
+        Token::AnyChar => TokenKind::AnyChar,
+        Token::AnySequence => TokenKind::AnySequence,
+        Token::Recursive => TokenKind::Recursive,
+        Token::OneOf(_) => TokenKind::OneOf,
+        Token::NoneOf(_) => TokenKind::NoneOf,
+    }
+}
+
+/// Whether the token of this number, counted from 0, takes the character. `opening`: a component starts at its place. So
+/// token 1 of `a*` takes any character.
+#[inline(always)]
+pub fn token_takes<A: Allocator>(
+    pattern: &Pattern<A>,
+    token: usize,
+    options: MatchOptions,
+    opening: bool,
+    c: char,
+) -> bool
+    requires { token < length (tokens_of (chars pattern.now)) }
+    ensures { result
+        ≡ taking.takes options opening c (slice_index_or (tokens_of (chars pattern.now)) token Wildcard) }
+{
+    takes(&tokens_in(pattern)[token], options, opening, c)
+}
+
+/// The characters of a text. Fails only if allocation fails.
+pub fn characters_of<A: Allocator>(alloc: A, text: &str) -> Result<Vec<char, A>, AllocError>
+    ensures { IfOk result (λ characters. characters.items ≡ chars text.now) }
+{
+    grammar::characters_of(alloc, text)
+}
