@@ -1,0 +1,82 @@
+//! Lists of the patterns that may match a text, by the class of its last two bytes.
+ghost use Rattle.std.specs.Prelude.{◌≡◌, ◌≢◌, false, length, IfOk, IsSomeAnd};
+ghost use Rattle.glob_set.specs.Private.Buckets.{IsBucket, AreBuckets};
+ghost use Rattle.glob_set.specs.Private.Pairs.{AreNeeds};
+
+use crate::pairs::Need;
+use glob_pattern::Pattern;
+use std::alloc::{AllocError, Allocator, Global};
+use std::marker::Model;
+
+/// How many classes there are.
+pub const CLASSES: u8 = 128;
+
+/// Numbers of patterns, in ascending order.
+#[derive(Drop)]
+pub struct Bucket<A: Allocator = Global> {
+    numbers: Vec<usize, A>,
+}
+
+impl<A: Allocator> Model for Bucket<A> {
+    ghost use Rattle.std.specs.Prelude.{List, ℕ};
+
+    ghost Value = { List ℕ };
+
+    ghost view = { λ bucket. bucket.numbers.items };
+}
+
+impl<A: Allocator> Bucket<A> {
+    /// The numbers, as 1 and 4.
+    #[inline(always)]
+    pub fn numbers(&self) -> &[usize]
+        ensures { result.now ≡ self.now }
+    {
+        self.numbers.as_slice()
+    }
+}
+
+/// For each class the numbers of the patterns that may match a text of it.
+pub fn buckets_of<A: Allocator + Copy>(
+    alloc: A,
+    patterns: &[Pattern<A>],
+    needs: &[Need],
+) -> Result<Vec<Bucket<A>, A>, AllocError>
+    requires { AreNeeds patterns.now needs.now }
+    ensures { IfOk result (λ buckets. AreBuckets patterns.now buckets.items) }
+{
+    let mut buckets = Vec::new(alloc);
+    for class in 0..CLASSES {
+        buckets.push(bucket_of(alloc, patterns, needs, class)?)?;
+    }
+    Ok(buckets)
+}
+
+/// The numbers of the patterns that may match a text of the class.
+fn bucket_of<A: Allocator + Copy>(
+    alloc: A,
+    patterns: &[Pattern<A>],
+    needs: &[Need],
+    class: u8,
+) -> Result<Bucket<A>, AllocError>
+    requires { AreNeeds patterns.now needs.now }
+    ensures { IfOk result (λ bucket. IsBucket patterns.now class (length patterns.now) bucket) }
+{
+    let _ = patterns;
+    let mut numbers = Vec::new(alloc);
+    for number in 0..needs.len() {
+        if may_be_of(&needs[number], class) {
+            numbers.push(number)?;
+        }
+    }
+    Ok(Bucket { numbers })
+}
+
+/// Whether a text of the class may have what is needed.
+fn may_be_of(need: &Need, class: u8) -> bool
+    ensures { result ≡ false → IsSomeAnd need.now.class (λ known. known ≢ class) }
+{
+    match need.class {
+        Some(known) => known == class,
+        None => true,
+    }
+}

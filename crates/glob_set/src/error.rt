@@ -1,0 +1,58 @@
+ghost use Rattle.std.specs.Prelude.{Some};
+ghost use Rattle.glob_set.specs.Words.{refusal_words};
+
+use glob_pattern::PatternError;
+use std::alloc::{AllocError, AllocFailed};
+use std::error::Error;
+use std::fmt;
+
+/// Why texts were refused as the patterns of a set, by [`PatternSet::from_texts`](crate::PatternSet::from_texts). So
+/// `*.o` and `[a` are refused with `Syntax`, the number 1 and the place 0, and that prints as
+/// `pattern 1: Pattern syntax error near position 0: invalid range pattern`.
+#[derive(Debug, Drop)]
+pub enum SetRefusal {
+    /// The first text that is not accepted: its number, counted from 0, and its first fault from the left.
+    Syntax(usize, PatternError),
+    /// Out of memory: an allocation failed.
+    Memory,
+}
+
+impl fmt::Display for SetRefusal {
+    ghost output = { λ refusal. Some (refusal_words refusal) };
+
+    fn fmt<W: fmt::Write>(&self, f: &mut fmt::Formatter<W>) -> fmt::Result {
+        match self {
+            SetRefusal::Syntax(number, error) => {
+                write!(f, "pattern {number}: ")?;
+                error.fmt(f)
+            }
+            SetRefusal::Memory => f.write_str("out of memory"),
+        }
+    }
+}
+
+impl Error for SetRefusal {}
+
+/// A failed allocation.
+impl From<AllocError> for SetRefusal {
+    ghost use Rattle.std.specs.Prelude.{◌≡◌};
+    ghost use Rattle.glob_set.specs.declared.error.SetRefusal.TheVariants.{Memory};
+
+    ghost from_gives = { λ _ refusal. refusal ≡ Memory };
+
+    fn from(_error: AllocError) -> SetRefusal {
+        SetRefusal::Memory
+    }
+}
+
+/// A failed allocation.
+impl<T: Drop> From<AllocFailed<T>> for SetRefusal {
+    ghost use Rattle.std.specs.Prelude.{◌≡◌};
+    ghost use Rattle.glob_set.specs.declared.error.SetRefusal.TheVariants.{Memory};
+
+    ghost from_gives = { λ _ refusal. refusal ≡ Memory };
+
+    fn from(_error: AllocFailed<T>) -> SetRefusal {
+        SetRefusal::Memory
+    }
+}

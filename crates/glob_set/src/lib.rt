@@ -1,0 +1,14 @@
+//! Sets of patterns: which of many patterns match a text, where few of them are asked about it.
+//!
+//! A [`PatternSet`] of `*.o`, `target/**` and `!*` says of `a.o` that number 0 is the first pattern that matches it.
+#![tactic(auto)]
+
+mod buckets;
+mod error;
+mod needs;
+mod pairs;
+mod reading;
+mod set;
+
+pub use error::SetRefusal;
+pub use set::PatternSet;

@@ -1,0 +1,71 @@
+//! What a text needs so that a pattern may match it.
+ghost use Rattle.std.specs.Prelude.{◌≡◌, ◌<◌, IfOk, IfSome, MatchOption, bit_or, chars};
+ghost use Rattle.glob_pattern.specs.Matching.Literals.{HasLiteral};
+ghost use Rattle.glob_set.specs.Private.Pairs.{class_bit, IsPairAt, IsNeed, AreNeeds};
+
+use crate::pairs::{Need, class_bit, pair_class};
+use glob_pattern::{Pattern, literal_at, token_count};
+use std::alloc::{AllocError, Allocator};
+
+/// For each of the patterns what each text has that it matches.
+pub fn needs_of<A: Allocator + Copy>(
+    alloc: A,
+    patterns: &[Pattern<A>],
+) -> Result<Vec<Need, A>, AllocError>
+    ensures { IfOk result (λ needs. AreNeeds patterns.now needs.items) }
+{
+    let mut needs = Vec::new(alloc);
+    for pattern in patterns {
+        needs.push(need_of(pattern))?;
+    }
+    Ok(needs)
+}
+
+/// What each text has that the pattern matches: of `src/*.rs` the neighbours in `src/` and `.rs`, with `s` at the start
+/// and `rs` at the end.
+fn need_of<A: Allocator>(pattern: &Pattern<A>) -> Need
+    ensures { IsNeed pattern.now result }
+{
+    let mut bits = 0;
+    let mut class = None;
+    for number in 0..token_count(pattern) {
+        class = pair_at(pattern, number);
+        bits = with_class(bits, class);
+    }
+    Need { bits, class }
+}
+
+/// The bits, and that of the class if there is one.
+fn with_class(bits: u128, class: Option<u8>) -> u128
+    requires { IfSome class (λ k. k < 128) }
+    ensures { MatchOption class (result ≡ bits) (λ k. result ≡ bit_or bits (class_bit k)) }
+{
+    match class {
+        Some(class) => bits | class_bit(class),
+        None => bits,
+    }
+}
+
+/// The class of the byte that the token of this number is and of the byte before it, if these are known.
+fn pair_at<A: Allocator>(pattern: &Pattern<A>, number: usize) -> Option<u8>
+    ensures pair { IfSome result (IsPairAt pattern.now number) }
+    ensures small { IfSome result (λ class. class < 128) }
+{
+    let byte = byte_at(pattern, number)?;
+    if number == 0 {
+        return Some(pair_class(0, byte));
+    }
+    let before = byte_at(pattern, number - 1)?;
+    Some(pair_class(before, byte))
+}
+
+/// The byte that the token of this number is, if it is a literal of ASCII.
+fn byte_at<A: Allocator>(pattern: &Pattern<A>, number: usize) -> Option<u8>
+    ensures literal { IfSome result (HasLiteral (chars pattern.now) number) }
+    ensures ascii { IfSome result (λ b. b < 128) }
+{
+    match literal_at(pattern, number) {
+        Some(c) if c.is_ascii() => Some(c as u8),
+        _ => None,
+    }
+}

@@ -1,0 +1,250 @@
+ghost use Rattle.std.specs.Prelude.{◌≡◌, ℕ, ◌<◌, ◌↔◌, length, map, IsTrue, IsOk, IfOk, IfErr, OnOk, OnErr};
+ghost use Rattle.std.specs.Path.{path_bytes};
+ghost use Rattle.glob_set.specs.Private.Buckets.{IsBucket};
+ghost use Rattle.glob_set.specs.Private.Pairs.{text_bits};
+ghost use Rattle.glob_set.specs.Sets.{MatchesAt, AnyMatch, FirstMatch, LastMatch, all_matches, AreFirstMatches, AreShort, RefusesTexts};
+
+use crate::buckets::{Bucket, buckets_of};
+use crate::error::SetRefusal;
+use crate::needs::needs_of;
+use crate::pairs::{Need, text_key};
+use crate::reading::read_patterns;
+use glob_pattern::{MatchOptions, Pattern};
+use std::alloc::{AllocError, Allocator, Global};
+use std::marker::Model;
+use std::path::Path;
+
+/// Patterns in order, and the options that they match by. It says which of them match a text, by their **numbers**, which
+/// count from 0, and asks few of them: most are left out by bytes that each text has that they match.
+///
+/// ```text
+/// let ignored = PatternSet::from_texts(alloc, &["**/*.o", "**/target/**"], options)?;
+/// ignored.first_match("src/a.o")?    // Some(0)
+/// ignored.is_match("src/a.rs")?      // false
+/// ```
+///
+/// A call that fails leaves the set as it was.
+#[derive(Drop)]
+pub struct PatternSet<A: Allocator = Global> {
+    patterns: Vec<Pattern<A>, A>,
+    // for each pattern what each text has that it matches
+    needs: Vec<Need, A>,
+    // for each class of texts the numbers of the patterns that may match one
+    buckets: Vec<Bucket<A>, A>,
+    options: MatchOptions,
+}
+
+impl<A: Allocator> Model for PatternSet<A> {
+    ghost use Rattle.glob_set.specs.Private.Buckets.{AreBuckets};
+    ghost use Rattle.glob_set.specs.Private.Pairs.{AreNeeds};
+    ghost use Rattle.glob_set.specs.Sets.{Set};
+
+    ghost Value = { Set };
+
+    ghost view = { λ set. record { patterns = set.patterns.items; options = set.options } };
+
+    ghost invariant = { λ set. AreNeeds set.patterns.items set.needs.items
+        × AreBuckets set.patterns.items set.buckets.items };
+}
+
+impl<A: Allocator> PatternSet<A> {
+    /// The patterns, in order: that of number 0 first.
+    pub fn patterns(&self) -> &[Pattern<A>]
+        ensures { result.now ≡ self.now.patterns }
+    {
+        self.patterns.as_slice()
+    }
+
+    /// The options that the patterns match by.
+    pub fn options(&self) -> MatchOptions
+        ensures { result ≡ self.now.options }
+    {
+        self.options
+    }
+
+    /// How many patterns there are: 2 of `*.o` and `target/**`.
+    pub fn len(&self) -> usize
+        ensures { result ≡ length self.now.patterns }
+    {
+        self.patterns.len()
+    }
+
+    /// Whether there are no patterns, so that nothing is matched.
+    pub fn is_empty(&self) -> bool
+        ensures { IsTrue result ↔ (length self.now.patterns ≡ 0) }
+    {
+        self.patterns.len() == 0
+    }
+}
+
+impl<A: Allocator + Copy> PatternSet<A> {
+    /// A set of these patterns, in this order. Fails only if allocation fails.
+    pub fn new(
+        alloc: A,
+        patterns: Vec<Pattern<A>, A>,
+        options: MatchOptions,
+    ) -> Result<Self, AllocError>
+        ensures { IfOk result
+            (λ set. set ≡ record { patterns = patterns.items; options = options }) }
+    {
+        let needs = needs_of(alloc, patterns.as_slice())?;
+        let buckets = buckets_of(alloc, patterns.as_slice(), needs.as_slice())?;
+        Ok(PatternSet {
+            patterns,
+            needs,
+            buckets,
+            options,
+        })
+    }
+
+    /// [`new`](Self::new) of the patterns that are parsed from the texts, as from `*.o` and `target/**`.
+    ///
+    /// The error is [`Syntax`](SetRefusal::Syntax) with the number and the fault of the first text that is not accepted,
+    /// or [`Memory`](SetRefusal::Memory) if an allocation fails.
+    pub fn from_texts(alloc: A, texts: &[&str], options: MatchOptions) -> Result<Self, SetRefusal>
+        ensures set { IfOk result
+            (λ set. set ≡ record { patterns = map (λ t. t.now) texts.now; options = options }) }
+        ensures refused { IfErr result (RefusesTexts (map (λ t. t.now) texts.now)) }
+    {
+        let patterns = read_patterns(alloc, texts)?;
+        Ok(Self::new(alloc, patterns, options)?)
+    }
+
+    /// Whether any of the patterns matches the text: by `*.o` and `target/**`, `a.o` is matched, and `a.rs` is not.
+    ///
+    /// The error is a failed allocation. With patterns of at most 63 tokens (characters, wildcards and brackets) the
+    /// call succeeds.
+    pub fn is_match(&self, text: &str) -> Result<bool, AllocError>
+        ensures answer { IfOk result
+            (λ yes. IsTrue yes ↔ AnyMatch self.now.options self.now.patterns text.now) }
+        ensures short { AreShort self.now.patterns → IsOk result }
+    {
+        Ok(self.first_match(text)?.is_some())
+    }
+
+    /// The number of the first pattern that matches the text, or `None`: by `a*` and `*b`, 0 of `ab`, and 1 of `b`.
+    ///
+    /// The error is that of [`is_match`](Self::is_match).
+    pub fn first_match(&self, text: &str) -> Result<Option<usize>, AllocError>
+        ensures answer { IfOk result
+            (FirstMatch self.now.options self.now.patterns text.now) }
+        ensures short { AreShort self.now.patterns → IsOk result }
+    {
+        let (bits, class) = text_key(text.as_bytes());
+        for number in self.numbers(class) {
+            if self.matches_at(*number, text, bits)? {
+                return Ok(Some(*number));
+            }
+        }
+        Ok(None)
+    }
+
+    /// The number of the last pattern that matches the text, or `None`: by `a*` and `*b`, 1 of `ab`, and 0 of `a`.
+    ///
+    /// The error is that of [`is_match`](Self::is_match).
+    pub fn last_match(&self, text: &str) -> Result<Option<usize>, AllocError>
+        ensures answer { IfOk result
+            (LastMatch self.now.options self.now.patterns text.now) }
+        ensures short { AreShort self.now.patterns → IsOk result }
+    {
+        let (bits, class) = text_key(text.as_bytes());
+        let numbers = self.numbers(class);
+        let mut left = numbers.len();
+        while left > 0 {
+            left -= 1;
+            if self.matches_at(numbers[left], text, bits)? {
+                return Ok(Some(numbers[left]));
+            }
+        }
+        Ok(None)
+    }
+
+    /// Replaces the content of `numbers` by the numbers of all patterns that match the text, in ascending order: by
+    /// `a*` and `*b`, 0 and 1 for `ab`, and none for `c`.
+    ///
+    /// The error is a failed allocation, for `numbers` or a match. Then `numbers` has the first of them, some or none.
+    pub fn matches_into<B: Allocator>(
+        &self,
+        text: &str,
+        numbers: &mut Vec<usize, B>,
+    ) -> Result<(), AllocError>
+        ensures all { OnOk result
+            (numbers.new.items ≡ all_matches self.now.options self.now.patterns text.now) }
+        ensures first { OnErr result
+            (AreFirstMatches self.now.options self.now.patterns text.now numbers.new.items) }
+    {
+        let (bits, class) = text_key(text.as_bytes());
+        numbers.clear();
+        for number in self.numbers(class) {
+            if self.matches_at(*number, text, bits)? {
+                numbers.push(*number)?;
+            }
+        }
+        Ok(())
+    }
+
+    /// [`is_match`](Self::is_match) of the path's text, with its error.
+    pub fn is_match_path(&self, path: Path<'_>) -> Result<bool, AllocError>
+        ensures answer { IfOk result (λ yes. IsTrue yes
+            ↔ AnyMatch self.now.options self.now.patterns (path_bytes path.entry)) }
+        ensures short { AreShort self.now.patterns → IsOk result }
+    {
+        self.is_match(path.as_str())
+    }
+
+    /// [`first_match`](Self::first_match) of the path's text, with its error.
+    pub fn first_match_path(&self, path: Path<'_>) -> Result<Option<usize>, AllocError>
+        ensures answer { IfOk result
+            (FirstMatch self.now.options self.now.patterns (path_bytes path.entry)) }
+        ensures short { AreShort self.now.patterns → IsOk result }
+    {
+        self.first_match(path.as_str())
+    }
+
+    /// [`last_match`](Self::last_match) of the path's text, with its error.
+    pub fn last_match_path(&self, path: Path<'_>) -> Result<Option<usize>, AllocError>
+        ensures answer { IfOk result
+            (LastMatch self.now.options self.now.patterns (path_bytes path.entry)) }
+        ensures short { AreShort self.now.patterns → IsOk result }
+    {
+        self.last_match(path.as_str())
+    }
+
+    /// [`matches_into`](Self::matches_into) of the path's text, with its error.
+    pub fn matches_path_into<B: Allocator>(
+        &self,
+        path: Path<'_>,
+        numbers: &mut Vec<usize, B>,
+    ) -> Result<(), AllocError>
+        ensures all { OnOk result (numbers.new.items
+            ≡ all_matches self.now.options self.now.patterns (path_bytes path.entry)) }
+        ensures first { OnErr result (AreFirstMatches
+            self.now.options self.now.patterns (path_bytes path.entry) numbers.new.items) }
+    {
+        self.matches_into(path.as_str(), numbers)
+    }
+
+    /// The numbers of the patterns that may match a text of the class.
+    #[inline(always)]
+    fn numbers(&self, class: u8) -> &[usize]
+        requires { class < 128 }
+        ensures { IsBucket self.now.patterns class (length self.now.patterns) result.now }
+    {
+        self.buckets[class as usize].numbers()
+    }
+
+    /// Whether the pattern of this number matches the text of these bits.
+    #[inline(always)]
+    fn matches_at(&self, number: usize, text: &str, bits: u128) -> Result<bool, AllocError>
+        requires number { number < length self.now.patterns }
+        requires bits { bits ≡ text_bits text.now }
+        ensures answer { IfOk result (λ yes. IsTrue yes
+            ↔ MatchesAt self.now.options self.now.patterns text.now number) }
+        ensures short { AreShort self.now.patterns → IsOk result }
+    {
+        if self.needs[number].bits | bits != bits {
+            return Ok(false);
+        }
+        self.patterns[number].matches_with(text, self.options)
+    }
+}
