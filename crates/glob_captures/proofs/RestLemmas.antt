@@ -1,0 +1,4 @@
+pub mod Ends
+pub mod More
+pub mod Pieces
+pub mod Rows

@@ -1,0 +1,4 @@
+pub mod Captures
+pub mod Private
+pub mod Reaching
+pub mod Words

@@ -1,0 +1,135 @@
+ghost use Rattle.std.specs.Prelude.{◌≡◌, ◌+◌, ◌-◌, ◌<◌, ◌≤◌, length, IfOk, chars, ◌*◌, ◌^◌, ◌↔◌, IsTrue, IsSome, IfSome, encode_utf8_all};
+ghost use Rattle.glob_pattern.specs.Computing.Tokens.{tokens_of};
+ghost use Rattle.glob_pattern.specs.Matching.Texts.{Matches};
+ghost use Rattle.glob_pattern.specs.Private.TextTable.{table_of};
+ghost use Rattle.glob_captures.specs.Captures.{AreCaptures};
+ghost use Rattle.glob_captures.specs.Private.Rests.{shape_at, shapes_from, TakesRest, AreRests, AreAllRests};
+ghost use Rattle.glob_captures.specs.Private.Ends.{may_end, IsFirstEnd, IsShortestEnd, HasShortestEnds};
+
+use crate::error::CapturesError;
+use crate::piece::Piece;
+use crate::rests::{Rests, rests_of};
+use crate::steps::{MOST_STEPS, bytes_of, form_of, is_too_large, opens};
+use glob_pattern::{MatchOptions, Pattern, characters_of, tokens_len};
+use std::alloc::{AllocError, Allocator};
+
+/// The piece of the text that each token of the pattern takes, as places in bytes, one after another; `None` exactly if
+/// the pattern does not match the text. Where the text can be split in several ways, the first piece is as short as any
+/// split allows, then the second, and so on.
+///
+/// So `*.*` takes `a.b.rs` by the pieces `a`, `.` and `b.rs`: from 0 up to 1, up to 2, and up to 6.
+///
+/// A call takes time and memory at most proportional to the tokens times the bytes of the text. The errors are:
+///
+/// - [`CapturesError::TooLarge`]: that product is more than [`MOST_STEPS`](crate::MOST_STEPS). Nothing was done.
+/// - [`CapturesError::Memory`]: an allocation failed.
+pub fn captures<A: Allocator + Copy, B: Allocator + Copy>(
+    alloc: A,
+    pattern: &Pattern<B>,
+    text: &str,
+    options: MatchOptions,
+) -> Result<Option<Vec<Piece, A>>, CapturesError>
+    ensures answer { IfOk result
+        (λ found. IsSome found ↔ Matches options (chars pattern.now) (chars text.now)) }
+    ensures pieces { IfOk result (λ found. IfSome found (λ pieces.
+        AreCaptures options (tokens_of (chars pattern.now)) (chars text.now) pieces.items)) }
+    ensures large { (result ≡ Err CapturesError.TooLarge)
+        ↔ (MOST_STEPS < length (tokens_of (chars pattern.now)) * length text.now) }
+{
+    if is_too_large(pattern, text) {
+        return Err(CapturesError::TooLarge);
+    }
+    if !pattern.matches_with(text, options)? {
+        return Ok(None);
+    }
+    let characters = characters_of(alloc, text)?;
+    let rests = rests_of(alloc, pattern, options, characters.as_slice())?;
+    let pieces = shortest_pieces(
+        alloc,
+        pattern,
+        options,
+        characters.as_slice(),
+        rests.as_slice(),
+    )?;
+    Ok(Some(pieces))
+}
+
+/// The places of the pieces, each as short as those after it allow.
+fn shortest_pieces<A: Allocator + Copy, B: Allocator>(
+    alloc: A,
+    pattern: &Pattern<B>,
+    options: MatchOptions,
+    text: &[char],
+    rests: &[Rests<A>],
+) -> Result<Vec<Piece, A>, AllocError>
+    requires bytes { length (encode_utf8_all text.now) < 2 ^ 64 }
+    requires rests { AreAllRests options (tokens_of (chars pattern.now)) text.now rests.now }
+    requires taken { TakesRest options (tokens_of (chars pattern.now)) text.now 0 0 }
+    ensures { IfOk result (λ pieces.
+        HasShortestEnds options (tokens_of (chars pattern.now)) text.now pieces.items) }
+{
+    let tokens = tokens_len(pattern);
+    let mut pieces = Vec::with_capacity(alloc, tokens)?;
+    let mut place = 0;
+    let mut start = 0;
+    for token in 0..tokens {
+        let next = rests[tokens - 1 - token].as_slice();
+        let after = shortest_end(pattern, token, options, text, place, next);
+        let end = start + bytes_of(&text[place..after]);
+        pieces.push(Piece { start, end })?;
+        place = after;
+        start = end;
+    }
+    Ok(pieces)
+}
+
+/// Where the shortest piece of a token from a place on ends. The options are those that `next` was made with.
+fn shortest_end<A: Allocator>(
+    pattern: &Pattern<A>,
+    token: usize,
+    options: MatchOptions,
+    text: &[char],
+    place: usize,
+    next: &[bool],
+) -> usize
+    requires token { token < length (tokens_of (chars pattern.now)) }
+    requires place { place ≤ length text.now }
+    requires next { AreRests options (tokens_of (chars pattern.now)) text.now (token + 1) 0 next.now }
+    requires taken { TakesRest options (tokens_of (chars pattern.now)) text.now token place }
+    ensures low { place ≤ result }
+    ensures high { result ≤ length text.now }
+    ensures end { IsShortestEnd (table_of options (tokens_of (chars pattern.now)) text.now) token
+        (shape_at (tokens_of (chars pattern.now)) token)
+        (shapes_from (tokens_of (chars pattern.now)) (token + 1)) place result }
+{
+    let _options = options;
+    let form = form_of(pattern, token);
+    if form.grows {
+        first_end(form.closes, text, place, next)
+    } else {
+        place + 1
+    }
+}
+
+/// The first place where a piece from a place on may end, or the end of the text.
+fn first_end(closes: bool, text: &[char], place: usize, next: &[bool]) -> usize
+    requires within { place ≤ length text.now }
+    requires many { length next.now ≡ length text.now + 1 }
+    ensures { IsFirstEnd closes text.now next.now place result }
+{
+    let mut end = place;
+    while end < text.len() && !may_end(closes, text, next, place, end) {
+        end += 1;
+    }
+    end
+}
+
+/// Whether a piece between two places may end there, where `next` says from where on the tokens after it take the rest.
+#[inline(always)]
+fn may_end(closes: bool, text: &[char], next: &[bool], place: usize, end: usize) -> bool
+    requires within { end ≤ length text.now }
+    requires many { length next.now ≡ length text.now + 1 }
+    ensures { result ≡ may_end closes text.now next.now place end }
+{
+    next[end] && (end == place || !closes || opens(text, end))
+}

@@ -1,0 +1,18 @@
+//! Which piece of a text each token of a pattern takes, and how far a text that does not match could be taken.
+#![tactic(auto)]
+
+mod capturing;
+mod error;
+mod piece;
+mod reaching;
+mod rests;
+mod steps;
+mod written;
+
+pub use capturing::captures;
+pub use error::CapturesError;
+pub use glob_pattern::TokenKind;
+pub use piece::Piece;
+pub use reaching::{Reached, reach};
+pub use steps::MOST_STEPS;
+pub use written::{Written, tokens};

@@ -1,0 +1,94 @@
+//! What both directions share: the bound on the work, what a token's piece may be, and places in bytes.
+ghost use Rattle.std.specs.Prelude.{◌≡◌, ◌+◌, ◌*◌, ◌<◌, ◌≤◌, ◌↔◌, length, IsTrue, chars};
+ghost use Rattle.std.specs.Prelude.{encode_utf8_all, ◌^◌};
+ghost use Rattle.glob_text.specs.Text.{opens};
+ghost use Rattle.glob_pattern.specs.Computing.Tokens.{tokens_of};
+ghost use Rattle.glob_pattern.specs.Private.TextTable.{table_of};
+ghost use Rattle.glob_captures.specs.Private.Rests.{IsFormAt};
+
+use glob_pattern::{MatchOptions, Pattern, TokenKind, token_kind, token_takes, tokens_len};
+use std::alloc::Allocator;
+
+/// The bound on the work of a call: the pattern's tokens times the text's bytes. So a pattern of 8 tokens may be asked
+/// about a text of 8 MiB.
+pub const MOST_STEPS: usize = 1 << 26;
+
+/// Whether the tokens times the bytes are more than [`MOST_STEPS`].
+pub fn is_too_large<A: Allocator>(pattern: &Pattern<A>, text: &str) -> bool
+    ensures { IsTrue result
+        ↔ (MOST_STEPS < length (tokens_of (chars pattern.now)) * length text.now) }
+{
+    match tokens_len(pattern).checked_mul(text.len()) {
+        Some(steps) => steps > MOST_STEPS,
+        None => true,
+    }
+}
+
+/// What the pieces of a token may be.
+#[derive(Clone, Copy)]
+pub struct Form {
+    /// They may have any number of characters, not one alone.
+    pub grows: bool,
+    /// One that is not empty ends in `/`.
+    pub closes: bool,
+}
+
+/// What the pieces of the token of this number may be.
+pub fn form_of<A: Allocator>(pattern: &Pattern<A>, token: usize) -> Form
+    requires { token < length (tokens_of (chars pattern.now)) }
+    ensures { IsFormAt (tokens_of (chars pattern.now)) token result }
+{
+    match token_kind(pattern, token) {
+        TokenKind::AnySequence => Form {
+            grows: true,
+            closes: false,
+        },
+        TokenKind::Recursive => Form {
+            grows: true,
+            closes: token < tokens_len(pattern) - 1,
+        },
+        TokenKind::Literal | TokenKind::AnyChar | TokenKind::OneOf | TokenKind::NoneOf => Form {
+            grows: false,
+            closes: false,
+        },
+    }
+}
+
+/// Whether the token of this number takes the character at a place.
+#[inline(always)]
+#[tactic(auto, unfolding(glob_pattern::specs::Private::TextTable::table_of))]
+pub fn takes_at<A: Allocator>(
+    pattern: &Pattern<A>,
+    token: usize,
+    options: MatchOptions,
+    text: &[char],
+    place: usize,
+) -> bool
+    requires token { token < length (tokens_of (chars pattern.now)) }
+    requires place { place < length text.now }
+    ensures { result
+        ≡ (table_of options (tokens_of (chars pattern.now)) text.now).takes token place }
+{
+    token_takes(pattern, token, options, opens(text, place), text[place])
+}
+
+/// Whether a component starts at a place: it is the start, or a `/` is before it.
+#[inline(always)]
+pub fn opens(text: &[char], place: usize) -> bool
+    requires { place ≤ length text.now }
+    ensures { result ≡ opens text.now place }
+{
+    place == 0 || text[place - 1] == '/'
+}
+
+/// How many bytes the characters have.
+pub fn bytes_of(characters: &[char]) -> usize
+    requires { length (encode_utf8_all characters.now) < 2 ^ 64 }
+    ensures { result ≡ length (encode_utf8_all characters.now) }
+{
+    let mut bytes = 0;
+    for c in characters {
+        bytes += c.len_utf8();
+    }
+    bytes
+}

@@ -1,0 +1,102 @@
+//! How the tokens of a pattern are written.
+ghost use Rattle.std.specs.Prelude.{◌≡◌, ◌+◌, ◌-◌, ◌<◌, ◌≤◌, ℕ, length, map, IfOk, chars};
+ghost use Rattle.glob_pattern.specs.Computing.Tokens.{tokens_of, kind_of};
+
+use crate::piece::Piece;
+use glob_pattern::{Pattern, TokenKind, characters_of, token_kind, tokens_len};
+use std::alloc::{AllocError, Allocator};
+
+/// A token of a pattern: what kind it is, and where it is written, as places in bytes of the pattern's text.
+#[derive(Clone, Copy, Debug, PartialEq, Eq)]
+pub struct Written {
+    /// What kind of token it is.
+    pub kind: TokenKind,
+    /// Where it is written.
+    pub piece: Piece,
+}
+
+/// The tokens of a pattern, in order. Those of `a[bc]*` are a `Literal` from 0 up to 1, a `OneOf` up to 5, and an
+/// `AnySequence` up to 6. Neighbouring `**/` are one token, and are written as one. Fails only if allocation fails.
+pub fn tokens<A: Allocator + Copy, B: Allocator>(
+    alloc: A,
+    pattern: &Pattern<B>,
+) -> Result<Vec<Written, A>, AllocError>
+    ensures many { IfOk result
+        (λ list. length list.items ≡ length (tokens_of (chars pattern.now))) }
+{
+    let text = characters_of(alloc, pattern.as_str())?;
+    let mut list = Vec::new(alloc);
+    let mut place = 0;
+    let mut start = 0usize;
+    for token in 0..tokens_len(pattern) {
+        let kind = token_kind(pattern, token);
+        let after = token_end(text.as_slice(), place, kind);
+        let end = start.saturating_add(bytes_between(text.as_slice(), place, after));
+        list.push(Written {
+            kind,
+            piece: Piece { start, end },
+        })?;
+        place = after;
+        start = end;
+    }
+    Ok(list)
+}
+
+/// How many bytes the characters between two places have.
+fn bytes_between(text: &[char], start: usize, end: usize) -> usize
+    requires low { start ≤ end }
+    requires high { end ≤ length text.now }
+{
+    let mut bytes = 0usize;
+    for c in &text[start..end] {
+        bytes = bytes.saturating_add(c.len_utf8());
+    }
+    bytes
+}
+
+/// The place after the token of this kind that is written from a place on.
+fn token_end(text: &[char], place: usize, kind: TokenKind) -> usize
+    requires { place ≤ length text.now }
+    ensures low { place ≤ result }
+    ensures high { result ≤ length text.now }
+{
+    match kind {
+        TokenKind::Literal | TokenKind::AnyChar | TokenKind::AnySequence => {
+            text.len().min(place + 1)
+        }
+        TokenKind::Recursive => recursive_end(text, place),
+        TokenKind::OneOf => bracket_end(text, place, 2),
+        TokenKind::NoneOf => bracket_end(text, place, 3),
+    }
+}
+
+/// The place after the `**` from a place on, each with the `/` after it.
+fn recursive_end(text: &[char], place: usize) -> usize
+    requires { place ≤ length text.now }
+    ensures low { place ≤ result }
+    ensures high { result ≤ length text.now }
+{
+    let mut end = place;
+    while end + 2 <= text.len() && text[end] == '*' && text[end + 1] == '*' {
+        end += 2;
+        if end < text.len() && text[end] == '/' {
+            end += 1;
+        }
+    }
+    end
+}
+
+/// The place after the `]` that ends the bracket at a place, of which the first characters end none.
+fn bracket_end(text: &[char], place: usize, skipped: usize) -> usize
+    requires within { place ≤ length text.now }
+    requires few { skipped ≤ 3 }
+    ensures low { place ≤ result }
+    ensures high { result ≤ length text.now }
+{
+    for end in place..text.len() {
+        if place + skipped <= end && text[end] == ']' {
+            return end + 1;
+        }
+    }
+    text.len()
+}

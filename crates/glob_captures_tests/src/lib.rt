@@ -1,0 +1,5 @@
+//! Tests of `glob_captures`.
+#![tactic(auto)]
+
+#[cfg(test)]
+mod tests;
