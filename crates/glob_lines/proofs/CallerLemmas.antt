@@ -1,3 +1,3 @@
--- What a caller's proof needs of `FiltersLines`, `FiltersSomeLines` and `FiltersSomeBytes`, which its goals show closed.
-pub use Rattle.glob_lines.proofs.LineLemmas.Filtering.{lines_by_writing, some_lines_by_writing, some_bytes_by_writing, writing_of_lines, writing_of_some_lines, writing_of_some_bytes}
-pub use Rattle.glob_lines.proofs.LineLemmas.Filtering.{lines_elsewhere, some_bytes_elsewhere, some_bytes_by_keeping, some_bytes_by_lines, some_bytes_at_fault}
+-- What a caller's proof needs of `FiltersRecords`, `FiltersSomeRecords` and `FiltersRecordBytes`, which its goals show closed.
+pub use Rattle.glob_lines.proofs.LineLemmas.Filtering.{records_by_writing, some_records_by_writing, some_bytes_by_writing, writing_of_records, writing_of_some_records, writing_of_some_bytes}
+pub use Rattle.glob_lines.proofs.LineLemmas.Filtering.{records_elsewhere, some_bytes_elsewhere, some_bytes_by_keeping, some_bytes_by_records, some_bytes_at_fault}

@@ -1,4 +1,4 @@
--- The lines of some bytes, and those of them that a pattern matches.
+-- The records of some bytes, and those of them that a pattern matches. Lines are the records that end before a line feed.
 use Rattle.std.specs.Prelude.{◌≡◌, ℕ, ◌-◌, ◌^◌, ◌==◌, ◌⊎◌, if◌then◌else◌, List, [], ◌∷◌, ◌++◌, Option, IfSome, length, min, take, true}
 use Rattle.std.specs.Str.{chars, is_utf8}
 use Rattle.std.specs.List.{flat_map}
@@ -10,68 +10,78 @@ use Rattle.glob_pattern.specs.declared.options.MatchOptions.{MatchOptions}
 abbrev pub line_feed : ℕ
 line_feed = 10
 
--- a byte put before the first line
+-- a byte put before the first record
 abbrev pub onto_first : ℕ → List (List ℕ) → List (List ℕ)
 onto_first b [] = (b ∷ []) ∷ []
-onto_first b (line ∷ lines) = (b ∷ line) ∷ lines
+onto_first b (first ∷ others) = (b ∷ first) ∷ others
 
--- A line ends before a line feed. What follows the last one is a line if it is not empty.
-abbrev pub lines_of : List ℕ → List (List ℕ)
-lines_of [] = []
-lines_of (b ∷ bs) = if b == line_feed then [] ∷ lines_of bs else onto_first b (lines_of bs)
+-- A record ends before the byte `end`. What follows the last such byte is a record if it is not empty.
+abbrev pub records_of : (end : ℕ) → List ℕ → List (List ℕ)
+records_of end [] = []
+records_of end (b ∷ bs) = if b == end then [] ∷ records_of end bs else onto_first b (records_of end bs)
 
--- the line is text, and the pattern matches it
-abbrev pub LineMatches : MatchOptions → (pattern : List ℕ) → List ℕ → Type 0
-LineMatches o pattern line = (is_utf8 line ≡ true) × Matches o (chars pattern) (chars line)
+-- the record is text, and the pattern matches it
+abbrev pub RecordMatches : MatchOptions → (pattern : List ℕ) → List ℕ → Type 0
+RecordMatches o pattern bytes = (is_utf8 bytes ≡ true) × Matches o (chars pattern) (chars bytes)
 
--- `kept` are those of the lines of which P holds, in order
-abbrev pub AreKept : (List ℕ → Type 0) → (lines : List (List ℕ)) → (kept : List (List ℕ)) → Type 0
+-- `kept` are those of the records of which P holds, in order
+abbrev pub AreKept : (List ℕ → Type 0) → (records : List (List ℕ)) → (kept : List (List ℕ)) → Type 0
 AreKept P [] kept = kept ≡ []
-AreKept P (line ∷ lines) kept =
-    (P line × ((others : List (List ℕ)) × (kept ≡ line ∷ others) × AreKept P lines others))
-    ⊎ ((¬ (P line)) × AreKept P lines kept)
+AreKept P (first ∷ records) kept =
+    (P first × ((others : List (List ℕ)) × (kept ≡ first ∷ others) × AreKept P records others))
+    ⊎ ((¬ (P first)) × AreKept P records kept)
 
--- a line as it is written
-abbrev pub ended_line : List ℕ → List ℕ
-ended_line line = line ++ line_feed ∷ []
+-- a record as it is written
+abbrev pub ended_record : (end : ℕ) → List ℕ → List ℕ
+ended_record end bytes = bytes ++ end ∷ []
 
--- each line and a line feed
-abbrev pub with_line_feeds : List (List ℕ) → List ℕ
-with_line_feeds lines = flat_map ended_line lines
+-- each record and its end
+abbrev pub with_ends : (end : ℕ) → List (List ℕ) → List ℕ
+with_ends end records = flat_map (ended_record end) records
 
--- the lines of the input that the pattern matches, in order
-abbrev pub AreMatchingLines : MatchOptions → (pattern input : List ℕ) → List (List ℕ) → Type 0
-AreMatchingLines o pattern input kept = AreKept (LineMatches o pattern) (lines_of input) kept
+-- the records of the input that the pattern matches, in order
+abbrev pub AreMatchingRecords : (end : ℕ) → MatchOptions → (pattern input : List ℕ) → List (List ℕ) → Type 0
+AreMatchingRecords end o pattern input kept = AreKept (RecordMatches o pattern) (records_of end input) kept
 
--- The lines that match were written, each with a line feed, after what the writer held before. `count` is the number of
+-- The records that match were written, each with its end, after what the writer held before. `count` is the number of
 -- them, which stops at `u64::MAX`.
-abbrev pub WritesLines : MatchOptions → (pattern input : List ℕ) → (old new : Option (List ℕ)) → (count : ℕ) → Type 0
-WritesLines o pattern input old new count =
+abbrev pub WritesRecords : (end : ℕ) → MatchOptions → (pattern input : List ℕ) → (old new : Option (List ℕ)) → (count : ℕ) → Type 0
+WritesRecords end o pattern input old new count =
     (kept : List (List ℕ))
-    × AreMatchingLines o pattern input kept
-    × Appends old new (with_line_feeds kept)
+    × AreMatchingRecords end o pattern input kept
+    × Appends old new (with_ends end kept)
     × (count ≡ min (length kept) (2 ^ 64 - 1))
 
--- of the lines that match, the first n were written, for some n
-abbrev pub WritesSomeLines : MatchOptions → (pattern input : List ℕ) → (old new : Option (List ℕ)) → Type 0
-WritesSomeLines o pattern input old new =
+-- of the records that match, the first n were written, for some n
+abbrev pub WritesSomeRecords : (end : ℕ) → MatchOptions → (pattern input : List ℕ) → (old new : Option (List ℕ)) → Type 0
+WritesSomeRecords end o pattern input old new =
     (kept : List (List ℕ))
-    × AreMatchingLines o pattern input kept
-    × ((n : ℕ) × Appends old new (with_line_feeds (take n kept)))
+    × AreMatchingRecords end o pattern input kept
+    × ((n : ℕ) × Appends old new (with_ends end (take n kept)))
 
--- of the bytes of the lines that match, the first n were written, for some n
-abbrev pub WritesSomeBytes : MatchOptions → (pattern input : List ℕ) → (old new : Option (List ℕ)) → Type 0
-WritesSomeBytes o pattern input old new =
+-- of the bytes of the records that match, the first n were written, for some n
+abbrev pub WritesSomeBytes : (end : ℕ) → MatchOptions → (pattern input : List ℕ) → (old new : Option (List ℕ)) → Type 0
+WritesSomeBytes end o pattern input old new =
     (kept : List (List ℕ))
-    × AreMatchingLines o pattern input kept
-    × ((n : ℕ) × Appends old new (take n (with_line_feeds kept)))
+    × AreMatchingRecords end o pattern input kept
+    × ((n : ℕ) × Appends old new (take n (with_ends end kept)))
 
 -- the same three of an input that is known, and nothing of another
-unfoldable pub FiltersLines : MatchOptions → (pattern : List ℕ) → (input old new : Option (List ℕ)) → (count : ℕ) → Type 0
-FiltersLines o pattern input old new count = IfSome input (λ bytes. WritesLines o pattern bytes old new count)
+unfoldable pub FiltersRecords : (end : ℕ) → MatchOptions → (pattern : List ℕ) → (input old new : Option (List ℕ)) → (count : ℕ) → Type 0
+FiltersRecords end o pattern input old new count = IfSome input (λ bytes. WritesRecords end o pattern bytes old new count)
 
-unfoldable pub FiltersSomeLines : MatchOptions → (pattern : List ℕ) → (input old new : Option (List ℕ)) → Type 0
-FiltersSomeLines o pattern input old new = IfSome input (λ bytes. WritesSomeLines o pattern bytes old new)
+unfoldable pub FiltersSomeRecords : (end : ℕ) → MatchOptions → (pattern : List ℕ) → (input old new : Option (List ℕ)) → Type 0
+FiltersSomeRecords end o pattern input old new = IfSome input (λ bytes. WritesSomeRecords end o pattern bytes old new)
 
-unfoldable pub FiltersSomeBytes : MatchOptions → (pattern : List ℕ) → (input old new : Option (List ℕ)) → Type 0
-FiltersSomeBytes o pattern input old new = IfSome input (λ bytes. WritesSomeBytes o pattern bytes old new)
+unfoldable pub FiltersRecordBytes : (end : ℕ) → MatchOptions → (pattern : List ℕ) → (input old new : Option (List ℕ)) → Type 0
+FiltersRecordBytes end o pattern input old new = IfSome input (λ bytes. WritesSomeBytes end o pattern bytes old new)
+
+-- the same three of lines
+abbrev pub FiltersLines : MatchOptions → (pattern : List ℕ) → (input old new : Option (List ℕ)) → (count : ℕ) → Type 0
+FiltersLines o pattern input old new count = FiltersRecords line_feed o pattern input old new count
+
+abbrev pub FiltersSomeLines : MatchOptions → (pattern : List ℕ) → (input old new : Option (List ℕ)) → Type 0
+FiltersSomeLines o pattern input old new = FiltersSomeRecords line_feed o pattern input old new
+
+abbrev pub FiltersSomeBytes : MatchOptions → (pattern : List ℕ) → (input old new : Option (List ℕ)) → Type 0
+FiltersSomeBytes o pattern input old new = FiltersRecordBytes line_feed o pattern input old new

@@ -1,11 +1,11 @@
-//! Copies the lines of a reader that a pattern matches to a writer.
+//! Copies the lines of a reader that a pattern matches to a writer, or the records that another byte ends.
 #![tactic(auto)]
 
 mod fault;
-mod line_feeds;
 mod lines;
+mod record_ends;
 mod watch;
 
 pub use fault::LineFault;
-pub use lines::filter_lines;
+pub use lines::{filter_lines, filter_records};
 pub use watch::Watch;

@@ -1,12 +1,12 @@
 ghost use Rattle.std.specs.Prelude.{◌≡◌, ◌↔◌, ◌<◌, ◌≤◌, ◌+◌, ◌∷◌, ◌++◌, false, length, take, drop, vec_len, IsTrue, IsErr, IsErrAnd, IfOk, OnOk, OnErr};
 ghost use Rattle.std.specs.Io.KnownBytes.{Keeps, Appends, Consumes, IsAtEnd};
 ghost use Rattle.glob_lines.specs.LineFaults.{IsRead, IsMemory, IsWrite};
-ghost use Rattle.glob_lines.specs.Lines.{lines_of, ended_line, LineMatches, WritesLines, FiltersLines, FiltersSomeLines, FiltersSomeBytes};
-ghost use Rattle.glob_lines.specs.Private.Fronts.{AppendsFront, WritesFrontLines, WritesFrontBytes};
+ghost use Rattle.glob_lines.specs.Lines.{records_of, ended_record, RecordMatches, WritesRecords, FiltersRecords, FiltersSomeRecords, FiltersRecordBytes, FiltersLines, FiltersSomeLines, FiltersSomeBytes};
+ghost use Rattle.glob_lines.specs.Private.Fronts.{AppendsFront, WritesFrontRecords, WritesFrontBytes};
 ghost use Rattle.glob_lines.specs.Private.Gathering.{IsGathered};
 
 use crate::fault::LineFault;
-use crate::line_feeds::line_end;
+use crate::record_ends::first_end;
 use crate::watch::Watch;
 use glob_pattern::{MatchOptions, Pattern, match_trimmed, trim};
 use std::alloc::{AllocError, Allocator};
@@ -34,7 +34,6 @@ const WRITE_LEN: usize = 64 * 1024;
 ///   written, some or none of them, each whole.
 /// - [`LineFault::Write`]: a call of the writer failed, also with `Interrupted`. The first bytes of the output were
 ///   written, some or none of them.
-#[tactic(auto, unfolding(crate::specs::Lines::FiltersLines))]
 pub fn filter_lines<A: Allocator + Copy, B: Allocator + Copy, R: Read, W: Write>(
     alloc: A,
     pattern: &Pattern<B>,
@@ -57,8 +56,40 @@ pub fn filter_lines<A: Allocator + Copy, B: Allocator + Copy, R: Read, W: Write>
     ensures write_fault { IsErrAnd result IsWrite → FiltersSomeBytes options pattern.now
         (R.remaining reader.old.inner) (W.contents writer.old.inner) (W.contents writer.new.inner) }
 {
+    filter_records(alloc, pattern, options, b'\n', reader, writer)
+}
+
+/// Copies the records of `reader` that `pattern` matches to `writer`, as [`filter_lines`] does with lines. A record ends
+/// before the byte `end`, and each is written with it. What follows the last such byte is a record if it is not empty.
+///
+/// So with the pattern `a*` and the byte `0` as the end the input `"a\nb\0b\0"` gives the output `"a\nb\0"`, and 1 is
+/// returned: a line feed is a character of its record. The errors are those of `filter_lines`.
+#[tactic(auto, unfolding(crate::specs::Lines::FiltersRecords))]
+pub fn filter_records<A: Allocator + Copy, B: Allocator + Copy, R: Read, W: Write>(
+    alloc: A,
+    pattern: &Pattern<B>,
+    options: MatchOptions,
+    end: u8,
+    reader: &mut Watch<R>,
+    writer: &mut Watch<W>,
+) -> Result<u64, LineFault>
+    requires reader { reader.old.failed ≡ false }
+    requires writer { writer.old.failed ≡ false }
+    ensures records { IfOk result (FiltersRecords end options pattern.now
+        (R.remaining reader.old.inner)
+        (W.contents writer.old.inner) (W.contents writer.new.inner)) }
+    ensures end { OnOk result (IsAtEnd (R.remaining reader.new.inner)) }
+    ensures read_failed { IsTrue reader.new.failed ↔ IsErrAnd result IsRead }
+    ensures write_failed { IsTrue writer.new.failed ↔ IsErrAnd result IsWrite }
+    ensures read_fault { IsErrAnd result IsRead
+        → Keeps (W.contents writer.old.inner) (W.contents writer.new.inner) }
+    ensures memory { IsErrAnd result IsMemory → FiltersSomeRecords end options pattern.now
+        (R.remaining reader.old.inner) (W.contents writer.old.inner) (W.contents writer.new.inner) }
+    ensures write_fault { IsErrAnd result IsWrite → FiltersRecordBytes end options pattern.now
+        (R.remaining reader.old.inner) (W.contents writer.old.inner) (W.contents writer.new.inner) }
+{
     let input = read_all(alloc, reader)?;
-    write_lines(alloc, pattern, options, &input, writer)
+    write_records(alloc, pattern, options, end, &input, writer)
 }
 
 /// All bytes that are left in the reader.
@@ -110,31 +141,32 @@ fn read_piece<A: Allocator, R: Read>(
     reader.read(&mut input[filled..]).map_err(LineFault::Read)
 }
 
-/// Writes the lines of the input that the pattern matches, each with a line feed, and returns their number.
-fn write_lines<A: Allocator + Copy, B: Allocator + Copy, W: Write>(
+/// Writes the records of the input that the pattern matches, each with its end, and returns their number.
+fn write_records<A: Allocator + Copy, B: Allocator + Copy, W: Write>(
     alloc: A,
     pattern: &Pattern<B>,
     options: MatchOptions,
+    end: u8,
     input: &[u8],
     writer: &mut Watch<W>,
 ) -> Result<u64, LineFault>
     requires { writer.old.failed ≡ false }
-    ensures lines { IfOk result (WritesLines options pattern.now input.now
+    ensures records { IfOk result (WritesRecords end options pattern.now input.now
         (W.contents writer.old.inner) (W.contents writer.new.inner)) }
     ensures failed { IsTrue writer.new.failed ↔ IsErrAnd result IsWrite }
     ensures no_read { ¬ (IsErrAnd result IsRead) }
-    ensures memory { IsErrAnd result IsMemory → WritesFrontLines options pattern.now input.now
+    ensures memory { IsErrAnd result IsMemory → WritesFrontRecords end options pattern.now input.now
         (W.contents writer.old.inner) (W.contents writer.new.inner) }
-    ensures write_fault { IsErrAnd result IsWrite → WritesFrontBytes options pattern.now input.now
+    ensures write_fault { IsErrAnd result IsWrite → WritesFrontBytes end options pattern.now input.now
         (W.contents writer.old.inner) (W.contents writer.new.inner) }
 {
     let mut output = Vec::new(alloc);
     let mut count = 0u64;
     let mut rest = input;
     while !rest.is_empty() {
-        let (line, after) = split_line(rest);
-        if line_matches(pattern, options, line).map_err(|_| LineFault::Memory)? {
-            keep_line(line, &mut output, writer)?;
+        let (first, after) = split_record(rest, end);
+        if record_matches(pattern, options, first).map_err(|_| LineFault::Memory)? {
+            keep_record(first, end, &mut output, writer)?;
             count = count.saturating_add(1);
         }
         rest = after;
@@ -143,57 +175,58 @@ fn write_lines<A: Allocator + Copy, B: Allocator + Copy, W: Write>(
     Ok(count)
 }
 
-/// The first line of `bytes`, and the bytes after its line feed.
-fn split_line(bytes: &[u8]) -> (&[u8], &[u8])
+/// The first record of `bytes`, and the bytes after its end.
+fn split_record(bytes: &[u8], end: u8) -> (&[u8], &[u8])
     requires { 0 < length bytes.now }
-    ensures lines { lines_of bytes.now ≡ result.0.now ∷ lines_of result.1.now }
+    ensures records { records_of end bytes.now ≡ result.0.now ∷ records_of end result.1.now }
     ensures shorter { length result.1.now < length bytes.now }
 {
-    match line_end(bytes) {
-        Some(end) => (&bytes[..end], &bytes[end + 1..]),
+    match first_end(bytes, end) {
+        Some(place) => (&bytes[..place], &bytes[place + 1..]),
         None => (bytes, &[]),
     }
 }
 
-/// Whether the line is text that the pattern matches.
-fn line_matches<B: Allocator + Copy>(
+/// Whether the record is text that the pattern matches.
+fn record_matches<B: Allocator + Copy>(
     pattern: &Pattern<B>,
     options: MatchOptions,
-    line: &[u8],
+    bytes: &[u8],
 ) -> Result<bool, AllocError>
-    ensures { IfOk result (λ yes. IsTrue yes ↔ LineMatches options pattern.now line.now) }
+    ensures { IfOk result (λ yes. IsTrue yes ↔ RecordMatches options pattern.now bytes.now) }
 {
-    // This says of most lines that they do not match, and costs less than the test for UTF-8.
-    let Some(trimmed) = trim(pattern, line, options) else {
+    // This says of most records that they do not match, and costs less than the test for UTF-8.
+    let Some(trimmed) = trim(pattern, bytes, options) else {
         return Ok(false);
     };
-    match str::from_utf8(line) {
+    match str::from_utf8(bytes) {
         Ok(text) => match_trimmed(pattern, text, options, trimmed),
         Err(_) => Ok(false),
     }
 }
 
-/// Appends the line and a line feed to `output`, and writes the output once it is long.
-fn keep_line<A: Allocator, W: Write>(
-    line: &[u8],
+/// Appends the record and its end to `output`, and writes the output once it is long.
+fn keep_record<A: Allocator, W: Write>(
+    bytes: &[u8],
+    end: u8,
     output: &mut Vec<u8, A>,
     writer: &mut Watch<W>,
 ) -> Result<(), LineFault>
     requires { writer.old.failed ≡ false }
-    ensures ok { OnOk result (IsGathered line.now output.old.items output.new.items
+    ensures ok { OnOk result (IsGathered end bytes.now output.old.items output.new.items
         (W.contents writer.old.inner) (W.contents writer.new.inner)) }
     ensures memory { IsErrAnd result IsMemory
         → Keeps (W.contents writer.old.inner) (W.contents writer.new.inner) }
     ensures write_fault { IsErrAnd result IsWrite
         → AppendsFront (W.contents writer.old.inner) (W.contents writer.new.inner)
-        (output.old.items ++ ended_line line.now) }
+        (output.old.items ++ ended_record end bytes.now) }
     ensures failed { IsTrue writer.new.failed ↔ IsErrAnd result IsWrite }
     ensures no_read { ¬ (IsErrAnd result IsRead) }
 {
     output
-        .extend_from_slice(line)
+        .extend_from_slice(bytes)
         .map_err(|_| LineFault::Memory)?;
-    output.push(b'\n').map_err(|_| LineFault::Memory)?;
+    output.push(end).map_err(|_| LineFault::Memory)?;
     if output.len() >= WRITE_LEN {
         write_all(writer, output).map_err(LineFault::Write)?;
         output.clear();

@@ -1,7 +1,7 @@
-//! The lines that a pattern matches, copied; and readers and writers that fail.
+//! The lines that a pattern matches, or the records that another byte ends, copied; and readers and writers that fail.
 use super::made::{bytes_of, check, pattern_of};
 use crate::readers::{Refusal, ShortReader, ShortWriter};
-use glob_lines::{LineFault, Watch, filter_lines};
+use glob_lines::{LineFault, Watch, filter_lines, filter_records};
 use glob_pattern::MatchOptions;
 use glob_testing::texts::are_same;
 use std::io::{self, ErrorKind};
@@ -16,10 +16,11 @@ struct Outcome {
     written: Vec<u8>,
 }
 
-/// Copies the lines of the reader that the pattern matches to the writer.
+/// Copies the records of the reader that the pattern matches to the writer. Those that a line feed ends are its lines.
 fn copy(
     rt: &(impl Abort + AllocGlobal),
     pattern: &str,
+    end: u8,
     reader: ShortReader<'_>,
     writer: ShortWriter,
 ) -> Outcome {
@@ -27,7 +28,10 @@ fn copy(
     let mut reader = Watch::new(reader);
     let mut writer = Watch::new(writer);
     let options = MatchOptions::new();
-    let answer = filter_lines(rt.alloc(), &pattern, options, &mut reader, &mut writer);
+    let answer = match end {
+        b'\n' => filter_lines(rt.alloc(), &pattern, options, &mut reader, &mut writer),
+        _ => filter_records(rt.alloc(), &pattern, options, end, &mut reader, &mut writer),
+    };
     Outcome {
         answer,
         reader_failed: reader.failed(),
@@ -36,15 +40,17 @@ fn copy(
     }
 }
 
-/// Copies the lines of the input that the pattern matches, at most so many bytes a call: how many, and what is written.
+/// Copies the records of the input that the pattern matches, at most so many bytes a call: how many, and what is
+/// written.
 pub(super) fn copied(
     rt: &(impl Abort + AllocGlobal),
     pattern: &str,
+    end: u8,
     input: &[u8],
     most: usize,
 ) -> (u64, Vec<u8>) {
     let writer = ShortWriter::new(rt.alloc(), most);
-    let outcome = copy(rt, pattern, ShortReader::new(input, most), writer);
+    let outcome = copy(rt, pattern, end, ShortReader::new(input, most), writer);
     check(
         rt,
         !outcome.reader_failed && !outcome.writer_failed,
@@ -56,17 +62,22 @@ pub(super) fn copied(
     }
 }
 
-/// So many lines and these bytes are copied.
+/// So many records and these bytes are copied.
 fn check_copied(
     rt: &(impl Abort + AllocGlobal),
     pattern: &str,
+    end: u8,
     input: &[u8],
     most: usize,
     output: &[u8],
-    lines: u64,
+    records: u64,
 ) {
-    let (count, written) = copied(rt, pattern, input, most);
-    check(rt, count == lines && written.as_slice() == output, pattern);
+    let (count, written) = copied(rt, pattern, end, input, most);
+    check(
+        rt,
+        count == records && written.as_slice() == output,
+        pattern,
+    );
 }
 
 /// A pattern, an input, what is copied of it, and how many lines that is.
@@ -92,7 +103,38 @@ const ROWS: [(&str, &[u8], &[u8], u64); 8] = [
 fn matching_lines_are_copied(rt: HostRuntime) {
     for (pattern, input, output, lines) in ROWS {
         for most in [1, 3, 100] {
-            check_copied(&rt, pattern, input, most, output, lines);
+            check_copied(&rt, pattern, b'\n', input, most, output, lines);
+        }
+    }
+}
+
+/// A pattern, the byte that ends a record, an input, what is copied of it, and how many records that is.
+const RECORDS: [(&str, u8, &[u8], &[u8], u64); 10] = [
+    ("*", 0, b"", b"", 0),
+    ("*", 0, b"\0", b"\0", 1),
+    ("", 0, b"\0\n\0", b"\0", 1),
+    ("*", 0, b"a\nb\0c", b"a\nb\0c\0", 2),
+    ("?", 0, b"\n\0\0a\nb\0a", b"\n\0a\0", 2),
+    ("a?b", 0, b"a\nb\0ab\n\0axb\n", b"a\nb\0", 1),
+    ("*a", 0, b"\xff\na\0\na\0", b"\na\0", 1),
+    // A line feed in the first sixteen bytes, and the end after them and at the last of them.
+    (
+        "*q",
+        0,
+        b"abcdefgh\nijklmnopq\0abcdefgh\nijklmq\0q\n",
+        b"abcdefgh\nijklmnopq\0abcdefgh\nijklmq\0",
+        2,
+    ),
+    ("*", b',', b"a\n,b\0,", b"a\n,b\0,", 2),
+    // The bytes of a character, of which the second ends records.
+    ("*", 0xa9, b"\xc3\xa9a\xa9", b"a\xa9", 1),
+];
+
+#[test]
+fn matching_records_are_copied(rt: HostRuntime) {
+    for (pattern, end, input, output, records) in RECORDS {
+        for most in [1, 3, 100] {
+            check_copied(&rt, pattern, end, input, most, output, records);
         }
     }
 }
@@ -124,7 +166,7 @@ fn check_reader(
     error: io::Error,
 ) {
     let reader = ShortReader::new(input, most).failing_at(call, error);
-    let outcome = copy(rt, "*", reader, ShortWriter::new(rt.alloc(), 100));
+    let outcome = copy(rt, "*", b'\n', reader, ShortWriter::new(rt.alloc(), 100));
     check(rt, outcome.reader_failed, "the reader has not failed");
     check(rt, !outcome.writer_failed, "the writer has failed");
     check(rt, outcome.written.is_empty(), "something is written");
@@ -156,7 +198,8 @@ fn check_writer(
     written: &[u8],
 ) {
     let writer = ShortWriter::new(rt.alloc(), most).refusing_at(call, refusal);
-    let outcome = copy(rt, "*", ShortReader::new(b"ab\n\xff\nc", 100), writer);
+    let reader = ShortReader::new(b"ab\n\xff\nc", 100);
+    let outcome = copy(rt, "*", b'\n', reader, writer);
     check(rt, outcome.writer_failed, "the writer has not failed");
     check(rt, !outcome.reader_failed, "the reader has failed");
     check(
@@ -215,7 +258,8 @@ fn each_beginning_is_copied(rt: HostRuntime) {
     for end in 0..=input.len() {
         let (output, lines) = ended(&rt, &input[..end]);
         for most in 1..=input.len() {
-            check_copied(&rt, "*", &input[..end], most, output.as_slice(), lines);
+            let output = output.as_slice();
+            check_copied(&rt, "*", b'\n', &input[..end], most, output, lines);
         }
     }
 }

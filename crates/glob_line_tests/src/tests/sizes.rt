@@ -6,7 +6,7 @@ use std::process::Abort;
 
 /// The input is copied whole by `*`, as so many lines, with a line feed at the end.
 fn check_copied(rt: &(impl Abort + AllocGlobal), input: &str, lines: usize) {
-    let (count, written) = copied(rt, "*", input.as_bytes(), usize::MAX);
+    let (count, written) = copied(rt, "*", b'\n', input.as_bytes(), usize::MAX);
     check(rt, count == lines as u64, "the number of lines");
     check(rt, written.starts_with(input.as_bytes()), "the bytes");
     let fed = usize::from(!input.is_empty() && !input.ends_with('\n'));

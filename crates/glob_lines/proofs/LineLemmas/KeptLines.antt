@@ -1,23 +1,23 @@
--- The lines of which a fact holds: one more line at the end, a front of the lines, and that there is one such list.
+-- The records of which a fact holds: one more record at the end, a front of the records, and that there is one such list.
 use Rattle.std.proofs.Common.{◌≡◌, ℕ, ◌⊎◌, inl, inr, List, [], ◌∷◌, ◌++◌, refl, sym, ap, ◌∙◌, subst, append-nil}
 use Rattle.glob_lines.specs.Lines.{AreKept}
 
--- one more line, which is kept
-pub AreKept-push : (P : List ℕ → Type 0) (lines kept : List (List ℕ)) (line : List ℕ) → AreKept P lines kept → P line
-    → AreKept P (lines ++ line ∷ []) (kept ++ line ∷ [])
-AreKept-push P [] kept line are holds = inl (holds, ([], ap (λ l. l ++ line ∷ []) are, refl))
-AreKept-push P (x ∷ xs) kept line (inl (here, (others, is, are))) holds =
-    inl (here, (others ++ line ∷ [], ap (λ l. l ++ line ∷ []) is, AreKept-push P xs others line are holds))
-AreKept-push P (x ∷ xs) kept line (inr (not_here, are)) holds = inr (not_here, AreKept-push P xs kept line are holds)
+-- one more record, which is kept
+pub AreKept-push : (P : List ℕ → Type 0) (records kept : List (List ℕ)) (one : List ℕ) → AreKept P records kept → P one
+    → AreKept P (records ++ one ∷ []) (kept ++ one ∷ [])
+AreKept-push P [] kept one are holds = inl (holds, ([], ap (λ l. l ++ one ∷ []) are, refl))
+AreKept-push P (x ∷ xs) kept one (inl (here, (others, is, are))) holds =
+    inl (here, (others ++ one ∷ [], ap (λ l. l ++ one ∷ []) is, AreKept-push P xs others one are holds))
+AreKept-push P (x ∷ xs) kept one (inr (not_here, are)) holds = inr (not_here, AreKept-push P xs kept one are holds)
 
--- one more line, which is not kept
-pub AreKept-pass : (P : List ℕ → Type 0) (lines kept : List (List ℕ)) (line : List ℕ) → AreKept P lines kept → ¬ (P line)
-    → AreKept P (lines ++ line ∷ []) kept
-AreKept-pass P [] kept line are fails = inr (fails, are)
-AreKept-pass P (x ∷ xs) kept line (inl (here, (others, is, are))) fails = inl (here, (others, is, AreKept-pass P xs others line are fails))
-AreKept-pass P (x ∷ xs) kept line (inr (not_here, are)) fails = inr (not_here, AreKept-pass P xs kept line are fails)
+-- one more record, which is not kept
+pub AreKept-pass : (P : List ℕ → Type 0) (records kept : List (List ℕ)) (one : List ℕ) → AreKept P records kept → ¬ (P one)
+    → AreKept P (records ++ one ∷ []) kept
+AreKept-pass P [] kept one are fails = inr (fails, are)
+AreKept-pass P (x ∷ xs) kept one (inl (here, (others, is, are))) fails = inl (here, (others, is, AreKept-pass P xs others one are fails))
+AreKept-pass P (x ∷ xs) kept one (inr (not_here, are)) fails = inr (not_here, AreKept-pass P xs kept one are fails)
 
--- what is kept of a front of the lines is first
+-- what is kept of a front of the records is first
 pub AreKept-front : (P : List ℕ → Type 0) (front more kept_front kept : List (List ℕ)) → AreKept P front kept_front → AreKept P (front ++ more) kept
     → (others : List (List ℕ)) × (kept ≡ kept_front ++ others) × AreKept P more others
 AreKept-front P [] more kept_front kept are all = (kept, ap (λ l. l ++ kept) (sym are), all)
@@ -28,14 +28,14 @@ AreKept-front P (x ∷ xs) more kept_front kept (inl (here, (first, is, are))) (
 AreKept-front P (x ∷ xs) more kept_front kept (inr (not_here, are)) (inl (here, (rest, all_is, all))) = absurd (not_here here)
 AreKept-front P (x ∷ xs) more kept_front kept (inr (_, are)) (inr (_, all)) = AreKept-front P xs more kept_front kept are all
 
--- there is only one list of the lines that are kept
-pub AreKept-unique : (P : List ℕ → Type 0) (lines a b : List (List ℕ)) → AreKept P lines a → AreKept P lines b → b ≡ a
-AreKept-unique P lines a b first second =
-    let (others, split, none) = AreKept-front P lines [] a b first (subst (λ l. AreKept P l b) (sym (append-nil lines)) second) in
+-- there is only one list of the records that are kept
+pub AreKept-unique : (P : List ℕ → Type 0) (records a b : List (List ℕ)) → AreKept P records a → AreKept P records b → b ≡ a
+AreKept-unique P records a b first second =
+    let (others, split, none) = AreKept-front P records [] a b first (subst (λ l. AreKept P l b) (sym (append-nil records)) second) in
     split ∙ ap (λ l. a ++ l) none ∙ append-nil a
 
--- there is one, where each line is decided
-pub AreKept-exists : (P : List ℕ → Type 0) → ((line : List ℕ) → P line ⊎ (¬ (P line))) → (lines : List (List ℕ)) → (kept : List (List ℕ)) × AreKept P lines kept
+-- there is one, where each record is decided
+pub AreKept-exists : (P : List ℕ → Type 0) → ((one : List ℕ) → P one ⊎ (¬ (P one))) → (records : List (List ℕ)) → (kept : List (List ℕ)) × AreKept P records kept
 AreKept-exists P decided [] = ([], refl)
 AreKept-exists P decided (x ∷ xs) =
     let (others, are) = AreKept-exists P decided xs in
