@@ -13,7 +13,7 @@ function __glob_run_options -d 'Whether nothing but options stands after one of 
             set is_limit no
         else if test "$words[2] $word" = 'find -n'
             set is_limit yes
-        else if not string match -qr '^-[isd-]$' -- $word
+        else if not string match -qr '^-[isd0-]$' -- $word
             return 1
         end
     end
@@ -30,11 +30,13 @@ end
 complete -c glob_run -f
 complete -c glob_run -n __glob_run_first -a match -d 'Copy the matching lines of standard input'
 complete -c glob_run -n __glob_run_first -a find -d 'Write the paths of the disk that match'
+complete -c glob_run -n __glob_run_first -a explain -d 'Write which piece of a text each token takes'
 complete -c glob_run -n __glob_run_first -a escape -d 'Write the pattern that stands for a text alone'
 complete -c glob_run -n __glob_run_first -s h -l help -d 'Write the page that teaches the program'
 complete -c glob_run -n __glob_run_first -l version -d 'Write the version'
-complete -c glob_run -n '__glob_run_options match find' -o i -d 'ASCII letters in either case are the same'
-complete -c glob_run -n '__glob_run_options match find' -o s -d 'Wildcards and brackets take no separator'
-complete -c glob_run -n '__glob_run_options match find' -o d -d 'Wildcards and brackets take no leading dot'
+complete -c glob_run -n '__glob_run_options match find explain' -o i -d 'ASCII letters in either case are the same'
+complete -c glob_run -n '__glob_run_options match find explain' -o s -d 'Wildcards and brackets take no separator'
+complete -c glob_run -n '__glob_run_options match find explain' -o d -d 'Wildcards and brackets take no leading dot'
+complete -c glob_run -n '__glob_run_options match find' -o 0 -d 'Records end in a NUL'
 complete -c glob_run -n '__glob_run_options find' -o n -x -d 'The most lookups, listings and entries'
 complete -c glob_run -n '__glob_run_options find' -a '(__glob_run_names)'

@@ -10,7 +10,7 @@ use Rattle.std.proofs.lemmas.List.Concat.{flat_map-append}
 use Rattle.glob_tree.specs.Answers.{IsTold}
 use Rattle.glob_tree.specs.Content.{Content}
 use Rattle.glob_walk.specs.Machines.{MachineState, Saying, AsksLook, AsksList, Says, Ends, IsAskedAfter, IsCharged, StepCounts, StepGoes, is_last_step, left_of, step_outcome, step_units}
-use Rattle.glob_lines.specs.Lines.{ended_line, with_line_feeds}
+use Rattle.glob_lines.specs.Lines.{ended_record, with_ends}
 use Rattle.glob_walk.specs.Marks.{Mark, Item, Found, Unread, items, cost, front, paths, IsBeginning}
 use Rattle.glob_walk.specs.Questions.{IsSomeContent}
 use Rattle.glob_text.specs.Text.{Text}
@@ -18,11 +18,11 @@ use Rattle.glob_walk.specs.Driven.{HasGiven, GivesNext}
 use Rattle.glob_walk.specs.declared.walk.End.{End}
 use Rattle.glob_walk.specs.declared.error.GlobCause.{GlobCause}
 use Rattle.glob_walk.specs.declared.error.GlobError.{GlobError}
-use Rattle.glob_walk.specs.declared.walk.End.TheVariants as end
+use Rattle.glob_walk.specs.declared.walk.End.TheVariants as last
 use Rattle.glob_walk.specs.declared.error.GlobCause.TheVariants as cause
 use Rattle.glob_walk.specs.Walks.{Outcome, Gives, LimitAt, NoMemory, outcome, error_outcome, item_number}
 use Rattle.glob_walk.proofs.ListingLemmas.Marks.{IsBeginning-append}
-use Rattle.glob_run.specs.FoundPaths.{FindsPaths, FindsSomeBytes, GaveItems, has_any, has_unread, item_line, noting}
+use Rattle.glob_run.specs.FoundPaths.{FindsPaths, FindsSomeBytes, GaveItems, has_any, has_unread, item_record, noting}
 use Rattle.glob_run.specs.Outcomes.{AppendsSome, Queues}
 use Rattle.glob_run.proofs.WritingLemmas.{Queues-all, Queues-some, Queues-more, Queues-trans}
 use Rattle.glob_run.specs.declared.find.findings.Findings.{Findings}
@@ -46,9 +46,9 @@ has_unread-push [] p k = refl
 has_unread-push (Found q ∷ is) p k = has_unread-push is p k
 has_unread-push (Unread q l ∷ is) p k = refl
 
--- the lines of a beginning of the items are a beginning of those of all items
-lines_begin : (given more all : List Item) → all ≡ given ++ more → with_line_feeds (paths all) ≡ with_line_feeds (paths given) ++ with_line_feeds (paths more)
-lines_begin given more all split = ap (λ is. with_line_feeds (paths is)) split ∙ ap with_line_feeds (paths-append given more) ∙ flat_map-append ended_line (paths given) (paths more)
+-- the records of a beginning of the items are a beginning of those of all items
+records_begin : (end : ℕ) (given more all : List Item) → all ≡ given ++ more → with_ends end (paths all) ≡ with_ends end (paths given) ++ with_ends end (paths more)
+records_begin end given more all split = ap (λ is. with_ends end (paths is)) split ∙ ap (with_ends end) (paths-append given more) ∙ flat_map-append (ended_record end) (paths given) (paths more)
 
 -- what holds of a walk from its beginning on, over a known content
 abbrev pub Over : {X A : Type 0} → (X → Option Content) → X → MachineState A → (List Mark → Content → Type 0) → Type 0
@@ -57,11 +57,11 @@ Over tells of first P = (c : Content) → IsTold (tells of) c → (ms : List Mar
 -- the walk is still going on, or it came to an end within which it gave these items
 abbrev pub GoesOn : {X A : Type 0} → (X → Option Content) → X → MachineState A → List Item → Saying → MachineState A → End → Type 0
 GoesOn tells of first given s walk e =
-    ((e ≡ end.Done) × Over tells of first (λ ms c. GivesNext ms c given s walk))
+    ((e ≡ last.Done) × Over tells of first (λ ms c. GivesNext ms c given s walk))
     ⊎ ((s ≡ Ends) × Over tells of first (λ ms c. GaveItems ms first.limit e given))
 
 -- A walk after one of its steps. The items before that step were written, or wait.
-pub record Written {X A : Type 0} (tells : X → Option Content) (of : X) (first : MachineState A) (old : Option (List ℕ)) (tree : X) (s : Saying) (walk : MachineState A) (findings : Findings) (held : Option (List ℕ)) (waiting : List ℕ) : Type 0 where
+pub record Written {X A : Type 0} (end : ℕ) (tells : X → Option Content) (of : X) (first : MachineState A) (old : Option (List ℕ)) (tree : X) (s : Saying) (walk : MachineState A) (findings : Findings) (held : Option (List ℕ)) (waiting : List ℕ) : Type 0 where
   pub given : List Item
   pub same : tells tree ≡ tells of
   pub limit : walk.limit ≡ first.limit
@@ -69,7 +69,7 @@ pub record Written {X A : Type 0} (tells : X → Option Content) (of : X) (first
   pub few : walk.given ≤ walk.spent + 1
   pub asks : IsAskedAfter s walk.asked
   pub ends : walk.over ≡ is_last_step s
-  pub queued : Queues old [] held waiting (with_line_feeds (paths given))
+  pub queued : Queues old [] held waiting (with_ends end (paths given))
   pub path : findings.has_path ≡ has_any (paths given)
   pub error : findings.has_error ≡ has_unread given
   pub begins : Over tells of first (λ ms c. IsBeginning given (items ms))
@@ -79,10 +79,10 @@ pub record Written {X A : Type 0} (tells : X → Option Content) (of : X) (first
 abbrev pub TellsStep : {A : Type 0} → (Content → Type 0) → MachineState A → Saying → MachineState A → Type 0
 TellsStep Fits walk s new = (c : Content) → (all : List Mark) → (given : List Item) → Fits c → HasGiven all c given walk → GivesNext all c given s new
 
-pub Written-first : {X A : Type 0} (tells : X → Option Content) (of : X) (first walk : MachineState A) (old : Option (List ℕ)) (s : Saying) (findings : Findings)
-    → findings.end ≡ end.Done → findings.has_path ≡ false → findings.has_error ≡ false → StepGoes IsSomeContent 0 first s walk → TellsStep IsSomeContent first s walk
-    → Written tells of first old of s walk findings old []
-Written-first tells of first walk old s findings done path error goes next = record {
+pub Written-first : {X A : Type 0} (end : ℕ) (tells : X → Option Content) (of : X) (first walk : MachineState A) (old : Option (List ℕ)) (s : Saying) (findings : Findings)
+    → findings.end ≡ last.Done → findings.has_path ≡ false → findings.has_error ≡ false → StepGoes IsSomeContent 0 first s walk → TellsStep IsSomeContent first s walk
+    → Written end tells of first old of s walk findings old []
+Written-first end tells of first walk old s findings done path error goes next = record {
   given = [];
   same = refl;
   limit = goes.counts.limit;
@@ -114,12 +114,12 @@ no_path cause.Read e = tt
 no_path cause.Memory e = tt
 no_path cause.Limit e = tt
 
-module _ {X A : Type 0} (tells : X → Option Content) (of : X) (first : MachineState A) (old : Option (List ℕ)) (tree : X) (walk : MachineState A) (findings : Findings) (held : Option (List ℕ)) (waiting : List ℕ) where
+module _ {X A : Type 0} (end : ℕ) (tells : X → Option Content) (of : X) (first : MachineState A) (old : Option (List ℕ)) (tree : X) (walk : MachineState A) (findings : Findings) (held : Option (List ℕ)) (waiting : List ℕ) where
   -- the tree answered a question
-  pub Written-answer : (s s' : Saying) → step_units s ≡ 1 → Written tells of first old tree s walk findings held waiting
+  pub Written-answer : (s s' : Saying) → step_units s ≡ 1 → Written end tells of first old tree s walk findings held waiting
       → (tree' : X) (walk' : MachineState A) (held' : Option (List ℕ)) (waiting' : List ℕ) (n : ℕ) (Fits : Content → Type 0) → tells tree' ≡ tells tree → Queues held waiting held' waiting' []
       → ((x : Content) → IsTold (tells tree) x → Fits x) → StepGoes Fits n walk s' walk' → TellsStep Fits walk s' walk'
-      → Written tells of first old tree' s' walk' findings held' waiting'
+      → Written end tells of first old tree' s' walk' findings held' waiting'
   Written-answer s s' question w tree' walk' held' waiting' n Fits same queued fits goes next = record {
     given = w.given;
     same = same ∙ w.same;
@@ -128,8 +128,8 @@ module _ {X A : Type 0} (tells : X → Option Content) (of : X) (first : Machine
     few = goes.counts.few;
     asks = goes.counts.asks;
     ends = goes.counts.ends;
-    queued = subst (Queues old [] held' waiting') (append-nil (with_line_feeds (paths w.given)))
-        (Queues-trans old held held' [] waiting waiting' (with_line_feeds (paths w.given)) [] w.queued queued);
+    queued = subst (Queues old [] held' waiting') (append-nil (with_ends end (paths w.given)))
+        (Queues-trans old held held' [] waiting waiting' (with_ends end (paths w.given)) [] w.queued queued);
     path = w.path;
     error = w.error;
     begins = w.begins;
@@ -147,19 +147,19 @@ module _ {X A : Type 0} (tells : X → Option Content) (of : X) (first : Machine
       still (inr (is, gave)) = let z : step_units s ≡ 0 = ap step_units is in absurd (omega (arith, z, question))
 
   -- some of the lines that wait were written
-  pub Written-before : (s : Saying) → Written tells of first old tree s walk findings held waiting → (held' : Option (List ℕ)) → AppendsSome held held' waiting
-      → Over tells of first (λ ms c. FindsSomeBytes ms old held')
+  pub Written-before : (s : Saying) → Written end tells of first old tree s walk findings held waiting → (held' : Option (List ℕ)) → AppendsSome held held' waiting
+      → Over tells of first (λ ms c. FindsSomeBytes end ms old held')
   Written-before s w held' some c told ms begun =
       let (rest, split) = w.begins c told ms begun in
-      Queues-some old held held' _ waiting (with_line_feeds (paths w.given)) (with_line_feeds (paths rest)) (lines_begin w.given rest (items ms) split) w.queued some
+      Queues-some old held held' _ waiting (with_ends end (paths w.given)) (with_ends end (paths rest)) (records_begin end w.given rest (items ms) split) w.queued some
 
   -- all lines were written, and nothing is left of the walk
-  pub Written-end : (s : Saying) → s ≡ Ends → Written tells of first old tree s walk findings held waiting → (held' : Option (List ℕ)) (waiting' : List ℕ) → Queues held waiting held' waiting' [] → waiting' ≡ []
-      → Over tells of first (λ ms c. FindsPaths ms first.limit old held' findings)
+  pub Written-end : (s : Saying) → s ≡ Ends → Written end tells of first old tree s walk findings held waiting → (held' : Option (List ℕ)) (waiting' : List ℕ) → Queues held waiting held' waiting' [] → waiting' ≡ []
+      → Over tells of first (λ ms c. FindsPaths end ms first.limit old held' findings)
   Written-end s is w held' waiting' queued none c told ms begun = (w.given, gave w.going, all, w.path, w.error)
     where
       lines : List ℕ
-      lines = with_line_feeds (paths w.given)
+      lines = with_ends end (paths w.given)
 
       all : Appends old held' lines
       all = Queues-all old held' lines (subst (Queues old [] held' []) (append-nil lines)
@@ -172,33 +172,33 @@ module _ {X A : Type 0} (tells : X → Option Content) (of : X) (first : Machine
           let enough : cost ms ≤ first.limit = omega (arith, w.within, w.limit, units) in
           subst (λ e. GaveItems ms first.limit e w.given) (sym done) (enough, are)
 
-  module _ (o : Outcome) (w : Written tells of first old tree (Says o) walk findings held waiting) where
-    going_on : GoesOn tells of first w.given (Says o) walk findings.end → (findings.end ≡ end.Done) × Over tells of first (λ ms c. GivesNext ms c w.given (Says o) walk)
+  module _ (o : Outcome) (w : Written end tells of first old tree (Says o) walk findings held waiting) where
+    going_on : GoesOn tells of first w.given (Says o) walk findings.end → (findings.end ≡ last.Done) × Over tells of first (λ ms c. GivesNext ms c w.given (Says o) walk)
     going_on (inl said) = said
     going_on (inr (is, gave)) = absurd (cc)
 
-    path_lines : (text : Text) → with_line_feeds (paths (w.given ++ Found text ∷ [])) ≡ with_line_feeds (paths w.given) ++ ended_line text
-    path_lines text = lines_begin w.given (Found text ∷ []) _ refl ∙ ap (λ l. with_line_feeds (paths w.given) ++ l) (append-nil (ended_line text))
+    path_lines : (text : Text) → with_ends end (paths (w.given ++ Found text ∷ [])) ≡ with_ends end (paths w.given) ++ ended_record end text
+    path_lines text = records_begin end w.given (Found text ∷ []) _ refl ∙ ap (λ l. with_ends end (paths w.given) ++ l) (append-nil (ended_record end text))
 
     -- the item is one of the listing
     more : (item : Item) → o ≡ Gives item → Over tells of first (λ ms c. HasGiven ms c (w.given ++ item ∷ []) walk)
     more item is c told ms begun = subst (λ p. GivesNext ms c w.given (Says p) walk) is ((going_on w.going).1 c told ms begun)
 
     -- a path could not be written
-    path_fault : (text : Text) → o ≡ Gives (Found text) → (held' : Option (List ℕ)) → AppendsSome held held' (waiting ++ ended_line text) → Over tells of first (λ ms c. FindsSomeBytes ms old held')
+    path_fault : (text : Text) → o ≡ Gives (Found text) → (held' : Option (List ℕ)) → AppendsSome held held' (waiting ++ ended_record end text) → Over tells of first (λ ms c. FindsSomeBytes end ms old held')
     path_fault text is held' some c told ms begun =
         let (rest, split) = begins_from c ms (w.given ++ Found text ∷ []) walk (more (Found text) is c told ms begun) in
-        Queues-more old held held' _ waiting (with_line_feeds (paths w.given)) (ended_line text) (with_line_feeds (paths rest))
-        (lines_begin (w.given ++ Found text ∷ []) rest (items ms) split ∙ ap (λ l. l ++ with_line_feeds (paths rest)) (path_lines text)) w.queued some
+        Queues-more old held held' _ waiting (with_ends end (paths w.given)) (ended_record end text) (with_ends end (paths rest))
+        (records_begin end (w.given ++ Found text ∷ []) rest (items ms) split ∙ ap (λ l. l ++ with_ends end (paths rest)) (path_lines text)) w.queued some
 
     module _ (s' : Saying) (walk' : MachineState A) (held' : Option (List ℕ)) (waiting' : List ℕ) (goes : StepGoes IsSomeContent 0 walk s' walk') (next : TellsStep IsSomeContent walk s' walk') where
-      kept : Queues held waiting held' waiting' [] → Queues old [] held' waiting' (with_line_feeds (paths w.given))
-      kept queued = subst (Queues old [] held' waiting') (append-nil (with_line_feeds (paths w.given)))
-          (Queues-trans old held held' [] waiting waiting' (with_line_feeds (paths w.given)) [] w.queued queued)
+      kept : Queues held waiting held' waiting' [] → Queues old [] held' waiting' (with_ends end (paths w.given))
+      kept queued = subst (Queues old [] held' waiting') (append-nil (with_ends end (paths w.given)))
+          (Queues-trans old held held' [] waiting waiting' (with_ends end (paths w.given)) [] w.queued queued)
 
       -- a path was added
-      Written-path : (text : Text) → o ≡ Gives (Found text) → Queues held waiting held' waiting' (ended_line text)
-          → Written tells of first old tree s' walk' (record findings { has_path = true }) held' waiting'
+      Written-path : (text : Text) → o ≡ Gives (Found text) → Queues held waiting held' waiting' (ended_record end text)
+          → Written end tells of first old tree s' walk' (record findings { has_path = true }) held' waiting'
       Written-path text is queued = record {
         given = w.given ++ Found text ∷ [];
         same = w.same;
@@ -208,7 +208,7 @@ module _ {X A : Type 0} (tells : X → Option Content) (of : X) (first : Machine
         asks = goes.counts.asks;
         ends = goes.counts.ends;
         queued = subst (Queues old [] held' waiting') (sym (path_lines text))
-            (Queues-trans old held held' [] waiting waiting' (with_line_feeds (paths w.given)) (ended_line text) w.queued queued);
+            (Queues-trans old held held' [] waiting waiting' (with_ends end (paths w.given)) (ended_record end text) w.queued queued);
         path = sym (ap has_any (paths-append w.given (Found text ∷ [])) ∙ has_any-push (paths w.given) text);
         error = w.error ∙ sym (has_unread-found w.given text);
         begins = λ c told ms begun. begins_from c ms (w.given ++ Found text ∷ []) walk (more (Found text) is c told ms begun);
@@ -217,7 +217,7 @@ module _ {X A : Type 0} (tells : X → Option Content) (of : X) (first : Machine
 
       -- a directory could not be listed
       Written-unread : (p : Text) (k : ErrorKind) → o ≡ Gives (Unread p k) → Queues held waiting held' waiting' []
-          → Written tells of first old tree s' walk' (record findings { has_error = true }) held' waiting'
+          → Written end tells of first old tree s' walk' (record findings { has_error = true }) held' waiting'
       Written-unread p k is queued =
           let none = paths-append w.given (Unread p k ∷ []) ∙ append-nil (paths w.given) in
           record {
@@ -228,7 +228,7 @@ module _ {X A : Type 0} (tells : X → Option Content) (of : X) (first : Machine
             few = goes.counts.few;
             asks = goes.counts.asks;
             ends = goes.counts.ends;
-            queued = subst (λ ps. Queues old [] held' waiting' (with_line_feeds ps)) (sym none) (kept queued);
+            queued = subst (λ ps. Queues old [] held' waiting' (with_ends end ps)) (sym none) (kept queued);
             path = w.path ∙ sym (ap has_any none);
             error = sym (has_unread-push w.given p k);
             begins = λ c told ms begun. begins_from c ms (w.given ++ Unread p k ∷ []) walk (more (Unread p k) is c told ms begun);
@@ -237,7 +237,7 @@ module _ {X A : Type 0} (tells : X → Option Content) (of : X) (first : Machine
 
       -- a refusal ended the walk
       Written-refusal : (e : End) → is_last_step (Says o) ≡ true → Queues held waiting held' waiting' [] → Over tells of first (λ ms c. GaveItems ms first.limit e w.given)
-          → Written tells of first old tree s' walk' (record findings { end = e }) held' waiting'
+          → Written end tells of first old tree s' walk' (record findings { end = e }) held' waiting'
       Written-refusal e last queued gave = record {
         given = w.given;
         same = w.same;
@@ -254,27 +254,27 @@ module _ {X A : Type 0} (tells : X → Option Content) (of : X) (first : Machine
       }
 
       -- an error was reported
-      Written-error : (r : Outcome) → o ≡ r → IsNoPath r → Queues held waiting held' waiting' [] → Written tells of first old tree s' walk' (noting findings r) held' waiting'
+      Written-error : (r : Outcome) → o ≡ r → IsNoPath r → Queues held waiting held' waiting' [] → Written end tells of first old tree s' walk' (noting findings r) held' waiting'
       Written-error (Gives (Found p)) is plain queued = absurd plain
       Written-error (Gives (Unread p k)) is plain queued = Written-unread p k is queued
-      Written-error (LimitAt p) is plain queued = Written-refusal end.Limit (ap (λ r. is_last_step (Says r)) is) queued (λ c told ms begun.
+      Written-error (LimitAt p) is plain queued = Written-refusal last.Limit (ap (λ r. is_last_step (Says r)) is) queued (λ c told ms begun.
           let (all, less, are) = subst (λ r. GivesNext ms c w.given (Says r) walk) is ((going_on w.going).1 c told ms begun) in
           (subst (λ n. n < cost ms) w.limit less, subst (λ n. w.given ≡ items (front n ms)) w.limit are))
-      Written-error NoMemory is plain queued = Written-refusal end.Memory (ap (λ r. is_last_step (Says r)) is) queued (λ c told ms begun.
+      Written-error NoMemory is plain queued = Written-refusal last.Memory (ap (λ r. is_last_step (Says r)) is) queued (λ c told ms begun.
           let cut = subst (λ r. GivesNext ms c w.given (Says r) walk) is ((going_on w.going).1 c told ms begun) in
           (walk.spent, subst (λ n. walk.spent ≤ n) w.limit w.within, cut))
 
   -- an item was written, or waits
-  pub Written-item : (item : Result (PathBuf A) (GlobError A)) → Written tells of first old tree (Says (outcome item)) walk findings held waiting
-      → (s' : Saying) (walk' : MachineState A) (held' : Option (List ℕ)) (waiting' : List ℕ) → Queues held waiting held' waiting' (item_line item)
+  pub Written-item : (item : Result (PathBuf A) (GlobError A)) → Written end tells of first old tree (Says (outcome item)) walk findings held waiting
+      → (s' : Saying) (walk' : MachineState A) (held' : Option (List ℕ)) (waiting' : List ℕ) → Queues held waiting held' waiting' (item_record end item)
       → StepGoes IsSomeContent 0 walk s' walk' → TellsStep IsSomeContent walk s' walk'
-      → Written tells of first old tree s' walk' (noting findings (outcome item)) held' waiting'
+      → Written end tells of first old tree s' walk' (noting findings (outcome item)) held' waiting'
   Written-item (Ok path) w s' walk' held' waiting' queued goes next = Written-path _ w s' walk' held' waiting' goes next (path_buf_bytes path) refl queued
   Written-item (Err e) w s' walk' held' waiting' queued goes next = Written-error _ w s' walk' held' waiting' goes next (error_outcome e.cause e) refl (no_path e.cause e) queued
 
   -- an item could not be written
-  pub Written-fault : (item : Result (PathBuf A) (GlobError A)) → Written tells of first old tree (Says (outcome item)) walk findings held waiting
-      → (held' : Option (List ℕ)) → AppendsSome held held' (waiting ++ item_line item) → Over tells of first (λ ms c. FindsSomeBytes ms old held')
+  pub Written-fault : (item : Result (PathBuf A) (GlobError A)) → Written end tells of first old tree (Says (outcome item)) walk findings held waiting
+      → (held' : Option (List ℕ)) → AppendsSome held held' (waiting ++ item_record end item) → Over tells of first (λ ms c. FindsSomeBytes end ms old held')
   Written-fault (Ok path) w held' some = path_fault _ w (path_buf_bytes path) refl held' some
   Written-fault (Err e) w held' some = Written-before _ w held' (subst (AppendsSome held held') (append-nil waiting) some)
 

@@ -4,7 +4,7 @@ use Rattle.std.specs.Io.KnownBytes.{Appends}
 use Rattle.std.specs.Path.{path_buf_bytes}
 use Rattle.std.specs.declared.path.buf.PathBuf.{PathBuf}
 use Rattle.glob_walk.specs.Components.{walk_fault}
-use Rattle.glob_lines.specs.Lines.{ended_line, with_line_feeds}
+use Rattle.glob_lines.specs.Lines.{ended_record, with_ends}
 use Rattle.glob_walk.specs.Marks.{Mark, Item, Found, Unread, items, cost, front, paths}
 use Rattle.glob_text.specs.Text.{Text}
 use Rattle.glob_walk.specs.declared.walk.End.{End}
@@ -38,18 +38,18 @@ GaveItems ms limit end.Done given = (cost ms ≤ limit) × (given ≡ items ms)
 GaveItems ms limit end.Limit given = (limit < cost ms) × (given ≡ items (front limit ms))
 GaveItems ms limit end.Memory given = (spent : ℕ) × (spent ≤ limit) × IsCutShort ms spent given
 
--- The paths of what the walk gave were written, a line each, in order, also those between errors and after them.
-abbrev pub FindsPaths : (listing : List Mark) → (limit : ℕ) → (old new : Option (List ℕ)) → Findings → Type 0
-FindsPaths ms limit old new findings =
+-- The paths of what the walk gave were written, a record each, in order, also those between errors and after them.
+abbrev pub FindsPaths : (end : ℕ) → (listing : List Mark) → (limit : ℕ) → (old new : Option (List ℕ)) → Findings → Type 0
+FindsPaths end ms limit old new findings =
     (given : List Item)
     × GaveItems ms limit findings.end given
-    × Appends old new (with_line_feeds (paths given))
+    × Appends old new (with_ends end (paths given))
     × (findings.has_path ≡ has_any (paths given))
     × (findings.has_error ≡ has_unread given)
 
--- of the lines of all paths of the listing, the first n bytes were added, for some n
-abbrev pub FindsSomeBytes : (listing : List Mark) → (old new : Option (List ℕ)) → Type 0
-FindsSomeBytes ms old new = AppendsSome old new (with_line_feeds (paths (items ms)))
+-- of the records of all paths of the listing, the first n bytes were added, for some n
+abbrev pub FindsSomeBytes : (end : ℕ) → (listing : List Mark) → (old new : Option (List ℕ)) → Type 0
+FindsSomeBytes end ms old new = AppendsSome old new (with_ends end (paths (items ms)))
 
 -- the status says of the whole walk what it says; or it is 2
 unfoldable pub IsFindStatus : (listing : List Mark) → (limit : ℕ) → (status : ℕ) → Type 0
@@ -71,16 +71,16 @@ noting findings (LimitAt path) = record findings { end = end.Limit }
 noting findings NoMemory = record findings { end = end.Memory }
 
 -- What `find` writes, with its status: all that it found, with the status of that; or, with the status 2, a beginning of the
--- lines of the listing, where it was refused or could not write.
-unfoldable pub WritesFound : (listing : List Mark) → (limit : ℕ) → (old new : Option (List ℕ)) → (status : ℕ) → Type 0
-WritesFound ms limit old new status =
-    ((findings : Findings) × FindsPaths ms limit old new findings × (status ≡ status_of findings))
-    ⊎ ((status ≡ 2) × FindsSomeBytes ms old new)
+-- records of the listing, where it was refused or could not write.
+unfoldable pub WritesFound : (end : ℕ) → (listing : List Mark) → (limit : ℕ) → (old new : Option (List ℕ)) → (status : ℕ) → Type 0
+WritesFound end ms limit old new status =
+    ((findings : Findings) × FindsPaths end ms limit old new findings × (status ≡ status_of findings))
+    ⊎ ((status ≡ 2) × FindsSomeBytes end ms old new)
 
--- the line of an item of a walk; an error has none
-abbrev pub item_line : {A : Type 0} → Result (PathBuf A) (GlobError A) → List ℕ
-item_line (Ok path) = ended_line (path_buf_bytes path)
-item_line (Err error) = []
+-- the record of an item of a walk; an error has none
+abbrev pub item_record : {A : Type 0} → (end : ℕ) → Result (PathBuf A) (GlobError A) → List ℕ
+item_record end (Ok path) = ended_record end (path_buf_bytes path)
+item_record end (Err error) = []
 
 -- the pattern was refused
 abbrev pub IsRefusal : FindFault → Type 0

@@ -2,7 +2,7 @@
 use Rattle.std.specs.Prelude.{◌≡◌, ℕ, ◌<◌, ◌⊎◌, ◌++◌, List, Option, chars, take}
 use Rattle.std.specs.Io.KnownBytes.{Appends, Keeps}
 use Rattle.glob_pattern.specs.Escaping.{escaped_text}
-use Rattle.glob_lines.specs.Lines.{FiltersLines, FiltersSomeBytes, ended_line}
+use Rattle.glob_lines.specs.Lines.{FiltersRecords, FiltersRecordBytes, ended_record, line_feed}
 use Rattle.glob_pattern.specs.declared.options.MatchOptions.{MatchOptions}
 
 -- a fault before anything was done with the output
@@ -19,13 +19,13 @@ abbrev pub Queues : (old : Option (List ℕ)) → (waiting : List ℕ) → (new 
 Queues old waiting new waiting' bytes =
     (written : List ℕ) × Appends old new written × (waiting ++ bytes ≡ written ++ waiting')
 
--- Status 0: some lines match, and just those were written, in order. Status 1: no line matches, and none was written.
--- Status 2: of the bytes of the lines that match, the first n were written, for some n.
-unfoldable pub CopiesLines : MatchOptions → (pattern : List ℕ) → (input old new : Option (List ℕ)) → (status : ℕ) → Type 0
-CopiesLines options pattern input old new status =
-    (status ≡ 0 → (n : ℕ) × (0 < n) × FiltersLines options pattern input old new n)
-    × (status ≡ 1 → FiltersLines options pattern input old new 0)
-    × (status ≡ 2 → FiltersSomeBytes options pattern input old new)
+-- Status 0: some records match, and just those were written, in order. Status 1: none matches, and none was written.
+-- Status 2: of the bytes of the records that match, the first n were written, for some n.
+unfoldable pub CopiesRecords : (end : ℕ) → MatchOptions → (pattern : List ℕ) → (input old new : Option (List ℕ)) → (status : ℕ) → Type 0
+CopiesRecords end options pattern input old new status =
+    (status ≡ 0 → (n : ℕ) × (0 < n) × FiltersRecords end options pattern input old new n)
+    × (status ≡ 1 → FiltersRecords end options pattern input old new 0)
+    × (status ≡ 2 → FiltersRecordBytes end options pattern input old new)
 
 -- Status 0: these bytes were written. Status 2: the first n of them were, for some n. There is no other status.
 unfoldable pub WritesText : (text : List ℕ) → (old new : Option (List ℕ)) → (status : ℕ) → Type 0
@@ -34,7 +34,7 @@ WritesText text old new status = ((status ≡ 0) × Appends old new text) ⊎ ((
 -- the pattern that stands for the text alone, and a line feed
 abbrev pub IsEscapedLine : (text line : List ℕ) → Type 0
 IsEscapedLine text line =
-    (escaped : List ℕ) × (chars escaped ≡ escaped_text (chars text)) × (line ≡ ended_line escaped)
+    (escaped : List ℕ) × (chars escaped ≡ escaped_text (chars text)) × (line ≡ ended_record line_feed escaped)
 
 -- That line was written, and the status is 0; or the status is 2, and nothing was written, or the line's first bytes.
 unfoldable pub WritesEscaped : (text : List ℕ) → (old new : Option (List ℕ)) → (status : ℕ) → Type 0

@@ -2,26 +2,30 @@
 use Rattle.std.specs.Prelude.{ℕ, List}
 use Rattle.glob_pattern.specs.declared.options.MatchOptions.{MatchOptions}
 use Rattle.glob_run.specs.declared.command.Command.{Command}
-use Rattle.glob_run.specs.declared.command.Command.TheVariants.{Match, Escape, Find, Help, Version}
+use Rattle.glob_run.specs.declared.command.Command.TheVariants.{Match, Escape, Explain, Find, Help, Version}
 use Rattle.glob_run.specs.declared.command.Search.{Search}
+use Rattle.glob_run.specs.declared.command.Settings.{Settings}
 
--- the lines that a pattern matches; the pattern that stands for a text; the paths that a pattern finds within a limit, in
--- units of the walk; the page that teaches the program; its version
+-- the records that a pattern matches, which are lines but for `-0`; the pattern that stands for a text; the paths that a
+-- pattern finds within a limit, in units of the walk; the pieces of a text that a pattern takes; the page that teaches the
+-- program; its version
 pub data Request : Type 0 where
-  Lines : MatchOptions → (pattern : List ℕ) → Request
+  Lines : Settings → (pattern : List ℕ) → Request
   Escaped : (text : List ℕ) → Request
-  Paths : MatchOptions → (limit : ℕ) → (pattern : List ℕ) → Request
+  Paths : Settings → (limit : ℕ) → (pattern : List ℕ) → Request
+  Pieces : MatchOptions → (pattern text : List ℕ) → Request
   Page : Request
   VersionLine : Request
 
 -- what a search asks for
 abbrev pub search_request : Search → Request
-search_request search = Paths search.options search.limit search.pattern.now
+search_request search = Paths search.settings search.limit search.pattern.now
 
 -- what a command asks for
 abbrev pub request_of : Command → Request
-request_of (Match options pattern) = Lines options pattern.now
+request_of (Match settings pattern) = Lines settings pattern.now
 request_of (Escape text) = Escaped text.now
+request_of (Explain options pattern text) = Pieces options pattern.now text.now
 request_of (Find search) = search_request search
 request_of Help = Page
 request_of Version = VersionLine

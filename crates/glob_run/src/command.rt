@@ -1,22 +1,28 @@
 //! What the words of a command line ask for.
-ghost use Rattle.std.specs.Prelude.{◌≡◌, ◌-◌, ◌^◌, map, option_map};
+ghost use Rattle.std.specs.Prelude.{◌≡◌, ◌-◌, ◌^◌, map, option_map, true, false};
 ghost use Rattle.std.specs.Char.{is_ascii_digit};
 ghost use Rattle.std.specs.List.{list_all};
-ghost use Rattle.glob_run.specs.CommandLine.{is_match_option, limit_of, lines_request, operand_of, paths_request, request_asked, with_option};
-ghost use Rattle.glob_run.specs.Requests.{request_of, search_request};
+ghost use Rattle.glob_run.specs.CommandLine.{asks_help, operands_of, pieces_request, is_match_option, is_setting, limit_of, lines_request, new_settings, operand_of, paths_request, request_asked, with_option, with_setting};
 ghost use Rattle.glob_pattern.specs.Matching.Options.{new_options};
+ghost use Rattle.glob_run.specs.Requests.{request_of, search_request};
 
 use glob_pattern::MatchOptions;
 
 /// What a list of words asks of the program.
 pub enum Command<'a> {
-    /// Copy the lines that the pattern matches.
+    /// Copy the records that the pattern matches, which are lines but for `-0`.
     Match {
-        options: MatchOptions,
+        settings: Settings,
         pattern: &'a str,
     },
     /// Write the pattern that stands for the text alone.
     Escape {
+        text: &'a str,
+    },
+    /// Write which piece of the text each token of the pattern takes.
+    Explain {
+        options: MatchOptions,
+        pattern: &'a str,
         text: &'a str,
     },
     /// Write the paths that a walk of the disk finds.
@@ -27,11 +33,19 @@ pub enum Command<'a> {
     Version,
 }
 
+/// What the options of `match` and `find` set.
+#[derive(Clone, Copy)]
+pub struct Settings {
+    pub options: MatchOptions,
+    /// The byte that ends each record that is read or written.
+    pub end: u8,
+}
+
 /// A walk of the disk.
 #[derive(Clone, Copy)]
 pub struct Search<'a> {
     pub pattern: &'a str,
-    pub options: MatchOptions,
+    pub settings: Settings,
     /// How many units the walk may spend.
     pub limit: u64,
 }
@@ -44,11 +58,13 @@ impl<'a> Command<'a> {
     {
         let (&name, words) = words.split_first()?;
         match name {
+            "match" | "escape" | "find" | "explain" if asks_for_help(words) => Some(Command::Help),
             "match" => Self::parse_match(words),
             "escape" => Some(Command::Escape {
                 text: only_operand(words)?,
             }),
             "find" => Some(Command::Find(Search::parse(words)?)),
+            "explain" => Self::parse_explain(words),
             "-h" | "--help" => Some(Command::Help),
             "--version" => Some(Command::Version),
             _ => None,
@@ -58,14 +74,14 @@ impl<'a> Command<'a> {
     /// Reads the words after `match`.
     fn parse_match(words: &[&'a str]) -> Option<Self>
         ensures { option_map request_of result
-            ≡ lines_request new_options (map (λ w. w.now) words.now) }
+            ≡ lines_request new_settings (map (λ w. w.now) words.now) }
     {
-        let mut options = MatchOptions::new();
+        let mut settings = Settings::new();
         let mut rest = words;
         while let [word, after @ ..] = rest {
-            if !set_option(&mut options, word) {
+            if !settings.set(word) {
                 let pattern = only_operand(rest)?;
-                return Some(Command::Match { options, pattern });
+                return Some(Command::Match { settings, pattern });
             }
             rest = after;
         }
@@ -73,13 +89,61 @@ impl<'a> Command<'a> {
     }
 }
 
-impl<'a> Search<'a> {
-    /// Reads the words after `find`. Between match options, `-n LIMIT` can stand, and the last one counts.
-    fn parse(words: &[&'a str]) -> Option<Self>
-        ensures { option_map search_request result
-            ≡ paths_request new_options (2 ^ 64 - 1) (map (λ w. w.now) words.now) }
+impl<'a> Command<'a> {
+    /// Reads the words after `explain`.
+    fn parse_explain(words: &[&'a str]) -> Option<Self>
+        ensures { option_map request_of result
+            ≡ pieces_request new_options (map (λ w. w.now) words.now) }
     {
         let mut options = MatchOptions::new();
+        let mut rest = words;
+        while let [word, after @ ..] = rest {
+            if !set_option(&mut options, word) {
+                let (pattern, text) = two_operands(rest)?;
+                return Some(Command::Explain {
+                    options,
+                    pattern,
+                    text,
+                });
+            }
+            rest = after;
+        }
+        None
+    }
+}
+
+impl Settings {
+    /// Lines, and the match options that are first.
+    fn new() -> Self
+        ensures { result ≡ new_settings }
+    {
+        Settings {
+            options: MatchOptions::new(),
+            end: b'\n',
+        }
+    }
+
+    /// Sets what the word names. False where it names nothing.
+    fn set(&mut self, word: &str) -> bool
+        ensures named { result ≡ is_setting word.now }
+        ensures set { result ≡ true → self.new ≡ with_setting word.now self.old }
+        ensures kept { result ≡ false → self.new ≡ self.old }
+    {
+        if word == "-0" {
+            self.end = 0;
+            return true;
+        }
+        set_option(&mut self.options, word)
+    }
+}
+
+impl<'a> Search<'a> {
+    /// Reads the words after `find`. Between the other options, `-n LIMIT` can stand, and the last one counts.
+    fn parse(words: &[&'a str]) -> Option<Self>
+        ensures { option_map search_request result
+            ≡ paths_request new_settings (2 ^ 64 - 1) (map (λ w. w.now) words.now) }
+    {
+        let mut settings = Settings::new();
         let mut limit = u64::MAX;
         let mut rest = words;
         while let [word, after @ ..] = rest {
@@ -89,18 +153,25 @@ impl<'a> Search<'a> {
                 };
                 limit = parse_limit(digits)?;
                 rest = after;
-            } else if set_option(&mut options, word) {
+            } else if settings.set(word) {
                 rest = after;
             } else {
                 return Some(Search {
                     pattern: only_operand(rest)?,
-                    options,
+                    settings,
                     limit,
                 });
             }
         }
         None
     }
+}
+
+/// Whether the first of the words is `--help`.
+fn asks_for_help(words: &[&str]) -> bool
+    ensures { result ≡ asks_help (map (λ w. w.now) words.now) }
+{
+    matches!(words, [word, ..] if *word == "--help")
 }
 
 /// Sets the match option that the word names. False where it names none.
@@ -144,5 +215,30 @@ fn only_operand<'a>(words: &[&'a str]) -> Option<&'a str>
         [word] => Some(word),
         [dashes, word] => { if *dashes == "--" { Some(word) } else { None } }
         [_, _, _, ..] => None,
+    }
+}
+
+/// The two words that are left after the options. Words that begin with `-` can stand there only after `--`.
+fn two_operands<'a>(words: &[&'a str]) -> Option<(&'a str, &'a str)>
+    ensures { option_map (λ ws. (ws.0.now, ws.1.now)) result
+        ≡ operands_of (map (λ w. w.now) words.now) }
+{
+    match words {
+        [] | [_] => None,
+        [pattern, text] => {
+            if pattern.starts_with('-') || text.starts_with('-') {
+                None
+            } else {
+                Some((pattern, text))
+            }
+        }
+        [dashes, pattern, text] => {
+            if *dashes == "--" {
+                Some((pattern, text))
+            } else {
+                None
+            }
+        }
+        [_, _, _, _, ..] => None,
     }
 }

@@ -7,11 +7,12 @@ pub const VERSION: &str = "glob_run 0.3.0\n";
 pub const HELP: &str = "\
 glob_run: Unix shell patterns for lines and paths
 
-  glob_run match [-i] [-s] [-d] PATTERN            copy the matching lines of standard input
-  glob_run find [-i] [-s] [-d] [-n LIMIT] PATTERN  write the paths of the disk that match
-  glob_run escape TEXT                             write the pattern that stands for TEXT alone
-  glob_run --help, -h                              write this page
-  glob_run --version                               write the version
+  glob_run match [-i] [-s] [-d] [-0] PATTERN            copy the matching lines of standard input
+  glob_run find [-i] [-s] [-d] [-0] [-n LIMIT] PATTERN  write the paths of the disk that match
+  glob_run explain [-i] [-s] [-d] PATTERN TEXT          show which piece each part of PATTERN takes
+  glob_run escape TEXT                                  write the pattern that stands for TEXT alone
+  glob_run --help, -h                                   write this page, also after a command
+  glob_run --version                                    write the version
 
 Quote a pattern: glob_run match '*.rs'. A shell would expand it otherwise.
 
@@ -21,6 +22,8 @@ Options stand before the pattern:
   -s        ?, * and brackets take no /. It changes nothing for find,
             where names have no /
   -d        neither wildcards nor brackets take a . at the start of a component
+  -0        records end in a NUL in place of a line feed, those read and those written: for names
+            with line feeds, as of git ls-files -z, and for xargs -0
   -n LIMIT  find spends at most LIMIT units: one for each lookup, listing and entry of a listing
   --        ends the options. A pattern or text that begins with - needs it
 
@@ -40,12 +43,16 @@ Lines: match reads its input to the end before it writes anything. A line ends b
 The last one may lack it, and is written with one. A carriage return belongs to its line, so *.rs
 does not match a line that ends in it. A line that is not UTF-8 never matches.
 
+explain writes a line for each wildcard, bracket and character of the pattern, and after a tab the
+piece of the text that it takes. Where the text does not match, a caret shows where it stops, and
+the lines below say what is wanted there. A caret under a pattern shows its fault.
+
 Paths: find walks from the current directory, or from / if the pattern begins with that. Each
 directory's names come in ascending byte order. If the pattern ends in / or **, only directories
 match. A directory that cannot be listed is a line on standard error, and the walk goes on.
 
 Status:
-  0         a line or path matched, a text was escaped, or this page or the version was written
+  0         something matched, a text was escaped, or this page or the version was written
   1         nothing matched
   2         a fault, a directory that could not be listed, or the limit was reached
 A fault is one line on standard error.

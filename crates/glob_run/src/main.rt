@@ -1,6 +1,6 @@
 //! Shell patterns at the command line. `glob_run match PATTERN` copies the matching lines of standard input,
 //! `glob_run escape TEXT` writes the pattern that stands for the text alone, and `glob_run find PATTERN` writes the paths
-//! of the disk that the pattern matches.
+//! of the disk that the pattern matches, and `glob_run explain PATTERN TEXT` which piece of a text each token takes.
 #![tactic(auto)]
 
 ghost use Rattle.std.specs.Prelude.{◌≡◌, ◌≢◌, ◌≤◌, List, ℕ, Some, None, IfOk, OnErr, chars, map, string_bytes};
@@ -8,26 +8,29 @@ ghost use Rattle.glob_tree.specs.Answers.{IsTold};
 ghost use Rattle.glob_walk.specs.Components.{walk_fault};
 ghost use Rattle.glob_tree.specs.Content.{Content};
 ghost use Rattle.glob_pattern.specs.Grammar.Units.{IsAccepted};
-ghost use Rattle.glob_lines.specs.Lines.{FiltersLines, FiltersSomeBytes};
+ghost use Rattle.glob_lines.specs.Lines.{FiltersRecords, FiltersRecordBytes};
 ghost use Rattle.glob_walk.specs.Listing.{listing};
 ghost use Rattle.glob_pattern.specs.declared.options.MatchOptions.{MatchOptions};
 ghost use Rattle.glob_run.specs.CommandLine.{request_asked};
 ghost use Rattle.glob_run.specs.FoundPaths.{IsFindStatus, WritesFound};
-ghost use Rattle.glob_run.specs.Outcomes.{CopiesLines, IsEscapedLine, IsRefused, WritesEscaped, WritesText};
-ghost use Rattle.glob_run.specs.Requests.{Escaped, Lines, Page, Paths, VersionLine};
+ghost use Rattle.glob_run.specs.Outcomes.{CopiesRecords, IsEscapedLine, IsRefused, WritesEscaped, WritesText};
+ghost use Rattle.glob_run.specs.Requests.{Escaped, Lines, Page, Paths, Pieces, VersionLine};
+ghost use Rattle.glob_run.specs.declared.command.Settings.{Settings};
 ghost use Rattle.glob_run.specs.declared.help.TheConstants.{HELP, VERSION};
 
 mod borrowed;
 mod command;
+mod explain;
 mod find;
 mod help;
 mod writing;
 
 use borrowed::Borrowed;
-use command::Command;
+use command::{Command, Settings};
+use explain::run_explain;
 use find::run_find;
-use glob_lines::{LineFault, Watch, filter_lines};
-use glob_pattern::{MatchOptions, Pattern};
+use glob_lines::{LineFault, Watch, filter_records};
+use glob_pattern::Pattern;
 use glob_tree::Tree;
 use glob_walk::Disk;
 use std::alloc::{AllocError, Allocator};
@@ -69,28 +72,31 @@ pub fn run_words<T: Tree, R: Read + Drop, W: Write, E: Write>(
     ensures most { result ≤ 2 }
     ensures usage { request_asked (map (λ w. w.now) words.now) ≡ None
         → IsRefused output.old output.new result }
-    ensures refused { (options : MatchOptions) → (pattern : List ℕ)
-        → request_asked (map (λ w. w.now) words.now) ≡ Some (Lines options pattern)
+    ensures refused { (settings : Settings) → (pattern : List ℕ)
+        → request_asked (map (λ w. w.now) words.now) ≡ Some (Lines settings pattern)
         → (¬ (IsAccepted (chars pattern))) → IsRefused output.old output.new result }
-    ensures lines { (options : MatchOptions) → (pattern : List ℕ)
-        → request_asked (map (λ w. w.now) words.now) ≡ Some (Lines options pattern)
-        → CopiesLines options pattern (R.remaining input)
+    ensures records { (settings : Settings) → (pattern : List ℕ)
+        → request_asked (map (λ w. w.now) words.now) ≡ Some (Lines settings pattern)
+        → CopiesRecords settings.end settings.options pattern (R.remaining input)
         (W.contents output.old) (W.contents output.new) result }
     ensures escaped { (text : List ℕ)
         → request_asked (map (λ w. w.now) words.now) ≡ Some (Escaped text)
         → WritesEscaped text (W.contents output.old) (W.contents output.new) result }
-    ensures walk_refused { (options : MatchOptions) → (limit : ℕ) → (pattern : List ℕ)
-        → request_asked (map (λ w. w.now) words.now) ≡ Some (Paths options limit pattern)
+    ensures walk_refused { (settings : Settings) → (limit : ℕ) → (pattern : List ℕ)
+        → request_asked (map (λ w. w.now) words.now) ≡ Some (Paths settings limit pattern)
         → walk_fault pattern ≢ None → IsRefused output.old output.new result }
-    ensures walk_status { (options : MatchOptions) → (limit : ℕ) → (pattern : List ℕ)
-        → request_asked (map (λ w. w.now) words.now) ≡ Some (Paths options limit pattern)
+    ensures walk_status { (settings : Settings) → (limit : ℕ) → (pattern : List ℕ)
+        → request_asked (map (λ w. w.now) words.now) ≡ Some (Paths settings limit pattern)
         → (c : Content) → IsTold (T.tells tree) c
-        → IsFindStatus (listing c options pattern) limit result }
-    ensures walk_written { (options : MatchOptions) → (limit : ℕ) → (pattern : List ℕ)
-        → request_asked (map (λ w. w.now) words.now) ≡ Some (Paths options limit pattern)
+        → IsFindStatus (listing c settings.options pattern) limit result }
+    ensures walk_written { (settings : Settings) → (limit : ℕ) → (pattern : List ℕ)
+        → request_asked (map (λ w. w.now) words.now) ≡ Some (Paths settings limit pattern)
         → (c : Content) → IsTold (T.tells tree) c
-        → WritesFound (listing c options pattern) limit
+        → WritesFound settings.end (listing c settings.options pattern) limit
         (W.contents output.old) (W.contents output.new) result }
+    ensures unexplained { (options : MatchOptions) → (pattern text : List ℕ)
+        → request_asked (map (λ w. w.now) words.now) ≡ Some (Pieces options pattern text)
+        → (¬ (IsAccepted (chars pattern))) → IsRefused output.old output.new result }
     ensures page { request_asked (map (λ w. w.now) words.now) ≡ Some Page
         → WritesText HELP.now (W.contents output.old) (W.contents output.new) result }
     ensures version { request_asked (map (λ w. w.now) words.now) ≡ Some VersionLine
@@ -100,20 +106,25 @@ pub fn run_words<T: Tree, R: Read + Drop, W: Write, E: Write>(
         return fault(alloc, errors, USAGE);
     };
     match command {
-        Command::Match { options, pattern } => {
-            run_match(alloc, options, pattern, input, output, errors)
+        Command::Match { settings, pattern } => {
+            run_match(alloc, settings, pattern, input, output, errors)
         }
         Command::Escape { text } => run_escape(alloc, text, output, errors),
+        Command::Explain {
+            options,
+            pattern,
+            text,
+        } => run_explain(alloc, options, pattern, text, output, errors),
         Command::Find(search) => run_find(alloc, tree, search, output, errors),
         Command::Help => write_text(alloc, help::HELP, output, errors),
         Command::Version => write_text(alloc, help::VERSION, output, errors),
     }
 }
 
-/// Copies the lines that the pattern of the text matches, and returns the status.
+/// Copies the records that the pattern of the text matches, and returns the status.
 fn run_match<A: Allocator + Copy, R: Read + Drop, W: Write, E: Write>(
     alloc: A,
-    options: MatchOptions,
+    settings: Settings,
     pattern: &str,
     input: R,
     output: &mut W,
@@ -122,52 +133,55 @@ fn run_match<A: Allocator + Copy, R: Read + Drop, W: Write, E: Write>(
     ensures most { result ≤ 2 }
     ensures refused { (¬ (IsAccepted (chars pattern.now)))
         → IsRefused output.old output.new result }
-    ensures lines { CopiesLines options pattern.now (R.remaining input)
+    ensures records { CopiesRecords settings.end settings.options pattern.now (R.remaining input)
         (W.contents output.old) (W.contents output.new) result }
 {
     match Pattern::new(alloc, pattern) {
-        Ok(pattern) => copy_lines(alloc, &pattern, options, input, output, errors),
+        Ok(pattern) => copy_records(alloc, &pattern, settings, input, output, errors),
         Err(refusal) => fault(alloc, errors, refusal),
     }
 }
 
-/// Copies the matching lines, and returns the status.
-#[tactic(auto, unfolding(crate::specs::Outcomes::CopiesLines))]
-fn copy_lines<A: Allocator + Copy, R: Read + Drop, W: Write, E: Write>(
+/// Copies the matching records, and returns the status.
+#[tactic(auto, unfolding(crate::specs::Outcomes::CopiesRecords))]
+fn copy_records<A: Allocator + Copy, R: Read + Drop, W: Write, E: Write>(
     alloc: A,
     pattern: &Pattern<A>,
-    options: MatchOptions,
+    settings: Settings,
     input: R,
     output: &mut W,
     errors: &mut E,
 ) -> u8
     ensures most { result ≤ 2 }
-    ensures lines { CopiesLines options pattern.now (R.remaining input)
+    ensures records { CopiesRecords settings.end settings.options pattern.now (R.remaining input)
         (W.contents output.old) (W.contents output.new) result }
 {
-    match filter_input(alloc, pattern, options, input, output) {
+    match filter_input(alloc, pattern, settings, input, output) {
         Ok(0) => UNMATCHED,
         Ok(_) => MATCHED,
         Err(line_fault) => fault(alloc, errors, line_fault),
     }
 }
 
-/// Copies the matching lines, and returns how many there are. Where it fails, the first bytes of them were written.
+/// Copies the matching records, and returns how many there are. Where it fails, the first bytes of them were written.
 fn filter_input<A: Allocator + Copy, R: Read + Drop, W: Write>(
     alloc: A,
     pattern: &Pattern<A>,
-    options: MatchOptions,
+    settings: Settings,
     input: R,
     output: &mut W,
 ) -> Result<u64, LineFault>
-    ensures lines { IfOk result (FiltersLines options pattern.now (R.remaining input)
+    ensures records { IfOk result (FiltersRecords settings.end settings.options pattern.now
+        (R.remaining input)
         (W.contents output.old) (W.contents output.new)) }
-    ensures some { OnErr result (FiltersSomeBytes options pattern.now (R.remaining input)
+    ensures some { OnErr result (FiltersRecordBytes settings.end settings.options pattern.now
+        (R.remaining input)
         (W.contents output.old) (W.contents output.new)) }
 {
     let mut reader = Watch::new(input);
     let mut writer = Watch::new(Borrowed { writer: output });
-    let answer = filter_lines(alloc, pattern, options, &mut reader, &mut writer);
+    let Settings { options, end } = settings;
+    let answer = filter_records(alloc, pattern, options, end, &mut reader, &mut writer);
     let Borrowed { writer: output } = writer.into_inner();
     // No effect at run time. The proof reads here what the output holds.
     let _ = &*output;

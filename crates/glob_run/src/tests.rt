@@ -1,9 +1,11 @@
 mod disk;
+mod explain;
 mod find;
 mod folder;
 mod help_page;
 mod known_trees;
 mod links;
+mod memory;
 mod runs;
 mod writers;
 
@@ -41,6 +43,11 @@ const LINES: &[Row] = &[
     ("match -i É", b"\xc3\xa9\n", (1, "", "")),
     ("match abc[def", b"abc\n", (2, "", FAULT_LINE)),
     ("match -d -- *", b".x\ny\n", (0, "y\n", "")),
+    ("match -0 a*", b"a\nb\0b\0a", (0, "a\nb\0a\0", "")),
+    ("match -i -0 -0 A?", b"a\n\0a\nb\0ab", (0, "a\n\0ab\0", "")),
+    ("match -0 *b", b"a\nb\n", (1, "", "")),
+    ("match -0 -- -*", b"-\0", (0, "-\0", "")),
+    ("match -0 abc[def", b"abc\0", (2, "", FAULT_LINE)),
 ];
 
 const USAGE_FAULTS: &[&str] = &[
@@ -58,12 +65,17 @@ const USAGE_FAULTS: &[&str] = &[
     "-- match *",
     "-- --help",
     "help",
+    "help match",
     "-help",
     "-v",
     "-V",
     "match -h",
-    "match --help",
-    "escape --help",
+    "match -0",
+    "match -00 *",
+    "match --null *",
+    "match -i --help",
+    "match -- --help x",
+    "escape -0 a",
     "find --version",
 ];
 

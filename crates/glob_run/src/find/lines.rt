@@ -1,6 +1,6 @@
-//! Lines that wait for others before they are written.
+//! Records that wait for others before they are written. They are lines but for `-0`.
 ghost use Rattle.std.specs.Prelude.{◌≡◌, ◌++◌, [], IfOk, OnErr, OnOk};
-ghost use Rattle.glob_lines.specs.Lines.{ended_line};
+ghost use Rattle.glob_lines.specs.Lines.{ended_record};
 ghost use Rattle.glob_run.specs.Outcomes.{AppendsSome, Queues};
 
 use crate::writing::write_whole;
@@ -35,15 +35,15 @@ impl<A: Allocator> Lines<A> {
         })
     }
 
-    /// Adds the text and a line feed. Where it fails, the first bytes of what waits and of these may have been written.
-    pub fn add<W: Write>(&mut self, text: &str, output: &mut W) -> io::Result<()>
+    /// Adds the text and the byte that ends it. Where it fails, the first bytes of what waits and of these may have been written.
+    pub fn add<W: Write>(&mut self, text: &str, end: u8, output: &mut W) -> io::Result<()>
         ensures line { OnOk result (Queues (W.contents output.old) self.old.waiting.items
-            (W.contents output.new) self.new.waiting.items (ended_line text.now)) }
+            (W.contents output.new) self.new.waiting.items (ended_record end text.now)) }
         ensures some { OnErr result (AppendsSome (W.contents output.old) (W.contents output.new)
-            (self.old.waiting.items ++ ended_line text.now)) }
+            (self.old.waiting.items ++ ended_record end text.now)) }
     {
         self.waiting.extend_from_slice(text.as_bytes())?;
-        self.waiting.extend_from_slice(b"\n")?;
+        self.waiting.push(end)?;
         if self.has_line && self.waiting.len() < CAPACITY {
             return Ok(());
         }

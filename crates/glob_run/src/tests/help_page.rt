@@ -7,14 +7,16 @@ use std::test::Fail;
 
 /// What the page says of each command, option, wildcard and status, a line for each.
 const HELP_BEGINS: &[&str] = &[
-    "  glob_run match [-i] [-s] [-d] PATTERN            copy the matching lines",
-    "  glob_run find [-i] [-s] [-d] [-n LIMIT] PATTERN  write the paths of the disk",
-    "  glob_run escape TEXT                             write the pattern",
-    "  glob_run --help, -h                              write this page",
-    "  glob_run --version                               write the version",
+    "  glob_run match [-i] [-s] [-d] [-0] PATTERN            copy the matching lines",
+    "  glob_run find [-i] [-s] [-d] [-0] [-n LIMIT] PATTERN  write the paths of the disk",
+    "  glob_run explain [-i] [-s] [-d] PATTERN TEXT          show which piece",
+    "  glob_run escape TEXT                                  write the pattern",
+    "  glob_run --help, -h                                   write this page",
+    "  glob_run --version                                    write the version",
     "  -i        ASCII letters in either case",
     "  -s        ?, * and brackets take no /",
     "  -d        neither wildcards nor brackets take a .",
+    "  -0        records end in a NUL",
     "  -n LIMIT  find spends at most LIMIT units",
     "  --        ends the options",
     "  ?         any one character",
@@ -24,7 +26,7 @@ const HELP_BEGINS: &[&str] = &[
     "  [a-c]     a character from a to c",
     "  [!a-c]    a character that is not from a to c",
     "  [*]       a * alone",
-    "  0         a line or path matched",
+    "  0         something matched",
     "  1         nothing matched",
     "  2         a fault",
 ];
@@ -63,9 +65,22 @@ fn the_page_teaches_each_word(rt: HostRuntime) -> Result<(), Fail> {
     Ok(())
 }
 
+/// Words that write the page, too.
+const PAGES: &[&[&str]] = &[
+    &["-h"],
+    &["-h", "match"],
+    &["match", "--help"],
+    &["find", "--help", "x"],
+    &["escape", "--help"],
+    &["explain", "--help"],
+];
+
 #[test]
 fn the_page_has_two_names(rt: HostRuntime) -> Result<(), Fail> {
     let page = page_of(&rt, &["--help"])?;
-    let is_same = page_of(&rt, &["-h"])? == page && page_of(&rt, &["-h", "match"])? == page;
-    ensure(is_same, format_args!("-h"))
+    for words in PAGES {
+        let is_same = page_of(&rt, words)? == page;
+        ensure(is_same, format_args!("{words:?}"))?;
+    }
+    Ok(())
 }

@@ -1,6 +1,6 @@
 //! The command `find` over trees in memory, whose content contracts know: exact bytes, for a pattern each.
 use super::folder::ensure;
-use crate::command::Search;
+use crate::command::{Search, Settings};
 use crate::find::find_in;
 use crate::run_words;
 use glob_pattern::MatchOptions;
@@ -127,6 +127,18 @@ fn the_program_writes_the_listing(rt: HostRuntime) -> Result<(), Fail> {
     Ok(())
 }
 
+/// Paths that end in a NUL, also those with a line feed, and errors that end in a line feed.
+#[test]
+fn paths_may_end_in_a_nul(rt: HostRuntime) -> Result<(), Fail> {
+    let mut tree = tree_of(&rt, "/x /y", "/")?;
+    ensure(tree.add_other("/a\nb").is_ok(), "a name")?;
+    let words = ["find", "-0", "*"];
+    check_words(&rt, tree, &words, (0, "a\nb\0x\0y\0", ""))?;
+    let tree = tree_of(&rt, "/d# /e/", "/")?;
+    let words = ["find", "-i", "-0", "-n", "9", "**"];
+    check_words(&rt, tree, &words, (2, "d\0e\0", DENIED))
+}
+
 #[test]
 fn a_limit_cuts_the_listing(rt: HostRuntime) -> Result<(), Fail> {
     let two = ["find", "-n", "4", "*"];
@@ -159,7 +171,10 @@ fn a_search_says_how_it_ended(rt: HostRuntime) -> Result<(), Fail> {
     let alloc = rt.alloc();
     let search = Search {
         pattern: "*",
-        options: MatchOptions::new(),
+        settings: Settings {
+            options: MatchOptions::new(),
+            end: b'\n',
+        },
         limit: 4,
     };
     let mut output = Vec::new(alloc);

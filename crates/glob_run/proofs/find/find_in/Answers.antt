@@ -5,11 +5,11 @@ use Rattle.glob_run.proofs.find.find_in.Goals as goal
 
 pub returns-in-Ok-write_items-clause-paths : goal.returns-in-Ok-write_items-clause-paths
 returns-in-Ok-write_items-clause-paths g c c' told =
-    let ms = listing c' c.args.search.options c.args.search.pattern.now in
+    let ms = listing c' c.args.search.settings.options c.args.search.pattern.now in
     let held = g.W.Write.contents in
-    subst (λ limit. FindsPaths ms limit (held c.args.output.now) (held c.write_items.new.output) c.in-Ok-write_items.findings) c.in-Ok.ensures.fresh.limit
+    subst (λ limit. FindsPaths c.args.search.settings.end ms limit (held c.args.output.now) (held c.write_items.new.output) c.in-Ok-write_items.findings) c.in-Ok.ensures.fresh.limit
     (c.in-Ok-write_items.ensures.paths c' told ms (c.in-Ok.ensures.begun c'))
 
 pub returns-in-Err-write_items-clause-some : goal.returns-in-Err-write_items-clause-some
 returns-in-Err-write_items-clause-some g c c' told =
-    c.in-Err-write_items.ensures.some c' told (listing c' c.args.search.options c.args.search.pattern.now) (c.in-Ok.ensures.begun c')
+    c.in-Err-write_items.ensures.some c' told (listing c' c.args.search.settings.options c.args.search.pattern.now) (c.in-Ok.ensures.begun c')

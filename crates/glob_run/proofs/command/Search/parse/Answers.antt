@@ -9,5 +9,5 @@ loop-rest-preserved-then-eq c =
 
 pub loop-rest-preserved : goal.loop-rest-preserved
 loop-rest-preserved c =
-    rw c.set_option.ensures.set (sym (paths_request-option _ _ _ _ c.in-len1-up.len_at_least (sym c.eq.ensures ∙ c.if-eq.false) (sym c.set_option.ensures.named ∙ c.if-set_option.true))
+    rw (c.set.ensures.set c.if-set.true) (sym (paths_request-option _ _ _ _ c.in-len1-up.len_at_least (sym c.eq.ensures ∙ c.if-eq.false) (sym c.set.ensures.named ∙ c.if-set.true))
     ∙ c.loop-rest.invariant)

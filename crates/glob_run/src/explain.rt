@@ -1,0 +1,206 @@
+//! The command `explain`: which piece of a text each token of a pattern takes, or why there are none.
+ghost use Rattle.std.specs.Prelude.{◌≡◌, ◌≤◌, IfOk, chars};
+ghost use Rattle.glob_pattern.specs.Grammar.Units.{IsAccepted};
+ghost use Rattle.glob_run.specs.Outcomes.{IsRefused};
+
+mod caret;
+mod instead;
+mod spelling;
+
+use crate::writing::write_whole;
+use crate::{MATCHED, UNMATCHED, fault};
+use caret::add_caret;
+use glob_captures::{CapturesError, Piece, Reached, captures, reach};
+use glob_pattern::{MatchOptions, Pattern, PatternError, PatternRefusal, tokens_len};
+use instead::{accepted_instead, foreign_instead};
+use spelling::{split_token, wanted_by};
+use std::alloc::{AllocError, Allocator};
+use std::io::Write;
+
+/// Writes how the pattern of the text takes the other text, and returns the status: 0 where it matches, 1 where it does
+/// not, 2 at a fault. A pattern that is refused is written to `errors`, with a caret under its fault.
+pub fn run_explain<A: Allocator + Copy, W: Write, E: Write>(
+    alloc: A,
+    options: MatchOptions,
+    pattern: &str,
+    text: &str,
+    output: &mut W,
+    errors: &mut E,
+) -> u8
+    ensures most { result ≤ 2 }
+    ensures refused { (¬ (IsAccepted (chars pattern.now)))
+        → IsRefused output.old output.new result }
+{
+    match Pattern::new(alloc, pattern) {
+        Ok(made) => write_explained(alloc, &made, pattern, text, options, output, errors),
+        Err(PatternRefusal::Syntax(error)) => refuse(alloc, pattern, error, errors),
+        Err(PatternRefusal::Memory) => fault(alloc, errors, "out of memory"),
+    }
+}
+
+/// Writes the lines of a pattern, which is written so, and a text.
+fn write_explained<A: Allocator + Copy, W: Write, E: Write>(
+    alloc: A,
+    pattern: &Pattern<A>,
+    written: &str,
+    text: &str,
+    options: MatchOptions,
+    output: &mut W,
+    errors: &mut E,
+) -> u8
+    ensures { result ≤ 2 }
+{
+    match explained(alloc, pattern, written, text, options) {
+        Ok((lines, status)) => match write_whole(output, lines.as_bytes()) {
+            Ok(()) => status,
+            Err(_) => fault(alloc, errors, "writing failed"),
+        },
+        Err(captures_fault) => fault(alloc, errors, captures_fault),
+    }
+}
+
+/// The lines of a pattern and a text, and the status.
+fn explained<A: Allocator + Copy>(
+    alloc: A,
+    pattern: &Pattern<A>,
+    written: &str,
+    text: &str,
+    options: MatchOptions,
+) -> Result<(String<A>, u8), CapturesError>
+    ensures { IfOk result (λ made. made.1 ≤ 2) }
+{
+    match captures(alloc, pattern, text, options)? {
+        Some(pieces) => Ok((
+            piece_lines(alloc, written, text, pieces.as_slice())?,
+            MATCHED,
+        )),
+        None => {
+            let reached = reach(alloc, pattern, text, options)?;
+            Ok((
+                reach_lines(alloc, pattern, written, text, &reached)?,
+                UNMATCHED,
+            ))
+        }
+    }
+}
+
+/// A line for each token: how it is written, a tab, and its piece.
+fn piece_lines<A: Allocator + Copy>(
+    alloc: A,
+    written: &str,
+    text: &str,
+    pieces: &[Piece],
+) -> Result<String<A>, AllocError> {
+    let mut lines = String::new(alloc);
+    let mut rest = written;
+    for piece in pieces {
+        let (token, after) = split_token(rest);
+        let taken = text.get(piece.start..piece.end).unwrap_or("");
+        add_row(&mut lines, token, taken)?;
+        rest = after;
+    }
+    Ok(lines)
+}
+
+/// The text with a caret where it stops, and a line for each token that waits there: how it is written, a tab, and what
+/// it wants. Where the pattern has a form of another tool, a last line says what to write instead.
+fn reach_lines<A: Allocator + Copy>(
+    alloc: A,
+    pattern: &Pattern<A>,
+    written: &str,
+    text: &str,
+    reached: &Reached<A>,
+) -> Result<String<A>, AllocError> {
+    let mut lines = String::new(alloc);
+    let before = text.get(..reached.place).unwrap_or(text);
+    add_caret(&mut lines, text, before.chars().count())?;
+    add_waiting(
+        &mut lines,
+        tokens_len(pattern),
+        written,
+        reached.waiting.as_slice(),
+    )?;
+    if reached.waiting.is_empty() {
+        lines.push_str("the pattern ends here\n")?;
+    }
+    add_advice(&mut lines, foreign_instead(alloc, written)?)?;
+    Ok(lines)
+}
+
+/// A line for each token that waits: how it is written, and what it wants.
+fn add_waiting<A: Allocator>(
+    lines: &mut String<A>,
+    tokens: usize,
+    written: &str,
+    waiting: &[usize],
+) -> Result<(), AllocError> {
+    let mut rest = written;
+    let mut left = waiting;
+    for number in 0..tokens {
+        let (token, after) = split_token(rest);
+        if left.first() == Some(&number) {
+            add_row(lines, token, wanted_by(token))?;
+            left = left.get(1..).unwrap_or(&[]);
+        }
+        rest = after;
+    }
+    Ok(())
+}
+
+/// What to write instead, if there is something.
+fn add_advice<A: Allocator>(
+    lines: &mut String<A>,
+    advice: Option<String<A>>,
+) -> Result<(), AllocError> {
+    if let Some(advice) = advice {
+        lines.push_str("write instead: ")?;
+        lines.push_str(advice.as_str())?;
+        lines.push('\n')?;
+    }
+    Ok(())
+}
+
+/// How a token is written, a tab, and words.
+fn add_row<A: Allocator>(
+    lines: &mut String<A>,
+    token: &str,
+    words: &str,
+) -> Result<(), AllocError> {
+    lines.push_str(token)?;
+    lines.push('\t')?;
+    lines.push_str(words)?;
+    lines.push('\n')
+}
+
+/// Writes why the pattern is refused, and returns the status of a fault.
+fn refuse<A: Allocator + Copy, E: Write>(
+    alloc: A,
+    written: &str,
+    error: PatternError,
+    errors: &mut E,
+) -> u8
+    ensures { result ≡ 2 }
+{
+    match refusal_lines(alloc, written, error) {
+        Ok(lines) => fault(alloc, errors, lines),
+        Err(_) => fault(alloc, errors, "out of memory"),
+    }
+}
+
+/// The fault, the pattern with a caret under it, and what to write instead. The last line has no line feed.
+fn refusal_lines<A: Allocator + Copy>(
+    alloc: A,
+    written: &str,
+    error: PatternError,
+) -> Result<String<A>, AllocError> {
+    let mut lines = format!(in alloc; "{error}\n")?;
+    add_caret(&mut lines, written, error.pos)?;
+    match accepted_instead(alloc, written, error.pos)? {
+        Some(advice) => {
+            lines.push_str("write instead: ")?;
+            lines.push_str(advice.as_str())?;
+        }
+        None => lines.push_str("write [[] for the character [, and ** as a whole component")?,
+    }
+    Ok(lines)
+}
