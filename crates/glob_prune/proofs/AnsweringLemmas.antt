@@ -1,0 +1,114 @@
+-- What a pruned tree answers, where its content is known.
+use Rattle.std.proofs.Common.{◌≡◌, Bool, true, false, cond, not, ◌||◌, List, Option, Some, None, refl, sym, ap, subst, ◌∙◌}
+use Rattle.std.specs.Prelude.{if◌then◌else◌}
+use Rattle.std.specs.List.{filter}
+use Rattle.std.specs.declared.io.ErrorKind.{ErrorKind}
+use Rattle.std.proofs.lemmas.Bool.{both_ways}
+use Rattle.std.proofs.lemmas.Option.{none-some, same_Some}
+use Rattle.glob_text.specs.Text.{Text}
+use Rattle.glob_tree.specs.Answers.{IsTold, IsListAnswer, IsListError, IsListFault}
+use Rattle.glob_tree.specs.Content.{Content, is_content, DirEntry, look_result, list_result, ListAnswer, Entries, Fails, NoDirectory}
+use Rattle.glob_tree.specs.Looks.{is_directory}
+use Rattle.glob_tree.specs.declared.tree.Look.{Look}
+use Rattle.glob_tree.specs.declared.tree.Look.TheVariants as look
+use Rattle.glob_tree.specs.declared.tree.ListError.{ListError}
+use Rattle.glob_tree.specs.declared.tree.ListError.TheVariants.{Read, Memory}
+use Rattle.glob_tree.proofs.ContentLemmas.Contents.{IsContent-from_test}
+use Rattle.glob_prune.specs.Entering.{is_entry_kept, is_path_excluded}
+use Rattle.glob_prune.specs.Pruning.{Exclusion, path_of, is_excluded, is_above_excluded, pruned, pruned_told, names_of_path, is_downward}
+use Rattle.glob_prune.proofs.ExclusionLemmas.{is_excluded_parts}
+use Rattle.glob_prune.proofs.PermutationLemmas.{IsPermutation-filter}
+use Rattle.glob_prune.proofs.PathLemmas.{look_pruned, list_pruned, list_excluded, kept_of, names_lead}
+
+-- the content of the tree in it
+pub record IsPruned (x : Exclusion) (told : Option Content) (d : Content) : Type 0 where
+  pub content : Content
+  pub told_in : IsTold told content
+  pub is : d ≡ pruned x content
+
+pub pruned_content : (x : Exclusion) (told : Option Content) (d : Content) → IsTold (pruned_told x told) d → IsPruned x told d
+unfolding pruned_told
+pruned_content x None d t = absurd (none-some d t.0)
+pruned_content x (Some c) d t = by_test (is_content c) refl t.0
+  where
+    by_test : (b : Bool) → is_content c ≡ b → cond b (Some (pruned x c)) None ≡ Some d → IsPruned x (Some c) d
+    by_test true well e = record { content = c; told_in = (refl, well); is = sym (same_Some (pruned x c) d e) }
+    by_test false well e = absurd (none-some d e)
+
+is_true_from : (b : Bool) → false ≡ not b → b ≡ true
+is_true_from true e = refl
+is_true_from false e = absurd (both_ways false refl e)
+
+is_false_from : (b : Bool) → true ≡ not b → b ≡ false
+is_false_from true e = e
+is_false_from false e = refl
+
+module _ (x : Exclusion) (told : Option Content) (d : Content) (t : IsTold (pruned_told x told) d) (path : Text) (down : is_downward path ≡ true) where
+  found_content : IsPruned x told d
+  found_content = pruned_content x told d t
+
+  look_is : (c : Content) → IsTold told c → d ≡ pruned x c
+      → look_result d path ≡ (if is_above_excluded x (names_of_path path) || is_path_excluded x (path_of (names_of_path path)) (is_directory (look_result c path)) then look.Missing else look_result c path)
+  look_is c in' is =
+      let w = IsContent-from_test c in'.1 in
+      ap (λ k. look_result k path) is ∙ look_pruned x c w path down
+      ∙ ap (λ b. cond b look.Missing (look_result c path)) (is_excluded_parts x (names_of_path path) (is_directory (look_result c path)) (names_lead path))
+
+  pub look_above : false ≡ not (is_above_excluded x (names_of_path path)) → look.Missing ≡ look_result d path
+  look_above above =
+      let is = pruned_content x told d t in
+      sym (look_is is.content is.told_in is.is ∙ ap (λ b. cond (b || is_path_excluded x (path_of (names_of_path path)) (is_directory (look_result is.content path))) look.Missing (look_result is.content path))
+      (is_true_from (is_above_excluded x (names_of_path path)) above))
+
+  module _ (above : true ≡ not (is_above_excluded x (names_of_path path))) (seen : Look) (asked : (c : Content) → IsTold told c → seen ≡ look_result c path) where
+    look_own : (b : Bool) → is_path_excluded x (path_of (names_of_path path)) (is_directory seen) ≡ b → look_result d path ≡ cond b look.Missing seen
+    look_own b own =
+        let is = pruned_content x told d t in
+        look_is is.content is.told_in is.is
+        ∙ ap (λ a. cond (a || is_path_excluded x (path_of (names_of_path path)) (is_directory (look_result is.content path))) look.Missing (look_result is.content path))
+        (is_false_from (is_above_excluded x (names_of_path path)) above)
+        ∙ ap (λ s. cond (is_path_excluded x (path_of (names_of_path path)) (is_directory s)) look.Missing s) (sym (asked is.content is.told_in))
+        ∙ ap (λ a. cond a look.Missing seen) own
+
+    pub look_excluded : is_path_excluded x (path_of (names_of_path path)) (is_directory seen) ≡ true → look.Missing ≡ look_result d path
+    look_excluded own = sym (look_own true own)
+
+    pub look_kept : is_path_excluded x (path_of (names_of_path path)) (is_directory seen) ≡ false → seen ≡ look_result d path
+    look_kept own = sym (look_own false own)
+
+  pub list_gone : false ≡ not (is_excluded x (names_of_path path) true) → (kind : ErrorKind) → IsListFault (list_result d path) kind
+  list_gone shut kind =
+      let is = pruned_content x told d t in
+      let w = IsContent-from_test is.content is.told_in.1 in
+      let none : list_result d path ≡ NoDirectory = ap (λ k. list_result k path) is.is ∙ list_excluded x is.content w path down (is_true_from (is_excluded x (names_of_path path) true) shut) in
+      subst (λ answer. IsListFault answer kind) (sym none) tt
+
+  module _ (open' : true ≡ not (is_excluded x (names_of_path path) true)) where
+    list_is : (c : Content) (in' : IsTold told c) → d ≡ pruned x c → list_result d path ≡ kept_of x (path_of (names_of_path path)) (list_result c path)
+    list_is c in' is = ap (λ k. list_result k path) is ∙ list_pruned x c (IsContent-from_test c in'.1) path down (is_false_from (is_excluded x (names_of_path path) true) open')
+
+    pub list_error : (e : ListError) → ((c : Content) → IsTold told c → IsListError (list_result c path) e) → IsListError (list_result d path) e
+    list_error e asked =
+        let is = pruned_content x told d t in
+        subst (λ answer. IsListError answer e) (sym (list_is is.content is.told_in is.is)) (of_answer (list_result is.content path) e (asked is.content is.told_in))
+      where
+        of_answer : (answer : ListAnswer) (e : ListError) → IsListError answer e → IsListError (kept_of x (path_of (names_of_path path)) answer) e
+        of_answer (Entries es) (Read e) h = h
+        of_answer (Fails kind) (Read e) h = h
+        of_answer NoDirectory (Read e) h = h
+        of_answer (Entries es) Memory h = h
+        of_answer (Fails kind) Memory h = h
+        of_answer NoDirectory Memory h = h
+
+    pub list_kept : (entries kept : List DirEntry) → ((c : Content) → IsTold told c → IsListAnswer (list_result c path) entries)
+        → kept ≡ filter (is_entry_kept x (path_of (names_of_path path))) entries → IsListAnswer (list_result d path) kept
+    list_kept entries kept asked e =
+        let is = pruned_content x told d t in
+        subst (λ answer. IsListAnswer answer kept) (sym (list_is is.content is.told_in is.is))
+        (subst (IsListAnswer (kept_of x (path_of (names_of_path path)) (list_result is.content path))) (sym e)
+        (of_answer (list_result is.content path) (asked is.content is.told_in)))
+      where
+        of_answer : (answer : ListAnswer) → IsListAnswer answer entries → IsListAnswer (kept_of x (path_of (names_of_path path)) answer) (filter (is_entry_kept x (path_of (names_of_path path))) entries)
+        of_answer (Entries es) h = IsPermutation-filter (is_entry_kept x (path_of (names_of_path path))) es entries h
+        of_answer (Fails kind) h = h
+        of_answer NoDirectory h = h

@@ -1,0 +1,4 @@
+pub mod Entering
+pub mod Laws
+pub mod Pruning
+pub mod Trees

@@ -1,0 +1,12 @@
+//! Trees over trees: a tree without what is excluded.
+#![tactic(auto)]
+
+mod entering;
+mod exclusion;
+pub mod laws;
+mod physical;
+mod pruned;
+
+pub use exclusion::Exclusion;
+pub use physical::{PhysicalDisk, Strays};
+pub use pruned::Pruned;

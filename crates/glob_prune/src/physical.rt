@@ -1,0 +1,191 @@
+//! The real file system, where a symbolic link is no directory.
+ghost use Rattle.std.specs.Prelude.{◌≡◌, ◌+◌, None};
+ghost use Rattle.glob_tree.specs.Answers.{entry_count};
+
+use glob_tree::{Asks, Entry, ListError, Look, Name, Tree};
+use std::alloc::{AllocError, Allocator, Global};
+use std::fs::{Files, Metadata};
+use std::io::{self, ErrorKind, Read};
+use std::marker::Model;
+
+/// How many bytes of a directory are read at once.
+const BLOCK: usize = 4096;
+
+/// What is told of names that no text can name.
+pub trait Strays: Drop {
+    /// The directory has an entry whose name is not UTF-8: `name`, as its bytes are. The listing goes on without it.
+    fn stray(&mut self, directory: &str, name: &[u8]);
+}
+
+/// The real file system, as a tree with no known content, where a symbolic link is no directory: a walk by `**` does not
+/// follow one, and ends on a cycle of links. Relative paths begin at the current directory of the process. A path through a
+/// link is followed, as `link/a`.
+///
+/// A name that is not UTF-8 costs only itself: the listing leaves it out, and tells the [`Strays`] of it.
+///
+/// A look makes one system call, and a listing one for each entry, besides those that open, read and close the directory.
+#[derive(Drop)]
+pub struct PhysicalDisk<R: Files, S: Strays, A: Allocator = Global> {
+    rt: R,
+    strays: S,
+    alloc: A,
+    asks: Asks,
+}
+
+/// How much was asked of it.
+impl<R: Files, S: Strays, A: Allocator> Model for PhysicalDisk<R, S, A> {
+    ghost use Rattle.std.specs.Prelude.{ℕ};
+
+    ghost Value = { ℕ };
+
+    ghost view = { λ disk. disk.asks };
+}
+
+impl<R: Files, S: Strays, A: Allocator> PhysicalDisk<R, S, A> {
+    /// The file system that `rt` reaches. Its listings are allocated from `alloc`. This call takes no memory.
+    pub fn new(rt: R, strays: S, alloc: A) -> Self
+        ensures { result ≡ 0 }
+    {
+        PhysicalDisk {
+            rt,
+            strays,
+            alloc,
+            asks: Asks::new(),
+        }
+    }
+}
+
+impl<R: Files + Drop, S: Strays, A: Allocator + Copy> Tree for PhysicalDisk<R, S, A> {
+    type Alloc = A;
+
+    ghost tells = { λ disk. None };
+
+    ghost asks = { λ disk. disk };
+
+    /// A symbolic link is `Other`, whatever it leads to. A path that cannot be looked up is `Missing`. The error comes only
+    /// where the I/O error's kind is `OutOfMemory`.
+    fn look(&mut self, path: &str) -> Result<Look, AllocError>
+        ensures asks { self.new ≡ self.old + 1 }
+    {
+        self.asks = self.asks.after(1);
+        match metadata_of(self.rt.symlink_metadata(path))? {
+            Some(metadata) if metadata.is_dir() => Ok(Look::Dir),
+            Some(_) => Ok(Look::Other),
+            None => Ok(Look::Missing),
+        }
+    }
+
+    /// An entry whose kind cannot be learned is no directory. The error is `Memory` at an allocation failure, and else
+    /// `Read` with the I/O error of the system, as `PermissionDenied` or `NotFound`.
+    fn list(&mut self, path: &str) -> Result<Vec<Entry<A>, A>, ListError>
+        ensures asks { self.new ≡ self.old + 1 + entry_count result }
+    {
+        self.asks = self.asks.after(1);
+        match entries_of(&self.rt, &mut self.strays, self.alloc, path) {
+            Ok(entries) => {
+                self.asks = self.asks.after(entries.len());
+                Ok(entries)
+            }
+            Err(error) if error.kind() == ErrorKind::OutOfMemory => Err(ListError::Memory),
+            Err(error) => Err(ListError::Read(error)),
+        }
+    }
+}
+
+/// The entries of a directory.
+fn entries_of<R: Files, S: Strays, A: Allocator + Copy>(
+    rt: &R,
+    strays: &mut S,
+    alloc: A,
+    path: &str,
+) -> io::Result<Vec<Entry<A>, A>> {
+    // The separator at its end, so that a link there is followed.
+    let mut directory = String::from_str(alloc, path)?;
+    if !path.is_empty() && !path.ends_with('/') {
+        directory.push('/')?;
+    }
+    let mut names = rt.open_dir(directory.as_str())?;
+    let mut entries = Vec::new(alloc);
+    let mut block = [0; BLOCK];
+    // A bound that no directory reaches: nothing says that a reader has an end.
+    for _ in 0..u64::MAX {
+        let count = names.read(&mut block)?;
+        if count == 0 {
+            break;
+        }
+        add_entries(
+            rt,
+            strays,
+            alloc,
+            &mut directory,
+            &block[..count],
+            &mut entries,
+        )?;
+    }
+    Ok(entries)
+}
+
+/// Adds an entry for each of some names of a directory. A NUL stands after each name, and no read ends inside one.
+fn add_entries<R: Files, S: Strays, A: Allocator + Copy>(
+    rt: &R,
+    strays: &mut S,
+    alloc: A,
+    directory: &mut String<A>,
+    names: &[u8],
+    entries: &mut Vec<Entry<A>, A>,
+) -> io::Result<()> {
+    for name in names.split(|&byte| byte == 0) {
+        if !is_listed(name) {
+            continue;
+        }
+        match std::str::from_utf8(name) {
+            Ok(name) => entries.push(entry(rt, alloc, directory, name)?)?,
+            Err(_) => strays.stray(directory.as_str(), name),
+        }
+    }
+    Ok(())
+}
+
+/// The entry of a name in a directory.
+fn entry<R: Files, A: Allocator + Copy>(
+    rt: &R,
+    alloc: A,
+    directory: &mut String<A>,
+    name: &str,
+) -> io::Result<Entry<A>> {
+    let is_dir = is_directory(rt, directory, name)?;
+    match Name::new(String::from_str(alloc, name)?) {
+        Ok(name) => Ok(Entry { name, is_dir }),
+        Err(_) => Err(io::Error::from(ErrorKind::InvalidFilename)),
+    }
+}
+
+/// Whether a name in a directory is that of one, and not of a symbolic link.
+fn is_directory<R: Files, A: Allocator>(
+    rt: &R,
+    directory: &mut String<A>,
+    name: &str,
+) -> Result<bool, AllocError> {
+    let length = directory.len();
+    directory.push_str(name)?;
+    let found = rt.symlink_metadata(directory.as_str());
+    directory.truncate(length);
+    match metadata_of(found)? {
+        Some(metadata) => Ok(metadata.is_dir()),
+        None => Ok(false),
+    }
+}
+
+/// The metadata, or `None` where there is none to be had.
+fn metadata_of(answer: io::Result<Metadata>) -> Result<Option<Metadata>, AllocError> {
+    match answer {
+        Ok(metadata) => Ok(Some(metadata)),
+        Err(error) if error.kind() == ErrorKind::OutOfMemory => Err(AllocError),
+        Err(_) => Ok(None),
+    }
+}
+
+/// Whether an entry comes of this piece: not of the empty one after the last NUL, nor of `.` and `..`.
+fn is_listed(name: &[u8]) -> bool {
+    !name.is_empty() && name != b".".as_slice() && name != b"..".as_slice()
+}

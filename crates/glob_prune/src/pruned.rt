@@ -1,0 +1,136 @@
+//! A tree without what is excluded.
+ghost use Rattle.std.specs.Prelude.{◌≡◌, ◌≢◌, ◌+◌, ◌≤◌, ℕ, Bool, true, false, not, filter, IfOk, IfErr, OnOk, string_bytes};
+ghost use Rattle.glob_tree.specs.Answers.{IsTold, IsListAnswer, IsListError, entries_of, entry_count};
+ghost use Rattle.glob_tree.specs.Content.{Content, look_result, list_result};
+ghost use Rattle.glob_tree.specs.Looks.{is_directory};
+ghost use Rattle.glob_prune.specs.Pruning.{is_above_excluded, is_downward, is_excluded, names_of_path, path_of, pruned_told};
+
+use crate::entering::{enter, is_entered, is_path_excluded, kept_entries};
+use crate::exclusion::Exclusion;
+use glob_tree::{Asks, Entry, ListError, Look, Tree};
+use std::alloc::AllocError;
+use std::io::{self, ErrorKind};
+use std::marker::Model;
+
+/// A tree without what is excluded and all below it: it is not there, so it is neither looked into nor listed. What is
+/// asked of the exclusion are paths below the current directory.
+///
+/// It answers paths that begin at the current directory and do not go up, as `a/b`, `./a` and `a//b`. Of a path that begins
+/// with `/` or has a piece `..` it cannot tell what is above, and refuses it: as an allocation failure, the one error that
+/// says nothing of the path.
+///
+/// Over a directory `target` and files `a` and `target/b`, where `target` is excluded, a listing of `.` returns `a`, and a
+/// look at `target/b` returns `Look::Missing`.
+#[derive(Drop)]
+pub struct Pruned<T: Tree, X: Exclusion> {
+    tree: T,
+    exclusion: X,
+    /// The names of the path that was asked for last, joined by `/`.
+    names: String<T::Alloc>,
+    asks: Asks,
+}
+
+/// The tree in it, the exclusion, and how much was asked of the pruned tree itself.
+impl<T: Tree, X: Exclusion> Model for Pruned<T, X> {
+    ghost use Rattle.glob_prune.specs.Trees.{PrunedTree};
+
+    ghost Value = { PrunedTree T X };
+
+    ghost view = { λ p. record { tree = p.tree; exclusion = p.exclusion; asks = p.asks } };
+}
+
+impl<T: Tree, X: Exclusion> Pruned<T, X> {
+    /// The tree without what `exclusion` names. It allocates nothing yet; `alloc` serves the paths that it asks of the
+    /// exclusion, and the entries that it lists.
+    pub fn new(alloc: T::Alloc, tree: T, exclusion: X) -> Self
+        ensures tree { result.tree ≡ tree }
+        ensures exclusion { result.exclusion ≡ exclusion }
+        ensures asks { result.asks ≡ 0 }
+    {
+        Pruned {
+            tree,
+            exclusion,
+            names: String::new(alloc),
+            asks: Asks::new(),
+        }
+    }
+
+    /// The tree in it, as the asks left it.
+    pub fn into_tree(self) -> T
+        ensures { result ≡ self.tree }
+    {
+        self.tree
+    }
+}
+
+impl<T: Tree, X: Exclusion> Tree for Pruned<T, X> {
+    type Alloc = T::Alloc;
+
+    ghost tells = { λ p. pruned_told (X.excludes p.exclusion) (T.tells p.tree) };
+
+    ghost asks = { λ p. p.asks };
+
+    /// What is excluded is `Look::Missing`. Where a directory above is excluded, the tree in it is not asked.
+    fn look(&mut self, path: &str) -> Result<Look, AllocError>
+        ensures asks { self.new.asks ≡ self.old.asks + 1 }
+        ensures content { pruned_told (X.excludes self.new.exclusion) (T.tells self.new.tree)
+            ≡ pruned_told (X.excludes self.old.exclusion) (T.tells self.old.tree) }
+        ensures exclusion { self.new.exclusion ≡ self.old.exclusion }
+        ensures few { T.asks self.new.tree ≤ T.asks self.old.tree + 1 }
+        ensures spared { is_above_excluded (X.excludes self.old.exclusion)
+            (names_of_path path.now) ≡ true → self.new.tree ≡ self.old.tree }
+        ensures seen { (c : Content)
+            → IsTold (pruned_told (X.excludes self.old.exclusion) (T.tells self.old.tree)) c
+            → IfOk result (λ seen. seen ≡ look_result c path.now) }
+    {
+        self.asks = self.asks.after(1);
+        if !enter(&self.exclusion, &mut self.names, path)? {
+            return Ok(Look::Missing);
+        }
+        let seen = self.tree.look(path)?;
+        if is_path_excluded(&self.exclusion, self.names.as_str(), is_dir(seen))? {
+            return Ok(Look::Missing);
+        }
+        Ok(seen)
+    }
+
+    /// The entries that are kept. A directory that is excluded is not there: the error's kind is `NotFound`, and the tree in
+    /// it is not asked.
+    fn list(&mut self, path: &str) -> Result<Vec<Entry<T::Alloc>, T::Alloc>, ListError>
+        ensures asks { self.new.asks ≡ self.old.asks + 1 + entry_count result }
+        ensures content { pruned_told (X.excludes self.new.exclusion) (T.tells self.new.tree)
+            ≡ pruned_told (X.excludes self.old.exclusion) (T.tells self.old.tree) }
+        ensures exclusion { self.new.exclusion ≡ self.old.exclusion }
+        ensures spared { is_excluded (X.excludes self.old.exclusion)
+            (names_of_path path.now) true ≡ true → self.new.tree ≡ self.old.tree }
+        ensures entries { (c : Content)
+            → IsTold (pruned_told (X.excludes self.old.exclusion) (T.tells self.old.tree)) c
+            → IfOk result (λ v. IsListAnswer (list_result c path.now) (entries_of v.items)) }
+        ensures fails { (c : Content)
+            → IsTold (pruned_told (X.excludes self.old.exclusion) (T.tells self.old.tree)) c
+            → IfErr result (λ e. IsListError (list_result c path.now) e) }
+    {
+        self.asks = self.asks.after(1);
+        match is_entered(&self.exclusion, &mut self.names, path) {
+            Ok(true) => {}
+            Ok(false) => return Err(ListError::Read(io::Error::from(ErrorKind::NotFound))),
+            Err(_) => return Err(ListError::Memory),
+        }
+        let entries = match self.tree.list(path) {
+            Ok(entries) => entries,
+            Err(error) => return Err(error),
+        };
+        let Ok(kept) = kept_entries(&self.exclusion, &mut self.names, entries) else {
+            return Err(ListError::Memory);
+        };
+        self.asks = self.asks.after(kept.len());
+        Ok(kept)
+    }
+}
+
+/// Whether a look found a directory.
+fn is_dir(seen: Look) -> bool
+    ensures { result ≡ is_directory seen }
+{
+    matches!(seen, Look::Dir)
+}
