@@ -1,0 +1,29 @@
+-- What the calls answer, as numbers.
+use Rattle.std.specs.Prelude.{◌≡◌, ℕ, ◌==◌, List, bit_and, chars}
+use Rattle.glob_pattern.specs.Matching.Texts.{Matches}
+use Rattle.glob_pattern.specs.declared.options.MatchOptions.{MatchOptions}
+
+-- the text does not match
+abbrev pub no : ℕ
+no = 0
+
+-- the text matches, or the call did what it is for
+abbrev pub yes : ℕ
+yes = 1
+
+-- the pattern is refused
+abbrev pub fault : ℕ
+fault = 2
+
+-- the options that three flags say: 1 case-insensitive, 2 the separator rule, 4 the dot rule
+abbrev pub options_of : ℕ → MatchOptions
+options_of flags = record {
+  case_sensitive = bit_and flags 1 == 0;
+  require_literal_separator = bit_and flags 2 == 2;
+  require_literal_leading_dot = bit_and flags 4 == 4;
+}
+
+-- the answers yes and no are those of the definition of a match
+pub record Decides (pattern text : List ℕ) (flags answer : ℕ) : Type 0 where
+  pub yes : answer ≡ yes → Matches (options_of flags) (chars pattern) (chars text)
+  pub no : answer ≡ no → ¬ (Matches (options_of flags) (chars pattern) (chars text))

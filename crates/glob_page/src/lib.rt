@@ -1,0 +1,9 @@
+//! What the page of docs/page calls: why a text is no pattern, the pieces of a match, and walks. `bin/page` builds it for
+//! WebAssembly.
+#![tactic(auto)]
+
+mod buffer;
+mod matching;
+mod pattern;
+mod story;
+mod walking;

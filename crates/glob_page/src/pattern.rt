@@ -1,0 +1,40 @@
+ghost use Rattle.std.specs.Prelude.{◌≡◌, chars, take};
+ghost use Rattle.glob_pattern.specs.Grammar.Units.{IsAccepted};
+ghost use Rattle.glob_pattern.specs.Grammar.Faults.{IsFault};
+ghost use Rattle.glob_page.specs.Answers.{yes, fault};
+
+use crate::buffer::{FAULT, NOT_UTF8, OUT_OF_MEMORY, TOO_LARGE, YES, write};
+use glob_pattern::{Pattern, PatternError, PatternRefusal};
+use std::alloc::Global;
+
+/// Whether the bytes are a pattern: 1 if they are; 2 if not, with the place of the first fault, in characters from 0, and
+/// its message; 3 if an allocation fails, 4 for bytes that are no UTF-8, and 5 if the message does not fit.
+#[unsafe(no_mangle)]
+pub extern "C" fn page_pattern(
+    alloc: Global,
+    pattern: &[u8],
+    message: &mut [u8],
+    count: &mut usize,
+    place: &mut usize,
+) -> u32
+    ensures accepted { result ≡ yes → IsAccepted (chars pattern.now) }
+    ensures refused { result ≡ fault → IsFault (chars pattern.now)
+        (record { place = place.new; message = take count.new message.new }) }
+{
+    let Ok(text) = str::from_utf8(pattern) else {
+        return NOT_UTF8;
+    };
+    match Pattern::new(alloc, text) {
+        Ok(_) => YES,
+        Err(PatternRefusal::Syntax(error)) => {
+            let PatternError { pos, msg } = error;
+            *place = pos;
+            if write(msg.as_bytes(), message, count) {
+                FAULT
+            } else {
+                TOO_LARGE
+            }
+        }
+        Err(PatternRefusal::Memory) => OUT_OF_MEMORY,
+    }
+}
