@@ -17,6 +17,8 @@ PAGE = ROOT / "docs/reference/contracts.md"
 WORDS = ROOT / "docs/reference/words.md"
 CRATES = ["glob_pattern", "glob_lines", "glob_tree", "glob_walk"]
 OTHERS = {
+    "glob_set": {"PatternSet"},
+    "glob_captures": {"captures", "reach", "tokens"},
     "glob_run": {"run_words", "find_in"},
     "glob_c": None,
 }

@@ -177,11 +177,13 @@ def unknown_tests():
 
 
 def stale_pages():
-    """What the scripts say that write docs/reference, and whether README names another toolchain."""
+    """What the scripts say that write docs/reference, and whether README, or `rt` itself, has another toolchain."""
     ran = [subprocess.run([ROOT / it, "--check"], capture_output=True, text=True) for it in WRITERS]
     toolchain = (ROOT / "TOOLCHAIN").read_text(encoding="utf-8").strip()
     is_named = f"`{toolchain}`" in (ROOT / "README.md").read_text(encoding="utf-8")
-    return [it.stderr.strip() for it in ran if it.returncode != 0] + ([] if is_named else [f"README.md: not {toolchain}"])
+    version = subprocess.run(["rt", "version"], capture_output=True, text=True).stdout.strip()
+    found = [it.stderr.strip() for it in ran if it.returncode != 0] + ([] if is_named else [f"README.md: not {toolchain}"])
+    return found + ([] if version.endswith(toolchain) else [f"TOOLCHAIN: rt version is {version}"])
 
 
 def main():

@@ -12,6 +12,9 @@ import sys
 from pathlib import Path
 
 ROOT = Path(__file__).resolve().parent.parent
+sys.path.insert(0, str(ROOT / "tests/lib"))
+from edit import Edit, function_at  # noqa: E402
+
 PAGE = ROOT / "docs/reference/edits.md"
 
 HEAD = """# Wrong bodies
@@ -28,31 +31,11 @@ something else, it does not hold. Each line is such a lemma, of `proofs/Examples
 """
 
 
-def function(source, line):
-    """The function of a source that has this line, with the type of which it is a method."""
-    lines, found = source.split("\n"), None
-    number = next((n for n, it in enumerate(lines) if line in it), -1)
-    for it in reversed(lines[: number + 1]):
-        named = re.match(r"( *)(?:[\w()\"]+ )*fn (\w+)", it)
-        if named and not found:
-            found = named[2]
-            if not named[1]:
-                return found
-        owner = re.match(r"(?:pub )?(?:unsafe )?(?:impl|trait)\b(?:<.*?>)? (.*)", it)
-        if owner and found:
-            words = re.sub(r"<[^<>]*>", "", re.sub(r"<[^<>]*>", "", owner[1])).split("{")[0].split(": ")[0]
-            return f"{words.split(' for ')[-1].split()[0]}::{found}"
-    return found
-
-
 def row(path):
-    text = path.read_text(encoding="utf-8")
-    said = re.match(r"# *(.*)", text)
-    what = said[1] if said else f"{path.stem.replace('_', ' ')}."
-    file = re.search(r"^file: (.*)$", text, re.M)[1]
-    old = re.search(r"^old: (.*)$", text, re.M)[1].strip()
-    name = function((path.parent.parent / file).read_text(encoding="utf-8"), old)
-    return f"- `{path.stem}` ({f'`{name}`, ' if name else ''}`{file}`): {what}"
+    edit = Edit(path)
+    file, old, _ = edit.pairs[0]
+    name = function_at((edit.crate / file).read_text(encoding="utf-8"), old)
+    return f"- `{edit.name}` ({f'`{name}`, ' if name else ''}`{file}`): {edit.what}"
 
 
 def counterexamples(path):

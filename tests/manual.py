@@ -20,17 +20,19 @@ ROFF = {r"\(aq": "'", r"\(ga": "`", r"\e": "\\", r"\-": "-", r"\&": ""}
 # The words of a command line, of which the last is being written, and what bash offers for it. So do fish and zsh, but
 # for the lines of FISH and of ZSH. Neither offers `--`, and fish offers options only after a hyphen.
 COMPLETIONS = [
-    ("glob_run ", "--help --version -h escape find match"),
+    ("glob_run ", "--help --version -h escape explain find match"),
     ("glob_run m", "match"),
     ("glob_run --", "--help --version"),
-    ("glob_run match -", "-- -d -i -s"),
+    ("glob_run match -", "-- -0 -d -i -s"),
     ("glob_run match -i", "-i"),
-    ("glob_run match -i -", "-- -d -i -s"),
+    ("glob_run match -i -", "-- -0 -d -i -s"),
+    ("glob_run explain -", "-- -d -i -s"),
+    ("glob_run explain a b", ""),
     ("glob_run match -- -", ""),
     ("glob_run match a -", ""),
-    ("glob_run find -", "-- -d -i -n -s"),
+    ("glob_run find -", "-- -0 -d -i -n -s"),
     ("glob_run find -n ", ""),
-    ("glob_run find -n 5 -", "-- -d -i -n -s"),
+    ("glob_run find -n 5 -", "-- -0 -d -i -n -s"),
     ("glob_run find fo", "folder"),
     ("glob_run find -n 5 fo", "folder"),
     ("glob_run find -- fo", "folder"),
@@ -43,11 +45,12 @@ COMPLETIONS = [
 ]
 
 FISH = {
-    "glob_run ": "escape find match",
-    "glob_run match -": "-d -i -s",
-    "glob_run match -i -": "-d -i -s",
-    "glob_run find -": "-d -i -n -s",
-    "glob_run find -n 5 -": "-d -i -n -s",
+    "glob_run ": "escape explain find match",
+    "glob_run match -": "-0 -d -i -s",
+    "glob_run match -i -": "-0 -d -i -s",
+    "glob_run explain -": "-d -i -s",
+    "glob_run find -": "-0 -d -i -n -s",
+    "glob_run find -n 5 -": "-0 -d -i -n -s",
     "glob_run find fo": "folder/",
     "glob_run find -n 5 fo": "folder/",
     "glob_run find -- fo": "folder/",
@@ -55,10 +58,11 @@ FISH = {
 }
 
 ZSH = {
-    "glob_run match -": "-d -i -s",
-    "glob_run match -i -": "-d -i -s",
-    "glob_run find -": "-d -i -n -s",
-    "glob_run find -n 5 -": "-d -i -n -s",
+    "glob_run match -": "-0 -d -i -s",
+    "glob_run match -i -": "-0 -d -i -s",
+    "glob_run explain -": "-d -i -s",
+    "glob_run find -": "-0 -d -i -n -s",
+    "glob_run find -n 5 -": "-0 -d -i -n -s",
     "glob_run find br": r"br\[\[\]1\[\]\]",
     # It has no unquoted [ after a name.
     "glob_run find br[[]1": "",
@@ -238,8 +242,8 @@ def launcher_faults(prefix, copy):
     shutil.copy(ROOT / "crates.txt", copy)
     shutil.copytree(ROOT / "bin", copy / "bin")
     said = lambda *words: subprocess.run(words, capture_output=True, text=True).stdout
-    words = ["--help", "-h", "--version"]
-    return [word for word in words if said(copy / "bin/glob_run", word) != said(prefix / "bin/glob_run", word)]
+    calls = [["--help"], ["-h"], ["--version"], ["explain", "--help"]]
+    return [it for it in calls if said(copy / "bin/glob_run", *it) != said(prefix / "bin/glob_run", *it)]
 
 
 def main():

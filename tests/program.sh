@@ -112,6 +112,24 @@ means '[[:alpha:]]' 'a\nz\na]\n:]\nz]\n' 'a]\n:]\n' '[a-zA-Z]' 'a\nz\n'
 means '\*' '*\n\\\\a\n' '\\\\a\n' '[*]' '*\n'
 means './*.rs' 'a.rs\n./a.rs\n' './a.rs\n' '*.rs' 'a.rs\n./a.rs\n'
 
+printf 'a\nb\0b\0a' >"$work/in"
+"$program" match -0 'a*' <"$work/in" 2>"$work/err" | tr '\0' '!' >"$work/out"
+status=${PIPESTATUS[0]}
+check 'records that end in a NUL' 0 'a\nb!a!' ''
+
+unfed explain 'a[0-9]*' a17x
+check 'the pieces of a text' 0 'a\ta\n[0-9]\t1\n*\t7x\n' ''
+
+unfed explain 'é[0-9]' éx
+check 'where a text stops' 1 'éx\n ^\n[0-9]\twants a character that it lists\n' ''
+
+unfed explain '*.{c,h}' a.c
+printf '%s\n' "$(tail -1 "$work/out")" >"$work/some" && mv "$work/some" "$work/out"
+check 'what to write instead of a choice' 1 'write instead: *.[ch]\n' ''
+
+unfed explain '**.rs' a
+check 'the fault of a pattern, shown' 2 '' 'Pattern syntax error near position 2: recursive wildcards must form a single path component\n**.rs\n  ^\nwrite instead: **/*.rs\n'
+
 unfed match 'abc[def'
 check 'a fault of the pattern before anything is read' 2 '' 'Pattern syntax error near position 3: invalid range pattern\n'
 
@@ -239,6 +257,9 @@ check 'find with a word that is not UTF-8' 2 '' "$usage"
 mkdir names && touch 'names/a b' $'names/a\nb' 'names/a*b' 'names/[x]' $'names/\xc3\xa9'
 run find 'names/*'
 check 'names with blanks, line feeds and wildcards' 0 'names/[x]\nnames/a\nb\nnames/a b\nnames/a*b\nnames/\xc3\xa9\n' ''
+run find -0 'names/a?b'
+tr '\0' '!' <"$work/out" >"$work/some" && mv "$work/some" "$work/out"
+check 'names that end in a NUL' 0 'names/a\nb!names/a b!names/a*b!' ''
 run find 'names/a[*]b'
 check 'a wildcard in a bracket' 0 'names/a*b\n' ''
 run find "$("$program" escape 'names/[x]')"
