@@ -15,7 +15,7 @@
 //! stands for a text alone.
 //!
 //! [`MatchOptions`] set case, the separator rule and the dot rule. [`filter_lines`] copies the lines of a reader that a
-//! pattern matches. [`run_positions`] decides for any [`Judge`], of any alphabet, whether its characters split into
+//! pattern matches, and [`filter_records`] what another byte ends. [`run_positions`] decides for any [`Judge`], of any alphabet, whether its characters split into
 //! pieces.
 //!
 //! [`glob`] walks the file system and gives each path that a pattern leads to; [`glob_with`] takes options. [`glob_in`]
@@ -27,7 +27,7 @@
 
 pub mod laws;
 
-pub use glob_lines::{LineFault, Watch, filter_lines};
+pub use glob_lines::{LineFault, Watch, filter_lines, filter_records};
 pub use glob_pattern::{
     Judge, MatchOptions, Pattern, PatternError, PatternRefusal, Shape, run_positions,
 };
