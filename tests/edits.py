@@ -13,7 +13,7 @@ from pathlib import Path
 
 ROOT = Path(__file__).resolve().parent.parent
 sys.path.insert(0, str(ROOT / "tests/lib"))
-from edit import Edit, function_at  # noqa: E402
+from edit import Edit  # noqa: E402
 
 PAGE = ROOT / "docs/reference/edits.md"
 
@@ -34,7 +34,7 @@ something else, it does not hold. Each line is such a lemma, of `proofs/Examples
 def row(path):
     edit = Edit(path)
     file, old, _ = edit.pairs[0]
-    name = function_at((edit.crate / file).read_text(encoding="utf-8"), old)
+    name = edit.function_with(file, old)
     return f"- `{edit.name}` ({f'`{name}`, ' if name else ''}`{file}`): {edit.what}"
 
 

@@ -3,11 +3,11 @@
 import re
 
 
-def function_at(source, line):
-    """The function of a source that has this line, with the type of which it is a method."""
-    lines, found = source.split("\n"), None
-    number = next((n for n, it in enumerate(lines) if line in it), -1)
-    for it in reversed(lines[: number + 1]):
+def function_at(source, number, with_trait=False):
+    """The function of a source that has the line of this number, from 1, with the type of which it is a method. The
+    prover has the name of the trait behind that of the type: with_trait=True."""
+    found = None
+    for it in reversed(source.split("\n")[:number]):
         named = re.match(r"( *)(?:[\w()\"]+ )*fn (\w+)", it)
         if named and not found:
             found = named[2]
@@ -16,7 +16,8 @@ def function_at(source, line):
         owner = re.match(r"(?:pub )?(?:unsafe )?(?:impl|trait)\b(?:<.*?>)? (.*)", it)
         if owner and found:
             words = re.sub(r"<[^<>]*>", "", re.sub(r"<[^<>]*>", "", owner[1])).split("{")[0].split(": ")[0]
-            return f"{words.split(' for ')[-1].split()[0]}::{found}"
+            owners = [it.split()[0] for it in reversed(words.split(" for "))]
+            return f"{''.join(owners if with_trait else owners[:1])}::{found}"
         if re.match(r"\S.*[;}]$", it) and not found:
             return None
     return found
@@ -40,8 +41,18 @@ class Edit:
                 self.pairs.append((file, old, line[len("new:") :].removeprefix(" ")))
 
     def functions(self):
-        """The functions that it changes, as (file, name). The name is None for what is in no function."""
-        return {(file, function_at((self.crate / file).read_text(encoding="utf-8"), old)) for file, old, _ in self.pairs}
+        """The functions that it changes, as (file, the prover's name), or None for what is in no function."""
+        return {(file, self.function_with(file, old, with_trait=True)) for file, old, _ in self.pairs}
+
+    def function_with(self, file, line, **how):
+        """The function of a file that has this line."""
+        source = (self.crate / file).read_text(encoding="utf-8")
+        return function_at(source, source[: source.find(line)].count("\n") + 1 if line in source else 0, **how)
+
+    def meets(self, other):
+        """Whether a function is changed by both, or one changes what is in no function."""
+        both = self.functions() | other.functions()
+        return len(both) < len(self.functions()) + len(other.functions()) or any(name is None for _, name in both)
 
     def apply(self, crate):
         """Applies it to a copy of the crate in this folder."""
