@@ -149,7 +149,7 @@ const FAILURES: [(&str, Option<ErrorKind>); 11] = [
 ];
 
 #[test]
-fn failing_listings(rt: HostRuntime) {
+fn physical_listings_that_fail(rt: HostRuntime) {
     for (path, wanted) in FAILURES {
         let calls = Calls::new();
         let mut disk = PhysicalDisk::new(Written::new(PATHS, &calls), NoStrays, rt.alloc());

@@ -59,7 +59,7 @@ const LOOKS: [(&str, Option<Look>, usize); 18] = [
 ];
 
 #[test]
-fn looks(rt: HostRuntime) {
+fn pruned_looks(rt: HostRuntime) {
     for (path, wanted, asked) in LOOKS {
         let mut tree = pruned(&rt);
         check(&rt, tree.look(path).ok() == wanted, path);
@@ -87,7 +87,7 @@ fn has_entry(rt: &impl Abort, names: &str, name: &str, is_dir: bool) {
 }
 
 #[test]
-fn listings(rt: HostRuntime) {
+fn pruned_listings(rt: HostRuntime) {
     for (path, names) in LISTINGS {
         let mut tree = pruned(&rt);
         let Ok(entries) = tree.list(path) else {
@@ -115,7 +115,7 @@ const FAILURES: [(&str, Option<ErrorKind>, usize); 9] = [
 ];
 
 #[test]
-fn failing_listings(rt: HostRuntime) {
+fn pruned_listings_that_fail(rt: HostRuntime) {
     for (path, wanted, asked) in FAILURES {
         let mut tree = pruned(&rt);
         match tree.list(path) {

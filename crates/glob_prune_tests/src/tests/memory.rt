@@ -65,7 +65,7 @@ fn requests_of_tree(rt: &(impl Abort + AllocGlobal)) -> u64 {
 }
 
 #[test]
-fn each_request_of_a_walk_is_refused(rt: HostRuntime) {
+fn each_request_of_a_pruned_walk_is_refused(rt: HostRuntime) {
     let ample = Rationed::refusing(0, rt.alloc());
     check(&rt, walks(&rt, &ample), "ample memory");
     let first = requests_of_tree(&rt).saturating_add(1);
