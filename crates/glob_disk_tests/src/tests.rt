@@ -1,3 +1,5 @@
+mod physical;
+
 use crate::files::{Calls, Kind, Written};
 use glob::{Disk, ListError, Look, Tree};
 use std::io::{self, ErrorKind};

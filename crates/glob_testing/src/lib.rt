@@ -1,7 +1,8 @@
 //! What tests stand on: an allocator that counts the requests for memory and refuses a chosen one, texts that repeat a
-//! part, and sizes to try.
+//! part, sizes to try, and numbers that look random.
 #![tactic(auto)]
 
+pub mod chance;
 pub mod rationing;
 pub mod sizes;
 pub mod texts;

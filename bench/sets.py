@@ -1,0 +1,144 @@
+#!/usr/bin/env python3
+"""Asks sets of patterns of ours and of globset about paths, in turn, and prints a table of questions and one of making
+the sets.
+
+usage: sets.py FOLDER ROUNDS SHARE DISK
+
+FOLDER has paths.txt, the program library of ours/ and, if it could be built, globset_sets of peers/. The paths of a real
+disk are those of files below the folder DISK. Of ROUNDS runs the least time counts. SHARE divides how many paths are
+asked about, and how often a set is made. globset is asked once more before, which is not timed, since it keeps what it
+learns. It has no time where its answers differ. The exit status is 1 where that is so, or ours gives no answer.
+"""
+
+import os
+import subprocess
+import sys
+from functools import partial
+from pathlib import Path
+
+from peers import Failed, ask, measure, print_head, print_row, ratio, shown
+
+# Of the separator rule, as ignore files have it.
+LETTERS = "s"
+
+# How many patterns a set has, and how many paths it is asked about: globset takes milliseconds for one with 5,000.
+SETS = {125: 100_000, 482: 20_000, 5_000: 1_000}
+
+# Whose paths they are.
+PATHS = ["paths", "disk"]
+
+QUESTIONS = ["all", "first", "last", "any"]
+
+# How many patterns are read while sets are made.
+MADE = 50_000
+
+
+def disk_paths(folder):
+    """The paths of files below a folder. Those whose names cannot be printed are left out."""
+    found = []
+    for directory, folders, names in os.walk(folder):
+        folders.sort()
+        found += [os.path.join(directory, name).removeprefix("/") for name in sorted(names)]
+    return [path for path in found if path.isprintable()]
+
+
+def some_of(lines, count):
+    """So many of the lines at most, each so far from the one before."""
+    return lines[:: max(1, -(-len(lines) // count))]
+
+
+def write_lines(file, lines):
+    file.write_text("".join(f"{line}\n" for line in lines), encoding="utf-8")
+    return file
+
+
+def patterns_of(count):
+    words = [sys.executable, Path(__file__).parent / "ignores.py", str(count)]
+    return subprocess.run(words, capture_output=True, text=True, check=True).stdout.splitlines()
+
+
+def write_inputs(folder, disk, share):
+    """The files of patterns, by how many there are, and those of paths, with how many and their mean length."""
+    lines = {
+        "paths": (folder / "paths.txt").read_text(encoding="utf-8").splitlines(),
+        "disk": disk_paths(disk),
+    }
+    patterns, paths = {}, {}
+    for size, count in SETS.items():
+        patterns[size] = write_lines(folder / f"patterns-{size}.txt", patterns_of(size))
+        for name in PATHS:
+            some = some_of(lines[name], max(1, count // share))
+            length = sum(len(path.encode()) for path in some) / len(some)
+            paths[size, name] = (write_lines(folder / f"{name}-{size}.txt", some), len(some), round(length))
+    return patterns, paths
+
+
+def print_times(words, what, programs, least):
+    """A row of both times and their ratio."""
+    ours, other = least["ours"], least.get("globset")
+    print_row([*words, shown(ours), shown(other), ratio(ours, other)])
+    if "globset" in programs and other is None:
+        raise Failed(f"{what}: globset gives another answer, or none")
+
+
+def ask_row(size, which, question, programs, patterns, paths, rounds):
+    """Nanoseconds a path."""
+    file, count, length = paths[size, which]
+
+    def run(_, program):
+        answer = ask(program, "set", LETTERS, patterns[size], question, file, "1")
+        return answer and (answer[0], answer[1] / count)
+
+    what = f"{question} of {size} patterns, {which}"
+    answer, least = measure(what, programs, rounds, run)
+    print_times([f"{size:,}", f"{count:,} of `{which}`, {length} bytes", question, f"{answer:,}"], what, programs, least)
+
+
+def make_row(size, share, programs, patterns, rounds):
+    """Microseconds a set."""
+    times = max(1, MADE // size // share)
+
+    def run(_, program):
+        answer = ask(program, "make", LETTERS, patterns[size], str(times))
+        return answer and (answer[0], answer[1] / times / 1_000)
+
+    what = f"a set of {size} patterns"
+    _, least = measure(what, programs, rounds, run)
+    print_times([f"{size:,}"], what, programs, least)
+
+
+def tables(programs, patterns, paths, rounds, share):
+    """Each table: its title, the heads of its words and of its numbers, and calls that print a row each."""
+    times = ["ours", "globset", "to globset"]
+    asked = [(size, which, question) for size, which in paths for question in QUESTIONS]
+    yield (
+        "Questions, nanoseconds a path. The sum is of the numbers of patterns that match:",
+        (["patterns", "paths", "question", "sum"], times),
+        [partial(ask_row, *it, programs, patterns, paths, rounds) for it in asked],
+    )
+    yield (
+        "Making a set from texts, microseconds:",
+        (["patterns"], times),
+        [partial(make_row, size, share, programs, patterns, rounds) for size in patterns],
+    )
+
+
+def main():
+    folder, rounds, share = Path(sys.argv[1]), int(sys.argv[2]), int(sys.argv[3])
+    programs = {"ours": folder / "ours/library", "globset": folder / "peers/globset_sets"}
+    programs = {name: program for name, program in programs.items() if program.exists()}
+    patterns, paths = write_inputs(folder, sys.argv[4], share)
+    failures = 0
+    for title, heads, rows in tables(programs, patterns, paths, rounds, share):
+        print_head(title, *heads)
+        for print_one in rows:
+            try:
+                print_one()
+            except Failed as failure:
+                failures += 1
+                print(f"bench: {failure}", file=sys.stderr)
+    sys.exit(1 if failures else 0)
+
+
+if __name__ == "__main__":
+    main()

@@ -1,0 +1,5 @@
+mod answers;
+mod made;
+mod memory;
+mod random;
+mod walks;

@@ -1,0 +1,79 @@
+//! Each request for memory refused in turn.
+use super::made::{check, made, tree_of};
+use super::walks::{Found, all_found};
+use crate::trees::{Listed, Rule};
+use glob::{End, ListError, Look, MatchOptions, MemTree, PatternRefusal, Tree, walk_in};
+use glob_prune::Pruned;
+use glob_testing::rationing::Rationed;
+use std::alloc::{AllocError, Global};
+use std::process::Abort;
+
+const KEYS: &str = "/w/a /w/target/ /w/target/b /w/src/ /w/src/c /w/src/target";
+
+const RULES: [Rule<'static>; 1] = [Rule {
+    path: "target",
+    only_directories: true,
+}];
+
+/// What a walk by `**/*` finds without what is excluded.
+const FOUND: [Found<'static>; 4] = [
+    Found::Path("a"),
+    Found::Path("src"),
+    Found::Path("src/c"),
+    Found::Path("src/target"),
+];
+
+/// The tree without what is excluded, with memory from the allocator, if that suffices for the tree in it.
+fn pruned<'a>(
+    rt: &impl Abort,
+    alloc: &'a Rationed<Global>,
+) -> Option<Pruned<MemTree<&'a Rationed<Global>>, Listed<'static>>> {
+    let tree = tree_of(rt, alloc, KEYS)?;
+    Some(Pruned::new(alloc, tree, Listed { rules: &RULES }))
+}
+
+/// Walks over the pruned tree. Gives whether memory sufficed.
+fn walks(rt: &(impl Abort + AllocGlobal), alloc: &Rationed<Global>) -> bool {
+    let Some(tree) = pruned(rt, alloc) else {
+        return false;
+    };
+    match walk_in(alloc, tree, "**/*", MatchOptions::new(), u64::MAX) {
+        Err(refusal) => {
+            assert!(rt; matches!(refusal, PatternRefusal::Memory));
+            false
+        }
+        Ok(walk) => {
+            let found = all_found(rt, walk.items.as_slice());
+            let is_done = walk.end == End::Done;
+            check(rt, is_done || walk.end == End::Memory, "the end");
+            check(
+                rt,
+                FOUND.as_slice().starts_with(found.as_slice()),
+                "a beginning",
+            );
+            check(rt, !is_done || found.len() == FOUND.len(), "all of them");
+            is_done
+        }
+    }
+}
+
+/// How many requests the tree in it makes.
+fn requests_of_tree(rt: &(impl Abort + AllocGlobal)) -> u64 {
+    let ample = Rationed::refusing(0, rt.alloc());
+    check(rt, pruned(rt, &ample).is_some(), "a tree");
+    ample.ration.asked()
+}
+
+#[test]
+fn each_request_of_a_pruned_walk_is_refused(rt: HostRuntime) {
+    let ample = Rationed::refusing(0, rt.alloc());
+    check(&rt, walks(&rt, &ample), "ample memory");
+    let first = requests_of_tree(&rt).saturating_add(1);
+    check(&rt, first < ample.ration.asked(), "few requests");
+    for number in first..=ample.ration.asked() {
+        let scarce = Rationed::refusing(number, rt.alloc());
+        let suffices = walks(&rt, &scarce);
+        assert!(rt; !suffices, "at {number}");
+        assert!(rt; scarce.ration.held() == 0, "at {number}");
+    }
+}

@@ -1,0 +1,5 @@
+//! Tests of `glob_set`.
+#![tactic(auto)]
+
+#[cfg(test)]
+mod tests;

@@ -1,0 +1,7 @@
+mod answers;
+mod made;
+mod memory;
+mod random;
+mod refusals;
+mod rows;
+mod sizes;
