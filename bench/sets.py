@@ -5,9 +5,10 @@ the sets.
 usage: sets.py FOLDER ROUNDS SHARE DISK
 
 FOLDER has paths.txt, the program library of ours/ and, if it could be built, globset_sets of peers/. The paths of a real
-disk are those of files below the folder DISK. Of ROUNDS runs the least time counts. SHARE divides how many paths are
-asked about, and how often a set is made. globset is asked once more before, which is not timed, since it keeps what it
-learns. It has no time where its answers differ. The exit status is 1 where that is so, or ours gives no answer.
+disk are those of files below the folder DISK. A time is the processor's, the least of ROUNDS runs less the least of as
+many that read and make the same and ask nothing. SHARE divides how many paths are asked about, and how often a set is
+made. globset is asked once more before, which is not timed, since it keeps what it learns. Where their
+answers differ, or one gives none, a row is left out and said so, and the exit status is 1.
 """
 
 import os
@@ -16,18 +17,21 @@ import sys
 from functools import partial
 from pathlib import Path
 
-from peers import Failed, ask, measure, print_head, print_row, ratio, shown
+from peers import Failed, print_head, print_row, ratio, shown
 
 # Of the separator rule, as ignore files have it.
 LETTERS = "s"
 
 # How many patterns a set has, and how many paths it is asked about: globset takes milliseconds for one with 5,000.
-SETS = {125: 100_000, 482: 20_000, 5_000: 1_000}
+SETS = {125: 100_000, 482: 20_000, 5_000: 200}
 
 # Whose paths they are.
 PATHS = ["paths", "disk"]
 
 QUESTIONS = ["all", "first", "last", "any"]
+
+# About how many paths ours is asked in one run. globset is asked about each once.
+ASKED = 500_000
 
 # How many patterns are read while sets are made.
 MADE = 50_000
@@ -73,38 +77,52 @@ def write_inputs(folder, disk, share):
     return patterns, paths
 
 
-def print_times(words, what, programs, least):
+def run(program, *words):
+    """What the program prints, a number, and the processor's nanoseconds; or nothing where it fails."""
+    ran = subprocess.Popen([program, *words], stdout=subprocess.PIPE, stderr=subprocess.DEVNULL, text=True)
+    answer = ran.stdout.read()
+    _, status, usage = os.wait4(ran.pid, 0)
+    ran.returncode = os.waitstatus_to_exitcode(status)
+    return None if ran.returncode else (int(answer), (usage.ru_utime + usage.ru_stime) * 1e9)
+
+
+def measure(what, programs, times, rounds, *words):
+    """The answer of ours, and the least time of each program, in nanoseconds for one of its `times`."""
+    counts, full, empty = {}, {}, {}
+    for turn in range(rounds):
+        for name, program in list(programs.items())[:: -1 if turn % 2 else 1]:
+            for least, passes in ((full, times[name]), (empty, 0)):
+                ran = run(program, *words, str(passes))
+                if ran is None:
+                    raise Failed(f"{what}: {name} gives no answer")
+                least[name] = min(ran[1], least.get(name, ran[1]))
+                counts[name] = ran[0] / passes if passes else counts[name]
+    if len(set(counts.values())) > 1:
+        raise Failed(f"{what}: the answers are {counts}")
+    return counts["ours"], {name: max(0, full[name] - empty[name]) / times[name] for name in full}
+
+
+def print_times(words, least):
     """A row of both times and their ratio."""
     ours, other = least["ours"], least.get("globset")
-    print_row([*words, shown(ours), shown(other), ratio(ours, other)])
-    if "globset" in programs and other is None:
-        raise Failed(f"{what}: globset gives another answer, or none")
+    print_row([*words, shown(ours), shown(other), ratio(ours, other or None)])
 
 
 def ask_row(size, which, question, programs, patterns, paths, rounds):
     """Nanoseconds a path."""
     file, count, length = paths[size, which]
-
-    def run(_, program):
-        answer = ask(program, "set", LETTERS, patterns[size], question, file, "1")
-        return answer and (answer[0], answer[1] / count)
-
     what = f"{question} of {size} patterns, {which}"
-    answer, least = measure(what, programs, rounds, run)
-    print_times([f"{size:,}", f"{count:,} of `{which}`, {length} bytes", question, f"{answer:,}"], what, programs, least)
+    times = {"ours": max(1, ASKED // count), "globset": 1}
+    answer, least = measure(what, programs, times, rounds, "set", LETTERS, patterns[size], question, file)
+    words = [f"{size:,}", f"{count:,} of `{which}`, {length} bytes", question, f"{answer:,.0f}"]
+    print_times(words, {name: time / count for name, time in least.items()})
 
 
 def make_row(size, share, programs, patterns, rounds):
     """Microseconds a set."""
-    times = max(1, MADE // size // share)
-
-    def run(_, program):
-        answer = ask(program, "make", LETTERS, patterns[size], str(times))
-        return answer and (answer[0], answer[1] / times / 1_000)
-
-    what = f"a set of {size} patterns"
-    _, least = measure(what, programs, rounds, run)
-    print_times([f"{size:,}"], what, programs, least)
+    times = dict.fromkeys(programs, max(1, MADE // size // share))
+    _, least = measure(f"a set of {size}", programs, times, rounds, "make", LETTERS, patterns[size])
+    print_times([f"{size:,}"], {name: time / 1_000 for name, time in least.items()})
 
 
 def tables(programs, patterns, paths, rounds, share):
