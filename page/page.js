@@ -84,24 +84,19 @@ function walk(pattern, flags, limit, paths) {
   return { wrong: TROUBLE[status] };
 }
 
-// ---- Tokens: where each is written in a pattern that is accepted. Neighbouring characters share a group.
+// ---- Tokens of a pattern that is accepted: of each its kind, and how it is written. Neighbouring characters share a group.
+const KINDS = ["literal", "one", "any", "components", "bracket", "bracket"];
+const NONE_OF = 5;
+
 function tokensOf(pattern) {
-  const all = [...pattern], tokens = [];
-  for (let i = 0; i < all.length; ) {
-    let kind = "literal", end = i + 1;
-    if (all[i] === "?") kind = "one";
-    else if (all[i] === "*" && all[i + 1] === "*") {
-      kind = "components";
-      end = i + (all[i + 2] === "/" ? 3 : 2);
-    } else if (all[i] === "*") kind = "any";
-    else if (all[i] === "[") {
-      kind = "bracket";
-      end = all.indexOf("]", i + (all[i + 1] === "!" ? 3 : 2)) + 1;
-    }
-    const written = all.slice(i, end).join(""), last = tokens[tokens.length - 1];
-    if (kind === "components" && last && last.kind === kind) last.written += written;
-    else tokens.push({ kind, written });
-    i = end;
+  free = base;
+  const some = encode(pattern), most = 3 * some.length;
+  const words = put(pattern), out = BigInt(take(8 * most)), [count] = room(8);
+  if (code.page_tokens(...words, out, BigInt(most), count) !== YES) return [];
+  const tokens = [];
+  for (let i = 0; i < number(count); i += 3) {
+    const [kind, start, end] = [0, 1, 2].map((k) => number(Number(out) + 8 * (i + k)));
+    tokens.push({ kind: KINDS[kind], isNone: kind === NONE_OF, written: decode(some.slice(start, end)) });
   }
   let group = 0, named = 0;
   tokens.forEach((token, i) => {
@@ -112,25 +107,61 @@ function tokensOf(pattern) {
   return tokens;
 }
 
-const WANTS = {
-  one: "any one character",
-  any: "any characters",
-  components: "whole components, each with its /",
-};
+const quoted = (text) => `“${text}”`;
+const IGNORE = 1, SEPARATOR = 2, DOT = 4;
 
-// What token i would take: of characters those that follow one another.
-function wantOf(tokens, i) {
-  const token = tokens[i];
-  if (token.kind === "literal") {
-    const run = tokens.slice(i).filter((it) => it.group === token.group);
-    return quoted(run.map((it) => it.written).join(""));
-  }
-  const none = token.written[1] === "!", inner = token.written.slice(none ? 2 : 1, -1);
-  const want = WANTS[token.kind] || `a character that is ${none ? "none" : "one"} of ${quoted(inner)}`;
-  return `${token.number} ${quoted(token.written)}, ${want}`;
+// Why a wildcard or a bracket does not take the character of a text there, by a rule; or nothing.
+function ruleAgainst(token, all, place) {
+  const here = all[place], begins = place === 0 || all[place - 1] === "/";
+  if (here === "/" && flags() & SEPARATOR && token.kind !== "components") return "but by the separator rule no /";
+  if (here === "." && begins && flags() & DOT) return "but by the dot rule no . that begins a component";
+  return token.kind === "components" && !all.slice(place).includes("/") ? "but no / follows here" : "";
 }
 
-const quoted = (text) => `“${text}”`;
+// What a token wants at a place of the text, in words.
+function wantOf(token, all, place) {
+  if (token.kind === "literal") {
+    const here = all[place] || "";
+    return here.toLowerCase() === token.written.toLowerCase() ? "in upper or lower case as here" : "";
+  }
+  const inner = quoted(token.written.slice(token.isNone ? 2 : 1, -1));
+  const words = {
+    one: "any one character",
+    any: "any characters",
+    components: "whole components, each with its /",
+    bracket: token.isNone ? `one character, but none of ${inner}` : `one of ${inner}`,
+  }[token.kind];
+  return [words, ruleAgainst(token, all, place)].filter(Boolean).join(", ");
+}
+
+const grows = (token) => token.kind === "any" || token.kind === "components";
+
+// The tokens that have to come at a place. At the end of the text a wildcard that may be empty is missed only if nothing else is.
+function wantedAt(waiting, tokens, isEnd) {
+  const fixed = waiting.filter((i) => !grows(tokens[i]));
+  return isEnd && fixed.length ? fixed : waiting;
+}
+
+// The tokens after the last wildcard, if that wildcard took the rest of the text and the text does not end as they say.
+function lackingEnd(tokens, waiting, text) {
+  const from = tokens.findLastIndex(grows) + 1, end = tokens.slice(from);
+  if (from === 0 || !end.length || !waiting.includes(from)) return [];
+  const written = end.map((token) => token.written).join("");
+  return match(`*${written}`, text, flags() & IGNORE).status === YES ? [] : end;
+}
+
+// The options that, changed alone, make the text match: a flag, what it becomes, and words.
+const LOOSER = [
+  [IGNORE, true, "with upper and lower case as the same", "-i"],
+  [SEPARATOR, false, "without the separator rule", "-s"],
+  [DOT, false, "without the dot rule", "-d"],
+];
+
+function looserFor(pattern, text) {
+  const now = flags();
+  const found = LOOSER.filter(([bit, on]) => Boolean(now & bit) !== on && match(pattern, text, now ^ bit).status === YES);
+  return found.map(([, , words, letter]) => make("p", {}, `It matches ${words}, `, make("code", {}, letter), "."));
+}
 
 // ---- Drawing
 function make(name, properties, ...children) {
@@ -189,6 +220,25 @@ function drawPattern() {
   return !fault;
 }
 
+// Why a text that stops at a place does not match.
+function drawWhy(pattern, tokens, text, place, waiting) {
+  const all = [...text], isEnd = place === all.length, end = isEnd ? lackingEnd(tokens, waiting, text) : [];
+  const wanted = wantedAt(waiting, tokens, isEnd).map((i) => {
+    const run = tokens[i].kind === "literal" ? tokens.slice(i).filter((it) => it.group === tokens[i].group) : [tokens[i]];
+    return make("li", {}, chip(run.map((it) => it.written).join(""), tokens[i]), wantOf(tokens[i], all, place));
+  });
+  if (match(pattern, all.slice(0, place).join(""), flags()).status === YES) wanted.unshift(make("li", {}, "the end of the text"));
+  const where = isEnd ? "The text ends here, but the pattern wants" : `It stops at ${quoted(all[place])}: the pattern wants`;
+  const why = make("div", { className: "why" });
+  if (end.length) {
+    why.append(make("p", {}, "It does not end in:"), chips(end, end.map((token) => token.written)));
+  } else {
+    why.append(make("p", {}, `${where}${wanted.length > 1 ? " one of these" : ""}:`), make("ul", {}, ...wanted));
+  }
+  why.append(...looserFor(pattern, text));
+  return why;
+}
+
 function drawLine(pattern, tokens, text) {
   const found = match(pattern, text, flags());
   if (found.status === YES) {
@@ -196,11 +246,9 @@ function drawLine(pattern, tokens, text) {
     return make("li", { className: "yes" }, make("span", { className: "verdict" }, "✓ matches"), chips(tokens, texts));
   }
   if (found.status !== NO) return make("li", { className: "no" }, TROUBLE[found.status]);
-  const place = [...decode(encode(text).slice(0, found.stop))].length, here = [...text][place];
-  const wants = found.waiting.map((i) => wantOf(tokens, i));
-  const why = make("p", { className: "why" }, here === undefined ? "The text ends too early. " : `Stops at ${quoted(here)}. `);
-  why.append(wants.length ? `What may come here: ${wants.join("; or ")}.` : "The pattern ends here, and the text does not.");
-  return make("li", { className: "no" }, make("span", { className: "verdict" }, "✗ no match"), caret(text, place, "text"), why);
+  const place = [...decode(encode(text).slice(0, found.stop))].length;
+  const verdict = make("span", { className: "verdict" }, "✗ no match");
+  return make("li", { className: "no" }, verdict, caret(text, place, "text"), drawWhy(pattern, tokens, text, place, found.waiting));
 }
 
 function drawLines(accepted) {
@@ -260,9 +308,15 @@ function drawSteps() {
   $("count").textContent = `Step ${until} of ${steps.length}`;
 }
 
+// The last step that is shown is the one in question: it is kept in view.
+function follow() {
+  drawSteps();
+  $("steps").scrollTop = $("steps").scrollHeight;
+}
+
 function go(by) {
   $("step").value = String(Number($("step").value) + by);
-  drawSteps();
+  follow();
 }
 
 // ---- Examples: a pattern, options, and lines
@@ -296,7 +350,7 @@ async function begin() {
   $("examples").append(...EXAMPLES.map(([name], i) => make("option", { value: String(i) }, name)));
   $("examples").addEventListener("change", () => load(EXAMPLES[Number($("examples").value)]));
   for (const id of ["pattern", "lines", "tree", "limit", "ignore", "separator", "dot"]) $(id).addEventListener("input", draw);
-  $("step").addEventListener("input", drawSteps);
+  $("step").addEventListener("input", follow);
   $("back").addEventListener("click", () => go(-1));
   $("next").addEventListener("click", () => go(1));
   load(EXAMPLES[0]);

@@ -1,7 +1,8 @@
 #!/usr/bin/env python3
 """Checks the page of docs/page: that it is made of the present sources, and, where Chromium is installed, that it answers
-as bin/glob_run does on 200 patterns and lines from a seeded generator, and that it walks a tree as `find` does. It drives
-the page's own fields in a headless browser, without a network. Its last line is 'N passed, M failed'."""
+as `explain` of bin/glob_run does on 200 patterns and lines from a seeded generator, piece by piece, and that it walks a
+tree as `find` does. It drives the page's own fields in a headless browser, without a network. Its last line is 'N passed,
+M failed'."""
 
 import json
 import os
@@ -33,8 +34,10 @@ async function drive(cases, walks, tree) {
     ["ignore", "separator", "dot"].forEach((id, i) => ($(id).checked = Boolean(flags & (1 << i))));
     $("pattern").dispatchEvent(new Event("input"));
     const item = $("answers").firstChild;
-    const runs = item ? [...item.querySelectorAll(".run")].map((it) => it.textContent.replace("∅", "")) : [];
-    said.push([shown() ? shown().textContent : null, item ? item.className : "", runs.join("")]);
+    const runs = item ? [...item.querySelectorAll(":scope > .chips .run")].map((it) => it.textContent.replace("∅", "")) : [];
+    const stop = item && item.querySelector(".caret .stop");
+    const before = stop ? [...(stop.previousSibling ? stop.previousSibling.textContent : "")].length : null;
+    said.push([shown() ? shown().textContent : null, item ? item.className : "", runs, before]);
   }
   fill("tree", tree.join("\\n"));
   ["ignore", "separator", "dot"].forEach((id) => ($(id).checked = false));
@@ -69,13 +72,25 @@ def run(words, text="", folder=None):
 
 
 def expected(pattern, flags, line):
-    """What the page has to show: a fault, or whether the line matches, and the whole line in its pieces."""
+    """What the page has to show: a fault; or that the line matches, and the pieces, those of neighbouring characters as
+    one; or that it does not, and after how many characters it stops."""
     options = [word for i, word in enumerate(("-i", "-s", "-d")) if flags & (1 << i)]
-    _, out, error = run(["match", *options, "--", pattern], line + "\n")
-    fault = re.fullmatch(r"Pattern syntax error near position (\d+): (.*)\n", error)
-    if fault:
-        return [f"Refused at character {fault[1]}: {fault[2]}", "", ""]
-    return [None, "yes", line] if out else [None, "no", ""]
+    status, out, error = run(["explain", *options, "--", pattern, line])
+    if status == 2:
+        fault = re.match(r"Pattern syntax error near position (\d+): (.*)\n", error)
+        return [f"Refused at character {fault[1]}: {fault[2]}", "", [], None]
+    if status == 1:
+        return [None, "no", [], out.split("\n")[1].index("^")]
+    runs, was_character = [], False
+    for row in out.splitlines():
+        written, piece = row.split("\t")
+        is_character = len(written) == 1 and written not in "?*"
+        if is_character and was_character:
+            runs[-1] += piece
+        else:
+            runs.append(piece)
+        was_character = is_character
+    return [None, "yes", runs, None]
 
 
 def tree_in(folder):

@@ -1,5 +1,5 @@
-//! What the page of docs/page calls: why a text is no pattern, the pieces of a match, and walks. `bin/page` builds it for
-//! WebAssembly.
+//! What the page of docs/page calls: why a text is no pattern, its tokens, the pieces of a match, and walks. `bin/page`
+//! builds it for WebAssembly.
 #![tactic(auto)]
 
 mod buffer;
@@ -7,3 +7,4 @@ mod matching;
 mod pattern;
 mod story;
 mod walking;
+mod written;

@@ -1,10 +1,14 @@
-ghost use Rattle.std.specs.Prelude.{◌≡◌};
-ghost use Rattle.glob_page.specs.Answers.{Decides, options_of};
+ghost use Rattle.std.specs.Prelude.{◌≡◌, ◌↔◌, ◌∷◌, IsTrue, IfOk, true, false, chars, take};
+ghost use Rattle.glob_pattern.specs.Computing.Tokens.{tokens_of};
+ghost use Rattle.glob_pattern.specs.Matching.Texts.{Matches};
+ghost use Rattle.glob_captures.specs.Captures.{AreCaptures};
+ghost use Rattle.glob_captures.specs.Reaching.{IsReached};
+ghost use Rattle.glob_page.specs.Answers.{ArePieces, Decides, IsStop, no, numbers_of, options_of, yes};
 
 use crate::buffer::{FAULT, NO, NOT_UTF8, OUT_OF_MEMORY, TOO_LARGE, YES, write_numbers};
-use glob_captures::{CapturesError, captures, reach};
+use glob_captures::{CapturesError, Piece, Reached, captures, reach};
 use glob_pattern::{MatchOptions, Pattern, PatternRefusal};
-use std::alloc::Global;
+use std::alloc::{AllocError, Global};
 
 /// Whether the pattern matches the text, under the options that the flags say: 0 for no, and 1 for yes.
 ///
@@ -20,7 +24,11 @@ pub extern "C" fn page_match(
     out: &mut [usize],
     count: &mut usize,
 ) -> u32
-    ensures { Decides pattern.now text.now flags result }
+    ensures answer { Decides pattern.now text.now flags result }
+    ensures pieces { result ≡ yes
+        → ArePieces (options_of flags) pattern.now text.now (take count.new out.new) }
+    ensures stop { result ≡ no
+        → IsStop (options_of flags) pattern.now text.now (take count.new out.new) }
 {
     let (Ok(pattern), Ok(text)) = (str::from_utf8(pattern), str::from_utf8(text)) else {
         return NOT_UTF8;
@@ -30,17 +38,8 @@ pub extern "C" fn page_match(
         Err(PatternRefusal::Syntax(_)) => return FAULT,
         Err(PatternRefusal::Memory) => return OUT_OF_MEMORY,
     };
-    let options = options_of(flags);
-    let Ok(matches) = pattern.matches_with(text, options) else {
-        return OUT_OF_MEMORY;
-    };
-    let numbers = if matches {
-        pieces(alloc, &pattern, text, options)
-    } else {
-        stop(alloc, &pattern, text, options)
-    };
-    match numbers {
-        Ok(numbers) => {
+    match decided(alloc, &pattern, text, options_of(flags)) {
+        Ok((matches, numbers)) => {
             if !write_numbers(numbers.as_slice(), out, count) {
                 TOO_LARGE
             } else if matches {
@@ -54,36 +53,49 @@ pub extern "C" fn page_match(
     }
 }
 
-/// Where each piece starts and ends.
-fn pieces(
+/// Whether the pattern matches the text, and the numbers to write.
+fn decided(
     alloc: Global,
     pattern: &Pattern<Global>,
     text: &str,
     options: MatchOptions,
-) -> Result<Vec<usize, Global>, CapturesError> {
-    let mut numbers = Vec::new(alloc);
-    if let Some(pieces) = captures(alloc, pattern, text, options)? {
-        for piece in pieces.as_slice() {
-            numbers.push(piece.start)?;
-            numbers.push(piece.end)?;
+) -> Result<(bool, Vec<usize, Global>), CapturesError>
+    ensures answer { IfOk result
+        (λ found. IsTrue found.0 ↔ Matches options (chars pattern.now) (chars text.now)) }
+    ensures pieces { IfOk result
+        (λ found. found.0 ≡ true → ArePieces options pattern.now text.now found.1.items) }
+    ensures stop { IfOk result
+        (λ found. found.0 ≡ false → IsStop options pattern.now text.now found.1.items) }
+{
+    match captures(alloc, pattern, text, options)? {
+        Some(pieces) => Ok((true, piece_numbers(alloc, pieces.as_slice())?)),
+        None => {
+            let reached = reach(alloc, pattern, text, options)?;
+            Ok((false, stop_numbers(alloc, &reached)?))
         }
+    }
+}
+
+/// Where each piece starts and ends.
+fn piece_numbers(alloc: Global, pieces: &[Piece]) -> Result<Vec<usize, Global>, AllocError>
+    ensures { IfOk result (λ numbers. numbers.items ≡ numbers_of pieces.now) }
+{
+    let mut numbers = Vec::new(alloc);
+    for piece in pieces {
+        numbers.push(piece.start)?;
+        numbers.push(piece.end)?;
     }
     Ok(numbers)
 }
 
-/// Where the text stops, and the tokens that stopped there.
-fn stop(
-    alloc: Global,
-    pattern: &Pattern<Global>,
-    text: &str,
-    options: MatchOptions,
-) -> Result<Vec<usize, Global>, CapturesError> {
-    let reached = reach(alloc, pattern, text, options)?;
+/// Where the text stops, and the tokens that wait there.
+fn stop_numbers(alloc: Global, reached: &Reached<Global>) -> Result<Vec<usize, Global>, AllocError>
+    ensures { IfOk result
+        (λ numbers. numbers.items ≡ reached.now.place ∷ reached.now.waiting.items) }
+{
     let mut numbers = Vec::new(alloc);
     numbers.push(reached.place)?;
-    for &token in reached.waiting.as_slice() {
-        numbers.push(token)?;
-    }
+    numbers.extend_from_slice(reached.waiting.as_slice())?;
     Ok(numbers)
 }
 

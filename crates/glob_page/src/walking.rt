@@ -1,5 +1,6 @@
-ghost use Rattle.std.specs.Prelude.{◌≡◌, None};
-ghost use Rattle.glob_page.specs.Answers.{yes};
+ghost use Rattle.std.specs.Prelude.{◌≡◌, None, Some, take};
+ghost use Rattle.glob_walk.specs.Components.{walk_fault};
+ghost use Rattle.glob_page.specs.Answers.{fault, yes};
 
 use crate::buffer::{FAULT, NO_PATH, NOT_UTF8, OUT_OF_MEMORY, TOO_LARGE, YES, write};
 use crate::matching::options_of;
@@ -26,7 +27,11 @@ pub extern "C" fn page_walk(
     out: &mut [u8],
     count: &mut usize,
     place: &mut usize,
-) -> u32 {
+) -> u32
+    ensures accepted { result ≡ yes → walk_fault pattern.now ≡ None }
+    ensures refused { result ≡ fault → walk_fault pattern.now
+        ≡ Some (record { place = place.new; message = take count.new out.new }) }
+{
     let (Ok(pattern), Ok(paths)) = (str::from_utf8(pattern), str::from_utf8(paths)) else {
         return NOT_UTF8;
     };

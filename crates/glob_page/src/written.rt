@@ -1,0 +1,69 @@
+ghost use Rattle.std.specs.Prelude.{◌≡◌, ◌*◌, IfOk, length, chars};
+ghost use Rattle.glob_pattern.specs.Computing.Tokens.{tokens_of};
+ghost use Rattle.glob_page.specs.Answers.{yes};
+
+use crate::buffer::{FAULT, NOT_UTF8, OUT_OF_MEMORY, TOO_LARGE, YES, write_numbers};
+use glob_captures::{TokenKind, tokens};
+use glob_pattern::{Pattern, PatternRefusal};
+use std::alloc::{AllocError, Global};
+
+/// The tokens of a pattern: of each its kind, and where it is written from and to, in bytes. The kinds are 0 for a
+/// character, 1 `?`, 2 `*`, 3 `**`, 4 a bracket, and 5 one that begins with `!`.
+///
+/// The answer is 1, after which `out` begins with these numbers and `count` says how many they are; or 2 for bytes that are
+/// no pattern, 3 if an allocation fails, 4 for bytes that are no UTF-8, and 5 if `out` is too short.
+#[unsafe(no_mangle)]
+pub extern "C" fn page_tokens(
+    alloc: Global,
+    pattern: &[u8],
+    out: &mut [usize],
+    count: &mut usize,
+) -> u32
+    ensures { result ≡ yes → count.new ≡ 3 * length (tokens_of (chars pattern.now)) }
+{
+    let Ok(text) = str::from_utf8(pattern) else {
+        return NOT_UTF8;
+    };
+    let pattern = match Pattern::new(alloc, text) {
+        Ok(pattern) => pattern,
+        Err(PatternRefusal::Syntax(_)) => return FAULT,
+        Err(PatternRefusal::Memory) => return OUT_OF_MEMORY,
+    };
+    match token_numbers(alloc, &pattern) {
+        Ok(numbers) => {
+            if write_numbers(numbers.as_slice(), out, count) {
+                YES
+            } else {
+                TOO_LARGE
+            }
+        }
+        Err(_) => OUT_OF_MEMORY,
+    }
+}
+
+/// Of each token three numbers.
+fn token_numbers(alloc: Global, pattern: &Pattern<Global>) -> Result<Vec<usize, Global>, AllocError>
+    ensures { IfOk result
+        (λ numbers. length numbers.items ≡ 3 * length (tokens_of (chars pattern.now))) }
+{
+    let list = tokens(alloc, pattern)?;
+    let mut numbers = Vec::new(alloc);
+    for token in list.as_slice() {
+        numbers.push(number_of(token.kind))?;
+        numbers.push(token.piece.start)?;
+        numbers.push(token.piece.end)?;
+    }
+    Ok(numbers)
+}
+
+/// The number of a kind.
+fn number_of(kind: TokenKind) -> usize {
+    match kind {
+        TokenKind::Literal => 0,
+        TokenKind::AnyChar => 1,
+        TokenKind::AnySequence => 2,
+        TokenKind::Recursive => 3,
+        TokenKind::OneOf => 4,
+        TokenKind::NoneOf => 5,
+    }
+}
