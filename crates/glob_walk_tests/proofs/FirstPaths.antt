@@ -1,5 +1,6 @@
 -- A walk whose first paths are taken.
-use Rattle.std.proofs.Common.{◌≡◌, ℕ, ◌+◌, ◌-◌, ◌<◌, ◌≤◌, arith, Bool, true, false, Option, Some, None, List, [], ◌∷◌, ◌++◌, map, refl, ap, sym, subst, ◌∙◌, append_assoc}
+use Rattle.std.proofs.Common.{◌≡◌, ℕ, ◌+◌, ◌-◌, ◌<◌, ◌≤◌, suc, arith, Bool, true, false, Option, Some, None, List, [], ◌∷◌, ◌++◌, map, refl, ap, sym, subst, ◌∙◌, append_assoc}
+use Rattle.std.specs.Prelude.{is_some}
 use Rattle.std.proofs.lemmas.List.{map-append}
 use Rattle.std.proofs.lemmas.Option.{same_Some}
 use Rattle.std.specs.Path.{path_buf_bytes}
@@ -7,15 +8,16 @@ use Rattle.std.specs.declared.path.buf.PathBuf.{PathBuf}
 use Rattle.glob.specs.Answers.{IsTold}
 use Rattle.glob.specs.Content.{Content}
 use Rattle.glob.specs.GlobErrors.{cause_of}
-use Rattle.glob.specs.Marks.{Mark, Work, Give, Item, Found, Unread, cost, items, paths}
+use Rattle.glob.specs.Marks.{Mark, Work, Give, Item, Found, Unread, cost, front, items, paths}
 use Rattle.glob.specs.Text.{Text}
-use Rattle.glob.specs.Walks.{Outcome, Gives, LimitAt, NoMemory, error_outcome, works, Walking, Goes, Charges, TakesFront}
+use Rattle.glob.specs.Walks.{Outcome, Gives, LimitAt, NoMemory, error_outcome, is_last, works, Walking, Goes, Charges, TakesFront}
 use Rattle.glob_walk.specs.declared.error.GlobCause.{GlobCause}
 use Rattle.glob_walk.specs.declared.error.GlobCause.TheVariants as cause
 use Rattle.glob_walk.specs.declared.error.GlobError.{GlobError}
-use Rattle.glob_walk.proofs.ListingLemmas.Marks.{items-append, cost-append}
+use Rattle.glob_walk.proofs.ListingLemmas.Marks.{items-append, cost-append, front-append}
 use Rattle.glob_walk.proofs.WalkLemmas.Gathering.{items-works, cost-works}
 use Rattle.glob_walk.proofs.WalkLemmas.Stepping.{append_none}
+use Rattle.glob_walk_tests.specs.FirstPaths.{EndsWith, end_after}
 
 -- the path that an answer gives, if it gives one
 abbrev pub given_paths : Outcome → List Text
@@ -28,6 +30,12 @@ pub error_gives_no_path : {A : Type 0} (k : GlobCause) (e : GlobError A) → giv
 error_gives_no_path cause.Read e = refl
 error_gives_no_path cause.Memory e = refl
 error_gives_no_path cause.Limit e = refl
+
+-- an error ends the walk just where it says an end
+pub ends-after : {A : Type 0} (k : GlobCause) (e : GlobError A) → is_some (end_after k) ≡ is_last (Some (error_outcome k e))
+ends-after cause.Read e = refl
+ends-after cause.Limit e = refl
+ends-after cause.Memory e = refl
 
 paths-of-item : (item : Item) (is : List Item) → paths (item ∷ is) ≡ given_paths (Gives item) ++ paths is
 paths-of-item (Found path) is = refl
@@ -157,11 +165,42 @@ module _ {X : Type 0} (asks : X → ℕ) (tells : X → Option Content) (first n
           let (next, has, old, t, k) = fronted None goes e c h ms is in
           ([], taken-charged ms found first.spent now.spent new.spent old t [] k.0)
 
+  module _ (on : now.over ≡ false) (c : Content) (h : IsTold (tells first.tree) c) (ms : List Mark) (is : first.left ≡ Some ms) where
+    -- nothing more comes of a walk that was not over, and the found paths are all
+    pub Finds-all : Goes asks tells now None new → paths (items ms) ≡ found
+    Finds-all goes =
+        let (next, has, old, t, k) = fronted None goes on c h ms is in
+        taken-all ms found first.spent new.spent [] (taken-charged ms found first.spent now.spent new.spent old t [] k.0) ∙ append_none found
+
+    -- the next unit does not fit, and the found paths are all before it
+    pub Finds-limit : (path : Text) → Goes asks tells now (Some (LimitAt path)) new
+        → (first.limit - first.spent < cost ms) × (paths (items (front (first.limit - first.spent) ms)) ≡ found)
+    Finds-limit path goes =
+        let (next, has, old, t, k) = fronted (Some (LimitAt path)) goes on c h ms is in
+        let after : List Mark = Work path ∷ k.rest in
+        let t' = taken-charged ms found first.spent now.spent new.spent old t after k.charges in
+        let units : ℕ = first.limit - first.spent in
+        let spent : new.spent ≡ first.limit = goes.counts.asked.0 ∙ goes.counts.limit ∙ f.limit in
+        let done : cost t'.done ≡ units = omega (arith, spent, t'.units) in
+        let costs : cost ms ≡ cost t'.done + suc (cost k.rest) = ap cost t'.whole ∙ cost-append t'.done after in
+        let none : units - cost t'.done ≡ 0 = omega (arith, done) in
+        let cut : front units ms ≡ t'.done =
+        ap (front units) t'.whole ∙ front-append units t'.done after (omega (arith, done)) ∙ ap (λ n. t'.done ++ front n after) none ∙ append_none t'.done in
+        (omega (arith, costs, done), ap (λ xs. paths (items xs)) cut ∙ t'.given)
+
   -- an error is passed over
   pub Finds-error : {A : Type 0} (e : GlobError A) → Goes asks tells now (Some (error_outcome (cause_of e) e)) new → Finds tells first found new
   Finds-error e goes =
       let none : found ++ given_paths (error_outcome (cause_of e) e) ≡ found = ap (λ xs. found ++ xs) (error_gives_no_path (cause_of e) e) ∙ append_none found in
       subst (λ xs. Finds tells first xs new) none (Finds-answer (error_outcome (cause_of e) e) goes)
+
+-- how a walk ended that was not over and gave an error
+pub Finds-ended : {X A : Type 0} (asks : X → ℕ) (tells : X → Option Content) (first now new : Walking X) (found : List (PathBuf A)) → Finds tells first (map path_buf_bytes found) now
+    → {B : Type 0} (k : GlobCause) (e : GlobError B) → Goes asks tells now (Some (error_outcome k e)) new → now.over ≡ false
+    → (c : Content) → IsTold (tells first.tree) c → (ms : List Mark) → first.left ≡ Some ms → EndsWith ms (first.limit - first.spent) (end_after k) found
+Finds-ended asks tells first now new found f cause.Read e goes on c h ms is = tt
+Finds-ended asks tells first now new found f cause.Limit e goes on c h ms is = Finds-limit asks tells first now new (map path_buf_bytes found) f on c h ms is _ goes
+Finds-ended asks tells first now new found f cause.Memory e goes on c h ms is = tt
 
 -- a path is kept
 pub Finds-path : {X A : Type 0} (asks : X → ℕ) (tells : X → Option Content) (first now new : Walking X) (found : List (PathBuf A)) → Finds tells first (map path_buf_bytes found) now

@@ -1,5 +1,8 @@
 //! What to write instead of a pattern that is refused, or that has a form of another tool.
-use glob_pattern::Pattern;
+ghost use Rattle.std.specs.Prelude.{◌≡◌, true, IfOk, IfSome, chars, string_bytes};
+ghost use Rattle.glob_pattern.specs.Grammar.Units.{IsAccepted};
+
+use glob_pattern::{Pattern, PatternRefusal};
 use std::alloc::{AllocError, Allocator};
 
 /// Classes of characters, as other tools write them, and the bracket that stands for each.
@@ -18,16 +21,30 @@ pub fn accepted_instead<A: Allocator + Copy>(
     alloc: A,
     pattern: &str,
     place: usize,
-) -> Result<Option<String<A>>, AllocError> {
+) -> Result<Option<String<A>>, AllocError>
+    ensures { IfOk result (λ found. IfSome found
+        (λ instead. IsAccepted (chars (string_bytes instead)))) }
+{
     let wider = with_whole_components(alloc, pattern)?;
-    if Pattern::new(alloc, wider.as_str()).is_ok() {
+    if is_accepted(alloc, wider.as_str())? {
         return Ok(Some(wider));
     }
     let plain = with_plain_bracket(alloc, pattern, place)?;
-    if Pattern::new(alloc, plain.as_str()).is_ok() {
+    if is_accepted(alloc, plain.as_str())? {
         return Ok(Some(plain));
     }
     Ok(None)
+}
+
+/// Whether the text is a pattern.
+fn is_accepted<A: Allocator + Copy>(alloc: A, text: &str) -> Result<bool, AllocError>
+    ensures { IfOk result (λ yes. yes ≡ true → IsAccepted (chars text.now)) }
+{
+    match Pattern::new(alloc, text) {
+        Ok(_) => Ok(true),
+        Err(PatternRefusal::Syntax(_)) => Ok(false),
+        Err(PatternRefusal::Memory) => Err(AllocError),
+    }
 }
 
 /// The pattern, where two or more `*` are a component of their own: `**.rs` becomes `**/*.rs`.

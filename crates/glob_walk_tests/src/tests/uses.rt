@@ -1,19 +1,42 @@
 //! The caller of the walk.
 use super::checks::start;
 use super::contents::{at_root, tree_of};
-use super::made::made;
+use super::made::{check_number, made};
 use super::reference::Job;
 use crate::uses::first_paths;
-use glob::MatchOptions;
-use std::path::Path;
+use glob::{End, MatchOptions};
+use std::process::Abort;
+
+/// The pattern of each walk: it gives `d` for 3 units, and `d/a` and `d/q` for 3 more.
+const PATTERN: &str = "**/*";
+
+/// A limit, how many paths are wanted, how many of these three there are, and the end.
+const ROWS: [(u64, usize, usize, Option<End>); 6] = [
+    (100, 2, 2, None),
+    (100, 3, 3, None),
+    (100, 4, 3, Some(End::Done)),
+    (6, 4, 3, Some(End::Done)),
+    (5, 4, 1, Some(End::Limit)),
+    (5, 1, 1, None),
+];
+
+/// So many paths are found within the limit, and then this end.
+fn check_first(rt: &(impl Abort + AllocGlobal), row: (u64, usize, usize, Option<End>)) {
+    let (limit, most, count, end) = row;
+    let tree = tree_of(rt, &at_root(rt, "d/ d/q d/a"));
+    let job = Job::of(PATTERN).under(MatchOptions::new()).within(limit);
+    let mut paths = made(rt, start(rt.alloc(), tree, job));
+    let found = made(rt, first_paths(rt.alloc(), &mut paths, most));
+    check_number(rt, found.end == end, limit, PATTERN);
+    check_number(rt, found.paths.len() == count, limit, PATTERN);
+    for (path, wanted) in found.paths.iter().zip(&["d", "d/a", "d/q"]) {
+        check_number(rt, path.as_str() == *wanted, limit, wanted);
+    }
+}
 
 #[test]
 fn the_first_paths(rt: HostRuntime) {
-    let tree = tree_of(&rt, &at_root(&rt, "d/ d/q d/a"));
-    let job = Job::of("**/*").under(MatchOptions::new()).within(100);
-    let mut paths = made(&rt, start(rt.alloc(), tree, job));
-    let found = made(&rt, first_paths(rt.alloc(), &mut paths, 2));
-    assert!(rt; found.len() == 2);
-    assert!(rt; found[0].as_path() == Path::new("d"));
-    assert!(rt; found[1].as_path() == Path::new("d/a"));
+    for row in ROWS {
+        check_first(&rt, row);
+    }
 }
