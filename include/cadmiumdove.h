@@ -76,7 +76,7 @@ enum cadmiumdove_match {
 
 /* The options, added up. 0 is case-sensitive, and without the two rules. */
 enum cadmiumdove_flag {
-    CADMIUMDOVE_WITHOUT_CASE = 1,       /* letters of ASCII are the same in either case */
+    CADMIUMDOVE_CASE_INSENSITIVE = 1,   /* letters of ASCII are the same in either case */
     CADMIUMDOVE_LITERAL_SEPARATOR = 2,  /* `/` is matched only by a `/` outside brackets, or by `**` */
     CADMIUMDOVE_LITERAL_LEADING_DOT = 4 /* a `.` that begins a component is matched only by a `.` outside brackets */
 };

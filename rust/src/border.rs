@@ -163,7 +163,7 @@ impl Walk {
             cadmiumdove_walk_new(&mut handle, pattern.as_ptr(), pattern.len(), flags, u64::MAX, &mut fault)
         };
         match answer {
-            DONE => Ok(Walk { handle, path: vec![0; 256], owns: PhantomData }),
+            DONE => Ok(Walk { handle, path: Vec::with_capacity(256), owns: PhantomData }),
             SYNTAX_FAULT => Err(PatternError { pos: fault.place, msg: MESSAGES[fault.message as usize] }),
             _ => out_of_memory(),
         }
@@ -187,20 +187,27 @@ impl Walk {
     }
 
     fn read_path(&mut self) {
-        let mut needed = 0;
-        self.path.resize(self.path.capacity(), 0);
-        // SAFETY: the pointer and the length are those of one `Vec<u8>`, here and below.
-        let mut answer = unsafe {
-            cadmiumdove_walk_path(&mut self.handle, self.path.as_mut_ptr(), self.path.len(), &mut needed)
-        };
-        if answer != DONE {
-            self.path.resize(needed, 0);
-            answer = unsafe {
-                cadmiumdove_walk_path(&mut self.handle, self.path.as_mut_ptr(), self.path.len(), &mut needed)
-            };
+        self.path.clear();
+        let mut length = self.write_path();
+        if length > self.path.capacity() {
+            self.path.reserve(length);
+            length = self.write_path();
         }
-        assert_eq!(answer, DONE, "the room that was needed suffices");
-        self.path.truncate(needed);
+        assert!(length <= self.path.capacity(), "the room that was needed suffices");
+        // SAFETY: the answer was `DONE`, so these bytes were written.
+        unsafe { self.path.set_len(length) }
+    }
+
+    /// Writes the path of the last step to the room of `self.path`, if it is long enough, and returns its length.
+    fn write_path(&mut self) -> usize {
+        let mut needed = 0;
+        let room = self.path.spare_capacity_mut();
+        // SAFETY: the pointer and the length are those of one slice, which is only written.
+        let answer = unsafe {
+            cadmiumdove_walk_path(&mut self.handle, room.as_mut_ptr().cast(), room.len(), &mut needed)
+        };
+        debug_assert_eq!(answer == DONE, needed <= room.len());
+        needed
     }
 
     /// The path of the last step.
@@ -247,17 +254,20 @@ impl Drop for Walk {
 /// The pattern that stands for the text alone.
 pub(crate) fn escape(text: &str) -> String {
     // A special character becomes three bytes.
-    let mut bytes = vec![0; text.len() * 3];
+    let mut bytes = Vec::with_capacity(text.len() * 3);
+    let room = bytes.spare_capacity_mut();
     let mut needed = 0;
-    // SAFETY: the pointers and lengths are those of one `&str` and of one `Vec<u8>`.
+    // SAFETY: the pointers and lengths are those of one `&str` and of one slice, which is only written.
     let answer = unsafe {
-        cadmiumdove_pattern_escape(text.as_ptr(), text.len(), bytes.as_mut_ptr(), bytes.len(), &mut needed)
+        cadmiumdove_pattern_escape(text.as_ptr(), text.len(), room.as_mut_ptr().cast(), room.len(), &mut needed)
     };
     if answer == OUT_OF_MEMORY {
         out_of_memory()
     }
     assert_eq!(answer, DONE, "a buffer of three times the length suffices");
-    bytes.truncate(needed);
+    // SAFETY: so many bytes were written.
+    unsafe { bytes.set_len(needed) }
+    bytes.shrink_to_fit();
     String::from_utf8(bytes).expect("an escaped text is UTF-8")
 }
 

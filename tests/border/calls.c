@@ -71,9 +71,9 @@ static int matching(void) {
     CHECK(fault.place == 7 && fault.message == 7);
     CHECK(matches(&pattern, "A/b", 0) == CADMIUMDOVE_YES);
     CHECK(matches(&pattern, "a/b", 0) == CADMIUMDOVE_NO);
-    CHECK(matches(&pattern, "a/b", CADMIUMDOVE_WITHOUT_CASE) == CADMIUMDOVE_YES);
+    CHECK(matches(&pattern, "a/b", CADMIUMDOVE_CASE_INSENSITIVE) == CADMIUMDOVE_YES);
     CHECK(matches(&pattern, "A/b", CADMIUMDOVE_LITERAL_SEPARATOR) == CADMIUMDOVE_NO);
-    CHECK(matches(&pattern, "a/b", CADMIUMDOVE_WITHOUT_CASE | CADMIUMDOVE_LITERAL_SEPARATOR) == CADMIUMDOVE_NO);
+    CHECK(matches(&pattern, "a/b", CADMIUMDOVE_CASE_INSENSITIVE | CADMIUMDOVE_LITERAL_SEPARATOR) == CADMIUMDOVE_NO);
     struct cadmiumdove_pattern moved = pattern;
     CHECK(matches(&moved, "A", 0) == CADMIUMDOVE_YES);
     cadmiumdove_pattern_free(&moved);
