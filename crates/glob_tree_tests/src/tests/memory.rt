@@ -1,6 +1,6 @@
 //! Each request for memory refused in turn: the answer is out of memory, or that with ample memory. No block is left.
 use super::answers::{CHANGES, check_root};
-use super::made::{check, looked};
+use super::made::{check, listed, looked};
 use glob_testing::rationing::Rationed;
 use glob_tree::{ListError, Look, MemTree, Tree, TreeRefusal};
 use std::alloc::Allocator;
@@ -72,4 +72,32 @@ fn an_empty_tree_needs_no_memory(rt: HostRuntime) {
     let counted = Rationed::refusing(0, rt.alloc());
     check(&rt, MemTree::new(&counted).is_ok(), "a tree");
     check(&rt, counted.ration.asked() == 0, "requests");
+}
+
+/// Adds a hundred files to the root, with a request for each name and a few for the list.
+fn add_hundred<A: Allocator + Copy>(rt: &(impl Abort + AllocGlobal), tree: &mut MemTree<A>) {
+    for number in 100..200u32 {
+        let path = format!(in rt.alloc(); "/{number}").expect(rt, "memory");
+        check(rt, tree.add_other(path.as_str()).is_ok(), path.as_str());
+    }
+}
+
+/// A change and a listing take a request for each name, and a few for the list. A look takes none.
+#[test]
+fn a_name_takes_one_request(rt: HostRuntime) {
+    let counted = Rationed::refusing(0, rt.alloc());
+    let mut tree = MemTree::new(&counted).expect(&rt, "memory");
+    add_hundred(&rt, &mut tree);
+    let added = counted.ration.asked();
+    check(&rt, added <= 110, "requests of changes");
+    check(&rt, looked(&rt, &mut tree, "./150") == Look::Other, "look");
+    check(
+        &rt,
+        looked(&rt, &mut tree, "150/../200") == Look::Missing,
+        "look",
+    );
+    check(&rt, counted.ration.asked() == added, "requests of looks");
+    check(&rt, listed(&rt, &mut tree, "/").len() == 100, "entries");
+    let more = counted.ration.asked().saturating_sub(added);
+    check(&rt, more <= 110, "requests of a listing");
 }
