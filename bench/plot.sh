@@ -1,21 +1,21 @@
 #!/usr/bin/env bash
-# Draws results/match.md, what `bench/run --keep` wrote, as results/match-light.svg and match-dark.svg: for each pattern
-# our time as a part of the crate's. It needs gnuplot.
+# Draws results/instructions.md, what `bench/run --instructions --keep` wrote, as instructions-light.svg and -dark.svg
+# beside it: for each pattern our instructions as a part of the crate's. It needs gnuplot.
 set -euo pipefail
 cd "$(dirname "$(readlink -f "${BASH_SOURCE[0]}")")/results"
 rows=$(mktemp)
 trap 'rm -f "$rows"' EXIT
 # the rows of single patterns, the last first, since gnuplot counts upwards
-sed -nE 's/^\| match `([^`]*)`([^|]*[^0-9|])? \| .* \| ([0-9.]+) \|$/\3\t\1\2/p' match.md | grep -v ' times' | tac >"$rows"
+sed -nE 's/^\| match `([^`]*)`([^|]*[^0-9|])? \| .* \| ([0-9.]+) \|$/\3\t\1\2/p' instructions.md | tac >"$rows"
 for shade in light:#24292f:#0969da dark:#e6edf3:#58a6ff; do
     IFS=: read -r name text bar <<<"$shade"
     gnuplot <<PLOT
 set terminal svg size 720,$((60 + 24 * $(wc -l <"$rows"))) font "sans-serif,13"
-set output "match-$name.svg"
+set output "instructions-$name.svg"
 set datafile separator "\t"
 set border 0 linecolor rgb "$text"
 set tics nomirror scale 0 textcolor rgb "$text"
-set xlabel "time, where the crate takes 1" textcolor rgb "$text"
+set xlabel "instructions, where the crate takes 1" textcolor rgb "$text"
 set xrange [0:*]
 set arrow from 1, graph 0 to 1, graph 1 nohead dashtype 2 linecolor rgb "$text"
 set style fill solid noborder
