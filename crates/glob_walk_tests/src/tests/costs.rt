@@ -1,9 +1,9 @@
 //! How many requests for memory a walk makes, and for how many bytes. The clock is not asked.
-use super::checks::{gather, next_of, start};
+use super::checks::{CASE, gather, next_of, start};
 use super::made::{check_row, made, text_of};
 use super::reference::Job;
 use crate::trees::{LyingTree, Ready};
-use glob::{End, Paths, Tree};
+use glob::{End, Paths, Pattern, Tree};
 use glob_testing::rationing::{Ration, Rationed};
 use std::alloc::{Allocator, Global};
 use std::process::Abort;
@@ -16,8 +16,7 @@ struct Cost {
     paths: u64,
 }
 
-/// What a walk over so many files costs, item by item or as a whole, where it comes to its end. The tree itself takes
-/// no memory then.
+/// What a walk over so many files costs, item by item or as a whole, where it comes to its end.
 fn cost_in<A: Allocator + Copy>(
     rt: &impl Abort,
     alloc: A,
@@ -26,7 +25,19 @@ fn cost_in<A: Allocator + Copy>(
     pattern: &str,
     whole: bool,
 ) -> Cost {
-    let tree = LyingTree::new(made(rt, Ready::files(alloc, files)));
+    let tree = LyingTree::new(made(rt, Ready::files(alloc, files, "")));
+    cost_over(rt, alloc, ration, tree, pattern, whole)
+}
+
+/// The same over a tree that takes no memory itself.
+fn cost_over<T: Tree>(
+    rt: &impl Abort,
+    alloc: T::Alloc,
+    ration: &Ration,
+    tree: T,
+    pattern: &str,
+    whole: bool,
+) -> Cost {
     let (requests, bytes) = (ration.asked(), ration.bytes());
     let paths = if whole {
         count_gathered(rt, alloc, tree, pattern)
@@ -107,6 +118,34 @@ fn check_walk(
     check_row(rt, cost.paths == paths, pattern);
     let bytes = paths.saturating_mul(room).saturating_add(8_192);
     check_cost(rt, cost, paths.saturating_add(most), bytes, pattern);
+}
+
+/// How many requests a match of the pattern with the text makes.
+fn requests_of_match(rt: &(impl Abort + AllocGlobal), pattern: &str, text: &str) -> u64 {
+    let counted = Rationed::refusing(0, rt.alloc());
+    let pattern = made(rt, Pattern::new(&counted, pattern));
+    let before = counted.ration.asked();
+    assert!(rt; made(rt, pattern.matches_with(text, CASE)), "{text}");
+    counted.ration.asked().saturating_sub(before)
+}
+
+/// A name is matched once: where a match takes memory, it is that of one match for each name.
+#[test]
+fn each_name_is_matched_once(rt: HostRuntime) {
+    let end = text_of(&rt, &[("a", 40)]);
+    let pattern = text_of(&rt, &[("*a", 40)]);
+    let each = requests_of_match(&rt, pattern.as_str(), end.as_str());
+    assert!(rt; each > 0);
+    for whole in [false, true] {
+        let counted = Rationed::refusing(0, rt.alloc());
+        let tree = made(&rt, Ready::files(&counted, 200, end.as_str()));
+        let tree = LyingTree::new(tree);
+        let ration = &counted.ration;
+        let cost = cost_over(&rt, &counted, ration, tree, pattern.as_str(), whole);
+        assert!(rt; cost.paths == 200);
+        let most = each.saturating_add(1).saturating_mul(200);
+        check_cost(&rt, cost, most.saturating_add(50), u64::MAX, "*a");
+    }
 }
 
 /// A directory of many files is walked whole.

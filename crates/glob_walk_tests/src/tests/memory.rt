@@ -18,7 +18,7 @@ const FILES: u32 = 1_000;
 /// The first item of a walk over a thousand files is the first of them. Gives how many requests for memory were made
 /// before the walk.
 fn check_first<A: Allocator + Copy>(rt: &impl Abort, alloc: A, ration: &Ration) -> u64 {
-    let ready = made(rt, Ready::files(alloc, FILES));
+    let ready = made(rt, Ready::files(alloc, FILES, ""));
     let before = ration.asked();
     let mut paths = made(rt, start(alloc, LyingTree::new(ready), Job::of("*")));
     check_next(rt, &mut paths, "00000");

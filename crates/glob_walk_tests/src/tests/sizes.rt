@@ -53,7 +53,7 @@ fn check_at_once<T: Tree<Alloc = Global>>(
 
 /// A directory of so many files.
 fn ready(rt: &(impl Abort + AllocGlobal), files: u32) -> LyingTree<Ready<Global>> {
-    LyingTree::new(made(rt, Ready::files(rt.alloc(), files)))
+    LyingTree::new(made(rt, Ready::files(rt.alloc(), files, "")))
 }
 
 /// A directory of so many files is walked in both ways.

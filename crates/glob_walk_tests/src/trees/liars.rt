@@ -212,11 +212,11 @@ pub struct Ready<A: Allocator + Copy> {
 }
 
 impl<A: Allocator + Copy> Ready<A> {
-    /// A directory of so many files, which are named by five digits.
-    pub fn files(alloc: A, count: u32) -> Result<Self, ListError> {
+    /// A directory of so many files, which are named by five digits and this end.
+    pub fn files(alloc: A, count: u32, end: &str) -> Result<Self, ListError> {
         let mut entries = Vec::new(alloc);
         for number in 0..count {
-            let Ok(name) = format!(in alloc; "{number:05}") else {
+            let Ok(name) = format!(in alloc; "{number:05}{end}") else {
                 return Err(ListError::Memory);
             };
             add(alloc, &mut entries, name.as_str(), false)?;
