@@ -2,3 +2,4 @@ pub mod Ends
 pub mod More
 pub mod Pieces
 pub mod Rows
+pub mod Spans

@@ -3,12 +3,13 @@ ghost use Rattle.glob_pattern.specs.Computing.Tokens.{tokens_of};
 ghost use Rattle.glob_pattern.specs.Matching.Texts.{Matches};
 ghost use Rattle.glob_pattern.specs.Private.TextTable.{table_of};
 ghost use Rattle.glob_captures.specs.Captures.{AreCaptures};
-ghost use Rattle.glob_captures.specs.Private.Rests.{shape_at, shapes_from, TakesRest, AreRests, AreAllRests};
+ghost use Rattle.glob_captures.specs.Private.Rests.{shape_at, shapes_from, TakesRest, AreInnerRests, IsSpan};
 ghost use Rattle.glob_captures.specs.Private.Ends.{may_end, IsFirstEnd, IsShortestEnd, HasShortestEnds};
 
 use crate::error::CapturesError;
 use crate::piece::Piece;
 use crate::rests::{Rests, rests_of};
+use crate::span::{Span, span_of};
 use crate::steps::{MOST_STEPS, bytes_of, form_of, is_too_large, opens};
 use glob_pattern::{MatchOptions, Pattern, characters_of, tokens_len};
 use std::alloc::{AllocError, Allocator};
@@ -43,12 +44,14 @@ pub fn captures<A: Allocator + Copy, B: Allocator + Copy>(
         return Ok(None);
     }
     let characters = characters_of(alloc, text)?;
-    let rests = rests_of(alloc, pattern, options, characters.as_slice())?;
+    let span = span_of(pattern);
+    let rests = rests_of(alloc, pattern, options, characters.as_slice(), span)?;
     let pieces = shortest_pieces(
         alloc,
         pattern,
         options,
         characters.as_slice(),
+        span,
         rests.as_slice(),
     )?;
     Ok(Some(pieces))
@@ -60,10 +63,12 @@ fn shortest_pieces<A: Allocator + Copy, B: Allocator>(
     pattern: &Pattern<B>,
     options: MatchOptions,
     text: &[char],
+    span: Span,
     rests: &[Rests<A>],
 ) -> Result<Vec<Piece, A>, AllocError>
     requires bytes { length (encode_utf8_all text.now) < 2 ^ 64 }
-    requires rests { AreAllRests options (tokens_of (chars pattern.now)) text.now rests.now }
+    requires span { IsSpan (tokens_of (chars pattern.now)) span }
+    requires rests { AreInnerRests options (tokens_of (chars pattern.now)) text.now span rests.now }
     requires taken { TakesRest options (tokens_of (chars pattern.now)) text.now 0 0 }
     ensures { IfOk result (λ pieces.
         HasShortestEnds options (tokens_of (chars pattern.now)) text.now pieces.items) }
@@ -73,8 +78,7 @@ fn shortest_pieces<A: Allocator + Copy, B: Allocator>(
     let mut place = 0;
     let mut start = 0;
     for token in 0..tokens {
-        let next = rests[tokens - 1 - token].as_slice();
-        let after = shortest_end(pattern, token, options, text, place, next);
+        let after = shortest_end(pattern, token, options, text, place, span, rests);
         let end = start + bytes_of(&text[place..after]);
         pieces.push(Piece { start, end })?;
         place = after;
@@ -83,18 +87,20 @@ fn shortest_pieces<A: Allocator + Copy, B: Allocator>(
     Ok(pieces)
 }
 
-/// Where the shortest piece of a token from a place on ends. The options are those that `next` was made with.
-fn shortest_end<A: Allocator>(
-    pattern: &Pattern<A>,
+/// Where the shortest piece of a token from a place on ends. The options are those that `rests` was made with.
+fn shortest_end<A: Allocator, B: Allocator>(
+    pattern: &Pattern<B>,
     token: usize,
     options: MatchOptions,
     text: &[char],
     place: usize,
-    next: &[bool],
+    span: Span,
+    rests: &[Rests<A>],
 ) -> usize
     requires token { token < length (tokens_of (chars pattern.now)) }
     requires place { place ≤ length text.now }
-    requires next { AreRests options (tokens_of (chars pattern.now)) text.now (token + 1) 0 next.now }
+    requires span { IsSpan (tokens_of (chars pattern.now)) span }
+    requires rests { AreInnerRests options (tokens_of (chars pattern.now)) text.now span rests.now }
     requires taken { TakesRest options (tokens_of (chars pattern.now)) text.now token place }
     ensures low { place ≤ result }
     ensures high { result ≤ length text.now }
@@ -104,10 +110,13 @@ fn shortest_end<A: Allocator>(
 {
     let _options = options;
     let form = form_of(pattern, token);
-    if form.grows {
-        first_end(form.closes, text, place, next)
-    } else {
+    if !form.grows {
         place + 1
+    } else if token == span.last {
+        text.len() - (tokens_len(pattern) - 1 - token)
+    } else {
+        let next = rests[span.last - 1 - token].as_slice();
+        first_end(form.closes, text, place, next)
     }
 }
 

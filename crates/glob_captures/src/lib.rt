@@ -6,6 +6,7 @@ mod error;
 mod piece;
 mod reaching;
 mod rests;
+mod span;
 mod steps;
 mod written;
 

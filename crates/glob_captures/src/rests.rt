@@ -3,10 +3,10 @@ ghost use Rattle.std.specs.Prelude.{◌≡◌, ◌+◌, ◌-◌, ◌<◌, ◌≤
 ghost use Rattle.glob_pattern.specs.Computing.Tokens.{tokens_of};
 ghost use Rattle.glob_text.specs.Text.{opens};
 ghost use Rattle.glob_pattern.specs.Private.TextTable.{table_of};
-ghost use Rattle.glob_pattern.specs.Grammar.Tokens.{Token};
-ghost use Rattle.glob_pattern.specs.declared.options.MatchOptions.{MatchOptions as Options};
-ghost use Rattle.glob_captures.specs.Private.Rests.{AreRests, AreAllRests};
+ghost use Rattle.std.specs.Prelude.{IsTrue};
+ghost use Rattle.glob_captures.specs.Private.Rests.{AreRests, AreInnerRests, IsSpan, TakesRest, grows, shape_at};
 
+use crate::span::Span;
 use crate::steps::{Form, form_of, opens, takes_at};
 use glob_pattern::{MatchOptions, Pattern, tokens_len};
 use std::alloc::{AllocError, Allocator};
@@ -36,68 +36,96 @@ impl<A: Allocator> Rests<A> {
     }
 }
 
-/// For no tokens, first, then for the last one, the last two and so on: from where on they take the rest.
+/// For the tokens after each wildcard but the last one, from where on they take the rest: the last tokens first. For the
+/// tokens after a token that is no wildcard the row is empty.
 pub fn rests_of<A: Allocator + Copy, B: Allocator>(
     alloc: A,
     pattern: &Pattern<B>,
     options: MatchOptions,
     text: &[char],
+    span: Span,
 ) -> Result<Vec<Rests<A>, A>, AllocError>
+    requires span { IsSpan (tokens_of (chars pattern.now)) span }
+    requires taken { TakesRest options (tokens_of (chars pattern.now)) text.now 0 0 }
     ensures { IfOk result (λ rows.
-        AreAllRests options (tokens_of (chars pattern.now)) text.now rows.items) }
+        AreInnerRests options (tokens_of (chars pattern.now)) text.now span rows.items) }
 {
-    let tokens = tokens_len(pattern);
-    let mut rows = Vec::new(alloc);
-    rows.push(rests_at_end(alloc, text)?)?;
-    for done in 0..tokens {
-        let row = rests_before(
-            alloc,
-            pattern,
-            tokens - 1 - done,
-            options,
-            text,
-            rows[done].as_slice(),
-        )?;
-        rows.push(row)?;
+    let mut rows = Vec::with_capacity(alloc, span.last - span.first)?;
+    if span.first == span.last {
+        return Ok(rows);
+    }
+    let mut row = rests_after_span(alloc, pattern, options, text, span)?;
+    for done in 0..span.last - span.first {
+        let token = span.last - done;
+        add_token(pattern, token, options, text, row.as_mut_slice());
+        let kept = row_after(alloc, pattern, token - 1, row.as_slice())?;
+        rows.push(kept)?;
     }
     Ok(rows)
 }
 
-/// For no tokens: at the end alone.
-fn rests_at_end<A: Allocator + Copy>(alloc: A, text: &[char]) -> Result<Rests<A>, AllocError>
-    ensures { IfOk result (λ rests. (o : Options) (tokens : List Token)
-        → AreRests o tokens text.now (length tokens) 0 rests) }
-{
-    let mut places = vec![in alloc; false; text.len() + 1]?;
-    places[text.len()] = true;
-    Ok(Rests { places })
-}
-
-/// For one more token, from those for the tokens after it.
-fn rests_before<A: Allocator + Copy, B: Allocator>(
+/// The row, if it is for the tokens after a wildcard. Otherwise none is needed, and it is empty.
+fn row_after<A: Allocator + Copy, B: Allocator>(
     alloc: A,
     pattern: &Pattern<B>,
     token: usize,
+    row: &[bool],
+) -> Result<Rests<A>, AllocError>
+    requires { token < length (tokens_of (chars pattern.now)) }
+    ensures { IfOk result (λ kept.
+        IsTrue (grows (shape_at (tokens_of (chars pattern.now)) token)) → kept ≡ row.now) }
+{
+    let places = if form_of(pattern, token).grows {
+        Vec::from_slice(alloc, row)?
+    } else {
+        Vec::new(alloc)
+    };
+    Ok(Rests { places })
+}
+
+/// For the tokens after the last wildcard, each of which takes one character: at one place alone.
+fn rests_after_span<A: Allocator + Copy, B: Allocator>(
+    alloc: A,
+    pattern: &Pattern<B>,
     options: MatchOptions,
     text: &[char],
-    next: &[bool],
-) -> Result<Rests<A>, AllocError>
+    span: Span,
+) -> Result<Vec<bool, A>, AllocError>
+    requires span { IsSpan (tokens_of (chars pattern.now)) span }
+    requires some { span.first < span.last }
+    requires taken { TakesRest options (tokens_of (chars pattern.now)) text.now 0 0 }
+    ensures { IfOk result (λ row. AreRests options (tokens_of (chars pattern.now)) text.now
+        (span.last + 1) 0 row.items) }
+{
+    let _options = options;
+    let mut row = vec![in alloc; false; text.len() + 1]?;
+    row[text.len() - (tokens_len(pattern) - 1 - span.last)] = true;
+    Ok(row)
+}
+
+/// From the row of the tokens after one to that with it.
+fn add_token<A: Allocator>(
+    pattern: &Pattern<A>,
+    token: usize,
+    options: MatchOptions,
+    text: &[char],
+    row: &mut [bool],
+)
     requires token { token < length (tokens_of (chars pattern.now)) }
-    requires next { AreRests options (tokens_of (chars pattern.now)) text.now (token + 1) 0 next.now }
-    ensures { IfOk result (λ rests.
-        AreRests options (tokens_of (chars pattern.now)) text.now token 0 rests) }
+    requires next { AreRests options (tokens_of (chars pattern.now)) text.now (token + 1) 0 row.old }
+    ensures { AreRests options (tokens_of (chars pattern.now)) text.now token 0 row.new }
 {
     let form = form_of(pattern, token);
-    let mut places = Vec::from_slice(alloc, next)?;
     let mut more = false;
-    places[text.len()] = is_taken(form, next[text.len()], false);
+    let mut rest = row[text.len()];
+    row[text.len()] = is_taken(form, rest, false);
     for done in 0..text.len() {
         let place = text.len() - 1 - done;
-        let rest = next[place + 1];
+        let here = row[place];
         more = takes_more(pattern, token, form, options, text, place, rest, more);
-        places[place] = is_taken(form, next[place], more);
+        row[place] = is_taken(form, here, more);
+        rest = here;
     }
-    Ok(Rests { places })
 }
 
 /// Whether a token takes the character at a place, and then its piece ends, where the tokens after it take the rest from

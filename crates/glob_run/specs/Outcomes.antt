@@ -2,6 +2,7 @@
 use Rattle.std.specs.Prelude.{◌≡◌, ℕ, ◌<◌, ◌⊎◌, ◌++◌, List, Option, chars, take}
 use Rattle.std.specs.Io.KnownBytes.{Appends, Keeps}
 use Rattle.glob_pattern.specs.Escaping.{escaped_text}
+use Rattle.glob_pattern.specs.Matching.Texts.{Matches}
 use Rattle.glob_lines.specs.Lines.{FiltersRecords, FiltersRecordBytes, ended_record, line_feed}
 use Rattle.glob_pattern.specs.declared.options.MatchOptions.{MatchOptions}
 
@@ -26,6 +27,12 @@ CopiesRecords end options pattern input old new status =
     (status ≡ 0 → (n : ℕ) × (0 < n) × FiltersRecords end options pattern input old new n)
     × (status ≡ 1 → FiltersRecords end options pattern input old new 0)
     × (status ≡ 2 → FiltersRecordBytes end options pattern input old new)
+
+-- Status 0: the pattern matches the text. Status 1: it does not.
+unfoldable pub Explains : MatchOptions → (pattern text : List ℕ) → (status : ℕ) → Type 0
+Explains options pattern text status =
+    (status ≡ 0 → Matches options (chars pattern) (chars text))
+    × (status ≡ 1 → ¬ (Matches options (chars pattern) (chars text)))
 
 -- Status 0: these bytes were written. Status 2: the first n of them were, for some n. There is no other status.
 unfoldable pub WritesText : (text : List ℕ) → (old new : Option (List ℕ)) → (status : ℕ) → Type 0

@@ -1,24 +1,23 @@
 //! The command `explain`: which piece of a text each token of a pattern takes, or why there are none.
 ghost use Rattle.std.specs.Prelude.{◌≡◌, ◌≤◌, IfOk, chars};
 ghost use Rattle.glob_pattern.specs.Grammar.Units.{IsAccepted};
-ghost use Rattle.glob_run.specs.Outcomes.{IsRefused};
+ghost use Rattle.glob_run.specs.Outcomes.{Explains, IsRefused};
 
 mod caret;
 mod instead;
-mod spelling;
 
 use crate::writing::write_whole;
 use crate::{MATCHED, UNMATCHED, fault};
 use caret::add_caret;
-use glob_captures::{CapturesError, Piece, Reached, captures, reach};
-use glob_pattern::{MatchOptions, Pattern, PatternError, PatternRefusal, tokens_len};
+use glob_captures::{CapturesError, Piece, Reached, TokenKind, captures, reach, tokens};
+use glob_pattern::{MatchOptions, Pattern, PatternError, PatternRefusal};
 use instead::{accepted_instead, foreign_instead};
-use spelling::{split_token, wanted_by};
 use std::alloc::{AllocError, Allocator};
 use std::io::Write;
 
 /// Writes how the pattern of the text takes the other text, and returns the status: 0 where it matches, 1 where it does
 /// not, 2 at a fault. A pattern that is refused is written to `errors`, with a caret under its fault.
+#[tactic(auto, unfolding(crate::specs::Outcomes::Explains))]
 pub fn run_explain<A: Allocator + Copy, W: Write, E: Write>(
     alloc: A,
     options: MatchOptions,
@@ -30,27 +29,29 @@ pub fn run_explain<A: Allocator + Copy, W: Write, E: Write>(
     ensures most { result ≤ 2 }
     ensures refused { (¬ (IsAccepted (chars pattern.now)))
         → IsRefused output.old output.new result }
+    ensures explained { Explains options pattern.now text.now result }
 {
     match Pattern::new(alloc, pattern) {
-        Ok(made) => write_explained(alloc, &made, pattern, text, options, output, errors),
+        Ok(made) => write_explained(alloc, &made, text, options, output, errors),
         Err(PatternRefusal::Syntax(error)) => refuse(alloc, pattern, error, errors),
         Err(PatternRefusal::Memory) => fault(alloc, errors, "out of memory"),
     }
 }
 
-/// Writes the lines of a pattern, which is written so, and a text.
+/// Writes the lines of a pattern and a text, and returns the status.
+#[tactic(auto, unfolding(crate::specs::Outcomes::Explains))]
 fn write_explained<A: Allocator + Copy, W: Write, E: Write>(
     alloc: A,
     pattern: &Pattern<A>,
-    written: &str,
     text: &str,
     options: MatchOptions,
     output: &mut W,
     errors: &mut E,
 ) -> u8
-    ensures { result ≤ 2 }
+    ensures most { result ≤ 2 }
+    ensures explained { Explains options pattern.now text.now result }
 {
-    match explained(alloc, pattern, written, text, options) {
+    match explained(alloc, pattern, text, options) {
         Ok((lines, status)) => match write_whole(output, lines.as_bytes()) {
             Ok(()) => status,
             Err(_) => fault(alloc, errors, "writing failed"),
@@ -60,26 +61,24 @@ fn write_explained<A: Allocator + Copy, W: Write, E: Write>(
 }
 
 /// The lines of a pattern and a text, and the status.
+#[tactic(auto, unfolding(crate::specs::Outcomes::Explains))]
 fn explained<A: Allocator + Copy>(
     alloc: A,
     pattern: &Pattern<A>,
-    written: &str,
     text: &str,
     options: MatchOptions,
 ) -> Result<(String<A>, u8), CapturesError>
-    ensures { IfOk result (λ made. made.1 ≤ 2) }
+    ensures most { IfOk result (λ made. made.1 ≤ 2) }
+    ensures explained { IfOk result (λ made. Explains options pattern.now text.now made.1) }
 {
     match captures(alloc, pattern, text, options)? {
         Some(pieces) => Ok((
-            piece_lines(alloc, written, text, pieces.as_slice())?,
+            piece_lines(alloc, pattern, text, pieces.as_slice())?,
             MATCHED,
         )),
         None => {
             let reached = reach(alloc, pattern, text, options)?;
-            Ok((
-                reach_lines(alloc, pattern, written, text, &reached)?,
-                UNMATCHED,
-            ))
+            Ok((reach_lines(alloc, pattern, text, &reached)?, UNMATCHED))
         }
     }
 }
@@ -87,17 +86,15 @@ fn explained<A: Allocator + Copy>(
 /// A line for each token: how it is written, a tab, and its piece.
 fn piece_lines<A: Allocator + Copy>(
     alloc: A,
-    written: &str,
+    pattern: &Pattern<A>,
     text: &str,
     pieces: &[Piece],
 ) -> Result<String<A>, AllocError> {
+    let list = tokens(alloc, pattern)?;
     let mut lines = String::new(alloc);
-    let mut rest = written;
-    for piece in pieces {
-        let (token, after) = split_token(rest);
-        let taken = text.get(piece.start..piece.end).unwrap_or("");
-        add_row(&mut lines, token, taken)?;
-        rest = after;
+    for (token, piece) in list.iter().zip(pieces) {
+        let written = part_of(pattern.as_str(), token.piece);
+        add_row(&mut lines, written, part_of(text, *piece))?;
     }
     Ok(lines)
 }
@@ -107,44 +104,52 @@ fn piece_lines<A: Allocator + Copy>(
 fn reach_lines<A: Allocator + Copy>(
     alloc: A,
     pattern: &Pattern<A>,
-    written: &str,
     text: &str,
     reached: &Reached<A>,
 ) -> Result<String<A>, AllocError> {
     let mut lines = String::new(alloc);
     let before = text.get(..reached.place).unwrap_or(text);
     add_caret(&mut lines, text, before.chars().count())?;
-    add_waiting(
-        &mut lines,
-        tokens_len(pattern),
-        written,
-        reached.waiting.as_slice(),
-    )?;
+    add_waiting(alloc, &mut lines, pattern, reached.waiting.as_slice())?;
     if reached.waiting.is_empty() {
         lines.push_str("the pattern ends here\n")?;
     }
-    add_advice(&mut lines, foreign_instead(alloc, written)?)?;
+    add_advice(&mut lines, foreign_instead(alloc, pattern.as_str())?)?;
     Ok(lines)
 }
 
-/// A line for each token that waits: how it is written, and what it wants.
-fn add_waiting<A: Allocator>(
+/// A line for each token that waits: how it is written, a tab, and what it wants.
+fn add_waiting<A: Allocator + Copy>(
+    alloc: A,
     lines: &mut String<A>,
-    tokens: usize,
-    written: &str,
+    pattern: &Pattern<A>,
     waiting: &[usize],
 ) -> Result<(), AllocError> {
-    let mut rest = written;
-    let mut left = waiting;
-    for number in 0..tokens {
-        let (token, after) = split_token(rest);
-        if left.first() == Some(&number) {
-            add_row(lines, token, wanted_by(token))?;
-            left = left.get(1..).unwrap_or(&[]);
+    let list = tokens(alloc, pattern)?;
+    for number in waiting {
+        if let Some(token) = list.as_slice().get(*number) {
+            let written = part_of(pattern.as_str(), token.piece);
+            add_row(lines, written, wanted_by(token.kind))?;
         }
-        rest = after;
     }
     Ok(())
+}
+
+/// A part of a text.
+fn part_of(text: &str, piece: Piece) -> &str {
+    text.get(piece.start..piece.end).unwrap_or("")
+}
+
+/// What a token of this kind wants.
+fn wanted_by(kind: TokenKind) -> &'static str {
+    match kind {
+        TokenKind::Literal => "wants this character",
+        TokenKind::AnyChar => "wants any one character",
+        TokenKind::AnySequence => "wants any characters",
+        TokenKind::Recursive => "wants whole components",
+        TokenKind::OneOf => "wants a character that it lists",
+        TokenKind::NoneOf => "wants a character that it does not list",
+    }
 }
 
 /// What to write instead, if there is something.

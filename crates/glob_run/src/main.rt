@@ -13,7 +13,7 @@ ghost use Rattle.glob_walk.specs.Listing.{listing};
 ghost use Rattle.glob_pattern.specs.declared.options.MatchOptions.{MatchOptions};
 ghost use Rattle.glob_run.specs.CommandLine.{request_asked};
 ghost use Rattle.glob_run.specs.FoundPaths.{IsFindStatus, WritesFound};
-ghost use Rattle.glob_run.specs.Outcomes.{CopiesRecords, IsEscapedLine, IsRefused, WritesEscaped, WritesText};
+ghost use Rattle.glob_run.specs.Outcomes.{CopiesRecords, Explains, IsEscapedLine, IsRefused, WritesEscaped, WritesText};
 ghost use Rattle.glob_run.specs.Requests.{Escaped, Lines, Page, Paths, Pieces, VersionLine};
 ghost use Rattle.glob_run.specs.declared.command.Settings.{Settings};
 ghost use Rattle.glob_run.specs.declared.help.TheConstants.{HELP, VERSION};
@@ -97,6 +97,9 @@ pub fn run_words<T: Tree, R: Read + Drop, W: Write, E: Write>(
     ensures unexplained { (options : MatchOptions) → (pattern text : List ℕ)
         → request_asked (map (λ w. w.now) words.now) ≡ Some (Pieces options pattern text)
         → (¬ (IsAccepted (chars pattern))) → IsRefused output.old output.new result }
+    ensures explained { (options : MatchOptions) → (pattern text : List ℕ)
+        → request_asked (map (λ w. w.now) words.now) ≡ Some (Pieces options pattern text)
+        → Explains options pattern text result }
     ensures page { request_asked (map (λ w. w.now) words.now) ≡ Some Page
         → WritesText HELP.now (W.contents output.old) (W.contents output.new) result }
     ensures version { request_asked (map (λ w. w.now) words.now) ≡ Some VersionLine

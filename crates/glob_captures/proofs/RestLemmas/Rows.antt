@@ -1,8 +1,8 @@
 -- A row of answers, one for each place, from the row of the tokens after the first.
-use Rattle.std.proofs.Common.{◌≡◌, ◌≢◌, ℕ, ◌+◌, ◌<◌, ◌↔◌, ⊎_elim, Bool, true, false, ◌&&◌, ◌||◌, not, List, [], ◌∷◌, length, get_or, set, map, replicate, IsTrue, refl, sym, ap, ap₂, subst, ◌∙◌, arith, add-one, drop-cons}
+use Rattle.std.proofs.Common.{◌≡◌, ℕ, ◌+◌, ◌<◌, ◌↔◌, ⊎_elim, Bool, false, ◌&&◌, ◌||◌, not, List, ◌∷◌, length, get_or, set, map, IsTrue, refl, sym, ap₂, subst, ◌∙◌, arith, add-one, drop-cons}
 use Rattle.std.proofs.lemmas.Bool.{cases_eq, false≢true}
 use Rattle.std.proofs.lemmas.Bool.Decides.{Decides-like, Decides-and, Decides-or}
-use Rattle.std.proofs.lemmas.List.{drop_all, length-set, length-map, length-replicate, get_or-replicate, get_or-set_same, get_or-set_other}
+use Rattle.std.proofs.lemmas.List.{length-set, length-map, get_or-set_same, get_or-set_other}
 use Rattle.glob_text.specs.Text.{Text, opens}
 use Rattle.glob_pattern.specs.Grammar.Tokens.{Token, shape_of}
 use Rattle.glob_pattern.specs.Matching.Splits.{Table, SplitsFrom}
@@ -93,25 +93,3 @@ AreRests-more o tokens text n k places b below rests here =
           (λ other. rw (get_or-set_other places k i b false other) (rests.rest i (omega arith) to))
           (cases_eq i k);
     }
-
--- for no tokens, the end alone
-pub AreRests-none : (o : MatchOptions) (tokens : List Token) (text : Text) (places : List Bool)
-    → places ≡ set (replicate (length text + 1) false) (length text) true → AreRests o tokens text (length tokens) 0 places
-unfolding TakesRest table_of
-AreRests-none o tokens text places e =
-    let l : ℕ = length text in
-    let falses : List Bool = replicate (l + 1) false in
-    let many : length falses ≡ l + 1 = length-replicate (l + 1) false in
-    let none : shapes_from tokens (length tokens) ≡ [] = drop_all (length tokens) (map shape_of tokens) (omega (arith, length-map tokens shape_of)) in
-    rw e
-    (record {
-      many = length-set falses l true ∙ many;
-      rest = λ k from to.
-          subst (λ ss. IsTrue (get_or (set falses l true) k false) ↔ SplitsFrom (table_of o tokens text) (length tokens) ss k) (sym none)
-          (⊎_elim
-          (λ (at : k ≡ l). ((λ _. at), (λ _. ap (λ i. get_or (set falses l true) i false) at ∙ get_or-set_same falses l true false (omega (arith, many)))))
-          (λ (other : k ≢ l).
-          let no : get_or (set falses l true) k false ≡ false = get_or-set_other falses l k true false other ∙ get_or-replicate (l + 1) k false false (omega arith) in
-          ((λ h. absurd (false≢true (sym no ∙ h))), (λ at. absurd (other at))))
-          (cases_eq k l));
-    })

@@ -1,5 +1,5 @@
 -- From where on the last tokens of a pattern take the rest of a text.
-use Rattle.std.specs.Prelude.{◌≡◌, ℕ, ◌+◌, ◌-◌, ◌<◌, ◌≤◌, ◌↔◌, Bool, true, false, List, [], ◌∷◌, length, map, drop, slice_index_or, IsTrue}
+use Rattle.std.specs.Prelude.{◌≡◌, ◌≢◌, ℕ, ◌+◌, ◌-◌, ◌<◌, ◌≤◌, ◌↔◌, Bool, true, false, List, [], ◌∷◌, length, map, drop, slice_index_or, IsTrue}
 use Rattle.glob_text.specs.Text.{Text}
 use Rattle.glob_pattern.specs.Grammar.Tokens.{Token, shape_of}
 use Rattle.glob_pattern.specs.Matching.Splits.{MayReach, TakesAll, SplitsFrom}
@@ -7,6 +7,7 @@ use Rattle.glob_pattern.specs.Private.TextTable.{table_of}
 use Rattle.glob_pattern.specs.declared.options.MatchOptions.{MatchOptions}
 use Rattle.glob_pattern.specs.declared.matcher.Shape.{Shape}
 use Rattle.glob_pattern.specs.declared.matcher.Shape.TheVariants.{One, Run, Deep}
+use Rattle.glob_captures.specs.declared.span.Span.{Span}
 use Rattle.glob_captures.specs.declared.steps.Form.{Form}
 
 -- the pieces of the shape may have any number of characters
@@ -51,7 +52,16 @@ pub record AreRests (o : MatchOptions) (tokens : List Token) (text : Text) (n fr
   pub rest : (k : ℕ) → from ≤ k → k ≤ length text
       → IsTrue (slice_index_or places k false) ↔ TakesRest o tokens text n k
 
--- for no tokens, for the last one, the last two and so on, for each place whether they take the text from there on
-pub record AreAllRests (o : MatchOptions) (tokens : List Token) (text : Text) (rows : List (List Bool)) : Type 0 where
-  pub many : length rows ≡ length tokens + 1
-  pub row : (i : ℕ) → i ≤ length tokens → AreRests o tokens text (length tokens - i) 0 (slice_index_or rows i [])
+-- Where the tokens are whose pieces may have any number of characters: none is before the first, and none after the last.
+pub record IsSpan (tokens : List Token) (span : Span) : Type 0 where
+  pub order : span.first ≤ span.last
+  pub within : span.last ≤ length tokens
+  pub inside : span.first ≢ length tokens → span.last < length tokens
+  pub before : (n : ℕ) → n < span.first → n < length tokens → grows (shape_at tokens n) ≡ false
+  pub after : (n : ℕ) → span.last < n → n < length tokens → grows (shape_at tokens n) ≡ false
+
+-- for the last tokens, from number `last` on, from the one before on and so on, the row of those that follow such a token
+pub record AreInnerRests (o : MatchOptions) (tokens : List Token) (text : Text) (span : Span) (rows : List (List Bool)) : Type 0 where
+  pub many : length rows ≡ span.last - span.first
+  pub row : (i : ℕ) → i < span.last - span.first → IsTrue (grows (shape_at tokens (span.last - i - 1)))
+      → AreRests o tokens text (span.last - i) 0 (slice_index_or rows i [])

@@ -12,6 +12,11 @@ shortest_pieces-requires-clause-bytes g c =
     let bytes = ap length (ap encode_utf8_all is ∙ encodes-chars c.args.text.now c.utf8.text) in
     omega (arith, bytes)
 
+pub rests_of-requires-clause-taken : goal.rests_of-requires-clause-taken
+rests_of-requires-clause-taken g c =
+    let is : c.as_slice.result.now ≡ chars c.args.text.now = c.as_slice.ensures.value ∙ c.in_ok-characters.ensures in
+    rw is (TakesRest-from_Matches c.args.options (chars c.args.pattern.now) (chars c.args.text.now) (c.in_ok-matches_with.ensures.answer.0 c.if-not-branch.false))
+
 pub shortest_pieces-requires-clause-taken : goal.shortest_pieces-requires-clause-taken
 shortest_pieces-requires-clause-taken g c =
     let is : c.as_slice-2.result.now ≡ chars c.args.text.now = c.as_slice-2.ensures.value ∙ c.in_ok-characters.ensures in

@@ -1,8 +1,7 @@
-use Rattle.std.proofs.Common.{◌≡◌, ◌+◌, ◌-◌, ℕ, chars, [], length, get_or, refl, sym, ap₂, ◌∙◌, subst, arith}
-use Rattle.std.proofs.lemmas.List.{get_or_default}
+use Rattle.std.proofs.Common.{◌≡◌, ◌+◌, ◌-◌, ℕ, chars, length, refl, ap₂, subst, arith}
 use Rattle.glob_pattern.specs.Computing.Tokens.{tokens_of}
 use Rattle.glob_captures.specs.declared.piece.Piece.{Piece}
-use Rattle.glob_captures.specs.Private.Rests.{TakesRest, AreRests}
+use Rattle.glob_captures.specs.Private.Rests.{TakesRest}
 use Rattle.glob_captures.specs.Private.Ends.{byte_place, LacksOnly}
 use Rattle.glob_captures.proofs.ByteLemmas.{length-encodes_take, length-encodes_piece, byte_place_later}
 use Rattle.glob_captures.proofs.RestLemmas.Ends.{LacksOnly-start, LacksOnly-more, TakesRest-after, HasShortestEnds-all}
@@ -15,18 +14,6 @@ loop-token-init g c = record {
   taken = c.requires.taken;
   found = rw c.in_ok-pieces.ensures.items (LacksOnly-start c.args.options (tokens_of (chars c.args.pattern.now)) c.args.text.now);
 }
-
-pub shortest_end-after-requires-clause-next : goal.shortest_end-after-requires-clause-next
-shortest_end-after-requires-clause-next g c =
-    let tokens = tokens_of (chars c.args.pattern.now) in
-    let i : ℕ = c.tokens_len-tokens.result - 1 - c.loop-token.token in
-    let row = c.requires.rests.row i (omega arith) in
-    let at : length tokens - i ≡ c.loop-token.token + 1 = omega arith in
-    let read : get_or c.args.rests.now i [] ≡ c.as_slice-next.result.now =
-    get_or_default c.args.rests.now i [] c.index-rests-tokens.result (omega (arith, c.requires.rests.many))
-    ∙ sym c.index-rests-tokens.is ∙ sym c.as_slice-next.ensures in
-    subst (λ n. AreRests c.args.options tokens c.args.text.now n 0 c.as_slice-next.result.now) at
-    (subst (λ places. AreRests c.args.options tokens c.args.text.now (length tokens - i) 0 places) read row)
 
 pub bytes_of-requires : goal.bytes_of-requires
 bytes_of-requires g c =

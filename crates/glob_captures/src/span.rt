@@ -1,0 +1,35 @@
+//! The wildcards `*` and `**` of a pattern: between them pieces have to be searched.
+ghost use Rattle.std.specs.Prelude.{chars};
+ghost use Rattle.glob_pattern.specs.Computing.Tokens.{tokens_of};
+ghost use Rattle.glob_captures.specs.Private.Rests.{IsSpan};
+
+use crate::steps::form_of;
+use glob_pattern::{Pattern, tokens_len};
+use std::alloc::Allocator;
+
+/// The numbers of the first and the last token that is `*` or `**`. With none, both are the number of all tokens.
+#[derive(Clone, Copy)]
+pub struct Span {
+    /// That of the first.
+    pub first: usize,
+    /// That of the last.
+    pub last: usize,
+}
+
+/// Where the wildcards are.
+pub fn span_of<A: Allocator>(pattern: &Pattern<A>) -> Span
+    ensures { IsSpan (tokens_of (chars pattern.now)) result }
+{
+    let tokens = tokens_len(pattern);
+    let mut first = tokens;
+    let mut last = tokens;
+    for token in 0..tokens {
+        if form_of(pattern, token).grows {
+            last = token;
+            if first == tokens {
+                first = token;
+            }
+        }
+    }
+    Span { first, last }
+}
