@@ -2,7 +2,7 @@
 ghost use Rattle.std.specs.Prelude.{◌≡◌, ◌≤◌, ◌&&◌, ◌==◌, length, take, IfOk};
 ghost use Rattle.std.specs.List.{list_any};
 ghost use Rattle.glob_text.specs.Text.{has};
-ghost use Rattle.glob_rules.specs.Lines.{ends_in, without_first, without_last, kept_len, kept_line, rule_body, signed_body, body_of, line_of};
+ghost use Rattle.glob_rules.specs.Lines.{ends_in, without_first, without_last, without_blanks, kept_of, nothing, line_of_body, line_of};
 
 use crate::reading::{Outcome, Reading};
 use std::alloc::{AllocError, Allocator};
@@ -106,7 +106,7 @@ impl<A: Allocator + Copy> Line<A> {
 }
 
 /// Whether the byte at a place is `c`.
-fn has(text: &[u8], place: usize, c: u8) -> bool
+pub fn has(text: &[u8], place: usize, c: u8) -> bool
     ensures { result ≡ has text.now place c }
 {
     place < text.len() && text[place] == c
@@ -146,7 +146,8 @@ fn without_blanks(text: &[u8]) -> &[u8]
 
 /// How many bytes there are up to the last that is no such blank.
 fn kept_len(text: &[u8]) -> usize
-    ensures { result ≡ (kept_of text.now).kept }
+    ensures kept { result ≡ (kept_of text.now).kept }
+    ensures within { result ≤ length text.now }
 {
     let mut kept = 0;
     let mut escaped = false;

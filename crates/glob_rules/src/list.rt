@@ -1,5 +1,5 @@
 ghost use Rattle.std.specs.Prelude.{◌≡◌, ◌<◌, ◌≤◌, length, IfOk, IfErr, IfSome, OnOk, Bool};
-ghost use Rattle.glob_rules.specs.Deciding.{names, last_naming, ignores, deciding, deciding_rule, is_ignored};
+ghost use Rattle.glob_rules.specs.Deciding.{names, last_naming, last_named, ignores, deciding, deciding_rule, is_ignored};
 ghost use Rattle.glob_rules.specs.Lists.{rules_of, RefusesText, AreTaken, rule_options};
 
 use crate::error::RuleRefusal;
@@ -55,13 +55,9 @@ impl<A: Allocator + Copy> IgnoreList<A> {
         ensures taken { IfOk result (λ _. AreTaken text.now) }
         ensures refused { IfErr result (RefusesText text.now) }
     {
-        let rules = Rules::read(alloc, text)?;
-        let set = PatternSet::new(alloc, rules.patterns, rule_options())?;
-        Ok(IgnoreList {
-            lines: rules.lines,
-            rules: rules.rules,
-            set,
-        })
+        let (lines, rules, patterns) = Rules::read(alloc, text.as_bytes())?.into_parts();
+        let set = PatternSet::new(alloc, patterns, rule_options())?;
+        Ok(IgnoreList { lines, rules, set })
     }
 
     /// Whether the list ignores a path, where `is_directory` says that it is a directory. A symbolic link is none. Of
@@ -118,8 +114,8 @@ impl<A: Allocator + Copy> IgnoreList<A> {
 
     /// The number of the last rule that names a path.
     fn last_naming(&self, path: &str, is_directory: bool) -> Result<Option<usize>, AllocError>
-        ensures number { IfOk result (λ number.
-            number ≡ last_naming self.now path.now is_directory (length self.now.rules)) }
+        ensures number { IfOk result
+            (λ number. number ≡ last_named self.now path.now is_directory) }
         ensures within { IfOk result
             (λ number. IfSome number (λ k. k < length self.now.rules)) }
     {

@@ -1,10 +1,10 @@
 //! The rules of a text, line by line.
 ghost use Rattle.std.specs.Prelude.{◌≡◌, IfOk, IfErr, OnOk};
 ghost use Rattle.glob_rules.specs.Lines.{line_of};
-ghost use Rattle.glob_rules.specs.Lists.{no_rules, add_line, rules_of, IsTaken, AreTaken, RefusesLine, RefusesText, RefusesGlob, without_byte_order_mark};
+ghost use Rattle.glob_rules.specs.Lists.{with_rule, add_line, next_line, rules_of, IsTaken, AreTaken, IsNoPattern, RefusesPattern, RefusesLine, RefusesText, without_byte_order_mark};
 
 use crate::error::{Reason, RuleRefusal};
-use crate::lines::Line;
+use crate::lines::{Line, has};
 use crate::reading::Outcome;
 use crate::rule::Rule;
 use glob_pattern::{Pattern, PatternRefusal};
@@ -15,12 +15,9 @@ use std::str;
 /// The rules so far, and their patterns.
 #[derive(Drop)]
 pub struct Rules<A: Allocator> {
-    /// How many lines were read.
-    pub lines: usize,
-    /// The rules.
-    pub rules: Vec<Rule, A>,
-    /// The pattern of each.
-    pub patterns: Vec<Pattern<A>, A>,
+    lines: usize,
+    rules: Vec<Rule, A>,
+    patterns: Vec<Pattern<A>, A>,
 }
 
 impl<A: Allocator> Model for Rules<A> {
@@ -37,7 +34,7 @@ impl<A: Allocator> Model for Rules<A> {
 
 impl<A: Allocator + Copy> Rules<A> {
     /// The rules of a text.
-    pub fn read(alloc: A, text: &str) -> Result<Self, RuleRefusal>
+    pub fn read(alloc: A, text: &[u8]) -> Result<Self, RuleRefusal>
         ensures rules { IfOk result (λ rules. rules ≡ rules_of text.now) }
         ensures taken { IfOk result (λ _. AreTaken text.now) }
         ensures refused { IfErr result (RefusesText text.now) }
@@ -47,20 +44,22 @@ impl<A: Allocator + Copy> Rules<A> {
             rules: Vec::new(alloc),
             patterns: Vec::new(alloc),
         };
-        for line in without_byte_order_mark(text).split('\n') {
+        let lines = without_byte_order_mark(text);
+        for line in lines.split(|c| *c == b'\n') {
             rules.add_line(alloc, line)?;
         }
         Ok(rules)
     }
 
     /// Adds the rule of a line, if it has one.
-    fn add_line(&mut self, alloc: A, text: &str) -> Result<(), RuleRefusal>
+    fn add_line(&mut self, alloc: A, text: &[u8]) -> Result<(), RuleRefusal>
         ensures rules { OnOk result (self.new ≡ add_line self.old text.now) }
         ensures taken { OnOk result (IsTaken (line_of text.now)) }
-        ensures refused { IfErr result (RefusesLine self.old.lines text.now) }
+        ensures refused { IfErr result
+            (RefusesLine (next_line self.old.lines) (line_of text.now)) }
     {
         self.lines = self.lines.saturating_add(1);
-        let line = Line::read(alloc, text.as_bytes())?;
+        let line = Line::read(alloc, text)?;
         match line.outcome() {
             Outcome::Nothing => Ok(()),
             Outcome::Refused(reason) => Err(RuleRefusal::Line(self.lines, reason)),
@@ -68,8 +67,12 @@ impl<A: Allocator + Copy> Rules<A> {
         }
     }
 
-    /// Adds a rule.
-    fn add_rule(&mut self, alloc: A, line: &Line<A>) -> Result<(), RuleRefusal> {
+    /// Adds the rule of the last line.
+    fn add_rule(&mut self, alloc: A, line: &Line<A>) -> Result<(), RuleRefusal>
+        ensures rules { OnOk result (self.new ≡ with_rule self.old.lines self.old line.now) }
+        ensures accepted { OnOk result (¬ (IsNoPattern line.now.glob)) }
+        ensures refused { IfErr result (RefusesPattern self.old.lines line.now.glob) }
+    {
         let pattern = pattern_of(alloc, line.glob(), self.lines)?;
         self.patterns.push(pattern)?;
         self.rules.push(Rule {
@@ -78,6 +81,15 @@ impl<A: Allocator + Copy> Rules<A> {
             directories: line.directories(),
         })?;
         Ok(())
+    }
+
+    /// Its parts: the number of lines, the rules, and their patterns.
+    pub fn into_parts(self) -> (usize, Vec<Rule, A>, Vec<Pattern<A>, A>)
+        ensures lines { result.0 ≡ self.lines }
+        ensures rules { result.1.items ≡ self.rules }
+        ensures patterns { result.2.items ≡ self.patterns }
+    {
+        (self.lines, self.rules, self.patterns)
     }
 }
 
@@ -88,7 +100,8 @@ fn pattern_of<A: Allocator + Copy>(
     line: usize,
 ) -> Result<Pattern<A>, RuleRefusal>
     ensures pattern { IfOk result (λ p. p ≡ glob.now) }
-    ensures refused { IfErr result (RefusesGlob line glob.now) }
+    ensures accepted { IfOk result (λ _. ¬ (IsNoPattern glob.now)) }
+    ensures refused { IfErr result (RefusesPattern line glob.now) }
 {
     match str::from_utf8(glob) {
         Ok(text) => match Pattern::new(alloc, text) {
@@ -101,8 +114,12 @@ fn pattern_of<A: Allocator + Copy>(
 }
 
 /// The text without a byte order mark at its start.
-fn without_byte_order_mark(text: &str) -> &str
+fn without_byte_order_mark(text: &[u8]) -> &[u8]
     ensures { result.now ≡ without_byte_order_mark text.now }
 {
-    text.strip_prefix('\u{feff}').unwrap_or(text)
+    if has(text, 0, 0xEF) && has(text, 1, 0xBB) && has(text, 2, 0xBF) {
+        &text[3..]
+    } else {
+        text
+    }
 }

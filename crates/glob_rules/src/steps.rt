@@ -1,6 +1,6 @@
 //! What one byte of a rule means, after those before it.
 ghost use Rattle.std.specs.Prelude.{◌≡◌};
-ghost use Rattle.glob_rules.specs.Steps.{moves, writes, adds, refuses, after_units, after_escape, after_star, after_stars, after_escaped_stars, after_open, as_first_item, as_item, after_item, after_hyphen, in_bracket, step_from, literal};
+ghost use Rattle.glob_rules.specs.Steps.{moves, writes, adds, refuses, after_units, after_escape, after_star, after_stars, after_escaped_stars, after_open, as_first_item, as_item, after_item, after_open_item, after_hyphen, is_in_bracket, accepted_step, step_from, literal};
 
 use crate::error::Reason;
 
@@ -267,21 +267,58 @@ fn after_hyphen(item: u8, c: u8) -> Step
     }
 }
 
-/// A byte in a bracket.
-fn in_bracket(mode: Mode, c: u8) -> Step
-    ensures { result ≡ in_bracket mode c }
+/// A byte after the item `[`.
+fn after_open_item(c: u8) -> Step
+    ensures { result ≡ after_open_item c }
+{
+    if c == b':' {
+        refuses(Reason::Class)
+    } else {
+        after_item(b'[', c)
+    }
+}
+
+/// Whether the byte after these is in a bracket.
+fn is_in_bracket(mode: Mode) -> bool
+    ensures { result ≡ is_in_bracket mode }
 {
     match mode {
+        Mode::Open
+        | Mode::Negation
+        | Mode::Range
+        | Mode::Item(_)
+        | Mode::OpenItem
+        | Mode::Hyphen(_)
+        | Mode::ItemEscape
+        | Mode::HyphenEscape(_) => true,
+        Mode::Units(_, _)
+        | Mode::Escape
+        | Mode::Star(_, _)
+        | Mode::Stars(_, _)
+        | Mode::EscapedStars
+        | Mode::Refused(_) => false,
+    }
+}
+
+/// A byte after those before it, where neither NUL nor a bracket refuses it.
+fn accepted_step(mode: Mode, c: u8) -> Step
+    ensures { result ≡ accepted_step mode c }
+{
+    match mode {
+        Mode::Units(plain, opening) => after_units(plain, opening, c),
+        Mode::Escape => after_escape(c),
+        Mode::Star(plain, opening) => after_star(plain, opening, c),
+        Mode::Stars(plain, opening) => after_stars(plain, opening, c),
+        Mode::EscapedStars => after_escaped_stars(c),
         Mode::Open => after_open(c),
         Mode::Negation => as_first_item(c),
         Mode::Range => as_item(c),
         Mode::Item(item) => after_item(item, c),
-        Mode::OpenItem if c == b':' => refuses(Reason::Class),
-        Mode::OpenItem => after_item(b'[', c),
+        Mode::OpenItem => after_open_item(c),
         Mode::Hyphen(item) => after_hyphen(item, c),
         Mode::ItemEscape => adds(Mode::Item(c), c, c),
         Mode::HyphenEscape(item) => adds(Mode::Range, item, c),
-        other => moves(other),
+        Mode::Refused(reason) => refuses(reason),
     }
 }
 
@@ -289,15 +326,11 @@ fn in_bracket(mode: Mode, c: u8) -> Step
 pub fn step_from(mode: Mode, c: u8) -> Step
     ensures { result ≡ step_from mode c }
 {
-    match mode {
-        Mode::Refused(reason) => refuses(reason),
-        _ if c == 0 => refuses(Reason::Nul),
-        Mode::Units(plain, opening) => after_units(plain, opening, c),
-        Mode::Escape => after_escape(c),
-        Mode::Star(plain, opening) => after_star(plain, opening, c),
-        Mode::Stars(plain, opening) => after_stars(plain, opening, c),
-        Mode::EscapedStars => after_escaped_stars(c),
-        _ if c >= 128 => refuses(Reason::BeyondAscii),
-        bracket => in_bracket(bracket, c),
+    if c == 0 {
+        refuses(Reason::Nul)
+    } else if c >= 128 && is_in_bracket(mode) {
+        refuses(Reason::BeyondAscii)
+    } else {
+        accepted_step(mode, c)
     }
 }
