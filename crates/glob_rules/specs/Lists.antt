@@ -58,10 +58,13 @@ with_outcome line list l (Refused reason) = without_rule line list
 unfoldable pub add_line : Ignores → Text → Ignores
 add_line list text = with_outcome (next_line list.lines) list (line_of text) (line_of text).outcome
 
--- without the three bytes of a byte order mark
+-- the three bytes of a byte order mark are first
+abbrev pub begins_with_mark : Text → Bool
+begins_with_mark text = has text 0 239 && has text 1 187 && has text 2 191
+
+-- without it
 abbrev pub without_byte_order_mark : Text → Text
-without_byte_order_mark text =
-    if has text 0 239 && has text 1 187 && has text 2 191 then drop 3 text else text
+without_byte_order_mark text = if begins_with_mark text then drop 3 text else text
 
 -- the lines, between line feeds
 abbrev pub lines_of : Text → List Text

@@ -1,8 +1,8 @@
 //! The lines of an ignore list.
-ghost use Rattle.std.specs.Prelude.{◌≡◌, ◌≤◌, ◌&&◌, ◌==◌, length, take, IfOk};
-ghost use Rattle.std.specs.List.{list_any};
+ghost use Rattle.std.specs.Prelude.{◌≡◌, ◌+◌, ◌^◌, ◌<◌, ◌≤◌, ◌&&◌, ◌||◌, not, ◌==◌, if◌then◌else◌, length, IfOk};
+ghost use Rattle.glob_rules.specs.Steps.{backslash};
 ghost use Rattle.glob_text.specs.Text.{has};
-ghost use Rattle.glob_rules.specs.Lines.{ends_in, without_first, without_last, without_blanks, kept_of, nothing, line_of_body, line_of};
+ghost use Rattle.glob_rules.specs.Lines.{blank, is_path, ends_in, without_first, without_last, without_blanks, kept_of, nothing, line_of_body, line_of};
 
 use crate::reading::{Outcome, Reading};
 use std::alloc::{AllocError, Allocator};
@@ -74,6 +74,7 @@ impl<A: Allocator> Line<A> {
 
 impl<A: Allocator + Copy> Line<A> {
     /// The line of these bytes.
+    #[tactic(auto, unfolding(crate::specs::Lines::line_of))]
     pub fn read(alloc: A, text: &[u8]) -> Result<Self, AllocError>
         ensures { IfOk result (λ line. line ≡ line_of text.now) }
     {
@@ -88,14 +89,14 @@ impl<A: Allocator + Copy> Line<A> {
     }
 
     /// The line of a rule without its marks.
+    #[tactic(auto, unfolding(crate::specs::Lines::line_of_body))]
     fn of_body(alloc: A, negative: bool, directories: bool, body: &[u8]) -> Result<Self, AllocError>
         ensures { IfOk result (λ line. line ≡ line_of_body negative directories body.now) }
     {
         if body.is_empty() || ends_in(body, b'/') {
             return Ok(Self::nothing(alloc));
         }
-        let path = body.iter().any(|c| *c == b'/');
-        let reading = Reading::of(alloc, without_first(body, b'/'), path)?;
+        let reading = Reading::of(alloc, without_first(body, b'/'), is_path(body))?;
         Ok(Line {
             outcome: reading.outcome(),
             negative,
@@ -103,6 +104,13 @@ impl<A: Allocator + Copy> Line<A> {
             glob: reading.into_glob()?,
         })
     }
+}
+
+/// Whether there is a separator.
+fn is_path(text: &[u8]) -> bool
+    ensures { result ≡ is_path text.now }
+{
+    text.iter().any(|c| *c == b'/')
 }
 
 /// Whether the byte at a place is `c`.
@@ -145,6 +153,7 @@ fn without_blanks(text: &[u8]) -> &[u8]
 }
 
 /// How many bytes there are up to the last that is no such blank.
+#[tactic(auto, unfolding(crate::specs::Lines::kept_of))]
 fn kept_len(text: &[u8]) -> usize
     ensures kept { result ≡ (kept_of text.now).kept }
     ensures within { result ≤ length text.now }
@@ -152,10 +161,30 @@ fn kept_len(text: &[u8]) -> usize
     let mut kept = 0;
     let mut escaped = false;
     for place in 0..text.len() {
-        if escaped || text[place] != b' ' {
-            kept = place + 1;
-        }
-        escaped = !escaped && text[place] == b'\\';
+        kept = kept_after(kept, place, escaped, text[place]);
+        escaped = escapes(escaped, text[place]);
     }
     kept
+}
+
+/// What is kept up to a byte, where `kept` is kept before it.
+fn kept_after(kept: usize, place: usize, escaped: bool, c: u8) -> usize
+    requires place { place + 1 < 2 ^ 64 }
+    requires kept { kept ≤ place }
+    ensures kept { result
+        ≡ (if escaped || not (c == blank) then place + 1 else kept) }
+    ensures within { result ≤ place + 1 }
+{
+    if escaped || c != b' ' {
+        place + 1
+    } else {
+        kept
+    }
+}
+
+/// Whether a byte escapes the next one.
+fn escapes(escaped: bool, c: u8) -> bool
+    ensures { result ≡ (not escaped && c == backslash) }
+{
+    !escaped && c == b'\\'
 }

@@ -55,7 +55,7 @@ impl<A: Allocator + Copy> IgnoreList<A> {
         ensures taken { IfOk result (λ _. AreTaken text.now) }
         ensures refused { IfErr result (RefusesText text.now) }
     {
-        let (lines, rules, patterns) = Rules::read(alloc, text.as_bytes())?.into_parts();
+        let (lines, rules, patterns) = Rules::read(alloc, text)?.into_parts();
         let set = PatternSet::new(alloc, patterns, rule_options())?;
         Ok(IgnoreList { lines, rules, set })
     }
@@ -65,6 +65,7 @@ impl<A: Allocator + Copy> IgnoreList<A> {
     /// is the last rule that names the path. So by `a/` and `!a/b` the path `a/b` is ignored.
     ///
     /// The error is a failed allocation.
+    #[tactic(auto, unfolding(crate::specs::Deciding::is_ignored))]
     pub fn is_ignored(&self, path: &str, is_directory: bool) -> Result<bool, AllocError>
         ensures { IfOk result (λ yes. yes ≡ is_ignored self.now path.now is_directory) }
     {
@@ -74,6 +75,7 @@ impl<A: Allocator + Copy> IgnoreList<A> {
 
     /// The rule that decides whether the list ignores a path, or `None`: by `a/` and `!a/b` it is that of line 1 for
     /// `a/b`. Its error is that of [`is_ignored`](Self::is_ignored).
+    #[tactic(auto, unfolding(crate::specs::Deciding::deciding_rule))]
     pub fn deciding_rule(&self, path: &str, is_directory: bool) -> Result<Option<Rule>, AllocError>
         ensures { IfOk result (λ rule. rule ≡ deciding_rule self.now path.now is_directory) }
     {

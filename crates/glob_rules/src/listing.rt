@@ -1,6 +1,7 @@
 //! The characters of a bracket, written out.
 ghost use Rattle.std.specs.Prelude.{◌≡◌, ◌++◌, [], ◌∷◌, OnOk};
-ghost use Rattle.glob_rules.specs.Writings.{holds, held, written};
+ghost use Rattle.glob_rules.specs.Writings.{is_within, holds, held, written};
+ghost use Rattle.std.specs.List.{list_any};
 
 use crate::steps::{Span, Writing};
 use std::alloc::{AllocError, Allocator};
@@ -23,16 +24,23 @@ pub const ORDER: [u8; 127] = [
 fn holds(spans: &[Span], c: u8) -> bool
     ensures { result ≡ holds spans.now c }
 {
-    c == b'/' || spans.iter().any(|span| span.first <= c && c <= span.last)
+    c == b'/' || is_in_any(spans, c)
+}
+
+/// Whether a character is in one of the spans.
+fn is_in_any(spans: &[Span], c: u8) -> bool
+    ensures { result ≡ list_any (is_within c) spans.now }
+{
+    spans.iter().any(|span| span.first <= c && c <= span.last)
 }
 
 /// Writes the characters of a bracket.
 fn write_held<A: Allocator>(glob: &mut Vec<u8, A>, spans: &[Span]) -> Result<(), AllocError>
     ensures { OnOk result (glob.new.items ≡ glob.old.items ++ held spans.now) }
 {
-    for c in ORDER {
-        if holds(spans, c) {
-            glob.push(c)?;
+    for place in 0..ORDER.len() {
+        if holds(spans, ORDER[place]) {
+            glob.push(ORDER[place])?;
         }
     }
     Ok(())

@@ -1,5 +1,5 @@
 //! Rules read a byte at a time.
-ghost use Rattle.std.specs.Prelude.{◌≡◌, OnOk, IfOk};
+ghost use Rattle.std.specs.Prelude.{◌≡◌, ◌++◌, OnOk, IfOk};
 ghost use Rattle.glob_rules.specs.Readings.{reading_start, next_reading, reading_of, changed, outcome, ending};
 
 use crate::error::Reason;
@@ -37,6 +37,7 @@ impl<A: Allocator> Model for Reading<A> {
 
 impl<A: Allocator + Copy> Reading<A> {
     /// The rule of these bytes, where `path` says that it is taken from the list's own directory.
+    #[tactic(auto, unfolding(crate::specs::Readings::reading_of))]
     pub fn of(alloc: A, text: &[u8], path: bool) -> Result<Self, AllocError>
         ensures { IfOk result (λ r. r ≡ reading_of path text.now) }
     {
@@ -62,6 +63,7 @@ impl<A: Allocator + Copy> Reading<A> {
 
 impl<A: Allocator> Reading<A> {
     /// Reads one byte.
+    #[tactic(auto, unfolding(crate::specs::Readings::next_reading))]
     fn advance(&mut self, c: u8) -> Result<(), AllocError>
         ensures { OnOk result (self.new ≡ next_reading self.old c) }
     {

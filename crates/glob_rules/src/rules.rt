@@ -1,7 +1,7 @@
 //! The rules of a text, line by line.
 ghost use Rattle.std.specs.Prelude.{◌≡◌, IfOk, IfErr, OnOk};
 ghost use Rattle.glob_rules.specs.Lines.{line_of};
-ghost use Rattle.glob_rules.specs.Lists.{with_rule, add_line, next_line, rules_of, IsTaken, AreTaken, IsNoPattern, RefusesPattern, RefusesLine, RefusesText, without_byte_order_mark};
+ghost use Rattle.glob_rules.specs.Lists.{with_rule, add_line, next_line, rules_of, IsTaken, AreTaken, IsNoPattern, RefusesPattern, RefusesLine, RefusesText, begins_with_mark, without_byte_order_mark};
 
 use crate::error::{Reason, RuleRefusal};
 use crate::lines::{Line, has};
@@ -34,7 +34,8 @@ impl<A: Allocator> Model for Rules<A> {
 
 impl<A: Allocator + Copy> Rules<A> {
     /// The rules of a text.
-    pub fn read(alloc: A, text: &[u8]) -> Result<Self, RuleRefusal>
+    #[tactic(auto, unfolding(crate::specs::Lists::rules_of))]
+    pub fn read(alloc: A, text: &str) -> Result<Self, RuleRefusal>
         ensures rules { IfOk result (λ rules. rules ≡ rules_of text.now) }
         ensures taken { IfOk result (λ _. AreTaken text.now) }
         ensures refused { IfErr result (RefusesText text.now) }
@@ -45,13 +46,14 @@ impl<A: Allocator + Copy> Rules<A> {
             patterns: Vec::new(alloc),
         };
         let lines = without_byte_order_mark(text);
-        for line in lines.split(|c| *c == b'\n') {
-            rules.add_line(alloc, line)?;
+        for line in lines.split('\n') {
+            rules.add_line(alloc, line.as_bytes())?;
         }
         Ok(rules)
     }
 
     /// Adds the rule of a line, if it has one.
+    #[tactic(auto, unfolding(crate::specs::Lists::add_line))]
     fn add_line(&mut self, alloc: A, text: &[u8]) -> Result<(), RuleRefusal>
         ensures rules { OnOk result (self.new ≡ add_line self.old text.now) }
         ensures taken { OnOk result (IsTaken (line_of text.now)) }
@@ -114,12 +116,19 @@ fn pattern_of<A: Allocator + Copy>(
 }
 
 /// The text without a byte order mark at its start.
-fn without_byte_order_mark(text: &[u8]) -> &[u8]
+fn without_byte_order_mark(text: &str) -> &str
     ensures { result.now ≡ without_byte_order_mark text.now }
 {
-    if has(text, 0, 0xEF) && has(text, 1, 0xBB) && has(text, 2, 0xBF) {
+    if begins_with_mark(text.as_bytes()) {
         &text[3..]
     } else {
         text
     }
+}
+
+/// Whether the three bytes of a byte order mark are first.
+fn begins_with_mark(text: &[u8]) -> bool
+    ensures { result ≡ begins_with_mark text.now }
+{
+    has(text, 0, 0xEF) && has(text, 1, 0xBB) && has(text, 2, 0xBF)
 }

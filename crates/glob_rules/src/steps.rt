@@ -323,6 +323,7 @@ fn accepted_step(mode: Mode, c: u8) -> Step
 }
 
 /// What a byte does after those before it.
+#[tactic(auto, unfolding(crate::specs::Steps::step_from))]
 pub fn step_from(mode: Mode, c: u8) -> Step
     ensures { result ≡ step_from mode c }
 {
