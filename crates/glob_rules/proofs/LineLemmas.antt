@@ -1,7 +1,7 @@
 -- Lines that are taken or refused.
 use Rattle.std.proofs.Common.{◌≡◌, ℕ, ◌+◌, ◌-◌, ◌^◌, ◌<◌, min, Bool, true, false, cond, ◌&&◌, ltb, eqb, List, [], ◌∷◌, ◌++◌, length, get_or, take, drop, drop-cons, Result, Ok, Err, IfErr, IsErrAnd, OnOk, ⊎_elim, inl, inr, refl, sym, ap, subst, ◌∙◌, append_assoc, below_more, arith}
 use Rattle.std.specs.List.{filter, fold}
-use Rattle.std.proofs.lemmas.List.{append-nil, get_or_default}
+use Rattle.std.proofs.lemmas.List.{append-nil, get_or_default, length_push}
 use Rattle.std.proofs.lemmas.List.Elements.{filter_more}
 use Rattle.std.proofs.lemmas.List.Sums.{fold_more}
 use Rattle.std.proofs.lemmas.Bool.{and_parts, eqb-true, ltb-true}
@@ -13,7 +13,7 @@ use Rattle.glob_pattern.specs.Grammar.Units.{IsAccepted}
 use Rattle.glob_pattern.specs.Grammar.Faults.{Fault, IsFault}
 use Rattle.glob_pattern.proofs.CallerLemmas.{no_fault}
 use Rattle.glob_rules.specs.Lines.{Line, line_of}
-use Rattle.glob_rules.specs.Lists.{Ignores, no_rules, next_line, with_outcome, add_line, lines_of, RefusesText, IsNoPattern, IsRefused, IsTaken, RefusesPattern, RefusesLine, begins_with_mark}
+use Rattle.glob_rules.specs.Lists.{Ignores, rules_of, no_rules, next_line, with_outcome, add_line, lines_of, RefusesText, IsNoPattern, IsRefused, IsTaken, RefusesPattern, RefusesLine, begins_with_mark}
 use Rattle.glob_rules.specs.declared.error.Reason.{Reason}
 use Rattle.glob_rules.specs.declared.error.RuleRefusal.{RuleRefusal}
 use Rattle.glob_rules.specs.declared.error.RuleRefusal.TheVariants as refusals
@@ -58,6 +58,11 @@ IfErr-follow (Err e) P Q follows known = follows e known
 pub IfErr-known : {T E : Type 0} (r : Result T E) (P : E → Type 0) (known : E) → P known → IsErrAnd r (λ e. e ≡ known) → IfErr r P
 IfErr-known (Ok x) P known holds is = absurd is
 IfErr-known (Err e) P known holds is = subst P (sym is) holds
+
+-- a failed allocation is a refusal of any text
+pub IfErr-memory : {T : Type 0} (r : Result T RuleRefusal) (text : Text) → IsErrAnd r (λ e. e ≡ refusals.Memory) → IfErr r (RefusesText text)
+unfolding RefusesText
+IfErr-memory r text is = IfErr-known r (RefusesText text) refusals.Memory tt is
 
 -- a character ends after a byte order mark
 pub mark_boundary : (text : Text) → IsUtf8 text → begins_with_mark text ≡ true → IsCharBoundary text 3
@@ -125,3 +130,23 @@ module _ (text : Text) (n : ℕ) (line : Text) (below : n < length (lines_of tex
       let number : m ≡ min (n + 1) (2 ^ 64 - 1) = omega (arith, refused.0, count) in
       (n, below, number, taken, subst (λ t. IsRefused (line_of t) reason) the_line refused.1)
   RefusesText-at refusals.Memory refused = tt
+
+-- each rule has a pattern
+with_outcome-lengths : (line : ℕ) (list : Ignores) (l : Line) (o : Outcome) → length list.rules ≡ length list.patterns
+    → length (with_outcome line list l o).rules ≡ length (with_outcome line list l o).patterns
+with_outcome-lengths line list l Nothing same = same
+with_outcome-lengths line list l Named same = length_push list.rules _ ∙ ap (λ n. n + 1) same ∙ sym (length_push list.patterns l.glob)
+with_outcome-lengths line list l (Refused reason) same = same
+
+add_line-lengths : (list : Ignores) (text : Text) → length list.rules ≡ length list.patterns → length (add_line list text).rules ≡ length (add_line list text).patterns
+unfolding add_line
+add_line-lengths list text same = with_outcome-lengths (next_line list.lines) list (line_of text) (line_of text).outcome same
+
+fold-lengths : (lines : List Text) (list : Ignores) → length list.rules ≡ length list.patterns
+    → length (fold add_line list lines).rules ≡ length (fold add_line list lines).patterns
+fold-lengths [] list same = same
+fold-lengths (l ∷ ls) list same = fold-lengths ls (add_line list l) (add_line-lengths list l same)
+
+pub rules_of-lengths : (text : Text) → length (rules_of text).rules ≡ length (rules_of text).patterns
+unfolding rules_of
+rules_of-lengths text = fold-lengths (lines_of text) no_rules refl

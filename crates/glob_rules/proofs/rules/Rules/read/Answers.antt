@@ -32,9 +32,9 @@ returns-in_err-add_line-clause-refused g c =
     let line = c.in-Some.line.now in
     let split = YieldsList-from_str_split 10 (without_byte_order_mark text) (lit< tt) (cc) (cc) (cc) in
     let turn = YieldsList-turn split l.yielded _ l.yielded_by _ _ c.in-Some.line c.in-Some.is c.next.ensures.steps in
-    IfErr-known c.from_residual.result (RefusesText text) c.in_err-add_line.field-0
-    (RefusesText-at text (length l.yielded) line turn.0 turn.1 l.rules l.invariant.count l.invariant.taken c.in_err-add_line.field-0
-    (subst (λ t. RefusesLine (next_line l.rules.lines) (line_of t) c.in_err-add_line.field-0) c.as_bytes.ensures.value c.in_err-add_line.ensures.refused))
+    IfErr-known c.from_residual.result (RefusesText text) c.in_err-add_line.field-0.0
+    (RefusesText-at text (length l.yielded) line turn.0 turn.1 l.rules l.invariant.count l.invariant.taken c.in_err-add_line.field-0.0
+    (subst (λ t. RefusesLine (next_line l.rules.lines) (line_of t) c.in_err-add_line.field-0.0) c.as_bytes.ensures.value c.in_err-add_line.ensures.refused))
     c.from_residual.ensures.1
 
 pub returns-clause-rules : goal.returns-clause-rules
