@@ -9,7 +9,6 @@ use Rattle.std.proofs.lemmas.Str.{IsCharBoundary-past_char}
 use Rattle.std.specs.Str.{chars, IsUtf8, IsCharBoundary}
 use lib.Utf8.{encode}
 use Rattle.glob_text.specs.Text.{Text, has}
-use Rattle.glob_pattern.specs.Grammar.Units.{IsAccepted}
 use Rattle.glob_pattern.specs.Grammar.Faults.{Fault, IsFault}
 use Rattle.glob_pattern.proofs.CallerLemmas.{no_fault}
 use Rattle.glob_rules.specs.Lines.{Line, line_of}

@@ -6,7 +6,6 @@ use Rattle.glob_rules.specs.declared.error.Reason.{Reason}
 use Rattle.glob_rules.specs.declared.error.Reason.TheVariants.{BeyondAscii, Class, StarsBehindText, Nul}
 use Rattle.glob_rules.specs.declared.steps.Mode.{Mode}
 use Rattle.glob_rules.specs.declared.steps.Mode.TheVariants.{Units, Escape, Star, Stars, EscapedStars, Open, Negation, Range, Item, OpenItem, Hyphen, ItemEscape, HyphenEscape, Refused}
-use Rattle.glob_rules.specs.declared.steps.Change.{Change}
 use Rattle.glob_rules.specs.declared.steps.Change.TheVariants.{Keep, Clear, Add}
 use Rattle.glob_rules.specs.declared.steps.Writing.{Writing}
 use Rattle.glob_rules.specs.declared.steps.Writing.TheVariants.{Nothing, Byte, Bracketed, StarSlash, SlashStars, Held}

@@ -1,4 +1,4 @@
-use Rattle.std.proofs.Common.{◌≡◌, ◌+◌, ◌<◌, ◌≤◌, length, Some, None, sym, ap, subst, ◌∙◌, arith}
+use Rattle.std.proofs.Common.{◌≡◌, ◌+◌, ◌<◌, ◌≤◌, length, Some, None, subst, ◌∙◌, arith}
 use Rattle.glob_set.specs.Sets.{LastMatch}
 use Rattle.glob_set.proofs.ListReading.{IfOk-follow}
 use Rattle.glob_rules.specs.Lists.{Ignores, rule_options}

@@ -1,5 +1,5 @@
 -- None of the rules from `left` on names the path.
-use Rattle.std.proofs.Common.{◌≡◌, ◌≤◌, length}
+use Rattle.std.proofs.Common.{◌≡◌, ◌≤◌}
 use Rattle.glob_rules.specs.Deciding.{last_naming}
 use Rattle.glob_rules.proofs.list.IgnoreList.last_naming_below.Given as goal
 

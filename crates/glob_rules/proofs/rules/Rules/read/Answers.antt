@@ -1,11 +1,10 @@
-use Rattle.std.proofs.Common.{◌≡◌, ℕ, ◌+◌, ◌<◌, ◌≤◌, ◌-◌, ◌^◌, min, ◌++◌, ◌∷◌, [], length, get_or, take, sym, ap, subst, ◌∙◌, lit<, arith}
+use Rattle.std.proofs.Common.{◌≡◌, ◌+◌, ◌≤◌, ◌++◌, ◌∷◌, [], length, ap, subst, ◌∙◌, lit<, arith}
 use Rattle.std.proofs.lemmas.Iterator.Consumers.{YieldsList-turn, YieldsList-end}
 use Rattle.std.proofs.lemmas.Iterator.Splits.{YieldsList-from_str_split}
 use Rattle.std.proofs.lemmas.List.{length_push, take_all}
 use Rattle.std.specs.List.{fold}
-use Rattle.glob_text.specs.Text.{Text}
 use Rattle.glob_rules.specs.Lines.{line_of}
-use Rattle.glob_rules.specs.Lists.{Ignores, no_rules, add_line, lines_of, rules_of, IsTaken, AreTaken, RefusesText, RefusesLine, next_line, without_byte_order_mark}
+use Rattle.glob_rules.specs.Lists.{no_rules, add_line, lines_of, rules_of, IsTaken, AreTaken, RefusesText, RefusesLine, next_line, without_byte_order_mark}
 use Rattle.glob_rules.proofs.LineLemmas.{rules-more, count-more, taken-more, RefusesText-at, IfErr-known}
 use Rattle.glob_rules.proofs.rules.Rules.read.Goals as goal
 
