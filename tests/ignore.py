@@ -1,12 +1,26 @@
 #!/usr/bin/env python3
 """Compares ignore lists with git: random lists and trees, and which line decides about each path.
 
-    tests/ignore.py [SEED [LISTS]] [-- COMMAND..]
+    tests/ignore.py [--seconds N] [--seed N] [--lists N]
 
-COMMAND is crates/glob_rules_ask/out/glob_rules_ask, if it is left out. Says how many questions there were, how many lists
-were refused, and each difference; docs/IGNORE.md names the ones that are let pass. The status is 1 if there is another.
-"""
-import os, random, subprocess, sys, tempfile
+Goes on for so many seconds, or over so many lists (2,000). Says how many questions there were, which lists were refused,
+and each difference; docs/IGNORE.md has those that are let pass. The last line counts lists: 'N passed, M failed'. Without
+git it asks nothing."""
+
+import argparse
+import os
+import random
+import shutil
+import subprocess
+import sys
+import tempfile
+import time
+from pathlib import Path
+
+PROGRAM = Path(__file__).resolve().parent.parent / "crates/glob_rules_ask/out/glob_rules_ask"
+
+# How many lists one process of git is asked about.
+BATCH = 400
 
 NAMES = ["a", "b", "c", "ab", "abc", "ba", ".a", ".b", "a.o", "b.o", "x.c", "A", "a b", "a ", " a", "a-b", "-", "]", "[", "!a", "#a",
     "^", "*", "?", "a*", "**", "b\\", "\\a", "a\\b", "a1", "12", "é", "aé", "{a}", "a\tb", "\x7f", "a\r", ":", "a,b", "[a]", "a]"]
@@ -82,10 +96,12 @@ def git_says(folder, cases):
     return [int(line or 0) for line in fields[1::4]]
 
 
-def ours(command, cases):
+def ours(cases):
     """The answers of the program: of each list a refusal or the deciding line of each question."""
-    text = "".join("L" + text + "\0" + "".join(("d" if is_dir else "f") + path + "\0" for path, is_dir in paths) for text, paths in cases)
-    done = subprocess.run(command, input=text.encode(), capture_output=True)
+    asked = []
+    for text, paths in cases:
+        asked += ["L" + text] + [("d" if is_dir else "f") + path for path, is_dir in paths]
+    done = subprocess.run([PROGRAM], input="\0".join(asked).encode(), capture_output=True)
     if done.returncode != 0:
         sys.exit(f"the program: {done.stderr.decode()}")
     lines = iter(done.stdout.decode().split("\n"))
@@ -97,47 +113,68 @@ def ours(command, cases):
 
 
 def is_named(text, path):
-    """The named difference that is let pass: git takes a byte where the list takes a character."""
-    return not path.isascii() and ("?" in text or "[!" in text or "[^" in text)
+    """The difference that is let pass: git takes a byte where the list takes a character."""
+    return not path.isascii() and any(unit in text for unit in ["?", "[!", "[^"])
+
+
+class Count:
+    """What was asked and found."""
+
+    def __init__(self):
+        self.questions = self.decided = self.named = self.passed = self.failed = 0
+        self.refused = {}
+
+    def refuse(self, text, refusal):
+        line, reason = refusal.removeprefix("R line ").split(": ", 1)
+        self.refused.setdefault(reason, set()).add(text.split("\n")[int(line) - 1])
+
+    def compare(self, text, paths, expected, answer):
+        wrong = 0
+        for (path, is_dir), git, we in zip(paths, expected, answer):
+            self.questions += 1
+            self.decided += git != 0
+            if git != we and is_named(text, path):
+                self.named += 1
+            elif git != we:
+                wrong += 1
+                print(f"list {text!r}, {'directory' if is_dir else 'file'} {path!r}: git {git}, ours {we}")
+        self.passed += wrong == 0
+        self.failed += wrong != 0
+
+    def batch(self, cases):
+        with tempfile.TemporaryDirectory() as folder:
+            expected = iter(git_says(folder, cases))
+        for (text, paths), answer in zip(cases, ours(cases)):
+            lines = [next(expected) for _ in paths]
+            if isinstance(answer, str):
+                self.refuse(text, answer)
+            else:
+                self.compare(text, paths, lines, answer)
+
+    def report(self):
+        for reason, found in sorted(self.refused.items()):
+            print(f"refused: {reason}, as {sorted(found, key=lambda line: (len(line), line))[:8]}")
+        print(f"{self.questions} questions, of which a line decides {self.decided}; {self.named} differences that docs/IGNORE.md names")
+        print(f"{self.passed} passed, {self.failed} failed")
 
 
 def main():
-    words = sys.argv[1:]
-    command = ["crates/glob_rules_ask/out/glob_rules_ask"]
-    if "--" in words:
-        command = words[words.index("--") + 1:]
-        words = words[:words.index("--")]
-    seed, lists = (int(words[0]) if words else 1), (int(words[1]) if len(words) > 1 else 2000)
-    rng = random.Random(seed)
-    cases = [(file_of(rng), tree(rng)) for _ in range(lists)]
-    cases = [(text, paths) for text, paths in cases if paths]
-    answers = ours(command, cases)
-    questions = refused = named = wrong = ignored = 0
-    reasons = {}
-    for start in range(0, len(cases), 400):
-        some = cases[start:start + 400]
-        with tempfile.TemporaryDirectory() as folder:
-            expected = iter(git_says(folder, some))
-        for (text, paths), answer in zip(some, answers[start:start + 400]):
-            lines = [next(expected) for _ in paths]
-            if isinstance(answer, str):
-                refused += 1
-                reason = answer.split(": ", 1)[1]
-                reasons.setdefault(reason, []).append(text.split("\n")[int(answer.split()[2].rstrip(":")) - 1])
-                continue
-            for (path, is_dir), git, we in zip(paths, lines, answer):
-                questions += 1
-                ignored += git != 0
-                if git != we:
-                    if is_named(text, path):
-                        named += 1
-                    else:
-                        wrong += 1
-                        print(f"list {text!r}, {'directory' if is_dir else 'file'} {path!r}: git {git}, ours {we}")
-    for reason, found in sorted(reasons.items()):
-        print(f"refused {len(found)}: {reason}, as {sorted(set(found), key=lambda t: (len(t), t))[:8]}")
-    print(f"{questions} questions, of which a line decides {ignored}; {len(cases)} lists, {refused} refused; {named} named differences, {wrong} others")
-    sys.exit(1 if wrong else 0)
+    options = argparse.ArgumentParser()
+    options.add_argument("--seconds", type=int, default=0)
+    options.add_argument("--seed", type=int, default=random.randrange(10**6))
+    options.add_argument("--lists", type=int, default=2000)
+    options = options.parse_args()
+    if not shutil.which("git"):
+        print("0 passed, 0 failed")
+        return
+    print(f"--seed {options.seed}")
+    rng, count, end, asked = random.Random(options.seed), Count(), time.time() + options.seconds, 0
+    while time.time() < end if options.seconds else asked < options.lists:
+        cases = [(file_of(rng), tree(rng)) for _ in range(BATCH)]
+        count.batch([(text, paths) for text, paths in cases if paths])
+        asked += BATCH
+    count.report()
+    sys.exit(1 if count.failed else 0)
 
 
 main()
