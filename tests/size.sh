@@ -10,21 +10,23 @@ words      600 README.md
 words     3000 docs/DEFINITIONS.md
 words     1500 docs/ARCHITECTURE.md
 words     3500 crates/glob/CALLING.md
+words      500 docs/IGNORE.md
 words     1000 docs/ARGUMENT.md
 words     1500 docs/PERFORMANCE.md
 words     2000 docs/PROOFS.md docs/FAULTS.md
 words     3650 docs/DECISIONS.md docs/DIFFERENCES.md CONTRIBUTING.md CHANGELOG.md man/glob_run.1 bench/README.md
 edits       32 glob_pattern
-edits       28 glob_walk
+edits       27 glob_walk
 edits       14 glob_run
 edits        9 glob_tree
 edits        8 glob_lines
 edits        8 glob_c
-edits        4 glob_examples
 edits        6 glob_set
+edits        5 glob_rules
 edits        5 glob_captures
+edits        3 glob_prune
 edits        3 glob_page
-edits      115 all crates
+edits      120 all crates
 functions  160 glob_pattern
 '
 

@@ -1,0 +1,46 @@
+use Rattle.std.proofs.Common.{◌≡◌, ◌<◌, Bool, true, false, ◌&&◌, not, [], length, get_or, IfOk, refl, sym, ap, subst, ◌∙◌, arith}
+use Rattle.std.proofs.lemmas.List.{get_or_default}
+use Rattle.glob_set.proofs.ListReading.{IfOk-follow}
+use Rattle.glob_rules.specs.Lists.{Ignores}
+use Rattle.glob_rules.specs.Deciding.{names}
+use Rattle.glob_rules.specs.declared.rule.Rule.{Rule}
+use Rattle.glob_rules.proofs.DecidingLemmas.{names-not_directory, names-answer}
+use Rattle.glob_rules.proofs.list.IgnoreList.names.Goals as goal
+use Rattle.glob_rules.proofs.list.IgnoreList.names.Goals.{else-index-via-then-index+else-not-is_directory, else-index-via-else-index}
+
+and_none : (b : Bool) → (b && false) ≡ false
+and_none true = refl
+and_none false = refl
+
+pub returns-then-not-is_directory : goal.returns-then-not-is_directory
+returns-then-not-is_directory g c =
+    let inside = c.self.inside in
+    let list : Ignores = record { lines = inside.lines; rules = inside.rules.items; patterns = inside.set.patterns } in
+    let k = c.args.number in
+    let path = c.args.path.now in
+    let d = c.args.is_directory in
+    subst (λ (l : Ignores). k < length l.rules → false ≡ names l path d k) c.self.view_is
+    (λ below. names-not_directory list path d k (ap (λ (r : Rule). r.directories) (sym (c.index.ensures ∙ get_or_default list.rules k _ _ below)) ∙ c.if-index.true) c.if-not-is_directory.true)
+    c.requires
+
+pub returns : goal.returns
+returns g c =
+    let inside = c.self.inside in
+    let list : Ignores = record { lines = inside.lines; rules = inside.rules.items; patterns = inside.set.patterns } in
+    let k = c.args.number in
+    let path = c.args.path.now in
+    let d = c.args.is_directory in
+    let any : (c.index.result.now.directories && not d) ≡ false =
+    elim c.else-index.branch [
+      | else-index-via-then-index+else-not-is_directory w ↦ rw w.if-not-is_directory.false (and_none c.index.result.now.directories)
+      | else-index-via-else-index w ↦ rw w.if-index.false refl
+    ] in
+    subst (λ (l : Ignores). k < length l.rules → IfOk c.matches_with.result (λ b. b ≡ names l path d k)) c.self.view_is
+    (λ below.
+    let kind = ap (λ (r : Rule). r.directories) (c.index.ensures ∙ get_or_default list.rules k _ _ below) in
+    let few : k < length inside.set.patterns = omega (arith, below, c.self.invariant.0) in
+    let is = c.index-patterns-number.is ∙ ap (λ ps. get_or ps k c.index-patterns-number.result) c.patterns.ensures ∙ get_or_default inside.set.patterns k _ [] few in
+    IfOk-follow c.matches_with.result _ _
+    (λ b answer. names-answer list path d k c.index.result.now.directories c.index-patterns-number.result c.rule_options.result b kind is c.rule_options.ensures any answer)
+    c.matches_with.ensures.answer)
+    c.requires

@@ -1,0 +1,54 @@
+-- Which rule decides whether a path is ignored.
+use Rattle.std.specs.Prelude.{ℕ, zero, suc, Bool, true, false, ◌&&◌, ◌||◌, not, ◌==◌, if◌then◌else◌, [], ◌∷◌, ◌++◌, length, slice_index_or, Option, Some, None, option_map}
+use Rattle.std.specs.Str.{chars}
+use Rattle.glob_text.specs.Characters.{slash}
+use Rattle.glob_text.specs.Text.{Text}
+use Rattle.glob_pattern.specs.Computing.Deciding.{is_match}
+use Rattle.glob_rules.specs.Lists.{Ignores, rule_options}
+use Rattle.glob_rules.specs.declared.rule.Rule.{Rule}
+
+-- the rule of a number
+abbrev pub rule_at : Ignores → (number : ℕ) → Rule
+rule_at list number =
+    slice_index_or list.rules number (record { line = 0; negative = false; directories = false })
+
+-- The rule of a number names a path: its pattern matches it, and the path is a directory or need not be one.
+unfoldable pub names : Ignores → (path : Text) → (is_directory : Bool) → (number : ℕ) → Bool
+names list path is_directory number =
+    (is_directory || not (rule_at list number).directories)
+    && is_match rule_options (chars (slice_index_or list.patterns number [])) (chars path)
+
+-- the last of the first n rules that names a path
+abbrev pub last_naming : Ignores → (path : Text) → (is_directory : Bool) → (n : ℕ) → Option ℕ
+last_naming list path is_directory zero = None
+last_naming list path is_directory (suc n) =
+    if names list path is_directory n then Some n else last_naming list path is_directory n
+
+-- the last rule that names a path
+unfoldable pub last_named : Ignores → (path : Text) → (is_directory : Bool) → Option ℕ
+last_named list path is_directory = last_naming list path is_directory (length list.rules)
+
+-- there is a rule, and it is not negative
+abbrev pub ignores : Ignores → (number : Option ℕ) → Bool
+ignores list None = false
+ignores list (Some number) = not (rule_at list number).negative
+
+-- The rule that decides about the path `front` and `rest`: at each separator of the rest, what is before it is a directory
+-- above the path, and the last rule that names it decides if it ignores it; else the last rule that names the path.
+abbrev pub deciding_from : Ignores → (front rest : Text) → (is_directory : Bool) → Option ℕ
+deciding_from list front [] is_directory = last_named list front is_directory
+deciding_from list front (c ∷ cs) is_directory =
+    if c == slash && ignores list (last_named list front true) then last_named list front true
+    else deciding_from list (front ++ c ∷ []) cs is_directory
+
+-- the number of the rule that decides about a path
+unfoldable pub deciding : Ignores → (path : Text) → (is_directory : Bool) → Option ℕ
+deciding list path is_directory = deciding_from list [] path is_directory
+
+-- the rule that decides about a path
+unfoldable pub deciding_rule : Ignores → (path : Text) → (is_directory : Bool) → Option Rule
+deciding_rule list path is_directory = option_map (rule_at list) (deciding list path is_directory)
+
+-- the path is ignored
+unfoldable pub is_ignored : Ignores → (path : Text) → (is_directory : Bool) → Bool
+is_ignored list path is_directory = ignores list (deciding list path is_directory)

@@ -1,0 +1,31 @@
+-- What the steps write of a pattern.
+use Rattle.std.specs.Prelude.{ℕ, Bool, ◌&&◌, ◌||◌, nat_le, ◌==◌, List, [], ◌∷◌, ◌++◌}
+use Rattle.std.specs.List.{filter, list_any}
+use Rattle.glob_text.specs.Characters.{slash}
+use Rattle.glob_text.specs.Text.{Text}
+use Rattle.glob_pattern.specs.Grammar.Characters.{star, open_bracket, close_bracket}
+use Rattle.glob_rules.specs.declared.steps.Span.{Span}
+use Rattle.glob_rules.specs.declared.steps.Writing.{Writing}
+use Rattle.glob_rules.specs.declared.steps.Writing.TheVariants.{Nothing, Byte, Bracketed, StarSlash, SlashStars, Held}
+use Rattle.glob_rules.specs.declared.listing.TheConstants.{ORDER}
+
+-- the character is between the ends
+abbrev pub is_within : ℕ → Span → Bool
+is_within c span = nat_le span.first c && nat_le c span.last
+
+-- A bracket with these characters holds one. All hold `/`, which no bracket matches under the separator rule.
+abbrev pub holds : List Span → ℕ → Bool
+holds spans c = c == slash || list_any (is_within c) spans
+
+-- the characters of a bracket as they are written
+unfoldable pub held : List Span → Text
+held spans = filter (holds spans) ORDER
+
+-- what is written where the bracket has these characters
+abbrev pub written : List Span → Writing → Text
+written spans Nothing = []
+written spans (Byte c) = c ∷ []
+written spans (Bracketed c) = open_bracket ∷ c ∷ close_bracket ∷ []
+written spans StarSlash = star ∷ slash ∷ []
+written spans SlashStars = slash ∷ star ∷ star ∷ slash ∷ []
+written spans Held = held spans ++ close_bracket ∷ []

@@ -1,0 +1,86 @@
+ghost use Rattle.std.specs.Prelude.{Some};
+ghost use Rattle.glob_rules.specs.Words.{reason_words, refusal_words};
+
+use std::alloc::{AllocError, AllocFailed};
+use std::error::Error;
+use std::fmt;
+
+/// Why a line is refused that git reads as a rule: it has no exact translation, or none that each release of git means.
+#[derive(Clone, Copy, Debug, PartialEq, Eq)]
+pub enum Reason {
+    /// A bracket names a character beyond ASCII, as `[é]`: git takes its bytes, each alone.
+    BeyondAscii,
+    /// A bracket has a class of characters, as `[[:alpha:]]`, or begins as if it had one.
+    Class,
+    /// In a rule with a separator, two stars or more are right behind plain text and end the component, as in `a**/b`:
+    /// git's answer contradicts its manual.
+    StarsBehindText,
+    /// The line has a NUL, where git ends the line.
+    Nul,
+    /// The translation is refused as a pattern. No line is known for which that comes.
+    Pattern,
+}
+
+impl fmt::Display for Reason {
+    ghost output = { λ reason. Some (reason_words reason) };
+
+    fn fmt<W: fmt::Write>(&self, f: &mut fmt::Formatter<W>) -> fmt::Result {
+        f.write_str(match self {
+            Reason::BeyondAscii => "a bracket names a character beyond ASCII",
+            Reason::Class => "a bracket has a class of characters",
+            Reason::StarsBehindText => "two stars are right behind plain text",
+            Reason::Nul => "the line has a NUL",
+            Reason::Pattern => "the translation is no pattern",
+        })
+    }
+}
+
+/// Why a text is refused as an ignore list, by [`IgnoreList::new`](crate::IgnoreList::new). So the text `[é]` is refused
+/// with `Line`, the line 1 and [`Reason::BeyondAscii`], and prints as `line 1: a bracket names a character beyond ASCII`.
+#[derive(Debug, Drop)]
+pub enum RuleRefusal {
+    /// The first line that is refused, counted from 1, and why.
+    Line(usize, Reason),
+    /// Out of memory: an allocation failed.
+    Memory,
+}
+
+impl fmt::Display for RuleRefusal {
+    ghost output = { λ refusal. Some (refusal_words refusal) };
+
+    fn fmt<W: fmt::Write>(&self, f: &mut fmt::Formatter<W>) -> fmt::Result {
+        match self {
+            RuleRefusal::Line(line, reason) => {
+                write!(f, "line {line}: ")?;
+                reason.fmt(f)
+            }
+            RuleRefusal::Memory => f.write_str("out of memory"),
+        }
+    }
+}
+
+impl Error for RuleRefusal {}
+
+/// A failed allocation.
+impl From<AllocError> for RuleRefusal {
+    ghost use Rattle.std.specs.Prelude.{◌≡◌};
+    ghost use Rattle.glob_rules.specs.declared.error.RuleRefusal.TheVariants.{Memory};
+
+    ghost from_gives = { λ _ refusal. refusal ≡ Memory };
+
+    fn from(_error: AllocError) -> RuleRefusal {
+        RuleRefusal::Memory
+    }
+}
+
+/// A failed allocation.
+impl<T: Drop> From<AllocFailed<T>> for RuleRefusal {
+    ghost use Rattle.std.specs.Prelude.{◌≡◌};
+    ghost use Rattle.glob_rules.specs.declared.error.RuleRefusal.TheVariants.{Memory};
+
+    ghost from_gives = { λ _ refusal. refusal ≡ Memory };
+
+    fn from(_error: AllocFailed<T>) -> RuleRefusal {
+        RuleRefusal::Memory
+    }
+}

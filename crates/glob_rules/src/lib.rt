@@ -1,0 +1,18 @@
+//! Ignore lists: which paths the rules of gitignore(5) leave out.
+//!
+//! An [`IgnoreList`] of the lines `*.o`, `target/` and `!keep.o` ignores `a.o` and all below `src/target`, and not
+//! `keep.o`.
+#![tactic(auto)]
+
+mod error;
+mod lines;
+mod list;
+mod listing;
+mod reading;
+mod rule;
+mod rules;
+mod steps;
+
+pub use error::{Reason, RuleRefusal};
+pub use list::IgnoreList;
+pub use rule::Rule;

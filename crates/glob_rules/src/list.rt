@@ -1,0 +1,174 @@
+ghost use Rattle.std.specs.Prelude.{◌≡◌, ◌<◌, ◌≤◌, length, IfOk, IfErr, IfSome, OnOk, Bool};
+ghost use Rattle.glob_rules.specs.Deciding.{names, last_naming, last_named, ignores, deciding, deciding_rule, is_ignored};
+ghost use Rattle.glob_rules.specs.Lists.{rules_of, RefusesText, AreTaken, rule_options};
+
+use crate::error::RuleRefusal;
+use crate::rule::Rule;
+use crate::rules::Rules;
+use glob_pattern::MatchOptions;
+use glob_set::PatternSet;
+use std::alloc::{AllocError, Allocator, Global};
+use std::marker::Model;
+
+/// The rules of one ignore file, as gitignore(5) has them, for the paths below its directory.
+///
+/// ```text
+/// let list = IgnoreList::new(alloc, "*.o\ntarget/\n!keep.o\n")?;
+/// list.is_ignored("src/a.o", false)?         // true
+/// list.is_ignored("src/keep.o", false)?      // false
+/// list.is_ignored("target", false)?          // false
+/// list.is_ignored("target/keep.o", false)?   // true
+/// ```
+///
+/// A path is the names from the list's directory on, with `/` between them and none at its start or its end.
+#[derive(Drop)]
+pub struct IgnoreList<A: Allocator = Global> {
+    lines: usize,
+    rules: Vec<Rule, A>,
+    // the patterns of the rules, in their order
+    set: PatternSet<A>,
+}
+
+impl<A: Allocator> Model for IgnoreList<A> {
+    ghost use Rattle.std.specs.Prelude.{◌≡◌, length};
+    ghost use Rattle.glob_rules.specs.Lists.{Ignores, rule_options};
+
+    ghost Value = { Ignores };
+
+    ghost view = { λ list. record {
+      lines = list.lines;
+      rules = list.rules.items;
+      patterns = list.set.patterns;
+    } };
+
+    ghost invariant = { λ list. (length list.rules.items ≡ length list.set.patterns)
+        × (list.set.options ≡ rule_options) };
+}
+
+impl<A: Allocator + Copy> IgnoreList<A> {
+    /// The rules of a text, a line each. Comments, blank lines and lines that can name nothing have none.
+    ///
+    /// The error is [`Line`](RuleRefusal::Line) for the first line that is refused, or
+    /// [`Memory`](RuleRefusal::Memory) if an allocation fails.
+    pub fn new(alloc: A, text: &str) -> Result<Self, RuleRefusal>
+        ensures rules { IfOk result (λ list. list ≡ rules_of text.now) }
+        ensures taken { IfOk result (λ _. AreTaken text.now) }
+        ensures refused { IfErr result (RefusesText text.now) }
+    {
+        let (lines, rules, patterns) = Rules::read(alloc, text)?.into_parts();
+        let set = PatternSet::new(alloc, patterns, rule_options())?;
+        Ok(IgnoreList { lines, rules, set })
+    }
+
+    /// Whether the list ignores a path, where `is_directory` says that it is a directory. A symbolic link is none. Of
+    /// the directories above the path, each of which is taken for one, the outermost that is ignored decides; else it
+    /// is the last rule that names the path. So by `a/` and `!a/b` the path `a/b` is ignored.
+    ///
+    /// The error is a failed allocation.
+    #[tactic(auto, unfolding(crate::specs::Deciding::is_ignored))]
+    pub fn is_ignored(&self, path: &str, is_directory: bool) -> Result<bool, AllocError>
+        ensures { IfOk result (λ yes. yes ≡ is_ignored self.now path.now is_directory) }
+    {
+        let decides = self.deciding(path, is_directory)?;
+        Ok(self.ignores(decides))
+    }
+
+    /// The rule that decides whether the list ignores a path, or `None`: by `a/` and `!a/b` it is that of line 1 for
+    /// `a/b`. Its error is that of [`is_ignored`](Self::is_ignored).
+    #[tactic(auto, unfolding(crate::specs::Deciding::deciding_rule))]
+    pub fn deciding_rule(&self, path: &str, is_directory: bool) -> Result<Option<Rule>, AllocError>
+        ensures { IfOk result (λ rule. rule ≡ deciding_rule self.now path.now is_directory) }
+    {
+        match self.deciding(path, is_directory)? {
+            Some(number) => Ok(Some(self.rules[number])),
+            None => Ok(None),
+        }
+    }
+
+    /// The number of the rule that decides, counted from 0.
+    fn deciding(&self, path: &str, is_directory: bool) -> Result<Option<usize>, AllocError>
+        ensures number { IfOk result (λ number. number ≡ deciding self.now path.now is_directory) }
+        ensures within { IfOk result
+            (λ number. IfSome number (λ k. k < length self.now.rules)) }
+    {
+        let bytes = path.as_bytes();
+        for place in 0..bytes.len() {
+            if bytes[place] == b'/' {
+                let above = self.last_naming(&path[..place], true)?;
+                if self.ignores(above) {
+                    return Ok(above);
+                }
+            }
+        }
+        self.last_naming(path, is_directory)
+    }
+
+    /// Whether a rule, if there is one, ignores what it names.
+    fn ignores(&self, number: Option<usize>) -> bool
+        requires { IfSome number (λ k. k < length self.now.rules) }
+        ensures { result ≡ ignores self.now number }
+    {
+        match number {
+            Some(number) => !self.rules[number].negative,
+            None => false,
+        }
+    }
+
+    /// The number of the last rule that names a path.
+    fn last_naming(&self, path: &str, is_directory: bool) -> Result<Option<usize>, AllocError>
+        ensures number { IfOk result
+            (λ number. number ≡ last_named self.now path.now is_directory) }
+        ensures within { IfOk result
+            (λ number. IfSome number (λ k. k < length self.now.rules)) }
+    {
+        match self.set.last_match(path)? {
+            Some(number) => self.last_naming_below(path, is_directory, number + 1),
+            None => Ok(None),
+        }
+    }
+
+    /// The number of the last rule below `end` that names a path.
+    fn last_naming_below(
+        &self,
+        path: &str,
+        is_directory: bool,
+        end: usize,
+    ) -> Result<Option<usize>, AllocError>
+        requires { end ≤ length self.now.rules }
+        ensures number { IfOk result
+            (λ number. number ≡ last_naming self.now path.now is_directory end) }
+        ensures within { IfOk result
+            (λ number. IfSome number (λ k. k < length self.now.rules)) }
+    {
+        let mut left = end;
+        while left > 0 {
+            left -= 1;
+            if self.names(left, path, is_directory)? {
+                return Ok(Some(left));
+            }
+        }
+        Ok(None)
+    }
+
+    /// Whether the rule of a number names a path.
+    fn names(&self, number: usize, path: &str, is_directory: bool) -> Result<bool, AllocError>
+        requires { number < length self.now.rules }
+        ensures { IfOk result (λ yes. yes ≡ names self.now path.now is_directory number) }
+    {
+        if self.rules[number].directories && !is_directory {
+            return Ok(false);
+        }
+        self.set.patterns()[number].matches_with(path, rule_options())
+    }
+}
+
+/// The options by which a rule's pattern matches: case-sensitive, with the separator rule, and without the dot rule.
+fn rule_options() -> MatchOptions
+    ensures { result ≡ rule_options }
+{
+    MatchOptions {
+        case_sensitive: true,
+        require_literal_separator: true,
+        require_literal_leading_dot: false,
+    }
+}

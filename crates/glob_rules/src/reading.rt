@@ -1,0 +1,111 @@
+//! Rules read a byte at a time.
+ghost use Rattle.std.specs.Prelude.{◌≡◌, ◌++◌, OnOk, IfOk};
+ghost use Rattle.glob_rules.specs.Readings.{reading_start, next_reading, reading_of, changed, outcome, ending};
+
+use crate::error::Reason;
+use crate::listing::write;
+use crate::steps::{Change, Mode, Span, Step, Writing, step_from};
+use std::alloc::{AllocError, Allocator};
+use std::marker::Model;
+
+/// What a rule is, once all of it is read.
+#[derive(Clone, Copy, Debug, PartialEq, Eq)]
+pub enum Outcome {
+    /// It names nothing.
+    Nothing,
+    /// It has a pattern.
+    Named,
+    /// It is refused.
+    Refused(Reason),
+}
+
+/// A rule that is read: what the bytes so far end with, the characters of the last bracket, and the pattern so far.
+#[derive(Drop)]
+pub struct Reading<A: Allocator> {
+    mode: Mode,
+    spans: Vec<Span, A>,
+    glob: Vec<u8, A>,
+}
+
+impl<A: Allocator> Model for Reading<A> {
+    ghost use Rattle.glob_rules.specs.Readings.{Read};
+
+    ghost Value = { Read };
+
+    ghost view = { λ r. record { mode = r.mode; spans = r.spans.items; glob = r.glob.items } };
+}
+
+impl<A: Allocator + Copy> Reading<A> {
+    /// The rule of these bytes, where `path` says that it is taken from the list's own directory.
+    #[tactic(auto, unfolding(crate::specs::Readings::reading_of))]
+    pub fn of(alloc: A, text: &[u8], path: bool) -> Result<Self, AllocError>
+        ensures { IfOk result (λ r. r ≡ reading_of path text.now) }
+    {
+        let mut reading = Self::start(alloc, path)?;
+        for c in text {
+            reading.advance(*c)?;
+        }
+        Ok(reading)
+    }
+
+    /// A rule of which nothing is read.
+    fn start(alloc: A, path: bool) -> Result<Self, AllocError>
+        ensures { IfOk result (λ r. r ≡ reading_start path) }
+    {
+        let front: &[u8] = if path { &[] } else { &[b'*', b'*', b'/'] };
+        Ok(Reading {
+            mode: Mode::Units(path, path),
+            spans: Vec::new(alloc),
+            glob: Vec::from_slice(alloc, front)?,
+        })
+    }
+}
+
+impl<A: Allocator> Reading<A> {
+    /// Reads one byte.
+    #[tactic(auto, unfolding(crate::specs::Readings::next_reading))]
+    fn advance(&mut self, c: u8) -> Result<(), AllocError>
+        ensures { OnOk result (self.new ≡ next_reading self.old c) }
+    {
+        let step = step_from(self.mode, c);
+        change(&mut self.spans, step.change)?;
+        write(&mut self.glob, self.spans.as_slice(), step.writing)?;
+        self.mode = step.mode;
+        Ok(())
+    }
+
+    /// What the rule is.
+    pub fn outcome(&self) -> Outcome
+        ensures { result ≡ outcome self.now.mode }
+    {
+        match self.mode {
+            Mode::Units(_, _) | Mode::Star(_, _) | Mode::Stars(_, true) => Outcome::Named,
+            Mode::Stars(_, false) => Outcome::Refused(Reason::StarsBehindText),
+            Mode::Refused(reason) => Outcome::Refused(reason),
+            _ => Outcome::Nothing,
+        }
+    }
+
+    /// The rule's pattern.
+    pub fn into_glob(self) -> Result<Vec<u8, A>, AllocError>
+        ensures { IfOk result (λ glob. glob.items ≡ self.glob ++ ending self.mode) }
+    {
+        let mut glob = self.glob;
+        if matches!(self.mode, Mode::Stars(_, _)) {
+            glob.push(b'*')?;
+        }
+        Ok(glob)
+    }
+}
+
+/// Makes the change of a step.
+fn change<A: Allocator>(spans: &mut Vec<Span, A>, change: Change) -> Result<(), AllocError>
+    ensures { OnOk result (spans.new.items ≡ changed spans.old.items change) }
+{
+    match change {
+        Change::Keep => {}
+        Change::Clear => spans.clear(),
+        Change::Add(first, last) => spans.push(Span { first, last })?,
+    }
+    Ok(())
+}

@@ -1,0 +1,337 @@
+//! What one byte of a rule means, after those before it.
+ghost use Rattle.std.specs.Prelude.{◌≡◌};
+ghost use Rattle.glob_rules.specs.Steps.{moves, writes, adds, refuses, after_units, after_escape, after_star, after_stars, after_escaped_stars, after_open, as_first_item, as_item, after_item, after_open_item, after_hyphen, is_in_bracket, accepted_step, step_from, literal};
+
+use crate::error::Reason;
+
+/// What the bytes so far end with. In a rule with a separator `plain` says that all of them are plain text, and
+/// `opening` that a component begins; in a rule without one, both are false.
+#[derive(Clone, Copy, Debug, PartialEq, Eq)]
+pub enum Mode {
+    /// The end of a unit: `plain` and `opening`.
+    Units(bool, bool),
+    /// A backslash.
+    Escape,
+    /// A star, and before it `plain` and `opening`.
+    Star(bool, bool),
+    /// Two stars or more, of which `plain` or `opening` is true.
+    Stars(bool, bool),
+    /// Such stars and a backslash.
+    EscapedStars,
+    /// The `[` of a bracket.
+    Open,
+    /// `[!` or `[^`.
+    Negation,
+    /// An item of a bracket that begins no range.
+    Range,
+    /// An item of a bracket that may begin a range.
+    Item(u8),
+    /// The item `[`.
+    OpenItem,
+    /// An item and a hyphen.
+    Hyphen(u8),
+    /// A backslash in a bracket.
+    ItemEscape,
+    /// An item, a hyphen and a backslash.
+    HyphenEscape(u8),
+    /// Something that is refused.
+    Refused(Reason),
+}
+
+/// Characters of a bracket, from the first to the last.
+#[derive(Clone, Copy, Debug, PartialEq, Eq)]
+pub struct Span {
+    /// The first one.
+    pub first: u8,
+    /// The last one. If it is before the first, there are none.
+    pub last: u8,
+}
+
+/// What a byte does to the characters of the bracket that is read.
+#[derive(Clone, Copy, Debug, PartialEq, Eq)]
+pub enum Change {
+    /// They stay.
+    Keep,
+    /// There are none: a bracket begins.
+    Clear,
+    /// These are added.
+    Add(u8, u8),
+}
+
+/// What is written at the end of the pattern.
+#[derive(Clone, Copy, Debug, PartialEq, Eq)]
+pub enum Writing {
+    /// Nothing.
+    Nothing,
+    /// This byte.
+    Byte(u8),
+    /// This byte in a bracket of its own.
+    Bracketed(u8),
+    /// `*/`, which makes a star `**/`.
+    StarSlash,
+    /// `/**/`, which makes a star one directory or more.
+    SlashStars,
+    /// The characters of the bracket, and `]`.
+    Held,
+}
+
+/// What a byte does.
+#[derive(Clone, Copy, Debug, PartialEq, Eq)]
+pub struct Step {
+    /// What the bytes then end with.
+    pub mode: Mode,
+    /// What becomes of the bracket's characters.
+    pub change: Change,
+    /// What is written.
+    pub writing: Writing,
+}
+
+/// A step that writes nothing.
+fn moves(mode: Mode) -> Step
+    ensures { result ≡ moves mode }
+{
+    writes(mode, Writing::Nothing)
+}
+
+/// A step that adds nothing to a bracket.
+fn writes(mode: Mode, writing: Writing) -> Step
+    ensures { result ≡ writes mode writing }
+{
+    Step {
+        mode,
+        change: Change::Keep,
+        writing,
+    }
+}
+
+/// A step that adds these characters to a bracket.
+fn adds(mode: Mode, first: u8, last: u8) -> Step
+    ensures { result ≡ adds mode first last }
+{
+    Step {
+        mode,
+        change: Change::Add(first, last),
+        writing: Writing::Nothing,
+    }
+}
+
+/// A step that refuses the line.
+fn refuses(reason: Reason) -> Step
+    ensures { result ≡ refuses reason }
+{
+    moves(Mode::Refused(reason))
+}
+
+/// A byte that matches itself.
+fn literal(c: u8) -> Writing
+    ensures { result ≡ literal c }
+{
+    if c == b'?' || c == b'*' || c == b'[' {
+        Writing::Bracketed(c)
+    } else {
+        Writing::Byte(c)
+    }
+}
+
+/// A byte after whole units.
+fn after_units(plain: bool, opening: bool, c: u8) -> Step
+    ensures { result ≡ after_units plain opening c }
+{
+    if c == b'\\' {
+        moves(Mode::Escape)
+    } else if c == b'*' {
+        writes(Mode::Star(plain, opening), Writing::Byte(c))
+    } else if c == b'?' {
+        writes(Mode::Units(false, false), Writing::Byte(c))
+    } else if c == b'[' {
+        Step {
+            mode: Mode::Open,
+            change: Change::Clear,
+            writing: Writing::Byte(c),
+        }
+    } else {
+        writes(Mode::Units(plain, c == b'/'), Writing::Byte(c))
+    }
+}
+
+/// A byte after a backslash.
+fn after_escape(c: u8) -> Step
+    ensures { result ≡ after_escape c }
+{
+    writes(Mode::Units(false, c == b'/'), literal(c))
+}
+
+/// A byte after one star.
+fn after_star(plain: bool, opening: bool, c: u8) -> Step
+    ensures { result ≡ after_star plain opening c }
+{
+    if c != b'*' {
+        after_units(false, false, c)
+    } else if plain || opening {
+        moves(Mode::Stars(plain, opening))
+    } else {
+        moves(Mode::Star(false, false))
+    }
+}
+
+/// A byte after two stars or more that may be a component.
+fn after_stars(plain: bool, opening: bool, c: u8) -> Step
+    ensures { result ≡ after_stars plain opening c }
+{
+    if c == b'*' {
+        moves(Mode::Stars(plain, opening))
+    } else if c == b'\\' {
+        moves(Mode::EscapedStars)
+    } else if c != b'/' {
+        after_units(false, false, c)
+    } else if opening {
+        writes(Mode::Units(false, true), Writing::StarSlash)
+    } else {
+        refuses(Reason::StarsBehindText)
+    }
+}
+
+/// A byte after such stars and a backslash.
+fn after_escaped_stars(c: u8) -> Step
+    ensures { result ≡ after_escaped_stars c }
+{
+    if c == b'/' {
+        writes(Mode::Units(false, true), Writing::SlashStars)
+    } else {
+        after_escape(c)
+    }
+}
+
+/// A byte after the `[` of a bracket.
+fn after_open(c: u8) -> Step
+    ensures { result ≡ after_open c }
+{
+    if c == b'!' || c == b'^' {
+        writes(Mode::Negation, Writing::Byte(b'!'))
+    } else {
+        as_first_item(c)
+    }
+}
+
+/// A byte as the first item of a bracket, which `]` may be.
+fn as_first_item(c: u8) -> Step
+    ensures { result ≡ as_first_item c }
+{
+    if c == b']' {
+        adds(Mode::Item(c), c, c)
+    } else {
+        as_item(c)
+    }
+}
+
+/// A byte as an item of a bracket, or as its end.
+fn as_item(c: u8) -> Step
+    ensures { result ≡ as_item c }
+{
+    if c == b']' {
+        writes(Mode::Units(false, false), Writing::Held)
+    } else if c == b'\\' {
+        moves(Mode::ItemEscape)
+    } else if c == b'[' {
+        adds(Mode::OpenItem, c, c)
+    } else {
+        adds(Mode::Item(c), c, c)
+    }
+}
+
+/// A byte after an item that may begin a range.
+fn after_item(item: u8, c: u8) -> Step
+    ensures { result ≡ after_item item c }
+{
+    if c == b'-' {
+        moves(Mode::Hyphen(item))
+    } else {
+        as_item(c)
+    }
+}
+
+/// A byte after an item and a hyphen, which before `]` is an item itself.
+fn after_hyphen(item: u8, c: u8) -> Step
+    ensures { result ≡ after_hyphen item c }
+{
+    if c == b'\\' {
+        moves(Mode::HyphenEscape(item))
+    } else if c == b']' {
+        Step {
+            mode: Mode::Units(false, false),
+            change: Change::Add(b'-', b'-'),
+            writing: Writing::Held,
+        }
+    } else {
+        adds(Mode::Range, item, c)
+    }
+}
+
+/// A byte after the item `[`.
+fn after_open_item(c: u8) -> Step
+    ensures { result ≡ after_open_item c }
+{
+    if c == b':' {
+        refuses(Reason::Class)
+    } else {
+        after_item(b'[', c)
+    }
+}
+
+/// Whether the byte after these is in a bracket.
+fn is_in_bracket(mode: Mode) -> bool
+    ensures { result ≡ is_in_bracket mode }
+{
+    match mode {
+        Mode::Open
+        | Mode::Negation
+        | Mode::Range
+        | Mode::Item(_)
+        | Mode::OpenItem
+        | Mode::Hyphen(_)
+        | Mode::ItemEscape
+        | Mode::HyphenEscape(_) => true,
+        Mode::Units(_, _)
+        | Mode::Escape
+        | Mode::Star(_, _)
+        | Mode::Stars(_, _)
+        | Mode::EscapedStars
+        | Mode::Refused(_) => false,
+    }
+}
+
+/// A byte after those before it, where neither NUL nor a bracket refuses it.
+fn accepted_step(mode: Mode, c: u8) -> Step
+    ensures { result ≡ accepted_step mode c }
+{
+    match mode {
+        Mode::Units(plain, opening) => after_units(plain, opening, c),
+        Mode::Escape => after_escape(c),
+        Mode::Star(plain, opening) => after_star(plain, opening, c),
+        Mode::Stars(plain, opening) => after_stars(plain, opening, c),
+        Mode::EscapedStars => after_escaped_stars(c),
+        Mode::Open => after_open(c),
+        Mode::Negation => as_first_item(c),
+        Mode::Range => as_item(c),
+        Mode::Item(item) => after_item(item, c),
+        Mode::OpenItem => after_open_item(c),
+        Mode::Hyphen(item) => after_hyphen(item, c),
+        Mode::ItemEscape => adds(Mode::Item(c), c, c),
+        Mode::HyphenEscape(item) => adds(Mode::Range, item, c),
+        Mode::Refused(reason) => refuses(reason),
+    }
+}
+
+/// What a byte does after those before it.
+#[tactic(auto, unfolding(crate::specs::Steps::step_from))]
+pub fn step_from(mode: Mode, c: u8) -> Step
+    ensures { result ≡ step_from mode c }
+{
+    if c == 0 {
+        refuses(Reason::Nul)
+    } else if c >= 128 && is_in_bracket(mode) {
+        refuses(Reason::BeyondAscii)
+    } else {
+        accepted_step(mode, c)
+    }
+}
