@@ -99,10 +99,10 @@ fn check_call(rt: &(impl Abort + AllocGlobal), row: (&str, &str, bool), call: Ca
     ample.last.saturating_add(1).saturating_sub(ample.first)
 }
 
-/// The calls of one pattern and text. A text that does not match has no pieces, which takes no memory.
+/// The calls of one pattern and text. For a text that does not match, and for the empty pattern, there is nothing to keep.
 fn check_calls(rt: &(impl Abort + AllocGlobal), row: (&str, &str, bool)) {
     let captured = check_call(rt, row, Call::Captures);
-    check(rt, captured > 0 || !row.2, row.0);
+    check(rt, captured > 0 || !row.2 || row.0.is_empty(), row.0);
     let reached = check_call(rt, row, Call::Reach);
     check(rt, reached > 0, row.0);
     let written = check_call(rt, row, Call::Tokens);
