@@ -1,11 +1,11 @@
 //! Each request for memory refused in turn.
-use super::made::{check, made, tree_of};
+use super::made::{check, tree_of};
 use super::walks::{Found, all_found};
 use crate::trees::{Listed, Rule};
-use glob::{End, ListError, Look, MatchOptions, MemTree, PatternRefusal, Tree, walk_in};
+use glob::{End, MatchOptions, PatternRefusal, walk_in};
 use glob_prune::Pruned;
 use glob_testing::rationing::Rationed;
-use std::alloc::{AllocError, Global};
+use std::alloc::Global;
 use std::process::Abort;
 
 const KEYS: &str = "/w/a /w/target/ /w/target/b /w/src/ /w/src/c /w/src/target";
@@ -23,20 +23,12 @@ const FOUND: [Found<'static>; 4] = [
     Found::Path("src/target"),
 ];
 
-/// The tree without what is excluded, with memory from the allocator, if that suffices for the tree in it.
-fn pruned<'a>(
-    rt: &impl Abort,
-    alloc: &'a Rationed<Global>,
-) -> Option<Pruned<MemTree<&'a Rationed<Global>>, Listed<'static>>> {
-    let tree = tree_of(rt, alloc, KEYS)?;
-    Some(Pruned::new(alloc, tree, Listed { rules: &RULES }))
-}
-
-/// Walks over the pruned tree. Gives whether memory sufficed.
+/// Walks over the tree without what is excluded. Gives whether memory sufficed.
 fn walks(rt: &(impl Abort + AllocGlobal), alloc: &Rationed<Global>) -> bool {
-    let Some(tree) = pruned(rt, alloc) else {
+    let Some(tree) = tree_of(rt, alloc, KEYS) else {
         return false;
     };
+    let tree = Pruned::new(alloc, tree, Listed { rules: &RULES });
     match walk_in(alloc, tree, "**/*", MatchOptions::new(), u64::MAX) {
         Err(refusal) => {
             assert!(rt; matches!(refusal, PatternRefusal::Memory));
@@ -60,7 +52,7 @@ fn walks(rt: &(impl Abort + AllocGlobal), alloc: &Rationed<Global>) -> bool {
 /// How many requests the tree in it makes.
 fn requests_of_tree(rt: &(impl Abort + AllocGlobal)) -> u64 {
     let ample = Rationed::refusing(0, rt.alloc());
-    check(rt, pruned(rt, &ample).is_some(), "a tree");
+    check(rt, tree_of(rt, &ample, KEYS).is_some(), "a tree");
     ample.ration.asked()
 }
 
