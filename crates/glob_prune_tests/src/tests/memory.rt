@@ -1,6 +1,6 @@
 //! Each request for memory refused in turn.
 use super::made::{check, tree_of};
-use super::walks::{Found, all_found};
+use super::walks::{Found, all_found, are};
 use crate::trees::{Listed, Rule};
 use glob::{End, MatchOptions, PatternRefusal, walk_in};
 use glob_prune::Pruned;
@@ -23,12 +23,24 @@ const FOUND: [Found<'static>; 4] = [
     Found::Path("src/target"),
 ];
 
-/// Walks over the tree without what is excluded. Gives whether memory sufficed.
-fn walks(rt: &(impl Abort + AllocGlobal), alloc: &Rationed<Global>) -> bool {
+/// Whether what is known begins with what is found.
+fn begins(known: &[Found<'_>], found: &[Found<'_>]) -> bool {
+    match known.get(..found.len()) {
+        Some(beginning) => are(found, beginning),
+        None => false,
+    }
+}
+
+/// Walks over the tree without what the rules exclude. Gives whether memory sufficed.
+fn walks<'a>(
+    rt: &(impl Abort + AllocGlobal),
+    alloc: &'a Rationed<Global>,
+    rules: &'a [Rule<'a>],
+) -> bool {
     let Some(tree) = tree_of(rt, alloc, KEYS) else {
         return false;
     };
-    let tree = Pruned::new(alloc, tree, Listed { rules: &RULES });
+    let tree = Pruned::new(alloc, tree, Listed { rules });
     match walk_in(alloc, tree, "**/*", MatchOptions::new(), u64::MAX) {
         Err(refusal) => {
             assert!(rt; matches!(refusal, PatternRefusal::Memory));
@@ -38,11 +50,7 @@ fn walks(rt: &(impl Abort + AllocGlobal), alloc: &Rationed<Global>) -> bool {
             let found = all_found(rt, walk.items.as_slice());
             let is_done = walk.end == End::Done;
             check(rt, is_done || walk.end == End::Memory, "the end");
-            check(
-                rt,
-                FOUND.as_slice().starts_with(found.as_slice()),
-                "a beginning",
-            );
+            check(rt, begins(&FOUND, found.as_slice()), "a beginning");
             check(rt, !is_done || found.len() == FOUND.len(), "all of them");
             is_done
         }
@@ -59,12 +67,12 @@ fn requests_of_tree(rt: &(impl Abort + AllocGlobal)) -> u64 {
 #[test]
 fn each_request_of_a_pruned_walk_is_refused(rt: HostRuntime) {
     let ample = Rationed::refusing(0, rt.alloc());
-    check(&rt, walks(&rt, &ample), "ample memory");
+    check(&rt, walks(&rt, &ample, &RULES), "ample memory");
     let first = requests_of_tree(&rt).saturating_add(1);
     check(&rt, first < ample.ration.asked(), "few requests");
     for number in first..=ample.ration.asked() {
         let scarce = Rationed::refusing(number, rt.alloc());
-        let suffices = walks(&rt, &scarce);
+        let suffices = walks(&rt, &scarce, &RULES);
         assert!(rt; !suffices, "at {number}");
         assert!(rt; scarce.ration.held() == 0, "at {number}");
     }

@@ -35,6 +35,19 @@ pub(super) fn all_found<'a, A: Allocator>(
     list
 }
 
+/// Whether these are found.
+pub(super) fn are(found: &[Found<'_>], known: &[Found<'_>]) -> bool {
+    found == known
+}
+
+/// What a walk by the pattern finds is what is kept.
+fn check_found(rt: &impl Abort, found: &[Found<'_>], kept: &[Found<'_>], pattern: &str) {
+    assert!(rt;
+        are(found, kept),
+        "{pattern}: {found:?} in place of {kept:?}"
+    );
+}
+
 /// A whole walk.
 fn walk<T: Tree<Alloc = Global>>(
     rt: &(impl Abort + AllocGlobal),
@@ -114,11 +127,7 @@ fn check_pruned<'a>(
     let walk = walk(rt, pruned, job.0, job.1);
     let (items, tree) = (walk.items, walk.tree.into_tree());
     let found = all_found(rt, items.as_slice());
-    assert!(rt;
-        found.as_slice() == kept,
-        "{}: {found:?} in place of {kept:?} by {rules:?}",
-        job.0
-    );
+    check_found(rt, found.as_slice(), kept, job.0);
     check_asked(rt, &tree, rules);
 }
 
