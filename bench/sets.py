@@ -4,11 +4,11 @@ the sets.
 
 usage: sets.py FOLDER ROUNDS SHARE DISK
 
-FOLDER has paths.txt, the program library of ours/ and, if it could be built, globset_sets of peers/. The paths of a real
+FOLDER has paths.txt, the program sets of ours/ and, if it could be built, globset_sets of peers/. The paths of a real
 disk are those of files below the folder DISK. A time is the processor's, the least of ROUNDS runs less the least of as
 many that read and make the same and ask nothing. SHARE divides how many paths are asked about, and how often a set is
-made. globset is asked once more before, which is not timed, since it keeps what it learns. Where their
-answers differ, or one gives none, a row is left out and said so, and the exit status is 1.
+made. globset is asked once more before, which is not timed, since it keeps what it learns. Where their answers differ, or
+one gives none, a row is left out and said so, and the exit status is 1.
 """
 
 import os
@@ -23,7 +23,7 @@ from peers import Failed, print_head, print_row, ratio, shown
 LETTERS = "s"
 
 # How many patterns a set has, and how many paths it is asked about: globset takes milliseconds for one with 5,000.
-SETS = {125: 100_000, 482: 20_000, 5_000: 200}
+SETS = {125: 100_000, 482: 2_000, 5_000: 200}
 
 # Whose paths they are.
 PATHS = ["paths", "disk"]
@@ -143,7 +143,7 @@ def tables(programs, patterns, paths, rounds, share):
 
 def main():
     folder, rounds, share = Path(sys.argv[1]), int(sys.argv[2]), int(sys.argv[3])
-    programs = {"ours": folder / "ours/library", "globset": folder / "peers/globset_sets"}
+    programs = {"ours": folder / "ours/sets", "globset": folder / "peers/globset_sets"}
     programs = {name: program for name, program in programs.items() if program.exists()}
     patterns, paths = write_inputs(folder, sys.argv[4], share)
     failures = 0

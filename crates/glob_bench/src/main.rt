@@ -5,25 +5,19 @@
 //! `glob_bench compile PATTERN TIMES` reads the pattern over and over, and counts the bytes of all that it read.
 //! `glob_bench walk PATTERN LEVELS TIMES` counts the items of a walk over so many directories, one in another, over and
 //! over.
-//! `glob_bench set OPTIONS PATTERNS QUESTION FILE TIMES` asks a set of the patterns that are the lines of a file about each
-//! line of another, over and over. QUESTION is `any`, which counts the lines that a pattern matches, or `first`, `last` or
-//! `all`, which add up the numbers of those patterns, counted from 1.
-//! `glob_bench make OPTIONS PATTERNS TIMES` makes such a set over and over, and counts its patterns.
 //! A pattern `@FILE` is the text of a file, since a word of a command line cannot be long. Reading a file is not timed, nor
-//! is reading the pattern of `match` or making the set of `set`.
+//! is reading the pattern of `match`.
 //!
 //! `glob_bench answer` prints no time. It answers the cases of `bench/run --random`, line by line.
 #![tactic(auto)]
 
 mod answer;
 mod chain;
-mod sets;
 
 use answer::answer_lines;
 use anyhow::{Context, Result, bail};
 use chain::Chain;
 use glob::{MatchOptions, Pattern, glob_in};
-use sets::time_sets;
 use std::alloc::{AllocError, Global};
 use std::rt::{Clock, Files};
 use std::time::Instant;
@@ -125,9 +119,8 @@ fn run<R: Files + Clock + AllocGlobal>(rt: &R, words: &[&str]) -> Result<(u64, u
             let count = walk(rt.alloc(), pattern.as_str(), levels, times)?;
             Ok((count, start.elapsed(rt)?.as_nanos()))
         }
-        ["set" | "make", ..] => time_sets(rt, words),
         _ => bail!(
-            "usage: glob_bench match OPTIONS PATTERN FILE TIMES | compile PATTERN TIMES | walk PATTERN LEVELS TIMES | set .. | make .. | answer"
+            "usage: glob_bench match OPTIONS PATTERN FILE TIMES | compile PATTERN TIMES | walk PATTERN LEVELS TIMES | answer"
         ),
     }
 }

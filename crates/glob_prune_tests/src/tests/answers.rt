@@ -3,7 +3,6 @@ use super::made::{check, tree_of};
 use crate::trees::{Listed, Recorded, Rule};
 use glob::{ListError, Look, Tree};
 use glob_prune::Pruned;
-use std::alloc::Global;
 use std::io::ErrorKind;
 use std::process::Abort;
 

@@ -1,11 +1,11 @@
 //! Each request for memory refused in turn.
-use super::made::{check, made, tree_of};
-use super::walks::{Found, all_found};
+use super::made::{check, tree_of};
+use super::walks::{Found, all_found, are};
 use crate::trees::{Listed, Rule};
-use glob::{End, ListError, Look, MatchOptions, MemTree, PatternRefusal, Tree, walk_in};
+use glob::{End, MatchOptions, PatternRefusal, walk_in};
 use glob_prune::Pruned;
 use glob_testing::rationing::Rationed;
-use std::alloc::{AllocError, Global};
+use std::alloc::Global;
 use std::process::Abort;
 
 const KEYS: &str = "/w/a /w/target/ /w/target/b /w/src/ /w/src/c /w/src/target";
@@ -23,20 +23,24 @@ const FOUND: [Found<'static>; 4] = [
     Found::Path("src/target"),
 ];
 
-/// The tree without what is excluded, with memory from the allocator, if that suffices for the tree in it.
-fn pruned<'a>(
-    rt: &impl Abort,
-    alloc: &'a Rationed<Global>,
-) -> Option<Pruned<MemTree<&'a Rationed<Global>>, Listed<'static>>> {
-    let tree = tree_of(rt, alloc, KEYS)?;
-    Some(Pruned::new(alloc, tree, Listed { rules: &RULES }))
+/// Whether what is known begins with what is found.
+fn begins(known: &[Found<'_>], found: &[Found<'_>]) -> bool {
+    match known.get(..found.len()) {
+        Some(beginning) => are(found, beginning),
+        None => false,
+    }
 }
 
-/// Walks over the pruned tree. Gives whether memory sufficed.
-fn walks(rt: &(impl Abort + AllocGlobal), alloc: &Rationed<Global>) -> bool {
-    let Some(tree) = pruned(rt, alloc) else {
+/// Walks over the tree without what the rules exclude. Gives whether memory sufficed.
+fn walks<'a>(
+    rt: &(impl Abort + AllocGlobal),
+    alloc: &'a Rationed<Global>,
+    rules: &'a [Rule<'a>],
+) -> bool {
+    let Some(tree) = tree_of(rt, alloc, KEYS) else {
         return false;
     };
+    let tree = Pruned::new(alloc, tree, Listed { rules });
     match walk_in(alloc, tree, "**/*", MatchOptions::new(), u64::MAX) {
         Err(refusal) => {
             assert!(rt; matches!(refusal, PatternRefusal::Memory));
@@ -46,11 +50,7 @@ fn walks(rt: &(impl Abort + AllocGlobal), alloc: &Rationed<Global>) -> bool {
             let found = all_found(rt, walk.items.as_slice());
             let is_done = walk.end == End::Done;
             check(rt, is_done || walk.end == End::Memory, "the end");
-            check(
-                rt,
-                FOUND.as_slice().starts_with(found.as_slice()),
-                "a beginning",
-            );
+            check(rt, begins(&FOUND, found.as_slice()), "a beginning");
             check(rt, !is_done || found.len() == FOUND.len(), "all of them");
             is_done
         }
@@ -60,19 +60,19 @@ fn walks(rt: &(impl Abort + AllocGlobal), alloc: &Rationed<Global>) -> bool {
 /// How many requests the tree in it makes.
 fn requests_of_tree(rt: &(impl Abort + AllocGlobal)) -> u64 {
     let ample = Rationed::refusing(0, rt.alloc());
-    check(rt, pruned(rt, &ample).is_some(), "a tree");
+    check(rt, tree_of(rt, &ample, KEYS).is_some(), "a tree");
     ample.ration.asked()
 }
 
 #[test]
 fn each_request_of_a_pruned_walk_is_refused(rt: HostRuntime) {
     let ample = Rationed::refusing(0, rt.alloc());
-    check(&rt, walks(&rt, &ample), "ample memory");
+    check(&rt, walks(&rt, &ample, &RULES), "ample memory");
     let first = requests_of_tree(&rt).saturating_add(1);
     check(&rt, first < ample.ration.asked(), "few requests");
     for number in first..=ample.ration.asked() {
         let scarce = Rationed::refusing(number, rt.alloc());
-        let suffices = walks(&rt, &scarce);
+        let suffices = walks(&rt, &scarce, &RULES);
         assert!(rt; !suffices, "at {number}");
         assert!(rt; scarce.ration.held() == 0, "at {number}");
     }

@@ -23,17 +23,33 @@ fn add(tree: &mut MemTree, path: &str, kind: usize) -> Result<(), TreeRefusal> {
     }
 }
 
-/// Adds something in one of the directories of these names below the current one, and its names.
+/// The names of something below a directory, which is empty if it is the current one.
+fn names_below(rt: &(impl Abort + AllocGlobal), directory: &str, name: &str) -> String {
+    if directory.is_empty() {
+        return joined(rt, &[name]);
+    }
+    joined(rt, &[directory, "/", name])
+}
+
+/// One of these names, or the empty text.
+fn some_key<'a>(random: &mut Random, keys: &'a [String]) -> &'a str {
+    let place = random.below(keys.len().saturating_add(1));
+    match keys.get(place) {
+        Some(key) => key.as_str(),
+        None => "",
+    }
+}
+
+/// Adds something in one of the directories of these names, or in the current one, and its names.
 fn grow(
     rt: &(impl Abort + AllocGlobal),
     random: &mut Random,
     tree: &mut MemTree,
     keys: &mut Vec<String>,
 ) {
-    let place = random.below(keys.len().saturating_add(1));
-    let above = keys.get(place).map_or("", |key| key.as_str());
-    let slash = if above.is_empty() { "" } else { "/" };
-    let key = joined(rt, &[above, slash, random.text(&NAMES)]);
+    let directory = some_key(random, keys.as_slice());
+    let name = random.text(&NAMES);
+    let key = names_below(rt, directory, name);
     let path = joined(rt, &["/w/", key.as_str()]);
     match add(tree, path.as_str(), random.below(8)) {
         Ok(()) => push(rt, keys, key),

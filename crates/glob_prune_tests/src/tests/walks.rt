@@ -35,6 +35,19 @@ pub(super) fn all_found<'a, A: Allocator>(
     list
 }
 
+/// Whether these are found.
+pub(super) fn are(found: &[Found<'_>], known: &[Found<'_>]) -> bool {
+    found == known
+}
+
+/// What a walk by the pattern finds is what is kept.
+fn check_found(rt: &impl Abort, found: &[Found<'_>], kept: &[Found<'_>], pattern: &str) {
+    assert!(rt;
+        are(found, kept),
+        "{pattern}: {found:?} in place of {kept:?}"
+    );
+}
+
 /// A whole walk.
 fn walk<T: Tree<Alloc = Global>>(
     rt: &(impl Abort + AllocGlobal),
@@ -102,36 +115,33 @@ fn check_asked(rt: &impl Abort, tree: &Recorded, rules: &[Rule<'_>]) {
 }
 
 /// A walk over the tree without what the rules exclude finds these.
-fn check_pruned(
+fn check_pruned<'a>(
     rt: &(impl Abort + AllocGlobal),
     tree: MemTree,
-    rules: &[Rule<'_>],
+    rules: &'a [Rule<'a>],
     job: (&str, MatchOptions),
     kept: &[Found<'_>],
 ) {
     let tree = Recorded::new(rt.alloc(), tree);
     let pruned = Pruned::new(rt.alloc(), tree, Listed { rules });
     let walk = walk(rt, pruned, job.0, job.1);
-    let found = all_found(rt, walk.items.as_slice());
-    assert!(rt;
-        found.as_slice() == kept,
-        "{}: {found:?} in place of {kept:?} by {rules:?}",
-        job.0
-    );
-    check_asked(rt, &walk.tree.into_tree(), rules);
+    let (items, tree) = (walk.items, walk.tree.into_tree());
+    let found = all_found(rt, items.as_slice());
+    check_found(rt, found.as_slice(), kept, job.0);
+    check_asked(rt, &tree, rules);
 }
 
 /// A walk over the tree without what the rules exclude finds what the walk over the whole tree does and the rules keep.
 /// Gives how much that is, and how much the rules leave out.
-pub(super) fn compare(
+pub(super) fn compare<'a>(
     rt: &(impl Abort + AllocGlobal),
     tree: MemTree,
-    rules: &[Rule<'_>],
+    rules: &'a [Rule<'a>],
     job: (&str, MatchOptions),
 ) -> (usize, usize) {
     let whole = walk(rt, tree, job.0, job.1);
-    let all = all_found(rt, whole.items.as_slice());
-    let mut tree = whole.tree;
+    let (items, mut tree) = (whole.items, whole.tree);
+    let all = all_found(rt, items.as_slice());
     let kept = kept(rt, &mut tree, all.as_slice(), rules);
     check_pruned(rt, tree, rules, job, kept.as_slice());
     (kept.len(), all.len().saturating_sub(kept.len()))
