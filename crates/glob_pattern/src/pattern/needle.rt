@@ -36,10 +36,10 @@ impl Needle {
         let mut longest = Needle::NONE;
         let mut needle = Needle::NONE;
         for token in tokens {
-            needle = match token {
-                Token::Literal(c) => needle.with(*c),
-                _ => Needle::NONE,
-            };
+            match token {
+                Token::Literal(c) => needle.add(*c),
+                _ => needle.len = 0,
+            }
             if needle.len > longest.len {
                 longest = needle;
             }
@@ -47,24 +47,31 @@ impl Needle {
         longest
     }
 
-    /// The bytes and the character after them, or the character alone if these are more than 16 bytes.
-    fn with(self, c: char) -> Needle
-        requires few { self.len ≤ 16 }
-        ensures few { result.len ≤ 16 }
-        ensures bytes { (take result.len result.bytes ≡ take self.len self.bytes ++ encode_utf8 c)
-            ⊎ (take result.len result.bytes ≡ encode_utf8 c) }
+    /// Adds a character, or leaves it alone if these are more than 16 bytes. In place: what was written by bytes and is
+    /// then copied as a whole is slow.
+    fn add(&mut self, c: char)
+        requires few { self.old.len ≤ 16 }
+        ensures few { self.new.len ≤ 16 }
+        ensures bytes { (take self.new.len self.new.bytes
+            ≡ take self.old.len self.old.bytes ++ encode_utf8 c)
+            ⊎ (take self.new.len self.new.bytes ≡ encode_utf8 c) }
     {
+        if c.is_ascii() {
+            let at = if self.len < LANES { self.len } else { 0 };
+            self.bytes[at] = c as u8;
+            self.len = at + 1;
+            return;
+        }
         let mut buffer = [0; 4];
         let char = c.encode_utf8(&mut buffer).as_bytes();
-        let mut bytes = self.bytes;
         let start = if self.len + char.len() > LANES {
             0
         } else {
             self.len
         };
         let len = start + char.len();
-        bytes[start..len].copy_from_slice(char);
-        Needle { bytes, len }
+        self.bytes[start..len].copy_from_slice(char);
+        self.len = len;
     }
 
     /// Whether the bytes may contain the needle. A needle of one byte, which most texts contain, is not searched for,
