@@ -3,6 +3,7 @@
 
 mod entering;
 mod exclusion;
+mod ignoring;
 pub mod laws;
 mod physical;
 mod pruned;

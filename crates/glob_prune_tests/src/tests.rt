@@ -1,4 +1,5 @@
 mod answers;
+mod ignoring;
 mod made;
 mod memory;
 mod random;
