@@ -1,11 +1,12 @@
 //! The disk on which a symbolic link is no directory.
 use super::PATHS;
 use crate::files::{Calls, Kind, Written};
-use glob::{Disk, End, ListError, Look, MatchOptions, Tree, walk_in};
+use glob::{Disk, End, Entry, ListError, Look, MatchOptions, Tree, walk_in};
 use glob_prune::{PhysicalDisk, Strays};
 use glob_testing::rationing::Rationed;
-use std::alloc::Global;
+use std::alloc::Allocator;
 use std::cell::Cell;
+use std::fs::Files;
 use std::io::ErrorKind;
 use std::process::Abort;
 
@@ -68,6 +69,17 @@ fn looks_follow_no_link(rt: HostRuntime) {
     }
 }
 
+/// What a listing of the path answers, on the disk of these files.
+fn listed<R: Files + Drop, S: Strays, A: Allocator + Copy>(
+    files: R,
+    strays: S,
+    alloc: A,
+    path: &str,
+) -> Result<Vec<Entry<A>, A>, ListError> {
+    let mut disk = PhysicalDisk::new(files, strays, alloc);
+    disk.list(path)
+}
+
 /// A path, and the entries of its listing, where that of a directory ends in `/`.
 const LISTINGS: [(&str, &[&str]); 7] = [
     ("d", &["f", "s/", "gone", "ring", "near", "same"]),
@@ -93,8 +105,8 @@ fn check_entry(rt: &impl Abort, name: &str, is_dir: bool, word: &str) {
 fn listings_say_of_a_link_that_it_is_no_directory(rt: HostRuntime) {
     for (path, words) in LISTINGS {
         let calls = Calls::new();
-        let mut disk = PhysicalDisk::new(Written::new(PATHS, &calls), NoStrays, rt.alloc());
-        let Ok(entries) = disk.list(path) else {
+        let files = Written::new(PATHS, &calls);
+        let Ok(entries) = listed(files, NoStrays, rt.alloc(), path) else {
             panic!(rt; "{path}");
         };
         assert_eq!(rt; entries.len(), words.len(), "{path}");
@@ -121,8 +133,8 @@ fn a_stray_name_costs_only_itself(rt: HostRuntime) {
         others: &others,
     };
     let calls = Calls::new();
-    let mut disk = PhysicalDisk::new(Written::new(&paths, &calls), strays, rt.alloc());
-    let Ok(entries) = disk.list("a") else {
+    let files = Written::new(&paths, &calls);
+    let Ok(entries) = listed(files, strays, rt.alloc(), "a") else {
         panic!(rt; "no listing");
     };
     assert_eq!(rt; entries.len(), 2);
@@ -152,8 +164,8 @@ const FAILURES: [(&str, Option<ErrorKind>); 11] = [
 fn physical_listings_that_fail(rt: HostRuntime) {
     for (path, wanted) in FAILURES {
         let calls = Calls::new();
-        let mut disk = PhysicalDisk::new(Written::new(PATHS, &calls), NoStrays, rt.alloc());
-        match disk.list(path) {
+        let files = Written::new(PATHS, &calls);
+        match listed(files, NoStrays, rt.alloc(), path) {
             Ok(_) => panic!(rt; "{path}"),
             Err(ListError::Read(error)) => assert!(rt; Some(error.kind()) == wanted, "{path}"),
             Err(ListError::Memory) => assert!(rt; wanted.is_none(), "{path}"),
@@ -224,10 +236,9 @@ fn a_link_is_followed_only_by_name(rt: HostRuntime) {
 }
 
 /// Lists a directory with memory from the allocator. Gives whether memory sufficed.
-fn lists(rt: &impl Abort, alloc: &Rationed<Global>) -> bool {
+fn lists<A: Allocator + Copy>(rt: &impl Abort, alloc: A) -> bool {
     let calls = Calls::new();
-    let mut disk = PhysicalDisk::new(Written::new(PATHS, &calls), NoStrays, alloc);
-    match disk.list("d") {
+    match listed(Written::new(PATHS, &calls), NoStrays, alloc, "d") {
         Ok(entries) => {
             assert_eq!(rt; entries.len(), 6);
             true

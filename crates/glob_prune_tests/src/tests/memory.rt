@@ -2,10 +2,10 @@
 use super::made::{check, tree_of};
 use super::walks::{Found, all_found, are};
 use crate::trees::{Listed, Rule};
-use glob::{End, MatchOptions, PatternRefusal, walk_in};
+use glob::{End, GlobResult, MatchOptions, PatternRefusal, Tree, Walk, walk_in};
 use glob_prune::Pruned;
 use glob_testing::rationing::Rationed;
-use std::alloc::Global;
+use std::alloc::Allocator;
 use std::process::Abort;
 
 const KEYS: &str = "/w/a /w/target/ /w/target/b /w/src/ /w/src/c /w/src/target";
@@ -31,29 +31,43 @@ fn begins(known: &[Found<'_>], found: &[Found<'_>]) -> bool {
     }
 }
 
-/// Walks over the tree without what the rules exclude. Gives whether memory sufficed.
-fn walks<'a>(
+/// A walk over a tree, if memory suffices to start it.
+fn walked<T: Tree>(rt: &impl Abort, alloc: T::Alloc, tree: T) -> Option<Walk<T>> {
+    match walk_in(alloc, tree, "**/*", MatchOptions::new(), u64::MAX) {
+        Ok(walk) => Some(walk),
+        Err(refusal) => {
+            assert!(rt; matches!(refusal, PatternRefusal::Memory));
+            None
+        }
+    }
+}
+
+/// Where a walk ended so, it found these: all, or the first of them where memory did not suffice. Gives whether it did.
+fn check_walk<A: Allocator>(
     rt: &(impl Abort + AllocGlobal),
-    alloc: &'a Rationed<Global>,
+    items: &[GlobResult<A>],
+    end: End,
+) -> bool {
+    let found = all_found(rt, items);
+    let is_done = end == End::Done;
+    check(rt, is_done || end == End::Memory, "the end");
+    check(rt, begins(&FOUND, found.as_slice()), "a beginning");
+    check(rt, !is_done || found.len() == FOUND.len(), "all of them");
+    is_done
+}
+
+/// Walks over the tree without what the rules exclude. Gives whether memory sufficed.
+fn walks<'a, A: Allocator + Copy>(
+    rt: &(impl Abort + AllocGlobal),
+    alloc: A,
     rules: &'a [Rule<'a>],
 ) -> bool {
     let Some(tree) = tree_of(rt, alloc, KEYS) else {
         return false;
     };
-    let tree = Pruned::new(alloc, tree, Listed { rules });
-    match walk_in(alloc, tree, "**/*", MatchOptions::new(), u64::MAX) {
-        Err(refusal) => {
-            assert!(rt; matches!(refusal, PatternRefusal::Memory));
-            false
-        }
-        Ok(walk) => {
-            let found = all_found(rt, walk.items.as_slice());
-            let is_done = walk.end == End::Done;
-            check(rt, is_done || walk.end == End::Memory, "the end");
-            check(rt, begins(&FOUND, found.as_slice()), "a beginning");
-            check(rt, !is_done || found.len() == FOUND.len(), "all of them");
-            is_done
-        }
+    match walked(rt, alloc, Pruned::new(alloc, tree, Listed { rules })) {
+        Some(walk) => check_walk(rt, walk.items.as_slice(), walk.end),
+        None => false,
     }
 }
 
