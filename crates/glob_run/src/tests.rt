@@ -3,9 +3,11 @@ mod explain;
 mod find;
 mod folder;
 mod help_page;
+mod kinds;
 mod known_trees;
 mod links;
 mod memory;
+mod order;
 mod runs;
 mod writers;
 
@@ -130,6 +132,25 @@ fn an_output_that_fails_is_told(rt: HostRuntime) {
     check_failing_output(&rt, &["escape", "a"]);
     check_failing_output(&rt, &["--help"]);
     check_failing_output(&rt, &["--version"]);
+    check_failing_output(&rt, &["explain", "a*", "ab"]);
+    check_failing_output(&rt, &["explain", "a*", "b"]);
+}
+
+/// Why the arguments could not be read, and the line.
+const UNREAD_ARGUMENTS: &[(ErrorKind, &str)] = &[
+    (ErrorKind::OutOfMemory, "out of memory\n"),
+    (ErrorKind::InvalidData, USAGE_LINE),
+    (ErrorKind::Other, USAGE_LINE),
+];
+
+#[test]
+fn arguments_that_cannot_be_read(rt: HostRuntime) {
+    for (kind, line) in UNREAD_ARGUMENTS {
+        let mut errors = Vec::new(rt.alloc());
+        let status = arguments_fault(rt.alloc(), &mut errors, &io::Error::from(*kind));
+        assert_eq!(rt; status, 2);
+        assert!(rt; errors.as_slice() == line.as_bytes(), "{line}");
+    }
 }
 
 /// A writer that counts its calls.

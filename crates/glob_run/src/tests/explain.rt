@@ -1,5 +1,6 @@
 //! The command `explain`: pieces, where a text stops, and what to write instead.
-use super::runs::{Row, check_rows, check_usage_faults};
+use super::runs::{Row, check, check_rows, check_usage_faults};
+use glob_testing::texts::text_of;
 use std::test::Fail;
 
 /// Texts that match: a line for each token.
@@ -180,4 +181,14 @@ fn refusals(rt: HostRuntime) -> Result<(), Fail> {
 #[test]
 fn usage_faults(rt: HostRuntime) -> Result<(), Fail> {
     check_usage_faults(&rt, USAGE_FAULTS)
+}
+
+/// 8,193 tokens times 8,192 bytes are 2^26 + 8,192, and at most 2^26 are allowed.
+#[test]
+fn a_text_that_is_too_large(rt: HostRuntime) -> Result<(), Fail> {
+    let pattern = text_of(&rt, &[("?", 8_193)])?;
+    let text = text_of(&rt, &[("a", 8_192)])?;
+    let words = ["explain", pattern.as_str(), text.as_str()];
+    let line = "the pattern's tokens times the text's bytes are more than 67108864\n";
+    check(&rt, &words, b"".as_slice(), (2, "", line))
 }

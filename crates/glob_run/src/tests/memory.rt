@@ -81,17 +81,27 @@ fn each_request_is_refused(rt: HostRuntime) {
     }
 }
 
-/// A fault whose line finds no memory is written all the same.
+/// Words whose run is a fault, with the line or lines of which no memory is needed.
+const FAULTS: &[&[&str]] = &[
+    &["match"],
+    &["match", "a**"],
+    &["find", "a**"],
+    &["explain", "a**", "a"],
+];
+
+/// A fault whose line finds no memory is written all the same, or it is lack of memory.
 #[test]
 fn a_fault_is_whole_without_memory(rt: HostRuntime) {
-    let usage = run(&rt, &["match"], 0);
-    let requests = usage.requests;
-    for number in 1..=requests {
-        let short = run(&rt, &["match"], number);
-        let is_whole = short.errors.as_slice() == super::USAGE_LINE.as_bytes();
-        assert!(rt;
-            short.status == 3 || short.status == 2 && is_whole,
-            "at {number}"
-        );
+    for words in FAULTS {
+        let ample = run(&rt, words, 0);
+        assert!(rt; ample.status == 2, "{words:?}");
+        for number in 1..=ample.requests {
+            let short = run(&rt, words, number);
+            let is_whole = short.errors == ample.errors;
+            let is_memory = words.len() > 1
+                && short.errors.as_slice() == b"out of memory\n".as_slice();
+            let is_told = short.status == 2 && (is_whole || is_memory);
+            assert!(rt; short.status == 3 || is_told, "{words:?} at {number}");
+        }
     }
 }

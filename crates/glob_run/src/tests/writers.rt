@@ -180,6 +180,7 @@ const RUNS: &[&[&str]] = &[
     &["--version"],
     &["find", "*/x*"],
     &["find", "*"],
+    &["explain", "a*", "abcd"],
 ];
 
 /// A writer of this mood gets what a willing one gets in two writes at most.
@@ -310,6 +311,8 @@ const WAITS: &[(&str, u32, u64, u64, u64)] = &[
     ("*/x*", 30, 305, 305, 430),
     ("*/x*", 150, 305, 305, 457),
     ("*/x1", 0, 303, 304, 405),
+    ("**/x*", 0, 305, 305, 406),
+    ("**/x*", 30, 305, 305, 430),
 ];
 
 /// The first path is written before the next ask. The second waits for a hundred asks.
