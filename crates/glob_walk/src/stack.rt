@@ -5,7 +5,7 @@
 //! goes, with its names, in its last step. In a directory that `**` is listed for, the last step enters the last entry. It
 //! comes after that entry was met, so the directory stays while the components after `**` go on in the entry. Down a chain
 //! of directories with one entry each, the stack holds at most one directory for each `**` and one more, and not the chain.
-ghost use Rattle.std.specs.Prelude.{◌≡◌, ◌+◌, ◌<◌, ◌≤◌, ◌++◌, true, false, [], None, IfOk, OnOk, vec_len};
+ghost use Rattle.std.specs.Prelude.{◌≡◌, ◌+◌, ◌<◌, ◌≤◌, ◌++◌, true, false, [], None, Ok, IfOk, OnOk, vec_len};
 ghost use Rattle.glob_tree.specs.Content.{Content};
 ghost use Rattle.glob_walk.specs.Private.Frames.{frame_marks, unmet, IsFrameSound};
 ghost use Rattle.glob_walk.specs.Private.Tasks.{question_of};
@@ -38,6 +38,7 @@ impl<A: Allocator + Copy> Stack<A> {
         ensures left { OnOk result ((c : Content) → left c self.old ≡ left c self.new) }
         ensures over { IfOk result
             (λ more. more ≡ false → (c : Content) → left c self.old ≡ []) }
+        ensures idle { self.old.frames.items ≡ [] → result ≡ Ok false }
         ensures falls { IfOk result (λ more. more ≡ true → weight self.new < weight self.old) }
         ensures ready { OnOk result (ready self.new ≤ ready self.old) }
         ensures free { OnOk result (question_of self.new.next ≡ None) }

@@ -133,7 +133,8 @@ impl<A: Allocator + Copy> Walker<A> {
         }
     }
 
-    /// Meets the components from this number on at a path that is there. If none is left, the path is given. A literal
+    /// Meets the components from this number on at a path that is there. If none is left, the path is given: that of a
+    /// directory always, and of anything else unless the pattern ends in a separator. That takes no memory. A literal
     /// one is joined to the path, and to look that up is the next task. For `**` and for a component with wildcards the
     /// directory is listed; nothing comes of what is no directory.
     fn enter(&mut self, path: String<A>, number: usize, is_dir: bool) -> Turn<A>
@@ -141,12 +142,13 @@ impl<A: Allocator + Copy> Walker<A> {
         requires none { self.old.stack.next ≡ None }
         requires within { IsWithin self.old.stack }
         ensures falls { result ≡ Turn.Went → weight self.new.stack < weight self.old.stack + 2 }
+        ensures past { vec_len self.old.stack.plan.components ≤ number → result ≢ Turn.Memory }
         ensures turn { TurnsTo IsSomeContent 0
             self.old.meter (with_task path number (Sight.Seen is_dir) self.old.stack) result
             self.new.meter self.new.stack }
     {
         let Some(component) = self.stack.plan.component(number) else {
-            if gives(self.stack.plan.directories, is_dir) {
+            if is_dir || !self.stack.plan.directories {
                 return Turn::Path(path);
             }
             return Turn::Went;
@@ -166,13 +168,15 @@ impl<A: Allocator + Copy> Walker<A> {
         self.list(path, number, recursive)
     }
 
-    /// One turn: does the task if there is one, and else takes one step in the directory on top. It calls nothing that
-    /// calls it.
+    /// One turn: does the task if there is one, and else takes one step in the directory on top. Where there is neither, the
+    /// walk is done. It calls nothing that calls it.
     fn turn(&mut self) -> Turn<A>
         requires limit { self.old.meter.spent ≤ self.old.meter.limit }
         requires within { IsWithin self.old.stack }
         requires free { question_of self.old.stack.next ≡ None }
         ensures falls { result ≡ Turn.Went → weight self.new.stack < weight self.old.stack }
+        ensures idle { self.old.stack.next ≡ None → self.old.stack.frames.items ≡ []
+            → result ≡ Turn.Done }
         ensures turn { TurnsTo IsSomeContent 0
             self.old.meter self.old.stack result
             self.new.meter self.new.stack }
@@ -240,6 +244,7 @@ impl<A: Allocator + Copy> Walker<A> {
         requires within { IsWithin self.old.stack }
         requires asked { IsLook (question_of self.old.stack.next) }
         ensures failed { IfErr answer (λ _. turn_saying result ≡ Says NoMemory) }
+        ensures seen { IfOk answer (λ _. result ≡ Turn.Went) }
         ensures turn { TurnsTo (IsSeenIn (question_of self.old.stack.next) answer) 0
             self.old.meter self.old.stack result
             self.new.meter self.new.stack }
@@ -367,12 +372,4 @@ fn literal_task<A: Allocator + Copy>(
         component: number + 1,
         sight: Sight::Unseen(wanted),
     })
-}
-
-/// Whether a path that all components have led to is given: a directory always, and anything else unless the pattern
-/// ends in a separator.
-fn gives(directories: bool, is_dir: bool) -> bool
-    ensures { result ≡ (not directories || is_dir) }
-{
-    !directories || is_dir
 }

@@ -1,5 +1,5 @@
-use Rattle.std.proofs.Common.{cond, rules, ◌≡◌, ◌∷◌, [], ◌++◌, false, drop, refl, ap, sym, subst, ◌∙◌}
-use Rattle.std.specs.Prelude.{string_bytes}
+use Rattle.std.proofs.Common.{Bool, cond, rules, ◌≡◌, ◌∷◌, [], ◌++◌, true, false, drop, refl, ap, sym, subst, ◌∙◌}
+use Rattle.std.specs.Prelude.{string_bytes, not, ◌||◌}
 use Rattle.glob_walk.specs.Marks.{Give, Found}
 use Rattle.glob_walk.specs.Components.{is_literal, is_recursive}
 use Rattle.glob_walk.specs.Private.Tasks.{enter_from, IsOpened, IsNextSound}
@@ -9,6 +9,20 @@ use Rattle.glob_walk.proofs.WalkLemmas.Naming.{ended, opened_none}
 use Rattle.glob_walk.proofs.WalkLemmas.Merging.{opened_for}
 use Rattle.glob_walk.proofs.WalkLemmas.Stacking.{left_none}
 use Rattle.glob_walk.proofs.walker.Walker.enter.Goals as goal
+use Rattle.glob_walk.proofs.walker.Walker.enter.Goals.{then-is_dir-via-then-is_dir, then-is_dir-via-else-is_dir+then-not-self}
+
+-- a directory is given, and anything else where directories are not wanted
+gives-directory : (directories d : Bool) → d ≡ true → (not directories || d) ≡ true
+gives-directory true d h = h
+gives-directory false d h = refl
+
+gives-any : (directories d : Bool) → directories ≡ false → (not directories || d) ≡ true
+gives-any true d h = absurd (cc)
+gives-any false d h = refl
+
+gives-none : (directories d : Bool) → directories ≡ true → d ≡ false → (not directories || d) ≡ false
+gives-none true d h k = k
+gives-none false d h k = absurd (cc)
 
 pub returns-then-is_literal-clause-turn : goal.returns-then-is_literal-clause-turn
 returns-then-is_literal-clause-turn g c = record {
@@ -50,37 +64,42 @@ returns-then-not-is_dir-clause-turn g c =
           ∙ opened_none c' plan.options plan.directories (is_recursive c.in-Some.component.now) (drop c.args.number plan.components.items) (string_bytes c.args.path) opens) ∙ left_none c' c.args.self.now.stack c.requires.none);
     }
 
-pub returns-then-gives-clause-turn : goal.returns-then-gives-clause-turn
-returns-then-gives-clause-turn g c = record {
-  limit = search rules;
-  fits = search rules;
-  counts = search rules;
-  plan = search rules;
-  within = record { components = c.requires.within.components; going = c.requires.within.going };
-  asks = search rules;
-  ready = search rules;
-  sound = λ c' w h. record { next = subst (IsNextSound c') (sym c.requires.none) tt; frames = h.frames };
-  takes = λ c' w h. uncharged _ _ _
-      (if_given c.gives.result (enter_from c' c.args.self.now.stack.plan c.args.number (string_bytes c.args.path) c.args.is_dir) (frames_marks c' c.args.self.now.stack.plan c.args.self.now.stack.frames.items) (Give (Found (string_bytes c.args.path)))
-      (ended c' c.args.self.now.stack.plan c.args.number (string_bytes c.args.path) c.args.is_dir c.in_default.ensures.rest ∙ ap (λ b. cond b (Give (Found (string_bytes c.args.path)) ∷ []) []) (sym c.gives.ensures)) c.if-gives.true
-      ∙ ap (λ ms. Give (Found (string_bytes c.args.path)) ∷ ms) (left_none c' c.args.self.now.stack c.requires.none));
-}
+pub returns-then-is_dir-clause-turn : goal.returns-then-is_dir-clause-turn
+returns-then-is_dir-clause-turn g c =
+    let given : (not c.args.self.now.stack.plan.directories || c.args.is_dir) ≡ true =
+    elim c.then-is_dir.branch [ then-is_dir-via-then-is_dir w ↦ gives-directory c.args.self.now.stack.plan.directories c.args.is_dir (search rules) | then-is_dir-via-else-is_dir+then-not-self w ↦ gives-any c.args.self.now.stack.plan.directories c.args.is_dir (search rules) ] in
+    record {
+      limit = search rules;
+      fits = search rules;
+      counts = search rules;
+      plan = search rules;
+      within = record { components = c.requires.within.components; going = c.requires.within.going };
+      asks = search rules;
+      ready = search rules;
+      sound = λ c' w h. record { next = subst (IsNextSound c') (sym c.requires.none) tt; frames = h.frames };
+      takes = λ c' w h. uncharged _ _ _
+          (if_given (not c.args.self.now.stack.plan.directories || c.args.is_dir) (enter_from c' c.args.self.now.stack.plan c.args.number (string_bytes c.args.path) c.args.is_dir) (frames_marks c' c.args.self.now.stack.plan c.args.self.now.stack.frames.items) (Give (Found (string_bytes c.args.path)))
+          (ended c' c.args.self.now.stack.plan c.args.number (string_bytes c.args.path) c.args.is_dir c.in_default.ensures.rest) given
+          ∙ ap (λ ms. Give (Found (string_bytes c.args.path)) ∷ ms) (left_none c' c.args.self.now.stack c.requires.none));
+    }
 
 pub returns-in_default-clause-turn : goal.returns-in_default-clause-turn
-returns-in_default-clause-turn g c = record {
-  limit = search rules;
-  fits = search rules;
-  counts = search rules;
-  plan = search rules;
-  within = record { components = c.requires.within.components; going = c.requires.within.going };
-  asks = search rules;
-  ready = search rules;
-  sound = λ c' w h. record { next = subst (IsNextSound c') (sym c.requires.none) tt; frames = h.frames };
-  takes = λ c' w h. uncharged _ _ _
-      (if_not_given c.gives.result (enter_from c' c.args.self.now.stack.plan c.args.number (string_bytes c.args.path) c.args.is_dir) (frames_marks c' c.args.self.now.stack.plan c.args.self.now.stack.frames.items) (Give (Found (string_bytes c.args.path)))
-      (ended c' c.args.self.now.stack.plan c.args.number (string_bytes c.args.path) c.args.is_dir c.in_default.ensures.rest ∙ ap (λ b. cond b (Give (Found (string_bytes c.args.path)) ∷ []) []) (sym c.gives.ensures)) c.if-gives.false
-      ∙ left_none c' c.args.self.now.stack c.requires.none);
-}
+returns-in_default-clause-turn g c =
+    let kept : (not c.args.self.now.stack.plan.directories || c.args.is_dir) ≡ false = gives-none c.args.self.now.stack.plan.directories c.args.is_dir (search rules) (search rules) in
+    record {
+      limit = search rules;
+      fits = search rules;
+      counts = search rules;
+      plan = search rules;
+      within = record { components = c.requires.within.components; going = c.requires.within.going };
+      asks = search rules;
+      ready = search rules;
+      sound = λ c' w h. record { next = subst (IsNextSound c') (sym c.requires.none) tt; frames = h.frames };
+      takes = λ c' w h. uncharged _ _ _
+          (if_not_given (not c.args.self.now.stack.plan.directories || c.args.is_dir) (enter_from c' c.args.self.now.stack.plan c.args.number (string_bytes c.args.path) c.args.is_dir) (frames_marks c' c.args.self.now.stack.plan c.args.self.now.stack.frames.items) (Give (Found (string_bytes c.args.path)))
+          (ended c' c.args.self.now.stack.plan c.args.number (string_bytes c.args.path) c.args.is_dir c.in_default.ensures.rest) kept
+          ∙ left_none c' c.args.self.now.stack c.requires.none);
+    }
 
 pub returns-in_default-literal_task-clause-turn : goal.returns-in_default-literal_task-clause-turn
 returns-in_default-literal_task-clause-turn g c = record {
