@@ -68,7 +68,7 @@ fn pruned_looks(rt: HostRuntime) {
     }
 }
 
-/// A path, the entries of its listing, where that of a directory ends in `/`, and how often the tree within is asked.
+/// A path, and the entries of its listing, where that of a directory ends in `/`. The tree within is listed once.
 const LISTINGS: [(&str, &str); 4] = [
     (".", "a src/"),
     ("./", "a src/"),
