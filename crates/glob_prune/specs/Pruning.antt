@@ -21,8 +21,8 @@ abbrev pub has_names : Key → Bool
 has_names [] = false
 has_names (n ∷ ns) = true
 
--- Of the names past those of `above`, the path up to some name is excluded: up to the last as what is there, up to another
--- as a directory.
+-- The path to one of the names below `above` is excluded: the last is asked as its own kind, those before it as
+-- directories.
 abbrev pub is_excluded_past : Exclusion → (above names : Key) → (is_directory : Bool) → Bool
 is_excluded_past x above [] d = false
 is_excluded_past x above (n ∷ ns) d = x (path_of (above ++ n ∷ [])) (has_names ns || d) || is_excluded_past x (above ++ n ∷ []) ns d

@@ -62,7 +62,7 @@ impl<R: Files + Drop, S: Strays, A: Allocator + Copy> Tree for PhysicalDisk<R, S
 
     ghost asks = { λ disk. disk };
 
-    /// A symbolic link is `Other`, whatever it leads to. A path that cannot be looked up is `Missing`. The error comes only
+    /// A symbolic link is `Other`; with a `/` at its end the path is that of what it leads to. A path that cannot be looked up is `Missing`. The error comes only
     /// where the I/O error's kind is `OutOfMemory`.
     fn look(&mut self, path: &str) -> Result<Look, AllocError>
         ensures asks { self.new ≡ self.old + 1 }

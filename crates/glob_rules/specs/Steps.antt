@@ -63,7 +63,8 @@ after_star plain opening c =
     else if plain || opening then moves (Stars plain opening)
     else moves (Star false false)
 
--- After such stars: before `/` they are a component, and before other characters they are one star.
+-- After two stars or more that may be a component: before `/` they are one if a component opens there, and are refused
+-- behind literal text; else they are one star.
 abbrev pub after_stars : (plain opening : Bool) → ℕ → Step
 after_stars plain opening c =
     if c == star then moves (Stars plain opening)

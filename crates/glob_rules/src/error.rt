@@ -5,7 +5,7 @@ use std::alloc::{AllocError, AllocFailed};
 use std::error::Error;
 use std::fmt;
 
-/// Why a line is refused that git reads as a rule: it has no exact translation, or none that each release of git means.
+/// Why a line is refused: it has no exact translation, or what git does with it is against gitignore(5).
 #[derive(Clone, Copy, Debug, PartialEq, Eq)]
 pub enum Reason {
     /// A bracket names a character beyond ASCII, as `[é]`: git takes its bytes, each alone.

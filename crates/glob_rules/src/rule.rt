@@ -1,4 +1,4 @@
-/// A rule of an ignore list, without its pattern. Of the line `!*.o/` it is negative and for directories alone.
+/// A rule of an ignore list, without its pattern. That of the line `!*.o/` is negative and for directories alone.
 #[derive(Clone, Copy, Debug, PartialEq, Eq)]
 pub struct Rule {
     /// Its line in the list, counted from 1. The count stops at `usize::MAX`.

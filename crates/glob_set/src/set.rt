@@ -14,8 +14,8 @@ use std::alloc::{AllocError, Allocator, Global};
 use std::marker::Model;
 use std::path::Path;
 
-/// Patterns in order, and the options that they match by. It says which of them match a text, by their **numbers**, which
-/// count from 0, and asks few of them: most are left out by bytes that each text has that they match.
+/// Patterns in order, and the options that they match by. It reports which of them match a text by their **numbers**,
+/// counted from 0. Most patterns are rejected untried, since the text lacks bytes that each text has that they match.
 ///
 /// ```text
 /// let ignored = PatternSet::from_texts(alloc, &["**/*.o", "**/target/**"], options)?;
