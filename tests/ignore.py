@@ -10,6 +10,7 @@ git it asks nothing."""
 import argparse
 import os
 import random
+import re
 import shutil
 import subprocess
 import sys
@@ -112,6 +113,10 @@ def ours(cases):
     return answers
 
 
+# what docs/IGNORE.md says that is refused: a class, a bracket beyond ASCII, stars beside other text, a NUL
+REFUSED = re.compile(r"\[:|\[.*[^\x00-\x7f]|[^/]\*\*|\0")
+
+
 def is_named(text, path):
     """The difference that is let pass: git takes a byte where the list takes a character."""
     return not path.isascii() and any(unit in text for unit in ["?", "[!", "[^"])
@@ -125,8 +130,12 @@ class Count:
         self.refused = {}
 
     def refuse(self, text, refusal):
-        line, reason = refusal.removeprefix("R line ").split(": ", 1)
-        self.refused.setdefault(reason, set()).add(text.split("\n")[int(line) - 1])
+        number, reason = refusal.removeprefix("R line ").split(": ", 1)
+        line = text.split("\n")[int(number) - 1]
+        self.refused.setdefault(reason, set()).add(line)
+        if not REFUSED.search(line):
+            self.failed += 1
+            print(f"list {text!r}: refused, {reason}")
 
     def compare(self, text, paths, expected, answer):
         wrong = 0
