@@ -241,9 +241,10 @@ def tables(folder, rounds, share):
     )
 
 
-def main():
+def print_all(tables):
+    """Prints the tables row by row, and gives 1 if a row failed, else 0."""
     failures = 0
-    for title, heads, rows in tables(Path(sys.argv[1]), int(sys.argv[2]), int(sys.argv[3])):
+    for title, heads, rows in tables:
         print_head(title, *heads)
         for print_one in rows:
             try:
@@ -251,7 +252,11 @@ def main():
             except Failed as failure:
                 failures += 1
                 print(f"bench: {failure}", file=sys.stderr)
-    sys.exit(1 if failures else 0)
+    return 1 if failures else 0
+
+
+def main():
+    sys.exit(print_all(tables(Path(sys.argv[1]), int(sys.argv[2]), int(sys.argv[3]))))
 
 
 if __name__ == "__main__":

@@ -17,7 +17,7 @@ import sys
 from functools import partial
 from pathlib import Path
 
-from peers import Failed, print_head, print_row, ratio, shown
+from peers import Failed, print_all, print_row, ratio, shown
 
 # Of the separator rule, as ignore files have it.
 LETTERS = "s"
@@ -146,16 +146,7 @@ def main():
     programs = {"ours": folder / "ours/sets", "globset": folder / "peers/globset_sets"}
     programs = {name: program for name, program in programs.items() if program.exists()}
     patterns, paths = write_inputs(folder, sys.argv[4], share)
-    failures = 0
-    for title, heads, rows in tables(programs, patterns, paths, rounds, share):
-        print_head(title, *heads)
-        for print_one in rows:
-            try:
-                print_one()
-            except Failed as failure:
-                failures += 1
-                print(f"bench: {failure}", file=sys.stderr)
-    sys.exit(1 if failures else 0)
+    sys.exit(print_all(tables(programs, patterns, paths, rounds, share)))
 
 
 if __name__ == "__main__":
