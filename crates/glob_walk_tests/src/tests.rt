@@ -1,10 +1,12 @@
 mod chance;
 mod checks;
+mod components;
 mod contents;
 mod costs;
 mod driving;
 mod failing;
 mod files;
+mod goal;
 mod goals;
 mod items;
 mod limits;

@@ -117,10 +117,10 @@ fn drive_most(
 }
 
 /// A walk over a tree and one that is driven by an equal tree give, ask and spend the same. One that is driven half the way
-/// gives a beginning of it.
-fn compare(rt: &(impl Abort + AllocGlobal), content: &Content, job: Job<'_>) {
+/// gives a beginning of it. Gives what was spent, 0 if the pattern is refused.
+fn compare(rt: &(impl Abort + AllocGlobal), content: &Content, job: Job<'_>) -> u64 {
     if WalkMachine::new(rt.alloc(), job.pattern, job.options, job.limit).is_err() {
-        return;
+        return 0;
     }
     let number = Cell::new(0);
     let tree = Noting {
@@ -134,6 +134,7 @@ fn compare(rt: &(impl Abort + AllocGlobal), content: &Content, job: Job<'_>) {
     check_spent(rt, spent, given.spent, job);
     check_row(rt, whole.number == number.get(), job.pattern);
     check_half(rt, content, job, whole.questions / 2, known.as_slice());
+    spent
 }
 
 /// A walk that was driven to its end gave these items.
@@ -161,7 +162,7 @@ fn check_half(
     check_row(rt, begins(known, first.as_slice()), job.pattern);
 }
 
-/// Random walks, each within each limit up to some.
+/// Random walks, each without a limit and within each limit up to what it spends.
 #[test]
 fn driven_walks(rt: HostRuntime) {
     let mut random = Random::new();
@@ -169,10 +170,9 @@ fn driven_walks(rt: HostRuntime) {
         let (content, _) = some_tree(&rt, &mut random, 8);
         let pattern = some_pattern(&rt, &mut random, &COMPONENTS);
         let job = Job::of(pattern.as_str()).under(some_options(&mut random));
-        for limit in 0..24 {
+        for limit in 0..=compare(&rt, &content, job) {
             compare(&rt, &content, job.within(limit));
         }
-        compare(&rt, &content, job);
     }
 }
 

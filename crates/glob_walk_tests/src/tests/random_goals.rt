@@ -1,6 +1,7 @@
 //! Walks over random trees beside the undivided pattern.
 use super::chance::{Random, some_options, some_pattern, some_tree};
-use super::goals::{Outcome, check_goal, is_plain};
+use super::goal::is_plain;
+use super::goals::{Outcome, check_goal};
 use super::reference::Job;
 use glob::MatchOptions;
 

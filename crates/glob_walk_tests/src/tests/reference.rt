@@ -4,11 +4,10 @@
 //! listed. One unit is charged for each look, each listing and each entry of a listing, before it is used.
 ghost use Rattle.std.specs.Prelude.{◌<◌, IfOk};
 
+use super::components::{Component, Rules, child, components_of, join};
 use super::items::Item;
 use super::made::push;
-use glob::{
-    Entry, ListError, Look, MatchOptions, MemTree, Pattern, PatternError, PatternRefusal, Tree,
-};
+use glob::{Entry, ListError, Look, MatchOptions, MemTree, PatternError, PatternRefusal, Tree};
 use std::alloc::{AllocError, Global};
 use std::io::ErrorKind;
 use std::process::Abort;
@@ -84,77 +83,6 @@ impl Walked {
         }
         items
     }
-}
-
-/// A component of a pattern.
-#[derive(Drop)]
-struct Component {
-    text: String,
-    pattern: Pattern,
-}
-
-impl Component {
-    fn is_literal(&self) -> bool {
-        !self.text.as_str().contains(['?', '*', '['].as_slice())
-    }
-
-    fn is_recursive(&self) -> bool {
-        self.text.as_str() == "**"
-    }
-
-    fn begins_with_dot(&self) -> bool {
-        self.text.as_str().starts_with('.')
-    }
-}
-
-/// The components of a pattern, and what else a walk goes by.
-#[derive(Drop)]
-struct Rules {
-    components: Vec<Component>,
-    directories: bool,
-    options: MatchOptions,
-    limit: u64,
-    alloc: Global,
-}
-
-/// The path's text, a separator if one is needed, and the name.
-fn join(alloc: Global, path: &str, name: &str) -> Result<String, AllocError> {
-    if path.is_empty() || path.ends_with('/') {
-        format!(in alloc; "{path}{name}")
-    } else {
-        format!(in alloc; "{path}/{name}")
-    }
-}
-
-/// Whether the path is the current directory's, written by dots alone.
-fn is_here(path: &str) -> bool {
-    let mut pieces = path.split('/');
-    pieces.next() == Some(".") && pieces.all(|piece| piece.is_empty() || piece == ".")
-}
-
-/// The path of a name in the directory at a path.
-fn child(alloc: Global, path: &str, name: &str) -> Result<String, AllocError> {
-    if is_here(path) {
-        String::from_str(alloc, name)
-    } else {
-        join(alloc, path, name)
-    }
-}
-
-/// The components of the pattern, the whole of which is read first.
-fn components_of(alloc: Global, text: &str) -> Result<Vec<Component>, Stop> {
-    Pattern::new(alloc, text)?;
-    let rest = text.strip_prefix('/').unwrap_or(text);
-    let rest = rest.strip_suffix('/').unwrap_or(rest);
-    let mut components = Vec::new(alloc);
-    for piece in rest.split('/') {
-        let pattern = Pattern::new(alloc, piece)?;
-        let text = String::from_str(alloc, piece)?;
-        if components.push(Component { text, pattern }).is_err() {
-            return Err(Stop::Memory);
-        }
-    }
-    Ok(components)
 }
 
 /// One level of the recursion less.
@@ -408,22 +336,6 @@ impl Walking {
             self.reach(rules, depth, i, path, d)?;
         }
         Ok(())
-    }
-}
-
-impl Rules {
-    /// The last of the consecutive `**` from the component of this number on, if it is one.
-    fn last_of_run(&self, i: usize) -> Option<usize> {
-        let mut last = None;
-        let mut place = i;
-        for component in self.components.iter().skip(i) {
-            if !component.is_recursive() {
-                return last;
-            }
-            last = Some(place);
-            place = place.saturating_add(1);
-        }
-        last
     }
 }
 
