@@ -5,6 +5,9 @@
 //! `glob_bench compile PATTERN TIMES` reads the pattern over and over, and counts the bytes of all that it read.
 //! `glob_bench walk PATTERN LEVELS TIMES` counts the items of a walk over so many directories, one in another, over and
 //! over.
+//! `glob_bench captures OPTIONS PATTERN FILE ROUNDS` counts the lines of a file that the pattern matches, by a match and by
+//! captures in turn. It prints the count and the least times of all rounds, in nanoseconds: of both for all lines, and of
+//! both for those that match.
 //! A pattern `@FILE` is the text of a file, since a word of a command line cannot be long. Reading a file is not timed, nor
 //! is reading the pattern of `match`.
 //!
@@ -12,10 +15,12 @@
 #![tactic(auto)]
 
 mod answer;
+mod captures;
 mod chain;
 
 use answer::answer_lines;
 use anyhow::{Context, Result, bail};
+use captures::{lines_that_match, time_captures};
 use chain::Chain;
 use glob::{MatchOptions, Pattern, glob_in};
 use std::alloc::{AllocError, Global};
@@ -90,6 +95,29 @@ fn pattern_text<R: Files + AllocGlobal>(rt: &R, word: &str) -> Result<String> {
     }
 }
 
+/// The count and the times of `captures`.
+fn captures_line<R: Files + Clock + AllocGlobal>(
+    rt: &R,
+    letters: &str,
+    pattern: &str,
+    file: &str,
+    rounds: u32,
+) -> Result<String> {
+    let pattern = Pattern::new(rt.alloc(), pattern_text(rt, pattern)?.as_str())
+        .ok()
+        .context("no pattern")?;
+    let text = fs::read_to_string(rt, file)?;
+    let lines = text.as_str().lines().collect::<Vec<&str>>(rt.alloc())?;
+    let options = options_of(letters);
+    let all = time_captures(rt, &pattern, options, lines.as_slice(), rounds)?;
+    let found = lines_that_match(rt, &pattern, options, lines.as_slice())?;
+    let some = time_captures(rt, &pattern, options, found.as_slice(), rounds)?;
+    Ok(format!(in rt.alloc();
+        "{} {} {} {} {}",
+        all.count, all.matching, all.capturing, some.matching, some.capturing
+    )?)
+}
+
 /// Does what the words after the program's name say. The answer is the count, and the time in nanoseconds.
 fn run<R: Files + Clock + AllocGlobal>(rt: &R, words: &[&str]) -> Result<(u64, u128)> {
     match words {
@@ -120,7 +148,7 @@ fn run<R: Files + Clock + AllocGlobal>(rt: &R, words: &[&str]) -> Result<(u64, u
             Ok((count, start.elapsed(rt)?.as_nanos()))
         }
         _ => bail!(
-            "usage: glob_bench match OPTIONS PATTERN FILE TIMES | compile PATTERN TIMES | walk PATTERN LEVELS TIMES | answer"
+            "usage: glob_bench match OPTIONS PATTERN FILE TIMES | compile PATTERN TIMES | walk PATTERN LEVELS TIMES | captures OPTIONS PATTERN FILE ROUNDS | answer"
         ),
     }
 }
@@ -133,6 +161,11 @@ fn main(rt: HostRuntime) -> Result<()> {
         .collect::<Vec<&str>>(rt.alloc())?;
     if let ["answer"] = words.as_slice() {
         return answer_lines(rt);
+    }
+    if let ["captures", letters, pattern, file, rounds] = words.as_slice() {
+        let line = captures_line(&rt, letters, pattern, file, rounds.parse::<u32>()?)?;
+        println!(rt; "{line}")?;
+        return Ok(());
     }
     let (count, nanoseconds) = run(&rt, words.as_slice())?;
     println!(rt; "{count}")?;

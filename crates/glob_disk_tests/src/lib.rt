@@ -1,5 +1,5 @@
-//! A file system that is written down, so that `Disk` meets what tests of a crate do not make on a disk, names that are not
-//! UTF-8 and system calls that fail, and so that its system calls can be counted.
+//! A file system that is written down, so that `Disk` and `PhysicalDisk` meet what tests of a crate do not make on a disk,
+//! names that are not UTF-8 and system calls that fail, and so that their system calls can be counted.
 #![tactic(auto)]
 
 pub mod files;

@@ -1,4 +1,6 @@
+mod codes;
 mod physical;
+mod pruned;
 
 use crate::files::{Calls, Kind, Written};
 use glob::{Disk, ListError, Look, Tree};

@@ -34,17 +34,28 @@ fn are_too_large(rt: &(impl Abort + AllocGlobal), pattern: &Pattern, text: &str)
     (captured, reached)
 }
 
-/// 4 tokens times 16,777,216 bytes are just the bound, and 5 times 13,421,773 are one more.
+/// Patterns, each with how many bytes are just the bound for its tokens.
+const MOST: [(&str, usize); 3] = [("*", 67_108_864), ("*?", 33_554_432), ("*?*?", 16_777_216)];
+
+/// However few the tokens are, a text at the bound has captures.
+#[test]
+fn texts_at_the_bound_have_captures(rt: HostRuntime) {
+    check(&rt, MOST_STEPS == 67_108_864, "the bound");
+    for (pattern, bytes) in MOST {
+        let pattern = pattern_of(&rt, rt.alloc(), pattern);
+        let text = long_text(&rt, bytes);
+        let found = are_too_large(&rt, &pattern, text.as_str());
+        check(&rt, found == (false, false), "at the bound");
+    }
+}
+
+/// 1 token times 67,108,865 bytes, and 5 times 13,421,773, are one step more than the bound.
 #[test]
 fn one_step_more_than_the_bound_is_too_large(rt: HostRuntime) {
-    check(&rt, MOST_STEPS == 67_108_864, "the bound");
-    let pattern = pattern_of(&rt, rt.alloc(), "*?*?");
-    let text = long_text(&rt, 16_777_216);
-    let found = are_too_large(&rt, &pattern, text.as_str());
-    check(&rt, found == (false, false), "at the bound");
-
-    let pattern = pattern_of(&rt, rt.alloc(), "*?*?*");
-    let text = long_text(&rt, 13_421_773);
-    let found = are_too_large(&rt, &pattern, text.as_str());
-    check(&rt, found == (true, true), "past the bound");
+    for (pattern, bytes) in [("*", 67_108_865), ("*?*?*", 13_421_773)] {
+        let pattern = pattern_of(&rt, rt.alloc(), pattern);
+        let text = long_text(&rt, bytes);
+        let found = are_too_large(&rt, &pattern, text.as_str());
+        check(&rt, found == (true, true), "past the bound");
+    }
 }

@@ -29,7 +29,7 @@ impl Strays for Expected<'_> {
 
 /// Where no stray name is.
 #[derive(Drop)]
-struct NoStrays;
+pub(super) struct NoStrays;
 
 impl Strays for NoStrays {
     fn stray(&mut self, _directory: &str, _name: &[u8]) {}

@@ -1,0 +1,180 @@
+//! A tree without what is excluded, over the file system that is written down.
+ghost use Rattle.std.specs.Prelude.{bytes_eq};
+
+use super::codes::check_failing;
+use crate::files::{Calls, Kind, Written};
+use glob::{Disk, ListError, Look, Tree};
+use glob_prune::{Exclusion, Pruned};
+use glob_testing::rationing::Rationed;
+use std::alloc::{AllocError, Allocator};
+use std::io::{self, ErrorKind};
+use std::process::Abort;
+
+/// One path is left out.
+#[derive(Drop)]
+struct Named<'a> {
+    name: &'a str,
+}
+
+impl Exclusion for Named<'_> {
+    ghost excludes = { λ x path is_dir. bytes_eq path x.name.now };
+
+    fn excludes(&self, path: &str, _is_dir: bool) -> Result<bool, AllocError> {
+        Ok(path == self.name)
+    }
+}
+
+const NAMES: &[&[u8]] = &[b"f\0s\0t\0", b"u\0"];
+
+/// A directory `d`, each of whose paths leads to it.
+const PATHS: &[(&str, Kind)] = &[
+    (".", Kind::Dir(&[])),
+    ("d", Kind::Dir(&[])),
+    ("d/", Kind::Dir(NAMES)),
+    ("./d/./", Kind::Dir(NAMES)),
+    ("d/f", Kind::File),
+    ("./d//f", Kind::File),
+    ("d/s", Kind::Dir(&[])),
+    ("./d/s/", Kind::Dir(&[])),
+    ("d/s/x", Kind::File),
+    ("d/t", Kind::LinkToDir),
+    ("d/u", Kind::Shut(ErrorKind::PermissionDenied)),
+    ("d/u/", Kind::Shut(ErrorKind::PermissionDenied)),
+    ("full/", Kind::Shut(ErrorKind::OutOfMemory)),
+];
+
+/// A path, and what a look at it finds where `d/s` and all below it are left out; `None` where the path is refused. At last
+/// how many lookups of the system it takes.
+const LOOKS: &[(&str, Option<Look>, u64)] = &[
+    ("d", Some(Look::Dir), 1),
+    ("./d//f", Some(Look::Other), 1),
+    ("d/s", Some(Look::Missing), 1),
+    ("./d/s/", Some(Look::Missing), 1),
+    ("d/s/x", Some(Look::Missing), 0),
+    ("d//./s/./x/y", Some(Look::Missing), 0),
+    ("d/t", Some(Look::Dir), 2),
+    ("nothing", Some(Look::Missing), 1),
+    (".", Some(Look::Dir), 1),
+    ("/d", None, 0),
+    ("d/../f", None, 0),
+    ("..", None, 0),
+];
+
+#[test]
+fn looks(rt: HostRuntime) {
+    for (path, wanted, lookups) in LOOKS {
+        let calls = Calls::new();
+        let disk = Disk::new(Written::new(PATHS, &calls), rt.alloc());
+        let mut tree = Pruned::new(rt.alloc(), disk, Named { name: "d/s" });
+        assert!(rt; tree.look(path).ok() == *wanted, "{path}");
+        assert_eq!(rt; calls.lookups.get(), *lookups, "{path}");
+    }
+}
+
+/// A path, its entries where `d/s` and all below it are left out, and how often a directory is opened for them. In place of
+/// the entries the kind of the error, which is `OutOfMemory` where the path is refused.
+const LISTINGS: &[(&str, Result<&[&str], ErrorKind>, u64)] = &[
+    ("d", Ok(&["f", "t", "u"]), 1),
+    ("./d/.", Ok(&["f", "t", "u"]), 1),
+    ("d/s", Err(ErrorKind::NotFound), 0),
+    ("d/s/x/y", Err(ErrorKind::NotFound), 0),
+    ("d/u", Err(ErrorKind::PermissionDenied), 1),
+    ("nothing", Err(ErrorKind::NotFound), 1),
+    ("full", Err(ErrorKind::OutOfMemory), 1),
+    ("/", Err(ErrorKind::OutOfMemory), 0),
+    ("d/..", Err(ErrorKind::OutOfMemory), 0),
+];
+
+#[test]
+fn listings(rt: HostRuntime) {
+    for (path, wanted, opens) in LISTINGS {
+        let calls = Calls::new();
+        let disk = Disk::new(Written::new(PATHS, &calls), rt.alloc());
+        let mut tree = Pruned::new(rt.alloc(), disk, Named { name: "d/s" });
+        check_listing(&rt, &mut tree, path, *wanted);
+        assert_eq!(rt; calls.opens.get(), *opens, "{path}");
+    }
+}
+
+/// The listing returns these names, or fails with an error of this kind, which is `OutOfMemory` for lack of memory.
+fn check_listing(
+    rt: &impl Abort,
+    tree: &mut impl Tree,
+    path: &str,
+    wanted: Result<&[&str], ErrorKind>,
+) {
+    match (tree.list(path), wanted) {
+        (Ok(entries), Ok(names)) => {
+            assert_eq!(rt; entries.len(), names.len(), "{path}");
+            for (entry, name) in entries.iter().zip(names) {
+                assert_eq!(rt; entry.name.as_str(), *name, "{path}");
+            }
+        }
+        (Err(ListError::Read(error)), Err(kind)) => {
+            assert!(rt;
+                error.kind() == kind && kind != ErrorKind::OutOfMemory,
+                "{path}"
+            );
+        }
+        (Err(ListError::Memory), Err(kind)) => {
+            assert!(rt; kind == ErrorKind::OutOfMemory, "{path}");
+        }
+        _ => panic!(rt; "{path}"),
+    }
+}
+
+/// An error of the tree is handed on.
+#[test]
+fn each_error_of_a_listing_is_handed_on(rt: HostRuntime) {
+    for code in 1..=super::codes::LAST {
+        let error = io::Error::from_raw_os_error(code);
+        let calls = Calls::new();
+        let paths = [("a/", Kind::Failing(error, true))];
+        let disk = Disk::new(Written::new(&paths, &calls), rt.alloc());
+        let tree = Pruned::new(rt.alloc(), disk, Named { name: "b" });
+        check_failing(&rt, tree, code);
+    }
+}
+
+/// What memory the calls of a pruned tree take, where the request of a number is refused.
+fn calls_with<A: Allocator + Copy>(rt: &impl Abort, alloc: A, calls: &Calls) -> bool {
+    let disk = Disk::new(Written::new(PATHS, calls), alloc);
+    let mut tree = Pruned::new(alloc, disk, Named { name: "d/s" });
+    let Ok(seen) = tree.look("d/f") else {
+        return false;
+    };
+    assert!(rt; seen == Look::Other);
+    match tree.list("d") {
+        Ok(entries) => assert_eq!(rt; entries.len(), 3),
+        Err(ListError::Read(error)) => panic!(rt; "{error}"),
+        Err(ListError::Memory) => return false,
+    }
+    tree.look("d/t") == Ok(Look::Dir)
+}
+
+/// Each request for memory is refused in turn: the call is out of memory. All blocks are given back.
+#[test]
+fn each_request_is_refused(rt: HostRuntime) {
+    let calls = Calls::new();
+    let ample = Rationed::refusing(0, rt.alloc());
+    assert!(rt; calls_with(&rt, &ample, &calls));
+    assert!(rt; ample.ration.asked() > 2);
+    for number in 1..=ample.ration.asked() {
+        let scarce = Rationed::refusing(number, rt.alloc());
+        assert!(rt; !calls_with(&rt, &scarce, &calls), "{number}");
+        assert_eq!(rt; scarce.ration.held(), 0, "{number}");
+    }
+}
+
+/// Looks at a thousand paths take a request for the longest of them, and none more.
+#[test]
+fn many_looks_take_one_request(rt: HostRuntime) {
+    let counted = Rationed::refusing(0, rt.alloc());
+    let calls = Calls::new();
+    let disk = Disk::new(Written::new(PATHS, &calls), &counted);
+    let mut tree = Pruned::new(&counted, disk, Named { name: "d/s" });
+    for _ in 0..1_000 {
+        assert!(rt; tree.look("d/f") == Ok(Look::Other));
+    }
+    assert!(rt; counted.ration.asked() <= 3, "{}", counted.ration.asked());
+}
