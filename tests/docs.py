@@ -31,11 +31,6 @@ EXAMPLES = {
     ],
     "crates/glob/CALLING.md": [
         "crates/glob_example_tests/src/tests/readme.rt",
-        "crates/glob_examples/src/lists.rt",
-        "crates/glob_examples/proofs/lists/first_match/Invariants.antt",
-        "crates/glob_examples/proofs/lists/first_match/Answers.antt",
-        "crates/glob_examples/src/router.rt",
-        "crates/glob_examples/src/ignore.rt",
         "crates/glob_examples/src/literals.rt",
         "crates/glob_examples/proofs/literals/matches_main/Answers.antt",
         "crates/glob_examples/src/texts.rt",

@@ -1,4 +1,3 @@
-pub mod Lists
 pub mod PathOptions
 pub mod Types
 pub mod Variants

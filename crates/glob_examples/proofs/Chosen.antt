@@ -6,24 +6,23 @@ use Rattle.glob.specs.Goal.{IsPlainWalk}
 use Rattle.glob.specs.Lines.{AreKept}
 use Rattle.glob.specs.Listing.{listing}
 use Rattle.glob.specs.Marks.{items}
-use Rattle.glob.specs.Lists.{AnyMatch}
 use Rattle.glob.specs.Matching.Options.{new_options}
 use Rattle.glob.specs.Order.{path_cmp}
 use Rattle.glob.specs.Text.{Text}
 use Rattle.glob.specs.Walks.{Walking}
 use Rattle.glob.proofs.FoundPaths.{FindsSoFar, found_items, goal-listed, orderly-listed, paths-listed}
 use Rattle.glob.proofs.KeptTexts.{AreKept-exact, AreKept-AllPairs}
+use Rattle.glob_set.specs.Sets.{AnyMatch}
 use Rattle.glob_examples.specs.Copying.{CopyRules, Copies, AreToCopy}
-use Rattle.glob.specs.PathOptions.{path_options}
 
 module _ (rules : CopyRules) (path : Text) where
   -- a path that no include pattern matches is not copied
-  pub Copies-not_included : ¬ (AnyMatch path_options rules.include path) → ¬ (Copies rules path)
+  pub Copies-not_included : ¬ (AnyMatch rules.include.options rules.include.patterns path) → ¬ (Copies rules path)
   unfolding Copies
   Copies-not_included none copies = none copies.0
 
   -- another is, unless an exclude pattern matches it
-  pub Copies-unless : AnyMatch path_options rules.include path → (excluded : Bool) → (IsTrue excluded ↔ AnyMatch path_options rules.exclude path)
+  pub Copies-unless : AnyMatch rules.include.options rules.include.patterns path → (excluded : Bool) → (IsTrue excluded ↔ AnyMatch rules.exclude.options rules.exclude.patterns path)
       → IsTrue (not excluded) ↔ Copies rules path
   unfolding Copies
   Copies-unless included true tells = (λ no. absurd (false≢true no), λ copies. absurd (copies.1 (tells.0 refl)))

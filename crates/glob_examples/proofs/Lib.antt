@@ -1,4 +1,3 @@
 pub mod Chosen
-pub mod Marks
 pub mod OneFile
 pub mod WalkFaults

@@ -21,6 +21,11 @@ use Rattle.glob_examples.specs.WalkFaults.{IsMet, IsPatternFault, IsWalkFault, f
 use Rattle.glob_examples.specs.declared.faults.WalkFault.{WalkFault}
 use Rattle.glob_examples.specs.declared.faults.WalkFault.TheVariants.{Syntax, NotPlain, Limit, Memory, Unread}
 
+-- what is known of an error holds of it, and so does what follows
+pub IfErr-from_known : {T E : Type 0} (r : Result T E) (P Q : E → Type 0) → ((e : E) → P e → Q e) → IsErrAnd r P → IfErr r Q
+IfErr-from_known (Ok x) P Q follows known = tt
+IfErr-from_known (Err e) P Q follows known = follows e known
+
 module _ {A : Type 0} (pattern : Text) where
   -- a refusal of the pattern is a fault of the walk, over any tree
   pub IsWalkFault-pattern : (fault : WalkFault A) → IsPatternFault pattern fault → IsWalkFault pattern fault

@@ -5,21 +5,22 @@ use Rattle.glob.specs.Content.{Content}
 use Rattle.glob.specs.Goal.{goal}
 use Rattle.glob.specs.Lines.{AreKept}
 use Rattle.glob.specs.Listing.{listing}
-use Rattle.glob.specs.Lists.{AnyMatch}
 use Rattle.glob.specs.Marks.{items, paths}
 use Rattle.glob.specs.Matching.Options.{new_options}
 use Rattle.glob.specs.Order.{IsOrderly}
-use Rattle.glob.specs.PathOptions.{path_options}
 use Rattle.glob.specs.Text.{Text}
+use Rattle.glob_set.specs.Sets.{Set, AnyMatch}
 
--- What the rules are: the patterns of what is copied, and those of what is not.
+-- What the rules are: the set of patterns of what is copied, and that of what is not.
 pub record CopyRules : Type 0 where
-  pub include : List Text
-  pub exclude : List Text
+  pub include : Set
+  pub exclude : Set
 
 -- some include pattern matches the path, and no exclude pattern does
 unfoldable pub Copies : CopyRules → (path : Text) → Type 0
-Copies rules path = AnyMatch path_options rules.include path × (¬ (AnyMatch path_options rules.exclude path))
+Copies rules path =
+    AnyMatch rules.include.options rules.include.patterns path
+    × (¬ (AnyMatch rules.exclude.options rules.exclude.patterns path))
 
 -- The files are those that the rules copy of all paths that the undivided pattern matches in the tree: each once and in
 -- order as far as its runs of `**` allow, and in the order of the written listing.

@@ -5,16 +5,16 @@ ghost use Rattle.std.specs.Path.{path_bytes, path_buf_bytes};
 ghost use Rattle.glob.specs.Answers.{IsTold};
 ghost use Rattle.glob.specs.Content.{Content};
 ghost use Rattle.glob.specs.Goal.{is_plain};
-ghost use Rattle.glob.specs.Lists.{RefusesOne};
 ghost use Rattle.glob.specs.Matching.Texts.{Matches};
 ghost use Rattle.glob.specs.PathOptions.{path_options};
 ghost use Rattle.glob.specs.Text.{Text};
+ghost use Rattle.glob_set.specs.Sets.{RefusesTexts};
 ghost use Rattle.glob_examples.specs.Copying.{AreToCopy, Copies, IsBelow};
 ghost use Rattle.glob_examples.specs.WalkFaults.{IsMet, IsWalkFault};
 
 use crate::faults::{WalkFault, check_plain};
-use crate::lists::{any_match, path_options, read_patterns};
-use glob::{MatchOptions, Pattern, PatternRefusal, Tree, glob_in};
+use glob::{MatchOptions, Pattern, Tree, glob_in};
+use glob_set::{PatternSet, SetRefusal};
 use std::alloc::{AllocError, Allocator, Global};
 use std::marker::Model;
 use std::path::{Path, PathBuf};
@@ -22,31 +22,31 @@ use std::path::{Path, PathBuf};
 /// What is copied: the paths that some include pattern matches, and no exclude pattern.
 #[derive(Drop)]
 pub struct CopyRules<A: Allocator = Global> {
-    include: Vec<Pattern<A>, A>,
-    exclude: Vec<Pattern<A>, A>,
+    include: PatternSet<A>,
+    exclude: PatternSet<A>,
 }
 
-// Clauses see both lists.
+// Clauses see both sets.
 impl<A: Allocator> Model for CopyRules<A> {
     ghost Value = { Rattle.glob_examples.specs.Copying.CopyRules };
 
-    ghost view = { λ rules. record {
-      include = rules.include.items;
-      exclude = rules.exclude.items;
-    } };
+    ghost view = { λ rules. record { include = rules.include; exclude = rules.exclude } };
 }
 
 impl<A: Allocator + Copy> CopyRules<A> {
-    /// Reads both lists. They are refused with the fault of a text that is no pattern, or for lack of memory.
-    pub fn new(alloc: A, include: &[&str], exclude: &[&str]) -> Result<Self, PatternRefusal>
-        ensures include { IfOk result (λ rules. rules.include ≡ map (λ t. t.now) include.now) }
-        ensures exclude { IfOk result (λ rules. rules.exclude ≡ map (λ t. t.now) exclude.now) }
+    /// Reads both lists. They are refused with the number and the fault of the first text that is no pattern, or for
+    /// lack of memory.
+    pub fn new(alloc: A, include: &[&str], exclude: &[&str]) -> Result<Self, SetRefusal>
+        ensures include { IfOk result (λ rules. rules.include
+            ≡ record { patterns = map (λ t. t.now) include.now; options = path_options }) }
+        ensures exclude { IfOk result (λ rules. rules.exclude
+            ≡ record { patterns = map (λ t. t.now) exclude.now; options = path_options }) }
         ensures refused { IfErr result (λ refusal.
-            RefusesOne (map (λ t. t.now) include.now) refusal
-            ⊎ RefusesOne (map (λ t. t.now) exclude.now) refusal) }
+            RefusesTexts (map (λ t. t.now) include.now) refusal
+            ⊎ RefusesTexts (map (λ t. t.now) exclude.now) refusal) }
     {
-        let include = read_patterns(alloc, include)?;
-        let exclude = read_patterns(alloc, exclude)?;
+        let include = PatternSet::from_texts(alloc, include, path_options())?;
+        let exclude = PatternSet::from_texts(alloc, exclude, path_options())?;
         Ok(CopyRules { include, exclude })
     }
 
@@ -57,10 +57,10 @@ impl<A: Allocator + Copy> CopyRules<A> {
     pub fn copies(&self, path: Path<'_>) -> Result<bool, AllocError>
         ensures { IfOk result (λ yes. IsTrue yes ↔ Copies self.now (path_bytes path.entry)) }
     {
-        if !any_match(self.include.as_slice(), path.as_str(), path_options())? {
+        if !self.include.is_match_path(path)? {
             return Ok(false);
         }
-        Ok(!any_match(self.exclude.as_slice(), path.as_str(), path_options())?)
+        Ok(!self.exclude.is_match_path(path)?)
     }
 }
 
@@ -105,4 +105,15 @@ pub fn pattern_below<A: Allocator>(alloc: A, folder: &str) -> Result<String<A>, 
     let mut pattern = Pattern::escape(alloc, folder)?;
     pattern.push_str("/**/*")?;
     Ok(pattern)
+}
+
+/// Case-sensitive, with the separator rule: `*` takes one name of a path, and `**` any number of names.
+const fn path_options() -> MatchOptions
+    ensures { result ≡ path_options }
+{
+    MatchOptions {
+        case_sensitive: true,
+        require_literal_separator: true,
+        require_literal_leading_dot: false,
+    }
 }

@@ -3,10 +3,7 @@
 
 pub mod copy;
 pub mod faults;
-pub mod ignore;
-pub mod lists;
 pub mod literals;
 pub mod one_file;
-pub mod router;
 pub mod sources;
 pub mod texts;

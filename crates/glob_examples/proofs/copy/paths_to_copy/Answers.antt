@@ -9,11 +9,10 @@ use Rattle.glob.specs.Matching.Options.{new_options}
 use Rattle.glob.specs.Walks.{IsFresh}
 use Rattle.glob.proofs.FoundPaths.{FindsSoFar-start, FindsSoFar-next, FindsSoFar-whole}
 use Rattle.glob.proofs.KeptTexts.{AreKept-push, AreKept-pass}
-use Rattle.glob.proofs.ListReading.{IfErr-from_known}
 use Rattle.glob_examples.specs.Copying.{Copies}
 use Rattle.glob_examples.specs.WalkFaults.{IsPatternFault}
 use Rattle.glob_examples.proofs.Chosen.{AreToCopy-kept}
-use Rattle.glob_examples.proofs.WalkFaults.{IsMet-memory, IsMet-next, IsMet-pattern, IsWalkFault-error, IsWalkFault-pattern}
+use Rattle.glob_examples.proofs.WalkFaults.{IfErr-from_known, IsMet-memory, IsMet-next, IsMet-pattern, IsWalkFault-error, IsWalkFault-pattern}
 use Rattle.glob_examples.proofs.copy.paths_to_copy.Goals as goal
 
 -- the pattern is refused
