@@ -292,7 +292,7 @@ function drawWalk(accepted) {
   const walked = accepted ? walk($("pattern").value, flags(), limit, pathsOf($("tree").value)) : { wrong: "The pattern is refused." };
   steps = walked.lines ? stepsOf(walked.lines) : [];
   $("step").max = String(steps.length);
-  $("step").value = String(steps.length);
+  $("step").value = String(Math.min(steps.length, 1));
   $("walk-wrong").textContent = walked.wrong || "";
   drawSteps();
 }

@@ -44,6 +44,8 @@ async function drive(cases, walks, tree) {
   for (const pattern of walks) {
     fill("pattern", pattern);
     $("pattern").dispatchEvent(new Event("input"));
+    fill("step", $("step").max);
+    $("step").dispatchEvent(new Event("input"));
     walked.push([...$("steps").querySelectorAll(".item")].map((it) => it.firstChild.textContent.slice(7)));
   }
   document.body.replaceChildren(make("pre", { id: "said" }, encodeURIComponent(JSON.stringify({ said, walked }))));

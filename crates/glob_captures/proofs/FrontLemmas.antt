@@ -4,7 +4,7 @@ use Rattle.std.proofs.lemmas.Bool.{cases_eq, false≢true}
 use Rattle.std.proofs.lemmas.Bool.Decides.{Decides-like, Decides-and, Decides-or}
 use Rattle.std.proofs.lemmas.List.{length-map, length-drop, drop_all, take_all, append-nil, get_or-set_same, get_or-set_other}
 use Rattle.std.specs.Prelude.{Contains}
-use Rattle.std.proofs.lemmas.List.Elements.{Contains-push, Contains-append_left, Contains-push_cases}
+use Rattle.std.proofs.lemmas.List.Elements.{Contains-get_or, Contains-push, Contains-append_left, Contains-push_cases}
 use Rattle.glob_text.specs.Text.{Text, opens}
 use Rattle.glob_pattern.specs.Grammar.Tokens.{Token, shape_of}
 use Rattle.glob_pattern.specs.Matching.Splits.{Table}
@@ -132,3 +132,7 @@ listed_kept W xs n listed none m = (
       (λ (other : m ≢ n). let below : m < n = omega (arith, h.0) in (listed m).1 (below, h.1))
       (cases_eq m n),
 )
+
+-- each of them is below the bound
+pub listed_below : (W : ℕ → Type 0) (xs : List ℕ) (n : ℕ) → ((m : ℕ) → Contains xs m ↔ ((m < n) × W m)) → (k d : ℕ) → k < length xs → get_or xs k d < n
+listed_below W xs n listed k d below = ((listed (get_or xs k d)).0 (Contains-get_or xs k d below)).0

@@ -1,3 +1,4 @@
 pub mod ByteLemmas
 pub mod FrontLemmas
 pub mod RestLemmas
+pub mod WritingLemmas

@@ -2,3 +2,4 @@ pub mod Captures
 pub mod Private
 pub mod Reaching
 pub mod Words
+pub mod Writing

@@ -20,9 +20,10 @@ use std::alloc::{AllocError, Allocator};
 ///
 /// So `*.*` takes `a.b.rs` by the pieces `a`, `.` and `b.rs`: from 0 up to 1, up to 2, and up to 6.
 ///
-/// A call takes time and memory at most proportional to the tokens times the bytes of the text. The errors are:
+/// A call takes time and memory at most proportional to one more than the tokens, times one more than the bytes of the
+/// text. The errors are:
 ///
-/// - [`CapturesError::TooLarge`]: that product is more than [`MOST_STEPS`](crate::MOST_STEPS). Nothing was done.
+/// - [`CapturesError::TooLarge`]: the tokens times the bytes are more than [`MOST_STEPS`](crate::MOST_STEPS). Nothing was done.
 /// - [`CapturesError::Memory`]: an allocation failed.
 pub fn captures<A: Allocator + Copy, B: Allocator + Copy>(
     alloc: A,

@@ -1,5 +1,5 @@
 ghost use Rattle.std.specs.Prelude.{◌≡◌, ◌+◌, ◌-◌, ◌<◌, ◌≤◌, length, chars};
-ghost use Rattle.std.specs.Prelude.{ℕ, Bool, ◌&&◌, ◌||◌, not, List, false, IsTrue, slice_index_or, IfOk, ◌↔◌, ◌*◌};
+ghost use Rattle.std.specs.Prelude.{ℕ, Bool, ◌&&◌, ◌||◌, not, List, false, IsTrue, slice_index_or, IfOk, ◌↔◌, ◌*◌, AllPairs};
 ghost use Rattle.glob_text.specs.Text.{opens};
 ghost use Rattle.glob_pattern.specs.Grammar.Tokens.{Token};
 ghost use Rattle.glob_pattern.specs.declared.options.MatchOptions.{MatchOptions as Options};
@@ -29,9 +29,10 @@ pub struct Reached<A: Allocator = Global> {
 /// So for `*.rs` and `a.rc` it is the end: `*` took all, and it and `.` wait. For `a[0-9]b` and `a1c` it is the place 2,
 /// where token 2, the `b`, waits.
 ///
-/// A call takes time and memory at most proportional to the tokens times the bytes of the text. The errors are:
+/// A call takes time and memory at most proportional to one more than the tokens, times one more than the bytes of the
+/// text. The errors are:
 ///
-/// - [`CapturesError::TooLarge`]: that product is more than [`MOST_STEPS`](crate::MOST_STEPS). Nothing was done.
+/// - [`CapturesError::TooLarge`]: the tokens times the bytes are more than [`MOST_STEPS`](crate::MOST_STEPS). Nothing was done.
 /// - [`CapturesError::Memory`]: an allocation failed.
 pub fn reach<A: Allocator + Copy, B: Allocator>(
     alloc: A,
@@ -41,6 +42,8 @@ pub fn reach<A: Allocator + Copy, B: Allocator>(
 ) -> Result<Reached<A>, CapturesError>
     ensures reached { IfOk result (λ reached. IsReached options (tokens_of (chars pattern.now))
         (chars text.now) reached.place reached.waiting.items) }
+    ensures ascending { IfOk result
+        (λ reached. AllPairs (λ number later. number < later) reached.waiting.items) }
     ensures large { (result ≡ Err CapturesError.TooLarge)
         ↔ (MOST_STEPS < length (tokens_of (chars pattern.now)) * length text.now) }
 {
@@ -86,7 +89,7 @@ fn farthest<A: Allocator + Copy, B: Allocator>(
     Ok(place)
 }
 
-/// The numbers of the tokens that wait at a place.
+/// The numbers of the tokens that wait at a place, ascending.
 fn waiting_at<A: Allocator + Copy, B: Allocator>(
     alloc: A,
     pattern: &Pattern<B>,
@@ -95,8 +98,10 @@ fn waiting_at<A: Allocator + Copy, B: Allocator>(
     place: usize,
 ) -> Result<Vec<usize, A>, AllocError>
     requires { place ≤ length text.now }
-    ensures { IfOk result (λ waiting.
+    ensures waiting { IfOk result (λ waiting.
         AreWaiting options (tokens_of (chars pattern.now)) text.now place waiting.items) }
+    ensures ascending { IfOk result
+        (λ waiting. AllPairs (λ number later. number < later) waiting.items) }
 {
     let mut whole = fronts_at_start(alloc, text)?;
     let mut alive = fronts_at_start(alloc, text)?;

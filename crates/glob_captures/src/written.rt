@@ -1,6 +1,7 @@
 //! How the tokens of a pattern are written.
 ghost use Rattle.std.specs.Prelude.{◌≡◌, ◌+◌, ◌-◌, ◌<◌, ◌≤◌, ℕ, length, map, IfOk, chars};
 ghost use Rattle.glob_pattern.specs.Computing.Tokens.{tokens_of, kind_of};
+ghost use Rattle.glob_captures.specs.Writing.{AreAdjacent};
 
 use crate::piece::Piece;
 use glob_pattern::{Pattern, TokenKind, characters_of, token_kind, tokens_len};
@@ -16,13 +17,17 @@ pub struct Written {
 }
 
 /// The tokens of a pattern, in order. Those of `a[bc]*` are a `Literal` from 0 up to 1, a `OneOf` up to 5, and an
-/// `AnySequence` up to 6. Neighbouring `**/` are one token, and are written as one. Fails only if allocation fails.
+/// `AnySequence` up to 6: each is written from where the one before it ends. Neighbouring `**/` are one token, and are
+/// written as one. Fails only if allocation fails.
 pub fn tokens<A: Allocator + Copy, B: Allocator>(
     alloc: A,
     pattern: &Pattern<B>,
 ) -> Result<Vec<Written, A>, AllocError>
     ensures many { IfOk result
         (λ list. length list.items ≡ length (tokens_of (chars pattern.now))) }
+    ensures kinds { IfOk result (λ list.
+        map (λ token. token.kind) list.items ≡ map kind_of (tokens_of (chars pattern.now))) }
+    ensures adjacent { IfOk result (λ list. (end : ℕ) × AreAdjacent 0 list.items end) }
 {
     let text = characters_of(alloc, pattern.as_str())?;
     let mut list = Vec::new(alloc);

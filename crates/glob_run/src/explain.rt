@@ -4,16 +4,19 @@ ghost use Rattle.glob_pattern.specs.Grammar.Units.{IsAccepted};
 ghost use Rattle.glob_run.specs.Outcomes.{Explains, IsRefused};
 
 mod caret;
+mod foreign;
 mod instead;
+mod stop;
 
 use crate::writing::write_whole;
 use crate::{MATCHED, UNMATCHED, fault};
 use caret::add_caret;
-use glob_captures::{CapturesError, Piece, Reached, TokenKind, captures, reach, tokens};
+use glob_captures::{CapturesError, Piece, captures, tokens};
 use glob_pattern::{MatchOptions, Pattern, PatternError, PatternRefusal};
-use instead::{accepted_instead, foreign_instead};
+use instead::accepted_instead;
 use std::alloc::{AllocError, Allocator};
 use std::io::Write;
+use stop::stop_lines;
 
 /// Writes how the pattern of the text takes the other text, and returns the status: 0 where it matches, 1 where it does
 /// not, 2 at a fault. A pattern that is refused is written to `errors`, with a caret under its fault.
@@ -76,10 +79,7 @@ fn explained<A: Allocator + Copy>(
             piece_lines(alloc, pattern, text, pieces.as_slice())?,
             MATCHED,
         )),
-        None => {
-            let reached = reach(alloc, pattern, text, options)?;
-            Ok((reach_lines(alloc, pattern, text, &reached)?, UNMATCHED))
-        }
+        None => Ok((stop_lines(alloc, pattern, text, options)?, UNMATCHED)),
     }
 }
 
@@ -99,70 +99,9 @@ fn piece_lines<A: Allocator + Copy>(
     Ok(lines)
 }
 
-/// The text with a caret where it stops, and a line for each token that waits there: how it is written, a tab, and what
-/// it wants. Where the pattern has a form of another tool, a last line says what to write instead.
-fn reach_lines<A: Allocator + Copy>(
-    alloc: A,
-    pattern: &Pattern<A>,
-    text: &str,
-    reached: &Reached<A>,
-) -> Result<String<A>, AllocError> {
-    let mut lines = String::new(alloc);
-    let before = text.get(..reached.place).unwrap_or(text);
-    add_caret(&mut lines, text, before.chars().count())?;
-    add_waiting(alloc, &mut lines, pattern, reached.waiting.as_slice())?;
-    if reached.waiting.is_empty() {
-        lines.push_str("the pattern ends here\n")?;
-    }
-    add_advice(&mut lines, foreign_instead(alloc, pattern.as_str())?)?;
-    Ok(lines)
-}
-
-/// A line for each token that waits: how it is written, a tab, and what it wants.
-fn add_waiting<A: Allocator + Copy>(
-    alloc: A,
-    lines: &mut String<A>,
-    pattern: &Pattern<A>,
-    waiting: &[usize],
-) -> Result<(), AllocError> {
-    let list = tokens(alloc, pattern)?;
-    for number in waiting {
-        if let Some(token) = list.as_slice().get(*number) {
-            let written = part_of(pattern.as_str(), token.piece);
-            add_row(lines, written, wanted_by(token.kind))?;
-        }
-    }
-    Ok(())
-}
-
 /// A part of a text.
 fn part_of(text: &str, piece: Piece) -> &str {
     text.get(piece.start..piece.end).unwrap_or("")
-}
-
-/// What a token of this kind wants.
-fn wanted_by(kind: TokenKind) -> &'static str {
-    match kind {
-        TokenKind::Literal => "wants this character",
-        TokenKind::AnyChar => "wants any one character",
-        TokenKind::AnySequence => "wants any characters",
-        TokenKind::Recursive => "wants whole components",
-        TokenKind::OneOf => "wants a character that it lists",
-        TokenKind::NoneOf => "wants a character that it does not list",
-    }
-}
-
-/// What to write instead, if there is something.
-fn add_advice<A: Allocator>(
-    lines: &mut String<A>,
-    advice: Option<String<A>>,
-) -> Result<(), AllocError> {
-    if let Some(advice) = advice {
-        lines.push_str("write instead: ")?;
-        lines.push_str(advice.as_str())?;
-        lines.push('\n')?;
-    }
-    Ok(())
 }
 
 /// How a token is written, a tab, and words.

@@ -45,7 +45,8 @@ does not match a line that ends in it. A line that is not UTF-8 never matches.
 
 explain writes a line for each wildcard, bracket and character of the pattern, and after a tab the
 piece of the text that it takes. Where the text does not match, a caret shows where it stops, and
-the lines below say what is wanted there. A caret under a pattern shows its fault.
+the lines below say what is wanted there, which option alone hinders a match, and what to write
+instead of a form of another tool. A caret under a pattern that is refused shows its fault.
 
 Paths: find walks from the current directory, or from / if the pattern begins with that. Each
 directory's names come in ascending byte order. If the pattern ends in / or **, only directories
@@ -55,5 +56,6 @@ Status:
   0         something matched, a text was escaped, or this page or the version was written
   1         nothing matched
   2         a fault, a directory that could not be listed, or the limit was reached
-A fault is one line on standard error.
+A fault is one line on standard error. That of a pattern that explain refuses is followed by the
+pattern, the caret, and what to write instead.
 ";

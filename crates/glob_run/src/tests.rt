@@ -2,6 +2,7 @@ mod disk;
 mod explain;
 mod find;
 mod folder;
+mod foreign;
 mod help_page;
 mod kinds;
 mod known_trees;

@@ -45,6 +45,11 @@ const STOPS: &[Row] = &[
         (1, "ax\n ^\nb\twants this character\n", ""),
     ),
     (
+        "explain abc ax",
+        b"",
+        (1, "ax\n ^\nbc\twants these characters\n", ""),
+    ),
+    (
         "explain éa? éax!",
         b"",
         (1, "éax!\n   ^\nthe pattern ends here\n", ""),
@@ -69,49 +74,122 @@ const STOPS: &[Row] = &[
         (1, "a\n ^\n?\twants any one character\n", ""),
     ),
     (
-        "explain A a",
+        "explain -i a[b] axx",
         b"",
-        (1, "a\n^\nA\twants this character\n", ""),
+        (
+            1,
+            "axx\n ^\n[b]\twants a character that it lists, in either case\n",
+            "",
+        ),
+    ),
+    (
+        "explain -i a1b a1c",
+        b"",
+        (1, "a1c\n  ^\nb\twants this character, in either case\n", ""),
+    ),
+    (
+        "explain -i a1 a2",
+        b"",
+        (1, "a2\n ^\n1\twants this character\n", ""),
+    ),
+    // The wildcard took all, and then the others are wanted.
+    (
+        "explain *.rs main.c",
+        b"",
+        (
+            1,
+            "main.c\n      ^\n.rs\tis wanted at the end of the text\n",
+            "",
+        ),
+    ),
+    (
+        "explain a/**/[0-9].rs a/b.rs",
+        b"",
+        (
+            1,
+            "a/b.rs\n  ^\n**/\twants whole components, but no / follows\n[0-9]\twants a character that it lists\n",
+            "",
+        ),
+    ),
+    (
+        "explain **/a b/c",
+        b"",
+        (
+            1,
+            "b/c\n  ^\n**/\twants whole components, but no / follows\na\twants this character\n",
+            "",
+        ),
+    ),
+    (
+        "explain a*b?b ab",
+        b"",
+        (1, "ab\n  ^\nb?b\tis wanted at the end of the text\n", ""),
+    ),
+    // The text ends as the pattern does, and yet something is lacking.
+    (
+        "explain a*ab ab",
+        b"",
+        (1, "ab\n  ^\nab\twants these characters\n", ""),
     ),
 ];
 
-/// Forms of other tools, in a pattern that does not match.
-const FOREIGN: &[Row] = &[
+/// Texts that an option keeps from matching.
+const HINDERED: &[Row] = &[
     (
-        "explain {c,h} c",
+        "explain A a",
+        b"",
+        (1, "a\n^\nA\twants this character\nit matches with -i\n", ""),
+    ),
+    (
+        "explain *.RS a.rs",
         b"",
         (
             1,
-            "c\n^\n{\twants this character\nwrite instead: [ch]\n",
+            "a.rs\n    ^\n.RS\tis wanted at the end of the text\nit matches with -i\n",
             "",
         ),
     ),
     (
-        "explain x[[:digit:]] x1",
+        "explain -s a?c a/c",
         b"",
         (
             1,
-            "x1\n ^\n[[:digit:]\twants a character that it lists\nwrite instead: x[0-9]\n",
+            "a/c\n ^\n?\twants any one character, but no /\nit matches without -s\n",
             "",
         ),
     ),
     (
-        "explain \\* *",
+        "explain -d *a .a",
         b"",
         (
             1,
-            "*\n^\n\\\twants this character\nwrite instead: [*]\n",
+            ".a\n^\n*\twants any characters, but no leading .\na\twants this character\nit matches without -d\n",
             "",
         ),
     ),
     (
-        "explain [^a] b",
+        "explain -s -d [!b] .",
         b"",
         (
             1,
-            "b\n^\n[^a]\twants a character that it lists\nwrite instead: [!a]\n",
+            ".\n^\n[!b]\twants a character that it does not list, but no / and no leading .\nit matches without -d\n",
             "",
         ),
+    ),
+    (
+        "explain -d a/** a/.b",
+        b"",
+        (
+            1,
+            "a/.b\n  ^\n**\twants whole components, but no leading .\nthe pattern may end here\nit matches without -d\n",
+            "",
+        ),
+    ),
+    // Two options hinder it together.
+    (
+        "explain -s A? a/",
+        b"",
+        (1, "a/\n^\nA\twants this character\n", ""),
     ),
 ];
 
@@ -169,8 +247,8 @@ fn stops(rt: HostRuntime) -> Result<(), Fail> {
 }
 
 #[test]
-fn forms_of_other_tools(rt: HostRuntime) -> Result<(), Fail> {
-    check_rows(&rt, FOREIGN)
+fn options_that_hinder(rt: HostRuntime) -> Result<(), Fail> {
+    check_rows(&rt, HINDERED)
 }
 
 #[test]

@@ -24,5 +24,5 @@ returns-clause-reached g c =
       k,
       subst (λ text. IsFarthest o tokens text k) first c.in_ok-place.ensures,
       c.bytes_of.ensures ∙ ap (λ text. length (encode_utf8_all (take k text))) is,
-      subst (λ text. AreWaiting o tokens text k c.in_ok-waiting.waiting.items) second c.in_ok-waiting.ensures,
+      subst (λ text. AreWaiting o tokens text k c.in_ok-waiting.waiting.items) second c.in_ok-waiting.ensures.waiting,
     )

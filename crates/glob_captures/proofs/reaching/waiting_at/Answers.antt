@@ -2,9 +2,10 @@ use Rattle.std.proofs.Common.{chars, ◌≡◌, ◌<◌, ◌≤◌, ◌↔◌, �
 use Rattle.std.specs.Prelude.{Contains}
 use Rattle.std.proofs.lemmas.Bool.{false≢true}
 use Rattle.std.proofs.lemmas.List.{get_or_default}
+use Rattle.std.proofs.lemmas.List.Quantifiers.{all_pairs_push}
 use Rattle.glob_pattern.specs.Computing.Tokens.{tokens_of}
 use Rattle.glob_captures.specs.Reaching.{Waits}
-use Rattle.glob_captures.proofs.FrontLemmas.{written_back, listed_push, listed_kept}
+use Rattle.glob_captures.proofs.FrontLemmas.{written_back, listed_push, listed_kept, listed_below}
 use Rattle.glob_captures.proofs.reaching.waiting_at.Goals as goal
 use Rattle.glob_captures.proofs.reaching.waiting_at.Goals.{then-index+in_ok-push, else-index}
 
@@ -16,6 +17,7 @@ loop-token-init g c =
       fronts = c.in_ok-whole.ensures o tokens;
       room = (c.in_ok-alive.ensures o tokens).many;
       waiting = λ n. ((λ h. absurd (omega (arith, h.1, ap length c.new-waiting.ensures.items))), (λ h. absurd (omega (arith, h.0))));
+      ascending = λ i j d before below. absurd (omega (arith, below, ap length c.new-waiting.ensures.items));
     }
 
 pub loop-token-preserved : goal.loop-token-preserved
@@ -51,10 +53,17 @@ loop-token-preserved g c =
                 rw w.waiting-is
                 (listed_kept (λ m. Waits o tokens text m place) c.loop-token.waiting.items n inv.waiting (λ wait. false≢true (sym w.if-index.false ∙ here.1 wait)))
           ];
+      ascending =
+          elim c.if-index.branch [
+            | then-index+in_ok-push w ↦
+                rw (w.waiting-is, w.in_ok-push.ensures.items)
+                (all_pairs_push (λ number later. number < later) c.loop-token.waiting.items n inv.ascending (listed_below _ c.loop-token.waiting.items n inv.waiting))
+            | else-index w ↦ rw w.waiting-is inv.ascending
+          ];
     }
 
-pub returns : goal.returns
-returns g c =
+pub returns-clause-waiting : goal.returns-clause-waiting
+returns-clause-waiting g c =
     let o = c.args.options in
     let tokens = tokens_of (chars c.args.pattern.now) in
     let all : c.loop-token.token ≡ length tokens = omega arith in

@@ -1,0 +1,181 @@
+//! What to write instead of a pattern with a form of another tool, as `*.[ch]` for `*.{c,h}`.
+ghost use Rattle.std.specs.Prelude.{◌≡◌, true, All, IfOk, chars, string_bytes};
+ghost use Rattle.glob_pattern.specs.Grammar.Units.{IsAccepted};
+
+mod bracket;
+
+use super::instead::is_accepted;
+use bracket::add_bracket;
+use std::alloc::{AllocError, Allocator};
+
+/// At most so many patterns are written instead of one.
+const MOST_WAYS: usize = 8;
+
+/// Characters that are not in a bracket what they are between braces: some have a meaning there, or in a bracket, and
+/// the rules for `/` and a leading `.` are those of brackets alone.
+const UNLIKE_IN_BRACKETS: &[char] = &['*', '?', '!', '^', '-', ']', '/', '.'];
+
+/// What stands for a pattern with forms of other tools: one pattern, or one for each alternative. There is none where the
+/// pattern has no such form, where its meaning is not certain, and where it would take more than [`MOST_WAYS`].
+///
+/// So for `*.{cpp,h}` these are `*.cpp` and `*.h`.
+pub fn foreign_instead<A: Allocator + Copy>(
+    alloc: A,
+    pattern: &str,
+) -> Result<Vec<String<A>, A>, AllocError>
+    ensures { IfOk result (λ patterns.
+        All (λ instead. IsAccepted (chars (string_bytes instead))) patterns.items) }
+{
+    let ways = native_ways(alloc, pattern)?;
+    if is_alone(ways.as_slice(), pattern) || !are_accepted(alloc, ways.as_slice())? {
+        return Ok(Vec::new(alloc));
+    }
+    Ok(ways)
+}
+
+/// Whether the text is the only one of the list.
+fn is_alone<A: Allocator>(list: &[String<A>], text: &str) -> bool {
+    matches!(list, [only] if only.as_str() == text)
+}
+
+/// Whether each text is a pattern.
+fn are_accepted<A: Allocator + Copy>(alloc: A, texts: &[String<A>]) -> Result<bool, AllocError>
+    ensures { IfOk result (λ yes. yes ≡ true
+        → All (λ text. IsAccepted (chars (string_bytes text))) texts.now) }
+{
+    for text in texts {
+        if !is_accepted(alloc, text.as_str())? {
+            return Ok(false);
+        }
+    }
+    Ok(true)
+}
+
+/// The patterns that take, all together, what the pattern takes in another tool. None where that is not certain.
+fn native_ways<A: Allocator + Copy>(
+    alloc: A,
+    pattern: &str,
+) -> Result<Vec<String<A>, A>, AllocError> {
+    let mut ways = Vec::new(alloc);
+    ways.push(String::new(alloc))?;
+    let mut rest = pattern;
+    for _ in 0..pattern.len() {
+        let Some(after) = add_form(alloc, &mut ways, rest)? else {
+            return Ok(Vec::new(alloc));
+        };
+        rest = after;
+    }
+    Ok(ways)
+}
+
+/// Adds what stands for the first form of a text to each way, and returns what follows that form. `None` where its meaning
+/// is not certain.
+fn add_form<'a, A: Allocator + Copy>(
+    alloc: A,
+    ways: &mut Vec<String<A>, A>,
+    text: &'a str,
+) -> Result<Option<&'a str>, AllocError> {
+    let mut form = String::new(alloc);
+    let after = if let Some(after) = text.strip_prefix('[') {
+        add_bracket(&mut form, after)?
+    } else if let Some(after) = text.strip_prefix('\\') {
+        add_escaped(&mut form, after)?
+    } else if let Some((inner, after)) = split_choice(text) {
+        if !are_characters(inner) {
+            return add_alternatives(alloc, ways, inner, after);
+        }
+        add_characters(&mut form, inner)?;
+        Some(after)
+    } else {
+        Some(add_first(&mut form, text)?)
+    };
+    for way in ways.iter_mut() {
+        way.push_str(form.as_str())?;
+    }
+    Ok(after)
+}
+
+/// Adds the first character.
+fn add_first<'a, A: Allocator>(made: &mut String<A>, text: &'a str) -> Result<&'a str, AllocError> {
+    let mut characters = text.chars();
+    if let Some(c) = characters.next() {
+        made.push(c)?;
+    }
+    Ok(characters.as_str())
+}
+
+/// Adds the character that another tool escapes by a backslash: in a bracket if it has a meaning here. `None` before a
+/// letter or digit, where a backslash has several meanings, and at the end.
+fn add_escaped<'a, A: Allocator>(
+    made: &mut String<A>,
+    text: &'a str,
+) -> Result<Option<&'a str>, AllocError> {
+    match text.chars().next() {
+        None => Ok(None),
+        Some(c) if c.is_ascii_alphanumeric() => Ok(None),
+        Some('*' | '?' | '[' | ']') => {
+            made.push('[')?;
+            let after = add_first(made, text)?;
+            made.push(']')?;
+            Ok(Some(after))
+        }
+        Some(_) => Ok(Some(add_first(made, text)?)),
+    }
+}
+
+/// What is between the braces that a text begins with, and what follows them. `None` where there is no comma, without which
+/// braces stand for themselves.
+fn split_choice(text: &str) -> Option<(&str, &str)> {
+    let (inner, after) = text.strip_prefix('{')?.split_once('}')?;
+    if inner.contains(',') {
+        Some((inner, after))
+    } else {
+        None
+    }
+}
+
+/// Whether each part between commas is one character, which a bracket takes, too.
+fn are_characters(inner: &str) -> bool {
+    !inner.contains(UNLIKE_IN_BRACKETS) && inner.split(',').all(|part| part.chars().count() == 1)
+}
+
+/// Adds a bracket of the characters between commas.
+fn add_characters<A: Allocator>(made: &mut String<A>, inner: &str) -> Result<(), AllocError> {
+    made.push('[')?;
+    for part in inner.split(',') {
+        made.push_str(part)?;
+    }
+    made.push(']')
+}
+
+/// In place of each way one for each alternative, which ends in it. `None` where these are too many, where an alternative has
+/// a form of another tool itself, and where `*` would come together.
+fn add_alternatives<'a, A: Allocator + Copy>(
+    alloc: A,
+    ways: &mut Vec<String<A>, A>,
+    inner: &str,
+    after: &'a str,
+) -> Result<Option<&'a str>, AllocError> {
+    if inner.contains(['{', '[', '\\'].as_slice()) {
+        return Ok(None);
+    }
+    let mut longer = Vec::new(alloc);
+    for way in ways.iter() {
+        for alternative in inner.split(',') {
+            if joins_stars(way.as_str(), alternative, after) {
+                return Ok(None);
+            }
+            longer.push(format!(in alloc; "{way}{alternative}")?)?;
+        }
+    }
+    let are_few = longer.len() <= MOST_WAYS;
+    *ways = longer;
+    Ok(if are_few { Some(after) } else { None })
+}
+
+/// Whether a `*` is right before another one only since the text between is put between the others.
+fn joins_stars(before: &str, between: &str, after: &str) -> bool {
+    let follows = if between.is_empty() { after } else { between };
+    (before.ends_with('*') && follows.starts_with('*'))
+        || (between.ends_with('*') && after.starts_with('*'))
+}
