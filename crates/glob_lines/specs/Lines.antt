@@ -48,6 +48,10 @@ with_ends end records = flat_map (ended_record end) records
 abbrev pub Selected : (List ℕ → Bool) → List ℕ → Type 0
 Selected selects bytes = selects bytes ≡ true
 
+-- of the bytes, the first n were written, for some n
+abbrev pub AppendsFront : (old new : Option (List ℕ)) → (bytes : List ℕ) → Type 0
+AppendsFront old new bytes = (n : ℕ) × Appends old new (take n bytes)
+
 -- The records of which P holds were written, each with its end, after what the writer held before. `count` is the number of
 -- them, which stops at `u64::MAX`.
 abbrev pub WritesKept : (end : ℕ) → (P : List ℕ → Type 0) → (input : List ℕ) → (old new : Option (List ℕ)) → (count : ℕ) → Type 0

@@ -9,6 +9,6 @@ mod selection;
 mod watch;
 
 pub use fault::LineFault;
-pub use lines::{filter_lines, filter_records, filter_selected};
+pub use lines::{filter_lines, filter_records, filter_selected, write_all};
 pub use selection::Selection;
 pub use watch::Watch;

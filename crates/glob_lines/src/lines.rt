@@ -1,8 +1,8 @@
 ghost use Rattle.std.specs.Prelude.{◌≡◌, ◌↔◌, ◌<◌, ◌≤◌, ◌+◌, ◌∷◌, ◌++◌, false, length, take, drop, vec_len, IsTrue, IsErr, IsErrAnd, IfOk, OnOk, OnErr};
 ghost use Rattle.std.specs.Io.KnownBytes.{Keeps, Appends, Consumes, IsAtEnd};
 ghost use Rattle.glob_lines.specs.LineFaults.{IsRead, IsMemory, IsWrite};
-ghost use Rattle.glob_lines.specs.Lines.{records_of, ended_record, Selected, WritesKept, CopiesSelected, CopiesSomeSelected, CopiesSelectedBytes, FiltersRecords, FiltersSomeRecords, FiltersRecordBytes, FiltersLines, FiltersSomeLines, FiltersSomeBytes};
-ghost use Rattle.glob_lines.specs.Private.Fronts.{AppendsFront, WritesFrontRecords, WritesFrontBytes};
+ghost use Rattle.glob_lines.specs.Lines.{records_of, ended_record, AppendsFront, Selected, WritesKept, CopiesSelected, CopiesSomeSelected, CopiesSelectedBytes, FiltersRecords, FiltersSomeRecords, FiltersRecordBytes, FiltersLines, FiltersSomeLines, FiltersSomeBytes};
+ghost use Rattle.glob_lines.specs.Private.Fronts.{WritesFrontRecords, WritesFrontBytes};
 ghost use Rattle.glob_lines.specs.Private.Gathering.{IsGathered};
 
 use crate::fault::LineFault;
@@ -248,8 +248,9 @@ fn keep_record<A: Allocator, W: Write>(
     Ok(())
 }
 
-/// Writes all of the bytes, in as many writes as it takes. The first error is returned.
-fn write_all<W: Write>(writer: &mut Watch<W>, bytes: &[u8]) -> io::Result<()>
+/// Writes all of the bytes, in as many writes as it takes: where the writer takes two bytes a call, `abc` takes two. The
+/// first error is returned, also `Interrupted`. Then the first bytes were written, some or none of them.
+pub fn write_all<W: Write>(writer: &mut Watch<W>, bytes: &[u8]) -> io::Result<()>
     requires { writer.old.failed ≡ false }
     ensures ok { OnOk result
         (Appends (W.contents writer.old.inner) (W.contents writer.new.inner) bytes.now) }

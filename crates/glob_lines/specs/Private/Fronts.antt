@@ -1,11 +1,7 @@
 -- The first bytes and the first records, of which some were written.
 use Rattle.std.specs.Prelude.{ℕ, List, Option, take}
 use Rattle.std.specs.Io.KnownBytes.{Appends}
-use Rattle.glob_lines.specs.Lines.{records_of, AreKept, with_ends}
-
--- of the bytes, the first n were written, for some n
-abbrev pub AppendsFront : (old new : Option (List ℕ)) → (bytes : List ℕ) → Type 0
-AppendsFront old new bytes = (n : ℕ) × Appends old new (take n bytes)
+use Rattle.glob_lines.specs.Lines.{records_of, AppendsFront, AreKept, with_ends}
 
 -- of the records of which P holds, whichever they are, the first n were written, for some n
 abbrev pub WritesFrontRecords : (end : ℕ) → (P : List ℕ → Type 0) → (input : List ℕ) → (old new : Option (List ℕ)) → Type 0
