@@ -1,8 +1,9 @@
 -- The records of some bytes, and those of them that a pattern matches. Lines are the records that end before a line feed.
-use Rattle.std.specs.Prelude.{◌≡◌, ℕ, ◌-◌, ◌^◌, ◌==◌, ◌⊎◌, if◌then◌else◌, List, [], ◌∷◌, ◌++◌, Option, IfSome, length, min, take, true}
+use Rattle.std.specs.Prelude.{◌≡◌, ℕ, ◌-◌, ◌^◌, ◌==◌, ◌&&◌, ◌⊎◌, Bool, if◌then◌else◌, List, [], ◌∷◌, ◌++◌, Option, IfSome, length, min, take, true}
 use Rattle.std.specs.Str.{chars, is_utf8}
 use Rattle.std.specs.List.{flat_map}
 use Rattle.std.specs.Io.KnownBytes.{Appends}
+use Rattle.glob_pattern.specs.Computing.Deciding.{is_match}
 use Rattle.glob_pattern.specs.Matching.Texts.{Matches}
 use Rattle.glob_pattern.specs.declared.options.MatchOptions.{MatchOptions}
 
@@ -24,6 +25,10 @@ records_of end (b ∷ bs) = if b == end then [] ∷ records_of end bs else onto_
 abbrev pub RecordMatches : MatchOptions → (pattern : List ℕ) → List ℕ → Type 0
 RecordMatches o pattern bytes = (is_utf8 bytes ≡ true) × Matches o (chars pattern) (chars bytes)
 
+-- the same, computed
+abbrev pub record_matches : MatchOptions → (pattern : List ℕ) → List ℕ → Bool
+record_matches o pattern bytes = is_utf8 bytes && is_match o (chars pattern) (chars bytes)
+
 -- `kept` are those of the records of which P holds, in order
 abbrev pub AreKept : (List ℕ → Type 0) → (records : List (List ℕ)) → (kept : List (List ℕ)) → Type 0
 AreKept P [] kept = kept ≡ []
@@ -39,34 +44,58 @@ ended_record end bytes = bytes ++ end ∷ []
 abbrev pub with_ends : (end : ℕ) → List (List ℕ) → List ℕ
 with_ends end records = flat_map (ended_record end) records
 
--- the records of the input that the pattern matches, in order
-abbrev pub AreMatchingRecords : (end : ℕ) → MatchOptions → (pattern input : List ℕ) → List (List ℕ) → Type 0
-AreMatchingRecords end o pattern input kept = AreKept (RecordMatches o pattern) (records_of end input) kept
+-- the bytes of a record say whether it is copied
+abbrev pub Selected : (List ℕ → Bool) → List ℕ → Type 0
+Selected selects bytes = selects bytes ≡ true
 
--- The records that match were written, each with its end, after what the writer held before. `count` is the number of
+-- of the bytes, the first n were written, for some n
+abbrev pub AppendsFront : (old new : Option (List ℕ)) → (bytes : List ℕ) → Type 0
+AppendsFront old new bytes = (n : ℕ) × Appends old new (take n bytes)
+
+-- The records of which P holds were written, each with its end, after what the writer held before. `count` is the number of
 -- them, which stops at `u64::MAX`.
-abbrev pub WritesRecords : (end : ℕ) → MatchOptions → (pattern input : List ℕ) → (old new : Option (List ℕ)) → (count : ℕ) → Type 0
-WritesRecords end o pattern input old new count =
+abbrev pub WritesKept : (end : ℕ) → (P : List ℕ → Type 0) → (input : List ℕ) → (old new : Option (List ℕ)) → (count : ℕ) → Type 0
+WritesKept end P input old new count =
     (kept : List (List ℕ))
-    × AreMatchingRecords end o pattern input kept
+    × AreKept P (records_of end input) kept
     × Appends old new (with_ends end kept)
     × (count ≡ min (length kept) (2 ^ 64 - 1))
 
--- of the records that match, the first n were written, for some n
-abbrev pub WritesSomeRecords : (end : ℕ) → MatchOptions → (pattern input : List ℕ) → (old new : Option (List ℕ)) → Type 0
-WritesSomeRecords end o pattern input old new =
+-- of these records, the first n were written, for some n
+abbrev pub WritesSomeKept : (end : ℕ) → (P : List ℕ → Type 0) → (input : List ℕ) → (old new : Option (List ℕ)) → Type 0
+WritesSomeKept end P input old new =
     (kept : List (List ℕ))
-    × AreMatchingRecords end o pattern input kept
+    × AreKept P (records_of end input) kept
     × ((n : ℕ) × Appends old new (with_ends end (take n kept)))
 
--- of the bytes of the records that match, the first n were written, for some n
-abbrev pub WritesSomeBytes : (end : ℕ) → MatchOptions → (pattern input : List ℕ) → (old new : Option (List ℕ)) → Type 0
-WritesSomeBytes end o pattern input old new =
+-- of the bytes of these records, the first n were written, for some n
+abbrev pub WritesKeptBytes : (end : ℕ) → (P : List ℕ → Type 0) → (input : List ℕ) → (old new : Option (List ℕ)) → Type 0
+WritesKeptBytes end P input old new =
     (kept : List (List ℕ))
-    × AreMatchingRecords end o pattern input kept
+    × AreKept P (records_of end input) kept
     × ((n : ℕ) × Appends old new (take n (with_ends end kept)))
 
--- the same three of an input that is known, and nothing of another
+-- the same three where P is that the pattern matches the record
+abbrev pub WritesRecords : (end : ℕ) → MatchOptions → (pattern input : List ℕ) → (old new : Option (List ℕ)) → (count : ℕ) → Type 0
+WritesRecords end o pattern input old new count = WritesKept end (RecordMatches o pattern) input old new count
+
+abbrev pub WritesSomeRecords : (end : ℕ) → MatchOptions → (pattern input : List ℕ) → (old new : Option (List ℕ)) → Type 0
+WritesSomeRecords end o pattern input old new = WritesSomeKept end (RecordMatches o pattern) input old new
+
+abbrev pub WritesSomeBytes : (end : ℕ) → MatchOptions → (pattern input : List ℕ) → (old new : Option (List ℕ)) → Type 0
+WritesSomeBytes end o pattern input old new = WritesKeptBytes end (RecordMatches o pattern) input old new
+
+-- the same three of the selected records of an input that is known, and nothing of another
+unfoldable pub CopiesSelected : (end : ℕ) → (List ℕ → Bool) → (input old new : Option (List ℕ)) → (count : ℕ) → Type 0
+CopiesSelected end selects input old new count = IfSome input (λ bytes. WritesKept end (Selected selects) bytes old new count)
+
+unfoldable pub CopiesSomeSelected : (end : ℕ) → (List ℕ → Bool) → (input old new : Option (List ℕ)) → Type 0
+CopiesSomeSelected end selects input old new = IfSome input (λ bytes. WritesSomeKept end (Selected selects) bytes old new)
+
+unfoldable pub CopiesSelectedBytes : (end : ℕ) → (List ℕ → Bool) → (input old new : Option (List ℕ)) → Type 0
+CopiesSelectedBytes end selects input old new = IfSome input (λ bytes. WritesKeptBytes end (Selected selects) bytes old new)
+
+-- the same three of the records that a pattern matches
 unfoldable pub FiltersRecords : (end : ℕ) → MatchOptions → (pattern : List ℕ) → (input old new : Option (List ℕ)) → (count : ℕ) → Type 0
 FiltersRecords end o pattern input old new count = IfSome input (λ bytes. WritesRecords end o pattern bytes old new count)
 

@@ -3,9 +3,12 @@
 
 mod fault;
 mod lines;
+mod matching;
 mod record_ends;
+mod selection;
 mod watch;
 
 pub use fault::LineFault;
-pub use lines::{filter_lines, filter_records};
+pub use lines::{filter_lines, filter_records, filter_selected, write_all};
+pub use selection::Selection;
 pub use watch::Watch;

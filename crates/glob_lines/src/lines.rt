@@ -1,17 +1,18 @@
 ghost use Rattle.std.specs.Prelude.{◌≡◌, ◌↔◌, ◌<◌, ◌≤◌, ◌+◌, ◌∷◌, ◌++◌, false, length, take, drop, vec_len, IsTrue, IsErr, IsErrAnd, IfOk, OnOk, OnErr};
 ghost use Rattle.std.specs.Io.KnownBytes.{Keeps, Appends, Consumes, IsAtEnd};
 ghost use Rattle.glob_lines.specs.LineFaults.{IsRead, IsMemory, IsWrite};
-ghost use Rattle.glob_lines.specs.Lines.{records_of, ended_record, RecordMatches, WritesRecords, FiltersRecords, FiltersSomeRecords, FiltersRecordBytes, FiltersLines, FiltersSomeLines, FiltersSomeBytes};
-ghost use Rattle.glob_lines.specs.Private.Fronts.{AppendsFront, WritesFrontRecords, WritesFrontBytes};
+ghost use Rattle.glob_lines.specs.Lines.{records_of, ended_record, AppendsFront, Selected, WritesKept, CopiesSelected, CopiesSomeSelected, CopiesSelectedBytes, FiltersRecords, FiltersSomeRecords, FiltersRecordBytes, FiltersLines, FiltersSomeLines, FiltersSomeBytes};
+ghost use Rattle.glob_lines.specs.Private.Fronts.{WritesFrontRecords, WritesFrontBytes};
 ghost use Rattle.glob_lines.specs.Private.Gathering.{IsGathered};
 
 use crate::fault::LineFault;
+use crate::matching::Matching;
 use crate::record_ends::first_end;
+use crate::selection::Selection;
 use crate::watch::Watch;
-use glob_pattern::{MatchOptions, Pattern, match_trimmed, trim};
-use std::alloc::{AllocError, Allocator};
+use glob_pattern::{MatchOptions, Pattern};
+use std::alloc::Allocator;
 use std::io::{self, Read, Write};
-use std::str;
 
 /// How many bytes one read may return.
 const READ_LEN: usize = 64 * 1024;
@@ -64,7 +65,6 @@ pub fn filter_lines<A: Allocator + Copy, B: Allocator + Copy, R: Read, W: Write>
 ///
 /// So with the pattern `a*` and the byte `0` as the end the input `"a\nb\0b\0"` gives the output `"a\nb\0"`, and 1 is
 /// returned: a line feed is a character of its record. The errors are those of `filter_lines`.
-#[tactic(auto, unfolding(crate::specs::Lines::FiltersRecords))]
 pub fn filter_records<A: Allocator + Copy, B: Allocator + Copy, R: Read, W: Write>(
     alloc: A,
     pattern: &Pattern<B>,
@@ -88,8 +88,39 @@ pub fn filter_records<A: Allocator + Copy, B: Allocator + Copy, R: Read, W: Writ
     ensures write_fault { IsErrAnd result IsWrite → FiltersRecordBytes end options pattern.now
         (R.remaining reader.old.inner) (W.contents writer.old.inner) (W.contents writer.new.inner) }
 {
+    let selection = Matching { pattern, options };
+    filter_selected(alloc, &selection, end, reader, writer)
+}
+
+/// Copies the records of `reader` that the selection selects to `writer`, as [`filter_records`] does with those that a
+/// pattern matches. So with the selection of the records that begin with `#` and a line feed as the end the input
+/// `"#a\nb\n#c"` gives the output `"#a\n#c\n"`, and 2 is returned. The errors are those of `filter_lines`, where `Memory`
+/// is also an error of the selection.
+#[tactic(auto, unfolding(crate::specs::Lines::CopiesSelected))]
+pub fn filter_selected<A: Allocator + Copy, S: Selection, R: Read, W: Write>(
+    alloc: A,
+    selection: &S,
+    end: u8,
+    reader: &mut Watch<R>,
+    writer: &mut Watch<W>,
+) -> Result<u64, LineFault>
+    requires reader { reader.old.failed ≡ false }
+    requires writer { writer.old.failed ≡ false }
+    ensures records { IfOk result (CopiesSelected end (S.selects selection.now)
+        (R.remaining reader.old.inner)
+        (W.contents writer.old.inner) (W.contents writer.new.inner)) }
+    ensures end { OnOk result (IsAtEnd (R.remaining reader.new.inner)) }
+    ensures read_failed { IsTrue reader.new.failed ↔ IsErrAnd result IsRead }
+    ensures write_failed { IsTrue writer.new.failed ↔ IsErrAnd result IsWrite }
+    ensures read_fault { IsErrAnd result IsRead
+        → Keeps (W.contents writer.old.inner) (W.contents writer.new.inner) }
+    ensures memory { IsErrAnd result IsMemory → CopiesSomeSelected end (S.selects selection.now)
+        (R.remaining reader.old.inner) (W.contents writer.old.inner) (W.contents writer.new.inner) }
+    ensures write_fault { IsErrAnd result IsWrite → CopiesSelectedBytes end (S.selects selection.now)
+        (R.remaining reader.old.inner) (W.contents writer.old.inner) (W.contents writer.new.inner) }
+{
     let input = read_all(alloc, reader)?;
-    write_records(alloc, pattern, options, end, &input, writer)
+    write_records(alloc, selection, end, &input, writer)
 }
 
 /// All bytes that are left in the reader.
@@ -141,23 +172,24 @@ fn read_piece<A: Allocator, R: Read>(
     reader.read(&mut input[filled..]).map_err(LineFault::Read)
 }
 
-/// Writes the records of the input that the pattern matches, each with its end, and returns their number.
-fn write_records<A: Allocator + Copy, B: Allocator + Copy, W: Write>(
+/// Writes the selected records of the input, each with its end, and returns their number.
+fn write_records<A: Allocator + Copy, S: Selection, W: Write>(
     alloc: A,
-    pattern: &Pattern<B>,
-    options: MatchOptions,
+    selection: &S,
     end: u8,
     input: &[u8],
     writer: &mut Watch<W>,
 ) -> Result<u64, LineFault>
     requires { writer.old.failed ≡ false }
-    ensures records { IfOk result (WritesRecords end options pattern.now input.now
+    ensures records { IfOk result (WritesKept end (Selected (S.selects selection.now)) input.now
         (W.contents writer.old.inner) (W.contents writer.new.inner)) }
     ensures failed { IsTrue writer.new.failed ↔ IsErrAnd result IsWrite }
     ensures no_read { ¬ (IsErrAnd result IsRead) }
-    ensures memory { IsErrAnd result IsMemory → WritesFrontRecords end options pattern.now input.now
+    ensures memory { IsErrAnd result IsMemory
+        → WritesFrontRecords end (Selected (S.selects selection.now)) input.now
         (W.contents writer.old.inner) (W.contents writer.new.inner) }
-    ensures write_fault { IsErrAnd result IsWrite → WritesFrontBytes end options pattern.now input.now
+    ensures write_fault { IsErrAnd result IsWrite
+        → WritesFrontBytes end (Selected (S.selects selection.now)) input.now
         (W.contents writer.old.inner) (W.contents writer.new.inner) }
 {
     let mut output = Vec::new(alloc);
@@ -165,7 +197,7 @@ fn write_records<A: Allocator + Copy, B: Allocator + Copy, W: Write>(
     let mut rest = input;
     while !rest.is_empty() {
         let (first, after) = split_record(rest, end);
-        if record_matches(pattern, options, first).map_err(|_| LineFault::Memory)? {
+        if selection.selects(first).map_err(|_| LineFault::Memory)? {
             keep_record(first, end, &mut output, writer)?;
             count = count.saturating_add(1);
         }
@@ -184,24 +216,6 @@ fn split_record(bytes: &[u8], end: u8) -> (&[u8], &[u8])
     match first_end(bytes, end) {
         Some(place) => (&bytes[..place], &bytes[place + 1..]),
         None => (bytes, &[]),
-    }
-}
-
-/// Whether the record is text that the pattern matches.
-fn record_matches<B: Allocator + Copy>(
-    pattern: &Pattern<B>,
-    options: MatchOptions,
-    bytes: &[u8],
-) -> Result<bool, AllocError>
-    ensures { IfOk result (λ yes. IsTrue yes ↔ RecordMatches options pattern.now bytes.now) }
-{
-    // This says of most records that they do not match, and costs less than the test for UTF-8.
-    let Some(trimmed) = trim(pattern, bytes, options) else {
-        return Ok(false);
-    };
-    match str::from_utf8(bytes) {
-        Ok(text) => match_trimmed(pattern, text, options, trimmed),
-        Err(_) => Ok(false),
     }
 }
 
@@ -234,8 +248,9 @@ fn keep_record<A: Allocator, W: Write>(
     Ok(())
 }
 
-/// Writes all of the bytes, in as many writes as it takes. The first error is returned.
-fn write_all<W: Write>(writer: &mut Watch<W>, bytes: &[u8]) -> io::Result<()>
+/// Writes all of the bytes, in as many writes as it takes: where the writer takes two bytes a call, `abc` takes two. The
+/// first error is returned, also `Interrupted`. Then the first bytes were written, some or none of them.
+pub fn write_all<W: Write>(writer: &mut Watch<W>, bytes: &[u8]) -> io::Result<()>
     requires { writer.old.failed ≡ false }
     ensures ok { OnOk result
         (Appends (W.contents writer.old.inner) (W.contents writer.new.inner) bytes.now) }

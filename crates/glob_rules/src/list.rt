@@ -1,4 +1,5 @@
-ghost use Rattle.std.specs.Prelude.{◌≡◌, ◌<◌, ◌≤◌, length, IfOk, IfErr, IfSome, OnOk, Bool};
+ghost use Rattle.std.specs.Prelude.{◌≡◌, ◌<◌, ◌≤◌, length, IfOk, IfErr, IfSome, IsOk, OnOk, Bool};
+ghost use Rattle.glob_set.specs.Sets.{AreShort};
 ghost use Rattle.glob_rules.specs.Deciding.{names, last_naming, last_named, ignores, deciding, deciding_rule, is_ignored};
 ghost use Rattle.glob_rules.specs.Lists.{rules_of, RefusesText, AreTaken, rule_options};
 
@@ -64,10 +65,11 @@ impl<A: Allocator + Copy> IgnoreList<A> {
     /// the directories above the path, each of which is taken for one, the outermost that is ignored decides; else it
     /// is the last rule that names the path. So by `a/` and `!a/b` the path `a/b` is ignored.
     ///
-    /// The error is a failed allocation.
+    /// The error is a failed allocation. Where each rule's pattern has at most 63 tokens, the call succeeds.
     #[tactic(auto, unfolding(crate::specs::Deciding::is_ignored))]
     pub fn is_ignored(&self, path: &str, is_directory: bool) -> Result<bool, AllocError>
-        ensures { IfOk result (λ yes. yes ≡ is_ignored self.now path.now is_directory) }
+        ensures answer { IfOk result (λ yes. yes ≡ is_ignored self.now path.now is_directory) }
+        ensures short { AreShort self.now.patterns → IsOk result }
     {
         let decides = self.deciding(path, is_directory)?;
         Ok(self.ignores(decides))
@@ -77,7 +79,9 @@ impl<A: Allocator + Copy> IgnoreList<A> {
     /// `a/b`. Its error is that of [`is_ignored`](Self::is_ignored).
     #[tactic(auto, unfolding(crate::specs::Deciding::deciding_rule))]
     pub fn deciding_rule(&self, path: &str, is_directory: bool) -> Result<Option<Rule>, AllocError>
-        ensures { IfOk result (λ rule. rule ≡ deciding_rule self.now path.now is_directory) }
+        ensures rule { IfOk result
+            (λ rule. rule ≡ deciding_rule self.now path.now is_directory) }
+        ensures short { AreShort self.now.patterns → IsOk result }
     {
         match self.deciding(path, is_directory)? {
             Some(number) => Ok(Some(self.rules[number])),
@@ -90,6 +94,7 @@ impl<A: Allocator + Copy> IgnoreList<A> {
         ensures number { IfOk result (λ number. number ≡ deciding self.now path.now is_directory) }
         ensures within { IfOk result
             (λ number. IfSome number (λ k. k < length self.now.rules)) }
+        ensures short { AreShort self.now.patterns → IsOk result }
     {
         let bytes = path.as_bytes();
         for place in 0..bytes.len() {
@@ -120,6 +125,7 @@ impl<A: Allocator + Copy> IgnoreList<A> {
             (λ number. number ≡ last_named self.now path.now is_directory) }
         ensures within { IfOk result
             (λ number. IfSome number (λ k. k < length self.now.rules)) }
+        ensures short { AreShort self.now.patterns → IsOk result }
     {
         match self.set.last_match(path)? {
             Some(number) => self.last_naming_below(path, is_directory, number + 1),
@@ -139,6 +145,7 @@ impl<A: Allocator + Copy> IgnoreList<A> {
             (λ number. number ≡ last_naming self.now path.now is_directory end) }
         ensures within { IfOk result
             (λ number. IfSome number (λ k. k < length self.now.rules)) }
+        ensures short { AreShort self.now.patterns → IsOk result }
     {
         let mut left = end;
         while left > 0 {
@@ -153,7 +160,9 @@ impl<A: Allocator + Copy> IgnoreList<A> {
     /// Whether the rule of a number names a path.
     fn names(&self, number: usize, path: &str, is_directory: bool) -> Result<bool, AllocError>
         requires { number < length self.now.rules }
-        ensures { IfOk result (λ yes. yes ≡ names self.now path.now is_directory number) }
+        ensures answer { IfOk result
+            (λ yes. yes ≡ names self.now path.now is_directory number) }
+        ensures short { AreShort self.now.patterns → IsOk result }
     {
         if self.rules[number].directories && !is_directory {
             return Ok(false);

@@ -94,9 +94,9 @@ module _ (o : MatchOptions) (patterns : List Text) (text : Text) where
   unfolding all_matches
   all_matches-end n end numbers are = are ∙ ap (matches_below o patterns text) end
 
-  pub AreFirstMatches-at : (n : ℕ) (numbers : List ℕ) → numbers ≡ matches_below o patterns text n → AreFirstMatches o patterns text numbers
+  pub AreFirstMatches-at : (n : ℕ) (numbers : List ℕ) → n ≤ length patterns → numbers ≡ matches_below o patterns text n → AreFirstMatches o patterns text numbers
   unfolding AreFirstMatches
-  AreFirstMatches-at n numbers are = (n, are)
+  AreFirstMatches-at n numbers within are = (n, within, are)
 
 pub AreShort-at : (patterns : List Text) (number : ℕ) (pattern : Text) → number < length patterns → pattern ≡ get_or patterns number pattern
     → AreShort patterns → IsShort (chars pattern)

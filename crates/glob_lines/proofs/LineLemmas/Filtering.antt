@@ -1,15 +1,16 @@
--- What makes a copy of records one of a known input, and what such a copy wrote. The three words are closed elsewhere.
-use Rattle.std.proofs.Common.{◌≡◌, ℕ, List, [], ◌++◌, Option, None, Some, Result, Ok, Err, OnErr, take, drop, sym, ap, ◌∙◌, append-nil, subst}
+-- What makes a copy of records one of a known input, and what such a copy wrote. The words are closed elsewhere.
+use Rattle.std.proofs.Common.{◌≡◌, ℕ, ◌⊎◌, List, [], ◌++◌, Bool, Option, None, Some, Result, Ok, Err, OnErr, take, drop, sym, ap, ◌∙◌, append-nil, subst}
 use Rattle.std.specs.Prelude.{IfSome, IsErrAnd, length}
 use lib.Seq.{take-append_seam}
 use Rattle.std.proofs.lemmas.List.{take-append-drop}
 use Rattle.std.proofs.lemmas.List.Concat.{flat_map-append}
 use Rattle.std.specs.Io.KnownBytes.{Appends, Keeps}
 use Rattle.glob_lines.specs.LineFaults.{IsRead, IsMemory, IsWrite}
-use Rattle.glob_lines.specs.Lines.{ended_record, with_ends, WritesRecords, WritesSomeRecords, WritesSomeBytes, FiltersRecords, FiltersSomeRecords, FiltersRecordBytes}
+use Rattle.glob_lines.specs.Lines.{records_of, ended_record, with_ends, AreKept, RecordMatches, record_matches, Selected, WritesKept, WritesSomeKept, WritesKeptBytes, WritesRecords, WritesSomeRecords, WritesSomeBytes, CopiesSelected, CopiesSomeSelected, CopiesSelectedBytes, FiltersRecords, FiltersSomeRecords, FiltersRecordBytes}
 use Rattle.glob_lines.specs.declared.fault.LineFault.{LineFault}
 use Rattle.glob_lines.specs.declared.fault.LineFault.TheVariants as fault
-use Rattle.glob_lines.proofs.LineLemmas.MatchingLines.{matching_records}
+use Rattle.glob_lines.proofs.LineLemmas.KeptLines.{AreKept-same}
+use Rattle.glob_lines.proofs.LineLemmas.MatchingLines.{kept_records, matches_by_record, record_by_matches, record_decided, selected_decided}
 use Rattle.glob_pattern.specs.declared.options.MatchOptions.{MatchOptions}
 
 -- the same bytes were written, after what is known there
@@ -45,18 +46,17 @@ module _ (end : ℕ) (o : MatchOptions) (pattern : List ℕ) (input old new : Op
   unfolding FiltersRecordBytes
   writing_of_some_bytes filters = filters
 
-module _ (end : ℕ) (o : MatchOptions) (pattern : List ℕ) where
-  -- The records were filtered to each place at which the same bytes were written.
-  pub records_elsewhere : (input old new old' new' : Option (List ℕ)) (count : ℕ) → AlsoAppends old new old' new' → FiltersRecords end o pattern input old new count → FiltersRecords end o pattern input old' new' count
-  unfolding FiltersRecords
-  records_elsewhere None old new old' new' count also filters = tt
-  records_elsewhere (Some bytes) old new old' new' count also (kept, are, wrote, counted) = (kept, are, also _ wrote, counted)
+-- The records that a test keeps, of an input that may be known.
+module _ (end : ℕ) (P : List ℕ → Type 0) where
+  -- The records were written to each place at which the same bytes were written.
+  kept_elsewhere : (input old new old' new' : Option (List ℕ)) (count : ℕ) → AlsoAppends old new old' new' → IfSome input (λ bytes. WritesKept end P bytes old new count) → IfSome input (λ bytes. WritesKept end P bytes old' new' count)
+  kept_elsewhere None old new old' new' count also wrote = tt
+  kept_elsewhere (Some bytes) old new old' new' count also (kept, are, wrote, counted) = (kept, are, also _ wrote, counted)
 
   -- The same of the first bytes.
-  pub some_bytes_elsewhere : (input old new old' new' : Option (List ℕ)) → AlsoAppends old new old' new' → FiltersRecordBytes end o pattern input old new → FiltersRecordBytes end o pattern input old' new'
-  unfolding FiltersRecordBytes
-  some_bytes_elsewhere None old new old' new' also filters = tt
-  some_bytes_elsewhere (Some bytes) old new old' new' also (kept, are, (n, wrote)) = (kept, are, (n, also _ wrote))
+  kept_bytes_elsewhere : (input old new old' new' : Option (List ℕ)) → AlsoAppends old new old' new' → IfSome input (λ bytes. WritesKeptBytes end P bytes old new) → IfSome input (λ bytes. WritesKeptBytes end P bytes old' new')
+  kept_bytes_elsewhere None old new old' new' also wrote = tt
+  kept_bytes_elsewhere (Some bytes) old new old' new' also (kept, are, (n, wrote)) = (kept, are, (n, also _ wrote))
 
   keeping_appends_none : (old new : Option (List ℕ)) → Keeps old new → Appends old new []
   keeping_appends_none None new same = tt
@@ -64,30 +64,96 @@ module _ (end : ℕ) (o : MatchOptions) (pattern : List ℕ) where
   keeping_appends_none (Some bytes) (Some more) same = same ∙ sym (append-nil bytes)
 
   -- Nothing was written, so of the bytes none.
-  pub some_bytes_by_keeping : (input old new : Option (List ℕ)) → Keeps old new → FiltersRecordBytes end o pattern input old new
-  unfolding FiltersRecordBytes
-  some_bytes_by_keeping None old new same = tt
-  some_bytes_by_keeping (Some bytes) old new same =
-      let (kept, are) = matching_records end o pattern bytes in (kept, are, (0, keeping_appends_none old new same))
+  kept_bytes_by_keeping : ((one : List ℕ) → P one ⊎ (¬ (P one))) → (input old new : Option (List ℕ)) → Keeps old new → IfSome input (λ bytes. WritesKeptBytes end P bytes old new)
+  kept_bytes_by_keeping decided None old new same = tt
+  kept_bytes_by_keeping decided (Some bytes) old new same =
+      let (kept, are) = kept_records end P decided bytes in (kept, are, (0, keeping_appends_none old new same))
 
   -- The first records were written, so the first bytes.
-  pub some_bytes_by_records : (input old new : Option (List ℕ)) → FiltersSomeRecords end o pattern input old new → FiltersRecordBytes end o pattern input old new
-  unfolding FiltersSomeRecords FiltersRecordBytes
-  some_bytes_by_records None old new some = tt
-  some_bytes_by_records (Some bytes) old new (kept, are, (n, wrote)) =
+  kept_bytes_by_records : (input old new : Option (List ℕ)) → IfSome input (λ bytes. WritesSomeKept end P bytes old new) → IfSome input (λ bytes. WritesKeptBytes end P bytes old new)
+  kept_bytes_by_records None old new some = tt
+  kept_bytes_by_records (Some bytes) old new (kept, are, (n, wrote)) =
       let front = with_ends end (take n kept) in
       let rest = with_ends end (drop n kept) in
       let split : with_ends end kept ≡ front ++ rest = ap (with_ends end) (sym (take-append-drop n kept)) ∙ flat_map-append (ended_record end) (take n kept) (drop n kept) in
       (kept, are, (length front, subst (Appends old new) (sym (ap (take (length front)) split ∙ take-append_seam front rest)) wrote))
 
-  some_bytes_at : (input old new : Option (List ℕ)) (f : LineFault) → (IsRead f → Keeps old new) → (IsMemory f → FiltersSomeRecords end o pattern input old new) → (IsWrite f → FiltersRecordBytes end o pattern input old new)
-      → FiltersRecordBytes end o pattern input old new
-  some_bytes_at input old new (fault.Read e) read memory write = some_bytes_by_keeping input old new (read tt)
-  some_bytes_at input old new fault.Memory read memory write = some_bytes_by_records input old new (memory tt)
-  some_bytes_at input old new (fault.Write e) read memory write = write tt
+  module _ (decided : (one : List ℕ) → P one ⊎ (¬ (P one))) (input old new : Option (List ℕ)) where
+    kept_bytes_at : (f : LineFault) → (IsRead f → Keeps old new) → (IsMemory f → IfSome input (λ bytes. WritesSomeKept end P bytes old new)) → (IsWrite f → IfSome input (λ bytes. WritesKeptBytes end P bytes old new))
+        → IfSome input (λ bytes. WritesKeptBytes end P bytes old new)
+    kept_bytes_at (fault.Read e) read memory write = kept_bytes_by_keeping decided input old new (read tt)
+    kept_bytes_at fault.Memory read memory write = kept_bytes_by_records input old new (memory tt)
+    kept_bytes_at (fault.Write e) read memory write = write tt
 
-  -- What `filter_lines` promises at each fault is of the first bytes.
+    -- what is promised at each fault is of the first bytes
+    kept_bytes_at_fault : (r : Result ℕ LineFault) → (IsErrAnd r IsRead → Keeps old new) → (IsErrAnd r IsMemory → IfSome input (λ bytes. WritesSomeKept end P bytes old new))
+        → (IsErrAnd r IsWrite → IfSome input (λ bytes. WritesKeptBytes end P bytes old new)) → OnErr r (IfSome input (λ bytes. WritesKeptBytes end P bytes old new))
+    kept_bytes_at_fault (Ok n) read memory write = tt
+    kept_bytes_at_fault (Err f) read memory write = kept_bytes_at f read memory write
+
+module _ (end : ℕ) (o : MatchOptions) (pattern : List ℕ) where
+  -- The records were filtered to each place at which the same bytes were written.
+  pub records_elsewhere : (input old new old' new' : Option (List ℕ)) (count : ℕ) → AlsoAppends old new old' new' → FiltersRecords end o pattern input old new count → FiltersRecords end o pattern input old' new' count
+  unfolding FiltersRecords
+  records_elsewhere input old new old' new' count also filters = kept_elsewhere end (RecordMatches o pattern) input old new old' new' count also filters
+
+  -- The same of the first bytes.
+  pub some_bytes_elsewhere : (input old new old' new' : Option (List ℕ)) → AlsoAppends old new old' new' → FiltersRecordBytes end o pattern input old new → FiltersRecordBytes end o pattern input old' new'
+  unfolding FiltersRecordBytes
+  some_bytes_elsewhere input old new old' new' also filters = kept_bytes_elsewhere end (RecordMatches o pattern) input old new old' new' also filters
+
+  -- Nothing was written, so of the bytes none.
+  pub some_bytes_by_keeping : (input old new : Option (List ℕ)) → Keeps old new → FiltersRecordBytes end o pattern input old new
+  unfolding FiltersRecordBytes
+  some_bytes_by_keeping input old new same = kept_bytes_by_keeping end (RecordMatches o pattern) (record_decided o pattern) input old new same
+
+  -- The first records were written, so the first bytes.
+  pub some_bytes_by_records : (input old new : Option (List ℕ)) → FiltersSomeRecords end o pattern input old new → FiltersRecordBytes end o pattern input old new
+  unfolding FiltersSomeRecords FiltersRecordBytes
+  some_bytes_by_records input old new some = kept_bytes_by_records end (RecordMatches o pattern) input old new some
+
+  -- What `filter_records` promises at each fault is of the first bytes.
   pub some_bytes_at_fault : (input old new : Option (List ℕ)) (r : Result ℕ LineFault) → (IsErrAnd r IsRead → Keeps old new) → (IsErrAnd r IsMemory → FiltersSomeRecords end o pattern input old new)
       → (IsErrAnd r IsWrite → FiltersRecordBytes end o pattern input old new) → OnErr r (FiltersRecordBytes end o pattern input old new)
-  some_bytes_at_fault input old new (Ok n) read memory write = tt
-  some_bytes_at_fault input old new (Err f) read memory write = some_bytes_at input old new f read memory write
+  unfolding FiltersSomeRecords FiltersRecordBytes
+  some_bytes_at_fault input old new r read memory write = kept_bytes_at_fault end (RecordMatches o pattern) (record_decided o pattern) input old new r read memory write
+
+module _ (end : ℕ) (selects : List ℕ → Bool) where
+  -- The same of the selected records.
+  pub selected_elsewhere : (input old new old' new' : Option (List ℕ)) (count : ℕ) → AlsoAppends old new old' new' → CopiesSelected end selects input old new count → CopiesSelected end selects input old' new' count
+  unfolding CopiesSelected
+  selected_elsewhere input old new old' new' count also copies = kept_elsewhere end (Selected selects) input old new old' new' count also copies
+
+  pub selected_bytes_elsewhere : (input old new old' new' : Option (List ℕ)) → AlsoAppends old new old' new' → CopiesSelectedBytes end selects input old new → CopiesSelectedBytes end selects input old' new'
+  unfolding CopiesSelectedBytes
+  selected_bytes_elsewhere input old new old' new' also copies = kept_bytes_elsewhere end (Selected selects) input old new old' new' also copies
+
+  pub selected_bytes_by_keeping : (input old new : Option (List ℕ)) → Keeps old new → CopiesSelectedBytes end selects input old new
+  unfolding CopiesSelectedBytes
+  selected_bytes_by_keeping input old new same = kept_bytes_by_keeping end (Selected selects) (selected_decided selects) input old new same
+
+  -- What `filter_selected` promises at each fault is of the first bytes.
+  pub selected_bytes_at_fault : (input old new : Option (List ℕ)) (r : Result ℕ LineFault) → (IsErrAnd r IsRead → Keeps old new) → (IsErrAnd r IsMemory → CopiesSomeSelected end selects input old new)
+      → (IsErrAnd r IsWrite → CopiesSelectedBytes end selects input old new) → OnErr r (CopiesSelectedBytes end selects input old new)
+  unfolding CopiesSomeSelected CopiesSelectedBytes
+  selected_bytes_at_fault input old new r read memory write = kept_bytes_at_fault end (Selected selects) (selected_decided selects) input old new r read memory write
+
+-- The records that a pattern matches are those that a computed test selects.
+module _ (end : ℕ) (o : MatchOptions) (pattern : List ℕ) where
+  records_are : (records kept : List (List ℕ)) → AreKept (Selected (record_matches o pattern)) records kept → AreKept (RecordMatches o pattern) records kept
+  records_are records kept are = AreKept-same (Selected (record_matches o pattern)) (RecordMatches o pattern) (matches_by_record o pattern) (record_by_matches o pattern) records kept are
+
+  pub records_by_selected : (input old new : Option (List ℕ)) (count : ℕ) → CopiesSelected end (record_matches o pattern) input old new count → FiltersRecords end o pattern input old new count
+  unfolding CopiesSelected FiltersRecords
+  records_by_selected None old new count copies = tt
+  records_by_selected (Some bytes) old new count (kept, are, wrote, counted) = (kept, records_are (records_of end bytes) kept are, wrote, counted)
+
+  pub some_records_by_selected : (input old new : Option (List ℕ)) → CopiesSomeSelected end (record_matches o pattern) input old new → FiltersSomeRecords end o pattern input old new
+  unfolding CopiesSomeSelected FiltersSomeRecords
+  some_records_by_selected None old new copies = tt
+  some_records_by_selected (Some bytes) old new (kept, are, wrote) = (kept, records_are (records_of end bytes) kept are, wrote)
+
+  pub some_bytes_by_selected : (input old new : Option (List ℕ)) → CopiesSelectedBytes end (record_matches o pattern) input old new → FiltersRecordBytes end o pattern input old new
+  unfolding CopiesSelectedBytes FiltersRecordBytes
+  some_bytes_by_selected None old new copies = tt
+  some_bytes_by_selected (Some bytes) old new (kept, are, wrote) = (kept, records_are (records_of end bytes) kept are, wrote)

@@ -43,3 +43,9 @@ AreKept-exists P decided (x ∷ xs) =
       | inl here ↦ (x ∷ others, inl (here, (others, refl, are)))
       | inr not_here ↦ (others, inr (not_here, are))
     ]
+
+-- a test that holds of the same records keeps the same
+pub AreKept-same : (P Q : List ℕ → Type 0) → ((one : List ℕ) → P one → Q one) → ((one : List ℕ) → Q one → P one) → (records kept : List (List ℕ)) → AreKept P records kept → AreKept Q records kept
+AreKept-same P Q to from [] kept are = are
+AreKept-same P Q to from (x ∷ xs) kept (inl (here, (others, is, are))) = inl (to x here, (others, is, AreKept-same P Q to from xs others are))
+AreKept-same P Q to from (x ∷ xs) kept (inr (not_here, are)) = inr (λ q. not_here (from x q), AreKept-same P Q to from xs kept are)

@@ -1,25 +1,62 @@
--- The records that a pattern matches: there is one such list.
-use Rattle.std.proofs.Common.{◌≡◌, ℕ, ◌⊎◌, inl, inr, Bool, true, false, List, [], refl, sym, chars, append-nil}
+-- The records that are kept, or that a pattern matches: there is one such list.
+use Rattle.std.proofs.Common.{◌≡◌, ◌↔◌, ℕ, ◌⊎◌, ◌&&◌, IsTrue, Result, Ok, Err, IfOk, inl, inr, Bool, true, false, List, [], refl, sym, chars, append-nil}
 use Rattle.std.specs.Prelude.{Option, None, Some, IfSome}
 use Rattle.std.specs.Str.{is_utf8}
 use Rattle.std.specs.Io.KnownBytes.{Appends}
+use Rattle.std.proofs.lemmas.Bool.{false≢true}
 use Rattle.glob_pattern.specs.Computing.Deciding.{is_match}
-use Rattle.glob_lines.specs.Lines.{RecordMatches, AreMatchingRecords, records_of, WritesSomeRecords, WritesSomeBytes}
+use Rattle.glob_lines.specs.Lines.{RecordMatches, record_matches, Selected, AreKept, records_of, WritesSomeKept, WritesKeptBytes}
 use Rattle.glob_lines.specs.Private.Fronts.{WritesFrontRecords, WritesFrontBytes}
 use Rattle.glob_pattern.specs.declared.options.MatchOptions.{MatchOptions}
 use Rattle.glob_pattern.proofs.MatchingLemmas.Computed.{match_decided}
 use Rattle.glob_lines.proofs.LineLemmas.KeptLines.{AreKept-exists}
 
-both_decided : {P : Type 0} (a b : Bool) → (b ≡ true → P) → (P → b ≡ true) → ((a ≡ true) × P) ⊎ (¬ ((a ≡ true) × P))
-both_decided true true means says = inl (refl, means refl)
-both_decided true false means says = inr (λ h. let clash : false ≡ true = says h.1 in absurd (cc))
-both_decided false b means says = inr (λ h. let clash : false ≡ true = h.0 in absurd (cc))
+both_true : (a b : Bool) → (a && b) ≡ true → (a ≡ true) × (b ≡ true)
+both_true true b e = (refl, e)
+both_true false b e = absurd (false≢true e)
+
+both_are : (a b : Bool) → a ≡ true → b ≡ true → (a && b) ≡ true
+both_are true b first second = second
+both_are false b first second = absurd (false≢true first)
+
+-- a record is text that the pattern matches exactly where that is computed
+pub matches_by_record : (o : MatchOptions) (pattern one : List ℕ) → Selected (record_matches o pattern) one → RecordMatches o pattern one
+matches_by_record o pattern one e =
+    let (utf8, holds) = both_true (is_utf8 one) (is_match o (chars pattern) (chars one)) e in
+    (utf8, (match_decided o (chars pattern) (chars one)).0 holds)
+
+pub record_by_matches : (o : MatchOptions) (pattern one : List ℕ) → RecordMatches o pattern one → Selected (record_matches o pattern) one
+record_by_matches o pattern one (utf8, matches) =
+    both_are (is_utf8 one) (is_match o (chars pattern) (chars one)) utf8 ((match_decided o (chars pattern) (chars one)).1 matches)
+
+same_answer : (a b : Bool) → (a ≡ true → b ≡ true) → (b ≡ true → a ≡ true) → a ≡ b
+same_answer true true to from = refl
+same_answer true false to from = absurd (false≢true (to refl))
+same_answer false true to from = absurd (false≢true (from refl))
+same_answer false false to from = refl
+
+-- an answer that is yes exactly where a record matches is the computed one
+pub IfOk-computed : {E : Type 0} (r : Result Bool E) (o : MatchOptions) (pattern one : List ℕ) → IfOk r (λ b. IsTrue b ↔ RecordMatches o pattern one) → IfOk r (λ b. b ≡ record_matches o pattern one)
+IfOk-computed (Ok b) o pattern one (to, from) =
+    same_answer b (record_matches o pattern one) (λ t. record_by_matches o pattern one (to t)) (λ t. from (matches_by_record o pattern one t))
+IfOk-computed (Err e) o pattern one known = tt
+
+true_decided : (b : Bool) → (b ≡ true) ⊎ (¬ (b ≡ true))
+true_decided true = inl refl
+true_decided false = inr false≢true
+
+-- whether a record is selected is decided
+pub selected_decided : (selects : List ℕ → Bool) (one : List ℕ) → Selected selects one ⊎ (¬ (Selected selects one))
+selected_decided selects one = true_decided (selects one)
+
+decided_as : {P Q : Type 0} → (P → Q) → (Q → P) → P ⊎ (¬ P) → Q ⊎ (¬ Q)
+decided_as to from (inl p) = inl (to p)
+decided_as to from (inr not_p) = inr (λ q. not_p (from q))
 
 -- whether a record matches is decided
-record_decided : (o : MatchOptions) (pattern one : List ℕ) → RecordMatches o pattern one ⊎ (¬ (RecordMatches o pattern one))
+pub record_decided : (o : MatchOptions) (pattern one : List ℕ) → RecordMatches o pattern one ⊎ (¬ (RecordMatches o pattern one))
 record_decided o pattern one =
-    let decided = match_decided o (chars pattern) (chars one) in
-    both_decided (is_utf8 one) (is_match o (chars pattern) (chars one)) decided.0 decided.1
+    decided_as (matches_by_record o pattern one) (record_by_matches o pattern one) (selected_decided (record_matches o pattern) one)
 
 appends_none : (known : Option (List ℕ)) → Appends known known []
 appends_none None = tt
@@ -30,20 +67,20 @@ pub IfSome-each : {X : Type 0} (o : Option X) (P : X → Type 0) → ((x : X) �
 IfSome-each None P each = tt
 IfSome-each (Some x) P each = each x
 
-module _ (end : ℕ) where
-  -- there are the records that match
-  pub matching_records : (o : MatchOptions) (pattern input : List ℕ) → (kept : List (List ℕ)) × AreMatchingRecords end o pattern input kept
-  matching_records o pattern input = AreKept-exists (RecordMatches o pattern) (record_decided o pattern) (records_of end input)
+module _ (end : ℕ) (P : List ℕ → Type 0) (decided : (one : List ℕ) → P one ⊎ (¬ (P one))) where
+  -- there are the records that are kept
+  pub kept_records : (input : List ℕ) → (kept : List (List ℕ)) × AreKept P (records_of end input) kept
+  kept_records input = AreKept-exists P decided (records_of end input)
 
-  pub some_records-from_front : (o : MatchOptions) (pattern input : List ℕ) (old new : Option (List ℕ)) → WritesFrontRecords end o pattern input old new → WritesSomeRecords end o pattern input old new
-  some_records-from_front o pattern input old new front =
-      let (kept, are) = matching_records o pattern input in (kept, are, front kept are)
+  pub some_records-from_front : (input : List ℕ) (old new : Option (List ℕ)) → WritesFrontRecords end P input old new → WritesSomeKept end P input old new
+  some_records-from_front input old new front =
+      let (kept, are) = kept_records input in (kept, are, front kept are)
 
-  pub some_bytes-from_front : (o : MatchOptions) (pattern input : List ℕ) (old new : Option (List ℕ)) → WritesFrontBytes end o pattern input old new → WritesSomeBytes end o pattern input old new
-  some_bytes-from_front o pattern input old new front =
-      let (kept, are) = matching_records o pattern input in (kept, are, front kept are)
+  pub some_bytes-from_front : (input : List ℕ) (old new : Option (List ℕ)) → WritesFrontBytes end P input old new → WritesKeptBytes end P input old new
+  some_bytes-from_front input old new front =
+      let (kept, are) = kept_records input in (kept, are, front kept are)
 
   -- where nothing was written, no record was
-  pub some_records-none : (o : MatchOptions) (pattern input : List ℕ) (known : Option (List ℕ)) → WritesSomeRecords end o pattern input known known
-  some_records-none o pattern input known =
-      let (kept, are) = matching_records o pattern input in (kept, are, (0, appends_none known))
+  pub some_records-none : (input : List ℕ) (known : Option (List ℕ)) → WritesSomeKept end P input known known
+  some_records-none input known =
+      let (kept, are) = kept_records input in (kept, are, (0, appends_none known))

@@ -1,19 +1,14 @@
 -- The first bytes and the first records, of which some were written.
 use Rattle.std.specs.Prelude.{ℕ, List, Option, take}
 use Rattle.std.specs.Io.KnownBytes.{Appends}
-use Rattle.glob_lines.specs.Lines.{AreMatchingRecords, with_ends}
-use Rattle.glob_pattern.specs.declared.options.MatchOptions.{MatchOptions}
+use Rattle.glob_lines.specs.Lines.{records_of, AppendsFront, AreKept, with_ends}
 
--- of the bytes, the first n were written, for some n
-abbrev pub AppendsFront : (old new : Option (List ℕ)) → (bytes : List ℕ) → Type 0
-AppendsFront old new bytes = (n : ℕ) × Appends old new (take n bytes)
-
--- of the records that match, whichever they are, the first n were written, for some n
-abbrev pub WritesFrontRecords : (end : ℕ) → MatchOptions → (pattern input : List ℕ) → (old new : Option (List ℕ)) → Type 0
-WritesFrontRecords end o pattern input old new =
-    (kept : List (List ℕ)) → AreMatchingRecords end o pattern input kept → (n : ℕ) × Appends old new (with_ends end (take n kept))
+-- of the records of which P holds, whichever they are, the first n were written, for some n
+abbrev pub WritesFrontRecords : (end : ℕ) → (P : List ℕ → Type 0) → (input : List ℕ) → (old new : Option (List ℕ)) → Type 0
+WritesFrontRecords end P input old new =
+    (kept : List (List ℕ)) → AreKept P (records_of end input) kept → (n : ℕ) × Appends old new (with_ends end (take n kept))
 
 -- the same of their bytes
-abbrev pub WritesFrontBytes : (end : ℕ) → MatchOptions → (pattern input : List ℕ) → (old new : Option (List ℕ)) → Type 0
-WritesFrontBytes end o pattern input old new =
-    (kept : List (List ℕ)) → AreMatchingRecords end o pattern input kept → AppendsFront old new (with_ends end kept)
+abbrev pub WritesFrontBytes : (end : ℕ) → (P : List ℕ → Type 0) → (input : List ℕ) → (old new : Option (List ℕ)) → Type 0
+WritesFrontBytes end P input old new =
+    (kept : List (List ℕ)) → AreKept P (records_of end input) kept → AppendsFront old new (with_ends end kept)

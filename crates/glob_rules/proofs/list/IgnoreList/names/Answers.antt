@@ -1,6 +1,7 @@
-use Rattle.std.proofs.Common.{◌≡◌, ◌<◌, Bool, true, false, ◌&&◌, not, [], length, get_or, IfOk, refl, sym, ap, subst, ◌∙◌, arith}
+use Rattle.std.proofs.Common.{◌≡◌, ◌<◌, Bool, true, false, ◌&&◌, not, [], length, get_or, IfOk, IsOk, refl, sym, ap, subst, ◌∙◌, arith}
 use Rattle.std.proofs.lemmas.List.{get_or_default}
-use Rattle.glob_set.proofs.ListReading.{IfOk-follow}
+use Rattle.glob_set.specs.Sets.{AreShort}
+use Rattle.glob_set.proofs.ListReading.{AreShort-at, IfOk-follow}
 use Rattle.glob_rules.specs.Lists.{Ignores}
 use Rattle.glob_rules.specs.Deciding.{names}
 use Rattle.glob_rules.specs.declared.rule.Rule.{Rule}
@@ -12,8 +13,8 @@ and_none : (b : Bool) → (b && false) ≡ false
 and_none true = refl
 and_none false = refl
 
-pub returns-then-not-is_directory : goal.returns-then-not-is_directory
-returns-then-not-is_directory g c =
+pub returns-then-not-is_directory-clause-answer : goal.returns-then-not-is_directory-clause-answer
+returns-then-not-is_directory-clause-answer g c =
     let inside = c.self.inside in
     let list : Ignores = record { lines = inside.lines; rules = inside.rules.items; patterns = inside.set.patterns } in
     let k = c.args.number in
@@ -23,8 +24,8 @@ returns-then-not-is_directory g c =
     (λ below. names-not_directory list path d k (ap (λ (r : Rule). r.directories) (sym (c.index.ensures ∙ get_or_default list.rules k _ _ below)) ∙ c.if-index.true) c.if-not-is_directory.true)
     c.requires
 
-pub returns : goal.returns
-returns g c =
+pub returns-clause-answer : goal.returns-clause-answer
+returns-clause-answer g c =
     let inside = c.self.inside in
     let list : Ignores = record { lines = inside.lines; rules = inside.rules.items; patterns = inside.set.patterns } in
     let k = c.args.number in
@@ -43,4 +44,16 @@ returns g c =
     IfOk-follow c.matches_with.result _ _
     (λ b answer. names-answer list path d k c.index.result.now.directories c.index-patterns-number.result c.rule_options.result b kind is c.rule_options.ensures any answer)
     c.matches_with.ensures.answer)
+    c.requires
+
+pub returns-clause-short : goal.returns-clause-short
+returns-clause-short g c =
+    let inside = c.self.inside in
+    let list : Ignores = record { lines = inside.lines; rules = inside.rules.items; patterns = inside.set.patterns } in
+    let k = c.args.number in
+    subst (λ (l : Ignores). k < length l.rules → AreShort l.patterns → IsOk c.matches_with.result) c.self.view_is
+    (λ below short.
+    let few : k < length inside.set.patterns = omega (arith, below, c.self.invariant.0) in
+    let is = c.index-patterns-number.is ∙ ap (λ ps. get_or ps k c.index-patterns-number.result) c.patterns.ensures in
+    c.matches_with.ensures.short (AreShort-at inside.set.patterns k c.index-patterns-number.result few is short))
     c.requires

@@ -4,7 +4,7 @@ use Rattle.glob_set.specs.Private.Buckets.{number_after}
 use Rattle.glob_set.specs.Private.Pairs.{text_class}
 use Rattle.glob_set.specs.Sets.{matches_below}
 use Rattle.glob_set.proofs.ListReading.{matches_below-yes, matches_below-no, all_matches-end, AreFirstMatches-at, OnErr-always}
-use Rattle.glob_set.proofs.BucketLemmas.{matches_next, matches_end}
+use Rattle.glob_set.proofs.BucketLemmas.{after_within, matches_next, matches_end}
 use Rattle.glob_set.proofs.set.PatternSet.matches_into.Goals as goal
 use Rattle.glob_set.proofs.set.PatternSet.matches_into.Goals.{then-branch+in_ok-push, else-branch}
 
@@ -48,11 +48,15 @@ pub returns-in_err-matches_at-clause-first : goal.returns-in_err-matches_at-clau
 returns-in_err-matches_at-clause-first g c =
     let set = c.args.self.now in
     let l = c.loop-number in
-    OnErr-always _ _ (AreFirstMatches-at set.options set.patterns c.args.text.now (number_after c.numbers-number-items.result.now l.number-index) l.numbers.items l.invariant)
+    let numbers = c.numbers-number-items.result.now in
+    let within = after_within numbers (length set.patterns) c.numbers-number-items.ensures.within l.number-index (omega arith) in
+    OnErr-always _ _ (AreFirstMatches-at set.options set.patterns c.args.text.now (number_after numbers l.number-index) l.numbers.items within l.invariant)
 
 pub returns-in_err-push-clause-first : goal.returns-in_err-push-clause-first
 returns-in_err-push-clause-first g c =
     let set = c.args.self.now in
     let l = c.loop-number in
+    let numbers = c.numbers-number-items.result.now in
     let same : c.push.new.self.items ≡ l.numbers.items = c.in_err-push.ensures.items in
-    OnErr-always _ _ (AreFirstMatches-at set.options set.patterns c.args.text.now (number_after c.numbers-number-items.result.now l.number-index) c.push.new.self.items (same ∙ l.invariant))
+    let within = after_within numbers (length set.patterns) c.numbers-number-items.ensures.within l.number-index (omega arith) in
+    OnErr-always _ _ (AreFirstMatches-at set.options set.patterns c.args.text.now (number_after numbers l.number-index) c.push.new.self.items within (same ∙ l.invariant))

@@ -1,0 +1,4 @@
+pub mod CommandLine
+pub mod Outcomes
+pub mod Paths
+pub mod Requests

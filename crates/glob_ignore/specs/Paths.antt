@@ -1,0 +1,35 @@
+-- The path of a record, and which records are copied.
+use Rattle.std.specs.Prelude.{◌-◌, Bool, ◌&&◌, ◌||◌, not, if◌then◌else◌, length, take, drop, codes, bytes_eq}
+use Rattle.std.specs.Str.{is_utf8}
+use Rattle.glob_text.specs.Characters.{dot, slash}
+use Rattle.glob_text.specs.Text.{Text, has}
+use Rattle.glob_text.specs.Pieces.{is_empty}
+use Rattle.glob_rules.specs.Deciding.{is_ignored}
+use Rattle.glob_rules.specs.Lists.{Ignores}
+
+-- without a `./` at the start
+abbrev pub without_here : Text → Text
+without_here bytes = if has bytes 0 dot && has bytes 1 slash then drop 2 bytes else bytes
+
+-- the last byte is `/`
+abbrev pub has_slash : Text → Bool
+has_slash path = has path (length path - 1) slash
+
+-- the path is that of a directory
+abbrev pub is_directory : Text → Bool
+is_directory bytes = has_slash (without_here bytes)
+
+-- without that `/`
+abbrev pub path_of : Text → Text
+path_of bytes =
+    if is_directory bytes then take (length (without_here bytes) - 1) (without_here bytes) else without_here bytes
+
+-- the path of the list's own directory
+abbrev pub is_here : Text → Bool
+is_here path = is_empty path || bytes_eq path (codes ".")
+
+-- the record is text, and that of the list's own directory or of a path that the list does not ignore
+unfoldable pub is_selected : Ignores → (bytes : Text) → Bool
+is_selected list bytes =
+    is_utf8 (path_of bytes)
+    && (is_here (path_of bytes) || not (is_ignored list (path_of bytes) (is_directory bytes)))

@@ -1,0 +1,41 @@
+//! The records that a pattern matches.
+ghost use Rattle.std.specs.Prelude.{◌≡◌, ◌↔◌, IsTrue, IfOk};
+ghost use Rattle.glob_lines.specs.Lines.{RecordMatches, record_matches};
+
+use crate::selection::Selection;
+use glob_pattern::{MatchOptions, Pattern, match_trimmed, trim};
+use std::alloc::{AllocError, Allocator};
+use std::str;
+
+/// Selects the records that are text that the pattern matches.
+#[derive(Drop)]
+pub(crate) struct Matching<'p, B: Allocator> {
+    pub pattern: &'p Pattern<B>,
+    pub options: MatchOptions,
+}
+
+impl<B: Allocator + Copy> Selection for Matching<'_, B> {
+    ghost selects = { λ m bytes. record_matches m.options m.pattern.now bytes };
+
+    fn selects(&self, bytes: &[u8]) -> Result<bool, AllocError> {
+        record_matches(self.pattern, self.options, bytes)
+    }
+}
+
+/// Whether the record is text that the pattern matches.
+fn record_matches<B: Allocator + Copy>(
+    pattern: &Pattern<B>,
+    options: MatchOptions,
+    bytes: &[u8],
+) -> Result<bool, AllocError>
+    ensures { IfOk result (λ yes. IsTrue yes ↔ RecordMatches options pattern.now bytes.now) }
+{
+    // This says of most records that they do not match, and costs less than the test for UTF-8.
+    let Some(trimmed) = trim(pattern, bytes, options) else {
+        return Ok(false);
+    };
+    match str::from_utf8(bytes) {
+        Ok(text) => match_trimmed(pattern, text, options, trimmed),
+        Err(_) => Ok(false),
+    }
+}
