@@ -14,18 +14,21 @@ words      500 docs/IGNORE.md
 words     1000 docs/ARGUMENT.md
 words     1500 docs/PERFORMANCE.md
 words     2000 docs/PROOFS.md docs/FAULTS.md
-words     3650 docs/DECISIONS.md docs/DIFFERENCES.md CONTRIBUTING.md CHANGELOG.md man/glob_run.1 bench/README.md
+words     2950 docs/DECISIONS.md docs/DIFFERENCES.md CONTRIBUTING.md CHANGELOG.md bench/README.md
+words     1500 man/glob_run.1 man/glob_files.1 man/glob_ignore.1
 edits       32 glob_pattern
-edits       27 glob_walk
-edits       14 glob_run
+edits       26 glob_walk
+edits       11 glob_run
 edits        9 glob_tree
-edits        8 glob_lines
-edits        8 glob_c
+edits        7 glob_lines
+edits        7 glob_c
 edits        6 glob_set
 edits        5 glob_rules
 edits        5 glob_captures
 edits        3 glob_prune
 edits        3 glob_page
+edits        3 glob_ignore
+edits        3 glob_files
 edits      120 all crates
 functions  160 glob_pattern
 '
