@@ -9,5 +9,5 @@ mod physical;
 mod pruned;
 
 pub use exclusion::Exclusion;
-pub use physical::{PhysicalDisk, Strays};
+pub use physical::{Links, PhysicalDisk, Strays};
 pub use pruned::Pruned;

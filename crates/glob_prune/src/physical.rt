@@ -17,18 +17,30 @@ pub trait Strays: Drop {
     fn stray(&mut self, directory: &str, name: &[u8]);
 }
 
-/// The real file system, as a tree with no known content, where a symbolic link is no directory: a walk by `**` does not
-/// follow one, and ends on a cycle of links. Relative paths begin at the current directory of the process. A path through a
-/// link is followed, as `link/a`.
+/// What a symbolic link is.
+#[derive(Clone, Copy, PartialEq, Eq)]
+pub enum Links {
+    /// No directory: a walk by `**` does not follow one, and ends on a cycle of links.
+    Kept,
+    /// What it leads to, or no directory where that is missing. A walk by `**` goes round a cycle of links until the system
+    /// follows no more of them.
+    Followed,
+}
+
+/// The real file system, as a tree with no known content, where a symbolic link is no directory unless links are
+/// [`Followed`](Links::Followed). Relative paths begin at the current directory of the process. A path through a link is
+/// followed, as `link/a`.
 ///
 /// A name that is not UTF-8 costs only itself: the listing leaves it out, and tells the [`Strays`] of it.
 ///
 /// A look makes one system call, and a listing one for each entry, besides those that open, read and close the directory.
+/// Where links are followed, each link costs a second one.
 #[derive(Drop)]
 pub struct PhysicalDisk<R: Files, S: Strays, A: Allocator = Global> {
     rt: R,
     strays: S,
     alloc: A,
+    links: Links,
     asks: Asks,
 }
 
@@ -46,10 +58,18 @@ impl<R: Files, S: Strays, A: Allocator> PhysicalDisk<R, S, A> {
     pub fn new(rt: R, strays: S, alloc: A) -> Self
         ensures { result ≡ 0 }
     {
+        PhysicalDisk::with_links(rt, strays, alloc, Links::Kept)
+    }
+
+    /// As [`new`](Self::new), where links are as `links` says.
+    pub fn with_links(rt: R, strays: S, alloc: A, links: Links) -> Self
+        ensures { result ≡ 0 }
+    {
         PhysicalDisk {
             rt,
             strays,
             alloc,
+            links,
             asks: Asks::new(),
         }
     }
@@ -62,13 +82,13 @@ impl<R: Files + Drop, S: Strays, A: Allocator + Copy> Tree for PhysicalDisk<R, S
 
     ghost asks = { λ disk. disk };
 
-    /// A symbolic link is `Other`; with a `/` at its end the path is that of what it leads to. A path that cannot be looked up is `Missing`. The error comes only
+    /// A symbolic link that is not followed is `Other`; with a `/` at its end the path is that of what it leads to. A path that cannot be looked up is `Missing`. The error comes only
     /// where the I/O error's kind is `OutOfMemory`.
     fn look(&mut self, path: &str) -> Result<Look, AllocError>
         ensures asks { self.new ≡ self.old + 1 }
     {
         self.asks = self.asks.after(1);
-        match metadata_of(self.rt.symlink_metadata(path))? {
+        match seen_at(&self.rt, self.links, path)? {
             Some(metadata) if metadata.is_dir() => Ok(Look::Dir),
             Some(_) => Ok(Look::Other),
             None => Ok(Look::Missing),
@@ -81,7 +101,7 @@ impl<R: Files + Drop, S: Strays, A: Allocator + Copy> Tree for PhysicalDisk<R, S
         ensures asks { self.new ≡ self.old + 1 + entry_count result }
     {
         self.asks = self.asks.after(1);
-        match entries_of(&self.rt, &mut self.strays, self.alloc, path) {
+        match entries_of(&self.rt, self.links, &mut self.strays, self.alloc, path) {
             Ok(entries) => {
                 self.asks = self.asks.after(entries.len());
                 Ok(entries)
@@ -95,6 +115,7 @@ impl<R: Files + Drop, S: Strays, A: Allocator + Copy> Tree for PhysicalDisk<R, S
 /// The entries of a directory.
 fn entries_of<R: Files, S: Strays, A: Allocator + Copy>(
     rt: &R,
+    links: Links,
     strays: &mut S,
     alloc: A,
     path: &str,
@@ -115,6 +136,7 @@ fn entries_of<R: Files, S: Strays, A: Allocator + Copy>(
         }
         add_entries(
             rt,
+            links,
             strays,
             alloc,
             &mut directory,
@@ -128,6 +150,7 @@ fn entries_of<R: Files, S: Strays, A: Allocator + Copy>(
 /// Adds an entry for each of some names of a directory. A NUL stands after each name, and no read ends inside one.
 fn add_entries<R: Files, S: Strays, A: Allocator + Copy>(
     rt: &R,
+    links: Links,
     strays: &mut S,
     alloc: A,
     directory: &mut String<A>,
@@ -139,7 +162,7 @@ fn add_entries<R: Files, S: Strays, A: Allocator + Copy>(
             continue;
         }
         match std::str::from_utf8(name) {
-            Ok(name) => entries.push(entry(rt, alloc, directory, name)?)?,
+            Ok(name) => entries.push(entry(rt, links, alloc, directory, name)?)?,
             Err(_) => strays.stray(directory.as_str(), name),
         }
     }
@@ -149,30 +172,43 @@ fn add_entries<R: Files, S: Strays, A: Allocator + Copy>(
 /// The entry of a name in a directory.
 fn entry<R: Files, A: Allocator + Copy>(
     rt: &R,
+    links: Links,
     alloc: A,
     directory: &mut String<A>,
     name: &str,
 ) -> io::Result<Entry<A>> {
-    let is_dir = is_directory(rt, directory, name)?;
+    let is_dir = is_directory(rt, links, directory, name)?;
     match Name::new(String::from_str(alloc, name)?) {
         Ok(name) => Ok(Entry { name, is_dir }),
         Err(_) => Err(io::Error::from(ErrorKind::InvalidFilename)),
     }
 }
 
-/// Whether a name in a directory is that of one, and not of a symbolic link.
+/// Whether a name in a directory is that of one, and not of a symbolic link unless those are followed.
 fn is_directory<R: Files, A: Allocator>(
     rt: &R,
+    links: Links,
     directory: &mut String<A>,
     name: &str,
 ) -> Result<bool, AllocError> {
     let length = directory.len();
     directory.push_str(name)?;
-    let found = rt.symlink_metadata(directory.as_str());
+    let found = seen_at(rt, links, directory.as_str());
     directory.truncate(length);
-    match metadata_of(found)? {
+    match found? {
         Some(metadata) => Ok(metadata.is_dir()),
         None => Ok(false),
+    }
+}
+
+/// The metadata of what a path leads to, or of a link that is not followed or leads nowhere.
+fn seen_at<R: Files>(rt: &R, links: Links, path: &str) -> Result<Option<Metadata>, AllocError> {
+    let seen = metadata_of(rt.symlink_metadata(path))?;
+    match seen {
+        Some(metadata) if links == Links::Followed && metadata.is_symlink() => {
+            Ok(Some(metadata_of(rt.metadata(path))?.unwrap_or(metadata)))
+        }
+        seen => Ok(seen),
     }
 }
 
