@@ -1,7 +1,8 @@
 #!/usr/bin/env python3
-"""Runs each example of the man page, and each call of the program that the README shows. Checks the man page where
-`mandoc` or `groff` is installed, asks bash, fish and zsh what their completions offer, installs all of it, and compares
-what the launcher answers before anything is built. Prints what is wrong, and last how many checks passed and failed."""
+"""Runs each example of the man page of glob_run, and each of its calls that the README shows. Checks the man pages where
+`mandoc` or `groff` is installed, asks bash, fish and zsh what the completions of glob_run offer, installs all of it, and
+compares what the launcher answers before anything is built. Prints what is wrong, and last how many checks passed and
+failed."""
 
 import contextlib
 import os
@@ -15,6 +16,7 @@ from pathlib import Path
 
 ROOT = Path(__file__).resolve().parent.parent
 PAGE = ROOT / "man/glob_run.1"
+PROGRAMS = sorted(page.stem for page in ROOT.glob("man/*.1"))
 ROFF = {r"\(aq": "'", r"\(ga": "`", r"\e": "\\", r"\-": "-", r"\&": ""}
 
 # The words of a command line, of which the last is being written, and what bash offers for it. So do fish and zsh, but
@@ -95,13 +97,17 @@ zle-line-init() {
 zle -N zle-line-init
 """
 
-INSTALLED = [
-    "bin/glob_run",
-    "share/bash-completion/completions/glob_run",
-    "share/fish/vendor_completions.d/glob_run.fish",
-    "share/man/man1/glob_run.1",
-    "share/zsh/site-functions/_glob_run",
-]
+INSTALLED = sorted(
+    file.format(name)
+    for name in PROGRAMS
+    for file in (
+        "bin/{}",
+        "share/bash-completion/completions/{}",
+        "share/fish/vendor_completions.d/{}.fish",
+        "share/man/man1/{}.1",
+        "share/zsh/site-functions/_{}",
+    )
+)
 
 
 def examples():
@@ -132,13 +138,13 @@ def run_example(command, output, folder, path):
 
 
 def lint():
-    """What a checker of man pages says of the page, and None where none is installed."""
+    """What a checker of man pages says of the pages, and None where none is installed."""
     checkers = (["mandoc", "-Tlint", "-Wwarning"], ["groff", "-man", "-ww", "-z"])
     for words in checkers:
         if shutil.which(words[0]):
-            ran = subprocess.run([*words, PAGE], capture_output=True, text=True)
+            ran = subprocess.run([*words, *ROOT.glob("man/*.1")], capture_output=True, text=True)
             return [ran.stdout + ran.stderr] if ran.returncode or ran.stdout or ran.stderr else []
-    print("skipped: neither mandoc nor groff is installed, so nothing checks the man page")
+    print("skipped: neither mandoc nor groff is installed, so nothing checks the man pages")
     return None
 
 
@@ -222,10 +228,14 @@ def install_faults(prefix):
     found = sorted(str(it.relative_to(prefix)) for it in Path(prefix).rglob("*") if it.is_file())
     if ran.returncode or found != INSTALLED:
         return [f"bin/install: {found} {ran.stderr}"]
-    said = subprocess.run([f"{prefix}/bin/glob_run", "--version"], capture_output=True, text=True).stdout
     version = re.search(r"^## (.*)$", (ROOT / "CHANGELOG.md").read_text(encoding="utf-8"), re.M)[1]
-    faults = [] if said == f"glob_run {version}\n" else [f"the installed program is {said}"]
-    return faults if f'"glob_run {version}"' in PAGE.read_text(encoding="utf-8") else [*faults, "the man page's version"]
+    faults = []
+    for name in PROGRAMS:
+        said = subprocess.run([f"{prefix}/bin/{name}", "--version"], capture_output=True, text=True).stdout
+        faults += [] if said == f"{name} {version}\n" else [f"the installed program is {said}"]
+        page = (ROOT / f"man/{name}.1").read_text(encoding="utf-8")
+        faults += [] if f'"{name} {version}"' in page else [f"the version in the man page of {name}"]
+    return faults
 
 
 def refusal_faults(words):
@@ -236,14 +246,16 @@ def refusal_faults(words):
 
 def launcher_faults(prefix, copy):
     """Which words the launcher answers otherwise than the program does, where nothing is built."""
-    source = "crates/glob_run/src/help.rt"
-    (copy / source).parent.mkdir(parents=True)
-    shutil.copy(ROOT / source, copy / source)
+    for name in PROGRAMS:
+        source = f"crates/{name}/src/help.rt"
+        (copy / source).parent.mkdir(parents=True)
+        shutil.copy(ROOT / source, copy / source)
     shutil.copy(ROOT / "crates.txt", copy)
     shutil.copytree(ROOT / "bin", copy / "bin")
     said = lambda *words: subprocess.run(words, capture_output=True, text=True).stdout
-    calls = [["--help"], ["-h"], ["--version"], ["explain", "--help"]]
-    return [it for it in calls if said(copy / "bin/glob_run", *it) != said(prefix / "bin/glob_run", *it)]
+    calls = [[name, word] for name in PROGRAMS for word in ("--help", "-h", "--version")] + [["glob_run", "explain", "--help"]]
+    differs = lambda name, *words: said(copy / "bin" / name, *words) != said(prefix / "bin" / name, *words)
+    return [it for it in calls if differs(*it)]
 
 
 def main():
@@ -256,7 +268,9 @@ def main():
         checks += [completion_faults(*it, folder) for it in COMPLETIONS]
         checks += [fish_faults(line, FISH.get(line, wanted), folder) for line, wanted in COMPLETIONS]
         checks += zsh_faults(folder, Path(work))
-        checks += [syntax_faults("zsh", "completions/_glob_run"), syntax_faults("fish", "completions/glob_run.fish")]
+        checks += [syntax_faults("zsh", f"completions/_{name}") for name in PROGRAMS]
+        checks += [syntax_faults("fish", f"completions/{name}.fish") for name in PROGRAMS]
+        checks += [syntax_faults("bash", f"completions/{name}.bash") for name in PROGRAMS]
         for name in ("folder", "br[1]"):
             (folder / name).rmdir()
         checks += [run_example(*it, folder, prefix / "bin") for it in examples()]
