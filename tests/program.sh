@@ -123,6 +123,9 @@ check 'the pieces of a text' 0 'a\ta\n[0-9]\t1\n*\t7x\n' ''
 unfed explain 'é[0-9]' éx
 check 'where a text stops' 1 'éx\n ^\n[0-9]\twants a character that it lists\n' ''
 
+unfed explain '*.rs' main.c
+check 'what a text has to end in' 1 'main.c\n      ^\n.rs\tis wanted at the end of the text\n' ''
+
 unfed explain '*.{c,h}' a.c
 printf '%s\n' "$(tail -1 "$work/out")" >"$work/some" && mv "$work/some" "$work/out"
 check 'what to write instead of a choice' 1 'write instead: *.[ch]\n' ''
