@@ -6,3 +6,4 @@ pub mod GoalLemmas
 pub mod PathLemmas
 pub mod PermutationLemmas
 pub mod PruningLemmas
+pub mod SetLemmas

@@ -1,4 +1,5 @@
 pub mod Entering
 pub mod Laws
 pub mod Pruning
+pub mod Sets
 pub mod Trees

@@ -5,6 +5,7 @@ mod entering;
 mod exclusion;
 mod ignoring;
 pub mod laws;
+mod matching;
 mod physical;
 mod pruned;
 

@@ -12,6 +12,19 @@ use std::marker::Model;
 const BLOCK: usize = 4096;
 
 /// What is told of names that no text can name.
+///
+/// ```text
+/// #[derive(Drop)]
+/// struct Lost {
+///     count: u64,
+/// }
+///
+/// impl Strays for Lost {
+///     fn stray(&mut self, _directory: &str, _name: &[u8]) {
+///         self.count = self.count.saturating_add(1);
+///     }
+/// }
+/// ```
 pub trait Strays: Drop {
     /// The directory has an entry whose name is not UTF-8: `name`, as its bytes are. The listing goes on without it.
     fn stray(&mut self, directory: &str, name: &[u8]);
@@ -32,6 +45,11 @@ pub enum Links {
 /// followed, as `link/a`.
 ///
 /// A name that is not UTF-8 costs only itself: the listing leaves it out, and tells the [`Strays`] of it.
+///
+/// ```text
+/// let disk = PhysicalDisk::new(rt, Lost { count: 0 }, alloc);
+/// walk_in(alloc, disk, "**/*.rs", options, u64::MAX)?    // `a/b.rs`, and not `link/b.rs` where `link` leads to `a`
+/// ```
 ///
 /// A look makes one system call, and a listing one for each entry, besides those that open, read and close the directory.
 /// Where links are followed, each link costs a second one.

@@ -3,4 +3,5 @@ mod ignoring;
 mod made;
 mod memory;
 mod random;
+mod sets;
 mod walks;
