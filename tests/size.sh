@@ -26,7 +26,6 @@ edits        6 glob_set
 edits        5 glob_rules
 edits        5 glob_captures
 edits        3 glob_prune
-edits        3 glob_ignore
 edits        3 glob_page
 edits        3 glob_ignore
 edits        3 glob_files
