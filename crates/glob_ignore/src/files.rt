@@ -10,8 +10,8 @@ pub trait IgnoreFiles {
     /// The text of the file at a path, where it is known.
     ghost holds: { Self → (path : List ℕ) → Option (List ℕ) };
 
-    /// The text of the file at a path. The error is of the kind `OutOfMemory` at an allocation failure, of `InvalidData` if
-    /// the file is not UTF-8, and else that of the system.
+    /// The text of the file at a path. The error is of the kind `OutOfMemory` at an allocation failure, of
+    /// `InvalidData` if the file is not UTF-8, and else that of the system.
     fn read<A: Allocator + Copy>(&self, alloc: A, path: &str) -> io::Result<String<A>>
         ensures { IfOk result (λ text. IfSome (holds self.now path.now)
             (λ known. string_bytes text ≡ known)) };

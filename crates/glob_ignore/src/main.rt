@@ -1,5 +1,5 @@
-//! Ignore lists at the command line: `glob_ignore FILE` copies the paths of standard input that the rules of FILE do not
-//! ignore.
+//! Ignore lists at the command line: `glob_ignore FILE` copies the paths of standard input that the rules of FILE do
+//! not ignore.
 #![tactic(auto)]
 
 ghost use Rattle.std.specs.Prelude.{◌≡◌, ◌≤◌, true, false, List, ℕ, Some, IfOk, OnErr, map, string_bytes};

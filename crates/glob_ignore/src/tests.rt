@@ -145,12 +145,12 @@ struct Narrow {
 }
 
 impl Write for Narrow {
-    fn write(&mut self, _buf: &[u8]) -> io::Result<usize> {
+    fn write(&mut self, buf: &[u8]) -> io::Result<usize> {
         if self.left == 0 {
             return Err(io::Error::from(ErrorKind::BrokenPipe));
         }
         self.left -= 1;
-        Ok(1)
+        Ok(buf.len().min(1))
     }
 
     fn flush(&mut self) -> io::Result<()> {
