@@ -1,8 +1,8 @@
 //! The disk on which a symbolic link is no directory.
-use super::PATHS;
+use super::{LISTINGS as FOLLOWED_LISTINGS, LOOKS as FOLLOWED_LOOKS, PATHS};
 use crate::files::{Calls, Kind, Written};
 use glob::{Disk, End, Entry, ListError, Look, MatchOptions, Tree, walk_in};
-use glob_prune::{PhysicalDisk, Strays};
+use glob_prune::{Links, PhysicalDisk, Strays};
 use glob_testing::rationing::Rationed;
 use std::alloc::Allocator;
 use std::cell::Cell;
@@ -114,6 +114,31 @@ fn listings_say_of_a_link_that_it_is_no_directory(rt: HostRuntime) {
         assert_eq!(rt; calls.opens.get(), 1, "{path}");
         for (entry, word) in entries.iter().zip(words) {
             check_entry(&rt, entry.name.as_str(), entry.is_dir, word);
+        }
+    }
+}
+
+/// Where links are followed, looks and listings are those of `Disk`, with as many lookups.
+#[test]
+fn links_are_followed_where_wanted(rt: HostRuntime) {
+    for (path, wanted, lookups) in FOLLOWED_LOOKS {
+        let calls = Calls::new();
+        let files = Written::new(PATHS, &calls);
+        let mut disk = PhysicalDisk::with_links(files, NoStrays, rt.alloc(), Links::Followed);
+        assert!(rt; disk.look(path).ok() == *wanted, "{path}");
+        assert_eq!(rt; calls.lookups.get(), *lookups, "{path}");
+    }
+    for (path, _, wanted) in FOLLOWED_LISTINGS {
+        let calls = Calls::new();
+        let files = Written::new(PATHS, &calls);
+        let mut disk = PhysicalDisk::with_links(files, NoStrays, rt.alloc(), Links::Followed);
+        let Ok(entries) = disk.list(path) else {
+            panic!(rt; "{path}");
+        };
+        assert_eq!(rt; entries.len(), wanted.len(), "{path}");
+        for (entry, (name, is_dir)) in entries.iter().zip(*wanted) {
+            assert_eq!(rt; entry.name.as_str(), *name, "{path}");
+            assert_eq!(rt; entry.is_dir, *is_dir, "{path}");
         }
     }
 }
