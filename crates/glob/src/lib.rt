@@ -15,8 +15,8 @@
 //! stands for a text alone.
 //!
 //! [`MatchOptions`] set case, the separator rule and the dot rule. [`filter_lines`] copies the lines of a reader that a
-//! pattern matches, and [`filter_records`] what another byte ends. [`run_positions`] decides for any [`Judge`], of any alphabet, whether its characters split into
-//! pieces.
+//! pattern matches, and [`filter_records`] what another byte ends. [`run_positions`] decides for any [`Judge`], of any
+//! alphabet, whether its characters split into pieces.
 //!
 //! [`glob`] walks the file system and gives each path that a pattern leads to; [`glob_with`] takes options. [`glob_in`]
 //! walks any [`Tree`] within a limit, item by item, and [`walk_in`] gathers a whole walk. [`MemTree`] is a tree in memory,

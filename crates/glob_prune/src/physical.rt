@@ -100,8 +100,8 @@ impl<R: Files + Drop, S: Strays, A: Allocator + Copy> Tree for PhysicalDisk<R, S
 
     ghost asks = { λ disk. disk };
 
-    /// A symbolic link that is not followed is `Other`; with a `/` at its end the path is that of what it leads to. A path that cannot be looked up is `Missing`. The error comes only
-    /// where the I/O error's kind is `OutOfMemory`.
+    /// A symbolic link that is not followed is `Other`; with a `/` at its end the path is that of what it leads to. A
+    /// path that cannot be looked up is `Missing`. The error comes only where the I/O error's kind is `OutOfMemory`.
     fn look(&mut self, path: &str) -> Result<Look, AllocError>
         ensures asks { self.new ≡ self.old + 1 }
     {

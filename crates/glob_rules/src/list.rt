@@ -75,8 +75,8 @@ impl<A: Allocator + Copy> IgnoreList<A> {
         Ok(self.ignores(decides))
     }
 
-    /// The rule that decides whether the list ignores a path, or `None` if no rule names it: by `a/` and `!a/b` it is that of line 1 for
-    /// `a/b`. Its error is that of [`is_ignored`](Self::is_ignored).
+    /// The rule that decides whether the list ignores a path, or `None` if no rule names it: by `a/` and `!a/b` it is that
+    /// of line 1 for `a/b`. Its error is that of [`is_ignored`](Self::is_ignored).
     #[tactic(auto, unfolding(crate::specs::Deciding::deciding_rule))]
     pub fn deciding_rule(&self, path: &str, is_directory: bool) -> Result<Option<Rule>, AllocError>
         ensures rule { IfOk result
