@@ -49,12 +49,17 @@ def commands(folder, program):
     return some
 
 
+def paths_of(words, tree, folder):
+    """The paths that a program finds, in order. Some write `./` before each."""
+    return sorted(line.removeprefix(b"./") for line in lines(words, tree, folder))
+
+
 def main():
     folder, program = Path(sys.argv[1]), Path(sys.argv[2]).resolve()
     rounds, share = int(sys.argv[3]), int(sys.argv[4])
     make_trees(folder, share)
     some = commands(folder, program)
-    found = {head: sorted(lines(words, folder / tree, folder)) for head, (tree, words) in some.items() if head != "the calls alone"}
+    found = {head: paths_of(words, folder / tree, folder) for head, (tree, words) in some.items() if head != "the calls alone"}
     if len(set(map(tuple, found.values()))) > 1:
         raise RuntimeError(f"they find different files: {({head: len(paths) for head, paths in found.items()})}")
     runs = {head: [] for head in some}

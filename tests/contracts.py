@@ -18,6 +18,8 @@ WORDS = ROOT / "docs/reference/words.md"
 CRATES = ["glob_pattern", "glob_lines", "glob_tree", "glob_walk"]
 OTHERS = {
     "glob_set": {"PatternSet"},
+    "glob_prune": {"Pruned", "PhysicalDisk", "Exclusion"},
+    "glob_ignore": {"run_words"},
     "glob_rules": {"IgnoreList"},
     "glob_captures": {"captures", "reach", "tokens"},
     "glob_run": {"run_words", "find_in"},

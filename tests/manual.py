@@ -1,5 +1,5 @@
 #!/usr/bin/env python3
-"""Runs each example of the man page of glob_run, and each of its calls that the README shows. Checks the man pages where
+"""Runs each example of the man pages, and each call of glob_run that the README shows. Checks the man pages where
 `mandoc` or `groff` is installed, asks bash, fish and zsh what the completions of glob_run offer, installs all of it, and
 compares what the launcher answers before anything is built. Prints what is wrong, and last how many checks passed and
 failed."""
@@ -111,8 +111,9 @@ INSTALLED = sorted(
 
 
 def examples():
-    """The commands of the man page, each with what it writes."""
-    text = PAGE.read_text(encoding="utf-8")
+    """The commands of the man pages, each with what it writes."""
+    # The examples of glob_run come first: those of others make files.
+    text = "".join((ROOT / f"man/{name}.1").read_text(encoding="utf-8") for name in ["glob_run", *PROGRAMS[:-1]])
     found = []
     for block in re.findall(r"^\.EX\n(.*?)^\.EE$", text, re.M | re.S):
         block = re.sub(r"\\\(..|\\.", lambda it: ROFF[it[0]], block)

@@ -11,17 +11,19 @@ glob_ignore: the paths that an ignore file does not ignore
   glob_ignore --help, -h      write this page
   glob_ignore --version       write the version
 
-FILE has rules as gitignore(5) has them, one a line, for the paths below its directory.
+FILE has rules as gitignore(5) has them, one a line, for the paths below its directory. A wildcard
+takes a character where git takes a byte, case counts, and a line with a class, as [[:alpha:]], is
+refused.
 
 Options stand before FILE:
   -0    records end in a NUL in place of a line feed, those read and those written: for names with
         line feeds, as of git ls-files -z, and for xargs -0
   --    ends the options. A FILE that begins with - needs it
 
-Paths: a path is the names from the directory of FILE on, with a / between them, as git ls-files
-writes them. One that ends in / is that of a directory. A ./ at its start is passed over, and . is
-copied. Other paths are asked as they are written: by the rule a/b, a//b is not ignored. A path that
-is not UTF-8 is not copied. The disk is not looked at.
+Paths: a path is the names from the directory of FILE on, with a / between them, as git ls-files -z
+writes them. One that ends in / is that of a directory. A ./ at its start is passed over; . and the
+empty path are copied. Other paths are asked as they are written: by the rule a/b, a//b is not
+ignored. A path that is not UTF-8 is not copied. The disk is not looked at, but for FILE.
 
 All input is read before anything is written. A line ends before a line feed, which the last may
 lack. A carriage return belongs to its line.

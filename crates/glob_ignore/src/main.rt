@@ -187,7 +187,7 @@ fn write_text<A: Allocator, W: Write, E: Write>(
     }
 }
 
-/// Writes the line of a fault at once, so that no other process writes into it, and answers its status. Where there is no
+/// Writes the line of a fault at once, so that no other process writes into it, and returns its status. Where there is no
 /// memory for the line, it is written piece by piece. A fault of `errors` itself is dropped.
 fn fault<A: Allocator, E: Write>(alloc: A, errors: &mut E, fault: Fault<'_>) -> u8
     ensures { result ≡ 2 }

@@ -3,7 +3,7 @@ ghost use Rattle.std.specs.Prelude.{◌≡◌, List, ℕ, Bool, IfOk};
 
 use std::alloc::AllocError;
 
-/// What says which records are copied: a test of their bytes. Its answer depends on the bytes alone.
+/// What says which records are copied: a test of their bytes. The same selection gives the same answer for the same bytes.
 ///
 /// ```text
 /// struct Commented;

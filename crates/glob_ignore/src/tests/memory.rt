@@ -49,7 +49,7 @@ fn each_request_is_refused(rt: HostRuntime) {
 #[test]
 fn a_refused_line_is_whole_without_memory(rt: HostRuntime) {
     let ample = run_refusing(&rt, "a\n[é]", 0);
-    assert_eq!(rt; ample.status, 2);
+    assert!(rt; ample.status == 2 && ample.requests > 0);
     for number in 1..=ample.requests {
         let short = run_refusing(&rt, "a\n[é]", number);
         let is_memory = short.errors.as_slice() == b"glob_ignore: out of memory\n".as_slice();

@@ -166,14 +166,18 @@ fn check_half(
 #[test]
 fn driven_walks(rt: HostRuntime) {
     let mut random = Random::new();
+    let mut accepted = 0u32;
     for _ in 0..300 {
         let (content, _) = some_tree(&rt, &mut random, 8);
         let pattern = some_pattern(&rt, &mut random, &COMPONENTS);
         let job = Job::of(pattern.as_str()).under(some_options(&mut random));
-        for limit in 0..=compare(&rt, &content, job) {
+        let spent = compare(&rt, &content, job);
+        accepted = accepted.saturating_add(u32::from(spent > 0));
+        for limit in 0..=spent {
             compare(&rt, &content, job.within(limit));
         }
     }
+    assert!(rt; accepted > 100, "{accepted}");
 }
 
 /// How often a walk of a small tree asks for entries, and how often for names alone.
