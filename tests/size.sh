@@ -15,7 +15,7 @@ words     1000 docs/ARGUMENT.md
 words     1500 docs/PERFORMANCE.md
 words     2000 docs/PROOFS.md docs/FAULTS.md
 words     2950 docs/DECISIONS.md docs/DIFFERENCES.md CONTRIBUTING.md CHANGELOG.md bench/README.md
-words     1500 man/glob_run.1 man/glob_files.1 man/glob_ignore.1
+words     1650 man/glob_run.1 man/glob_files.1 man/glob_ignore.1
 edits       32 glob_pattern
 edits       27 glob_walk
 edits       11 glob_run

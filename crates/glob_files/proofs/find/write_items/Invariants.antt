@@ -1,0 +1,13 @@
+-- The wanted items before the step were written, or wait.
+use Rattle.std.proofs.Common.{◌+◌, ◌-◌, ◌*◌}
+use Rattle.glob_walk.specs.Machines.{saying}
+use Rattle.glob_files.specs.Filtering.{is_wanted}
+use Rattle.glob_files.proofs.FoundLemmas.{Written, step_number}
+use Rattle.glob_files.proofs.find.write_items.Given as goal
+
+abbrev pub invariant-loop-step : goal.invariant-loop-step
+invariant-loop-step g l =
+    Written l.end (is_wanted l.filter.patterns l.filter.kind) g.T.Tree.tells l.fn.tree l.fn.walk (g.W.Write.contents l.initial.output) l.tree (saying l.step) l.walk l.findings (g.W.Write.contents l.output) l.lines.waiting.items
+
+abbrev pub decreases-loop-step : goal.decreases-loop-step
+decreases-loop-step g l = 2 * (l.walk.limit - l.walk.spent) + 2 * (l.walk.limit + 1 - l.walk.given) + step_number (saying l.step)
