@@ -3,7 +3,7 @@ use super::physical::NoStrays;
 use crate::files::{Calls, Kind, Written};
 use glob::{Disk, Entry, ListError, Look, Tree};
 use glob_prune::PhysicalDisk;
-use std::alloc::AllocError;
+use std::alloc::{AllocError, Allocator};
 use std::io;
 use std::process::Abort;
 
@@ -13,16 +13,24 @@ pub(super) const LAST: i32 = 133;
 /// The number of lack of memory.
 const ENOMEM: i32 = 12;
 
-/// The listing of a directory fails with the error of this number, which is handed on.
+/// The listings of a directory fail with the error of this number, which is handed on.
 pub(super) fn check_failing<T: Tree>(rt: &impl Abort, mut tree: T, code: i32) {
-    for listed in [tree.list("a"), tree.list_names("a")] {
-        match listed {
-            Ok(_) => panic!(rt; "no error {code}"),
-            Err(ListError::Memory) => assert_eq!(rt; code, ENOMEM),
-            Err(ListError::Read(error)) => {
-                assert_eq!(rt; error.raw_os_error(), Some(code));
-                assert!(rt; code != ENOMEM);
-            }
+    check_failed(rt, tree.list("a"), code);
+    check_failed(rt, tree.list_names("a"), code);
+}
+
+/// It failed with the error of this number.
+fn check_failed<A: Allocator>(
+    rt: &impl Abort,
+    listed: Result<Vec<Entry<A>, A>, ListError>,
+    code: i32,
+) {
+    match listed {
+        Ok(_) => panic!(rt; "no error {code}"),
+        Err(ListError::Memory) => assert_eq!(rt; code, ENOMEM),
+        Err(ListError::Read(error)) => {
+            assert_eq!(rt; error.raw_os_error(), Some(code));
+            assert!(rt; code != ENOMEM);
         }
     }
 }
