@@ -23,7 +23,8 @@ use std::alloc::{AllocError, Allocator};
 /// A call takes time and memory at most proportional to one more than the tokens, times one more than the bytes of the
 /// text. The errors are:
 ///
-/// - [`CapturesError::TooLarge`]: the tokens times the bytes are more than [`MOST_STEPS`](crate::MOST_STEPS). Nothing was done.
+/// - [`CapturesError::TooLarge`]: the tokens times the bytes are more than [`MOST_STEPS`](crate::MOST_STEPS). Nothing was
+///   done.
 /// - [`CapturesError::Memory`]: an allocation failed.
 pub fn captures<A: Allocator + Copy, B: Allocator + Copy>(
     alloc: A,

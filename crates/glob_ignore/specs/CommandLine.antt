@@ -14,7 +14,7 @@ operand_asked end [] = NoFile
 operand_asked end (file ∷ []) = Copy end file
 operand_asked end (file ∷ extra ∷ words) = ExtraWord extra
 
--- The words after the program's name. What stands after those of a page is passed over.
+-- The words after the program's name. Those after one that asks for a page are ignored.
 abbrev pub request_asked : (end : ℕ) → List (List ℕ) → Request
 request_asked end [] = NoFile
 request_asked end (word ∷ words) =

@@ -11,8 +11,8 @@ use std::str;
 /// Selects the records that the list does not ignore.
 ///
 /// A record is a path, and that of a directory if it ends in `/`. A `./` at its start is passed over: by `/a` neither
-/// `a` nor `./a` is selected. The list's own directory, as `.` or `./`, is always selected, and a path that is not
-/// UTF-8 never.
+/// `a` nor `./a` is selected. The list's own directory, as `.`, `./`, `/` or an empty record, is always selected, and a
+/// path that is not UTF-8 never.
 #[derive(Drop)]
 pub struct Unignored<'l, A: Allocator> {
     pub list: &'l IgnoreList<A>,

@@ -248,8 +248,8 @@ fn keep_record<A: Allocator, W: Write>(
     Ok(())
 }
 
-/// Writes all of the bytes, in as many writes as it takes: where the writer takes two bytes a call, `abc` takes two. The
-/// first error is returned, also `Interrupted`. Then the first bytes were written, some or none of them.
+/// Writes all of the bytes, in as many writes as it takes: to a writer that accepts two bytes a call, `abc` is two
+/// writes. The first error is returned, also `Interrupted`. Then the first bytes were written, some or none of them.
 pub fn write_all<W: Write>(writer: &mut Watch<W>, bytes: &[u8]) -> io::Result<()>
     requires { writer.old.failed ≡ false }
     ensures ok { OnOk result

@@ -14,6 +14,6 @@ pub use error::{PatternError, PatternRefusal};
 pub use matcher::{Judge, Shape, run_positions};
 pub use options::MatchOptions;
 pub use pattern::{
-    Pattern, TokenKind, Trimmed, characters_of, literal_at, match_trimmed, token_count, token_kind,
-    token_takes, tokens_len, trim,
+    Pattern, TokenKind, Trimmed, characters_of, literal_at, match_trimmed, token_kind, token_takes,
+    tokens_len, trim,
 };

@@ -1,7 +1,7 @@
 ghost use Rattle.std.specs.Prelude.{◌≡◌, ◌*◌, ◌≤◌, ◌↔◌, [], length, IsTrue, IsOk, IfOk, IfErr, IfSome, MatchOption, chars};
 ghost use Rattle.std.specs.Str.{is_utf8};
 ghost use Rattle.glob_pattern.specs.Matching.Trims.{IsTrimmed};
-ghost use Rattle.glob_pattern.specs.Matching.Literals.{HasCount, HasLiteral};
+ghost use Rattle.glob_pattern.specs.Matching.Literals.{HasLiteral};
 ghost use Rattle.glob_pattern.specs.Matching.Short.{IsShort};
 ghost use Rattle.std.specs.Path.{path_bytes};
 ghost use Rattle.glob_pattern.specs.Grammar.Units.{IsAccepted};
@@ -217,13 +217,6 @@ pub fn match_trimmed<A: Allocator + Copy>(
     ensures short { IsShort (chars pattern.now) → IsOk result }
 {
     pattern.compiled.matches(str, options, trimmed)
-}
-
-/// How many tokens the pattern has: of `a*.rs` 5.
-pub fn token_count<A: Allocator>(pattern: &Pattern<A>) -> usize
-    ensures { HasCount (chars pattern.now) result }
-{
-    pattern.compiled.len()
 }
 
 /// The character that the token of this number is, counted from 0, or `None` if it is a wildcard or a bracket, or there

@@ -11,7 +11,7 @@ use std::marker::Model;
 /// How many bytes of a directory are read at once.
 const BLOCK: usize = 4096;
 
-/// What is told of names that no text can name.
+/// Receives the names that are not UTF-8.
 ///
 /// ```text
 /// #[derive(Drop)]
@@ -30,13 +30,13 @@ pub trait Strays: Drop {
     fn stray(&mut self, directory: &str, name: &[u8]);
 }
 
-/// What a symbolic link is.
+/// Whether symbolic links are followed.
 #[derive(Clone, Copy, PartialEq, Eq)]
 pub enum Links {
-    /// No directory: a walk by `**` does not follow one, and ends on a cycle of links.
+    /// They are no directories: a walk by `**` does not enter one, and ends on a cycle of links.
     Kept,
-    /// What it leads to, or no directory where that is missing. A walk by `**` goes round a cycle of links until the system
-    /// follows no more of them.
+    /// They are what they point to, or no directory where that is missing. A walk by `**` goes round a cycle of links until
+    /// the system follows no more of them.
     Followed,
 }
 
@@ -44,11 +44,11 @@ pub enum Links {
 /// [`Followed`](Links::Followed). Relative paths begin at the current directory of the process. A path through a link is
 /// followed, as `link/a`.
 ///
-/// A name that is not UTF-8 costs only itself: the listing leaves it out, and tells the [`Strays`] of it.
+/// A name that is not UTF-8 costs only itself: the listing leaves it out, and the [`Strays`] receive it.
 ///
 /// ```text
 /// let disk = PhysicalDisk::new(rt, Lost { count: 0 }, alloc);
-/// walk_in(alloc, disk, "**/*.rs", options, u64::MAX)?    // `a/b.rs`, and not `link/b.rs` where `link` leads to `a`
+/// walk_in(alloc, disk, "**/*.rs", options, u64::MAX)?    // `a/b.rs`, and not `link/b.rs` where `link` points to `a`
 /// ```
 ///
 /// A look makes one system call, and a listing one for each entry, besides those that open, read and close the directory.
@@ -100,7 +100,7 @@ impl<R: Files + Drop, S: Strays, A: Allocator + Copy> Tree for PhysicalDisk<R, S
 
     ghost asks = { λ disk. disk };
 
-    /// A symbolic link that is not followed is `Other`; with a `/` at its end the path is that of what it leads to. A
+    /// A symbolic link that is not followed is `Other`; with a `/` at its end the path is that of its target. A
     /// path that cannot be looked up is `Missing`. The error comes only where the I/O error's kind is `OutOfMemory`.
     fn look(&mut self, path: &str) -> Result<Look, AllocError>
         ensures asks { self.new ≡ self.old + 1 }
@@ -219,7 +219,7 @@ fn is_directory<R: Files, A: Allocator>(
     }
 }
 
-/// The metadata of what a path leads to, or of a link that is not followed or leads nowhere.
+/// The metadata of what is at a path: of a link's target, unless links are not followed or it has none.
 fn seen_at<R: Files>(rt: &R, links: Links, path: &str) -> Result<Option<Metadata>, AllocError> {
     let seen = metadata_of(rt.symlink_metadata(path))?;
     match seen {

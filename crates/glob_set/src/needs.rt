@@ -4,7 +4,7 @@ ghost use Rattle.glob_pattern.specs.Matching.Literals.{HasLiteral};
 ghost use Rattle.glob_set.specs.Private.Pairs.{class_bit, IsPairAt, IsNeed, AreNeeds};
 
 use crate::pairs::{Need, class_bit, pair_class};
-use glob_pattern::{Pattern, literal_at, token_count};
+use glob_pattern::{Pattern, literal_at, tokens_len};
 use std::alloc::{AllocError, Allocator};
 
 /// For each of the patterns what each text has that it matches.
@@ -28,7 +28,7 @@ fn need_of<A: Allocator>(pattern: &Pattern<A>) -> Need
 {
     let mut bits = 0;
     let mut class = None;
-    for number in 0..token_count(pattern) {
+    for number in 0..tokens_len(pattern) {
         class = pair_at(pattern, number);
         bits = with_class(bits, class);
     }

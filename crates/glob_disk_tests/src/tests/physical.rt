@@ -10,7 +10,7 @@ use std::fs::Files;
 use std::io::ErrorKind;
 use std::process::Abort;
 
-/// Counts the names that it is told of, which are to be this one, in this directory.
+/// Counts the names that it receives, which are to be this one, in this directory.
 #[derive(Drop)]
 struct Expected<'a> {
     directory: &'static str,
@@ -143,7 +143,7 @@ fn links_are_followed_where_wanted(rt: HostRuntime) {
     }
 }
 
-/// A name that is not UTF-8 is told of once and left out, and what is beside it is listed.
+/// A name that is not UTF-8 is reported once and left out, and what is beside it is listed.
 #[test]
 fn a_stray_name_costs_only_itself(rt: HostRuntime) {
     let paths = [

@@ -37,8 +37,8 @@ fn each_request_is_refused(rt: HostRuntime) {
     assert!(rt; ample.requests > 3);
     for number in 1..=ample.requests {
         let short = run_refusing(&rt, "*.o\n!b\n", number);
-        let is_told = short.errors.as_slice() == b"glob_ignore: out of memory\n".as_slice();
-        assert!(rt; short.status == 2 && is_told, "at {number}");
+        let is_reported = short.errors.as_slice() == b"glob_ignore: out of memory\n".as_slice();
+        assert!(rt; short.status == 2 && is_reported, "at {number}");
         assert!(rt;
             ample.output.starts_with(short.output.as_slice()),
             "at {number}"

@@ -67,13 +67,6 @@ impl<A: Allocator> Compiled<A> {
         self.prefilter.trim(self.tokens.as_slice(), bytes, options)
     }
 
-    /// How many tokens there are.
-    pub fn len(&self) -> usize
-        ensures { result ≡ length self.now }
-    {
-        self.tokens.len()
-    }
-
     /// The character of the token of this number, if there is one and it is a literal.
     pub fn literal_at(&self, number: usize) -> Option<char>
         ensures { IfSome result (λ c. slice_index_or self.now number AnyChar ≡ Literal c) }

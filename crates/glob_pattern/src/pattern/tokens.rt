@@ -1,6 +1,7 @@
 //! The tokens of a pattern, one by one: how many there are, of which kind, and what each takes.
 ghost use Rattle.std.specs.Prelude.{◌≡◌, ◌<◌, length, slice_index_or, IfOk, chars};
 ghost use Rattle.glob_pattern.specs.Grammar.Units.{HasTokens};
+ghost use Rattle.glob_pattern.specs.Matching.Literals.{HasCount};
 ghost use Rattle.glob_pattern.specs.Matching.Taking as taking;
 ghost use Rattle.glob_pattern.specs.Computing.Tokens.{tokens_of, kind_of};
 ghost use Rattle.glob_pattern.specs.declared.token.Token.TheVariants.{AnyChar as Wildcard};
@@ -35,6 +36,7 @@ pub enum TokenKind {
 pub fn tokens_len<A: Allocator>(pattern: &Pattern<A>) -> usize
     ensures count { result ≡ length (tokens_of (chars pattern.now)) }
     ensures read { HasTokens (chars pattern.now) (tokens_of (chars pattern.now)) }
+    ensures only { HasCount (chars pattern.now) result }
 {
     tokens_in(pattern).len()
 }

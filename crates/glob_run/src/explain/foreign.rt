@@ -148,8 +148,8 @@ fn add_characters<A: Allocator>(made: &mut String<A>, inner: &str) -> Result<(),
     made.push(']')
 }
 
-/// In place of each way one for each alternative, which ends in it. `None` where these are too many, where an alternative has
-/// a form of another tool itself, and where `*` would come together.
+/// In place of each way one for each alternative, which ends in it. `None` where these are too many, where an alternative
+/// has a form of another tool itself, and where `*` would come together.
 fn add_alternatives<'a, A: Allocator + Copy>(
     alloc: A,
     ways: &mut Vec<String<A>, A>,

@@ -55,8 +55,8 @@ pub fn stop_lines<A: Allocator + Copy>(
     Ok(lines)
 }
 
-/// Adds a line for the tokens after the last wildcard, where that took the whole text and the text does not end as they say.
-/// So of `*.rs` and `a.c` it is about `.rs`. False where there is no such line.
+/// Adds a line for the tokens after the last wildcard, where that took the whole text and the text does not end as they
+/// say. So of `*.rs` and `a.c` it is about `.rs`. False where there is no such line.
 fn add_ending<A: Allocator + Copy>(
     alloc: A,
     lines: &mut String<A>,
@@ -79,8 +79,8 @@ fn add_ending<A: Allocator + Copy>(
     Ok(true)
 }
 
-/// The number of the first token after the last one that takes any number of characters. `None` where there is no such token,
-/// or none after it.
+/// The number of the first token after the last one that takes any number of characters. `None` where there is no such
+/// token, or none after it.
 fn first_of_ending(tokens: &[Written]) -> Option<usize> {
     let mut first = None;
     let mut was_wildcard = false;

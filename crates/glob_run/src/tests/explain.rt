@@ -88,6 +88,11 @@ const STOPS: &[Row] = &[
         (1, "a1c\n  ^\nb\twants this character, in either case\n", ""),
     ),
     (
+        "explain -i a[0-9] ax",
+        b"",
+        (1, "ax\n ^\n[0-9]\twants a character that it lists\n", ""),
+    ),
+    (
         "explain -i a1 a2",
         b"",
         (1, "a2\n ^\n1\twants this character\n", ""),

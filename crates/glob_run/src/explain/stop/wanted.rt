@@ -60,8 +60,9 @@ fn wish_of(kind: TokenKind, written: &str) -> &'static str {
 /// Whether upper and lower case make a difference for a token.
 fn has_case(kind: TokenKind, written: &str) -> bool {
     match kind {
-        TokenKind::Literal => written.bytes().any(|byte| byte.is_ascii_alphabetic()),
-        TokenKind::OneOf | TokenKind::NoneOf => true,
+        TokenKind::Literal | TokenKind::OneOf | TokenKind::NoneOf => {
+            written.bytes().any(|byte| byte.is_ascii_alphabetic())
+        }
         TokenKind::AnyChar | TokenKind::AnySequence | TokenKind::Recursive => false,
     }
 }
