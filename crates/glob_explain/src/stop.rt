@@ -1,9 +1,9 @@
 //! Where a text that does not match stops, and what is wanted there.
 mod wanted;
 
-use super::caret::add_caret;
-use super::foreign::foreign_instead;
-use super::{add_row, part_of};
+use crate::caret::add_caret;
+use crate::foreign::foreign_instead;
+use crate::rows::{add_row, part_of};
 use glob_captures::{CapturesError, Piece, Written, reach, tokens};
 use glob_pattern::{MatchOptions, Pattern, PatternRefusal};
 use std::alloc::{AllocError, Allocator};

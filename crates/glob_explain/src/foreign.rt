@@ -4,7 +4,7 @@ ghost use Rattle.glob_pattern.specs.Grammar.Units.{IsAccepted};
 
 mod bracket;
 
-use super::instead::is_accepted;
+use crate::instead::is_accepted;
 use bracket::add_bracket;
 use std::alloc::{AllocError, Allocator};
 

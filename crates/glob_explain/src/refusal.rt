@@ -1,0 +1,27 @@
+//! Why a pattern is refused.
+use crate::caret::add_caret;
+use crate::instead::accepted_instead;
+use glob_pattern::PatternError;
+use std::alloc::{AllocError, Allocator};
+
+/// The fault of a pattern that is refused, the pattern with a caret under it, and what to write instead, as three lines, of
+/// which the last has no line feed.
+///
+/// So of `a[b` they are `Pattern syntax error near position 1: invalid range pattern`, `a[b` with a caret below the `[`,
+/// and `write instead: a[[]b`.
+pub fn explain_refusal<A: Allocator + Copy>(
+    alloc: A,
+    written: &str,
+    error: PatternError,
+) -> Result<String<A>, AllocError> {
+    let mut lines = format!(in alloc; "{error}\n")?;
+    add_caret(&mut lines, written, error.pos)?;
+    match accepted_instead(alloc, written, error.pos)? {
+        Some(advice) => {
+            lines.push_str("write instead: ")?;
+            lines.push_str(advice.as_str())?;
+        }
+        None => lines.push_str("write [[] for the character [, and ** as a whole component")?,
+    }
+    Ok(lines)
+}
