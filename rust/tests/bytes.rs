@@ -1,11 +1,12 @@
-//! Where `glob` answers otherwise: names that are not UTF-8, and kinds that come with a listing.
+//! Where `glob` answers otherwise: names that are not UTF-8, links that lead nowhere, kinds that come with a listing; and
+//! what it has no test for.
 
 use std::error::Error;
 use std::ffi::OsStr;
 use std::fs::{self, File, Permissions};
-use std::io::ErrorKind;
+use std::io::{self, ErrorKind};
 use std::os::unix::ffi::OsStrExt;
-use std::os::unix::fs::PermissionsExt;
+use std::os::unix::fs::{symlink, PermissionsExt};
 use std::path::PathBuf;
 use std::{env, process};
 
@@ -38,6 +39,27 @@ fn a_name_that_is_not_utf8_is_an_error_of_its_directory() {
 }
 
 #[test]
+fn a_link_that_leads_nowhere_is_there() {
+    let root = folder("nowhere");
+    symlink("nowhere", root.join("link")).unwrap();
+    let walks = ["link", "l*", "link/", "link/*"].map(|rest| glob(&format!("{}/{rest}", root.display())).unwrap());
+    let counts = walks.map(|items| items.map(Result::unwrap).count());
+    fs::remove_dir_all(&root).unwrap();
+    assert_eq!(counts, [1, 1, 0, 0]);
+}
+
+/// A million entries and more are read: each directory's parent is listed again.
+#[test]
+fn a_long_walk_is_not_cut() {
+    let root = folder("long");
+    (0..1100).for_each(|number| fs::create_dir(root.join(format!("d{number}"))).unwrap());
+    File::create(root.join("x")).unwrap();
+    let count = glob(&format!("{}/*/../x*", root.display())).unwrap().map(Result::unwrap).count();
+    fs::remove_dir_all(&root).unwrap();
+    assert_eq!(count, 1100);
+}
+
+#[test]
 fn a_directory_that_may_not_be_searched_has_the_kinds_of_its_listing() {
     let root = folder("unsearched");
     let shut = root.join("shut");
@@ -66,6 +88,7 @@ fn a_directory_that_vanishes_after_it_was_listed_is_an_error() {
     fs::remove_dir_all(root.join("b")).unwrap();
     let error = paths.next().unwrap().unwrap_err();
     assert_eq!((error.path(), error.error().kind()), (&*root.join("b"), ErrorKind::NotFound));
+    assert_eq!(io::Error::from(error).kind(), ErrorKind::NotFound);
     assert!(paths.next().is_none());
     fs::remove_dir_all(&root).unwrap();
 }

@@ -1,7 +1,9 @@
 //! What a program that uses patterns of `glob` asks. `tests/border.sh` runs it over `glob`, too: but for the `use` line
 //! it is the same program.
 
+use std::collections::hash_map::RandomState;
 use std::collections::{BTreeSet, HashSet};
+use std::hash::BuildHasher;
 use std::path::Path;
 use std::str::FromStr;
 
@@ -23,6 +25,7 @@ fn each_option_counts() {
     let options = MatchOptions::new();
     let any = Pattern::new("A*").unwrap();
     assert!(!any.matches("a/b"));
+    assert!(!any.matches_path(Path::new("a/b")));
     assert!(any.matches_with("a/b", MatchOptions { case_sensitive: false, ..options }));
     assert!(any.matches_with("A/b", options));
     assert!(!any.matches_with("A/b", MatchOptions { require_literal_separator: true, ..options }));
@@ -50,6 +53,7 @@ fn faults_have_a_place_and_a_message() {
 fn escaping() {
     assert_eq!(Pattern::escape("_[_]_?_*_!_"), "_[[]_[]]_[?]_[*]_!_");
     assert_eq!(Pattern::escape(""), "");
+    assert_eq!(Pattern::escape("***"), "[*][*][*]");
     assert!(Pattern::new(&Pattern::escape("a[1]?.é")).unwrap().matches("a[1]?.é"));
 }
 
@@ -59,8 +63,13 @@ fn patterns_are_values() {
     assert_eq!(pattern.to_string(), "a*");
     assert_eq!(pattern.as_str(), "a*");
     assert_eq!(pattern, pattern.clone());
+    assert_ne!(pattern, "A*".parse().unwrap());
     assert!(pattern < "b".parse().unwrap());
-    assert!(Pattern::default().matches(""));
+    assert_eq!(format!("{pattern:>4}{pattern:<3}|"), "  a*a* |");
+    assert!(format!("{pattern:?}").contains(r#"original: "a*""#));
+    assert_eq!(Pattern::default(), Pattern::new("").unwrap());
+    let hasher = RandomState::new();
+    assert_ne!(hasher.hash_one(&pattern), hasher.hash_one(Pattern::default()));
     let several = ["b", "a", "b"].map(|text| Pattern::new(text).unwrap());
     assert_eq!(several.iter().collect::<HashSet<_>>().len(), 2);
     assert_eq!(several.iter().map(Pattern::as_str).collect::<BTreeSet<_>>().len(), 2);

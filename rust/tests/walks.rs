@@ -3,6 +3,7 @@
 use std::error::Error;
 use std::fs::{self, File};
 use std::os::unix::fs::symlink;
+use std::os::unix::net::UnixListener;
 use std::path::{Path, PathBuf};
 use std::{env, io, process};
 
@@ -47,7 +48,7 @@ impl Drop for Folder {
 
 #[test]
 fn names_and_wildcards() {
-    let folder = Folder::new("names", &["a", "ab", "b/a", "b/c/a", "c/a", "c/d", "é", "x\ny", "[", "d/"]);
+    let folder = Folder::new("names", &["a", "ab", "b/a", "b/c/a", "c/a", "c/d", "é", "x\ny", "[", "d/", "b/c/..e", "b/c/e~"]);
     folder.finds("a", &["a"]);
     folder.finds("nothing", &[]);
     folder.finds("a/b", &[]);
@@ -62,6 +63,7 @@ fn names_and_wildcards() {
     folder.finds("*/", &["b", "c", "d"]);
     folder.finds("b/c/a/", &[]);
     folder.finds("b/c/", &["b/c"]);
+    folder.finds("b/c/*", &["b/c/..e", "b/c/a", "b/c/e~"]);
 }
 
 #[test]
@@ -103,7 +105,20 @@ fn dots() {
 }
 
 #[test]
+fn kinds_of_files() {
+    let folder = Folder::new("kinds", &["d/x"]);
+    let _socket = UnixListener::bind(folder.0.join("socket")).unwrap();
+    folder.finds("socket", &["socket"]);
+    folder.finds("*", &["d", "socket"]);
+    folder.finds("*/*", &["d/x"]);
+    folder.finds("socket/", &[]);
+}
+
+#[test]
 fn many_files() {
+    let names: Vec<String> = (0..3000).map(|number| format!("{number:04}")).collect();
+    let names: Vec<&str> = names.iter().map(String::as_str).collect();
+    Folder::new("many", &names).finds("*", &names);
     assert!(glob("/*/*/*/*").unwrap().take(10_000).count() > 100);
 }
 
@@ -166,6 +181,7 @@ fn relative_and_absolute() {
         assert_eq!(found, [Path::new(path)], "{pattern}");
     }
     assert_eq!(glob("").unwrap().count(), 0);
+    assert_eq!(glob("tests/WALK?.rs").unwrap().count(), 0);
     assert!(glob("/*").unwrap().flatten().any(|path| path == Path::new("/tmp")));
 }
 
