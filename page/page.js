@@ -115,7 +115,7 @@ function ruleAgainst(token, all, place) {
   const here = all[place], begins = place === 0 || all[place - 1] === "/";
   if (here === "/" && flags() & SEPARATOR && token.kind !== "components") return "but by the separator rule no /";
   if (here === "." && begins && flags() & DOT) return "but by the dot rule no . that begins a component";
-  return token.kind === "components" && !all.slice(place).includes("/") ? "but no / follows here" : "";
+  return token.kind === "components" && !all.slice(place).includes("/") ? "but there is no / after here" : "";
 }
 
 // What a token wants at a place of the text, in words.
@@ -129,7 +129,7 @@ function wantOf(token, all, place) {
     one: "any one character",
     any: "any characters",
     components: "whole components, each with its /",
-    bracket: token.isNone ? `one character, but none of ${inner}` : `one of ${inner}`,
+    bracket: token.isNone ? `one character, but none of ${inner}` : `one character of ${inner}`,
   }[token.kind];
   return [words, ruleAgainst(token, all, place)].filter(Boolean).join(", ");
 }
@@ -152,15 +152,15 @@ function lackingEnd(tokens, waiting, text) {
 
 // The options that, changed alone, make the text match: a flag, what it becomes, and words.
 const LOOSER = [
-  [IGNORE, true, "with upper and lower case as the same", "-i"],
-  [SEPARATOR, false, "without the separator rule", "-s"],
-  [DOT, false, "without the dot rule", "-d"],
+  [IGNORE, true, "with upper and lower case as the same:", "-i"],
+  [SEPARATOR, false, "without the separator rule, by which ?, * and brackets take no /:", "-s"],
+  [DOT, false, "without the dot rule, by which only a . takes a . that begins a component:", "-d"],
 ];
 
 function looserFor(pattern, text) {
   const now = flags();
   const found = LOOSER.filter(([bit, on]) => Boolean(now & bit) !== on && match(pattern, text, now ^ bit).status === YES);
-  return found.map(([, , words, letter]) => make("p", {}, `It matches ${words}, `, make("code", {}, letter), "."));
+  return found.map(([, , words, letter]) => make("p", {}, `It matches ${words} `, make("code", {}, letter)));
 }
 
 // ---- Drawing
@@ -210,9 +210,12 @@ const HINTS = [
   [/\*\*[^/*]|[^/*]\*\*/, "** is a whole component. Write **/*.rs for files at any depth, and *.rs for the rest of one name."],
 ];
 
+const BRACKET = ["invalid range pattern", "A [ begins a bracket, as [abc], and needs its ]. The character [ alone is written [[]."];
+
 function drawPattern() {
   const pattern = $("pattern").value, fault = faultOf(pattern);
-  const hint = HINTS.filter(([form]) => form.test(pattern)).map(([, words]) => make("p", { className: "hint" }, words));
+  const hints = HINTS.filter(([form]) => form.test(pattern)).concat(fault?.message === BRACKET[0] ? [BRACKET] : []);
+  const hint = hints.map(([, words]) => make("p", { className: "hint" }, words));
   const said = fault
     ? [caret(pattern, fault.place, "fault"), make("p", { className: "wrong" }, `Refused at character ${fault.place}: ${fault.message}`)]
     : [chips(tokensOf(pattern), tokensOf(pattern).map((token) => token.written))];
@@ -227,15 +230,15 @@ function drawWhy(pattern, tokens, text, place, waiting) {
     const run = tokens[i].kind === "literal" ? tokens.slice(i).filter((it) => it.group === tokens[i].group) : [tokens[i]];
     return make("li", {}, chip(run.map((it) => it.written).join(""), tokens[i]), wantOf(tokens[i], all, place));
   });
-  if (match(pattern, all.slice(0, place).join(""), flags()).status === YES) wanted.unshift(make("li", {}, "the end of the text"));
+  if (match(pattern, all.slice(0, place).join(""), flags()).status === YES) wanted.push(make("li", {}, "the end of the text"));
+  const looser = looserFor(pattern, text), furthest = looser.length ? "Under the options, read as far as it goes: " : "";
   const where = isEnd ? "The text ends here, but the pattern wants" : `It stops at ${quoted(all[place])}: the pattern wants`;
-  const why = make("div", { className: "why" });
+  const why = make("div", { className: "why" }, ...looser);
   if (end.length) {
     why.append(make("p", {}, "It does not end in:"), chips(end, end.map((token) => token.written)));
   } else {
-    why.append(make("p", {}, `${where}${wanted.length > 1 ? " one of these" : ""}:`), make("ul", {}, ...wanted));
+    why.append(make("p", {}, `${furthest}${where}${wanted.length > 1 ? " one of these" : ""}:`), make("ul", {}, ...wanted));
   }
-  why.append(...looserFor(pattern, text));
   return why;
 }
 
@@ -280,8 +283,10 @@ function stepsOf(lines) {
     else if (word in ANSWERS) steps[steps.length - 1].answers.push(ANSWERS[word]);
     else if (word.startsWith("in-")) steps[steps.length - 1].answers.push(text + (word === "in-dir" ? "/" : ""));
     else if (word === "item") steps.push({ sort: "item", said: `Found: ${text}`, spent });
-    else if (word === "error") steps.push({ sort: "wrong", said: `Stopped or skipped at ${text}`, spent });
-    else steps.push({ sort: "done", said: "Done", spent });
+    else if (word === "error") {
+      const isUnread = (steps[steps.length - 1]?.answers || []).includes(ANSWERS.unread);
+      steps.push({ sort: "wrong", said: isUnread ? `Skipped: ${text} cannot be listed` : `Stopped at ${text}: the limit is used up`, spent });
+    } else steps.push({ sort: "done", said: "Done", spent });
   }
   return steps;
 }
@@ -291,6 +296,7 @@ function drawWalk(accepted) {
   const limit = Math.min(Math.max(Number($("limit").value) || 0, 0), 10000);
   const walked = accepted ? walk($("pattern").value, flags(), limit, pathsOf($("tree").value)) : { wrong: "The pattern is refused." };
   steps = walked.lines ? stepsOf(walked.lines) : [];
+  $("step").min = String(Math.min(steps.length, 1));
   $("step").max = String(steps.length);
   $("step").value = String(Math.min(steps.length, 1));
   $("walk-wrong").textContent = walked.wrong || "";
@@ -321,7 +327,7 @@ function go(by) {
 
 // ---- Examples: a pattern, options, and lines
 const EXAMPLES = [
-  ["Sources, but for private ones", "src/**/[!_]*.rs", 2, "src/walk/lines.rs\nsrc/walk/_x.rs\nsrc/main.c\nlib/a.rs\nsrc/tests/a.RS\nsrc\nsrc/ä.rs"],
+  ["Sources except private ones", "src/**/[!_]*.rs", 2, "src/walk/lines.rs\nsrc/walk/_x.rs\nsrc/main.c\nlib/a.rs\nsrc/tests/a.RS\nsrc\nsrc/ä.rs"],
   ["A ? takes no / under the separator rule", "a?c", 2, "abc\na/c\nac\nabbc"],
   ["A * takes no leading dot under the dot rule", "*.txt", 6, "notes.txt\n.notes.txt\na/notes.txt"],
   ["Braces are no wildcards", "*.{c,h}", 0, "a.c\na.{c,h}"],
@@ -349,7 +355,10 @@ async function begin() {
   base = free = Number(code.__heap_base.value);
   $("examples").append(...EXAMPLES.map(([name], i) => make("option", { value: String(i) }, name)));
   $("examples").addEventListener("change", () => load(EXAMPLES[Number($("examples").value)]));
-  for (const id of ["pattern", "lines", "tree", "limit", "ignore", "separator", "dot"]) $(id).addEventListener("input", draw);
+  for (const id of ["pattern", "lines", "tree", "limit", "ignore", "separator", "dot"]) $(id).addEventListener("input", () => {
+    $("examples").selectedIndex = -1;
+    draw();
+  });
   $("step").addEventListener("input", follow);
   $("back").addEventListener("click", () => go(-1));
   $("next").addEventListener("click", () => go(1));
