@@ -1,10 +1,11 @@
 #!/usr/bin/env python3
 """Makes patterns, texts, trees and limits from a seed, and asks ours and the original crate what they match and find.
-Prints the first disagreement, cut down to a small one, and last how many of matches, walks and limits passed.
+Asks sets of patterns of ours, too, whose answers are to be those of the original crate pattern by pattern. Prints the
+first disagreement, cut down to a small one, and last how many of matches, sets, walks and limits passed.
 
 usage: main.py FOLDER VERSION SECONDS SEED
 
-FOLDER has ours/library and original/answer, which is over this VERSION of the crate. Rounds are made for as many
+FOLDER has ours/library, ours/sets and original/answer, which is over this VERSION of the crate. Rounds are made for as many
 SECONDS, the first of them from SEED, and each further one from the next seed.
 """
 
@@ -27,6 +28,8 @@ from sides import SECONDS_A_CASE, Side, Unanswered
 
 PATTERNS, TEXTS = 1000, 4
 WALKS = 200
+# Of a round, of a set at most, and for a set.
+SETS, SET_PATTERNS, SET_TEXTS = 20, 70, 100
 SHARE_WITH_LIMIT = 0.2
 NOBODY = 65534
 # So far below a folder of our own that no pattern leads out of it by `..`.
@@ -34,6 +37,10 @@ BELOW = "1/2/3/4/5/6"
 UNANSWERED = f"docs/DIFFERENCES.md: the crate backtracks, and ended or took more than {SECONDS_A_CASE} s"
 # Of how many cases one may be such. The patterns have few stars, so hardly any is.
 CASES_FOR_ONE_UNANSWERED = 1000
+
+
+# What a set is asked about a text, as a sum of the numbers of the patterns that match it.
+QUESTIONS = {"any": lambda numbers: 1, "first": min, "last": max, "all": sum}
 
 
 class Disagreement(Exception):
@@ -87,6 +94,7 @@ class Comparer:
     def __init__(self, folder, version):
         self.version = version
         self.programs = [[folder / "ours/library", "answer"], [folder / "original/answer"]]
+        self.set_program = folder / "ours/sets"
         self.user, self.may_shut = unprivileged_user(self.programs[1][0])
         memory = "/dev/shm" if os.access("/dev/shm", os.W_OK) else None
         self.base = Path(tempfile.mkdtemp(dir=memory))
@@ -183,6 +191,42 @@ class Comparer:
                 self.counts["yes"] += ours.rpartition("\t")[2].count("y")
             else:
                 self.counts["faults"] += 1
+
+    # Sets
+
+    def sets(self, source):
+        """Compares some sets."""
+        for _ in range(SETS):
+            size = source.randint(1, SET_PATTERNS)
+            cases = [make.match_case(source, SET_TEXTS // size + 1) for _ in range(size)]
+            # a line has no CR at its end
+            texts = [text for _, made in cases for text in made if "\r" not in text][:SET_TEXTS]
+            lines = ["\t".join(["match", pattern, *texts]) for pattern, _ in cases if "\r" not in pattern]
+            answers = [answer.split("\t") for answer in self.matchers[1].ask(lines) if isinstance(answer, str)]
+            patterns = [line.split("\t")[1] for line in lines]
+            rows = [(pattern, row[2]) for pattern, row in zip(patterns, answers) if row[1] == "ok"]
+            if len(answers) == len(lines) and rows and texts:
+                self.ask_set(rows, texts)
+
+    def ask_set(self, rows, texts):
+        """Asks a set about texts. A row is a pattern and, for each text, a letter for each setting."""
+        files = [self.base / name for name in ("patterns", "texts")]
+        for file, lines in zip(files, ([pattern for pattern, _ in rows], texts)):
+            file.write_text("".join(f"{line}\n" for line in lines), encoding="utf-8", newline="")
+        for at, letters in enumerate(make.SETTINGS):
+            matched = [
+                [number for number, (_, row) in enumerate(rows, 1) if row[len(make.SETTINGS) * text + at] == "y"]
+                for text in range(len(texts))
+            ]
+            for question, sum_of in QUESTIONS.items():
+                words = [self.set_program, "set", letters, files[0], question, files[1], "1"]
+                found = subprocess.run(words, capture_output=True, text=True, check=False).stdout.strip()
+                expected = sum(sum_of(numbers) for numbers in matched if numbers)
+                if found != str(expected):
+                    what = f"the set {[pattern for pattern, _ in rows]} and the texts {texts}: {question} is {found!r}"
+                    raise Disagreement(f"{what}, and by the crate's answers {expected}", f"with the options {letters!r}")
+                self.counts["questions"] += len(texts)
+        self.counts["sets"] += 1
 
     # Walks
 
@@ -297,6 +341,7 @@ def run(comparer, seconds, seed):
         source = random.Random(last)
         try:
             comparer.matches(source)
+            comparer.sets(source)
             comparer.walks(source)
         except Disagreement as found:
             return last, found
@@ -309,6 +354,7 @@ def print_counts(seeds, counts, accounts):
     words = collections.defaultdict(lambda: "0", words)
     print(f"{seeds}: {words['patterns']} patterns, of which {words['faults']} have a fault.")
     print(f"{words['matches']} matches, of which {words['yes']} are a yes.")
+    print(f"{words['questions']} questions to {words['sets']} sets.")
     print(f"{words['walks']} walks of {words['trees']} trees, with {words['items']} items.")
     print(f"{words['limits']} walks with a limit, of ours alone.")
     for reason, count in accounts.items():
@@ -327,7 +373,7 @@ def main():
     if found:
         print(f"failed, seed {last}: {found.args[0]}\n    {found.args[1]}")
     print_counts(f"Seeds {seed} to {last}", comparer.counts, comparer.accounts)
-    passed = sum(comparer.counts[name] > 0 for name in ("matches", "walks", "limits")) if not found else 0
+    passed = sum(comparer.counts[name] > 0 for name in ("matches", "sets", "walks", "limits")) if not found else 0
     print(f"{passed} passed, {1 if found else 0} failed")
     sys.exit(1 if found else 0)
 

@@ -116,7 +116,7 @@ fn kinds_of_files() {
 
 #[test]
 fn many_files() {
-    let names: Vec<String> = (0..3000).map(|number| format!("{number:04}")).collect();
+    let names: Vec<String> = (0..10_000).map(|number| format!("{number:04}")).collect();
     let names: Vec<&str> = names.iter().map(String::as_str).collect();
     Folder::new("many", &names).finds("*", &names);
     assert!(glob("/*/*/*/*").unwrap().take(10_000).count() > 100);

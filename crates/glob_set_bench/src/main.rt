@@ -3,8 +3,8 @@
 //!
 //! `glob_set_bench set OPTIONS PATTERNS QUESTION FILE TIMES` asks a set of the patterns that are the lines of a file about
 //! each line of another, over and over. QUESTION is `any`, which counts the lines that a pattern matches, or `first`,
-//! `last` or `all`, which add up the numbers of those patterns, counted from 1. OPTIONS is a word that has `i` for no case
-//! and `s` for the separator rule. Making the set is not timed.
+//! `last` or `all`, which add up the numbers of those patterns, counted from 1. OPTIONS is a word that has `i` for no case,
+//! `s` for the separator rule and `d` for the dot rule. Making the set is not timed.
 //! `glob_set_bench make OPTIONS PATTERNS TIMES` makes such a set over and over, and counts its patterns.
 #![tactic(auto)]
 
@@ -24,7 +24,7 @@ fn options_of(letters: &str) -> MatchOptions {
     MatchOptions {
         case_sensitive: !letters.contains('i'),
         require_literal_separator: letters.contains('s'),
-        require_literal_leading_dot: false,
+        require_literal_leading_dot: letters.contains('d'),
     }
 }
 
