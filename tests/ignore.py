@@ -23,22 +23,33 @@ PROGRAM = Path(__file__).resolve().parent.parent / "crates/glob_rules_ask/out/gl
 # How many lists one process of git is asked about.
 BATCH = 400
 
-NAMES = ["a", "b", "c", "ab", "abc", "ba", ".a", ".b", "a.o", "b.o", "x.c", "A", "a b", "a ", " a", "a-b", "-", "]", "[", "!a", "#a",
-    "^", "*", "?", "a*", "**", "b\\", "\\a", "a\\b", "a1", "12", "é", "aé", "{a}", "a\tb", "\x7f", "a\r", ":", "a,b", "[a]", "a]"]
+NAMES = ["a", "b", "c", "ab", "abc", "ba", ".a", ".b", "a.o", "b.o", "A", "1", "x.c", "F", "_", "~", "\n", "\x0b", "a b", "a ", " a",
+    "a-b", "-", "]", "[", "!a", "#a", "^", "*", "?", "a*", "**", "b\\", "\\a", "a\\b", "a1", "12", "é", "aé", "{a}", "a\tb", "\x7f", "a\r",
+    ":", "a,b", "[a]", "a]"]
 PIECES = ["a", "b", "c", "ab", ".o", ".", "*", "*", "*", "?", "**", "**/", "/**", "/**/", "/", "/", "/", "[ab]", "[!a]", "[^a]", "[a-c]",
     "[]a]", "[!]a]", "[a-]", "[-a]", "[--a]", "[z-a]", "[a-c-e]", "[\\]a]", "[a\\-z]", "[!-]", "[\\!-]", "[a/b]", "[/]", "[", "]", "[a",
     "\\*", "\\?", "\\[", "\\a", "\\!", "\\#", "\\ ", "\\/", "\\", " ", "-", "!", "#", "***", "****", "1", "é", "[.-9]", "[*]", "[?]", "[!*]"]
-ODD = ["[[:alpha:]]", "[[:a]", "[é]", "[[:digit:]a]", "a**/", "[:a]", "[a[:b]"]
+ODD = ["[[:word:]]", "[[:ALPHA:]]", "[[::]]", "[[:a[:digit:]]", "[é]", "a**/", "[:a]"]
+CLASSES = ["alnum", "alpha", "blank", "cntrl", "digit", "graph", "lower", "print", "punct", "space", "upper", "xdigit"]
+ITEMS = ["a", "A-Z", "0", "-", "-", "[", "[:", ":", ":]", "\\]", "!", " "] + [f"[:{name}:]" for name in CLASSES]
 SOUP = "ab*/[]!-\\?.^ c#{"
 REAL = ["*.o", "*.[oa]", "!keep.o", "/build", "/build/", "a/", "!a/", "b/", "/a/*", "!/a/b", "a/**", "!a/b", "**/a", "**/a/b", "a/**/b",
     ".*", "!.a", "*~", "#*#", "\\#*", "a?", "[Aa]", "*.c", "ab*", "/*", "!/a", "/a/b/", "c", "!c", "", "# text", "*", "!*/", "!*.o", "a b", "a\\ "]
 
 
+def bracket(rng):
+    """A bracket that may have classes, or what looks like one."""
+    items = "".join(rng.choice(ITEMS) for _ in range(rng.randint(1, 4)))
+    return "[" + rng.choice(["", "", "!", "^", "]", "^]"]) + items + "]"
+
+
 def rule(rng):
     kind = rng.random()
-    if kind < 0.35:
+    if kind < 0.3:
         return rng.choice(REAL)
-    if kind < 0.7:
+    if kind < 0.4:
+        text = rng.choice(["", "", "a", "*", "*/"]) + bracket(rng) + rng.choice(["", "", "", "*", "/b", bracket(rng)])
+    elif kind < 0.7:
         text = "".join(rng.choice(PIECES) for _ in range(rng.randint(1, 5)))
     elif kind < 0.73:
         text = rng.choice(ODD) + rng.choice(["", "a", "/b", "*"])
@@ -59,7 +70,7 @@ def tree(rng):
     """The paths of a tree, each with whether it is a directory."""
     found = {}
     for _ in range(rng.randint(4, 14)):
-        names = [rng.choice(NAMES[:10] if rng.random() < 0.7 else NAMES) for _ in range(rng.randint(1, 4))]
+        names = [rng.choice(NAMES[:12] if rng.random() < 0.7 else NAMES) for _ in range(rng.randint(1, 4))]
         paths = ["/".join(names[:n]) for n in range(1, len(names) + 1)]
         if any(found.get(path) is False for path in paths[:-1]) or found.get(paths[-1]):
             continue
@@ -113,8 +124,8 @@ def ours(cases):
     return answers
 
 
-# what docs/IGNORE.md says that is refused: a class, a bracket beyond ASCII, stars beside other text, a NUL
-REFUSED = re.compile(r"\[:|\[.*[^\x00-\x7f]|[^/]\*\*|\0")
+# what docs/IGNORE.md says that is refused: an unknown class, a bracket beyond ASCII, stars beside other text, a NUL
+REFUSED = re.compile(rf"\[:(?!({'|'.join(CLASSES)}):\])[^\]]*:|\[.*[^\x00-\x7f]|[^/]\*\*|\0")
 
 
 def is_named(text, path):

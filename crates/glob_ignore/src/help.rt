@@ -12,8 +12,8 @@ glob_ignore: the paths that an ignore file does not ignore
   glob_ignore --version       write the version
 
 FILE has rules as gitignore(5) has them, one a line, for the paths below its directory. A wildcard
-takes a character where git takes a byte, case counts, and a line with a class, as [[:alpha:]], is
-refused.
+takes a character where git takes a byte, case counts, and a line with an unknown class, as
+[[:word:]], is refused.
 
 Options stand before FILE:
   -0    records end in a NUL in place of a line feed, those read and those written: for names with

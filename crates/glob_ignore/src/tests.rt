@@ -86,10 +86,14 @@ const FAULTS: &[Row] = &[
     ("", "other", b"a\n", (2, "", "other: entity not found")),
     ("", "-- -0", b"a\n", (2, "", "-0: entity not found")),
     (
-        "a\n[[:alpha:]]\n[é]\n",
+        "a\n[[:word:]]\n[é]\n",
         "list",
         b"a\n",
-        (2, "", "list: line 2: a bracket has a class of characters"),
+        (
+            2,
+            "",
+            "list: line 2: a bracket has an unknown class of characters",
+        ),
     ),
     (
         "\n\n\n[é]",
@@ -160,8 +164,8 @@ impl Write for Narrow {
 
 #[test]
 fn a_refused_line_comes_before_a_fault_of_the_input(rt: HostRuntime) -> Result<(), Fail> {
-    let refused = "list: line 1: a bracket has a class of characters";
-    check(&rt, "[[:a", "list", Unreadable, (2, "", refused))?;
+    let refused = "list: line 1: a bracket has an unknown class of characters";
+    check(&rt, "[[:word:]]", "list", Unreadable, (2, "", refused))?;
     check(&rt, "a", "list", Unreadable, (2, "", "reading failed"))
 }
 

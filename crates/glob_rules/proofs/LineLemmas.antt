@@ -1,10 +1,12 @@
 -- Lines that are taken or refused.
-use Rattle.std.proofs.Common.{◌≡◌, ℕ, ◌+◌, ◌-◌, ◌^◌, ◌<◌, min, Bool, true, false, cond, ◌&&◌, ltb, eqb, List, [], ◌∷◌, ◌++◌, length, get_or, take, drop, drop-cons, Result, Ok, Err, IfErr, IsErrAnd, OnOk, ⊎_elim, inl, inr, refl, sym, ap, subst, ◌∙◌, append_assoc, below_more, arith}
-use Rattle.std.specs.List.{filter, fold}
-use Rattle.std.proofs.lemmas.List.{append-nil, get_or_default, length_push}
+use Rattle.std.proofs.Common.{◌≡◌, ℕ, ◌+◌, ◌-◌, ◌^◌, ◌<◌, min, Bool, true, false, cond, ◌&&◌, ltb, eqb, List, [], ◌∷◌, ◌++◌, length, get_or, take, drop, drop-cons, Some, None, Result, Ok, Err, IfErr, IsErrAnd, OnOk, ⊎_elim, inl, inr, refl, sym, ap, subst, ◌∙◌, append_assoc, below_more, arith}
+use Rattle.std.specs.List.{filter, fold, position, position_or_len, before_first}
+use Rattle.std.proofs.lemmas.List.{append-nil, get_or_default, length_push, take_all}
 use Rattle.std.proofs.lemmas.List.Elements.{filter_more}
-use Rattle.std.proofs.lemmas.List.Sums.{fold_more}
-use Rattle.std.proofs.lemmas.Bool.{and_parts, eqb-true, ltb-true}
+use Rattle.std.proofs.lemmas.List.Quantifiers.{position-Some}
+use Rattle.std.proofs.lemmas.List.Sums.{fold_more, position_or_len_is}
+use Rattle.std.proofs.lemmas.Bool.{and_parts, cases_Bool, cond-true, eqb-true, ltb-false, ltb-true}
+use Rattle.std.proofs.lemmas.Option.{none-some}
 use Rattle.std.proofs.lemmas.Str.{IsCharBoundary-past_char}
 use Rattle.std.specs.Str.{chars, IsUtf8, IsCharBoundary}
 use lib.Utf8.{encode}
@@ -149,3 +151,16 @@ fold-lengths (l ∷ ls) list same = fold-lengths ls (add_line list l) (add_line-
 pub rules_of-lengths : (text : Text) → length (rules_of text).rules ≡ length (rules_of text).patterns
 unfolding rules_of
 rules_of-lengths text = fold-lengths (lines_of text) no_rules refl
+
+-- what is before the first place, or all where there is none
+pub before_first-Some : (p : ℕ → Bool) (xs : List ℕ) (i : ℕ) → position p xs ≡ Some i → take i xs ≡ before_first p xs
+before_first-Some p xs i found =
+    let (within, is, before) = position-Some p xs i 0 found in
+    sym (ap (λ n. take n xs) (position_or_len_is p xs i 0 (omega (arith, within)) before (λ _. is)))
+
+pub before_first-None : (p : ℕ → Bool) (xs : List ℕ) → position p xs ≡ None → xs ≡ before_first p xs
+before_first-None p xs none =
+    elim (cases_Bool (ltb (position_or_len p xs) (length xs))) [
+      | inl some ↦ absurd (none-some _ (sym none ∙ cond-true _ (Some (position_or_len p xs)) None some))
+      | inr past ↦ sym (take_all (position_or_len p xs) xs (ltb-false (position_or_len p xs) (length xs) past))
+    ]

@@ -1,3 +1,4 @@
+pub mod Classes
 pub mod Deciding
 pub mod Lines
 pub mod Lists

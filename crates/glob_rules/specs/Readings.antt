@@ -1,9 +1,9 @@
 -- A rule that is read from its start to its end.
 use Rattle.std.specs.Prelude.{ℕ, Bool, if◌then◌else◌, List, [], ◌∷◌, ◌++◌}
-use Rattle.std.specs.List.{fold}
 use Rattle.glob_text.specs.Characters.{slash}
 use Rattle.glob_text.specs.Text.{Text}
 use Rattle.glob_pattern.specs.Grammar.Characters.{star}
+use Rattle.glob_rules.specs.Classes.{before_close}
 use Rattle.glob_rules.specs.Steps.{step_from}
 use Rattle.glob_rules.specs.Writings.{written}
 use Rattle.glob_rules.specs.declared.error.Reason.TheVariants.{StarsBehindText}
@@ -12,7 +12,7 @@ use Rattle.glob_rules.specs.declared.reading.Outcome.TheVariants as outcomes
 use Rattle.glob_rules.specs.declared.steps.Span.{Span}
 use Rattle.glob_rules.specs.declared.steps.Step.{Step}
 use Rattle.glob_rules.specs.declared.steps.Mode.{Mode}
-use Rattle.glob_rules.specs.declared.steps.Mode.TheVariants.{Units, Escape, Star, Stars, EscapedStars, Open, Negation, Range, Item, OpenItem, Hyphen, ItemEscape, HyphenEscape, Refused}
+use Rattle.glob_rules.specs.declared.steps.Mode.TheVariants.{Units, Escape, Star, Stars, EscapedStars, Open, Negation, Range, Item, InClass, Hyphen, ItemEscape, HyphenEscape, Refused}
 use Rattle.glob_rules.specs.declared.steps.Change.{Change}
 use Rattle.glob_rules.specs.declared.steps.Change.TheVariants.{Keep, Clear, Add}
 
@@ -34,7 +34,7 @@ reading_start path = record {
 abbrev pub changed : List Span → Change → List Span
 changed spans Keep = spans
 changed spans Clear = []
-changed spans (Add first last) = spans ++ record { first = first; last = last } ∷ []
+changed spans (Add span) = spans ++ span ∷ []
 
 -- after a step
 abbrev pub stepped : Read → Step → Read
@@ -43,12 +43,17 @@ stepped r step =
     record { mode = step.mode; spans = spans; glob = r.glob ++ written spans step.writing }
 
 -- one more byte is read
-unfoldable pub next_reading : Read → ℕ → Read
-next_reading r c = stepped r (step_from r.mode c)
+unfoldable pub next_reading : Read → ℕ → (ahead : Text) → Read
+next_reading r c ahead = stepped r (step_from r.mode c ahead)
+
+-- the rest is read
+abbrev pub reading_from : Read → (rest : Text) → Read
+reading_from r [] = r
+reading_from r (c ∷ cs) = reading_from (next_reading r c (before_close cs)) cs
 
 -- all of a rule is read
 unfoldable pub reading_of : (path : Bool) → Text → Read
-reading_of path text = fold next_reading (reading_start path) text
+reading_of path text = reading_from (reading_start path) text
 
 -- What a rule is that ends so: one whose last backslash escapes nothing, or whose bracket is not closed, names nothing.
 abbrev pub outcome : Mode → Outcome
@@ -61,7 +66,7 @@ outcome Open = outcomes.Nothing
 outcome Negation = outcomes.Nothing
 outcome Range = outcomes.Nothing
 outcome (Item item) = outcomes.Nothing
-outcome OpenItem = outcomes.Nothing
+outcome InClass = outcomes.Nothing
 outcome (Hyphen item) = outcomes.Nothing
 outcome ItemEscape = outcomes.Nothing
 outcome (HyphenEscape item) = outcomes.Nothing
@@ -78,7 +83,7 @@ ending Open = []
 ending Negation = []
 ending Range = []
 ending (Item item) = []
-ending OpenItem = []
+ending InClass = []
 ending (Hyphen item) = []
 ending ItemEscape = []
 ending (HyphenEscape item) = []

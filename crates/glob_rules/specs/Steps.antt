@@ -1,12 +1,17 @@
 -- What a byte of a rule does, after those before it: git's syntax on the left, the grammar of patterns on the right.
-use Rattle.std.specs.Prelude.{ℕ, Bool, true, false, ◌||◌, ◌&&◌, not, nat_le, ◌==◌, if◌then◌else◌}
+-- `ahead` is what comes before the next `]`.
+use Rattle.std.specs.Prelude.{ℕ, Bool, true, false, ◌||◌, ◌&&◌, not, nat_le, ◌==◌, if◌then◌else◌, Option, Some, None}
 use Rattle.glob_text.specs.Characters.{slash}
+use Rattle.glob_text.specs.Text.{Text}
 use Rattle.glob_pattern.specs.Grammar.Characters.{star, question_mark, open_bracket, close_bracket, exclamation_mark, hyphen, is_wildcard}
+use Rattle.glob_rules.specs.Classes.{class_named, is_between_colons, without_colons}
+use Rattle.glob_rules.specs.declared.classes.Class.{Class}
 use Rattle.glob_rules.specs.declared.error.Reason.{Reason}
-use Rattle.glob_rules.specs.declared.error.Reason.TheVariants.{BeyondAscii, Class, StarsBehindText, Nul}
+use Rattle.glob_rules.specs.declared.error.Reason.TheVariants.{BeyondAscii, UnknownClass, StarsBehindText, Nul}
 use Rattle.glob_rules.specs.declared.steps.Mode.{Mode}
-use Rattle.glob_rules.specs.declared.steps.Mode.TheVariants.{Units, Escape, Star, Stars, EscapedStars, Open, Negation, Range, Item, OpenItem, Hyphen, ItemEscape, HyphenEscape, Refused}
+use Rattle.glob_rules.specs.declared.steps.Mode.TheVariants.{Units, Escape, Star, Stars, EscapedStars, Open, Negation, Range, Item, InClass, Hyphen, ItemEscape, HyphenEscape, Refused}
 use Rattle.glob_rules.specs.declared.steps.Change.TheVariants.{Keep, Clear, Add}
+use Rattle.glob_rules.specs.declared.steps.Span.TheVariants.{Between, OfClass}
 use Rattle.glob_rules.specs.declared.steps.Writing.{Writing}
 use Rattle.glob_rules.specs.declared.steps.Writing.TheVariants.{Nothing, Byte, Bracketed, StarSlash, SlashStars, Held}
 use Rattle.glob_rules.specs.declared.steps.Step.{Step}
@@ -19,10 +24,6 @@ backslash = 92
 abbrev pub caret : ℕ
 caret = 94
 
--- `:`
-abbrev pub colon : ℕ
-colon = 58
-
 -- a step that adds nothing to a bracket
 abbrev pub writes : Mode → Writing → Step
 writes mode writing = record { mode = mode; change = Keep; writing = writing }
@@ -33,7 +34,7 @@ moves mode = writes mode Nothing
 
 -- a step that adds to a bracket the characters from one to another
 abbrev pub adds : Mode → (first last : ℕ) → Step
-adds mode first last = record { mode = mode; change = Add first last; writing = Nothing }
+adds mode first last = record { mode = mode; change = Add (Between first last); writing = Nothing }
 
 -- a step that refuses the line
 abbrev pub refuses : Reason → Step
@@ -77,36 +78,47 @@ after_stars plain opening c =
 abbrev pub after_escaped_stars : ℕ → Step
 after_escaped_stars c = if c == slash then writes (Units false true) SlashStars else after_escape c
 
+-- as the `[` of a class, if git knows the class
+abbrev pub as_class : Option Class → Step
+as_class None = refuses UnknownClass
+as_class (Some class) = record { mode = InClass; change = Add (OfClass class); writing = Nothing }
+
+-- `[` in a bracket: it begins a class, or is an item
+abbrev pub as_open : (ahead : Text) → Step
+as_open ahead =
+    if is_between_colons ahead then as_class (class_named (without_colons ahead))
+    else adds (Item open_bracket) open_bracket open_bracket
+
 -- a byte as an item of a bracket, or as its end
-abbrev pub as_item : ℕ → Step
-as_item c =
+abbrev pub as_item : ℕ → (ahead : Text) → Step
+as_item c ahead =
     if c == close_bracket then writes (Units false false) Held
     else if c == backslash then moves ItemEscape
-    else if c == open_bracket then adds OpenItem c c
+    else if c == open_bracket then as_open ahead
     else adds (Item c) c c
 
 -- as its first item, which `]` may be
-abbrev pub as_first_item : ℕ → Step
-as_first_item c = if c == close_bracket then adds (Item c) c c else as_item c
+abbrev pub as_first_item : ℕ → (ahead : Text) → Step
+as_first_item c ahead = if c == close_bracket then adds (Item c) c c else as_item c ahead
 
 -- after `[`
-abbrev pub after_open : ℕ → Step
-after_open c =
-    if c == exclamation_mark || c == caret then writes Negation (Byte exclamation_mark) else as_first_item c
+abbrev pub after_open : ℕ → (ahead : Text) → Step
+after_open c ahead =
+    if c == exclamation_mark || c == caret then writes Negation (Byte exclamation_mark) else as_first_item c ahead
 
 -- after an item that may begin a range
-abbrev pub after_item : (item : ℕ) → ℕ → Step
-after_item item c = if c == hyphen then moves (Hyphen item) else as_item c
+abbrev pub after_item : (item : ℕ) → ℕ → (ahead : Text) → Step
+after_item item c ahead = if c == hyphen then moves (Hyphen item) else as_item c ahead
 
--- after the item `[`
-abbrev pub after_open_item : ℕ → Step
-after_open_item c = if c == colon then refuses Class else after_item open_bracket c
+-- in a class, which ends with `]` and begins no range
+abbrev pub in_class : ℕ → Step
+in_class c = moves (if c == close_bracket then Range else InClass)
 
 -- After an item and `-`: the end of a range, and `-` is an item before `]`.
 abbrev pub after_hyphen : (item : ℕ) → ℕ → Step
 after_hyphen item c =
     if c == backslash then moves (HyphenEscape item)
-    else if c == close_bracket then record { mode = Units false false; change = Add hyphen hyphen; writing = Held }
+    else if c == close_bracket then record (adds (Units false false) hyphen hyphen) { writing = Held }
     else adds Range item c
 
 -- the byte after these is in a bracket
@@ -120,32 +132,32 @@ is_in_bracket Open = true
 is_in_bracket Negation = true
 is_in_bracket Range = true
 is_in_bracket (Item item) = true
-is_in_bracket OpenItem = true
+is_in_bracket InClass = true
 is_in_bracket (Hyphen item) = true
 is_in_bracket ItemEscape = true
 is_in_bracket (HyphenEscape item) = true
 is_in_bracket (Refused reason) = false
 
 -- a byte that is neither NUL nor beyond ASCII in a bracket
-abbrev pub accepted_step : Mode → ℕ → Step
-accepted_step (Units plain opening) c = after_units plain opening c
-accepted_step Escape c = after_escape c
-accepted_step (Star plain opening) c = after_star plain opening c
-accepted_step (Stars plain opening) c = after_stars plain opening c
-accepted_step EscapedStars c = after_escaped_stars c
-accepted_step Open c = after_open c
-accepted_step Negation c = as_first_item c
-accepted_step Range c = as_item c
-accepted_step (Item item) c = after_item item c
-accepted_step OpenItem c = after_open_item c
-accepted_step (Hyphen item) c = after_hyphen item c
-accepted_step ItemEscape c = adds (Item c) c c
-accepted_step (HyphenEscape item) c = adds Range item c
-accepted_step (Refused reason) c = refuses reason
+abbrev pub accepted_step : Mode → ℕ → (ahead : Text) → Step
+accepted_step (Units plain opening) c ahead = after_units plain opening c
+accepted_step Escape c ahead = after_escape c
+accepted_step (Star plain opening) c ahead = after_star plain opening c
+accepted_step (Stars plain opening) c ahead = after_stars plain opening c
+accepted_step EscapedStars c ahead = after_escaped_stars c
+accepted_step Open c ahead = after_open c ahead
+accepted_step Negation c ahead = as_first_item c ahead
+accepted_step Range c ahead = as_item c ahead
+accepted_step (Item item) c ahead = after_item item c ahead
+accepted_step InClass c ahead = in_class c
+accepted_step (Hyphen item) c ahead = after_hyphen item c
+accepted_step ItemEscape c ahead = adds (Item c) c c
+accepted_step (HyphenEscape item) c ahead = adds Range item c
+accepted_step (Refused reason) c ahead = refuses reason
 
 -- any byte
-unfoldable pub step_from : Mode → ℕ → Step
-step_from mode c =
+unfoldable pub step_from : Mode → ℕ → (ahead : Text) → Step
+step_from mode c ahead =
     if c == 0 then refuses Nul
     else if nat_le 128 c && is_in_bracket mode then refuses BeyondAscii
-    else accepted_step mode c
+    else accepted_step mode c ahead

@@ -1,14 +1,14 @@
 -- The printed texts of refusals.
 use Rattle.std.specs.Prelude.{ℕ, List, ◌++◌, codes, decimal}
 use Rattle.glob_rules.specs.declared.error.Reason.{Reason}
-use Rattle.glob_rules.specs.declared.error.Reason.TheVariants.{BeyondAscii, Class, StarsBehindText, Nul, Pattern}
+use Rattle.glob_rules.specs.declared.error.Reason.TheVariants.{BeyondAscii, UnknownClass, StarsBehindText, Nul, Pattern}
 use Rattle.glob_rules.specs.declared.error.RuleRefusal.{RuleRefusal}
 use Rattle.glob_rules.specs.declared.error.RuleRefusal.TheVariants.{Line, Memory}
 
 -- of a reason
 abbrev pub reason_words : Reason → List ℕ
 reason_words BeyondAscii = codes "a bracket names a character beyond ASCII"
-reason_words Class = codes "a bracket has a class of characters"
+reason_words UnknownClass = codes "a bracket has an unknown class of characters"
 reason_words StarsBehindText = codes "two stars are right behind plain text"
 reason_words Nul = codes "the line has a NUL"
 reason_words Pattern = codes "the translation is no pattern"

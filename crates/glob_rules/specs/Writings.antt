@@ -4,14 +4,17 @@ use Rattle.std.specs.List.{filter, list_any}
 use Rattle.glob_text.specs.Characters.{slash}
 use Rattle.glob_text.specs.Text.{Text}
 use Rattle.glob_pattern.specs.Grammar.Characters.{star, open_bracket, close_bracket}
+use Rattle.glob_rules.specs.Classes.{class_has}
 use Rattle.glob_rules.specs.declared.steps.Span.{Span}
+use Rattle.glob_rules.specs.declared.steps.Span.TheVariants.{Between, OfClass}
 use Rattle.glob_rules.specs.declared.steps.Writing.{Writing}
 use Rattle.glob_rules.specs.declared.steps.Writing.TheVariants.{Nothing, Byte, Bracketed, StarSlash, SlashStars, Held}
 use Rattle.glob_rules.specs.declared.listing.TheConstants.{ORDER}
 
--- the character is between the ends
+-- the character is between the ends, or of the class
 abbrev pub is_within : ℕ → Span → Bool
-is_within c span = nat_le span.first c && nat_le c span.last
+is_within c (Between first last) = nat_le first c && nat_le c last
+is_within c (OfClass class) = class_has class c
 
 -- A bracket with these characters holds one. All hold `/`, which no bracket matches under the separator rule.
 abbrev pub holds : List Span → ℕ → Bool

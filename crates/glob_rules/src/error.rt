@@ -10,8 +10,8 @@ use std::fmt;
 pub enum Reason {
     /// A bracket names a character beyond ASCII, as `[é]`: git takes its bytes, each alone.
     BeyondAscii,
-    /// A bracket has a class of characters, as `[[:alpha:]]`, or begins as if it had one.
-    Class,
+    /// A bracket has a class of characters that git does not know, as `[[:word:]]`: to git such a rule names nothing.
+    UnknownClass,
     /// In a rule with a separator, two stars or more are right behind plain text and end the component, as in `a**/b`:
     /// git's answer contradicts its manual.
     StarsBehindText,
@@ -27,7 +27,7 @@ impl fmt::Display for Reason {
     fn fmt<W: fmt::Write>(&self, f: &mut fmt::Formatter<W>) -> fmt::Result {
         f.write_str(match self {
             Reason::BeyondAscii => "a bracket names a character beyond ASCII",
-            Reason::Class => "a bracket has a class of characters",
+            Reason::UnknownClass => "a bracket has an unknown class of characters",
             Reason::StarsBehindText => "two stars are right behind plain text",
             Reason::Nul => "the line has a NUL",
             Reason::Pattern => "the translation is no pattern",

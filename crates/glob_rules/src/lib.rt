@@ -4,6 +4,7 @@
 //! `keep.o`.
 #![tactic(auto)]
 
+mod classes;
 mod error;
 mod lines;
 mod list;

@@ -27,11 +27,21 @@ fn holds(spans: &[Span], c: u8) -> bool
     c == b'/' || is_in_any(spans, c)
 }
 
+/// Whether a character is between the ends, or of the class.
+fn is_within(c: u8, span: Span) -> bool
+    ensures { result ≡ is_within c span }
+{
+    match span {
+        Span::Between(first, last) => first <= c && c <= last,
+        Span::OfClass(class) => class.has(c),
+    }
+}
+
 /// Whether a character is in one of the spans.
 fn is_in_any(spans: &[Span], c: u8) -> bool
     ensures { result ≡ list_any (is_within c) spans.now }
 {
-    spans.iter().any(|span| span.first <= c && c <= span.last)
+    spans.iter().any(|span| is_within(c, *span))
 }
 
 /// Writes the characters of a bracket.

@@ -2,6 +2,7 @@
 ghost use Rattle.std.specs.Prelude.{◌≡◌, ◌++◌, OnOk, IfOk};
 ghost use Rattle.glob_rules.specs.Readings.{reading_start, next_reading, reading_of, changed, outcome, ending};
 
+use crate::classes::before_close;
 use crate::error::Reason;
 use crate::listing::write;
 use crate::steps::{Change, Mode, Span, Step, Writing, step_from};
@@ -42,8 +43,16 @@ impl<A: Allocator + Copy> Reading<A> {
         ensures { IfOk result (λ r. r ≡ reading_of path text.now) }
     {
         let mut reading = Self::start(alloc, path)?;
-        for c in text {
-            reading.advance(*c)?;
+        let mut rest = text;
+        // it is looked for once a `]`, and not once a byte
+        let mut ahead = before_close(text);
+        while let [c, after @ ..] = rest {
+            ahead = match ahead {
+                [_, others @ ..] => others,
+                [] => before_close(after),
+            };
+            reading.advance(*c, ahead)?;
+            rest = after;
         }
         Ok(reading)
     }
@@ -62,12 +71,12 @@ impl<A: Allocator + Copy> Reading<A> {
 }
 
 impl<A: Allocator> Reading<A> {
-    /// Reads one byte.
+    /// Reads one byte, where `ahead` is what is before the next `]`.
     #[tactic(auto, unfolding(crate::specs::Readings::next_reading))]
-    fn advance(&mut self, c: u8) -> Result<(), AllocError>
-        ensures { OnOk result (self.new ≡ next_reading self.old c) }
+    fn advance(&mut self, c: u8, ahead: &[u8]) -> Result<(), AllocError>
+        ensures { OnOk result (self.new ≡ next_reading self.old c ahead.now) }
     {
-        let step = step_from(self.mode, c);
+        let step = step_from(self.mode, c, ahead);
         change(&mut self.spans, step.change)?;
         write(&mut self.glob, self.spans.as_slice(), step.writing)?;
         self.mode = step.mode;
@@ -105,7 +114,7 @@ fn change<A: Allocator>(spans: &mut Vec<Span, A>, change: Change) -> Result<(), 
     match change {
         Change::Keep => {}
         Change::Clear => spans.clear(),
-        Change::Add(first, last) => spans.push(Span { first, last })?,
+        Change::Add(span) => spans.push(span)?,
     }
     Ok(())
 }

@@ -1,7 +1,8 @@
 //! What one byte of a rule means, after those before it.
 ghost use Rattle.std.specs.Prelude.{◌≡◌};
-ghost use Rattle.glob_rules.specs.Steps.{moves, writes, adds, refuses, after_units, after_escape, after_star, after_stars, after_escaped_stars, after_open, as_first_item, as_item, after_item, after_open_item, after_hyphen, is_in_bracket, accepted_step, step_from, literal};
+ghost use Rattle.glob_rules.specs.Steps.{moves, writes, adds, refuses, after_units, after_escape, after_star, after_stars, after_escaped_stars, as_class, as_open, after_open, as_first_item, as_item, after_item, in_class, after_hyphen, is_in_bracket, accepted_step, step_from, literal};
 
+use crate::classes::Class;
 use crate::error::Reason;
 
 /// What the bytes so far end with. In a rule with a separator `plain` says that all of them are plain text, and
@@ -26,8 +27,8 @@ pub enum Mode {
     Range,
     /// An item of a bracket that may begin a range.
     Item(u8),
-    /// The item `[`.
-    OpenItem,
+    /// `[` and the beginning of a class.
+    InClass,
     /// An item and a hyphen.
     Hyphen(u8),
     /// A backslash in a bracket.
@@ -38,13 +39,13 @@ pub enum Mode {
     Refused(Reason),
 }
 
-/// Characters of a bracket, from the first to the last.
+/// Characters of a bracket.
 #[derive(Clone, Copy, Debug, PartialEq, Eq)]
-pub struct Span {
-    /// The first one.
-    pub first: u8,
-    /// The last one. If it is before the first, there are none.
-    pub last: u8,
+pub enum Span {
+    /// From the first to the last. If the last is before the first, there are none.
+    Between(u8, u8),
+    /// Those of a class.
+    OfClass(Class),
 }
 
 /// What a byte does to the characters of the bracket that is read.
@@ -55,7 +56,7 @@ pub enum Change {
     /// There are none: a bracket begins.
     Clear,
     /// These are added.
-    Add(u8, u8),
+    Add(Span),
 }
 
 /// What is written at the end of the pattern.
@@ -110,7 +111,7 @@ fn adds(mode: Mode, first: u8, last: u8) -> Step
 {
     Step {
         mode,
-        change: Change::Add(first, last),
+        change: Change::Add(Span::Between(first, last)),
         writing: Writing::Nothing,
     }
 }
@@ -203,50 +204,85 @@ fn after_escaped_stars(c: u8) -> Step
 }
 
 /// A byte after the `[` of a bracket.
-fn after_open(c: u8) -> Step
-    ensures { result ≡ after_open c }
+fn after_open(c: u8, ahead: &[u8]) -> Step
+    ensures { result ≡ after_open c ahead.now }
 {
     if c == b'!' || c == b'^' {
         writes(Mode::Negation, Writing::Byte(b'!'))
     } else {
-        as_first_item(c)
+        as_first_item(c, ahead)
     }
 }
 
 /// A byte as the first item of a bracket, which `]` may be.
-fn as_first_item(c: u8) -> Step
-    ensures { result ≡ as_first_item c }
+fn as_first_item(c: u8, ahead: &[u8]) -> Step
+    ensures { result ≡ as_first_item c ahead.now }
 {
     if c == b']' {
         adds(Mode::Item(c), c, c)
     } else {
-        as_item(c)
+        as_item(c, ahead)
+    }
+}
+
+/// `[` in a bracket: it begins a class, or is an item.
+fn as_open(ahead: &[u8]) -> Step
+    ensures { result ≡ as_open ahead.now }
+{
+    match ahead {
+        [b':', name @ .., b':'] => as_class(Class::named(name)),
+        _ => adds(Mode::Item(b'['), b'[', b'['),
+    }
+}
+
+/// The `[` of a class, if git knows the class.
+fn as_class(class: Option<Class>) -> Step
+    ensures { result ≡ as_class class }
+{
+    match class {
+        None => refuses(Reason::UnknownClass),
+        Some(class) => Step {
+            mode: Mode::InClass,
+            change: Change::Add(Span::OfClass(class)),
+            writing: Writing::Nothing,
+        },
+    }
+}
+
+/// A byte in a class, which ends with `]` and begins no range.
+fn in_class(c: u8) -> Step
+    ensures { result ≡ in_class c }
+{
+    if c == b']' {
+        moves(Mode::Range)
+    } else {
+        moves(Mode::InClass)
     }
 }
 
 /// A byte as an item of a bracket, or as its end.
-fn as_item(c: u8) -> Step
-    ensures { result ≡ as_item c }
+fn as_item(c: u8, ahead: &[u8]) -> Step
+    ensures { result ≡ as_item c ahead.now }
 {
     if c == b']' {
         writes(Mode::Units(false, false), Writing::Held)
     } else if c == b'\\' {
         moves(Mode::ItemEscape)
     } else if c == b'[' {
-        adds(Mode::OpenItem, c, c)
+        as_open(ahead)
     } else {
         adds(Mode::Item(c), c, c)
     }
 }
 
 /// A byte after an item that may begin a range.
-fn after_item(item: u8, c: u8) -> Step
-    ensures { result ≡ after_item item c }
+fn after_item(item: u8, c: u8, ahead: &[u8]) -> Step
+    ensures { result ≡ after_item item c ahead.now }
 {
     if c == b'-' {
         moves(Mode::Hyphen(item))
     } else {
-        as_item(c)
+        as_item(c, ahead)
     }
 }
 
@@ -259,22 +295,11 @@ fn after_hyphen(item: u8, c: u8) -> Step
     } else if c == b']' {
         Step {
             mode: Mode::Units(false, false),
-            change: Change::Add(b'-', b'-'),
+            change: Change::Add(Span::Between(b'-', b'-')),
             writing: Writing::Held,
         }
     } else {
         adds(Mode::Range, item, c)
-    }
-}
-
-/// A byte after the item `[`.
-fn after_open_item(c: u8) -> Step
-    ensures { result ≡ after_open_item c }
-{
-    if c == b':' {
-        refuses(Reason::Class)
-    } else {
-        after_item(b'[', c)
     }
 }
 
@@ -287,7 +312,7 @@ fn is_in_bracket(mode: Mode) -> bool
         | Mode::Negation
         | Mode::Range
         | Mode::Item(_)
-        | Mode::OpenItem
+        | Mode::InClass
         | Mode::Hyphen(_)
         | Mode::ItemEscape
         | Mode::HyphenEscape(_) => true,
@@ -301,8 +326,8 @@ fn is_in_bracket(mode: Mode) -> bool
 }
 
 /// A byte after those before it, where neither NUL nor a bracket refuses it.
-fn accepted_step(mode: Mode, c: u8) -> Step
-    ensures { result ≡ accepted_step mode c }
+fn accepted_step(mode: Mode, c: u8, ahead: &[u8]) -> Step
+    ensures { result ≡ accepted_step mode c ahead.now }
 {
     match mode {
         Mode::Units(plain, opening) => after_units(plain, opening, c),
@@ -310,11 +335,11 @@ fn accepted_step(mode: Mode, c: u8) -> Step
         Mode::Star(plain, opening) => after_star(plain, opening, c),
         Mode::Stars(plain, opening) => after_stars(plain, opening, c),
         Mode::EscapedStars => after_escaped_stars(c),
-        Mode::Open => after_open(c),
-        Mode::Negation => as_first_item(c),
-        Mode::Range => as_item(c),
-        Mode::Item(item) => after_item(item, c),
-        Mode::OpenItem => after_open_item(c),
+        Mode::Open => after_open(c, ahead),
+        Mode::Negation => as_first_item(c, ahead),
+        Mode::Range => as_item(c, ahead),
+        Mode::Item(item) => after_item(item, c, ahead),
+        Mode::InClass => in_class(c),
         Mode::Hyphen(item) => after_hyphen(item, c),
         Mode::ItemEscape => adds(Mode::Item(c), c, c),
         Mode::HyphenEscape(item) => adds(Mode::Range, item, c),
@@ -322,16 +347,16 @@ fn accepted_step(mode: Mode, c: u8) -> Step
     }
 }
 
-/// What a byte does after those before it.
+/// What a byte does after those before it, where `ahead` is what is before the next `]`.
 #[tactic(auto, unfolding(crate::specs::Steps::step_from))]
-pub fn step_from(mode: Mode, c: u8) -> Step
-    ensures { result ≡ step_from mode c }
+pub fn step_from(mode: Mode, c: u8, ahead: &[u8]) -> Step
+    ensures { result ≡ step_from mode c ahead.now }
 {
     if c == 0 {
         refuses(Reason::Nul)
     } else if c >= 128 && is_in_bracket(mode) {
         refuses(Reason::BeyondAscii)
     } else {
-        accepted_step(mode, c)
+        accepted_step(mode, c, ahead)
     }
 }

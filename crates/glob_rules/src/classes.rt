@@ -1,0 +1,86 @@
+//! The classes of characters that a bracket may name.
+ghost use Rattle.std.specs.Prelude.{◌≡◌};
+ghost use Rattle.glob_rules.specs.Classes.{class_has, class_named, before_close};
+
+/// A class of characters, as git has it: all of them are ASCII.
+#[derive(Clone, Copy, Debug, PartialEq, Eq)]
+pub enum Class {
+    /// Letters and digits.
+    Alnum,
+    /// Letters.
+    Alpha,
+    /// The blank and the tab.
+    Blank,
+    /// What does not print.
+    Cntrl,
+    /// Digits.
+    Digit,
+    /// What prints, but for the blank.
+    Graph,
+    /// Lower case letters.
+    Lower,
+    /// What prints.
+    Print,
+    /// What prints, but for the blank, letters and digits.
+    Punct,
+    /// The blank, the tab, LF and CR. To C, VT and FF are of this class, too.
+    Space,
+    /// Upper case letters.
+    Upper,
+    /// Hexadecimal digits, in either case.
+    Xdigit,
+}
+
+impl Class {
+    /// The class of a name.
+    #[tactic(auto, unfolding(crate::specs::Classes::class_named))]
+    pub fn named(name: &[u8]) -> Option<Class>
+        ensures { result ≡ class_named name.now }
+    {
+        match name {
+            b"alnum" => Some(Class::Alnum),
+            b"alpha" => Some(Class::Alpha),
+            b"blank" => Some(Class::Blank),
+            b"cntrl" => Some(Class::Cntrl),
+            b"digit" => Some(Class::Digit),
+            b"graph" => Some(Class::Graph),
+            b"lower" => Some(Class::Lower),
+            b"print" => Some(Class::Print),
+            b"punct" => Some(Class::Punct),
+            b"space" => Some(Class::Space),
+            b"upper" => Some(Class::Upper),
+            b"xdigit" => Some(Class::Xdigit),
+            _ => None,
+        }
+    }
+
+    /// Whether it has a character.
+    pub fn has(self, c: u8) -> bool
+        ensures { result ≡ class_has self c }
+    {
+        match self {
+            Class::Alnum => c.is_ascii_alphanumeric(),
+            Class::Alpha => c.is_ascii_alphabetic(),
+            Class::Blank => c == b'\t' || c == b' ',
+            Class::Cntrl => c.is_ascii_control(),
+            Class::Digit => c.is_ascii_digit(),
+            Class::Graph => c.is_ascii_graphic(),
+            Class::Lower => c.is_ascii_lowercase(),
+            Class::Print => c == b' ' || c.is_ascii_graphic(),
+            Class::Punct => c.is_ascii_punctuation(),
+            Class::Space => c == b'\t' || c == b'\n' || c == b'\r' || c == b' ',
+            Class::Upper => c.is_ascii_uppercase(),
+            Class::Xdigit => c.is_ascii_hexdigit(),
+        }
+    }
+}
+
+/// What is before the next `]`.
+pub fn before_close(text: &[u8]) -> &[u8]
+    ensures { result.now ≡ before_close text.now }
+{
+    match text.iter().position(|c| *c == b']') {
+        Some(end) => &text[..end],
+        None => text,
+    }
+}
