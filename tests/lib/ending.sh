@@ -1,4 +1,5 @@
-# What ends all that a script started, once a signal ends the script. Sourced by bin/test and by tests of commands.
+# What ends all that a script started, once a signal ends the script. Sourced by bin/test and by tests of commands, which
+# set $work.
 
 # the process groups of what is at work, each named by its first process
 declare -A at_work=()
@@ -25,7 +26,8 @@ as_job() {
     await "$!"
 }
 
-# ended SIGNAL: ends each group that is at work, and then this script by the same signal
+# ended SIGNAL: ends each group that is at work, removes $work, and ends this script by the same signal, at which no
+# trap is run
 ended() {
     local process
     trap - "$1"
@@ -33,6 +35,7 @@ ended() {
         kill -- "-$process" 2>/dev/null
     done
     wait
+    rm -rf "$work"
     kill -s "$1" $$
 }
 
