@@ -19,11 +19,12 @@ CRATES = ["glob_pattern", "glob_lines", "glob_tree", "glob_walk"]
 OTHERS = {
     "glob_set": {"PatternSet"},
     "glob_prune": {"Pruned", "PhysicalDisk", "Exclusion"},
+    "glob_console": {"find_in", "Choice"},
     "glob_files": {"run_words", "run_find"},
     "glob_ignore": {"run_words"},
     "glob_rules": {"IgnoreList"},
     "glob_captures": {"captures", "reach", "tokens"},
-    "glob_run": {"run_words", "find_in"},
+    "glob_run": {"run_words"},
     "glob_c": None,
 }
 

@@ -40,7 +40,7 @@ EXAMPLES = {
         "crates/glob_run/src/tests/disk.rt",
         "crates/glob_examples/src/sources.rt",
         "crates/glob_examples/specs/Sources.antt",
-        "crates/glob_run/src/find.rt",
+        "crates/glob_console/src/find.rt",
         "crates/glob_tree_tests/src/trees.rt",
         "crates/glob_examples/src/one_file.rt",
         "crates/glob_examples/src/one_file.rt",

@@ -18,13 +18,14 @@ words     2950 docs/DECISIONS.md docs/DIFFERENCES.md CONTRIBUTING.md CHANGELOG.m
 words     1650 man/glob_run.1 man/glob_files.1 man/glob_ignore.1
 edits       32 glob_pattern
 edits       27 glob_walk
-edits       11 glob_run
+edits        7 glob_run
 edits        9 glob_tree
 edits        7 glob_lines
 edits        7 glob_c
 edits        6 glob_set
 edits        5 glob_rules
 edits        5 glob_captures
+edits        4 glob_console
 edits        3 glob_prune
 edits        3 glob_page
 edits        3 glob_ignore

@@ -1,5 +1,2 @@
 pub mod FilterLemmas
-pub mod FoundLemmas
-pub mod NumberLemmas
 pub mod RequestLemmas
-pub mod WritingLemmas

@@ -1,10 +1,8 @@
 -- What the words of a command line ask for, or the first of them that is wrong.
-use Rattle.std.specs.Prelude.{ℕ, ◌^◌, ◌-◌, ◌==◌, ◌&&◌, ◌||◌, Bool, true, false, List, [], ◌∷◌, ◌++◌, Option, None, Some, if◌then◌else◌, codes, bytes_eq, length, nat_lt, nat_le, option_map, unwrap_or}
-use Rattle.std.specs.List.{list_all}
-use Rattle.std.specs.Char.{is_ascii_digit}
-use Rattle.std.specs.Str.Parse.{digits_value}
+use Rattle.std.specs.Prelude.{◌^◌, ◌-◌, ◌||◌, Bool, true, false, List, [], ◌∷◌, ◌++◌, Option, None, Some, if◌then◌else◌, codes, bytes_eq, option_map, unwrap_or}
 use Rattle.glob_text.specs.Text.{Text}
 use Rattle.glob_lines.specs.Lines.{line_feed}
+use Rattle.glob_console.specs.Words.{is_option, limit_of}
 use Rattle.glob_files.specs.Chosen.{Chosen}
 use Rattle.glob_files.specs.Reading.{Reading, Paths, Page, VersionLine, Wrong}
 use Rattle.glob_files.specs.declared.options.Kind.{Kind}
@@ -60,16 +58,6 @@ option_word valued.Kind = codes "-t"
 option_word valued.Rule = codes "-x"
 option_word valued.Ignore = codes "--ignore"
 
--- one to twenty decimal digits, whose number fits into 64 bits
-abbrev pub is_limit : Text → Bool
-is_limit word =
-    nat_lt 0 (length word)
-    && (nat_le (length word) 20 && (list_all is_ascii_digit word && nat_lt (digits_value 10 word) (2 ^ 64)))
-
--- the number that such a word writes
-abbrev pub limit_of : Text → Option ℕ
-limit_of word = if is_limit word then Some (digits_value 10 word) else None
-
 abbrev pub kind_of : Text → Option Kind
 kind_of word = if bytes_eq word (codes "f") then Some File else (if bytes_eq word (codes "d") then Some Directory else None)
 
@@ -86,11 +74,6 @@ value_fault valued.Limit = why.Limit
 value_fault valued.Kind = why.Kind
 value_fault valued.Rule = why.Valueless
 value_fault valued.Ignore = why.Valueless
-
--- a word that begins with a hyphen
-abbrev pub is_option : Text → Bool
-is_option [] = false
-is_option (c ∷ cs) = c == 45
 
 -- the first of the words that begins with a hyphen
 abbrev pub first_option : List Text → Option Text

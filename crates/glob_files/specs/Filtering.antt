@@ -1,16 +1,13 @@
 -- Which paths of a walk are wanted.
-use Rattle.std.specs.Prelude.{Bool, true, ◌&&◌, not, Result, Ok, Err, ⊤}
+use Rattle.std.specs.Prelude.{Bool, true, ◌&&◌, not}
 use Rattle.std.specs.List.{list_any}
-use Rattle.std.specs.Path.{path_buf_bytes}
 use Rattle.std.specs.Str.{chars}
-use Rattle.std.specs.declared.path.buf.PathBuf.{PathBuf}
 use Rattle.glob_text.specs.Text.{Text}
 use Rattle.glob_pattern.specs.Computing.Deciding.{is_match}
 use Rattle.glob_set.specs.Sets.{Set}
 use Rattle.glob_tree.specs.Content.{Content, look_result}
 use Rattle.glob_tree.specs.Looks.{is_directory}
 use Rattle.glob_tree.specs.declared.tree.Look.{Look}
-use Rattle.glob_walk.specs.declared.error.GlobError.{GlobError}
 use Rattle.glob_files.specs.declared.options.Kind.{Kind}
 use Rattle.glob_files.specs.declared.options.Kind.TheVariants.{Any, File, Directory}
 
@@ -27,13 +24,3 @@ is_kind Directory seen = is_directory seen
 -- one of the patterns matches the path, and what it leads to is of the kind
 unfoldable pub is_wanted : Set → Kind → Content → (path : Text) → Bool
 is_wanted set kind c path = is_any_match set path && is_kind kind (look_result c path)
-
--- an item of a walk is wanted; each error is
-abbrev pub is_item_wanted : {A : Type 0} → (wanted : Text → Bool) → Result (PathBuf A) (GlobError A) → Bool
-is_item_wanted wanted (Ok path) = wanted (path_buf_bytes path)
-is_item_wanted wanted (Err error) = true
-
--- an item of a walk is a path
-abbrev pub IsPath : {A : Type 0} → Result (PathBuf A) (GlobError A) → Type 0
-IsPath (Ok path) = ⊤
-IsPath (Err error) = ⊥

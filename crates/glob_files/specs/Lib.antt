@@ -1,8 +1,6 @@
 pub mod Chosen
 pub mod CommandLine
 pub mod Filtering
-pub mod FoundPaths
-pub mod Outcomes
 pub mod Planning
 pub mod Reading
 pub mod Requests

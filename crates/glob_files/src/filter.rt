@@ -1,13 +1,11 @@
 //! Which paths of a walk are written.
-ghost use Rattle.std.specs.Prelude.{◌≡◌, false, IfOk};
-ghost use Rattle.glob_files.specs.Filtering.{IsPath, is_any_match, is_item_wanted, is_kind, is_wanted};
-ghost use Rattle.glob_tree.specs.Answers.{IsTold};
-ghost use Rattle.glob_tree.specs.Content.{Content};
+ghost use Rattle.std.specs.Prelude.{◌≡◌, IfOk};
+ghost use Rattle.glob_files.specs.Filtering.{is_any_match, is_kind, is_wanted};
 
 use crate::options::Kind;
+use glob_console::Choice;
 use glob_set::PatternSet;
 use glob_tree::{Look, Tree};
-use glob_walk::GlobResult;
 use std::alloc::{AllocError, Allocator};
 
 /// The paths that one of the patterns matches and that are of a kind.
@@ -17,32 +15,12 @@ pub struct Filter<A: Allocator> {
     pub kind: Kind,
 }
 
-impl<A: Allocator + Copy> Filter<A> {
-    /// Whether an item of a walk is wanted: a path that is, or an error. A kind is looked up in the tree, but for `Any`.
-    pub fn wants<T: Tree>(
-        &self,
-        tree: &mut T,
-        item: &GlobResult<T::Alloc>,
-    ) -> Result<bool, AllocError>
-        ensures content { T.tells tree.new ≡ T.tells tree.old }
-        ensures wanted { (c : Content) → IsTold (T.tells tree.old) c
-            → IfOk result (λ yes. yes ≡ is_item_wanted
-            (is_wanted self.now.patterns self.now.kind c) item.now) }
-        ensures paths { IfOk result (λ yes. yes ≡ false → IsPath item.now) }
-    {
-        match item {
-            Ok(path) => self.wants_path(tree, path.as_str()),
-            Err(_) => Ok(true),
-        }
-    }
+/// A kind is looked up in the tree, but for `Any`.
+impl<A: Allocator + Copy> Choice for Filter<A> {
+    ghost wanted = { λ filter c. is_wanted filter.patterns filter.kind c };
 
-    /// Whether a path is wanted.
     #[tactic(auto, unfolding(crate::specs::Filtering::is_wanted))]
-    fn wants_path<T: Tree>(&self, tree: &mut T, path: &str) -> Result<bool, AllocError>
-        ensures content { T.tells tree.new ≡ T.tells tree.old }
-        ensures wanted { (c : Content) → IsTold (T.tells tree.old) c
-            → IfOk result (λ yes. yes ≡ is_wanted self.now.patterns self.now.kind c path.now) }
-    {
+    fn wants<T: Tree>(&self, tree: &mut T, path: &str) -> Result<bool, AllocError> {
         if !self.matches(path)? {
             return Ok(false);
         }
@@ -52,7 +30,9 @@ impl<A: Allocator + Copy> Filter<A> {
         let seen = tree.look(path)?;
         Ok(is_of_kind(self.kind, seen))
     }
+}
 
+impl<A: Allocator + Copy> Filter<A> {
     /// Whether one of the patterns matches the path.
     fn matches(&self, path: &str) -> Result<bool, AllocError>
         ensures { IfOk result (λ yes. yes ≡ is_any_match self.now.patterns path.now) }

@@ -2,9 +2,9 @@
 //! matches and no rule ignores.
 #![tactic(auto)]
 
-ghost use Rattle.std.specs.Prelude.{◌≡◌, ◌≤◌, ℕ, IfOk, List, map, string_bytes};
+ghost use Rattle.std.specs.Prelude.{◌≡◌, ◌≤◌, ℕ, List, map};
 ghost use Rattle.glob_files.specs.CommandLine.{request_asked};
-ghost use Rattle.glob_files.specs.Outcomes.{IsRefused, WritesText};
+ghost use Rattle.glob_console.specs.Outcomes.{IsRefused, WritesText};
 ghost use Rattle.glob_files.specs.Reading.{Page, VersionLine, Wrong};
 ghost use Rattle.glob_files.specs.declared.help.TheConstants.{HELP, VERSION};
 ghost use Rattle.glob_files.specs.declared.usage.Why.{Why};
@@ -19,30 +19,21 @@ mod rules;
 mod search;
 mod strays;
 mod usage;
-mod writing;
 
 use command::{Command, Search};
+use glob_console::{ErrorLines, FAULT, arguments, words_of, write_text};
 use glob_prune::{Links, PhysicalDisk, Pruned};
 use rules::read_list;
 use search::run_patterns;
-use std::alloc::{AllocError, Allocator, Global};
+use std::alloc::Global;
 use std::cell::Cell;
-use std::env;
-use std::fmt::Display;
 use std::fs::Files;
-use std::io::{self, Write};
+use std::io::Write;
 use std::process::ExitCode;
 use strays::StrayLines;
-use writing::write_whole;
 
-/// A path was written.
-const FOUND: u8 = 0;
-
-/// No path was found.
-const UNFOUND: u8 = 1;
-
-/// There was a fault.
-const FAULT: u8 = 2;
+/// What each line of standard error begins with.
+const PREFIX: &str = "glob_files: ";
 
 /// Runs the program on the words after its name, and returns its exit status: 0 where a path was found or a page was
 /// written, 1 where none was found, 2 at a fault or where a walk met an error. It walks the disk.
@@ -66,11 +57,12 @@ pub fn run_words<R: Files + AllocGlobal + Copy + Drop, W: Write, E: Write, S: Wr
         → WritesText VERSION.now (W.contents output.old) (W.contents output.new) result }
 {
     let alloc = rt.alloc();
+    let errors = &mut ErrorLines::new(alloc, PREFIX, errors);
     match Command::parse(alloc, words) {
         Ok(Command::Find(search)) => run_search(rt, &search, output, errors, strays),
-        Ok(Command::Help) => write_text(alloc, help::HELP, output, errors),
-        Ok(Command::Version) => write_text(alloc, help::VERSION, output, errors),
-        Err(usage_fault) => fault(alloc, errors, usage_fault),
+        Ok(Command::Help) => write_text(help::HELP, output, errors),
+        Ok(Command::Version) => write_text(help::VERSION, output, errors),
+        Err(usage_fault) => errors.fault(usage_fault),
     }
 }
 
@@ -79,7 +71,7 @@ fn run_search<R: Files + AllocGlobal + Copy + Drop, W: Write, E: Write, S: Write
     rt: R,
     search: &Search<'_, Global>,
     output: &mut W,
-    errors: &mut E,
+    errors: &mut ErrorLines<'_, Global, E>,
     strays: &mut S,
 ) -> u8
     ensures most { result ≤ 2 }
@@ -88,7 +80,7 @@ fn run_search<R: Files + AllocGlobal + Copy + Drop, W: Write, E: Write, S: Write
     let options = &search.options;
     let list = match read_list(&rt, options.files.as_slice(), options.rules.as_slice()) {
         Ok(list) => list,
-        Err(rules_fault) => return fault(alloc, errors, rules_fault),
+        Err(rules_fault) => return errors.fault(rules_fault),
     };
     let has_stray = Cell::new(false);
     let lines = StrayLines {
@@ -113,86 +105,26 @@ fn run_search<R: Files + AllocGlobal + Copy + Drop, W: Write, E: Write, S: Write
     );
     if has_stray.get() { FAULT } else { status }
 }
-/// Writes the whole text, and returns the status.
-#[tactic(auto, unfolding(crate::specs::Outcomes::WritesText))]
-fn write_text<A: Allocator, W: Write, E: Write>(
-    alloc: A,
-    text: &str,
-    output: &mut W,
-    errors: &mut E,
-) -> u8
-    ensures most { result ≤ 2 }
-    ensures written { WritesText text.now (W.contents output.old) (W.contents output.new) result }
-{
-    match write_whole(output, text.as_bytes()) {
-        Ok(()) => FOUND,
-        Err(_) => fault(alloc, errors, "writing failed"),
-    }
-}
-
-/// Writes the one line of a fault, and answers its status.
-fn fault<A: Allocator, E: Write, D: Display + Drop>(alloc: A, errors: &mut E, message: D) -> u8
-    ensures { result ≡ 2 }
-{
-    write_line(alloc, errors, &message);
-    FAULT
-}
-
-/// Writes a line of standard error at once, behind the program's name, so that no other process writes into it. Where there
-/// is no memory for the line, it is written piece by piece. A fault of `errors` itself is dropped.
-fn write_line<A: Allocator, E: Write, D: Display>(alloc: A, errors: &mut E, message: &D) {
-    let _ = match format!(in alloc; "glob_files: {message}\n") {
-        Ok(line) => errors.write_all(line.as_bytes()),
-        Err(_) => writeln!(errors, "glob_files: {message}"),
-    };
-}
-
-/// The line of arguments that could not be read: too little memory for them, or one that is not UTF-8.
-fn arguments_fault<A: Allocator, E: Write>(alloc: A, errors: &mut E, error: &io::Error) -> u8
-    ensures { result ≡ 2 }
-{
-    match error.kind() {
-        io::ErrorKind::OutOfMemory => fault(alloc, errors, "out of memory"),
-        _ => fault(alloc, errors, "a word is not UTF-8"),
-    }
-}
-
-/// The texts of the arguments.
-fn words_of<A: Allocator + Copy>(
-    alloc: A,
-    arguments: &[String<A>],
-) -> Result<Vec<&str, A>, AllocError>
-    ensures { IfOk result (λ words.
-        map (λ w. w.now) words.items ≡ map string_bytes arguments.now) }
-{
-    let mut words = Vec::new(alloc);
-    let mut rest = arguments;
-    while let [argument, after @ ..] = rest {
-        words.push(argument.as_str())?;
-        rest = after;
-    }
-    Ok(words)
-}
-
-/// The arguments after the program's name.
-fn arguments(rt: &HostRuntime) -> io::Result<Vec<String>> {
-    Ok(env::args(rt)?.skip(1).collect(rt.alloc())?)
-}
 
 fn main(rt: HostRuntime) -> ExitCode {
     let alloc = rt.alloc();
-    let mut errors = rt.stderr();
+    let mut stderr = rt.stderr();
+    let mut errors = ErrorLines::new(alloc, PREFIX, &mut stderr);
     let arguments = match arguments(&rt) {
         Ok(arguments) => arguments,
-        Err(error) => return ExitCode::from(arguments_fault(alloc, &mut errors, &error)),
+        Err(error) => {
+            return ExitCode::from(errors.arguments_fault(&error, "a word is not UTF-8"));
+        }
     };
     ExitCode::from(match words_of(alloc, arguments.as_slice()) {
-        Ok(words) => {
-            let output = &mut rt.stdout();
-            let strays = &mut rt.stderr();
-            run_words(rt, words.as_slice(), output, &mut errors, strays)
-        }
-        Err(_) => fault(alloc, &mut errors, "out of memory"),
+        Ok(words) => run_words(
+            rt,
+            words.as_slice(),
+            &mut rt.stdout(),
+            &mut rt.stderr(),
+            &mut rt.stderr(),
+        ),
+        Err(_) => errors.fault("out of memory"),
     })
 }
 

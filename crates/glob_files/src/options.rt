@@ -1,11 +1,10 @@
 //! The options of a command line.
 ghost use Rattle.std.specs.Prelude.{◌≡◌, None, Some, IfOk, IfErr, OnOk, map, option_map, true, false};
-ghost use Rattle.std.specs.List.{list_all};
-ghost use Rattle.std.specs.Char.{is_ascii_digit};
-ghost use Rattle.glob_files.specs.CommandLine.{is_flag, kind_of, limit_of, new_options, new_settings, option_of, option_word, value_fault, value_taken, with_flag};
+ghost use Rattle.glob_files.specs.CommandLine.{is_flag, kind_of, new_options, new_settings, option_of, option_word, value_fault, value_taken, with_flag};
 ghost use Rattle.glob_files.specs.Requests.{IsValueFault};
 
 use crate::usage::{UsageFault, Why};
+use glob_console::parse_limit;
 use glob_pattern::MatchOptions;
 use std::alloc::Allocator;
 use std::marker::Model;
@@ -178,21 +177,4 @@ fn parse_kind(word: &str) -> Option<Kind>
         "d" => Some(Kind::Directory),
         _ => None,
     }
-}
-
-/// A limit: one to twenty decimal digits, whose number is at most `u64::MAX`.
-fn parse_limit(digits: &str) -> Option<u64>
-    ensures { result ≡ limit_of digits.now }
-{
-    if digits.len() > 20 || !are_digits(digits) {
-        return None;
-    }
-    digits.parse().ok()
-}
-
-/// Whether each character is a decimal digit. So `parse` meets no sign.
-fn are_digits(text: &str) -> bool
-    ensures { result ≡ list_all is_ascii_digit text.now }
-{
-    text.bytes().all(|byte| byte.is_ascii_digit())
 }

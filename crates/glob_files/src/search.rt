@@ -1,18 +1,18 @@
 //! A walk for some patterns.
 ghost use Rattle.std.specs.Prelude.{◌≡◌, ◌≤◌, true, false, IfOk, IfErr, IsOk, is_none, map, string_bytes};
 ghost use Rattle.glob_files.specs.Filtering.{is_wanted};
-ghost use Rattle.glob_files.specs.FoundPaths.{IsFindStatus, WritesFound};
-ghost use Rattle.glob_files.specs.Outcomes.{IsRefused};
+ghost use Rattle.glob_console.specs.FoundPaths.{IsFindStatus, WritesFound};
+ghost use Rattle.glob_console.specs.Outcomes.{IsRefused};
 ghost use Rattle.glob_files.specs.Planning.{are_below, walk_options, walk_text};
 ghost use Rattle.glob_files.specs.Searching.{set_of, walk_listing};
 ghost use Rattle.glob_tree.specs.Answers.{IsTold};
 ghost use Rattle.glob_tree.specs.Content.{Content};
 
-use crate::fault;
 use crate::filter::Filter;
 use crate::find::run_find;
 use crate::options::Settings;
 use crate::plan::{Plan, is_below};
+use glob_console::{ErrorLines, WalkSettings};
 use glob_pattern::{PatternError, PatternRefusal};
 use glob_set::{PatternSet, SetRefusal};
 use glob_tree::Tree;
@@ -59,14 +59,14 @@ impl Display for PatternFault<'_> {
 /// refusal is one line of `errors`, before anything is looked up or written.
 ///
 /// Over files `a.rs`, `b.c` and `d/a.rs`, `*.rs` and `d/*` write `a.rs` and `d/a.rs`.
-#[tactic(auto, unfolding(crate::specs::FoundPaths::IsFindStatus, crate::specs::FoundPaths::WritesFound))]
+#[tactic(auto, unfolding(glob_console::specs::FoundPaths::IsFindStatus, glob_console::specs::FoundPaths::WritesFound))]
 pub fn run_patterns<T: Tree, W: Write, E: Write>(
     alloc: T::Alloc,
     tree: T,
     patterns: &[&str],
     settings: Settings,
     output: &mut W,
-    errors: &mut E,
+    errors: &mut ErrorLines<'_, T::Alloc, E>,
 ) -> u8
     ensures most { result ≤ 2 }
     ensures refused { are_below (map (λ p. p.now) patterns.now) ≡ false
@@ -82,18 +82,15 @@ pub fn run_patterns<T: Tree, W: Write, E: Write>(
     match read_patterns(alloc, patterns, settings) {
         Ok((plan, filter)) => {
             let Plan { text, options } = &plan;
-            run_find(
-                alloc,
-                tree,
-                text.as_str(),
-                *options,
-                &filter,
-                settings,
-                output,
-                errors,
-            )
+            let walk = WalkSettings {
+                pattern: text.as_str(),
+                options: *options,
+                limit: settings.limit,
+                end: settings.end,
+            };
+            run_find(alloc, tree, walk, &filter, output, errors)
         }
-        Err(pattern_fault) => fault(alloc, errors, pattern_fault),
+        Err(pattern_fault) => errors.fault(pattern_fault),
     }
 }
 

@@ -1,5 +1,6 @@
 //! The lines of names that are not UTF-8.
-use crate::write_line;
+use crate::PREFIX;
+use glob_console::ErrorLines;
 use glob_prune::Strays;
 use std::alloc::Allocator;
 use std::cell::Cell;
@@ -18,7 +19,7 @@ impl<A: Allocator + Copy, E: Write> Strays for StrayLines<'_, A, E> {
     fn stray(&mut self, directory: &str, name: &[u8]) {
         self.has_any.set(true);
         let line = StrayLine { directory, name };
-        write_line(self.alloc, self.errors, &line);
+        ErrorLines::new(self.alloc, PREFIX, self.errors).write(&line);
     }
 }
 

@@ -4,6 +4,7 @@ mod known_trees;
 mod words;
 
 use super::*;
+use std::io;
 use std::test::Fail;
 
 /// The words of a line. There is none in the empty line.

@@ -1,5 +1,2 @@
 pub mod CopyLemmas
-pub mod FoundLemmas
-pub mod NumberLemmas
 pub mod RequestLemmas
-pub mod WritingLemmas

@@ -3,7 +3,8 @@ use Rattle.std.proofs.Common.{◌≡◌, ℕ, ◌-◌, ◌≤◌, ◌&&◌, ◌|
 use Rattle.std.specs.Prelude.{codes, bytes_eq}
 use Rattle.std.proofs.lemmas.List.{take_rest}
 use Rattle.glob_run.specs.declared.command.Settings.{Settings}
-use Rattle.glob_run.specs.CommandLine.{is_option, is_setting, with_setting, limit_of, paths_request}
+use Rattle.glob_console.specs.Words.{is_option, limit_of}
+use Rattle.glob_run.specs.CommandLine.{is_setting, with_setting, paths_request}
 
 first_of_each : (a p q r s : Bool) → ((a && p) || ((a && q) || ((a && r) || (a && s)))) ≡ true → a ≡ true
 first_of_each true p q r s e = refl

@@ -1,19 +1,12 @@
 -- What the words of a command line ask for. No request is a usage fault.
-use Rattle.std.specs.Prelude.{ℕ, ◌^◌, ◌-◌, ◌==◌, ◌&&◌, ◌||◌, Bool, List, [], ◌∷◌, Option, None, Some, if◌then◌else◌, codes, bytes_eq, true, false, length, nat_lt, nat_le, option_map, option_and_then}
-use Rattle.std.specs.List.{list_all}
-use Rattle.std.specs.Char.{is_ascii_digit}
-use Rattle.std.specs.Str.Parse.{digits_value}
+use Rattle.std.specs.Prelude.{ℕ, ◌^◌, ◌-◌, ◌||◌, Bool, List, [], ◌∷◌, Option, None, Some, if◌then◌else◌, codes, bytes_eq, true, false, option_map, option_and_then}
+use Rattle.glob_console.specs.Words.{is_option, limit_of}
 use Rattle.glob_pattern.specs.declared.options.MatchOptions.{MatchOptions}
 use Rattle.glob_pattern.specs.Matching.Options.{new_options}
 use Rattle.glob_lines.specs.Lines.{line_feed}
 use Rattle.glob_run.specs.declared.command.Settings.{Settings}
 use Rattle.glob_run.specs.Requests.{Request}
 use Rattle.glob_run.specs.Requests.{Lines, Escaped, Paths, Pieces, Page, VersionLine}
-
--- a word that begins with a hyphen
-abbrev pub is_option : List ℕ → Bool
-is_option [] = false
-is_option (c ∷ cs) = c == 45
 
 -- the one word that is left after the options
 abbrev pub operand_of : List (List ℕ) → Option (List ℕ)
@@ -46,16 +39,6 @@ abbrev pub with_setting : List ℕ → Settings → Settings
 with_setting word settings =
     if bytes_eq word (codes "-0") then record settings { end = 0 }
     else record settings { options = with_option word settings.options }
-
--- one to twenty decimal digits, whose number fits into 64 bits
-abbrev pub is_limit : List ℕ → Bool
-is_limit word =
-    nat_lt 0 (length word)
-    && (nat_le (length word) 20 && (list_all is_ascii_digit word && nat_lt (digits_value 10 word) (2 ^ 64)))
-
--- the number that such a word writes
-abbrev pub limit_of : List ℕ → Option ℕ
-limit_of word = if is_limit word then Some (digits_value 10 word) else None
 
 -- the words after `match`, under the settings that were set before them
 abbrev pub lines_request : Settings → List (List ℕ) → Option Request

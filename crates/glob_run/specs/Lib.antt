@@ -1,4 +1,3 @@
 pub mod CommandLine
-pub mod FoundPaths
 pub mod Outcomes
 pub mod Requests

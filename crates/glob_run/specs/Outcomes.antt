@@ -1,24 +1,11 @@
 -- What a run comes to: its status, and what its output gained.
-use Rattle.std.specs.Prelude.{◌≡◌, ℕ, ◌<◌, ◌⊎◌, ◌++◌, List, Option, chars, take}
-use Rattle.std.specs.Io.KnownBytes.{Appends, Keeps}
+use Rattle.std.specs.Prelude.{◌≡◌, ℕ, ◌<◌, ◌⊎◌, List, Option, chars}
+use Rattle.std.specs.Io.KnownBytes.{Keeps}
+use Rattle.glob_console.specs.Outcomes.{WritesText}
 use Rattle.glob_pattern.specs.Escaping.{escaped_text}
 use Rattle.glob_pattern.specs.Matching.Texts.{Matches}
 use Rattle.glob_lines.specs.Lines.{FiltersRecords, FiltersRecordBytes, ended_record, line_feed}
 use Rattle.glob_pattern.specs.declared.options.MatchOptions.{MatchOptions}
-
--- a fault before anything was done with the output
-abbrev pub IsRefused : {W : Type 0} → (old new : W) → (status : ℕ) → Type 0
-IsRefused old new status = (status ≡ 2) × (new ≡ old)
-
--- of the bytes, the first n were written, for some n
-abbrev pub AppendsSome : (old new : Option (List ℕ)) → (bytes : List ℕ) → Type 0
-AppendsSome old new bytes = (n : ℕ) × Appends old new (take n bytes)
-
--- These bytes follow those that waited, and of all of these the first were written, and the others wait.
-abbrev pub Queues : (old : Option (List ℕ)) → (waiting : List ℕ) → (new : Option (List ℕ)) → (waiting' : List ℕ)
-    → (bytes : List ℕ) → Type 0
-Queues old waiting new waiting' bytes =
-    (written : List ℕ) × Appends old new written × (waiting ++ bytes ≡ written ++ waiting')
 
 -- Status 0: some records match, and just those were written, in order. Status 1: none matches, and none was written.
 -- Status 2: of the bytes of the records that match, the first n were written, for some n.
@@ -33,10 +20,6 @@ unfoldable pub Explains : MatchOptions → (pattern text : List ℕ) → (status
 Explains options pattern text status =
     (status ≡ 0 → Matches options (chars pattern) (chars text))
     × (status ≡ 1 → ¬ (Matches options (chars pattern) (chars text)))
-
--- Status 0: these bytes were written. Status 2: the first n of them were, for some n. There is no other status.
-unfoldable pub WritesText : (text : List ℕ) → (old new : Option (List ℕ)) → (status : ℕ) → Type 0
-WritesText text old new status = ((status ≡ 0) × Appends old new text) ⊎ ((status ≡ 2) × AppendsSome old new text)
 
 -- the pattern that stands for the text alone, and a line feed
 abbrev pub IsEscapedLine : (text line : List ℕ) → Type 0

@@ -1,11 +1,10 @@
 //! What the words of a command line ask for.
 ghost use Rattle.std.specs.Prelude.{◌≡◌, ◌-◌, ◌^◌, map, option_map, true, false};
-ghost use Rattle.std.specs.Char.{is_ascii_digit};
-ghost use Rattle.std.specs.List.{list_all};
-ghost use Rattle.glob_run.specs.CommandLine.{asks_help, operands_of, pieces_request, is_match_option, is_setting, limit_of, lines_request, new_settings, operand_of, paths_request, request_asked, with_option, with_setting};
+ghost use Rattle.glob_run.specs.CommandLine.{asks_help, operands_of, pieces_request, is_match_option, is_setting, lines_request, new_settings, operand_of, paths_request, request_asked, with_option, with_setting};
 ghost use Rattle.glob_pattern.specs.Matching.Options.{new_options};
 ghost use Rattle.glob_run.specs.Requests.{request_of, search_request};
 
+use glob_console::parse_limit;
 use glob_pattern::MatchOptions;
 
 /// What a list of words asks of the program.
@@ -186,23 +185,6 @@ fn set_option(options: &mut MatchOptions, word: &str) -> bool
         _ => return false,
     }
     true
-}
-
-/// A limit: one to twenty decimal digits, whose number is at most `u64::MAX`.
-fn parse_limit(digits: &str) -> Option<u64>
-    ensures { result ≡ limit_of digits.now }
-{
-    if digits.len() > 20 || !are_digits(digits) {
-        return None;
-    }
-    digits.parse().ok()
-}
-
-/// Whether each character is a decimal digit. So `parse` meets no sign.
-fn are_digits(text: &str) -> bool
-    ensures { result ≡ list_all is_ascii_digit text.now }
-{
-    text.bytes().all(|byte| byte.is_ascii_digit())
 }
 
 /// The one word that is left after the options. A word that begins with `-` can stand there only after `--`.

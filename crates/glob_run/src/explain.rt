@@ -1,10 +1,10 @@
 //! The command `explain`: which piece of a text each token of a pattern takes, or why there are none.
 ghost use Rattle.std.specs.Prelude.{◌≡◌, ◌≤◌, chars};
 ghost use Rattle.glob_pattern.specs.Grammar.Units.{IsAccepted};
-ghost use Rattle.glob_run.specs.Outcomes.{Explains, IsRefused};
+ghost use Rattle.glob_console.specs.Outcomes.{IsRefused};
+ghost use Rattle.glob_run.specs.Outcomes.{Explains};
 
-use crate::writing::write_whole;
-use crate::{MATCHED, UNMATCHED, fault};
+use glob_console::{ErrorLines, FOUND, UNFOUND, write_whole};
 use glob_explain::{explain, explain_refusal};
 use glob_pattern::{MatchOptions, Pattern, PatternError, PatternRefusal};
 use std::alloc::Allocator;
@@ -19,7 +19,7 @@ pub fn run_explain<A: Allocator + Copy, W: Write, E: Write>(
     pattern: &str,
     text: &str,
     output: &mut W,
-    errors: &mut E,
+    errors: &mut ErrorLines<'_, A, E>,
 ) -> u8
     ensures most { result ≤ 2 }
     ensures refused { (¬ (IsAccepted (chars pattern.now)))
@@ -29,7 +29,7 @@ pub fn run_explain<A: Allocator + Copy, W: Write, E: Write>(
     match Pattern::new(alloc, pattern) {
         Ok(made) => write_explained(alloc, &made, text, options, output, errors),
         Err(PatternRefusal::Syntax(error)) => refuse(alloc, pattern, error, errors),
-        Err(PatternRefusal::Memory) => fault(alloc, errors, "out of memory"),
+        Err(PatternRefusal::Memory) => errors.fault("out of memory"),
     }
 }
 
@@ -41,18 +41,18 @@ fn write_explained<A: Allocator + Copy, W: Write, E: Write>(
     text: &str,
     options: MatchOptions,
     output: &mut W,
-    errors: &mut E,
+    errors: &mut ErrorLines<'_, A, E>,
 ) -> u8
     ensures most { result ≤ 2 }
     ensures explained { Explains options pattern.now text.now result }
 {
     match explain(alloc, pattern, text, options) {
         Ok(explanation) => match write_whole(output, explanation.lines.as_bytes()) {
-            Ok(()) if explanation.is_match => MATCHED,
-            Ok(()) => UNMATCHED,
-            Err(_) => fault(alloc, errors, "writing failed"),
+            Ok(()) if explanation.is_match => FOUND,
+            Ok(()) => UNFOUND,
+            Err(_) => errors.fault("writing failed"),
         },
-        Err(captures_fault) => fault(alloc, errors, captures_fault),
+        Err(captures_fault) => errors.fault(captures_fault),
     }
 }
 
@@ -61,12 +61,12 @@ fn refuse<A: Allocator + Copy, E: Write>(
     alloc: A,
     written: &str,
     error: PatternError,
-    errors: &mut E,
+    errors: &mut ErrorLines<'_, A, E>,
 ) -> u8
     ensures { result ≡ 2 }
 {
     match explain_refusal(alloc, written, error) {
-        Ok(lines) => fault(alloc, errors, lines),
-        Err(_) => fault(alloc, errors, "out of memory"),
+        Ok(lines) => errors.fault(lines),
+        Err(_) => errors.fault("out of memory"),
     }
 }

@@ -14,7 +14,7 @@ mod writers;
 
 use super::*;
 use runs::{Row, check, check_failing_output, check_rows, check_usage_faults};
-use std::io::ErrorKind;
+use std::io::{self, ErrorKind};
 use std::test::Fail;
 
 const USAGE_LINE: &str =
@@ -148,7 +148,10 @@ const UNREAD_ARGUMENTS: &[(ErrorKind, &str)] = &[
 fn arguments_that_cannot_be_read(rt: HostRuntime) {
     for (kind, line) in UNREAD_ARGUMENTS {
         let mut errors = Vec::new(rt.alloc());
-        let status = arguments_fault(rt.alloc(), &mut errors, &io::Error::from(*kind));
+        let status = ErrorLines::new(rt.alloc(), "", &mut errors).arguments_fault(
+            &io::Error::from(*kind),
+            USAGE,
+        );
         assert_eq!(rt; status, 2);
         assert!(rt; errors.as_slice() == line.as_bytes(), "{line}");
     }

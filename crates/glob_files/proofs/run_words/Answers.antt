@@ -1,13 +1,8 @@
-use Rattle.std.proofs.Common.{inr}
-use Rattle.std.proofs.KnownBytes.{Keeps-refl}
-use Rattle.glob_files.specs.Outcomes.{WritesText}
-use Rattle.glob_files.proofs.WritingLemmas.{AppendsSome-none}
+use Rattle.glob_console.proofs.CallerLemmas.{text_at_fault}
 use Rattle.glob_files.proofs.run_words.Goals as goal
 
 pub returns-in-Err-clause-page : goal.returns-in-Err-clause-page
-unfolding WritesText
-returns-in-Err-clause-page g c asked = inr (c.fault.ensures, AppendsSome-none _ _ _ (Keeps-refl _))
+returns-in-Err-clause-page g c asked = text_at_fault _ _ _ c.fault.ensures
 
 pub returns-in-Err-clause-version : goal.returns-in-Err-clause-version
-unfolding WritesText
-returns-in-Err-clause-version g c asked = inr (c.fault.ensures, AppendsSome-none _ _ _ (Keeps-refl _))
+returns-in-Err-clause-version g c asked = text_at_fault _ _ _ c.fault.ensures

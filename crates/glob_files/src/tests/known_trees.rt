@@ -1,8 +1,10 @@
 //! Walks over trees in memory, whose content contracts know: exact bytes, for some patterns each.
 use super::folder::ensure;
 use super::{Unwritable, split_words};
+use crate::PREFIX;
 use crate::options::{Options, Settings, Valued};
 use crate::search::run_patterns;
+use glob_console::ErrorLines;
 use glob_prune::Pruned;
 use glob_rules::IgnoreList;
 use glob_tree::{MemTree, TreeRefusal};
@@ -140,7 +142,7 @@ fn check(
         words.as_slice(),
         settings,
         &mut output,
-        &mut told,
+        &mut ErrorLines::new(alloc, PREFIX, &mut told),
     );
     let wanted = lines_of(rt, paths, char::from(settings.end))?;
     let is_wanted = got == status
@@ -243,7 +245,8 @@ fn an_output_that_fails(rt: HostRuntime) -> Result<(), Fail> {
         let settings = settings_of(&rt, "")?;
         let tree = tree_of(&rt, FILES)?;
         let output = &mut Unwritable { kind };
-        let status = run_patterns(alloc, tree, &["*"], settings, output, &mut told);
+        let errors = &mut ErrorLines::new(alloc, PREFIX, &mut told);
+        let status = run_patterns(alloc, tree, &["*"], settings, output, errors);
         ensure(status == 2 && told.as_slice() == wanted.as_bytes(), wanted)?;
     }
     Ok(())

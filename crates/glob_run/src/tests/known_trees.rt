@@ -1,8 +1,7 @@
 //! The command `find` over trees in memory, whose content contracts know: exact bytes, for a pattern each.
 use super::folder::ensure;
-use crate::command::{Search, Settings};
-use crate::find::find_in;
 use crate::run_words;
+use glob_console::{ErrorLines, Every, WalkSettings, find_in};
 use glob_pattern::MatchOptions;
 use glob_tree::{MemTree, TreeRefusal};
 use glob_walk::End;
@@ -169,18 +168,17 @@ fn paths_and_errors(rt: HostRuntime) -> Result<(), Fail> {
 #[test]
 fn a_search_says_how_it_ended(rt: HostRuntime) -> Result<(), Fail> {
     let alloc = rt.alloc();
-    let search = Search {
+    let walk = WalkSettings {
         pattern: "*",
-        settings: Settings {
-            options: MatchOptions::new(),
-            end: b'\n',
-        },
+        options: MatchOptions::new(),
         limit: 4,
+        end: b'\n',
     };
     let mut output = Vec::new(alloc);
     let mut errors = Vec::new(alloc);
     let tree = tree_of(&rt, "/x /y", "/")?;
-    let Ok(findings) = find_in(alloc, tree, search, &mut output, &mut errors) else {
+    let lines = &mut ErrorLines::new(alloc, "", &mut errors);
+    let Ok(findings) = find_in(alloc, tree, walk, &Every, &mut output, lines) else {
         return Err(Fail::new("a fault"));
     };
     let is_whole = findings.end == End::Done && findings.has_path && !findings.has_error;

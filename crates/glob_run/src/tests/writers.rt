@@ -3,7 +3,8 @@ ghost use Rattle.std.specs.Prelude.{◌≡◌, None};
 
 use super::folder::ensure;
 use super::{FAULT_LINE, USAGE_LINE};
-use crate::{run_words, write_line};
+use crate::run_words;
+use glob_console::ErrorLines;
 use glob_tree::{Asks, Entry, ListError, Look, Name, Tree};
 use std::alloc::{AllocError, Global};
 use std::cell::Cell;
@@ -300,7 +301,7 @@ fn a_line_that_is_not_formatted_is_written_in_pieces(rt: HostRuntime) -> Result<
         is_late: Cell::new(false),
     };
     let mut errors = Vec::new(rt.alloc());
-    write_line(rt.alloc(), &mut errors, &late);
+    ErrorLines::new(rt.alloc(), "", &mut errors).write(&late);
     ensure(errors.as_slice() == b"words\n".as_slice(), "the line")
 }
 

@@ -1,7 +1,7 @@
 use Rattle.std.proofs.Common.{map, subst, ◌∙◌}
 use Rattle.glob_walk.specs.Listing.{listing}
+use Rattle.glob_console.specs.FoundPaths.{WritesFound}
 use Rattle.glob_files.specs.Filtering.{is_wanted}
-use Rattle.glob_files.specs.FoundPaths.{WritesFound}
 use Rattle.glob_files.specs.Planning.{walk_options, walk_text}
 use Rattle.glob_files.proofs.search.run_patterns.Goals as goal
 

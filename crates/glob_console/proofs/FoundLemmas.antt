@@ -1,0 +1,404 @@
+-- A walk whose items are written as they come.
+use Rattle.std.proofs.Common.{◌≡◌, ℕ, ◌+◌, ◌-◌, ◌*◌, ◌<◌, ◌≤◌, ◌⊎◌, inl, inr, true, false, Option, List, [], ◌∷◌, ◌++◌, Bool, Result, Ok, Err, refl, ap, sym, subst, ◌∙◌, append-nil, arith}
+use Rattle.std.specs.Prelude.{⊤}
+use Rattle.std.specs.Io.KnownBytes.{Appends}
+use Rattle.std.specs.Path.{path_buf_bytes}
+use Rattle.std.specs.declared.io.ErrorKind.{ErrorKind}
+use Rattle.std.specs.declared.path.buf.PathBuf.{PathBuf}
+use Rattle.std.proofs.KnownBytes.{Appends-nil}
+use Rattle.std.specs.List.{filter}
+use Rattle.std.proofs.lemmas.List.Concat.{flat_map-append}
+use Rattle.std.proofs.lemmas.List.Elements.{filter-append}
+use Rattle.glob_tree.specs.Answers.{IsTold}
+use Rattle.glob_tree.specs.Content.{Content}
+use Rattle.glob_walk.specs.Machines.{MachineState, Saying, AsksLook, AsksList, Says, Ends, IsAskedAfter, IsCharged, StepCounts, StepGoes, is_last_step, left_of, step_outcome, step_units}
+use Rattle.glob_lines.specs.Lines.{AppendsFront, ended_record, with_ends}
+use Rattle.glob_walk.specs.Marks.{Mark, Item, Found, Unread, items, cost, front, paths, IsBeginning}
+use Rattle.glob_walk.specs.Questions.{IsSomeContent}
+use Rattle.glob_text.specs.Text.{Text}
+use Rattle.glob_walk.specs.Driven.{HasGiven, GivesNext}
+use Rattle.glob_walk.specs.declared.walk.End.{End}
+use Rattle.glob_walk.specs.declared.error.GlobCause.{GlobCause}
+use Rattle.glob_walk.specs.declared.error.GlobError.{GlobError}
+use Rattle.glob_walk.specs.declared.walk.End.TheVariants as last
+use Rattle.glob_walk.specs.declared.error.GlobCause.TheVariants as cause
+use Rattle.glob_walk.specs.Walks.{Outcome, Gives, LimitAt, NoMemory, outcome, error_outcome, item_number}
+use Rattle.glob_walk.proofs.ListingLemmas.Marks.{IsBeginning-append}
+use Rattle.glob_console.specs.FoundPaths.{FindsPaths, FindsSomeBytes, GaveItems, every, has_any, has_unread, wanted_paths}
+use Rattle.glob_console.specs.Private.Writing.{IsPath, Queues, is_item_wanted, item_record, noting}
+use Rattle.glob_console.proofs.WritingLemmas.{Queues-all, Queues-some, Queues-more, Queues-trans}
+use Rattle.glob_console.specs.declared.find.findings.Findings.{Findings}
+
+paths-append : (is js : List Item) → paths (is ++ js) ≡ paths is ++ paths js
+paths-append [] js = refl
+paths-append (Found p ∷ is) js = ap (λ ps. p ∷ ps) (paths-append is js)
+paths-append (Unread p k ∷ is) js = paths-append is js
+
+has_any-push : (ps : List Text) (p : Text) → has_any (ps ++ p ∷ []) ≡ true
+has_any-push [] p = refl
+has_any-push (q ∷ ps) p = refl
+
+has_unread-found : (is : List Item) (p : Text) → has_unread (is ++ Found p ∷ []) ≡ has_unread is
+has_unread-found [] p = refl
+has_unread-found (Found q ∷ is) p = has_unread-found is p
+has_unread-found (Unread q k ∷ is) p = refl
+
+has_unread-push : (is : List Item) (p : Text) (k : ErrorKind) → has_unread (is ++ Unread p k ∷ []) ≡ true
+has_unread-push [] p k = refl
+has_unread-push (Found q ∷ is) p k = has_unread-push is p k
+has_unread-push (Unread q l ∷ is) p k = refl
+
+-- where each path is wanted, those that are wanted are all paths
+pub wanted-every : (is : List Item) → wanted_paths every is ≡ paths is
+wanted-every [] = refl
+wanted-every (Found p ∷ is) = ap (λ ps. p ∷ ps) (wanted-every is)
+wanted-every (Unread p k ∷ is) = wanted-every is
+
+-- what is wanted of some items and of those after them
+wanted-append : (wanted : Text → Bool) (is js : List Item) → wanted_paths wanted (is ++ js) ≡ wanted_paths wanted is ++ wanted_paths wanted js
+wanted-append wanted is js = ap (filter wanted) (paths-append is js) ∙ filter-append wanted (paths is) (paths js)
+
+-- the records of these paths are a beginning of those of all
+records_begin : (end : ℕ) (wanted : Text → Bool) (texts : List Text) (given more all : List Item) → texts ≡ wanted_paths wanted given → all ≡ given ++ more
+    → with_ends end (wanted_paths wanted all) ≡ with_ends end texts ++ with_ends end (wanted_paths wanted more)
+records_begin end wanted texts given more all kept split =
+    ap (λ is. with_ends end (wanted_paths wanted is)) split
+    ∙ ap (with_ends end) (wanted-append wanted given more ∙ ap (λ ts. ts ++ wanted_paths wanted more) (sym kept))
+    ∙ flat_map-append (ended_record end) texts (wanted_paths wanted more)
+
+-- the records of some paths and one more
+records_push : (end : ℕ) (texts : List Text) (text : Text) → with_ends end (texts ++ text ∷ []) ≡ with_ends end texts ++ ended_record end text
+records_push end texts text = flat_map-append (ended_record end) texts (text ∷ []) ∙ ap (λ l. with_ends end texts ++ l) (append-nil (ended_record end text))
+
+wanted_one : (wanted : Text → Bool) (text : Text) → true ≡ wanted text → text ∷ [] ≡ wanted_paths wanted (Found text ∷ [])
+wanted_one wanted text sure = rw (sym sure) refl
+
+unwanted_one : (wanted : Text → Bool) (text : Text) → false ≡ wanted text → [] ≡ wanted_paths wanted (Found text ∷ [])
+unwanted_one wanted text never = rw (sym never) refl
+
+-- one more item
+wanted_push : (wanted : Text → Bool) (texts more : List Text) (given : List Item) (item : Item) → texts ≡ wanted_paths wanted given → more ≡ wanted_paths wanted (item ∷ [])
+    → texts ++ more ≡ wanted_paths wanted (given ++ item ∷ [])
+wanted_push wanted texts more given item kept last = ap (λ ts. ts ++ more) kept ∙ ap (λ ts. wanted_paths wanted given ++ ts) last ∙ sym (wanted-append wanted given (item ∷ []))
+
+-- what holds of a walk from its beginning on, over a known content
+abbrev pub Over : {X A : Type 0} → (X → Option Content) → X → MachineState A → (List Mark → Content → Type 0) → Type 0
+Over tells of first P = (c : Content) → IsTold (tells of) c → (ms : List Mark) → HasGiven ms c [] first → P ms c
+
+-- the walk is still going on, or it came to an end within which it gave these items
+abbrev pub GoesOn : {X A : Type 0} → (X → Option Content) → X → MachineState A → List Item → Saying → MachineState A → End → Type 0
+GoesOn tells of first given s walk e =
+    ((e ≡ last.Done) × Over tells of first (λ ms c. GivesNext ms c given s walk))
+    ⊎ ((s ≡ Ends) × Over tells of first (λ ms c. GaveItems ms first.limit e given))
+
+-- A walk after one of its steps. The items before that step were written, or wait.
+pub record Written {X A : Type 0} (end : ℕ) (f : Content → Text → Bool) (tells : X → Option Content) (of : X) (first : MachineState A) (old : Option (List ℕ)) (tree : X) (s : Saying) (walk : MachineState A) (findings : Findings) (held : Option (List ℕ)) (waiting : List ℕ) : Type 0 where
+  pub given : List Item
+  pub texts : List Text
+  pub same : tells tree ≡ tells of
+  pub limit : walk.limit ≡ first.limit
+  pub within : walk.spent ≤ walk.limit
+  pub few : walk.given ≤ walk.spent + 1
+  pub asks : IsAskedAfter s walk.asked
+  pub ends : walk.over ≡ is_last_step s
+  pub queued : Queues old [] held waiting (with_ends end texts)
+  pub path : findings.has_path ≡ has_any texts
+  pub kept : Over tells of first (λ ms c. texts ≡ wanted_paths (f c) given)
+  pub error : findings.has_error ≡ has_unread given
+  pub begins : Over tells of first (λ ms c. IsBeginning given (items ms))
+  pub going : GoesOn tells of first given s walk findings.end
+
+-- what a step says of the items, over each content that fits
+abbrev pub TellsStep : {A : Type 0} → (Content → Type 0) → MachineState A → Saying → MachineState A → Type 0
+TellsStep Fits walk s new = (c : Content) → (all : List Mark) → (given : List Item) → Fits c → HasGiven all c given walk → GivesNext all c given s new
+
+pub Written-first : {X A : Type 0} (end : ℕ) (f : Content → Text → Bool) (tells : X → Option Content) (of : X) (first walk : MachineState A) (old : Option (List ℕ)) (s : Saying) (findings : Findings)
+    → findings.end ≡ last.Done → findings.has_path ≡ false → findings.has_error ≡ false → StepGoes IsSomeContent 0 first s walk → TellsStep IsSomeContent first s walk
+    → Written end f tells of first old of s walk findings old []
+Written-first end f tells of first walk old s findings done path error goes next = record {
+  given = [];
+  texts = [];
+  kept = λ c told ms begun. refl;
+  same = refl;
+  limit = goes.counts.limit;
+  within = goes.counts.within;
+  few = goes.counts.few;
+  asks = goes.counts.asks;
+  ends = goes.counts.ends;
+  queued = ([], Appends-nil old, refl);
+  path = path;
+  error = error;
+  begins = λ c told ms begun. (items ms, refl);
+  going = inl (done, λ c told ms begun. next c ms [] told.1 begun);
+}
+
+begins_from : {A : Type 0} (c : Content) (ms : List Mark) (given : List Item) (walk : MachineState A) → HasGiven ms c given walk → IsBeginning given (items ms)
+begins_from c ms given walk h =
+    subst (λ js. IsBeginning js (items ms)) (sym h.same)
+    (subst (λ l. IsBeginning (items h.done) (items l)) (sym h.whole) (IsBeginning-append h.done (left_of c walk)))
+
+-- an error of a walk is no path
+abbrev IsNoPath : Outcome → Type 0
+IsNoPath (Gives (Found p)) = ⊥
+IsNoPath (Gives (Unread p k)) = ⊤
+IsNoPath (LimitAt p) = ⊤
+IsNoPath NoMemory = ⊤
+
+no_path : {A : Type 0} (why : GlobCause) (e : GlobError A) → IsNoPath (error_outcome why e)
+no_path cause.Read e = tt
+no_path cause.Memory e = tt
+no_path cause.Limit e = tt
+
+module _ {X A : Type 0} (end : ℕ) (f : Content → Text → Bool) (tells : X → Option Content) (of : X) (first : MachineState A) (old : Option (List ℕ)) (tree : X) (walk : MachineState A) (findings : Findings) (held : Option (List ℕ)) (waiting : List ℕ) where
+  -- the tree answered a question
+  pub Written-answer : (s s' : Saying) → step_units s ≡ 1 → Written end f tells of first old tree s walk findings held waiting
+      → (tree' : X) (walk' : MachineState A) (held' : Option (List ℕ)) (waiting' : List ℕ) (n : ℕ) (Fits : Content → Type 0) → tells tree' ≡ tells tree → Queues held waiting held' waiting' []
+      → ((x : Content) → IsTold (tells tree) x → Fits x) → StepGoes Fits n walk s' walk' → TellsStep Fits walk s' walk'
+      → Written end f tells of first old tree' s' walk' findings held' waiting'
+  Written-answer s s' question w tree' walk' held' waiting' n Fits same queued fits goes next = record {
+    given = w.given;
+    texts = w.texts;
+    kept = w.kept;
+    same = same ∙ w.same;
+    limit = goes.counts.limit ∙ w.limit;
+    within = goes.counts.within;
+    few = goes.counts.few;
+    asks = goes.counts.asks;
+    ends = goes.counts.ends;
+    queued = subst (Queues old [] held' waiting') (append-nil (with_ends end w.texts))
+        (Queues-trans old held held' [] waiting waiting' (with_ends end w.texts) [] w.queued queued);
+    path = w.path;
+    error = w.error;
+    begins = w.begins;
+    going = still w.going;
+  }
+    where
+      kept : (s : Saying) (c : Content) (ms : List Mark) → step_units s ≡ 1 → GivesNext ms c w.given s walk → HasGiven ms c w.given walk
+      kept AsksLook c ms q h = h
+      kept (AsksList kinds) c ms q h = h
+      kept (Says o) c ms q h = absurd (omega (arith, q))
+      kept Ends c ms q h = absurd (omega (arith, q))
+
+      still : GoesOn tells of first w.given s walk findings.end → GoesOn tells of first w.given s' walk' findings.end
+      still (inl (done, said)) = inl (done, λ c told ms begun. next c ms w.given (fits c (w.same ∙ told.0, told.1)) (kept s c ms question (said c told ms begun)))
+      still (inr (is, gave)) = let z : step_units s ≡ 0 = ap step_units is in absurd (omega (arith, z, question))
+
+  -- some of the lines that wait were written
+  pub Written-before : (s : Saying) → Written end f tells of first old tree s walk findings held waiting → (held' : Option (List ℕ)) → AppendsFront held held' waiting
+      → Over tells of first (λ ms c. FindsSomeBytes end (f c) ms old held')
+  Written-before s w held' some c told ms begun =
+      let (rest, split) = w.begins c told ms begun in
+      Queues-some old held held' _ waiting (with_ends end w.texts) (with_ends end (wanted_paths (f c) rest))
+      (records_begin end (f c) w.texts w.given rest (items ms) (w.kept c told ms begun) split) w.queued some
+
+  -- all lines were written, and nothing is left of the walk
+  pub Written-end : (s : Saying) → s ≡ Ends → Written end f tells of first old tree s walk findings held waiting → (held' : Option (List ℕ)) (waiting' : List ℕ) → Queues held waiting held' waiting' [] → waiting' ≡ []
+      → Over tells of first (λ ms c. FindsPaths end (f c) ms first.limit old held' findings)
+  Written-end s is w held' waiting' queued none c told ms begun =
+      (w.given, gave w.going, subst (λ ts. Appends old held' (with_ends end ts)) kept all, w.path ∙ ap has_any kept, w.error)
+    where
+      kept : w.texts ≡ wanted_paths (f c) w.given
+      kept = w.kept c told ms begun
+
+      all : Appends old held' (with_ends end w.texts)
+      all = Queues-all old held' (with_ends end w.texts) (subst (Queues old [] held' []) (append-nil (with_ends end w.texts))
+          (Queues-trans old held held' [] waiting [] (with_ends end w.texts) [] w.queued (subst (λ l. Queues held waiting held' l []) none queued)))
+
+      gave : GoesOn tells of first w.given s walk findings.end → GaveItems ms first.limit findings.end w.given
+      gave (inr over) = over.1 c told ms begun
+      gave (inl (done, said)) =
+          let (are, units) = subst (λ o. GivesNext ms c w.given o walk) is (said c told ms begun) in
+          let enough : cost ms ≤ first.limit = omega (arith, w.within, w.limit, units) in
+          subst (λ e. GaveItems ms first.limit e w.given) (sym done) (enough, are)
+
+  module _ (o : Outcome) (w : Written end f tells of first old tree (Says o) walk findings held waiting) where
+    going_on : GoesOn tells of first w.given (Says o) walk findings.end → (findings.end ≡ last.Done) × Over tells of first (λ ms c. GivesNext ms c w.given (Says o) walk)
+    going_on (inl said) = said
+    going_on (inr (is, gave)) = absurd (cc)
+
+    -- the item is one of the listing
+    more : (item : Item) → o ≡ Gives item → Over tells of first (λ ms c. HasGiven ms c (w.given ++ item ∷ []) walk)
+    more item is c told ms begun = subst (λ p. GivesNext ms c w.given (Says p) walk) is ((going_on w.going).1 c told ms begun)
+
+    -- the path is wanted, or not, over each content
+    abbrev IsSo : Bool → Text → Type 0
+    IsSo sure text = (c : Content) → IsTold (tells tree) c → sure ≡ f c text
+
+    told_here : (c : Content) → IsTold (tells of) c → IsTold (tells tree) c
+    told_here c told = (w.same ∙ told.0, told.1)
+
+    kept_with : (text : Text) → IsSo true text → Over tells of first (λ ms c. w.texts ++ text ∷ [] ≡ wanted_paths (f c) (w.given ++ Found text ∷ []))
+    kept_with text sure c told ms begun =
+        wanted_push (f c) w.texts (text ∷ []) w.given (Found text) (w.kept c told ms begun) (wanted_one (f c) text (sure c (told_here c told)))
+
+    -- a path could not be written
+    path_fault : (text : Text) → o ≡ Gives (Found text) → IsSo true text → (held' : Option (List ℕ)) → AppendsFront held held' (waiting ++ ended_record end text) → Over tells of first (λ ms c. FindsSomeBytes end (f c) ms old held')
+    path_fault text is sure held' some c told ms begun =
+        let (rest, split) = begins_from c ms (w.given ++ Found text ∷ []) walk (more (Found text) is c told ms begun) in
+        let after : List ℕ = with_ends end (wanted_paths (f c) rest) in
+        Queues-more old held held' _ waiting (with_ends end w.texts) (ended_record end text) after
+        (records_begin end (f c) (w.texts ++ text ∷ []) (w.given ++ Found text ∷ []) rest (items ms) (kept_with text sure c told ms begun) split
+        ∙ ap (λ l. l ++ after) (records_push end w.texts text)) w.queued some
+
+    module _ (s' : Saying) (walk' : MachineState A) (held' : Option (List ℕ)) (waiting' : List ℕ) (goes : StepGoes IsSomeContent 0 walk s' walk') (next : TellsStep IsSomeContent walk s' walk') where
+      still : Queues held waiting held' waiting' [] → Queues old [] held' waiting' (with_ends end w.texts)
+      still queued = subst (Queues old [] held' waiting') (append-nil (with_ends end w.texts))
+          (Queues-trans old held held' [] waiting waiting' (with_ends end w.texts) [] w.queued queued)
+
+      -- a path was added
+      Written-path : (text : Text) → o ≡ Gives (Found text) → IsSo true text → Queues held waiting held' waiting' (ended_record end text)
+          → Written end f tells of first old tree s' walk' (record findings { has_path = true }) held' waiting'
+      Written-path text is sure queued = record {
+        given = w.given ++ Found text ∷ [];
+        texts = w.texts ++ text ∷ [];
+        kept = kept_with text sure;
+        same = w.same;
+        limit = goes.counts.limit ∙ w.limit;
+        within = goes.counts.within;
+        few = goes.counts.few;
+        asks = goes.counts.asks;
+        ends = goes.counts.ends;
+        queued = subst (Queues old [] held' waiting') (sym (records_push end w.texts text))
+            (Queues-trans old held held' [] waiting waiting' (with_ends end w.texts) (ended_record end text) w.queued queued);
+        path = sym (has_any-push w.texts text);
+        error = w.error ∙ sym (has_unread-found w.given text);
+        begins = λ c told ms begun. begins_from c ms (w.given ++ Found text ∷ []) walk (more (Found text) is c told ms begun);
+        going = inl ((going_on w.going).0, λ c told ms begun. next c ms (w.given ++ Found text ∷ []) told.1 (more (Found text) is c told ms begun));
+      }
+
+      -- a path was passed over
+      Written-passed : (text : Text) → o ≡ Gives (Found text) → IsSo false text → Queues held waiting held' waiting' []
+          → Written end f tells of first old tree s' walk' findings held' waiting'
+      Written-passed text is never queued = record {
+        given = w.given ++ Found text ∷ [];
+        texts = w.texts;
+        kept = λ c told ms begun. sym (append-nil w.texts)
+            ∙ wanted_push (f c) w.texts [] w.given (Found text) (w.kept c told ms begun) (unwanted_one (f c) text (never c (told_here c told)));
+        same = w.same;
+        limit = goes.counts.limit ∙ w.limit;
+        within = goes.counts.within;
+        few = goes.counts.few;
+        asks = goes.counts.asks;
+        ends = goes.counts.ends;
+        queued = still queued;
+        path = w.path;
+        error = w.error ∙ sym (has_unread-found w.given text);
+        begins = λ c told ms begun. begins_from c ms (w.given ++ Found text ∷ []) walk (more (Found text) is c told ms begun);
+        going = inl ((going_on w.going).0, λ c told ms begun. next c ms (w.given ++ Found text ∷ []) told.1 (more (Found text) is c told ms begun));
+      }
+
+      -- a directory could not be listed
+      Written-unread : (p : Text) (k : ErrorKind) → o ≡ Gives (Unread p k) → Queues held waiting held' waiting' []
+          → Written end f tells of first old tree s' walk' (record findings { has_error = true }) held' waiting'
+      Written-unread p k is queued =
+          record {
+            given = w.given ++ Unread p k ∷ [];
+            texts = w.texts;
+            kept = λ c told ms begun. sym (append-nil w.texts) ∙ wanted_push (f c) w.texts [] w.given (Unread p k) (w.kept c told ms begun) refl;
+            same = w.same;
+            limit = goes.counts.limit ∙ w.limit;
+            within = goes.counts.within;
+            few = goes.counts.few;
+            asks = goes.counts.asks;
+            ends = goes.counts.ends;
+            queued = still queued;
+            path = w.path;
+            error = sym (has_unread-push w.given p k);
+            begins = λ c told ms begun. begins_from c ms (w.given ++ Unread p k ∷ []) walk (more (Unread p k) is c told ms begun);
+            going = inl ((going_on w.going).0, λ c told ms begun. next c ms (w.given ++ Unread p k ∷ []) told.1 (more (Unread p k) is c told ms begun));
+          }
+
+      -- a refusal ended the walk
+      Written-refusal : (e : End) → is_last_step (Says o) ≡ true → Queues held waiting held' waiting' [] → Over tells of first (λ ms c. GaveItems ms first.limit e w.given)
+          → Written end f tells of first old tree s' walk' (record findings { end = e }) held' waiting'
+      Written-refusal e last queued gave = record {
+        given = w.given;
+        texts = w.texts;
+        kept = w.kept;
+        same = w.same;
+        limit = goes.counts.limit ∙ w.limit;
+        within = goes.counts.within;
+        few = goes.counts.few;
+        asks = goes.counts.asks;
+        ends = goes.counts.ends;
+        queued = still queued;
+        path = w.path;
+        error = w.error;
+        begins = w.begins;
+        going = inr ((goes.counts.stays (w.ends ∙ last)).0, gave);
+      }
+
+      -- an error was reported
+      Written-error : (r : Outcome) → o ≡ r → IsNoPath r → Queues held waiting held' waiting' [] → Written end f tells of first old tree s' walk' (noting findings r) held' waiting'
+      Written-error (Gives (Found p)) is plain queued = absurd plain
+      Written-error (Gives (Unread p k)) is plain queued = Written-unread p k is queued
+      Written-error (LimitAt p) is plain queued = Written-refusal last.Limit (ap (λ r. is_last_step (Says r)) is) queued (λ c told ms begun.
+          let (all, less, are) = subst (λ r. GivesNext ms c w.given (Says r) walk) is ((going_on w.going).1 c told ms begun) in
+          (subst (λ n. n < cost ms) w.limit less, subst (λ n. w.given ≡ items (front n ms)) w.limit are))
+      Written-error NoMemory is plain queued = Written-refusal last.Memory (ap (λ r. is_last_step (Says r)) is) queued (λ c told ms begun.
+          let cut = subst (λ r. GivesNext ms c w.given (Says r) walk) is ((going_on w.going).1 c told ms begun) in
+          (walk.spent, subst (λ n. walk.spent ≤ n) w.limit w.within, cut))
+
+  -- the answer of a choice to an item
+  abbrev pub IsAnswered : Bool → Result (PathBuf A) (GlobError A) → Type 0
+  IsAnswered sure item = (c : Content) → IsTold (tells tree) c → sure ≡ is_item_wanted (f c) item
+
+  -- a choice asked the tree
+  pub Written-tree : (s : Saying) → Written end f tells of first old tree s walk findings held waiting → (tree' : X) → tells tree' ≡ tells tree
+      → Written end f tells of first old tree' s walk findings held waiting
+  Written-tree s w tree' same = record {
+    given = w.given;
+    texts = w.texts;
+    kept = w.kept;
+    same = same ∙ w.same;
+    limit = w.limit;
+    within = w.within;
+    few = w.few;
+    asks = w.asks;
+    ends = w.ends;
+    queued = w.queued;
+    path = w.path;
+    error = w.error;
+    begins = w.begins;
+    going = w.going;
+  }
+
+  -- an item was written, or waits
+  pub Written-item : (item : Result (PathBuf A) (GlobError A)) → Written end f tells of first old tree (Says (outcome item)) walk findings held waiting → IsAnswered true item
+      → (s' : Saying) (walk' : MachineState A) (held' : Option (List ℕ)) (waiting' : List ℕ) → Queues held waiting held' waiting' (item_record end item)
+      → StepGoes IsSomeContent 0 walk s' walk' → TellsStep IsSomeContent walk s' walk'
+      → Written end f tells of first old tree s' walk' (noting findings (outcome item)) held' waiting'
+  Written-item (Ok path) w sure s' walk' held' waiting' queued goes next = Written-path _ w s' walk' held' waiting' goes next (path_buf_bytes path) refl sure queued
+  Written-item (Err e) w sure s' walk' held' waiting' queued goes next = Written-error _ w s' walk' held' waiting' goes next (error_outcome e.cause e) refl (no_path e.cause e) queued
+
+  -- a path was not wanted
+  pub Written-unwanted : (item : Result (PathBuf A) (GlobError A)) → Written end f tells of first old tree (Says (outcome item)) walk findings held waiting → IsAnswered false item → IsPath item
+      → (s' : Saying) (walk' : MachineState A) → StepGoes IsSomeContent 0 walk s' walk' → TellsStep IsSomeContent walk s' walk'
+      → Written end f tells of first old tree s' walk' findings held waiting
+  Written-unwanted (Ok path) w never is s' walk' goes next = Written-passed _ w s' walk' held waiting goes next (path_buf_bytes path) refl never ([], Appends-nil held, append-nil waiting)
+  Written-unwanted (Err e) w never is s' walk' goes next = absurd is
+
+  -- an item could not be written
+  pub Written-fault : (item : Result (PathBuf A) (GlobError A)) → Written end f tells of first old tree (Says (outcome item)) walk findings held waiting → IsAnswered true item
+      → (held' : Option (List ℕ)) → AppendsFront held held' (waiting ++ item_record end item) → Over tells of first (λ ms c. FindsSomeBytes end (f c) ms old held')
+  Written-fault (Ok path) w sure held' some = path_fault _ w (path_buf_bytes path) refl sure held' some
+  Written-fault (Err e) w sure held' some = Written-before _ w held' (subst (AppendsFront held held') (append-nil waiting) some)
+
+-- whether a step follows
+abbrev pub step_number : Saying → ℕ
+step_number AsksLook = 1
+step_number (AsksList kinds) = 1
+step_number (Says o) = 1
+step_number Ends = 0
+
+-- each step leaves fewer
+pub fewer_steps : {A : Type 0} (n : ℕ) (c c' : MachineState A) (s s' : Saying) → step_number s ≡ 1 → StepCounts n c s' c'
+    → 2 * (c'.limit - c'.spent) + 2 * (c'.limit + 1 - c'.given) + step_number s' < 2 * (c.limit - c.spent) + 2 * (c.limit + 1 - c.given) + step_number s
+fewer_steps {A} n c c' s s' one h = by_saying s' h.charged h.given
+  where
+    by_saying : (x : Saying) → IsCharged n c x c' → c'.given ≡ c.given + item_number (step_outcome x)
+        → 2 * (c'.limit - c'.spent) + 2 * (c'.limit + 1 - c'.given) + step_number x < 2 * (c.limit - c.spent) + 2 * (c.limit + 1 - c.given) + step_number s
+    by_saying AsksLook e g = omega (arith, one, h.limit, h.within, e, g)
+    by_saying (AsksList kinds) e g = omega (arith, one, h.limit, h.within, e, g)
+    by_saying (Says o) e g = omega (arith, one, h.limit, h.within, h.grows, h.few, g)
+    by_saying Ends e g = omega (arith, one, h.limit, h.within, h.grows, g)

@@ -1,0 +1,4 @@
+pub mod CallerLemmas
+pub mod FoundLemmas
+pub mod NumberLemmas
+pub mod WritingLemmas

@@ -1,0 +1,5 @@
+pub mod FoundPaths
+pub mod Laws
+pub mod Outcomes
+pub mod Private
+pub mod Words

@@ -1,0 +1,40 @@
+-- What one item of a walk adds to what is written, and to what was found.
+use Rattle.std.specs.Prelude.{◌≡◌, ℕ, Bool, true, List, [], ◌++◌, Option, Result, Ok, Err, ⊤}
+use Rattle.std.specs.Io.KnownBytes.{Appends}
+use Rattle.std.specs.Path.{path_buf_bytes}
+use Rattle.std.specs.declared.path.buf.PathBuf.{PathBuf}
+use Rattle.glob_lines.specs.Lines.{ended_record}
+use Rattle.glob_text.specs.Text.{Text}
+use Rattle.glob_walk.specs.Marks.{Found, Unread}
+use Rattle.glob_walk.specs.Walks.{Outcome, Gives, LimitAt, NoMemory}
+use Rattle.glob_walk.specs.declared.error.GlobError.{GlobError}
+use Rattle.glob_walk.specs.declared.walk.End.TheVariants as end
+use Rattle.glob_console.specs.declared.find.findings.Findings.{Findings}
+
+-- These bytes follow those that waited, and of all of these the first were written, and the others wait.
+abbrev pub Queues : (old : Option (List ℕ)) → (waiting : List ℕ) → (new : Option (List ℕ)) → (waiting' : List ℕ)
+    → (bytes : List ℕ) → Type 0
+Queues old waiting new waiting' bytes =
+    (written : List ℕ) × Appends old new written × (waiting ++ bytes ≡ written ++ waiting')
+
+-- the record of an item of a walk; an error has none
+abbrev pub item_record : {A : Type 0} → (end : ℕ) → Result (PathBuf A) (GlobError A) → List ℕ
+item_record end (Ok path) = ended_record end (path_buf_bytes path)
+item_record end (Err error) = []
+
+-- an item of a walk is wanted; each error is
+abbrev pub is_item_wanted : {A : Type 0} → (wanted : Text → Bool) → Result (PathBuf A) (GlobError A) → Bool
+is_item_wanted wanted (Ok path) = wanted (path_buf_bytes path)
+is_item_wanted wanted (Err error) = true
+
+-- an item of a walk is a path
+abbrev pub IsPath : {A : Type 0} → Result (PathBuf A) (GlobError A) → Type 0
+IsPath (Ok path) = ⊤
+IsPath (Err error) = ⊥
+
+-- the same and one answer of the walk more
+abbrev pub noting : Findings → Outcome → Findings
+noting findings (Gives (Found path)) = record findings { has_path = true }
+noting findings (Gives (Unread path kind)) = record findings { has_error = true }
+noting findings (LimitAt path) = record findings { end = end.Limit }
+noting findings NoMemory = record findings { end = end.Memory }

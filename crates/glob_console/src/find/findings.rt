@@ -1,0 +1,62 @@
+//! What a search came to.
+ghost use Rattle.std.specs.Prelude.{◌≡◌, ◌≤◌, false};
+ghost use Rattle.glob_walk.specs.declared.walk.End.TheVariants as end;
+ghost use Rattle.glob_walk.specs.Walks.{outcome};
+ghost use Rattle.glob_console.specs.FoundPaths.{status_of};
+ghost use Rattle.glob_console.specs.Private.Writing.{noting};
+
+use crate::status::{FAULT, FOUND, UNFOUND};
+use glob_walk::{End, GlobCause, GlobResult};
+use std::alloc::Allocator;
+
+/// What a walk came to whose paths were written.
+#[derive(Clone, Copy)]
+pub struct Findings {
+    /// How the walk ended.
+    pub end: End,
+    /// Whether it gave a path.
+    pub has_path: bool,
+    /// Whether it gave a directory that could not be listed.
+    pub has_error: bool,
+}
+
+impl Findings {
+    /// Those of a walk that gave nothing and is done.
+    pub fn new() -> Self
+        ensures end { result.end ≡ end.Done }
+        ensures path { result.has_path ≡ false }
+        ensures error { result.has_error ≡ false }
+    {
+        Findings {
+            end: End::Done,
+            has_path: false,
+            has_error: false,
+        }
+    }
+
+    /// Takes one more item of the walk into account.
+    pub fn note<A: Allocator>(&mut self, item: &GlobResult<A>)
+        ensures { self.new ≡ noting self.old (outcome item.now) }
+    {
+        match item {
+            Ok(_) => self.has_path = true,
+            Err(error) => match error.cause() {
+                GlobCause::Read => self.has_error = true,
+                GlobCause::Limit => self.end = End::Limit,
+                GlobCause::Memory => self.end = End::Memory,
+            },
+        }
+    }
+
+    /// The exit status: 0 with a path, 1 without, and 2 where the walk met an error or did not come to its end.
+    pub fn status(self) -> u8
+        ensures { result ≡ status_of self }
+    {
+        match self.end {
+            End::Limit | End::Memory => FAULT,
+            End::Done if self.has_error => FAULT,
+            End::Done if self.has_path => FOUND,
+            End::Done => UNFOUND,
+        }
+    }
+}

@@ -1,0 +1,82 @@
+//! Records that wait for others before they are written. They are lines but for `-0`.
+ghost use Rattle.std.specs.Prelude.{◌≡◌, ◌++◌, [], IfOk, OnErr, OnOk};
+ghost use Rattle.glob_lines.specs.Lines.{AppendsFront, ended_record};
+ghost use Rattle.glob_console.specs.Private.Writing.{Queues};
+
+use crate::writing::write_whole;
+use std::alloc::{AllocError, Allocator};
+use std::io::{self, Write};
+
+/// After how many units of the walk waiting lines are written.
+const PATIENCE: u64 = 100;
+
+/// How many bytes of lines wait. The buffer has room for one more line, of the longest path of most systems.
+const CAPACITY: usize = 8192;
+
+/// Lines on their way to a writer. The first is written at once. Later ones are written together: when the buffer is
+/// full, before a question `PATIENCE` units after the last such time, and when they are flushed.
+#[derive(Drop)]
+pub struct Lines<A: Allocator> {
+    waiting: Vec<u8, A>,
+    /// How many units the walk had spent the last time that they were written before a question.
+    spent: u64,
+    has_line: bool,
+}
+
+impl<A: Allocator> Lines<A> {
+    /// No lines yet.
+    pub fn new(alloc: A) -> Result<Self, AllocError>
+        ensures { IfOk result (λ lines. lines.waiting.items ≡ []) }
+    {
+        Ok(Lines {
+            waiting: Vec::with_capacity(alloc, 2 * CAPACITY)?,
+            spent: 0,
+            has_line: false,
+        })
+    }
+
+    /// Adds the text and the byte that ends it. Where it fails, the first bytes of what waits and of these may have been written.
+    pub fn add<W: Write>(&mut self, text: &str, end: u8, output: &mut W) -> io::Result<()>
+        ensures line { OnOk result (Queues (W.contents output.old) self.old.waiting.items
+            (W.contents output.new) self.new.waiting.items (ended_record end text.now)) }
+        ensures some { OnErr result (AppendsFront (W.contents output.old) (W.contents output.new)
+            (self.old.waiting.items ++ ended_record end text.now)) }
+    {
+        self.waiting.extend_from_slice(text.as_bytes())?;
+        self.waiting.push(end)?;
+        if self.has_line && self.waiting.len() < CAPACITY {
+            return Ok(());
+        }
+        self.has_line = true;
+        self.flush(output)
+    }
+
+    /// Writes the lines that wait, if they may have waited long, before a question of a walk that has spent so much.
+    pub fn before_ask<W: Write>(&mut self, spent: u64, output: &mut W) -> io::Result<()>
+        ensures keeps { OnOk result (Queues (W.contents output.old) self.old.waiting.items
+            (W.contents output.new) self.new.waiting.items []) }
+        ensures some { OnErr result (AppendsFront (W.contents output.old) (W.contents output.new)
+            self.old.waiting.items) }
+    {
+        if spent.saturating_sub(self.spent) >= PATIENCE {
+            self.spent = spent;
+            if !self.waiting.is_empty() {
+                self.flush(output)?;
+            }
+        }
+        Ok(())
+    }
+
+    /// Writes the lines that wait. Where it fails, the first bytes of them may have been written.
+    pub fn flush<W: Write>(&mut self, output: &mut W) -> io::Result<()>
+        ensures all { OnOk result (Queues (W.contents output.old) self.old.waiting.items
+            (W.contents output.new) self.new.waiting.items []) }
+        ensures none { OnOk result (self.new.waiting.items ≡ []) }
+        ensures some { OnErr result (AppendsFront (W.contents output.old) (W.contents output.new)
+            self.old.waiting.items) }
+    {
+        write_whole(output, self.waiting.as_slice())?;
+        self.waiting.clear();
+        output.flush()
+    }
+}

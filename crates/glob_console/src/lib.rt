@@ -1,0 +1,19 @@
+//! What the programs share at the command line: words, lines of standard error, and the paths of a walk as records.
+#![tactic(auto)]
+
+mod choice;
+mod error_lines;
+mod find;
+pub mod laws;
+mod status;
+mod words;
+mod writing;
+
+pub use choice::{Choice, Every};
+pub use error_lines::ErrorLines;
+pub use find::fault::FindFault;
+pub use find::findings::Findings;
+pub use find::{WalkSettings, find_in};
+pub use status::{FAULT, FOUND, UNFOUND};
+pub use words::{arguments, parse_limit, words_of};
+pub use writing::{write_text, write_whole};

@@ -1,0 +1,47 @@
+//! The words of a command line.
+ghost use Rattle.std.specs.Prelude.{◌≡◌, IfOk, map, string_bytes};
+ghost use Rattle.std.specs.Char.{is_ascii_digit};
+ghost use Rattle.std.specs.List.{list_all};
+ghost use Rattle.glob_console.specs.Words.{limit_of};
+
+use std::alloc::{AllocError, Allocator};
+use std::{env, io};
+
+/// The arguments after the program's name. The error is too little memory for them, or one that is not UTF-8.
+pub fn arguments(rt: &HostRuntime) -> io::Result<Vec<String>> {
+    Ok(env::args(rt)?.skip(1).collect(rt.alloc())?)
+}
+
+/// The texts of the arguments.
+pub fn words_of<A: Allocator + Copy>(
+    alloc: A,
+    arguments: &[String<A>],
+) -> Result<Vec<&str, A>, AllocError>
+    ensures { IfOk result (λ words.
+        map (λ w. w.now) words.items ≡ map string_bytes arguments.now) }
+{
+    let mut words = Vec::new(alloc);
+    let mut rest = arguments;
+    while let [argument, after @ ..] = rest {
+        words.push(argument.as_str())?;
+        rest = after;
+    }
+    Ok(words)
+}
+
+/// A limit: one to twenty decimal digits, whose number is at most `u64::MAX`. So `007` is 7, and `+7` none.
+pub fn parse_limit(digits: &str) -> Option<u64>
+    ensures { result ≡ limit_of digits.now }
+{
+    if digits.len() > 20 || !are_digits(digits) {
+        return None;
+    }
+    digits.parse().ok()
+}
+
+/// Whether each character is a decimal digit. So `parse` meets no sign.
+fn are_digits(text: &str) -> bool
+    ensures { result ≡ list_all is_ascii_digit text.now }
+{
+    text.bytes().all(|byte| byte.is_ascii_digit())
+}
