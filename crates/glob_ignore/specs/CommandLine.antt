@@ -1,12 +1,8 @@
 -- What the words of a command line ask for.
-use Rattle.std.specs.Prelude.{ℕ, ◌==◌, ◌||◌, Bool, List, [], ◌∷◌, if◌then◌else◌, codes, bytes_eq, true, false}
+use Rattle.std.specs.Prelude.{ℕ, ◌||◌, Bool, List, [], ◌∷◌, if◌then◌else◌, codes, bytes_eq, true, false}
+use Rattle.glob_console.specs.Words.{is_option}
 use Rattle.glob_ignore.specs.Requests.{Request}
 use Rattle.glob_ignore.specs.Requests.{Copy, Page, VersionLine, UnknownOption, ExtraWord, NoFile}
-
--- a word that begins with a hyphen
-abbrev pub is_option : List ℕ → Bool
-is_option [] = false
-is_option (c ∷ cs) = c == 45
 
 -- the words after the options, where the records end in a byte
 abbrev pub operand_asked : (end : ℕ) → List (List ℕ) → Request

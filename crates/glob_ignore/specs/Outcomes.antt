@@ -1,13 +1,8 @@
--- What a run comes to: its status, and what its output gained.
-use Rattle.std.specs.Prelude.{◌≡◌, ℕ, ◌<◌, ◌⊎◌, List, Option}
-use Rattle.std.specs.Io.KnownBytes.{Appends}
-use Rattle.glob_lines.specs.Lines.{AppendsFront, CopiesSelected, CopiesSelectedBytes}
+-- What a copy comes to: its status, and what its output gained.
+use Rattle.std.specs.Prelude.{◌≡◌, ℕ, ◌<◌, List, Option}
+use Rattle.glob_lines.specs.Lines.{CopiesSelected, CopiesSelectedBytes}
 use Rattle.glob_rules.specs.Lists.{Ignores}
 use Rattle.glob_ignore.specs.Paths.{is_selected}
-
--- a fault before anything was done with the output
-abbrev pub IsRefused : {W : Type 0} → (old new : W) → (status : ℕ) → Type 0
-IsRefused old new status = (status ≡ 2) × (new ≡ old)
 
 -- Status 0: the list leaves some records, and just those were written, in order. Status 1: it leaves none, and none was
 -- written. Status 2: of the bytes of the records that it leaves, the first n were written, for some n.
@@ -16,7 +11,3 @@ CopiesUnignored end list input old new status =
     (status ≡ 0 → (n : ℕ) × (0 < n) × CopiesSelected end (is_selected list) input old new n)
     × (status ≡ 1 → CopiesSelected end (is_selected list) input old new 0)
     × (status ≡ 2 → CopiesSelectedBytes end (is_selected list) input old new)
-
--- Status 0: these bytes were written. Status 2: the first n of them were, for some n. There is no other status.
-unfoldable pub WritesText : (text : List ℕ) → (old new : Option (List ℕ)) → (status : ℕ) → Type 0
-WritesText text old new status = ((status ≡ 0) × Appends old new text) ⊎ ((status ≡ 2) × AppendsFront old new text)

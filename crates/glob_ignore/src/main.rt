@@ -2,9 +2,10 @@
 //! not ignore.
 #![tactic(auto)]
 
-ghost use Rattle.std.specs.Prelude.{◌≡◌, ◌≤◌, true, false, List, ℕ, Some, IfOk, OnErr, map, string_bytes};
+ghost use Rattle.std.specs.Prelude.{◌≡◌, ◌≤◌, true, false, List, ℕ, Some, IfOk, OnErr, map};
+ghost use Rattle.glob_console.specs.Outcomes.{IsRefused, WritesText};
 ghost use Rattle.glob_ignore.specs.CommandLine.{is_usage_fault, request_asked};
-ghost use Rattle.glob_ignore.specs.Outcomes.{CopiesUnignored, IsRefused, WritesText};
+ghost use Rattle.glob_ignore.specs.Outcomes.{CopiesUnignored};
 ghost use Rattle.glob_ignore.specs.Paths.{is_selected};
 ghost use Rattle.glob_ignore.specs.Requests.{Copy, Page, VersionLine};
 ghost use Rattle.glob_ignore.specs.declared.help.TheConstants.{HELP, VERSION};
@@ -20,22 +21,16 @@ mod unignored;
 use command::Command;
 use faults::Fault;
 use files::{DiskFiles, IgnoreFiles};
+use glob_console::{ErrorLines, FOUND, UNFOUND, arguments, words_of};
 use glob_lines::{LineFault, Watch, filter_selected, write_all};
 use glob_rules::IgnoreList;
-use std::alloc::{AllocError, Allocator};
-use std::env;
-use std::io::{self, Read, Write};
+use std::alloc::Allocator;
+use std::io::{Read, Write};
 use std::process::ExitCode;
 use unignored::Unignored;
 
-/// Some path was copied.
-const COPIED: u8 = 0;
-
-/// No path was copied.
-const NONE_COPIED: u8 = 1;
-
-/// There was a fault.
-const FAULT: u8 = 2;
+/// What each line of standard error begins with.
+const PREFIX: &str = "glob_ignore: ";
 
 /// Runs the program on the words after its name, and returns its exit status: 0 where a path was copied or a page was
 /// written, 1 where each path is ignored, 2 at a fault. The ignore file is read from `files`, all of it, before the input.
@@ -71,13 +66,14 @@ pub fn run_words<A: Allocator + Copy, F: IgnoreFiles, R: Read + Drop, W: Write, 
         → WritesText VERSION.now
         (W.contents output.old.inner) (W.contents output.new.inner) result }
 {
+    let errors = &mut ErrorLines::new(alloc, PREFIX, errors);
     match Command::parse(words) {
         Ok(Command::Copy { end, file }) => {
             run_copy(alloc, files, end, file, input, output, errors)
         }
-        Ok(Command::Help) => write_text(alloc, help::HELP, output, errors),
-        Ok(Command::Version) => write_text(alloc, help::VERSION, output, errors),
-        Err(usage) => fault(alloc, errors, Fault::Usage(usage)),
+        Ok(Command::Help) => write_text(help::HELP, output, errors),
+        Ok(Command::Version) => write_text(help::VERSION, output, errors),
+        Err(usage) => errors.fault(Fault::Usage(usage)),
     }
 }
 
@@ -89,7 +85,7 @@ fn run_copy<A: Allocator + Copy, F: IgnoreFiles, R: Read + Drop, W: Write, E: Wr
     file: &str,
     input: R,
     output: &mut Watch<W>,
-    errors: &mut E,
+    errors: &mut ErrorLines<'_, A, E>,
 ) -> u8
     requires { output.old.failed ≡ false }
     ensures most { result ≤ 2 }
@@ -101,7 +97,7 @@ fn run_copy<A: Allocator + Copy, F: IgnoreFiles, R: Read + Drop, W: Write, E: Wr
 {
     match files.read(alloc, file) {
         Ok(text) => copy_by(alloc, file, text.as_str(), end, input, output, errors),
-        Err(error) => fault(alloc, errors, Fault::unread(file, error)),
+        Err(error) => errors.fault(Fault::unread(file, error)),
     }
 }
 
@@ -113,7 +109,7 @@ fn copy_by<A: Allocator + Copy, R: Read + Drop, W: Write, E: Write>(
     end: u8,
     input: R,
     output: &mut Watch<W>,
-    errors: &mut E,
+    errors: &mut ErrorLines<'_, A, E>,
 ) -> u8
     requires { output.old.failed ≡ false }
     ensures most { result ≤ 2 }
@@ -123,7 +119,7 @@ fn copy_by<A: Allocator + Copy, R: Read + Drop, W: Write, E: Write>(
 {
     match IgnoreList::new(alloc, text) {
         Ok(list) => copy_records(alloc, &list, end, input, output, errors),
-        Err(refusal) => fault(alloc, errors, Fault::Refused(file, refusal)),
+        Err(refusal) => errors.fault(Fault::Refused(file, refusal)),
     }
 }
 
@@ -135,7 +131,7 @@ fn copy_records<A: Allocator + Copy, R: Read + Drop, W: Write, E: Write>(
     end: u8,
     input: R,
     output: &mut Watch<W>,
-    errors: &mut E,
+    errors: &mut ErrorLines<'_, A, E>,
 ) -> u8
     requires { output.old.failed ≡ false }
     ensures most { result ≤ 2 }
@@ -143,9 +139,9 @@ fn copy_records<A: Allocator + Copy, R: Read + Drop, W: Write, E: Write>(
         (W.contents output.old.inner) (W.contents output.new.inner) result }
 {
     match filter_input(alloc, list, end, input, output) {
-        Ok(0) => NONE_COPIED,
-        Ok(_) => COPIED,
-        Err(line_fault) => fault(alloc, errors, Fault::Copy(line_fault)),
+        Ok(0) => UNFOUND,
+        Ok(_) => FOUND,
+        Err(line_fault) => errors.fault(Fault::Copy(line_fault)),
     }
 }
 
@@ -169,12 +165,11 @@ fn filter_input<A: Allocator + Copy, R: Read + Drop, W: Write>(
 }
 
 /// Writes the whole text, and returns the status.
-#[tactic(auto, unfolding(crate::specs::Outcomes::WritesText))]
-fn write_text<A: Allocator, W: Write, E: Write>(
-    alloc: A,
+#[tactic(auto, unfolding(glob_console::specs::Outcomes::WritesText))]
+fn write_text<A: Allocator + Copy, W: Write, E: Write>(
     text: &str,
     output: &mut Watch<W>,
-    errors: &mut E,
+    errors: &mut ErrorLines<'_, A, E>,
 ) -> u8
     requires { output.old.failed ≡ false }
     ensures most { result ≤ 2 }
@@ -182,53 +177,18 @@ fn write_text<A: Allocator, W: Write, E: Write>(
         (W.contents output.old.inner) (W.contents output.new.inner) result }
 {
     match write_all(output, text.as_bytes()) {
-        Ok(()) => COPIED,
-        Err(error) => fault(alloc, errors, Fault::Copy(LineFault::Write(error))),
+        Ok(()) => FOUND,
+        Err(error) => errors.fault(Fault::Copy(LineFault::Write(error))),
     }
-}
-
-/// Writes the line of a fault at once, so that no other process writes into it, and returns its status. Where there is no
-/// memory for the line, it is written piece by piece. A fault of `errors` itself is dropped.
-fn fault<A: Allocator, E: Write>(alloc: A, errors: &mut E, fault: Fault<'_>) -> u8
-    ensures { result ≡ 2 }
-{
-    let _ = match format!(in alloc; "glob_ignore: {fault}\n") {
-        Ok(line) => errors.write_all(line.as_bytes()),
-        Err(_) => writeln!(errors, "glob_ignore: {fault}"),
-    };
-    FAULT
-}
-
-/// The texts of the arguments.
-fn words_of<A: Allocator + Copy>(
-    alloc: A,
-    arguments: &[String<A>],
-) -> Result<Vec<&str, A>, AllocError>
-    ensures { IfOk result (λ words.
-        map (λ w. w.now) words.items ≡ map string_bytes arguments.now) }
-{
-    let mut words = Vec::new(alloc);
-    let mut rest = arguments;
-    while let [argument, after @ ..] = rest {
-        words.push(argument.as_str())?;
-        rest = after;
-    }
-    Ok(words)
-}
-
-/// The arguments after the program's name.
-fn arguments(rt: &HostRuntime) -> io::Result<Vec<String>> {
-    Ok(env::args(rt)?.skip(1).collect(rt.alloc())?)
 }
 
 fn main(rt: HostRuntime) -> ExitCode {
     let alloc = rt.alloc();
-    let mut errors = rt.stderr();
+    let mut stderr = rt.stderr();
+    let mut errors = ErrorLines::new(alloc, PREFIX, &mut stderr);
     let arguments = match arguments(&rt) {
         Ok(arguments) => arguments,
-        Err(error) => {
-            return ExitCode::from(fault(alloc, &mut errors, Fault::unread_arguments(error)));
-        }
+        Err(error) => return ExitCode::from(errors.fault(Fault::unread_arguments(error))),
     };
     ExitCode::from(match words_of(alloc, arguments.as_slice()) {
         Ok(words) => {
@@ -240,10 +200,10 @@ fn main(rt: HostRuntime) -> ExitCode {
                 words.as_slice(),
                 rt.stdin(),
                 &mut output,
-                &mut errors,
+                &mut rt.stderr(),
             )
         }
-        Err(_) => fault(alloc, &mut errors, Fault::Memory),
+        Err(_) => errors.fault(Fault::Memory),
     })
 }
 

@@ -4,7 +4,7 @@ mod runs;
 
 use super::*;
 use runs::{KnownFile, Row, check, check_rows, run};
-use std::io::ErrorKind;
+use std::io::{self, ErrorKind};
 use std::test::Fail;
 
 /// A list, the words, the input, and what a run on them comes to.
