@@ -209,10 +209,11 @@ class Comparer:
                 self.ask_set(rows, texts)
 
     def ask_set(self, rows, texts):
-        """Asks a set about texts. A row is a pattern and, for each text, a letter for each setting."""
+        """Asks a set about texts, for the sum of its answers. A row is a pattern and, for each text, a letter for each
+        setting. A disagreement has the set and the texts whole."""
         files = [self.base / name for name in ("patterns", "texts")]
         for file, lines in zip(files, ([pattern for pattern, _ in rows], texts)):
-            file.write_text("".join(f"{line}\n" for line in lines), encoding="utf-8", newline="")
+            file.write_bytes("".join(f"{line}\n" for line in lines).encode())
         for at, letters in enumerate(make.SETTINGS):
             matched = [
                 [number for number, (_, row) in enumerate(rows, 1) if row[len(make.SETTINGS) * text + at] == "y"]
@@ -220,7 +221,7 @@ class Comparer:
             ]
             for question, sum_of in QUESTIONS.items():
                 words = [self.set_program, "set", letters, files[0], question, files[1], "1"]
-                found = subprocess.run(words, capture_output=True, text=True, check=False).stdout.strip()
+                found = answer_of(words)
                 expected = sum(sum_of(numbers) for numbers in matched if numbers)
                 if found != str(expected):
                     what = f"the set {[pattern for pattern, _ in rows]} and the texts {texts}: {question} is {found!r}"
@@ -305,6 +306,15 @@ class Comparer:
             self.counts["limits"] += 1
             if not is_cut(limited, whole, case.limit):
                 self.report_walk(case, self.limit_differs)
+
+
+def answer_of(words):
+    """What a program prints, or how it fails."""
+    try:
+        ended = subprocess.run(words, capture_output=True, text=True, check=False, timeout=SECONDS_A_CASE)
+    except subprocess.TimeoutExpired:
+        return f"nothing in {SECONDS_A_CASE} s"
+    return ended.stdout.strip() if ended.returncode == 0 else f"status {ended.returncode}: {ended.stderr.strip()}"
 
 
 def spent(answer):

@@ -15,6 +15,7 @@ use cadmiumdove::{glob, GlobError, GlobResult};
 /// A directory of its own.
 fn folder(name: &str) -> PathBuf {
     let root = env::temp_dir().join(format!("cadmiumdove-{}-{name}", process::id()));
+    let _ = fs::remove_dir_all(&root);
     fs::create_dir(&root).unwrap();
     root
 }

@@ -25,13 +25,14 @@ unsafe extern "C" fn readdir64(directory: *mut c_void) -> *mut c_void {
         *__errno_location() = EIO;
         return std::ptr::null_mut();
     }
-    let next = dlsym(RTLD_NEXT, c"readdir64".as_ptr());
+    let next = dlsym(RTLD_NEXT, b"readdir64\0".as_ptr().cast());
     std::mem::transmute::<*mut c_void, extern "C" fn(*mut c_void) -> *mut c_void>(next)(directory)
 }
 
 #[test]
 fn a_listing_that_fails_is_an_error_at_whichever_entry() {
     let root = env::temp_dir().join(format!("cadmiumdove-{}-failing", process::id()));
+    let _ = fs::remove_dir_all(&root);
     fs::create_dir(&root).unwrap();
     for name in ["a", "b"] {
         File::create(root.join(name)).unwrap();

@@ -1,9 +1,9 @@
 //! What a program that uses patterns of `glob` asks. `tests/border.sh` runs it over `glob`, too: but for the `use` line
 //! it is the same program.
 
-use std::collections::hash_map::RandomState;
+use std::collections::hash_map::DefaultHasher;
 use std::collections::{BTreeSet, HashSet};
-use std::hash::BuildHasher;
+use std::hash::{Hash, Hasher};
 use std::path::Path;
 use std::str::FromStr;
 
@@ -68,8 +68,13 @@ fn patterns_are_values() {
     assert_eq!(format!("{pattern:>4}{pattern:<3}|"), "  a*a* |");
     assert!(format!("{pattern:?}").contains(r#"original: "a*""#));
     assert_eq!(Pattern::default(), Pattern::new("").unwrap());
-    let hasher = RandomState::new();
-    assert_ne!(hasher.hash_one(&pattern), hasher.hash_one(Pattern::default()));
+    let hash_of = |pattern: &Pattern| {
+        let mut hasher = DefaultHasher::new();
+        pattern.hash(&mut hasher);
+        hasher.finish()
+    };
+    assert_eq!(hash_of(&pattern), hash_of(&pattern.clone()));
+    assert_ne!(hash_of(&pattern), hash_of(&Pattern::default()));
     let several = ["b", "a", "b"].map(|text| Pattern::new(text).unwrap());
     assert_eq!(several.iter().collect::<HashSet<_>>().len(), 2);
     assert_eq!(several.iter().map(Pattern::as_str).collect::<BTreeSet<_>>().len(), 2);

@@ -3,7 +3,6 @@
 use std::error::Error;
 use std::fs::{self, File};
 use std::os::unix::fs::symlink;
-use std::os::unix::net::UnixListener;
 use std::path::{Path, PathBuf};
 use std::{env, io, process};
 
@@ -16,6 +15,7 @@ impl Folder {
     /// With these files, and these directories, which end in `/`.
     fn new(name: &str, entries: &[&str]) -> Folder {
         let root = env::temp_dir().join(format!("cadmiumdove-{}-{name}", process::id()));
+        let _ = fs::remove_dir_all(&root);
         fs::create_dir(&root).unwrap();
         for entry in entries {
             let path = root.join(entry);
@@ -105,16 +105,6 @@ fn dots() {
 }
 
 #[test]
-fn kinds_of_files() {
-    let folder = Folder::new("kinds", &["d/x"]);
-    let _socket = UnixListener::bind(folder.0.join("socket")).unwrap();
-    folder.finds("socket", &["socket"]);
-    folder.finds("*", &["d", "socket"]);
-    folder.finds("*/*", &["d/x"]);
-    folder.finds("socket/", &[]);
-}
-
-#[test]
 fn many_files() {
     let names: Vec<String> = (0..10_000).map(|number| format!("{number:04}")).collect();
     let names: Vec<&str> = names.iter().map(String::as_str).collect();
@@ -176,7 +166,7 @@ fn relative_and_absolute() {
     assert_eq!(found, [Path::new("tests/walks.rs")]);
     let found: Vec<_> = glob("/").unwrap().flatten().collect();
     assert_eq!(found, [Path::new("/")]);
-    for (pattern, path) in [("//", "/"), (".", "."), ("..", "..")] {
+    for (pattern, path) in [("//", "/"), (".", "."), ("..", ".."), ("/dev/null", "/dev/null")] {
         let found: Vec<_> = glob(pattern).unwrap().flatten().collect();
         assert_eq!(found, [Path::new(path)], "{pattern}");
     }

@@ -35,6 +35,13 @@ ended() {
         kill -- "-$process" 2>/dev/null
     done
     wait
+    # what is in these groups may still write there
+    for process in "${!at_work[@]}"; do
+        for _ in {1..100}; do
+            kill -0 -- "-$process" 2>/dev/null || break
+            sleep 0.1
+        done
+    done
     rm -rf "$work"
     kill -s "$1" $$
 }
