@@ -108,30 +108,31 @@ function tokensOf(pattern) {
 }
 
 const quoted = (text) => `“${text}”`;
+const sentence = (text) => text[0].toUpperCase() + text.slice(1);
 const IGNORE = 1, SEPARATOR = 2, DOT = 4;
 
 // Why a wildcard or a bracket does not take the character of a text there, by a rule; or nothing.
-function ruleAgainst(token, all, place) {
+function ruleAgainst(token, all, place, isLast) {
   const here = all[place], begins = place === 0 || all[place - 1] === "/";
   if (here === "/" && flags() & SEPARATOR && token.kind !== "components") return "but by the separator rule no /";
   if (here === "." && begins && flags() & DOT) return "but by the dot rule no . that begins a component";
-  return token.kind === "components" && !all.slice(place).includes("/") ? "but there is no / after here" : "";
+  return token.kind === "components" && !isLast && !all.slice(place).includes("/") ? "but there is no / after here" : "";
 }
 
 // What a token wants at a place of the text, in words.
-function wantOf(token, all, place) {
+function wantOf(token, all, place, isLast) {
   if (token.kind === "literal") {
     const here = all[place] || "";
-    return here.toLowerCase() === token.written.toLowerCase() ? "in upper or lower case as here" : "";
+    return /^[A-Za-z]$/.test(here) && here.toLowerCase() === token.written.toLowerCase() ? "in upper or lower case as here" : "";
   }
   const inner = quoted(token.written.slice(token.isNone ? 2 : 1, -1));
   const words = {
     one: "any one character",
     any: "any characters",
-    components: "whole components, each with its /",
+    components: isLast ? "whole components" : "whole components, each with its /",
     bracket: token.isNone ? `one character, but none of ${inner}` : `one character of ${inner}`,
   }[token.kind];
-  return [words, ruleAgainst(token, all, place)].filter(Boolean).join(", ");
+  return [words, ruleAgainst(token, all, place, isLast)].filter(Boolean).join(", ");
 }
 
 const grows = (token) => token.kind === "any" || token.kind === "components";
@@ -152,9 +153,9 @@ function lackingEnd(tokens, waiting, text) {
 
 // The options that, changed alone, make the text match: a flag, what it becomes, and words.
 const LOOSER = [
-  [IGNORE, true, "with upper and lower case as the same:", "-i"],
-  [SEPARATOR, false, "without the separator rule, by which ?, * and brackets take no /:", "-s"],
-  [DOT, false, "without the dot rule, by which only a . takes a . that begins a component:", "-d"],
+  [IGNORE, true, "with upper and lower case as the same: write", "-i"],
+  [SEPARATOR, false, "without the separator rule, by which ?, * and brackets take no /: leave out", "-s"],
+  [DOT, false, "without the dot rule, by which no wildcard or bracket takes a . that begins a component: leave out", "-d"],
 ];
 
 function looserFor(pattern, text) {
@@ -207,15 +208,18 @@ const HINTS = [
   [/\[!?\[:\w+:\]/, "There are no classes such as [:alpha:]. Write the ranges: [a-zA-Z], [0-9]."],
   [/\\/, "A \\ stands for itself. A wildcard alone is written in brackets: [*], [?] or [[]."],
   [/\[\^/, "^ stands for itself in brackets. All but some characters is [!abc]."],
-  [/\*\*[^/*]|[^/*]\*\*/, "** is a whole component. Write **/*.rs for files at any depth, and *.rs for the rest of one name."],
 ];
 
-const BRACKET = ["invalid range pattern", "A [ begins a bracket, as [abc], and needs its ]. The character [ alone is written [[]."];
+const FAULTS = {
+  "invalid range pattern": "A [ begins a bracket, as [abc]: one character or more, and then ]. A ] right after [ or [! is such a character. The character [ alone is written [[].",
+  "recursive wildcards must form a single path component": "** stands alone between separators. Write **/a*.rs for a*.rs at any depth, and a*.rs for names that begin with a.",
+  "wildcards are either regular `*` or recursive `**`": "Write * for any characters of a name, and ** for any number of components.",
+};
 
 function drawPattern() {
   const pattern = $("pattern").value, fault = faultOf(pattern);
-  const hints = HINTS.filter(([form]) => form.test(pattern)).concat(fault?.message === BRACKET[0] ? [BRACKET] : []);
-  const hint = hints.map(([, words]) => make("p", { className: "hint" }, words));
+  const hints = HINTS.filter(([form]) => form.test(pattern)).map(([, words]) => words).concat(FAULTS[fault?.message] ?? []);
+  const hint = hints.map((words) => make("p", { className: "hint" }, words));
   const said = fault
     ? [caret(pattern, fault.place, "fault"), make("p", { className: "wrong" }, `Refused at character ${fault.place}: ${fault.message}`)]
     : [chips(tokensOf(pattern), tokensOf(pattern).map((token) => token.written))];
@@ -228,16 +232,16 @@ function drawWhy(pattern, tokens, text, place, waiting) {
   const all = [...text], isEnd = place === all.length, end = isEnd ? lackingEnd(tokens, waiting, text) : [];
   const wanted = wantedAt(waiting, tokens, isEnd).map((i) => {
     const run = tokens[i].kind === "literal" ? tokens.slice(i).filter((it) => it.group === tokens[i].group) : [tokens[i]];
-    return make("li", {}, chip(run.map((it) => it.written).join(""), tokens[i]), wantOf(tokens[i], all, place));
+    return make("li", {}, chip(run.map((it) => it.written).join(""), tokens[i]), wantOf(tokens[i], all, place, i === tokens.length - 1));
   });
   if (match(pattern, all.slice(0, place).join(""), flags()).status === YES) wanted.push(make("li", {}, "the end of the text"));
-  const looser = looserFor(pattern, text), furthest = looser.length ? "Under the options, read as far as it goes: " : "";
-  const where = isEnd ? "The text ends here, but the pattern wants" : `It stops at ${quoted(all[place])}: the pattern wants`;
+  const looser = looserFor(pattern, text), furthest = looser.length ? "With the options as they are: " : "";
+  const where = isEnd ? "the text ends here, but the pattern wants" : `it stops at ${quoted(all[place])}, and the pattern wants`;
   const why = make("div", { className: "why" }, ...looser);
   if (end.length) {
     why.append(make("p", {}, "It does not end in:"), chips(end, end.map((token) => token.written)));
   } else {
-    why.append(make("p", {}, `${furthest}${where}${wanted.length > 1 ? " one of these" : ""}:`), make("ul", {}, ...wanted));
+    why.append(make("p", {}, sentence(`${furthest}${where}${wanted.length > 1 ? " one of these" : ""}:`)), make("ul", {}, ...wanted));
   }
   return why;
 }
@@ -272,20 +276,20 @@ function pathsOf(text) {
   return [...seen];
 }
 
-const ANSWERS = { dir: "a directory", other: "no directory", missing: "nothing", unread: "it cannot be listed" };
+const ANSWERS = { dir: "a directory", other: "no directory", missing: "nothing", unread: "no answer" };
 const QUESTIONS = { look: "What is at", list: "What is in", names: "Which names are in" };
 
-function stepsOf(lines) {
+function stepsOf(lines, limit) {
   const steps = [];
   for (const line of lines) {
-    const [, word, spent, text] = /^(\S+) (\d+) (.*)$/.exec(line);
+    const [, word, spent, text] = /^(\S+) (\d+) ([^]*)$/.exec(line);
     if (word in QUESTIONS) steps.push({ sort: "question", said: `${QUESTIONS[word]} ${quoted(text)}?`, answers: [], spent });
     else if (word in ANSWERS) steps[steps.length - 1].answers.push(ANSWERS[word]);
     else if (word.startsWith("in-")) steps[steps.length - 1].answers.push(text + (word === "in-dir" ? "/" : ""));
     else if (word === "item") steps.push({ sort: "item", said: `Found: ${text}`, spent });
     else if (word === "error") {
-      const isUnread = (steps[steps.length - 1]?.answers || []).includes(ANSWERS.unread);
-      steps.push({ sort: "wrong", said: isUnread ? `Skipped: ${text} cannot be listed` : `Stopped at ${text}: the limit is used up`, spent });
+      const why = Number(spent) < limit ? "there is no memory left" : "the limit is used up";
+      steps.push({ sort: "wrong", said: `Stopped at ${text}: ${why}`, spent });
     } else steps.push({ sort: "done", said: "Done", spent });
   }
   return steps;
@@ -295,7 +299,7 @@ let steps = [];
 function drawWalk(accepted) {
   const limit = Math.min(Math.max(Number($("limit").value) || 0, 0), 10000);
   const walked = accepted ? walk($("pattern").value, flags(), limit, pathsOf($("tree").value)) : { wrong: "The pattern is refused." };
-  steps = walked.lines ? stepsOf(walked.lines) : [];
+  steps = walked.lines ? stepsOf(walked.lines, limit) : [];
   $("step").min = String(Math.min(steps.length, 1));
   $("step").max = String(steps.length);
   $("step").value = String(Math.min(steps.length, 1));

@@ -28,7 +28,9 @@ use std::io::{self, Write};
 /// What is walked, how far, and what ends each record that is written.
 #[derive(Clone, Copy)]
 pub struct WalkSettings<'a> {
+    /// The pattern, as a text.
     pub pattern: &'a str,
+    /// How it is matched.
     pub options: MatchOptions,
     /// How many units the walk may spend.
     pub limit: u64,

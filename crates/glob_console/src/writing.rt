@@ -10,7 +10,7 @@ use crate::status::FOUND;
 use std::alloc::Allocator;
 use std::io::{self, ErrorKind, Write};
 
-/// Writes the whole text, and returns the status.
+/// Writes the whole text, and returns the status: 0, or 2 after the line `writing failed`.
 #[tactic(auto, unfolding(crate::specs::Outcomes::WritesText))]
 pub fn write_text<A: Allocator + Copy, W: Write, E: Write>(
     text: &str,

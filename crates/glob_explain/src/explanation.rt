@@ -22,7 +22,7 @@ pub struct Explanation<A: Allocator> {
 /// So of `*.rs` and `a.rs` the lines are `*`, a tab and `a`, then `.`, a tab and `.`, and so on; of `a?` and `ab/` they are
 /// `ab/`, a caret under the `/`, and `the pattern ends here`. The errors are:
 ///
-/// - [`CapturesError::TooLarge`]: the tokens times the bytes are more than [`captures`] takes. Nothing was done.
+/// - [`CapturesError::TooLarge`]: the tokens times the bytes are more than `MOST_STEPS` of `glob_captures`.
 /// - [`CapturesError::Memory`]: an allocation failed.
 pub fn explain<A: Allocator + Copy>(
     alloc: A,

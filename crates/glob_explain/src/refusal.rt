@@ -4,11 +4,11 @@ use crate::instead::accepted_instead;
 use glob_pattern::PatternError;
 use std::alloc::{AllocError, Allocator};
 
-/// The fault of a pattern that is refused, the pattern with a caret under it, and what to write instead, as three lines, of
-/// which the last has no line feed.
+/// Explains why `Pattern::new` refused `written` with this error, in four lines: the error, the pattern, a caret under the
+/// character of the fault, and what to write instead. The last has no line feed. The error is an allocation failure.
 ///
-/// So of `a[b` they are `Pattern syntax error near position 1: invalid range pattern`, `a[b` with a caret below the `[`,
-/// and `write instead: a[[]b`.
+/// So of `a[b` they are `Pattern syntax error near position 1: invalid range pattern`, `a[b`, a caret below the `[`, and
+/// `write instead: a[[]b`.
 pub fn explain_refusal<A: Allocator + Copy>(
     alloc: A,
     written: &str,

@@ -43,7 +43,7 @@ class_named name =
     else if bytes_eq name (codes "xdigit") then Some Xdigit
     else None
 
--- what is before the next `]`
+-- what is before the first `]`, or all of it where there is none
 abbrev pub before_close : Text → Text
 before_close text = before_first (λ c. c == close_bracket) text
 

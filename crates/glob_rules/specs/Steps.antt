@@ -1,5 +1,5 @@
 -- What a byte of a rule does, after those before it: git's syntax on the left, the grammar of patterns on the right.
--- `ahead` is what comes before the next `]`.
+-- `ahead` is what follows the byte, up to the next `]` or, where there is none, to the end.
 use Rattle.std.specs.Prelude.{ℕ, Bool, true, false, ◌||◌, ◌&&◌, not, nat_le, ◌==◌, if◌then◌else◌, Option, Some, None}
 use Rattle.glob_text.specs.Characters.{slash}
 use Rattle.glob_text.specs.Text.{Text}

@@ -75,7 +75,7 @@ impl Class {
     }
 }
 
-/// What is before the next `]`.
+/// What is before the first `]`, or all of it where there is none.
 pub fn before_close(text: &[u8]) -> &[u8]
     ensures { result.now ≡ before_close text.now }
 {

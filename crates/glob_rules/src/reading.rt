@@ -71,7 +71,7 @@ impl<A: Allocator + Copy> Reading<A> {
 }
 
 impl<A: Allocator> Reading<A> {
-    /// Reads one byte, where `ahead` is what is before the next `]`.
+    /// Reads one byte, where `ahead` is what follows it, up to the next `]` or the end.
     #[tactic(auto, unfolding(crate::specs::Readings::next_reading))]
     fn advance(&mut self, c: u8, ahead: &[u8]) -> Result<(), AllocError>
         ensures { OnOk result (self.new ≡ next_reading self.old c ahead.now) }

@@ -23,7 +23,7 @@ pub enum Mode {
     Open,
     /// `[!` or `[^`.
     Negation,
-    /// An item of a bracket that begins no range.
+    /// A range of a bracket, or a class: what follows begins anew.
     Range,
     /// An item of a bracket that may begin a range.
     Item(u8),
@@ -347,7 +347,7 @@ fn accepted_step(mode: Mode, c: u8, ahead: &[u8]) -> Step
     }
 }
 
-/// What a byte does after those before it, where `ahead` is what is before the next `]`.
+/// What a byte does after those before it, where `ahead` is what follows it, up to the next `]` or the end.
 #[tactic(auto, unfolding(crate::specs::Steps::step_from))]
 pub fn step_from(mode: Mode, c: u8, ahead: &[u8]) -> Step
     ensures { result ≡ step_from mode c ahead.now }

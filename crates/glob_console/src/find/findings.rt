@@ -14,7 +14,7 @@ use std::alloc::Allocator;
 pub struct Findings {
     /// How the walk ended.
     pub end: End,
-    /// Whether it gave a path.
+    /// Whether it gave a path that is wanted.
     pub has_path: bool,
     /// Whether it gave a directory that could not be listed.
     pub has_error: bool,
@@ -48,7 +48,7 @@ impl Findings {
         }
     }
 
-    /// The exit status: 0 with a path, 1 without, and 2 where the walk met an error or did not come to its end.
+    /// The exit status: 0 with a wanted path, 1 without, and 2 where the walk met an error or did not come to its end.
     pub fn status(self) -> u8
         ensures { result ≡ status_of self }
     {
