@@ -140,7 +140,7 @@ class Comparer:
             os.seteuid(own)
 
     def count(self, reason):
-        """Counts a difference that is meant. Raises one that comes too often for want of the crate's answer."""
+        """Counts a difference that is meant. Raises one that comes too often because the crate gave no answer."""
         self.accounts[reason] += 1
         asked = self.counts["patterns"] + self.counts["walks"]
         if self.accounts[UNANSWERED] > 1 + asked / CASES_FOR_ONE_UNANSWERED:

@@ -24,7 +24,7 @@ use Rattle.glob_walk.specs.declared.walk.End.TheVariants as last
 use Rattle.glob_walk.specs.declared.error.GlobCause.TheVariants as cause
 use Rattle.glob_walk.specs.Walks.{Outcome, Gives, LimitAt, NoMemory, outcome, error_outcome, item_number}
 use Rattle.glob_walk.proofs.ListingLemmas.Marks.{IsBeginning-append}
-use Rattle.glob_console.specs.FoundPaths.{FindsPaths, FindsSomeBytes, GaveItems, every, has_any, has_unread, wanted_paths}
+use Rattle.glob_console.specs.FoundPaths.{FindsPaths, FindsSomeBytes, GaveItems, has_any, has_unread, wanted_paths}
 use Rattle.glob_console.specs.Private.Writing.{IsPath, Queues, is_item_wanted, item_record, noting}
 use Rattle.glob_console.proofs.WritingLemmas.{Queues-all, Queues-some, Queues-more, Queues-trans}
 use Rattle.glob_console.specs.declared.find.findings.Findings.{Findings}
@@ -47,12 +47,6 @@ has_unread-push : (is : List Item) (p : Text) (k : ErrorKind) → has_unread (is
 has_unread-push [] p k = refl
 has_unread-push (Found q ∷ is) p k = has_unread-push is p k
 has_unread-push (Unread q l ∷ is) p k = refl
-
--- where each path is wanted, those that are wanted are all paths
-pub wanted-every : (is : List Item) → wanted_paths every is ≡ paths is
-wanted-every [] = refl
-wanted-every (Found p ∷ is) = ap (λ ps. p ∷ ps) (wanted-every is)
-wanted-every (Unread p k ∷ is) = wanted-every is
 
 -- what is wanted of some items and of those after them
 wanted-append : (wanted : Text → Bool) (is js : List Item) → wanted_paths wanted (is ++ js) ≡ wanted_paths wanted is ++ wanted_paths wanted js

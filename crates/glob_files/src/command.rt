@@ -96,7 +96,8 @@ impl<'a, A: Allocator + Copy> Search<'a, A> {
 /// The patterns behind the options. Those that begin with `-` are behind `--`.
 fn patterns_of<'a>(words: &'a [&'a str]) -> Result<&'a [&'a str], UsageFault<'a>>
     ensures patterns { IfOk result (λ patterns. (o : Chosen)
-        → patterns_asked o (map (λ w. w.now) words.now) ≡ Paths o (map (λ w. w.now) patterns.now)) }
+        → patterns_asked o (map (λ w. w.now) words.now)
+        ≡ Paths o (map (λ w. w.now) patterns.now)) }
     ensures wrong { IfErr result (λ fault. (o : Chosen)
         → IsWrong (patterns_asked o (map (λ w. w.now) words.now)) fault) }
 {

@@ -23,7 +23,7 @@ pub enum Fault<'a> {
 }
 
 impl<'a> Fault<'a> {
-    /// The ignore file cannot be read, for want of memory or another reason.
+    /// The ignore file cannot be read: out of memory, or another reason.
     pub fn unread(file: &'a str, error: io::Error) -> Self {
         match error.kind() {
             ErrorKind::OutOfMemory => Fault::Memory,
@@ -31,7 +31,7 @@ impl<'a> Fault<'a> {
         }
     }
 
-    /// The arguments cannot be read, for want of memory or another reason.
+    /// The arguments cannot be read: out of memory, or another reason.
     pub fn unread_arguments(error: io::Error) -> Self {
         match error.kind() {
             ErrorKind::OutOfMemory => Fault::Memory,
