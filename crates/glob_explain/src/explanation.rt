@@ -1,10 +1,11 @@
 //! Whether a pattern matches a text, and why.
-ghost use Rattle.std.specs.Prelude.{◌↔◌, IfOk, IsTrue, chars};
+ghost use Rattle.std.specs.Prelude.{◌≡◌, ◌<◌, ◌*◌, ◌↔◌, length, IfOk, IsTrue, chars};
+ghost use Rattle.glob_pattern.specs.Computing.Tokens.{tokens_of};
 ghost use Rattle.glob_pattern.specs.Matching.Texts.{Matches};
 
 use crate::rows::{add_row, part_of};
 use crate::stop::stop_lines;
-use glob_captures::{CapturesError, Piece, captures, tokens};
+use glob_captures::{CapturesError, MOST_STEPS, Piece, captures, tokens};
 use glob_pattern::{MatchOptions, Pattern};
 use std::alloc::{AllocError, Allocator};
 
@@ -22,7 +23,7 @@ pub struct Explanation<A: Allocator> {
 /// So of `*.rs` and `a.rs` the lines are `*`, a tab and `a`, then `.`, a tab and `.`, and so on; of `a?` and `ab/` they are
 /// `ab/`, a caret under the `/`, and `the pattern ends here`. The errors are:
 ///
-/// - [`CapturesError::TooLarge`]: the tokens times the bytes are more than `MOST_STEPS` of `glob_captures`.
+/// - [`CapturesError::TooLarge`]: the tokens times the bytes are more than [`MOST_STEPS`].
 /// - [`CapturesError::Memory`]: an allocation failed.
 pub fn explain<A: Allocator + Copy>(
     alloc: A,
@@ -30,8 +31,10 @@ pub fn explain<A: Allocator + Copy>(
     text: &str,
     options: MatchOptions,
 ) -> Result<Explanation<A>, CapturesError>
-    ensures { IfOk result (λ explanation. IsTrue explanation.is_match
+    ensures answer { IfOk result (λ explanation. IsTrue explanation.is_match
         ↔ Matches options (chars pattern.now) (chars text.now)) }
+    ensures large { (result ≡ Err CapturesError.TooLarge)
+        ↔ (MOST_STEPS < length (tokens_of (chars pattern.now)) * length text.now) }
 {
     match captures(alloc, pattern, text, options)? {
         Some(pieces) => Ok(Explanation {

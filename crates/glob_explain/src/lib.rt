@@ -11,5 +11,5 @@ mod rows;
 mod stop;
 
 pub use explanation::{Explanation, explain};
-pub use glob_captures::CapturesError;
+pub use glob_captures::{CapturesError, MOST_STEPS};
 pub use refusal::explain_refusal;

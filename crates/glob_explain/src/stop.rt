@@ -1,10 +1,13 @@
 //! Where a text that does not match stops, and what is wanted there.
+ghost use Rattle.std.specs.Prelude.{◌≡◌, ◌<◌, ◌*◌, ◌↔◌, length, chars};
+ghost use Rattle.glob_pattern.specs.Computing.Tokens.{tokens_of};
+
 mod wanted;
 
 use crate::caret::add_caret;
 use crate::foreign::foreign_instead;
 use crate::rows::{add_row, part_of};
-use glob_captures::{CapturesError, Piece, Written, reach, tokens};
+use glob_captures::{CapturesError, MOST_STEPS, Piece, Written, reach, tokens};
 use glob_pattern::{MatchOptions, Pattern, PatternRefusal};
 use std::alloc::{AllocError, Allocator};
 use wanted::{add_want, grows, run_end};
@@ -32,7 +35,10 @@ pub fn stop_lines<A: Allocator + Copy>(
     pattern: &Pattern<A>,
     text: &str,
     options: MatchOptions,
-) -> Result<String<A>, CapturesError> {
+) -> Result<String<A>, CapturesError>
+    ensures large { (result ≡ Err CapturesError.TooLarge)
+        ↔ (MOST_STEPS < length (tokens_of (chars pattern.now)) * length text.now) }
+{
     let reached = reach(alloc, pattern, text, options)?;
     let list = tokens(alloc, pattern)?;
     let stop = Stop {
