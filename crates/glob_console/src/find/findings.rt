@@ -22,7 +22,7 @@ pub struct Findings {
 
 impl Findings {
     /// Those of a walk that gave nothing and is done.
-    pub fn new() -> Self
+    pub(crate) fn new() -> Self
         ensures end { result.end ≡ end.Done }
         ensures path { result.has_path ≡ false }
         ensures error { result.has_error ≡ false }
@@ -35,7 +35,7 @@ impl Findings {
     }
 
     /// Takes one more item of the walk into account.
-    pub fn note<A: Allocator>(&mut self, item: &GlobResult<A>)
+    pub(crate) fn note<A: Allocator>(&mut self, item: &GlobResult<A>)
         ensures { self.new ≡ noting self.old (outcome item.now) }
     {
         match item {
