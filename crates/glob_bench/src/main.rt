@@ -20,7 +20,7 @@ mod chain;
 
 use answer::answer_lines;
 use anyhow::{Context, Result, bail};
-use captures::{lines_that_match, time_captures};
+use captures::{Times, lines_that_match, time_captures};
 use chain::Chain;
 use glob::{MatchOptions, Pattern, glob_in};
 use std::alloc::{AllocError, Global};
@@ -103,54 +103,132 @@ fn captures_line<R: Files + Clock + AllocGlobal>(
     file: &str,
     rounds: u32,
 ) -> Result<String> {
-    let pattern = Pattern::new(rt.alloc(), pattern_text(rt, pattern)?.as_str())
-        .ok()
-        .context("no pattern")?;
+    let pattern = pattern_of(rt, pattern)?;
     let text = fs::read_to_string(rt, file)?;
-    let lines = text.as_str().lines().collect::<Vec<&str>>(rt.alloc())?;
-    let options = options_of(letters);
-    let all = time_captures(rt, &pattern, options, lines.as_slice(), rounds)?;
-    let found = lines_that_match(rt, &pattern, options, lines.as_slice())?;
-    let some = time_captures(rt, &pattern, options, found.as_slice(), rounds)?;
+    let (all, some) = captures_times(rt, &pattern, options_of(letters), text.as_str(), rounds)?;
     Ok(format!(in rt.alloc();
         "{} {} {} {} {}",
         all.count, all.matching, all.capturing, some.matching, some.capturing
     )?)
 }
 
+/// The times of captures of all lines of a text, and of those that the pattern matches.
+fn captures_times<R: Clock + AllocGlobal>(
+    rt: &R,
+    pattern: &Pattern,
+    options: MatchOptions,
+    text: &str,
+    rounds: u32,
+) -> Result<(Times, Times)> {
+    let lines = text.lines().collect::<Vec<&str>>(rt.alloc())?;
+    let all = time_captures(rt, pattern, options, lines.as_slice(), rounds)?;
+    let found = lines_that_match(rt, pattern, options, lines.as_slice())?;
+    let some = time_captures(rt, pattern, options, found.as_slice(), rounds)?;
+    Ok((all, some))
+}
+
+/// How many times over, in the word.
+fn times_of(word: &str) -> Result<u32> {
+    Ok(word.parse::<u32>()?)
+}
+
+/// The pattern that a word stands for.
+fn pattern_of<R: Files + AllocGlobal>(rt: &R, word: &str) -> Result<Pattern> {
+    let text = pattern_text(rt, word)?;
+    Pattern::new(rt.alloc(), text.as_str())
+        .ok()
+        .context("no pattern")
+}
+
+/// Matches the lines of a text over and over. The answer is the count, and the time in nanoseconds.
+fn time_matches<R: Clock + AllocGlobal>(
+    rt: &R,
+    pattern: &Pattern,
+    options: MatchOptions,
+    text: &str,
+    times: u32,
+) -> Result<(u64, u128)> {
+    let lines = text.lines().collect::<Vec<&str>>(rt.alloc())?;
+    let start = Instant::now(rt)?;
+    let count = count_matches(pattern, options, lines.as_slice(), times)?;
+    Ok((count, start.elapsed(rt)?.as_nanos()))
+}
+
+/// Reads a pattern over and over. The answer is the count, and the time in nanoseconds.
+fn time_compiling<R: Clock + AllocGlobal>(
+    rt: &R,
+    pattern: &str,
+    times: u32,
+) -> Result<(u64, u128)> {
+    let start = Instant::now(rt)?;
+    let count = compile(rt.alloc(), pattern, times)?;
+    Ok((count, start.elapsed(rt)?.as_nanos()))
+}
+
+/// Walks over so many levels over and over. The answer is the count, and the time in nanoseconds.
+fn time_walks<R: Clock + AllocGlobal>(
+    rt: &R,
+    pattern: &str,
+    levels: usize,
+    times: u32,
+) -> Result<(u64, u128)> {
+    let start = Instant::now(rt)?;
+    let count = walk(rt.alloc(), pattern, levels, times)?;
+    Ok((count, start.elapsed(rt)?.as_nanos()))
+}
+
+/// Matches the lines of a file.
+fn match_file<R: Files + Clock + AllocGlobal>(
+    rt: &R,
+    letters: &str,
+    pattern: &str,
+    file: &str,
+    times: &str,
+) -> Result<(u64, u128)> {
+    let times = times_of(times)?;
+    let pattern = pattern_of(rt, pattern)?;
+    let text = fs::read_to_string(rt, file)?;
+    time_matches(rt, &pattern, options_of(letters), text.as_str(), times)
+}
+
 /// Does what the words after the program's name say. The answer is the count, and the time in nanoseconds.
 fn run<R: Files + Clock + AllocGlobal>(rt: &R, words: &[&str]) -> Result<(u64, u128)> {
     match words {
-        ["match", letters, pattern, file, times] => {
-            let pattern = Pattern::new(rt.alloc(), pattern_text(rt, pattern)?.as_str())
-                .ok()
-                .context("no pattern")?;
-            let text = fs::read_to_string(rt, file)?;
-            let lines = text.as_str().lines().collect::<Vec<&str>>(rt.alloc())?;
-            let times = times.parse::<u32>()?;
-            let start = Instant::now(rt)?;
-            let count = count_matches(&pattern, options_of(letters), lines.as_slice(), times)?;
-            Ok((count, start.elapsed(rt)?.as_nanos()))
-        }
+        ["match", letters, pattern, file, times] => match_file(rt, letters, pattern, file, times),
         ["compile", pattern, times] => {
-            let pattern = pattern_text(rt, pattern)?;
-            let times = times.parse::<u32>()?;
-            let start = Instant::now(rt)?;
-            let count = compile(rt.alloc(), pattern.as_str(), times)?;
-            Ok((count, start.elapsed(rt)?.as_nanos()))
+            let times = times_of(times)?;
+            time_compiling(rt, pattern_text(rt, pattern)?.as_str(), times)
         }
         ["walk", pattern, levels, times] => {
-            let pattern = pattern_text(rt, pattern)?;
-            let levels = levels.parse::<usize>()?;
-            let times = times.parse::<u32>()?;
-            let start = Instant::now(rt)?;
-            let count = walk(rt.alloc(), pattern.as_str(), levels, times)?;
-            Ok((count, start.elapsed(rt)?.as_nanos()))
+            let (levels, times) = (levels.parse::<usize>()?, times_of(times)?);
+            time_walks(rt, pattern_text(rt, pattern)?.as_str(), levels, times)
         }
         _ => bail!(
             "usage: glob_bench match OPTIONS PATTERN FILE TIMES | compile PATTERN TIMES | walk PATTERN LEVELS TIMES | captures OPTIONS PATTERN FILE ROUNDS | answer"
         ),
     }
+}
+
+/// Writes the count and the times of `captures`.
+fn write_captures<R: Files + Clock + Print + AllocGlobal>(
+    rt: &R,
+    letters: &str,
+    pattern: &str,
+    file: &str,
+    rounds: &str,
+) -> Result<()> {
+    let rounds = times_of(rounds)?;
+    let line = captures_line(rt, letters, pattern, file, rounds)?;
+    println!(rt; "{line}")?;
+    Ok(())
+}
+
+/// Writes the count and the time of the other commands.
+fn write_time(rt: &HostRuntime, words: &[&str]) -> Result<()> {
+    let (count, nanoseconds) = run(rt, words)?;
+    println!(rt; "{count}")?;
+    eprintln!(rt; "{nanoseconds}")?;
+    Ok(())
 }
 
 fn main(rt: HostRuntime) -> Result<()> {
@@ -159,16 +237,11 @@ fn main(rt: HostRuntime) -> Result<()> {
         .iter()
         .map(|word| word.as_str())
         .collect::<Vec<&str>>(rt.alloc())?;
-    if let ["answer"] = words.as_slice() {
-        return answer_lines(rt);
+    match words.as_slice() {
+        ["answer"] => answer_lines(rt),
+        ["captures", letters, pattern, file, rounds] => {
+            write_captures(&rt, letters, pattern, file, rounds)
+        }
+        words => write_time(&rt, words),
     }
-    if let ["captures", letters, pattern, file, rounds] = words.as_slice() {
-        let line = captures_line(&rt, letters, pattern, file, rounds.parse::<u32>()?)?;
-        println!(rt; "{line}")?;
-        return Ok(());
-    }
-    let (count, nanoseconds) = run(&rt, words.as_slice())?;
-    println!(rt; "{count}")?;
-    eprintln!(rt; "{nanoseconds}")?;
-    Ok(())
 }
