@@ -22,6 +22,13 @@ max_set x y p q = (
 min_set : (x y : ℕ) → x < 2 → y < 2 → (min x y ≡ 1) ↔ ((x ≡ 1) × (y ≡ 1))
 min_set x y p q = (λ h. (omega arith, omega arith), λ (e, f). omega arith)
 
+-- one of two bits alone
+one_set : (x y : ℕ) → x < 2 → y < 2 → ((x + y) % 2 ≡ 1) ↔ (((x ≡ 1) × ¬ (y ≡ 1)) ⊎ (¬ (x ≡ 1) × (y ≡ 1)))
+one_set x y p q = (
+  λ h. ⊎_elim (λ e. inl (e, λ f. omega arith)) (λ ne. inr (ne, omega arith)) (cases_eq x 1),
+  λ h. ⊎_elim (λ (e, ne). omega arith) (λ (ne, e). omega arith) h,
+)
+
 pub IsOne-zero : (j : ℕ) → IsOne 0 j → ⊥
 IsOne-zero j h = let none = bit_at-zero j in omega arith
 
@@ -30,6 +37,9 @@ IsOne-or a b j = rw bit_at_or (max_set (bit_at a j) (bit_at b j) (bit_at-lt a j)
 
 pub IsOne-and : (a b j : ℕ) → IsOne (bit_and a b) j ↔ (IsOne a j × IsOne b j)
 IsOne-and a b j = rw bit_at_and (min_set (bit_at a j) (bit_at b j) (bit_at-lt a j) (bit_at-lt b j))
+
+pub IsOne-xor : (a b j : ℕ) → IsOne (bit_xor a b) j ↔ ((IsOne a j × ¬ (IsOne b j)) ⊎ (¬ (IsOne a j) × IsOne b j))
+IsOne-xor a b j = rw bit_at_xor (one_set (bit_at a j) (bit_at b j) (bit_at-lt a j) (bit_at-lt b j))
 
 pub IsOne-not : (a j : ℕ) → a < 2 ^ 64 → j < 64 → IsOne (bit_not w64 a) j ↔ (IsOne a j → ⊥)
 IsOne-not a j fits lt =

@@ -53,6 +53,17 @@ IsBitSet-and a b j =
     let and = digits.IsOne-and a b j in
     one_from _ (bit_and a b) j (λ h. let (s, t) = and.0 h in (first.1 s, second.1 t), λ (s, t). and.1 (first.0 s, second.0 t))
 
+-- the bits of one of two words alone
+pub IsBitSet-xor : (a b j : ℕ) → IsBitSet (bit_xor a b) j ↔ ((IsBitSet a j × ¬ (IsBitSet b j)) ⊎ (¬ (IsBitSet a j) × IsBitSet b j))
+IsBitSet-xor a b j =
+    let first = IsBitSet-iff_one a j in
+    let second = IsBitSet-iff_one b j in
+    let xor = digits.IsOne-xor a b j in
+    one_from _ (bit_xor a b) j (
+      λ h. ⊎_elim (λ (s, none). inl (first.1 s, λ t. none (second.0 t))) (λ (none, t). inr (λ s. none (first.0 s), second.1 t)) (xor.0 h),
+      λ h. xor.1 (⊎_elim (λ (s, none). inl (first.0 s, λ t. none (second.1 t))) (λ (none, t). inr (λ s. none (first.1 s), second.0 t)) h),
+    )
+
 pub IsBitSet-not : (a j : ℕ) → a < 2 ^ 64 → j < 64 → IsBitSet (bit_not w64 a) j ↔ (IsBitSet a j → ⊥)
 IsBitSet-not a j fits lt =
     let here = IsBitSet-iff_one a j in

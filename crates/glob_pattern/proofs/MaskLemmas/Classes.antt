@@ -1,21 +1,21 @@
 -- A token takes the characters of a class together.
-use Rattle.std.proofs.Common.{◌≡◌, ℕ, ◌<◌, ◌≤◌, Bool, true, false, not, ◌&&◌, ◌==◌, if◌then◌else◌, List, [], ◌∷◌, ◌⊎◌, inl, inr, ⊎_elim, refl, sym, ap, ◌∙◌, arith}
+use Rattle.std.proofs.Common.{◌≡◌, ℕ, ◌<◌, ◌≤◌, Bool, true, false, not, ◌&&◌, ◌||◌, ◌==◌, if◌then◌else◌, List, [], ◌∷◌, ◌⊎◌, inl, inr, ⊎_elim, refl, sym, ap, ◌∙◌, arith}
 use Rattle.std.proofs.Math.Bool.{and-false, and-true}
 use Rattle.std.proofs.lemmas.Bool.{or_parts, or_from, ne_eqb, and_parts, eqb-true, lt-ltb, le-ltb, cases_Bool, cases_lt}
 use Rattle.std.proofs.lemmas.Bool.Decides.{nat_tests}
 use Rattle.std.specs.Char.{is_ascii}
 use Rattle.glob_text.specs.Characters.{slash, dot}
 use Rattle.glob_pattern.specs.Grammar.Brackets.{is_same, entry_holds, holds}
-use Rattle.glob_pattern.specs.Grammar.Tokens.{Token}
+use Rattle.glob_pattern.specs.Grammar.Tokens.{Token, is_recursive}
 use Rattle.glob_pattern.specs.Matching.Taking.{takes, is_excluded_separator, is_excluded_dot}
-use Rattle.glob_pattern.specs.Private.CharMasks.{class_of, ascii_class, case_options, is_beyond, is_undecided, takes_all_but_listed, takes_separator, takes_dot, takes_beyond}
+use Rattle.glob_pattern.specs.Private.CharMasks.{class_of, ascii_class, case_options, is_beyond, is_undecided, is_bracket, lists, takes_all_but_listed, takes_separator, takes_dot, takes_beyond}
 use Rattle.glob_pattern.specs.declared.options.MatchOptions.{MatchOptions}
 use Rattle.glob_pattern.specs.declared.token.Token.TheVariants.{Literal, AnyChar, AnySequence, Recursive, OneOf, NoneOf}
 use Rattle.glob_pattern.specs.declared.token.bracket.Entry.{Entry}
 use Rattle.glob_pattern.specs.declared.token.bracket.Entry.TheVariants.{Single, Range}
 
 -- the first classes are those of ASCII
-pub ascii_class-below : (case : Bool) (c : ℕ) → c < 128 → ascii_class case c < 259
+pub ascii_class-below : (case : Bool) (c : ℕ) → c < 128 → ascii_class case c < 256
 ascii_class-below true c low = omega arith
 ascii_class-below false c low = omega arith
 
@@ -23,6 +23,33 @@ ascii_class-below false c low = omega arith
 same-caseless : (case : Bool) (c x : ℕ) → c < 65 → is_same case c x ≡ (x == c)
 same-caseless true c x low = grind (arith, nat_tests)
 same-caseless false c x low = grind (arith, nat_tests)
+
+-- a token takes what it lists, or all other characters
+pub takes-listed : (case : Bool) (c : ℕ) (t : Token) → takes (case_options case) false c t ≡ (if takes_all_but_listed t then not (lists case c t) else lists case c t)
+takes-listed case c (Literal x) = refl
+takes-listed case c AnyChar = refl
+takes-listed case c AnySequence = refl
+takes-listed case c Recursive = refl
+takes-listed case c (OneOf e) = refl
+takes-listed case c (NoneOf e) = refl
+
+-- where the separator rule excludes `/`, a literal takes what it lists, and `**` takes it
+pub separator-listed : (t : Token) → ((lists true slash t && not (is_bracket t)) || is_recursive t) ≡ takes_separator t
+separator-listed (Literal x) = grind (arith, nat_tests)
+separator-listed AnyChar = refl
+separator-listed AnySequence = refl
+separator-listed Recursive = refl
+separator-listed (OneOf e) = grind (arith, nat_tests)
+separator-listed (NoneOf e) = grind (arith, nat_tests)
+
+-- where the dot rule excludes `.`, a literal alone does
+pub dot-listed : (t : Token) → (lists true dot t && not (is_bracket t)) ≡ takes_dot t
+dot-listed (Literal x) = grind (arith, nat_tests)
+dot-listed AnyChar = refl
+dot-listed AnySequence = refl
+dot-listed Recursive = refl
+dot-listed (OneOf e) = and-false _
+dot-listed (NoneOf e) = and-false _
 
 -- an entry that ends within ASCII holds nothing beyond it
 entry-within : (case : Bool) (c : ℕ) (e : Entry) → 128 ≤ c → is_beyond e ≡ false → entry_holds case c e ≡ false

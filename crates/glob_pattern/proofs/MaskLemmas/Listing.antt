@@ -1,5 +1,5 @@
 -- The classes that an entry of a bracket holds, as ranges.
-use Rattle.std.proofs.Common.{◌≡◌, ℕ, ◌+◌, ◌<◌, ◌≤◌, ◌⊎◌, min, Bool, true, false, not, ◌&&◌, ◌||◌, refl, sym, ◌∙◌, arith}
+use Rattle.std.proofs.Common.{◌≡◌, ℕ, ◌+◌, ◌<◌, ◌≤◌, ◌⊎◌, min, Bool, true, false, not, ◌&&◌, ◌||◌, ◌==◌, refl, sym, ◌∙◌, arith}
 use Rattle.std.proofs.lemmas.Bool.{lt-ltb}
 use Rattle.std.proofs.lemmas.Bool.Decides.{nat_tests}
 use Rattle.std.specs.Char.{to_ascii_lowercase, to_ascii_uppercase, is_ascii, is_ascii_lowercase, is_ascii_alphabetic}
@@ -9,8 +9,8 @@ use Rattle.glob_pattern.proofs.MatchingLemmas.Case.{lower_cases}
 
 -- the classes of one character
 pub one-classes : (case : Bool) (x c : ℕ) → c < 128 → x < 128
-    → ((in_range x x (ascii_class case c) || in_range (128 + to_ascii_lowercase x) (128 + to_ascii_lowercase x) (ascii_class case c))
-    || in_range (128 + to_ascii_uppercase x) (128 + to_ascii_uppercase x) (ascii_class case c))
+    → ((ascii_class case c == x || ascii_class case c == 128 + to_ascii_lowercase x)
+    || ascii_class case c == 128 + to_ascii_uppercase x)
     ≡ is_same case c x
 one-classes true x c low ascii = grind (arith, nat_tests)
 one-classes false x c low ascii = grind (arith, nat_tests)
@@ -22,7 +22,7 @@ one-beyond false x c low beyond = grind (arith, nat_tests)
 
 -- the classes of the characters of a range
 pub between-classes : (case : Bool) (x y high c : ℕ) → c < 128 → high ≡ min y 127
-    → (in_range x high (ascii_class case c) || in_range (128 + x) (128 + high) (ascii_class case c)) ≡ in_range x y c
+    → (in_range x high (ascii_class case c) || in_range (x + 128) (high + 128) (ascii_class case c)) ≡ in_range x y c
 between-classes true x y high c low is = grind (arith, nat_tests)
 between-classes false x y high c low is = grind (arith, nat_tests)
 
@@ -35,14 +35,14 @@ both ax lx ay ly ac r a e = grind arith
 is_letter : (x : ℕ) → is_ascii_alphabetic x ≡ (is_ascii x && is_ascii_lowercase (to_ascii_lowercase x))
 is_letter x = grind (arith, nat_tests)
 
-pub letter-forms : (x y : ℕ) → (is_ascii_alphabetic x && is_ascii_alphabetic y) ≡ true
+letter-forms : (x y : ℕ) → (is_ascii_alphabetic x && is_ascii_alphabetic y) ≡ true
     → (97 ≤ to_ascii_lowercase x) × (to_ascii_lowercase y ≤ 122) × (to_ascii_uppercase x + 32 ≡ to_ascii_lowercase x) × (to_ascii_uppercase y + 32 ≡ to_ascii_lowercase y)
 letter-forms x y t = grind (arith, nat_tests)
 
 -- the small form of a character is between two lower-case letters where it is, or is between the capital ones
 form-classes : (c small first last great_first great_last : ℕ) → c < 128 → 97 ≤ first → last ≤ 122 → great_first + 32 ≡ first → great_last + 32 ≡ last
     → ((65 ≤ c) × (c ≤ 90) × (small ≡ c + 32)) ⊎ (((c < 65) ⊎ (90 < c)) × (small ≡ c))
-    → (in_range (128 + first) (128 + last) (128 + c) || in_range (128 + great_first) (128 + great_last) (128 + c)) ≡ in_range first last small
+    → (in_range (128 + great_first) (128 + great_last) (128 + c) || in_range (128 + great_first + 32) (128 + great_last + 32) (128 + c)) ≡ in_range first last small
 form-classes c small first last great_first great_last lt low high gf gl cases = grind (arith, nat_tests)
 
 -- between other ends no more are held case-insensitively
@@ -52,8 +52,8 @@ folded-none false x y c none = not_both (is_ascii x) _ (is_ascii y) _ (is_ascii 
 
 -- the classes of the characters that are held case-insensitively between two letters
 pub folded-classes : (case : Bool) (x y c : ℕ) → c < 128 → (is_ascii_alphabetic x && is_ascii_alphabetic y) ≡ true
-    → (in_range (128 + to_ascii_lowercase x) (128 + to_ascii_lowercase y) (ascii_class case c)
-    || in_range (128 + to_ascii_uppercase x) (128 + to_ascii_uppercase y) (ascii_class case c))
+    → (in_range (128 + to_ascii_uppercase x) (128 + to_ascii_uppercase y) (ascii_class case c)
+    || in_range (128 + to_ascii_uppercase x + 32) (128 + to_ascii_uppercase y + 32) (ascii_class case c))
     ≡ (not case && in_folded_range x y c)
 folded-classes true x y c low letters = grind (arith, nat_tests)
 folded-classes false x y c low letters =

@@ -1,13 +1,15 @@
 -- Which of 63 neighbouring tokens take each class of characters.
-use Rattle.std.specs.Prelude.{◌≡◌, ◌≢◌, ℕ, ◌+◌, ◌*◌, ◌<◌, ◌≤◌, ◌↔◌, ◌⊎◌, Bool, true, false, ◌&&◌, not, nat_le, ◌==◌, if◌then◌else◌, List, length, slice_index_or, IsTrue}
+use Rattle.std.specs.Prelude.{◌≡◌, ℕ, ◌+◌, ◌*◌, ◌<◌, ◌↔◌, ◌⊎◌, Bool, true, false, ◌&&◌, not, nat_le, ◌==◌, if◌then◌else◌, List, length, slice_index_or, IsTrue}
 use Rattle.std.specs.Char.{is_ascii}
 use Rattle.std.specs.Int.{IsBitSet}
 use Rattle.std.specs.List.{list_any}
 use Rattle.glob_text.specs.Characters.{slash, dot}
-use Rattle.glob_pattern.specs.Grammar.Tokens.{Token}
+use Rattle.glob_pattern.specs.Grammar.Brackets.{is_same, holds}
+use Rattle.glob_pattern.specs.Grammar.Tokens.{Token, is_recursive}
 use Rattle.glob_pattern.specs.Matching.Taking.{takes, is_excluded_separator, is_excluded_dot}
 use Rattle.glob_pattern.specs.declared.options.MatchOptions.{MatchOptions}
 use Rattle.glob_pattern.specs.declared.pattern.char_masks.CharMasks.{CharMasks}
+use Rattle.glob_pattern.specs.declared.pattern.char_masks.Kinds.{Kinds}
 use Rattle.glob_pattern.specs.declared.token.Token.TheVariants.{Literal, AnyChar, AnySequence, Recursive, OneOf, NoneOf}
 use Rattle.glob_pattern.specs.declared.token.bracket.Entry.{Entry}
 use Rattle.glob_pattern.specs.declared.token.bracket.Entry.TheVariants.{Single, Range}
@@ -85,39 +87,52 @@ takes_all_but_listed (NoneOf entries) = true
 abbrev pub takes_beyond : Token → Bool
 takes_beyond t = takes_all_but_listed t && not (is_undecided t)
 
--- no token
-abbrev pub never : Token → Bool
-never t = false
+-- the token is a bracket
+abbrev pub is_bracket : Token → Bool
+is_bracket (Literal c) = false
+is_bracket AnyChar = false
+is_bracket AnySequence = false
+is_bracket Recursive = false
+is_bracket (OneOf entries) = true
+is_bracket (NoneOf entries) = true
 
--- the new mask has this bit exactly if it is to be on, and the other bits of the old one
-pub record IsPut (old new bit : ℕ) (on : Bool) : Type 0 where
-  pub here : IsBitSet new bit ↔ IsTrue on
-  pub others : (j : ℕ) → j < 64 → j ≢ bit → IsBitSet new j ↔ IsBitSet old j
+-- the token lists the character: it is the same, or an entry of the bracket holds it
+abbrev pub lists : (case : Bool) → ℕ → Token → Bool
+lists case c (Literal x) = is_same case c x
+lists case c AnyChar = false
+lists case c AnySequence = false
+lists case c Recursive = false
+lists case c (OneOf entries) = holds case c entries
+lists case c (NoneOf entries) = holds case c entries
 
--- the bit is put in the mask of a class that is listed, and another mask stays as it is
-pub record IsListed (old new bit : ℕ) (listed on : Bool) : Type 0 where
-  pub inside : listed ≡ true → IsPut old new bit on
-  pub outside : listed ≡ false → new ≡ old
+-- the new mask has the bits of the old one, and this bit if it is on
+pub record IsWith (old new bit : ℕ) (on : Bool) : Type 0 where
+  pub bits : (j : ℕ) → IsBitSet new j ↔ (IsBitSet old j ⊎ ((j ≡ bit) × IsTrue on))
 
--- Of the tokens from number `start` up to `end`, the mask has the bits of those before number n that meet the first
--- test, and of the others that meet the second.
-pub record IsMask (tokens : List Token) (start n end : ℕ) (first later : Token → Bool) (mask : ℕ) : Type 0 where
-  pub before : (j : ℕ) → j < 64 → start + j < n
-      → IsBitSet mask j ↔ IsTrue (first (slice_index_or tokens (start + j) AnyChar))
-  pub after : (j : ℕ) → j < 64 → n ≤ start + j
+-- of the tokens from number `start` up to `end`, the mask has the bits of those that meet the test
+pub record IsMask (tokens : List Token) (start end : ℕ) (test : Token → Bool) (mask : ℕ) : Type 0 where
+  pub bits : (j : ℕ) → j < 64
       → IsBitSet mask j
-      ↔ ((start + j < end) × IsTrue (later (slice_index_or tokens (start + j) AnyChar)))
+      ↔ ((start + j < end) × IsTrue (test (slice_index_or tokens (start + j) AnyChar)))
 
--- The masks of the tokens from number `start` up to `end`, of which those before number n are done: each of the others
--- is in the masks of all classes or of none.
-pub record AreMasks (tokens : List Token) (start n end : ℕ) (masks : CharMasks) : Type 0 where
+-- of the tokens from number `start` up to `end`, those of each kind, and those that list each character of ASCII
+pub record AreListed (tokens : List Token) (start end : ℕ) (masks : List ℕ) (kinds : Kinds) : Type 0 where
   pub ascii : (case : Bool) (c : ℕ) → c < 128
-      → IsMask tokens start n end (takes (case_options case) false c) takes_all_but_listed
+      → IsMask tokens start end (lists case c) (mask_at masks (ascii_class case c))
+  pub others : IsMask tokens start end takes_all_but_listed kinds.others
+  pub brackets : IsMask tokens start end is_bracket kinds.brackets
+  pub recursive : IsMask tokens start end is_recursive kinds.recursive
+  pub undecided : IsMask tokens start end is_undecided kinds.undecided
+
+-- of the tokens from number `start` up to `end`, those that take the characters of each class
+pub record AreMasks (tokens : List Token) (start end : ℕ) (masks : CharMasks) : Type 0 where
+  pub ascii : (case : Bool) (c : ℕ) → c < 128
+      → IsMask tokens start end (takes (case_options case) false c)
       (mask_at masks.masks (ascii_class case c))
-  pub separator : IsMask tokens start n end takes_separator takes_all_but_listed (mask_at masks.masks 256)
-  pub dot : IsMask tokens start n end takes_dot takes_all_but_listed (mask_at masks.masks 257)
-  pub beyond : IsMask tokens start n end takes_beyond takes_all_but_listed (mask_at masks.masks 258)
-  pub undecided : IsMask tokens start n end is_undecided never masks.undecided
+  pub separator : IsMask tokens start end takes_separator (mask_at masks.masks 256)
+  pub dot : IsMask tokens start end takes_dot (mask_at masks.masks 257)
+  pub beyond : IsMask tokens start end takes_beyond (mask_at masks.masks 258)
+  pub undecided : IsMask tokens start end is_undecided masks.undecided
 
 -- What the masks of the tokens from number `start` on say of a character, which is of ASCII where the token is
 -- undecided; such a token is not in the mask of the characters beyond ASCII.

@@ -1,14 +1,12 @@
 //! Masks: for each class of characters, which of 63 neighbouring tokens take its characters.
-ghost use Rattle.std.specs.Prelude.{◌≡◌, ℕ, ◌+◌, ◌↔◌, ◌<◌, ◌≤◌, Bool, true, false, ◌&&◌, List, length, IsTrue, IfOk};
+ghost use Rattle.std.specs.Prelude.{◌≡◌, ℕ, ◌+◌, ◌<◌, ◌≤◌, Bool, true, ◌==◌, ◌&&◌, ◌||◌, List, length, replicate, bit_xor, IfOk};
 ghost use Rattle.std.specs.Char.{is_ascii_alphabetic};
-ghost use Rattle.std.specs.Int.{IsBitSet};
 ghost use Rattle.std.specs.List.{list_any};
 ghost use Rattle.glob_pattern.specs.Grammar.Brackets.{is_same, in_range, entry_holds, holds};
-ghost use Rattle.glob_pattern.specs.Matching.Taking.{takes};
-ghost use Rattle.glob_pattern.specs.Private.CharMasks.{AreCharMasks, IsCharMasks, IsPut, IsListed, IsMask};
-ghost use Rattle.glob_pattern.specs.Private.CharMasks.{class_of, is_undecided, mask_at, ascii_class, case_options};
-ghost use Rattle.glob_pattern.specs.Private.CharMasks.{is_beyond, never, takes_separator, takes_dot, takes_beyond};
-ghost use Rattle.glob_pattern.specs.Private.CharMasks.{takes_all_but_listed};
+ghost use Rattle.glob_pattern.specs.Grammar.Tokens.{Token as Kept, is_recursive};
+ghost use Rattle.glob_pattern.specs.Private.CharMasks.{AreCharMasks, IsCharMasks, AreListed, AreMasks, IsWith};
+ghost use Rattle.glob_pattern.specs.Private.CharMasks.{class_of, mask_at, ascii_class, lists};
+ghost use Rattle.glob_pattern.specs.Private.CharMasks.{is_beyond, is_undecided, is_bracket, takes_all_but_listed};
 ghost use Rattle.glob_pattern.specs.declared.token.bracket.Entry.TheVariants.{Range};
 
 use crate::matcher::WORD;
@@ -58,6 +56,20 @@ pub fn class_of(options: MatchOptions, opening: bool, c: char) -> usize
     }
 }
 
+/// Of 63 neighbouring tokens, those of some kinds.
+#[derive(Clone, Copy)]
+struct Kinds {
+    /// Those that take all characters but those they list: wildcards and `[!..]`.
+    others: u64,
+    /// Brackets.
+    brackets: u64,
+    /// Recursive wildcards.
+    recursive: u64,
+    /// Those that have to be asked about a character beyond ASCII: each is one, or a bracket with an entry that ends
+    /// there.
+    undecided: u64,
+}
+
 /// The masks of all tokens, 63 in each, or none if they are not used. Fails only if allocation fails.
 pub fn masks_of<A: Allocator + Copy>(
     alloc: A,
@@ -82,131 +94,127 @@ impl CharMasks {
         undecided: 0,
     };
 
-    /// Makes these the masks of the tokens from number `start` on, where they are: they are too large to be moved.
+    /// Makes these, which are of no tokens, the masks of those from number `start` on, where they are: they are too
+    /// large to be moved.
     fn fill<A: Allocator>(&mut self, tokens: &[Token<Bracket<A>>], start: usize)
-        requires { start ≤ length tokens.now }
+        requires start { start ≤ length tokens.now }
+        requires empty { self.old.masks ≡ replicate 259 0 }
         ensures { IsCharMasks tokens.now start self.new }
     {
-        let end = tokens.len().min(start.saturating_add(WORD));
-        let others = takers_of_others(tokens, start, end);
-        self.masks = [others; 259];
-        self.undecided = 0;
-        for n in start..end {
-            self.add(n - start, &tokens[n]);
+        let mut kinds = Kinds::NONE;
+        for n in start..tokens.len().min(start.saturating_add(WORD)) {
+            kinds = list_token(&mut self.masks, kinds, n - start, &tokens[n]);
         }
+        self.finish(kinds);
     }
 
-    /// Adds a token. Before, its bit is set in all masks of ASCII if it takes all characters but those it lists, and
-    /// otherwise in none.
-    fn add<A: Allocator>(&mut self, bit: usize, token: &Token<Bracket<A>>)
-        requires bit { bit < 63 }
-        requires before { (case : Bool) (c : ℕ) → c < 128
-            → IsBitSet (mask_at self.old.masks (ascii_class case c)) bit
-            ↔ IsTrue (takes_all_but_listed token.now) }
-        ensures ascii { (case : Bool) (c : ℕ) → c < 128
-            → IsPut (mask_at self.old.masks (ascii_class case c))
-            (mask_at self.new.masks (ascii_class case c)) bit
-            (takes (case_options case) false c token.now) }
-        ensures separator { IsPut (mask_at self.old.masks 256) (mask_at self.new.masks 256) bit
-            (takes_separator token.now) }
-        ensures dot { IsPut (mask_at self.old.masks 257) (mask_at self.new.masks 257) bit
-            (takes_dot token.now) }
-        ensures beyond { IsPut (mask_at self.old.masks 258) (mask_at self.new.masks 258) bit
-            (takes_beyond token.now) }
-        ensures undecided { IsPut self.old.undecided self.new.undecided bit
-            (is_undecided token.now) }
+    /// Makes the masks of the tokens that list a character those of the tokens that take it.
+    #[inline(always)]
+    fn finish(&mut self, kinds: Kinds)
+        ensures { (tokens : List Kept) (start end : ℕ)
+            → AreListed tokens start end self.old.masks kinds
+            → AreMasks tokens start end self.new }
     {
-        let masks = &mut self.masks;
-        list_token(masks, bit, token);
-        let undecided = is_undecided(token);
-        masks[SEPARATOR] = put_bit(masks[SEPARATOR], bit, takes_separator(token));
-        masks[DOT] = put_bit(masks[DOT], bit, takes_dot(token));
-        masks[BEYOND] = put_bit(
-            masks[BEYOND],
-            bit,
-            takes_all_but_listed(token) && !undecided,
-        );
-        self.undecided = put_bit(self.undecided, bit, undecided);
+        let separator = (self.masks['/' as usize] & !kinds.brackets) | kinds.recursive;
+        let dot = self.masks['.' as usize] & !kinds.brackets;
+        invert(&mut self.masks, kinds.others);
+        self.masks[SEPARATOR] = separator;
+        self.masks[DOT] = dot;
+        self.masks[BEYOND] = kinds.others & !kinds.undecided;
+        self.undecided = kinds.undecided;
     }
 }
 
-/// The bits of the tokens from number `start` up to `end` that take all characters but those they list.
-fn takers_of_others<A: Allocator>(tokens: &[Token<Bracket<A>>], start: usize, end: usize) -> u64
-    requires order { start ≤ end }
-    requires few { end ≤ start + 63 }
-    requires within { end ≤ length tokens.now }
-    ensures { IsMask tokens.now start end end takes_all_but_listed never result }
-{
-    let mut others = 0;
-    for n in start..end {
-        others = put_bit(others, n - start, takes_all_but_listed(&tokens[n]));
-    }
-    others
+impl Kinds {
+    /// No tokens.
+    const NONE: Kinds = Kinds {
+        others: 0,
+        brackets: 0,
+        recursive: 0,
+        undecided: 0,
+    };
 }
 
-/// Whether the token takes a `/` that the separator rule excludes from wildcards.
-fn takes_separator<A: Allocator>(token: &Token<Bracket<A>>) -> bool
-    ensures { result ≡ takes_separator token.now }
+/// Inverts these bits in the masks of the characters of ASCII.
+fn invert(masks: &mut [u64; 259], bits: u64)
+    ensures { (r : ℕ) → r < 256 → mask_at masks.new r ≡ bit_xor (mask_at masks.old r) bits }
 {
-    match token {
-        Token::Literal(x) => *x == '/',
-        Token::Recursive => true,
-        Token::AnyChar | Token::AnySequence | Token::OneOf(_) | Token::NoneOf(_) => false,
+    for r in 0..256 {
+        masks[r] ^= bits;
     }
 }
 
-/// Whether the token takes a `.` that the dot rule excludes from wildcards.
-fn takes_dot<A: Allocator>(token: &Token<Bracket<A>>) -> bool
-    ensures { result ≡ takes_dot token.now }
-{
-    matches!(token, Token::Literal('.'))
-}
-
-/// Whether the token takes all characters but those it lists, where no rule applies: it is a wildcard or a `[!..]`.
-fn takes_all_but_listed<A: Allocator>(token: &Token<Bracket<A>>) -> bool
-    ensures { result ≡ takes_all_but_listed token.now }
-{
-    !matches!(token, Token::Literal(_) | Token::OneOf(_))
-}
-
-/// Sets the bit in the masks of the characters of ASCII that the token takes where no rule applies, and in no others.
-/// Before, the bit is set in all if the token takes all characters but those it lists, and otherwise in none.
-fn list_token<A: Allocator>(masks: &mut [u64; 259], bit: usize, token: &Token<Bracket<A>>)
-    requires bit { bit < 63 }
-    requires before { (case : Bool) (c : ℕ) → c < 128
-        → IsBitSet (mask_at masks.old (ascii_class case c)) bit
-        ↔ IsTrue (takes_all_but_listed token.now) }
+/// Lists a token: sets its bit in the masks of the characters of ASCII that it lists, and in those of its kinds.
+#[inline(always)]
+fn list_token<A: Allocator>(
+    masks: &mut [u64; 259],
+    kinds: Kinds,
+    bit: usize,
+    token: &Token<Bracket<A>>,
+) -> Kinds
+    requires { bit < 63 }
     ensures listed { (case : Bool) (c : ℕ) → c < 128
-        → IsPut (mask_at masks.old (ascii_class case c))
-        (mask_at masks.new (ascii_class case c)) bit
-        (takes (case_options case) false c token.now) }
-    ensures others { (r : ℕ) → 256 ≤ r → mask_at masks.new r ≡ mask_at masks.old r }
+        → IsWith (mask_at masks.old (ascii_class case c))
+        (mask_at masks.new (ascii_class case c)) bit (lists case c token.now) }
+    ensures others { IsWith kinds.others result.others bit (takes_all_but_listed token.now) }
+    ensures brackets { IsWith kinds.brackets result.brackets bit (is_bracket token.now) }
+    ensures recursive { IsWith kinds.recursive result.recursive bit (is_recursive token.now) }
+    ensures undecided { IsWith kinds.undecided result.undecided bit (is_undecided token.now) }
 {
     match token {
-        Token::Literal(x) => list_one(masks, bit, *x, true),
-        Token::AnyChar | Token::AnySequence | Token::Recursive => {}
-        Token::OneOf(bracket) => list_all(masks, bit, bracket.entries(), true),
-        Token::NoneOf(bracket) => list_all(masks, bit, bracket.entries(), false),
+        Token::Literal(x) => {
+            list_one(masks, bit, *x);
+            Kinds {
+                undecided: put_bit(kinds.undecided, bit, !x.is_ascii()),
+                ..kinds
+            }
+        }
+        Token::AnyChar | Token::AnySequence => Kinds {
+            others: put_bit(kinds.others, bit, true),
+            ..kinds
+        },
+        Token::Recursive => Kinds {
+            others: put_bit(kinds.others, bit, true),
+            recursive: put_bit(kinds.recursive, bit, true),
+            ..kinds
+        },
+        Token::OneOf(bracket) => Kinds {
+            brackets: put_bit(kinds.brackets, bit, true),
+            undecided: put_bit(
+                kinds.undecided,
+                bit,
+                list_all(masks, bit, bracket.entries()),
+            ),
+            ..kinds
+        },
+        Token::NoneOf(bracket) => Kinds {
+            others: put_bit(kinds.others, bit, true),
+            brackets: put_bit(kinds.brackets, bit, true),
+            undecided: put_bit(
+                kinds.undecided,
+                bit,
+                list_all(masks, bit, bracket.entries()),
+            ),
+            ..kinds
+        },
     }
 }
 
-/// Whether the token has to be asked about characters beyond ASCII: it is one, or a bracket with an entry that ends
-/// there.
-fn is_undecided<A: Allocator>(token: &Token<Bracket<A>>) -> bool
-    ensures { result ≡ is_undecided token.now }
+/// Sets the bit in the masks of the characters of ASCII that some entry holds. Returns whether an entry ends beyond
+/// ASCII.
+fn list_all(masks: &mut [u64; 259], bit: usize, entries: &[Entry]) -> bool
+    requires { bit < 63 }
+    ensures listed { (case : Bool) (c : ℕ) → c < 128
+        → IsWith (mask_at masks.old (ascii_class case c))
+        (mask_at masks.new (ascii_class case c)) bit (holds case c entries.now) }
+    ensures beyond { result ≡ list_any is_beyond entries.now }
 {
-    match token {
-        Token::Literal(x) => !x.is_ascii(),
-        Token::AnyChar | Token::AnySequence | Token::Recursive => false,
-        Token::OneOf(bracket) | Token::NoneOf(bracket) => end_beyond(bracket.entries()),
+    let mut beyond = false;
+    for n in 0..entries.len() {
+        list(masks, bit, entries[n]);
+        beyond |= is_beyond(entries[n]);
     }
-}
-
-/// Whether an entry ends beyond ASCII.
-fn end_beyond(entries: &[Entry]) -> bool
-    ensures { result ≡ list_any is_beyond entries.now }
-{
-    entries.iter().any(|entry| is_beyond(*entry))
+    beyond
 }
 
 /// Whether the entry ends beyond ASCII.
@@ -218,73 +226,50 @@ fn is_beyond(entry: Entry) -> bool
     }
 }
 
-/// Sets the bit to `on` in the masks of the characters of ASCII that some entry holds.
-fn list_all(masks: &mut [u64; 259], bit: usize, entries: &[Entry], on: bool)
+/// Sets the bit in the masks of the characters of ASCII that the entry holds.
+fn list(masks: &mut [u64; 259], bit: usize, entry: Entry)
     requires { bit < 63 }
-    ensures listed { (case : Bool) (c : ℕ) → c < 128
-        → IsListed (mask_at masks.old (ascii_class case c))
-        (mask_at masks.new (ascii_class case c)) bit (holds case c entries.now) on }
-    ensures others { (r : ℕ) → 256 ≤ r → mask_at masks.new r ≡ mask_at masks.old r }
-{
-    for n in 0..entries.len() {
-        list(masks, bit, entries[n], on);
-    }
-}
-
-/// Sets the bit to `on` in the masks of the characters of ASCII that the entry holds.
-fn list(masks: &mut [u64; 259], bit: usize, entry: Entry, on: bool)
-    requires { bit < 63 }
-    ensures listed { (case : Bool) (c : ℕ) → c < 128
-        → IsListed (mask_at masks.old (ascii_class case c))
-        (mask_at masks.new (ascii_class case c)) bit (entry_holds case c entry) on }
-    ensures others { (r : ℕ) → 256 ≤ r → mask_at masks.new r ≡ mask_at masks.old r }
+    ensures { (case : Bool) (c : ℕ) → c < 128
+        → IsWith (mask_at masks.old (ascii_class case c))
+        (mask_at masks.new (ascii_class case c)) bit (entry_holds case c entry) }
 {
     match entry {
-        Entry::Single(x) => list_one(masks, bit, x, on),
-        Entry::Range(x, y) => list_range(masks, bit, x, y, on),
+        Entry::Single(x) => list_one(masks, bit, x),
+        Entry::Range(x, y) => list_range(masks, bit, x, y),
     }
 }
 
-/// Sets the bit to `on` in the masks of the character, if it is of ASCII.
+/// Sets the bit in the masks of the character, if it is of ASCII.
 #[inline(always)]
-fn list_one(masks: &mut [u64; 259], bit: usize, x: char, on: bool)
+fn list_one(masks: &mut [u64; 259], bit: usize, x: char)
     requires { bit < 63 }
-    ensures listed { (case : Bool) (c : ℕ) → c < 128
-        → IsListed (mask_at masks.old (ascii_class case c))
-        (mask_at masks.new (ascii_class case c)) bit (is_same case c x) on }
-    ensures others { (r : ℕ) → 256 ≤ r → mask_at masks.new r ≡ mask_at masks.old r }
+    ensures { (case : Bool) (c : ℕ) → c < 128
+        → IsWith (mask_at masks.old (ascii_class case c))
+        (mask_at masks.new (ascii_class case c)) bit (is_same case c x) }
 {
     if !x.is_ascii() {
         return;
     }
-    let lower = 128 + x.to_ascii_lowercase() as usize;
-    let upper = 128 + x.to_ascii_uppercase() as usize;
-    paint(masks, bit, x as usize, x as usize, on);
-    paint(masks, bit, lower, lower, on);
-    paint(masks, bit, upper, upper, on);
+    list_class(masks, bit, x as usize);
+    list_class(masks, bit, 128 + x.to_ascii_lowercase() as usize);
+    list_class(masks, bit, 128 + x.to_ascii_uppercase() as usize);
 }
 
-/// Sets the bit to `on` in the masks of the characters of ASCII that are in the range.
-fn list_range(masks: &mut [u64; 259], bit: usize, first: char, last: char, on: bool)
+/// Sets the bit in the masks of the characters of ASCII that are in the range.
+fn list_range(masks: &mut [u64; 259], bit: usize, first: char, last: char)
     requires { bit < 63 }
-    ensures listed { (case : Bool) (c : ℕ) → c < 128
-        → IsListed (mask_at masks.old (ascii_class case c))
+    ensures { (case : Bool) (c : ℕ) → c < 128
+        → IsWith (mask_at masks.old (ascii_class case c))
         (mask_at masks.new (ascii_class case c)) bit
-        (entry_holds case c (Range first last)) on }
-    ensures others { (r : ℕ) → 256 ≤ r → mask_at masks.new r ≡ mask_at masks.old r }
+        (entry_holds case c (Range first last)) }
 {
-    let high = (last as usize).min(127);
-    paint(masks, bit, first as usize, high, on);
-    paint(masks, bit, 128 + first as usize, 128 + high, on);
+    paint(masks, bit, first as usize, (last as usize).min(127), 128);
     if !are_letters(first, last) {
         return;
     }
-    let lower = 128 + first.to_ascii_lowercase() as usize;
-    let last_lower = 128 + last.to_ascii_lowercase() as usize;
-    paint(masks, bit, lower, last_lower, on);
     let upper = 128 + first.to_ascii_uppercase() as usize;
     let last_upper = 128 + last.to_ascii_uppercase() as usize;
-    paint(masks, bit, upper, last_upper, on);
+    paint(masks, bit, upper, last_upper, 32);
 }
 
 /// Whether both are letters of ASCII.
@@ -294,27 +279,35 @@ fn are_letters(x: char, y: char) -> bool
     x.is_ascii_alphabetic() && y.is_ascii_alphabetic()
 }
 
-/// Sets the bit to `on` in the masks of the classes from `low` to `high`.
+/// Sets the bit in the masks of the classes from `low` to `high`, and of those that are `apart` from them.
 #[inline(always)]
-fn paint(masks: &mut [u64; 259], bit: usize, low: usize, high: usize, on: bool)
+fn paint(masks: &mut [u64; 259], bit: usize, low: usize, high: usize, apart: usize)
     requires bit { bit < 63 }
-    requires high { high < 256 }
-    ensures { (r : ℕ) → IsListed (mask_at masks.old r) (mask_at masks.new r) bit
-        (in_range low high r) on }
+    requires high { high + apart < 256 }
+    ensures { (r : ℕ) → IsWith (mask_at masks.old r) (mask_at masks.new r) bit
+        (in_range low high r || in_range (low + apart) (high + apart) r) }
 {
     for r in low..high + 1 {
-        masks[r] = put_bit(masks[r], bit, on);
+        list_class(masks, bit, r);
+        list_class(masks, bit, r + apart);
     }
 }
 
-/// The word with the bit set to `on`.
+/// Sets the bit in the mask of the class.
+#[inline(always)]
+fn list_class(masks: &mut [u64; 259], bit: usize, class: usize)
+    requires bit { bit < 63 }
+    requires class { class < 256 }
+    ensures { (r : ℕ) → IsWith (mask_at masks.old r) (mask_at masks.new r) bit (r == class) }
+{
+    masks[class] = put_bit(masks[class], bit, true);
+}
+
+/// The word with one more bit set, if it is `on`.
+#[inline(always)]
 fn put_bit(word: u64, bit: usize, on: bool) -> u64
     requires { bit < 63 }
-    ensures { IsPut word result bit on }
+    ensures { IsWith word result bit on }
 {
-    if on {
-        word | (1 << bit)
-    } else {
-        word & !(1 << bit)
-    }
+    if on { word | (1 << bit) } else { word }
 }

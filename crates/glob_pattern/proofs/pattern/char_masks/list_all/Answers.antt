@@ -1,14 +1,15 @@
+use Rattle.std.proofs.Common.{refl}
 use Rattle.std.proofs.lemmas.List.Folds.{list_any_more}
-use Rattle.std.proofs.Common.{◌∙◌}
 use Rattle.glob_pattern.specs.Grammar.Brackets.{entry_holds}
 use Rattle.glob_pattern.specs.declared.token.bracket.Entry.TheVariants.{Single}
-use Rattle.glob_pattern.proofs.MaskLemmas.Putting.{IsListed-after}
+use Rattle.glob_pattern.specs.Private.CharMasks.{is_beyond}
+use Rattle.glob_pattern.proofs.MaskLemmas.Putting.{IsWith-after}
 use Rattle.glob_pattern.proofs.pattern.char_masks.list_all.Goals as goal
 
 pub loop-n-preserved : goal.loop-n-preserved
 loop-n-preserved c = record {
   listed = λ case d lt.
       rw (list_any_more (entry_holds case d) c.args.entries.now c.loop-n.n (Single 0) c.loop-n-test.true)
-      (IsListed-after _ _ _ c.args.bit _ _ c.args.on (c.loop-n.invariant.listed case d lt) (c.list.ensures.listed case d lt));
-  others = λ r from. c.list.ensures.others r from ∙ c.loop-n.invariant.others r from;
+      (IsWith-after _ _ _ c.args.bit _ _ (c.loop-n.invariant.listed case d lt) (c.list.ensures case d lt));
+  beyond = rw (list_any_more is_beyond c.args.entries.now c.loop-n.n (Single 0) c.loop-n-test.true, c.loop-n.invariant.beyond, c.is_beyond-beyond.ensures) refl;
 }

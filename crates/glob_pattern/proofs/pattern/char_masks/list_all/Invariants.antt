@@ -1,11 +1,12 @@
-use Rattle.std.proofs.Common.{◌≡◌, ℕ, ◌<◌, ◌≤◌, Bool, take}
+use Rattle.std.proofs.Common.{◌≡◌, ℕ, ◌<◌, Bool, take}
+use Rattle.std.specs.List.{list_any}
 use Rattle.glob_pattern.specs.Grammar.Brackets.{holds}
-use Rattle.glob_pattern.specs.Private.CharMasks.{IsListed, mask_at, ascii_class}
+use Rattle.glob_pattern.specs.Private.CharMasks.{IsWith, mask_at, ascii_class, is_beyond}
 use Rattle.glob_pattern.proofs.pattern.char_masks.list_all.Given as goal
 
 abbrev pub invariant-loop-n : goal.invariant-loop-n
 invariant-loop-n l = record {
   listed : (case : Bool) (c : ℕ) → c < 128
-      → IsListed (mask_at l.fn.masks (ascii_class case c)) (mask_at l.masks (ascii_class case c)) l.bit (holds case c (take l.n l.entries)) l.on;
-  others : (r : ℕ) → 256 ≤ r → mask_at l.masks r ≡ mask_at l.fn.masks r;
+      → IsWith (mask_at l.fn.masks (ascii_class case c)) (mask_at l.masks (ascii_class case c)) l.bit (holds case c (take l.n l.entries));
+  beyond : l.beyond ≡ list_any is_beyond (take l.n l.entries);
 }
