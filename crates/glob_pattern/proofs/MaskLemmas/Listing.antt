@@ -1,5 +1,7 @@
 -- The classes that an entry of a bracket holds, as ranges.
-use Rattle.std.proofs.Common.{◌≡◌, ℕ, ◌+◌, ◌<◌, ◌≤◌, ◌⊎◌, min, Bool, true, false, not, ◌&&◌, ◌||◌, ◌==◌, refl, sym, ◌∙◌, arith}
+use Rattle.std.proofs.Common.{◌≡◌, ℕ, ◌+◌, ◌*◌, ◌/◌, ◌%◌, bit_and, bit_xor, ◌<◌, ◌≤◌, ◌⊎◌, min, Bool, true, false, not, ◌&&◌, ◌||◌, ◌==◌, refl, sym, ◌∙◌, arith}
+use Rattle.std.specs.Int.Bits.{xor_add_and}
+use Rattle.std.proofs.lemmas.Nat.Bits.{and_pow}
 use Rattle.std.proofs.lemmas.Bool.{lt-ltb}
 use Rattle.std.proofs.lemmas.Bool.Decides.{nat_tests}
 use Rattle.std.specs.Char.{to_ascii_lowercase, to_ascii_uppercase, is_ascii, is_ascii_lowercase, is_ascii_alphabetic}
@@ -8,12 +10,22 @@ use Rattle.glob_pattern.specs.Private.CharMasks.{ascii_class}
 use Rattle.glob_pattern.proofs.MatchingLemmas.Case.{lower_cases}
 
 -- the classes of one character
-pub one-classes : (case : Bool) (x c : ℕ) → c < 128 → x < 128
-    → ((ascii_class case c == x || ascii_class case c == 128 + to_ascii_lowercase x)
-    || ascii_class case c == 128 + to_ascii_uppercase x)
+pub one-classes : (case : Bool) (x other c : ℕ) → c < 128 → x < 128 → other + x ≡ to_ascii_lowercase x + to_ascii_uppercase x
+    → ((ascii_class case c == x || ascii_class case c == 128 + x) || ascii_class case c == 128 + other)
     ≡ is_same case c x
-one-classes true x c low ascii = grind (arith, nat_tests)
-one-classes false x c low ascii = grind (arith, nat_tests)
+one-classes true x other c low ascii is = grind (arith, nat_tests)
+one-classes false x other c low ascii is = grind (arith, nat_tests)
+
+-- the bit of 32 is what the two cases of a letter differ in
+pub other-case : (x : ℕ) → is_ascii_alphabetic x ≡ true → bit_xor x 32 + x ≡ to_ascii_lowercase x + to_ascii_uppercase x
+other-case x letter =
+    let sum = xor_add_and x 32 in
+    let bit : bit_and x 32 ≡ x / 32 % 2 * 32 = and_pow x 5 in
+    grind (arith, nat_tests)
+
+-- what is no letter has one case
+pub one-case : (x : ℕ) → is_ascii_alphabetic x ≡ false → x + x ≡ to_ascii_lowercase x + to_ascii_uppercase x
+one-case x none = grind (arith, nat_tests)
 
 -- one beyond ASCII has no class there
 pub one-beyond : (case : Bool) (x c : ℕ) → c < 128 → 128 ≤ x → is_same case c x ≡ false

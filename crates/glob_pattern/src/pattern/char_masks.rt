@@ -1,6 +1,6 @@
 //! Masks: for each class of characters, which of 63 neighbouring tokens take its characters.
-ghost use Rattle.std.specs.Prelude.{◌≡◌, ℕ, ◌+◌, ◌<◌, ◌≤◌, Bool, true, ◌==◌, ◌&&◌, ◌||◌, List, length, replicate, bit_xor, IfOk};
-ghost use Rattle.std.specs.Char.{is_ascii_alphabetic};
+ghost use Rattle.std.specs.Prelude.{◌≡◌, ℕ, ◌+◌, ◌<◌, ◌≤◌, Bool, true, ◌==◌, ◌&&◌, ◌||◌, List, length, replicate, bit_xor, nat_le, IfOk};
+ghost use Rattle.std.specs.Char.{is_ascii_alphabetic, to_ascii_lowercase, to_ascii_uppercase};
 ghost use Rattle.std.specs.List.{list_any};
 ghost use Rattle.glob_pattern.specs.Grammar.Brackets.{is_same, in_range, entry_holds, holds};
 ghost use Rattle.glob_pattern.specs.Grammar.Tokens.{Token as Kept, is_recursive};
@@ -162,13 +162,10 @@ fn list_token<A: Allocator>(
     ensures undecided { IsWith kinds.undecided result.undecided bit (is_undecided token.now) }
 {
     match token {
-        Token::Literal(x) => {
-            list_one(masks, bit, *x);
-            Kinds {
-                undecided: put_bit(kinds.undecided, bit, !x.is_ascii()),
-                ..kinds
-            }
-        }
+        Token::Literal(x) => Kinds {
+            undecided: put_bit(kinds.undecided, bit, list_one(masks, bit, *x)),
+            ..kinds
+        },
         Token::AnyChar | Token::AnySequence => Kinds {
             others: put_bit(kinds.others, bit, true),
             ..kinds
@@ -200,8 +197,7 @@ fn list_token<A: Allocator>(
     }
 }
 
-/// Sets the bit in the masks of the characters of ASCII that some entry holds. Returns whether an entry ends beyond
-/// ASCII.
+/// Sets the bit in the masks of the characters of ASCII that some entry holds. Returns whether one ends beyond ASCII.
 fn list_all(masks: &mut [u64; 259], bit: usize, entries: &[Entry]) -> bool
     requires { bit < 63 }
     ensures listed { (case : Bool) (c : ℕ) → c < 128
@@ -211,48 +207,57 @@ fn list_all(masks: &mut [u64; 259], bit: usize, entries: &[Entry]) -> bool
 {
     let mut beyond = false;
     for n in 0..entries.len() {
-        list(masks, bit, entries[n]);
-        beyond |= is_beyond(entries[n]);
+        beyond |= list(masks, bit, entries[n]);
     }
     beyond
 }
 
-/// Whether the entry ends beyond ASCII.
-fn is_beyond(entry: Entry) -> bool
-    ensures { result ≡ is_beyond entry }
-{
-    match entry {
-        Entry::Single(x) | Entry::Range(_, x) => !x.is_ascii(),
-    }
-}
-
-/// Sets the bit in the masks of the characters of ASCII that the entry holds.
-fn list(masks: &mut [u64; 259], bit: usize, entry: Entry)
+/// Sets the bit in the masks of the characters of ASCII that the entry holds. Returns whether it ends beyond ASCII.
+fn list(masks: &mut [u64; 259], bit: usize, entry: Entry) -> bool
     requires { bit < 63 }
-    ensures { (case : Bool) (c : ℕ) → c < 128
+    ensures listed { (case : Bool) (c : ℕ) → c < 128
         → IsWith (mask_at masks.old (ascii_class case c))
         (mask_at masks.new (ascii_class case c)) bit (entry_holds case c entry) }
+    ensures beyond { result ≡ is_beyond entry }
 {
     match entry {
         Entry::Single(x) => list_one(masks, bit, x),
-        Entry::Range(x, y) => list_range(masks, bit, x, y),
+        Entry::Range(x, y) => {
+            list_range(masks, bit, x, y);
+            !y.is_ascii()
+        }
     }
 }
 
-/// Sets the bit in the masks of the character, if it is of ASCII.
+/// Sets the bit in the masks of the character, if it is of ASCII. Returns whether it is beyond.
 #[inline(always)]
-fn list_one(masks: &mut [u64; 259], bit: usize, x: char)
+fn list_one(masks: &mut [u64; 259], bit: usize, x: char) -> bool
     requires { bit < 63 }
-    ensures { (case : Bool) (c : ℕ) → c < 128
+    ensures listed { (case : Bool) (c : ℕ) → c < 128
         → IsWith (mask_at masks.old (ascii_class case c))
         (mask_at masks.new (ascii_class case c)) bit (is_same case c x) }
+    ensures beyond { result ≡ nat_le 128 x }
 {
     if !x.is_ascii() {
-        return;
+        return true;
     }
     list_class(masks, bit, x as usize);
-    list_class(masks, bit, 128 + x.to_ascii_lowercase() as usize);
-    list_class(masks, bit, 128 + x.to_ascii_uppercase() as usize);
+    list_class(masks, bit, 128 + x as usize);
+    list_class(masks, bit, 128 + other_case(x));
+    false
+}
+
+/// The letter of ASCII in the other case; another character stays as it is.
+#[inline(always)]
+fn other_case(x: char) -> usize
+    requires { x < 128 }
+    ensures { result + x ≡ to_ascii_lowercase x + to_ascii_uppercase x }
+{
+    if x.is_ascii_alphabetic() {
+        x as usize ^ 32
+    } else {
+        x as usize
+    }
 }
 
 /// Sets the bit in the masks of the characters of ASCII that are in the range.

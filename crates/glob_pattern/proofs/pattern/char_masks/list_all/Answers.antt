@@ -10,6 +10,6 @@ pub loop-n-preserved : goal.loop-n-preserved
 loop-n-preserved c = record {
   listed = λ case d lt.
       rw (list_any_more (entry_holds case d) c.args.entries.now c.loop-n.n (Single 0) c.loop-n-test.true)
-      (IsWith-after _ _ _ c.args.bit _ _ (c.loop-n.invariant.listed case d lt) (c.list.ensures case d lt));
-  beyond = rw (list_any_more is_beyond c.args.entries.now c.loop-n.n (Single 0) c.loop-n-test.true, c.loop-n.invariant.beyond, c.is_beyond-beyond.ensures) refl;
+      (IsWith-after _ _ _ c.args.bit _ _ (c.loop-n.invariant.listed case d lt) (c.list-beyond.ensures.listed case d lt));
+  beyond = rw (list_any_more is_beyond c.args.entries.now c.loop-n.n (Single 0) c.loop-n-test.true, c.loop-n.invariant.beyond, c.list-beyond.ensures.beyond) refl;
 }
