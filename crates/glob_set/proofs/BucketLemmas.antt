@@ -79,11 +79,11 @@ matches_same o patterns text n (suc m) order within none =
     ∙ matches_same o patterns text n m below (omega arith) (λ k from to. none k from (omega arith)))
     (cases_lt m n)
 
-module _ (o : MatchOptions) (patterns : List Text) (text : List ℕ) (class : ℕ) (numbers : List ℕ) (utf8 : IsUtf8 text)
-    (is : text_class text ≡ class) (bucket : IsBucket patterns class (length patterns) numbers) where
-  not_at : (k : ℕ) → Avoids (get_or patterns k []) class → ¬ (MatchesAt o patterns text k)
+module _ (o : MatchOptions) (patterns : List Text) (text : List ℕ) (numbers : List ℕ) (utf8 : IsUtf8 text)
+    (bucket : IsBucket patterns (text_class text) (length patterns) numbers) where
+  not_at : (k : ℕ) → Avoids (get_or patterns k []) (text_class text) → ¬ (MatchesAt o patterns text k)
   unfolding Avoids MatchesAt
-  not_at k avoids at = avoids o text utf8 is at.1
+  not_at k avoids at = avoids o text utf8 refl at.1
 
   -- from the number after one to the next, none matches
   pub none_below_next : (j : ℕ) → j < length numbers → NoneBelow o patterns text (number_after numbers j) → NoneBelow o patterns text (get_or numbers j 0)

@@ -1,5 +1,5 @@
 -- The bits of neighbours in a text.
-use Rattle.std.proofs.Common.{◌≡◌, ℕ, ◌+◌, ◌<◌, List, [], ◌∷◌, ◌++◌, length, get_or, drop, drop-cons, max, bit_or, refl, sym, ap, ◌∙◌, arith, add-one}
+use Rattle.std.proofs.Common.{◌≡◌, ℕ, zero, suc, ◌+◌, ◌<◌, List, [], ◌∷◌, ◌++◌, length, get_or, drop, drop-cons, max, bit_or, refl, sym, ap, subst, ◌∙◌, arith, add-one}
 use Rattle.std.specs.Int.{bit_at}
 use Rattle.std.specs.Int.Bits.{or_self, or_zero_l}
 use Rattle.std.proofs.lemmas.Nat.{or_comm}
@@ -63,3 +63,17 @@ pub step_class : (class last next : ℕ) (bytes : List ℕ) (i : ℕ) → i < le
 step_class class last next bytes i below is =
     ap (λ b. last_class (pair_class last b) b (drop (i + 1) bytes)) is
     ∙ ap (λ bs. last_class class last bs) (sym (drop_next bytes i below))
+
+-- the last two bytes, by their places
+pub class_at_end : (class before : ℕ) (bytes : List ℕ) (n : ℕ) → length bytes ≡ n + 2
+    → last_class class before bytes ≡ pair_class (get_or bytes n 0) (get_or bytes (n + 1) 0)
+class_at_end class before [] n is = absurd (omega (arith, is))
+class_at_end class before (x ∷ []) n is = absurd (omega (arith, is))
+class_at_end class before (x ∷ y ∷ []) n is =
+    let e : n ≡ 0 = omega (arith, is) in
+    subst (λ k. pair_class x y ≡ pair_class (get_or (x ∷ y ∷ []) k 0) (get_or (x ∷ y ∷ []) (k + 1) 0)) (sym e) refl
+class_at_end class before (x ∷ y ∷ z ∷ zs) zero is = absurd (omega (arith, is))
+class_at_end class before (x ∷ y ∷ z ∷ zs) (suc n) is =
+    let e : suc (n + 1) ≡ suc n + 1 = omega arith in
+    class_at_end (pair_class before x) x (y ∷ z ∷ zs) n (omega (arith, is))
+    ∙ ap (λ k. pair_class (get_or (y ∷ z ∷ zs) n 0) (get_or (x ∷ y ∷ z ∷ zs) k 0)) e

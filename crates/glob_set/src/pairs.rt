@@ -29,20 +29,29 @@ pub fn class_bit(class: u8) -> u128
     1 << class
 }
 
-/// The bits of a text, and its class, by its last two bytes. A byte 0 is before the first.
+/// The class of a text, by its last two bytes. A byte 0 is before the first.
 #[inline(always)]
-pub fn text_key(bytes: &[u8]) -> (u128, u8)
-    ensures bits { result.0 ≡ text_bits bytes.now }
-    ensures class { result.1 ≡ text_class bytes.now }
-    ensures small { result.1 < 128 }
+pub fn text_class(bytes: &[u8]) -> u8
+    ensures class { result ≡ text_class bytes.now }
+    ensures small { result < 128 }
+{
+    match bytes {
+        [] => 0,
+        [last] => pair_class(0, *last),
+        [.., before, last] => pair_class(*before, *last),
+    }
+}
+
+/// The bits of a text. A byte 0 is before the first.
+#[inline(always)]
+pub fn text_bits(bytes: &[u8]) -> u128
+    ensures { result ≡ text_bits bytes.now }
 {
     let mut bits = 0;
-    let mut class = 0;
     let mut last = 0;
     for byte in bytes {
-        class = pair_class(last, *byte);
-        bits |= class_bit(class);
+        bits |= class_bit(pair_class(last, *byte));
         last = *byte;
     }
-    (bits, class)
+    bits
 }

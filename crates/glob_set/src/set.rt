@@ -1,13 +1,13 @@
 ghost use Rattle.std.specs.Prelude.{◌≡◌, ℕ, ◌<◌, ◌↔◌, length, map, IsTrue, IsOk, IfOk, IfErr, OnOk, OnErr};
 ghost use Rattle.std.specs.Path.{path_bytes};
 ghost use Rattle.glob_set.specs.Private.Buckets.{IsBucket};
-ghost use Rattle.glob_set.specs.Private.Pairs.{text_bits};
+ghost use Rattle.glob_set.specs.Private.Pairs.{text_bits, text_class};
 ghost use Rattle.glob_set.specs.Sets.{MatchesAt, AnyMatch, FirstMatch, LastMatch, all_matches, AreFirstMatches, AreShort, RefusesTexts};
 
 use crate::buckets::{Bucket, buckets_of};
 use crate::error::SetRefusal;
 use crate::needs::needs_of;
-use crate::pairs::{Need, text_key};
+use crate::pairs::{Need, text_bits, text_class};
 use crate::reading::read_patterns;
 use glob_pattern::{MatchOptions, Pattern};
 use std::alloc::{AllocError, Allocator, Global};
@@ -130,8 +130,8 @@ impl<A: Allocator + Copy> PatternSet<A> {
             (FirstMatch self.now.options self.now.patterns text.now) }
         ensures short { AreShort self.now.patterns → IsOk result }
     {
-        let (bits, class) = text_key(text.as_bytes());
-        for number in self.numbers(class) {
+        let (numbers, bits) = self.numbers_for(text);
+        for number in numbers {
             if self.matches_at(*number, text, bits)? {
                 return Ok(Some(*number));
             }
@@ -147,8 +147,7 @@ impl<A: Allocator + Copy> PatternSet<A> {
             (LastMatch self.now.options self.now.patterns text.now) }
         ensures short { AreShort self.now.patterns → IsOk result }
     {
-        let (bits, class) = text_key(text.as_bytes());
-        let numbers = self.numbers(class);
+        let (numbers, bits) = self.numbers_for(text);
         let mut left = numbers.len();
         while left > 0 {
             left -= 1;
@@ -173,9 +172,9 @@ impl<A: Allocator + Copy> PatternSet<A> {
         ensures first { OnErr result
             (AreFirstMatches self.now.options self.now.patterns text.now numbers.new.items) }
     {
-        let (bits, class) = text_key(text.as_bytes());
         numbers.clear();
-        for number in self.numbers(class) {
+        let (asked, bits) = self.numbers_for(text);
+        for number in asked {
             if self.matches_at(*number, text, bits)? {
                 numbers.push(*number)?;
             }
@@ -224,13 +223,19 @@ impl<A: Allocator + Copy> PatternSet<A> {
         self.matches_into(path.as_str(), numbers)
     }
 
-    /// The numbers of the patterns that may match a text of the class.
+    /// The numbers of the patterns that may match the text, and if there are some, its bits.
     #[inline(always)]
-    fn numbers(&self, class: u8) -> &[usize]
-        requires { class < 128 }
-        ensures { IsBucket self.now.patterns class (length self.now.patterns) result.now }
+    fn numbers_for(&self, text: &str) -> (&[usize], u128)
+        ensures numbers { IsBucket self.now.patterns (text_class text.now)
+            (length self.now.patterns) result.0.now }
+        ensures bits { 0 < length result.0.now → result.1 ≡ text_bits text.now }
     {
-        self.buckets[class as usize].numbers()
+        let bytes = text.as_bytes();
+        let numbers = self.buckets[text_class(bytes) as usize].numbers();
+        if numbers.is_empty() {
+            return (numbers, 0);
+        }
+        (numbers, text_bits(bytes))
     }
 
     /// Whether the pattern of this number matches the text of these bits.

@@ -1,7 +1,6 @@
-use Rattle.std.proofs.Common.{◌≡◌, ℕ, suc, ◌-◌, ◌<◌, get_or, sym, ap, subst, ◌∙◌, arith}
+use Rattle.std.proofs.Common.{◌≡◌, ℕ, suc, ◌-◌, ◌<◌, get_or, sym, subst, ◌∙◌, arith}
 use Rattle.std.proofs.lemmas.Bool.{false≢true}
 use Rattle.glob_set.specs.Private.Buckets.{number_after}
-use Rattle.glob_set.specs.Private.Pairs.{text_class}
 use Rattle.glob_set.proofs.ListReading.{NoneFrom, LastMatch-at, LastMatch-end}
 use Rattle.glob_set.proofs.BucketLemmas.{none_from_end, none_from_past}
 use Rattle.glob_set.proofs.set.PatternSet.last_match.Goals as goal
@@ -9,10 +8,9 @@ use Rattle.glob_set.proofs.set.PatternSet.last_match.Goals as goal
 pub loop-left-init : goal.loop-left-init
 loop-left-init g c =
     let set = c.args.self.now in
-    let is = sym (c.text_key-bits.ensures.class ∙ ap text_class c.as_bytes.ensures.value) in
     record {
       within = omega arith;
-      none = none_from_end set.options set.patterns c.args.text.now c.text_key-bits.result.1 c.numbers-numbers.result.now c.utf8.text is c.numbers-numbers.ensures;
+      none = none_from_end set.options set.patterns c.args.text.now c.numbers_for-bits.result.0.now c.utf8.text c.numbers_for-bits.ensures.numbers;
     }
 
 -- the numbers that are left, and one more
@@ -23,7 +21,7 @@ pub returns-then-branch-clause-answer : goal.returns-then-branch-clause-answer
 returns-then-branch-clause-answer g c =
     let set = c.args.self.now in
     let text = c.args.text.now in
-    let numbers = c.numbers-numbers.result.now in
+    let numbers = c.numbers_for-bits.result.0.now in
     let left = c.loop-left.left in
     LastMatch-at set.options set.patterns text (get_or numbers (left - 1) 0)
     (subst (λ i. NoneFrom set.options set.patterns text (number_after numbers i)) (next_left left (omega arith)) c.loop-left.invariant.none)
@@ -33,12 +31,11 @@ pub loop-left-preserved : goal.loop-left-preserved
 loop-left-preserved g c =
     let set = c.args.self.now in
     let text = c.args.text.now in
-    let numbers = c.numbers-numbers.result.now in
+    let numbers = c.numbers_for-bits.result.0.now in
     let left = c.loop-left.left in
-    let is = sym (c.text_key-bits.ensures.class ∙ ap text_class c.as_bytes.ensures.value) in
     record {
       within = omega (arith, c.loop-left.invariant.within);
-      none = none_from_past set.options set.patterns text c.text_key-bits.result.1 numbers c.utf8.text is c.numbers-numbers.ensures (left - 1) (omega (arith, c.loop-left.invariant.within))
+      none = none_from_past set.options set.patterns text numbers c.utf8.text c.numbers_for-bits.ensures.numbers (left - 1) (omega (arith, c.loop-left.invariant.within))
           (subst (λ i. NoneFrom set.options set.patterns text (number_after numbers i)) (next_left left (omega arith)) c.loop-left.invariant.none)
           (λ at. absurd (false≢true (sym c.if-branch.false ∙ c.in_ok-matches_at.ensures.answer.1 at)));
     }
@@ -47,6 +44,6 @@ pub returns-clause-answer : goal.returns-clause-answer
 returns-clause-answer g c =
     let set = c.args.self.now in
     let text = c.args.text.now in
-    let numbers = c.numbers-numbers.result.now in
+    let numbers = c.numbers_for-bits.result.0.now in
     let end : c.loop-left.left ≡ 0 = omega arith in
     LastMatch-end set.options set.patterns text (subst (λ i. NoneFrom set.options set.patterns text (number_after numbers i)) end c.loop-left.invariant.none)

@@ -1,7 +1,6 @@
 use Rattle.std.proofs.Common.{◌≡◌, suc, ◌<◌, ◌+◌, ◌++◌, ◌∷◌, [], length, get_or, add-one, sym, ap, ◌∙◌, arith}
 use Rattle.std.proofs.lemmas.Bool.{false≢true}
 use Rattle.glob_set.specs.Private.Buckets.{number_after}
-use Rattle.glob_set.specs.Private.Pairs.{text_class}
 use Rattle.glob_set.specs.Sets.{matches_below}
 use Rattle.glob_set.proofs.ListReading.{matches_below-yes, matches_below-no, all_matches-end, AreFirstMatches-at, OnErr-always}
 use Rattle.glob_set.proofs.BucketLemmas.{after_within, matches_next, matches_end}
@@ -13,13 +12,12 @@ loop-number-preserved g c =
     let set = c.args.self.now in
     let text = c.args.text.now in
     let l = c.loop-number in
-    let numbers = c.numbers-number-items.result.now in
+    let numbers = c.numbers_for-bits.result.0.now in
     let j = l.number-index in
     let number = get_or numbers j 0 in
-    let bucket = c.numbers-number-items.ensures in
-    let is = sym (c.text_key-bits.ensures.class ∙ ap text_class c.as_bytes.ensures.value) in
+    let bucket = c.numbers_for-bits.ensures.numbers in
     let below : number < length set.patterns = bucket.within j (omega arith) in
-    let here = matches_next set.options set.patterns text c.text_key-bits.result.1 numbers c.utf8.text is bucket j (omega arith) in
+    let here = matches_next set.options set.patterns text numbers c.utf8.text bucket j (omega arith) in
     let matches = matches_below set.options set.patterns text in
     let next : matches (suc number) ≡ matches (number_after numbers (j + 1)) = ap matches (sym (add-one number)) ∙ ap (λ i. matches (number_after numbers i)) (sym (add-one j)) in
     elim c.if-branch.branch [
@@ -37,26 +35,25 @@ returns-clause-all g c =
     let set = c.args.self.now in
     let text = c.args.text.now in
     let l = c.loop-number in
-    let numbers = c.numbers-number-items.result.now in
-    let is = sym (c.text_key-bits.ensures.class ∙ ap text_class c.as_bytes.ensures.value) in
+    let numbers = c.numbers_for-bits.result.0.now in
     let end : l.number-index ≡ length numbers = omega arith in
     all_matches-end set.options set.patterns text (length set.patterns) (omega arith) l.numbers.items
     (l.invariant ∙ ap (λ i. matches_below set.options set.patterns text (number_after numbers i)) end
-    ∙ sym (matches_end set.options set.patterns text c.text_key-bits.result.1 numbers c.utf8.text is c.numbers-number-items.ensures))
+    ∙ sym (matches_end set.options set.patterns text numbers c.utf8.text c.numbers_for-bits.ensures.numbers))
 
 pub returns-in_err-matches_at-clause-first : goal.returns-in_err-matches_at-clause-first
 returns-in_err-matches_at-clause-first g c =
     let set = c.args.self.now in
     let l = c.loop-number in
-    let numbers = c.numbers-number-items.result.now in
-    let within = after_within numbers (length set.patterns) c.numbers-number-items.ensures.within l.number-index (omega arith) in
+    let numbers = c.numbers_for-bits.result.0.now in
+    let within = after_within numbers (length set.patterns) c.numbers_for-bits.ensures.numbers.within l.number-index (omega arith) in
     OnErr-always _ _ (AreFirstMatches-at set.options set.patterns c.args.text.now (number_after numbers l.number-index) l.numbers.items within l.invariant)
 
 pub returns-in_err-push-clause-first : goal.returns-in_err-push-clause-first
 returns-in_err-push-clause-first g c =
     let set = c.args.self.now in
     let l = c.loop-number in
-    let numbers = c.numbers-number-items.result.now in
+    let numbers = c.numbers_for-bits.result.0.now in
     let same : c.push.new.self.items ≡ l.numbers.items = c.in_err-push.ensures.items in
-    let within = after_within numbers (length set.patterns) c.numbers-number-items.ensures.within l.number-index (omega arith) in
+    let within = after_within numbers (length set.patterns) c.numbers_for-bits.ensures.numbers.within l.number-index (omega arith) in
     OnErr-always _ _ (AreFirstMatches-at set.options set.patterns c.args.text.now (number_after numbers l.number-index) c.push.new.self.items within (same ∙ l.invariant))

@@ -5,4 +5,4 @@ use Rattle.glob_set.specs.Sets.{matches_below}
 use Rattle.glob_set.proofs.set.PatternSet.matches_into.Given as goal
 
 abbrev pub invariant-loop-number : goal.invariant-loop-number
-invariant-loop-number g l = l.numbers.items ≡ matches_below l.self.options l.self.patterns l.text (number_after l.number-items l.number-index)
+invariant-loop-number g l = l.numbers.items ≡ matches_below l.self.options l.self.patterns l.text (number_after l.asked l.number-index)

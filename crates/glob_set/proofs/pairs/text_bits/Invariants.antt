@@ -1,0 +1,7 @@
+-- What is left gives the bits that are left.
+use Rattle.std.proofs.Common.{◌≡◌, bit_or, drop}
+use Rattle.glob_set.specs.Private.Pairs.{pair_bits}
+use Rattle.glob_set.proofs.pairs.text_bits.Given as goal
+
+abbrev pub invariant-loop-byte : goal.invariant-loop-byte
+invariant-loop-byte l = bit_or l.bits (pair_bits l.last (drop l.byte-index l.bytes)) ≡ pair_bits 0 l.bytes
