@@ -106,11 +106,7 @@ impl<R: Files + Drop, S: Strays, A: Allocator + Copy> Tree for PhysicalDisk<R, S
         ensures asks { self.new ≡ self.old + 1 }
     {
         self.asks = self.asks.after(1);
-        match seen_at(&self.rt, self.links, path)? {
-            Some(metadata) if metadata.is_dir() => Ok(Look::Dir),
-            Some(_) => Ok(Look::Other),
-            None => Ok(Look::Missing),
-        }
+        seen_at(&self.rt, self.links, path)
     }
 
     /// An entry whose kind cannot be learned is no directory. The error is `Memory` at an allocation failure, and else
@@ -213,29 +209,34 @@ fn is_directory<R: Files, A: Allocator>(
     directory.push_str(name)?;
     let found = seen_at(rt, links, directory.as_str());
     directory.truncate(length);
-    match found? {
-        Some(metadata) => Ok(metadata.is_dir()),
-        None => Ok(false),
-    }
+    Ok(matches!(found?, Look::Dir))
 }
 
-/// The metadata of what is at a path: of a link's target, unless links are not followed or it has none.
-fn seen_at<R: Files>(rt: &R, links: Links, path: &str) -> Result<Option<Metadata>, AllocError> {
-    let seen = metadata_of(rt.symlink_metadata(path))?;
-    match seen {
-        Some(metadata) if links == Links::Followed && metadata.is_symlink() => {
-            Ok(Some(metadata_of(rt.metadata(path))?.unwrap_or(metadata)))
-        }
-        seen => Ok(seen),
-    }
-}
-
-/// The metadata, or `None` where there is none to be had.
-fn metadata_of(answer: io::Result<Metadata>) -> Result<Option<Metadata>, AllocError> {
-    match answer {
-        Ok(metadata) => Ok(Some(metadata)),
+/// What is at a path: at a link's target, unless links are not followed or it has none.
+fn seen_at<R: Files>(rt: &R, links: Links, path: &str) -> Result<Look, AllocError> {
+    match rt.symlink_metadata(path) {
+        Ok(found) if links == Links::Followed && found.is_symlink() => target_at(rt, path),
+        Ok(found) => Ok(seen(&found)),
         Err(error) if error.kind() == ErrorKind::OutOfMemory => Err(AllocError),
-        Err(_) => Ok(None),
+        Err(_) => Ok(Look::Missing),
+    }
+}
+
+/// What the link at a path points to, or `Other` where it has no target.
+fn target_at<R: Files>(rt: &R, path: &str) -> Result<Look, AllocError> {
+    match rt.metadata(path) {
+        Ok(found) => Ok(seen(&found)),
+        Err(error) if error.kind() == ErrorKind::OutOfMemory => Err(AllocError),
+        Err(_) => Ok(Look::Other),
+    }
+}
+
+/// What has this metadata.
+fn seen(found: &Metadata) -> Look {
+    if found.is_dir() {
+        Look::Dir
+    } else {
+        Look::Other
     }
 }
 
