@@ -19,6 +19,9 @@ use std::marker::Model;
 /// with `/` or has a piece `..` it cannot tell what is above, and refuses it: as an allocation failure, the one error that
 /// says nothing of the path.
 ///
+/// The tree in it lists an entry that is excluded, too, at one of its own asks. The pruned tree counts, and the limit of a
+/// walk over it is charged for, those that are kept.
+///
 /// Over a directory `target` and files `a` and `target/b`, where `target` is excluded, a listing of `.` returns `a`, and a
 /// look at `target/b` returns `Look::Missing`.
 #[derive(Drop)]
