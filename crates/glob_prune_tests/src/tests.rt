@@ -1,5 +1,6 @@
 mod answers;
 mod ignoring;
+mod lists;
 mod made;
 mod memory;
 mod random;
