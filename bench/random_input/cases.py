@@ -4,10 +4,10 @@ import shlex
 from dataclasses import dataclass, replace
 from pathlib import PurePosixPath
 
-from make import ABOVE, Tree
+from make import ABOVE, MODES, Tree
 
 NO_LIMIT = 2**64 - 1
-ORDER_OF_KINDS = ["file", "dir", "shut", "link "]
+ORDER_OF_KINDS = ["file", "dir", "shut", "blind", "link "]
 
 
 def word(text):
@@ -143,10 +143,10 @@ class Walk:
 
     def command(self):
         """To be run at the top of the repository."""
-        make = {"file": "touch", "dir": "mkdir", "shut": "mkdir"}
+        make = {"file": "touch", "dir": "mkdir", "shut": "mkdir", "blind": "mkdir"}
         nodes = [(make.get(kind, f"ln -s {word(kind[5:])}"), word(f"./{path}")) for path, kind in self.tree.nodes]
         steps = [" ".join(node) for node in nodes]
-        steps += [f"chmod 0 {word(f'./{path}')}" for path, kind in self.tree.nodes if kind == "shut"]
+        steps += [f"chmod {MODES[kind]:o} {word(f'./{path}')}" for path, kind in self.tree.nodes if kind in MODES]
         limit = "" if self.limit == NO_LIMIT else f"-n {self.limit} "
         words = last_words(self.letters, self.pattern.removeprefix(ABOVE))
         if self.pattern.startswith(ABOVE):

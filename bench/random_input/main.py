@@ -5,25 +5,23 @@ first disagreement, cut down to a small one, and last how many of matches, sets,
 
 usage: main.py FOLDER VERSION SECONDS SEED
 
-FOLDER has ours/library, ours/sets and original/answer, which is over this VERSION of the crate. Rounds are made for as many
-SECONDS, the first of them from SEED, and each further one from the next seed.
+FOLDER has ours/library, ours/sets and original/answer, which is over this VERSION of the crate. Rounds are made for as
+many SECONDS, the first of them from SEED, and each further one from the next seed.
 """
 
 import collections
 import os
 import random
-import shutil
 import subprocess
 import sys
-import tempfile
 import time
-from contextlib import contextmanager
 from dataclasses import dataclass, replace
 from pathlib import Path
 
 import make
 import reference
 from cases import NO_LIMIT, Match, Walk, shrunk
+from place import Place
 from sides import SECONDS_A_CASE, Side, Unanswered
 
 PATTERNS, TEXTS = 1000, 4
@@ -31,9 +29,6 @@ WALKS = 200
 # Of a round, of a set at most, and for a set.
 SETS, SET_PATTERNS, SET_TEXTS = 20, 70, 100
 SHARE_WITH_LIMIT = 0.2
-NOBODY = 65534
-# So far below a folder of our own that no pattern leads out of it by `..`.
-BELOW = "1/2/3/4/5/6"
 UNANSWERED = f"docs/DIFFERENCES.md: the crate backtracks, and ended or took more than {SECONDS_A_CASE} s"
 # Of how many cases one may be such. The patterns have few stars, so hardly any is.
 CASES_FOR_ONE_UNANSWERED = 1000
@@ -76,18 +71,6 @@ def spoken(answer):
     return answer.reason if isinstance(answer, Unanswered) else answer.replace("\t", " ")
 
 
-def unprivileged_user(program):
-    """The user by whom the programs are run, which is nobody in the place of root, and whether there are directories
-    that this user cannot list."""
-    if os.geteuid() != 0:
-        return None, True
-    try:
-        subprocess.run([program], user=NOBODY, group=NOBODY, extra_groups=[], stdin=subprocess.DEVNULL)
-    except OSError:
-        return None, False
-    return NOBODY, True
-
-
 class Comparer:
     """Asks both sides the same, and counts."""
 
@@ -95,49 +78,17 @@ class Comparer:
         self.version = version
         self.programs = [[folder / "ours/library", "answer"], [folder / "original/answer"]]
         self.set_program = folder / "ours/sets"
-        self.user, self.may_shut = unprivileged_user(self.programs[1][0])
-        memory = "/dev/shm" if os.access("/dev/shm", os.W_OK) else None
-        self.base = Path(tempfile.mkdtemp(dir=memory))
-        self.base.chmod(0o755)
-        self.above = str(self.base / BELOW)
-        os.makedirs(self.above)
-        self.built = None
+        self.place = Place(self.programs)
+        self.base, self.above, self.walkers = self.place.base, self.place.above, self.place.walkers
         self.matchers = [Side(words, self.base) for words in self.programs]
-        self.walkers = [Side(words, f"{self.above}/tree", self.user) for words in self.programs]
         self.counts = collections.Counter()
         self.accounts = collections.Counter()
 
     def close(self):
         """Ends the programs, and removes the trees."""
-        self.leave()
         for side in self.matchers:
             side.close()
-        shutil.rmtree(self.base)
-
-    def leave(self):
-        """Removes the tree that is there, if one is."""
-        for side in self.walkers:
-            side.close()
-        if self.built:
-            self.built.remove(f"{self.above}/tree")
-        self.built = None
-
-    def enter(self, tree):
-        """Makes a tree, unless it is there."""
-        if self.built != tree:
-            self.leave()
-            tree.build(f"{self.above}/tree")
-            self.built = tree
-
-    @contextmanager
-    def as_user(self):
-        """Reads the tree as the programs do."""
-        own = os.geteuid()
-        os.seteuid(self.user or own)
-        try:
-            yield
-        finally:
-            os.seteuid(own)
+        self.place.close()
 
     def count(self, reason):
         """Counts a difference that is meant. Raises one that comes too often because the crate gave no answer."""
@@ -233,7 +184,7 @@ class Comparer:
 
     def written(self, case):
         """The walk as the rules have it, over the tree as the programs see it."""
-        return reference.Case(case.pattern.replace(make.ABOVE, self.above), case.letters, f"{self.above}/tree")
+        return reference.Case(case.pattern.replace(make.ABOVE, self.above), case.letters, self.place.top)
 
     def account(self, case, ours, crate):
         """Why the items of a walk are right: no words where they are those of the crate and of the rules, or the reason
@@ -242,25 +193,25 @@ class Comparer:
             return None
         if not ours.startswith("ok\t"):
             return "" if ours == crate else UNANSWERED if isinstance(crate, Unanswered) else None
-        with self.as_user():
+        with self.place.as_user():
             if isinstance(crate, Unanswered):
                 return UNANSWERED if self.written(case).items() == items_of(ours) else None
             return self.written(case).account(items_of(ours), items_of(crate), self.version)
 
     def walk_differs(self, case):
         """What the two sides and the rules say otherwise of a walk, or None where that is meant."""
-        self.enter(case.tree)
+        self.place.enter(case.tree)
         ours, crate = (side.ask([case.line(self.above)])[0] for side in self.walkers)
         if self.account(case, ours, crate) is not None:
             return None
-        with self.as_user():
+        with self.place.as_user():
             rules = " ".join(self.written(case).items())
         words = f"ours: {spoken(ours)}, the crate: {spoken(crate)}, and the rules: {rules or 'nothing'}"
         return Finding(words, is_unanswered=isinstance(ours, Unanswered))
 
     def limit_differs(self, case):
         """What a walk with a limit does otherwise than the one without it, or None."""
-        self.enter(case.tree)
+        self.place.enter(case.tree)
         lines = [some.line(self.above) for some in (case, replace(case, limit=NO_LIMIT))]
         limited, whole = self.walkers[0].ask(lines)
         if is_cut(limited, whole, case.limit):
@@ -278,8 +229,8 @@ class Comparer:
 
     def walks(self, source):
         """Compares some walks of one tree, and some of them with a limit."""
-        tree = make.tree(source, self.may_shut)
-        self.enter(tree)
+        tree = make.tree(source, self.place.may_shut)
+        self.place.enter(tree)
         paths = tree.paths()
         cases = [Walk(tree, make.walk_pattern(source, paths), source.choice(make.SETTINGS)) for _ in range(WALKS)]
         lines = [case.line(self.above) for case in cases]

@@ -22,8 +22,18 @@ DEEPEST = 4
 COMPONENTS = 6
 ODD_COMPONENTS = ["?", "??", ".*", ".", "..", "*.*", "[!.]*", "[.]*", ".?", "[!a]*", "*[ab]", "", ".[.]", "*a*b*"]
 
+# A few names, and components for them: those that come more often stand here more often. Some have a fault. By most of
+# the plain ones the whole pattern says what a walk finds.
+FEW_NAMES = ["a", "b", "ab", "A", ".a", ".b", "a.b", "é", "-"]
+FEW_COMPONENTS = ["**"] * 4 + ["*"] * 3 + ["?", "a", "a*", "*b", ".*", ".?", "[ab]", "[!a]*", ".", "..", "", "A", ".a"]
+FEW_COMPONENTS += ["é", "a[b]", "[b", "]*", "é**", "***"]
+PLAIN_COMPONENTS = ["**"] * 4 + ["*"] * 4 + ["?"] * 2 + ["a", "b", "a*", "*b", "[ab]", "[!a]*", "*.*", ".a", ".*"]
+PLAIN_COMPONENTS += [".[a-z]"]
+
 # In a pattern, the path of the folder that the tree's folder, `tree`, is in.
 ABOVE = "\0"
+# The kinds of directories that cannot be listed, with what is left to do there: nothing, or to look names up.
+MODES = {"shut": 0, "blind": 0o111}
 UNIT = re.compile(r"\*\*/|\*+|\?|\[!.[^]]*\]|\[[^!][^]]*\]|.", re.S)
 SETTINGS = ["", "d", "s", "sd", "i", "id", "is", "isd"]
 
@@ -124,8 +134,8 @@ def name(source):
 
 @dataclass(frozen=True)
 class Tree:
-    """What is below a folder: paths with kinds, each after the one that it is in. A kind is `dir`, `file`, `shut` for a
-    directory that cannot be listed, or `link ` and the target."""
+    """What is below a folder: paths with kinds, each after the one that it is in. A kind is `dir`, `file`, one of
+    MODES, or `link ` and the target."""
 
     nodes: tuple
 
@@ -137,25 +147,25 @@ class Tree:
         os.makedirs(folder)
         for path, kind in self.nodes:
             place = os.path.join(folder, path)
-            if kind in ("dir", "shut"):
+            if kind == "dir" or kind in MODES:
                 os.mkdir(place)
             elif kind == "file":
                 open(place, "x").close()
             else:
                 os.symlink(kind.removeprefix("link "), place)
-        for path, kind in self.nodes:
-            if kind == "shut":
-                os.chmod(os.path.join(folder, path), 0)
+        for path, kind in reversed(self.nodes):
+            if kind in MODES:
+                os.chmod(os.path.join(folder, path), MODES[kind])
 
     def remove(self, folder):
         """Removes the folder."""
         for path, kind in self.nodes:
-            if kind == "shut":
+            if kind in MODES:
                 os.chmod(os.path.join(folder, path), 0o700)
         shutil.rmtree(folder)
 
 
-def links(source, directories, files):
+def links(source, directories, files, name):
     """Links: to a file or a directory without links, to nothing, and to themselves. So none leads around in a cycle."""
     targets = [path for path in directories if source.random() < 0.5]
     inner = tuple(f"{target}/" for target in targets)
@@ -167,8 +177,8 @@ def links(source, directories, files):
         yield (f"{place}/{own}" if place else own), f"link {source.choice(goals)}"
 
 
-def tree(source, may_shut):
-    """A tree of directories, files, links and, where they can be made, directories that cannot be listed."""
+def tree(source, may_shut, name=name):
+    """A tree of directories, files, links and, where it can be made, a directory that cannot be listed."""
     nodes, directories = {}, []
     for _ in range(source.randint(1, NODES)):
         place = source.choice(["", *directories[-4:]])
@@ -179,11 +189,24 @@ def tree(source, may_shut):
         if nodes[path] == "dir" and path.count("/") + 1 < DEEPEST:
             directories.append(path)
     files = [path for path, kind in nodes.items() if kind == "file"]
-    for path, kind in links(source, directories, files):
+    for path, kind in links(source, directories, files, name):
         nodes.setdefault(path, kind)
     if may_shut and directories and source.random() < 0.3:
-        nodes[source.choice(directories)] = "shut"
+        nodes[source.choice(directories)] = source.choice(list(MODES))
     return Tree(tuple(nodes.items()))
+
+
+def few_name(source):
+    """One of a few names."""
+    return source.choice(FEW_NAMES)
+
+
+def few_components(source, components):
+    """A pattern for a walk, of one to three of these components."""
+    parts = [source.choice(components) for _ in range(source.randint(1, 3))]
+    start, end = source.choice([""] * 5 + [f"{ABOVE}/tree/"]), source.choice([""] * 5 + ["/"])
+    # A pattern that begins with `/` would walk the whole machine.
+    return (start + "/".join(parts) + end).lstrip("/")
 
 
 def widened(source, own):

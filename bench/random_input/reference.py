@@ -1,11 +1,17 @@
-"""What a walk gives, written down once more: the rules of docs/DEFINITIONS.md, over the disk, with a switch for each
-rule that the original crate or a release of it has otherwise. It says whether a disagreement is one that is meant."""
+"""What a walk gives and charges, written down once more: the rules of docs/DEFINITIONS.md, over the disk, with a switch
+for each rule that the original crate or a release of it has otherwise. It says whether a disagreement is one that is
+meant. tests/walks.py compares units and limits, too."""
 
 import os
 import re
 from dataclasses import dataclass, replace
 
 UNIT = re.compile(r"\*+|\?|\[!.[^]]*\]|\[[^!][^]]*\]|.", re.S)
+# A unit of work, a path, a directory that cannot be listed, and a limit's refusal: each is written before its path.
+WORK, FOUND, UNREAD, REFUSED = ".", "=", "!", "?"
+STARS = "wildcards are either regular `*` or recursive `**`"
+RECURSIVE = "recursive wildcards must form a single path component"
+RANGE = "invalid range pattern"
 
 
 @dataclass(frozen=True)
@@ -94,18 +100,67 @@ def child(path, name):
     return name if is_here else join(path, name)
 
 
+def stars_fault(text, at, stars):
+    """The place and the message of what is wrong with so many stars there, or None."""
+    after = at + stars
+    if stars > 2:
+        return at + 2, STARS
+    if stars == 2 and at > 0 and text[at - 1] != "/":
+        return at - 1, RECURSIVE
+    if stars == 2 and after < len(text) and text[after] != "/":
+        return after, RECURSIVE
+    return None
+
+
+def fault_of(text):
+    """The place and the message of the first fault of a text, or None where the grammar accepts it."""
+    for unit in UNIT.finditer(text):
+        fault = stars_fault(text, unit.start(), len(unit[0])) if unit[0][0] == "*" else None
+        if unit[0] == "[":
+            fault = unit.start(), RANGE
+        if fault:
+            return fault
+    return None
+
+
+def components_of(pattern):
+    """The components of a pattern. A separator at the end does not count."""
+    return pattern.removeprefix("/").removesuffix("/").split("/")
+
+
+def walk_fault(pattern):
+    """The fault for which a walk refuses a pattern: that of the whole, or of its first component with one. Or None."""
+    faults = (fault_of(text) for text in [pattern, *components_of(pattern)])
+    return next((fault for fault in faults if fault), None)
+
+
+def within(marks, limit):
+    """The items of a walk within a limit, and how many units of work it charges. The refusal comes at the path of the
+    first unit that does not fit."""
+    items, spent = [], 0
+    for mark in marks:
+        if mark[0] != WORK:
+            items.append(mark)
+        elif spent == limit:
+            return [*items, REFUSED + mark[1:]], spent
+        else:
+            spent += 1
+    return items, spent
+
+
 class Walk:
-    """A walk by the components of a pattern, from a folder."""
+    """A walk by the components of a pattern, from a folder. It yields marks: items, and units of work, each before what
+    is done for it."""
 
     def __init__(self, pattern, letters, rules, folder):
         self.folder, self.letters, self.rules = folder, letters, rules
-        self.start, rest = ("/", pattern[1:]) if pattern.startswith("/") else (".", pattern)
-        self.parts = (rest[:-1] if rest.endswith("/") else rest).split("/")
+        self.start = "/" if pattern.startswith("/") else "."
+        self.parts = components_of(pattern)
         self.wants_directories = pattern.endswith("/")
 
-    def items(self):
-        """`=` and a path, or `!` and the path of a directory that cannot be listed."""
-        return list(self.enter(0, self.start, self.is_dir(self.start)))
+    def marks(self):
+        yield WORK + self.start
+        yield from self.enter(0, self.start, self.is_dir(self.start))
 
     def on_disk(self, path):
         return os.path.join(self.folder, path)
@@ -124,19 +179,23 @@ class Walk:
         text = self.parts[part]
         if not set(text) & set("?*["):
             found = child(path, text)
+            yield WORK + found
             if is_dir if text in (".", "..") else self.exists(found):
                 yield from self.reach(part, found, self.is_dir(found))
         elif is_dir:
             yield from self.search(part, path, text)
 
     def search(self, part, path, text):
+        yield WORK + path
         try:
             names = sorted(os.listdir(self.on_disk(path)), key=str.encode)
         except OSError:
-            yield f"!{path}"
+            yield UNREAD + path
             return
+        yield from [WORK + path] * len(names)
         for name in ("..", ".") if text.startswith(".") else ():
             if matches(text, name, self.letters):
+                yield WORK + join(path, name)
                 yield from self.reach(part, join(path, name), self.is_dir(join(path, name)))
         for name in names:
             if not (self.rules.drops_dotted and self.hides(name)):
@@ -147,7 +206,7 @@ class Walk:
         if part + 1 < len(self.parts):
             yield from self.enter(part + 1, path, is_dir)
         elif is_dir or not self.wants_directories:
-            yield f"={path}"
+            yield FOUND + path
 
     def meet(self, part, path, name, is_dir):
         if self.parts[part] != "**":
@@ -161,7 +220,7 @@ class Walk:
             yield from self.match_at(part + 1, path, name, is_dir)
         if is_open:
             if is_last:
-                yield f"={path}"
+                yield FOUND + path
             yield from self.enter(part, path, True)
 
     def match_at(self, part, path, name, is_dir):
@@ -177,9 +236,13 @@ class Case:
     letters: str
     folder: str
 
+    def marks(self, rules=OURS):
+        """What the walk does by these rules."""
+        return Walk(self.pattern, self.letters, rules, self.folder).marks()
+
     def items(self, rules=OURS):
         """What the walk gives by these rules."""
-        return Walk(self.pattern, self.letters, rules, self.folder).items()
+        return [mark for mark in self.marks(rules) if mark[0] != WORK]
 
     def account(self, ours, crate, version):
         """Why ours and the crate gave these items: no words where both are those of the rules here, or the words of

@@ -28,6 +28,12 @@ class Side:
         self.user = {} if user is None else {"user": user, "group": user, "extra_groups": []}
         self.process = None
 
+    def move(self, folder):
+        """Has the program run in a folder."""
+        if folder != self.folder:
+            self.close()
+        self.folder = folder
+
     def close(self):
         """Ends the program."""
         if self.process:
