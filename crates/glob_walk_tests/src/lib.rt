@@ -1,5 +1,5 @@
-//! What the walks of the crate `glob` give at values from outside, and the trees that its tests walk over: trees whose
-//! answers belong to no content, which change, contradict themselves or never end.
+//! Walks of the crate `glob` over trees that its tests make: in memory, or with answers that belong to no content, which
+//! change, contradict themselves or never end. `tests/walks.py` compares walks of a disk.
 #![tactic(auto)]
 
 #[cfg(test)]

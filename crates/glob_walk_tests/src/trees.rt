@@ -4,10 +4,7 @@ ghost use Rattle.std.specs.Prelude.{None};
 mod liars;
 
 use glob::{Asks, Entry, ListError, Look, Tree};
-pub use liars::{
-    Asked, Chain, Counting, Descending, Endless, FalseDirectory, Fickle, NamesAlone, NoMemory,
-    Noting, Ready, Unlisted, Unreadable, noted,
-};
+pub use liars::{Alters, Asked, Notebook, Ready, Says, Speaker, noted, noting, saying};
 use std::alloc::{AllocError, Allocator};
 
 /// What gives a tree its answers. They need not be those of any files and directories.

@@ -1,8 +1,6 @@
 //! Walks tried in each way, beside what they are to give.
-use super::contents::{Content, tree_of};
 use super::items::{Item, are, items_of};
 use super::made::{check_row, made, push};
-use super::reference::{self, Job};
 use glob::{End, GlobResult, MatchOptions, Paths, PatternRefusal, Tree, Walk, glob_in, walk_in};
 use std::alloc::Global;
 use std::process::Abort;
@@ -14,17 +12,13 @@ pub(super) const CASE: MatchOptions = MatchOptions {
     require_literal_leading_dot: false,
 };
 
-/// Neither case nor rules.
-pub(super) const ANY_CASE: MatchOptions = MatchOptions {
-    case_sensitive: false,
-    ..CASE
-};
-
-/// Case-sensitive, with the dot rule.
-pub(super) const DOT: MatchOptions = MatchOptions {
-    require_literal_leading_dot: true,
-    ..CASE
-};
+/// A pattern, with what a walk after it needs to know.
+#[derive(Clone, Copy)]
+pub(super) struct Job<'a> {
+    pub(super) pattern: &'a str,
+    pub(super) options: MatchOptions,
+    pub(super) limit: u64,
+}
 
 impl<'a> Job<'a> {
     /// A walk after the pattern, case-sensitively, without rules and within the highest limit.
@@ -33,15 +27,6 @@ impl<'a> Job<'a> {
             pattern,
             options: CASE,
             limit: u64::MAX,
-        }
-    }
-
-    /// The same walk under other options.
-    pub(super) fn under(self, options: MatchOptions) -> Self {
-        Job {
-            pattern: self.pattern,
-            options,
-            limit: self.limit,
         }
     }
 
@@ -126,11 +111,7 @@ pub(super) fn check_ended<T: Tree>(
         assert!(rt; next_of(paths).is_none());
     }
     assert!(rt; counts_of(paths) == counts);
-    check_counts(rt, counts, limit, count);
-}
-
-/// What a walk within the limit spent, and how many items it gave, which are so many.
-fn check_counts(rt: &impl Abort, (spent, given): (u64, u128), limit: u64, count: usize) {
+    let (spent, given) = counts;
     assert!(rt; spent <= limit);
     assert!(rt; given == count as u128);
     assert!(rt; given <= u128::from(spent) + 1);
@@ -222,27 +203,8 @@ pub(super) fn check_given(
     pattern: &str,
 ) {
     let found = items_of(rt, given);
-    check_items(rt, found.as_slice(), items, pattern);
-}
-
-/// The items of a walk after the pattern are these.
-fn check_items(rt: &impl Abort, found: &[Item<'_>], items: &[Item<'_>], pattern: &str) {
     assert!(rt;
-        are(found, items),
+        are(found.as_slice(), items),
         "{pattern}: {found:?} in place of {items:?}"
     );
-}
-
-/// The walk gives these items over a tree in memory, as the reference does. Gives what it spends.
-pub(super) fn check(
-    rt: &(impl Abort + AllocGlobal),
-    content: &Content,
-    job: Job<'_>,
-    items: &[Item<'_>],
-) -> u64 {
-    let (known, tree) = made(rt, reference::walk(rt.alloc(), tree_of(rt, content), &job));
-    let expected = known.items(rt);
-    check_items(rt, expected.as_slice(), items, job.pattern);
-    check_over(rt, tree, job, items, known.spent);
-    known.spent
 }

@@ -1,20 +1,12 @@
 //! Walks that a test drives, beside the same walks over a tree.
 ghost use Rattle.std.specs.Prelude.{◌≡◌, None};
 
-use super::chance::{Random, some_options, some_pattern, some_tree};
-use super::checks::{CASE, check_spent, one_by_one};
-use super::contents::{Content, at_root, tree_of};
-use super::items::{Item, are, begins, check_item, items_of, read_items};
-use super::made::{check_number, check_row, made};
-use super::memory::{WALKS, small_tree};
-use super::random::COMPONENTS;
-use super::reference::Job;
-use crate::trees::{
-    Descending, Endless, FalseDirectory, Fickle, Liar, LyingTree, NamesAlone, NoMemory, Noting,
-    noted,
-};
-use glob::{GlobResult, Step, Tree, WalkMachine};
-use glob_testing::rationing::Rationed;
+use super::checks::{CASE, Job, check_spent, one_by_one};
+use super::contents::{FILES, planted, tree_of};
+use super::items::{Came, Item, are, begins, check_item, items_of, read_items};
+use super::made::{check_row, made};
+use crate::trees::{Alters, Says, noted, noting, saying};
+use glob::{GlobResult, MatchOptions, Step, Tree, WalkMachine};
 use std::alloc::{AllocError, Allocator, Global};
 use std::cell::Cell;
 use std::io::ErrorKind;
@@ -116,25 +108,24 @@ fn drive_most(
     (driven, machine.spent())
 }
 
-/// A walk over a tree and one that is driven by an equal tree give, ask and spend the same. One that is driven half the way
-/// gives a beginning of it. Gives what was spent, 0 if the pattern is refused.
-fn compare(rt: &(impl Abort + AllocGlobal), content: &Content, job: Job<'_>) -> u64 {
-    if WalkMachine::new(rt.alloc(), job.pattern, job.options, job.limit).is_err() {
-        return 0;
-    }
-    let number = Cell::new(0);
-    let tree = Noting {
-        tree: tree_of(rt, content),
-        number: &number,
-    };
-    let given = one_by_one(rt, LyingTree::new(tree), job);
+/// A walk over a tree and one that is driven by an equal tree give and spend the same. One that is driven half the way by
+/// a third gives a beginning of it. Gives the questions to the second as one number, and what was spent.
+fn compare<T: Tree<Alloc = Global>>(
+    rt: &(impl Abort + AllocGlobal),
+    job: Job<'_>,
+    tree: T,
+    mut same: T,
+    mut third: T,
+) -> (u64, u64) {
+    let given = one_by_one(rt, tree, job);
     let known = items_of(rt, given.items.as_slice());
-    let (whole, spent) = drive_most(rt, &mut tree_of(rt, content), job, u64::MAX);
+    let (whole, spent) = drive_most(rt, &mut same, job, u64::MAX);
     check_driven(rt, &whole, known.as_slice(), job.pattern);
     check_spent(rt, spent, given.spent, job);
-    check_row(rt, whole.number == number.get(), job.pattern);
-    check_half(rt, content, job, whole.questions / 2, known.as_slice());
-    spent
+    let (stopped, _) = drive_most(rt, &mut third, job, whole.questions / 2);
+    let first = items_of(rt, stopped.items.as_slice());
+    check_row(rt, begins(known.as_slice(), first.as_slice()), job.pattern);
+    (whole.number, spent)
 }
 
 /// A walk that was driven to its end gave these items.
@@ -149,36 +140,61 @@ fn check_driven(
     check_row(rt, are(items.as_slice(), known), pattern);
 }
 
-/// A walk that is driven for so many questions gives a beginning of these items.
-fn check_half(
-    rt: &(impl Abort + AllocGlobal),
-    content: &Content,
-    job: Job<'_>,
-    most: u64,
-    known: &[Item<'_>],
-) {
-    let (stopped, _) = drive_most(rt, &mut tree_of(rt, content), job, most);
-    let first = items_of(rt, stopped.items.as_slice());
-    check_row(rt, begins(known, first.as_slice()), job.pattern);
+/// A walk over the files and one that is driven ask the same. Gives what was spent.
+fn compare_files(rt: &(impl Abort + AllocGlobal), job: Job<'_>) -> u64 {
+    let (number, other) = (Cell::new(0), Cell::new(0));
+    let tree = noting(tree_of(rt, FILES), &number, Alters::KindsOfNames);
+    let same = noting(tree_of(rt, FILES), &other, Alters::KindsOfNames);
+    let third = noting(tree_of(rt, FILES), &other, Alters::KindsOfNames);
+    let (known, spent) = compare(rt, job, tree, same, third);
+    check_row(rt, number.get() == known, job.pattern);
+    spent
 }
 
-/// Random walks, each without a limit and within each limit up to what it spends.
+/// Patterns of walks over a few files.
+const PATTERNS: [&str; 16] = [
+    "",
+    "/",
+    "..",
+    "a",
+    "A/?/",
+    "a/b/x",
+    "a//y",
+    "*",
+    "*/",
+    ".*",
+    ".*/*",
+    "*/*",
+    "**",
+    "**/?",
+    "s/**",
+    "**/[!a]*/**/*",
+];
+
+/// Neither case nor one of the rules is left as it is in `CASE`.
+const OTHERS: MatchOptions = MatchOptions {
+    case_sensitive: false,
+    require_literal_separator: true,
+    require_literal_leading_dot: true,
+};
+
+/// Walks without a limit and within each limit up to what they spend.
 #[test]
 fn driven_walks(rt: HostRuntime) {
-    let mut random = Random::new();
-    let mut accepted = 0u32;
-    for _ in 0..300 {
-        let (content, _) = some_tree(&rt, &mut random, 8);
-        let pattern = some_pattern(&rt, &mut random, &COMPONENTS);
-        let job = Job::of(pattern.as_str()).under(some_options(&mut random));
-        let spent = compare(&rt, &content, job);
-        accepted = accepted.saturating_add(u32::from(spent > 0));
-        for limit in 0..=spent {
-            compare(&rt, &content, job.within(limit));
+    for pattern in PATTERNS {
+        for options in [CASE, OTHERS] {
+            let job = Job {
+                options,
+                ..Job::of(pattern)
+            };
+            for limit in 0..=compare_files(&rt, job) {
+                compare_files(&rt, job.within(limit));
+            }
         }
     }
-    assert!(rt; accepted > 100, "{accepted}");
 }
+
+const SMALL: &str = "/a/ /a/b /c /d/ /d/e";
 
 /// How often a walk of a small tree asks for entries, and how often for names alone.
 const NAMES: [(&str, u64, u64); 12] = [
@@ -199,9 +215,8 @@ const NAMES: [(&str, u64, u64); 12] = [
 /// Names alone are asked for exactly where no entry's kind can change what follows.
 #[test]
 fn names_alone_where_no_kind_matters(rt: HostRuntime) {
-    let content = at_root(&rt, "a/ a/b c d/ d/e");
     for (pattern, listings, names) in NAMES {
-        let mut tree = tree_of(&rt, &content);
+        let mut tree = tree_of(&rt, SMALL);
         let (driven, _) = drive_most(&rt, &mut tree, Job::of(pattern), u64::MAX);
         check_row(&rt, driven.listings == listings, pattern);
         check_row(&rt, driven.names == names, pattern);
@@ -210,35 +225,27 @@ fn names_alone_where_no_kind_matters(rt: HostRuntime) {
 
 /// A driver that answers what a tree does whose answers belong to no content: its walk gives and spends what the walk over
 /// such a tree does.
-fn compare_liars<L: Liar<Alloc = Global>>(
-    rt: &(impl Abort + AllocGlobal),
-    liar: L,
-    same: L,
-    job: Job<'_>,
-) {
-    let given = one_by_one(rt, LyingTree::new(liar), job);
-    let known = items_of(rt, given.items.as_slice());
-    let (driven, spent) = drive_most(rt, &mut LyingTree::new(same), job, u64::MAX);
-    check_driven(rt, &driven, known.as_slice(), job.pattern);
-    check_spent(rt, spent, given.spent, job);
-}
-
-/// Two trees whose answers change with each question, in the same way.
-fn fickle(alloc: Global) -> Fickle {
-    Fickle { alloc, calls: 0 }
-}
-
 #[test]
 fn drivers_that_lie(rt: HostRuntime) {
     let alloc = rt.alloc();
-    for pattern in ["**/*/d", "*", "*/", "d/*", "**", ".*/../d"] {
-        for limit in (0..24).chain([100, 1_000]) {
-            let job = Job::of(pattern).within(limit);
-            compare_liars(&rt, fickle(alloc), fickle(alloc), job);
-            compare_liars(&rt, Endless { alloc }, Endless { alloc }, job);
-            compare_liars(&rt, Descending { alloc }, Descending { alloc }, job);
-            compare_liars(&rt, FalseDirectory { alloc }, FalseDirectory { alloc }, job);
-            compare_liars(&rt, NoMemory, NoMemory, job);
+    let said = [
+        Says::Changing,
+        Says::Endless,
+        Says::Descending,
+        Says::FalseDirectory,
+        Says::NoMemory,
+    ];
+    for says in said {
+        for pattern in ["**/*/d", "*", "*/", "d/*", "**", ".*/../d"] {
+            for limit in (0..24).chain([100, 1_000]) {
+                let job = Job::of(pattern).within(limit);
+                let (tree, same, third) = (
+                    saying(alloc, says),
+                    saying(alloc, says),
+                    saying(alloc, says),
+                );
+                compare(&rt, job, tree, same, third);
+            }
         }
     }
 }
@@ -257,32 +264,31 @@ const BELOW_NAMES: [(&str, &str); 7] = [
 
 #[test]
 fn a_driver_that_answers_names_alone(rt: HostRuntime) {
-    let content = at_root(&rt, "a/ a/b c d/ d/e");
+    let number = Cell::new(0);
     for (pattern, words) in BELOW_NAMES {
-        let tree = tree_of(&rt, &content);
-        let mut names = LyingTree::new(NamesAlone { tree });
+        let mut names = noting(tree_of(&rt, SMALL), &number, Alters::Kinds);
         let (driven, _) = drive_most(&rt, &mut names, Job::of(pattern), u64::MAX);
         let known = read_items(&rt, words, ErrorKind::Other);
         check_driven(&rt, &driven, known.as_slice(), pattern);
     }
 }
 
-/// A driven walk with memory from `alloc` gives a beginning of the known items, and then says that memory ran out, or all
-/// of them. Gives whether memory sufficed.
-fn drives<A: Allocator + Copy>(
+/// A driven walk with memory from `alloc` over a few files gives a beginning of the known items, and then says that memory
+/// ran out, or all of them.
+pub(super) fn drives<A: Allocator + Copy>(
     rt: &impl Abort,
     alloc: A,
     pattern: &str,
     known: &[Item<'_>],
-) -> bool {
-    let Ok(mut tree) = small_tree(alloc) else {
-        return false;
+) -> Came {
+    let Ok(mut tree) = planted(alloc, FILES) else {
+        return Came::Nowhere;
     };
     let Ok(mut machine) = WalkMachine::new(alloc, pattern, CASE, u64::MAX) else {
-        return false;
+        return Came::Refused;
     };
     let Ok(driven) = drive(alloc, &mut machine, &mut tree, u64::MAX) else {
-        return false;
+        return Came::Short;
     };
     assert!(rt; driven.done);
     let mut place = 0usize;
@@ -293,25 +299,5 @@ fn drives<A: Allocator + Copy>(
         place = place.saturating_add(1);
     }
     assert!(rt; !sufficed || place == known.len());
-    sufficed
-}
-
-/// Each request for memory of a driven walk is refused in turn. All blocks are given back.
-#[test]
-fn each_request_of_a_driven_walk_is_refused(rt: HostRuntime) {
-    for (pattern, words) in WALKS {
-        let known = read_items(&rt, words, ErrorKind::PermissionDenied);
-        check_drives(&rt, pattern, known.as_slice());
-    }
-}
-
-/// Refuses each request for memory of a driven walk in turn.
-fn check_drives(rt: &(impl Abort + AllocGlobal), pattern: &str, known: &[Item<'_>]) {
-    let ample = Rationed::refusing(0, rt.alloc());
-    assert!(rt; drives(rt, &ample, pattern, known));
-    for number in 1..=ample.ration.asked() {
-        let scarce = Rationed::refusing(number, rt.alloc());
-        check_number(rt, !drives(rt, &scarce, pattern, known), number, pattern);
-        check_number(rt, scarce.ration.held() == 0, number, pattern);
-    }
+    if sufficed { Came::Whole } else { Came::Short }
 }

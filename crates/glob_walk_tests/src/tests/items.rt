@@ -20,6 +20,19 @@ pub(super) enum Item<'a> {
 
 use Item::{Limit, Memory, Path, Unread};
 
+/// How far a walk came with the memory that there was.
+#[derive(Clone, Copy)]
+pub(super) enum Came {
+    /// The tree was not made.
+    Nowhere,
+    /// The pattern was refused.
+    Refused,
+    /// It was refused memory later.
+    Short,
+    /// It came to its end.
+    Whole,
+}
+
 /// The item that a walk gave.
 pub(super) fn item_of<A: Allocator>(given: &GlobResult<A>) -> Item<'_> {
     match given {
@@ -48,9 +61,11 @@ pub(super) fn items_of<'a, A: Allocator>(
 }
 
 /// The item that a word writes: after `!` a directory that could not be read for this reason, after `^` where the limit
-/// was reached, and else a path.
+/// was reached, for `$` that memory ran out, and else a path.
 fn read_item(word: &str, kind: ErrorKind) -> Item<'_> {
-    if let Some(path) = word.strip_prefix('!') {
+    if word == "$" {
+        Memory
+    } else if let Some(path) = word.strip_prefix('!') {
         Unread(path, kind)
     } else if let Some(path) = word.strip_prefix('^') {
         Limit(path)
@@ -77,7 +92,7 @@ pub(super) fn are(found: &[Item<'_>], expected: &[Item<'_>]) -> bool {
     found == expected
 }
 
-/// The item at this place was given, or memory ran out in its place. Gives whether memory sufficed.
+/// The item at this place was given, or a refusal came in its place. Gives whether it was given.
 pub(super) fn check_item<A: Allocator>(
     rt: &impl Abort,
     given: &GlobResult<A>,
@@ -85,7 +100,7 @@ pub(super) fn check_item<A: Allocator>(
     place: usize,
 ) -> bool {
     match item_of(given) {
-        Memory => false,
+        Memory | Limit(_) => false,
         item => {
             assert!(rt; known.get(place) == Some(&item));
             true

@@ -1,16 +1,14 @@
 //! Trees whose answers belong to no content, and patterns of many components.
 use super::checks::{
-    at_once, check, check_gathered, check_given, check_over, check_spent, check_stepped, ended,
+    Job, at_once, check_gathered, check_given, check_over, check_spent, check_stepped, ended,
     one_by_one,
 };
-use super::contents::at_root;
-use super::items::Item::{Memory, Path};
+use super::contents::tree_of;
+use super::items::Item::Path;
 use super::items::{item_of, items_of, read_items};
 use super::made::{joined, made};
-use super::reference::Job;
-use crate::trees::{Chain, Descending, Endless, FalseDirectory, Fickle, LyingTree, NoMemory};
+use crate::trees::{Says, saying};
 use glob::End;
-use std::alloc::Global;
 use std::io::ErrorKind;
 use std::process::Abort;
 
@@ -24,67 +22,45 @@ pub(super) fn repeated(rt: &(impl Abort + AllocGlobal), part: &str, times: usize
     text
 }
 
-/// The words of the paths `d`, `d/d` and so on down to a depth.
-fn nested(rt: &(impl Abort + AllocGlobal), depth: usize) -> String {
-    let mut words = String::new(rt.alloc());
-    for depth in 1..=depth {
-        made(rt, words.push_str(repeated(rt, "d", depth).as_str()));
-        made(rt, words.push(' '));
-    }
-    words
-}
-
-#[test]
-fn a_tree_without_end(rt: HostRuntime) {
-    let paths = nested(&rt, 24);
-    let last = repeated(&rt, "d", 24);
-    let words = joined(&rt, &[paths.as_str(), " ^", last.as_str()]);
-    let items = read_items(&rt, words.as_str(), ErrorKind::Other);
-    assert!(rt; items.len() == 25);
-    let endless = LyingTree::new(Endless { alloc: rt.alloc() });
-    let job = Job::of("**/*").within(50);
-    check_over(&rt, endless, job, items.as_slice(), 50);
-}
-
-#[test]
-fn a_listing_in_descending_order(rt: HostRuntime) {
-    let descending = LyingTree::new(Descending { alloc: rt.alloc() });
-    check_over(&rt, descending, Job::of("*"), &[Path("a"), Path("b")], 4);
-}
-
-#[test]
-fn a_tree_without_memory(rt: HostRuntime) {
-    for pattern in ["*", "a", "**", "/"] {
-        let tree = LyingTree::new(NoMemory);
-        check_over(&rt, tree, Job::of(pattern), &[Memory], 1);
-    }
-}
-
-/// A walk after the pattern over a false directory gives these paths, and spends so much.
-fn check_false(rt: &(impl Abort + AllocGlobal), pattern: &str, words: &str, spent: u64) {
-    let tree = LyingTree::new(FalseDirectory { alloc: rt.alloc() });
+/// A walk after the pattern over a tree that says this, within the limit, gives the items that words write, and spends so
+/// much.
+fn check_said(rt: &(impl Abort + AllocGlobal), says: Says, job: Job<'_>, words: &str, spent: u64) {
     let items = read_items(rt, words, ErrorKind::Other);
-    check_over(rt, tree, Job::of(pattern), items.as_slice(), spent);
+    check_over(rt, saying(rt.alloc(), says), job, items.as_slice(), spent);
 }
 
+/// What a tree says, a pattern, a limit, and what its walk gives and spends.
+const ROWS: [(Says, &str, u64, &str, u64); 11] = [
+    (
+        Says::Endless,
+        "**/*",
+        10,
+        "d d/d d/d/d d/d/d/d ^d/d/d/d",
+        10,
+    ),
+    (Says::Descending, "*", 99, "a b", 4),
+    (Says::FalseDirectory, "*", 99, "d", 3),
+    (Says::FalseDirectory, "*/", 99, "d", 3),
+    (Says::FalseDirectory, "d", 99, "", 2),
+    (Says::FalseDirectory, "*/d", 99, "", 4),
+    (Says::FalseDirectory, "*/*", 99, "d/d", 5),
+    (Says::NoMemory, "*", 99, "$", 1),
+    (Says::NoMemory, "a", 99, "$", 1),
+    (Says::NoMemory, "**", 99, "$", 1),
+    (Says::NoMemory, "/", 99, "$", 1),
+];
+
 #[test]
-fn a_directory_that_is_missing_when_it_is_looked_at(rt: HostRuntime) {
-    let rows = [
-        ("*", "d", 3),
-        ("*/", "d", 3),
-        ("d", "", 2),
-        ("*/d", "", 4),
-        ("*/*", "d/d", 5),
-    ];
-    for (pattern, words, spent) in rows {
-        check_false(&rt, pattern, words, spent);
+fn answers_that_no_files_give(rt: HostRuntime) {
+    for (says, pattern, limit, words, spent) in ROWS {
+        check_said(&rt, says, Job::of(pattern).within(limit), words, spent);
     }
 }
 
 /// What a walk gives over a tree whose answers change with each call, and how it ends, by `walk_in` and by `next`.
-fn check_fickle(rt: &(impl Abort + AllocGlobal), job: Job<'_>) -> End {
-    let walk = at_once(rt, fickle(rt.alloc()), job);
-    let given = one_by_one(rt, fickle(rt.alloc()), job);
+fn check_changing(rt: &(impl Abort + AllocGlobal), job: Job<'_>) -> End {
+    let walk = at_once(rt, saying(rt.alloc(), Says::Changing), job);
+    let given = one_by_one(rt, saying(rt.alloc(), Says::Changing), job);
     check_spent(rt, walk.spent, given.spent, job);
     let stepped = items_of(rt, given.items.as_slice());
     let (others, end) = ended(stepped.as_slice());
@@ -94,18 +70,13 @@ fn check_fickle(rt: &(impl Abort + AllocGlobal), job: Job<'_>) -> End {
     end
 }
 
-/// A tree whose answers change with each call.
-fn fickle(alloc: Global) -> LyingTree<Fickle> {
-    LyingTree::new(Fickle { alloc, calls: 0 })
-}
-
 #[test]
 fn answers_that_change_with_each_call(rt: HostRuntime) {
     let mut done = 0u32;
     let mut limited = 0u32;
     for pattern in ["**/*", "*/*", "**", ".*/.*", "a/b", "*/**/b", "/*/../*"] {
         for limit in 0..60 {
-            match check_fickle(&rt, Job::of(pattern).within(limit)) {
+            match check_changing(&rt, Job::of(pattern).within(limit)) {
                 End::Done => done = done.saturating_add(1),
                 _ => limited = limited.saturating_add(1),
             }
@@ -119,11 +90,10 @@ const COMPONENTS: usize = 5_000;
 /// A walk after five thousand such components over a small tree gives nothing and spends so much.
 #[test]
 fn five_thousand_components_over_a_small_tree(rt: HostRuntime) {
-    for (component, keys, spent) in [("a", "a/", 3), ("**", "", 2)] {
+    for (component, words, spent) in [("a", "/a/", 3), ("**", "", 2)] {
         let text = repeated(&rt, component, COMPONENTS);
         let job = Job::of(text.as_str()).within(20_000);
-        let found = check(&rt, &at_root(&rt, keys), job, &[]);
-        assert!(rt; found == spent);
+        check_over(&rt, tree_of(&rt, words), job, &[], spent);
     }
 }
 
@@ -139,30 +109,21 @@ fn five_thousand_components_without_end(rt: HostRuntime) {
         let text = repeated(&rt, component, COMPONENTS);
         let path = repeated(&rt, name, names);
         let job = Job::of(text.as_str()).within(20_000);
-        let endless = LyingTree::new(Endless { alloc: rt.alloc() });
-        check_over(&rt, endless, job, &[Path(path.as_str())], spent);
+        check_said(&rt, Says::Endless, job, path.as_str(), spent);
     }
 }
 
 const MANY: usize = 100_000;
 
 #[test]
-fn a_hundred_thousand_dots(rt: HostRuntime) {
+fn a_hundred_thousand_components(rt: HostRuntime) {
+    let alloc = rt.alloc();
     let text = repeated(&rt, ".", MANY);
-    let endless = LyingTree::new(Endless { alloc: rt.alloc() });
+    let endless = saying(alloc, Says::Endless);
     check_gathered(&rt, endless, Job::of(text.as_str()), &[Path(".")], 100_001);
-}
-
-#[test]
-fn a_hundred_thousand_runs(rt: HostRuntime) {
     let text = repeated(&rt, "**", MANY);
-    let empty = chain(rt.alloc(), 0);
+    let empty = saying(alloc, Says::Deep(0));
     check_stepped(&rt, empty, Job::of(text.as_str()), &[], 2);
-}
-
-/// Directories one in another, to a depth.
-fn chain(alloc: Global, depth: usize) -> LyingTree<Chain> {
-    LyingTree::new(Chain { alloc, depth })
 }
 
 /// A directory in each of five thousand others: each is looked at by its listing alone, which costs two units, and the
@@ -170,7 +131,7 @@ fn chain(alloc: Global, depth: usize) -> LyingTree<Chain> {
 #[test]
 fn a_deep_tree(rt: HostRuntime) {
     let depth = 5_000;
-    let walk = at_once(&rt, chain(rt.alloc(), depth), Job::of("**"));
+    let walk = at_once(&rt, saying(rt.alloc(), Says::Deep(depth)), Job::of("**"));
     assert!(rt; walk.end == End::Done);
     assert!(rt; walk.spent == 10_002);
     assert!(rt; walk.items.len() == depth);

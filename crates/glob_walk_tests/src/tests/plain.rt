@@ -15,9 +15,11 @@ const PLAIN: [&str; 10] = [
     "**",
 ];
 
-const NOT_PLAIN: [&str; 12] = [
-    "", "/", ".", "..", "./a", "a/..", "a//b", "**//", "//a", ".*", "a/.?", "**/.?/.?",
+const NOT_PLAIN: [&str; 13] = [
+    "", "/", ".", "..", "./a", "a/..", "a//b", "**//", "//a", ".*", "*/.*", "a/.?", "**/.?/.?",
 ];
+
+const FAULTS: [(&str, usize); 3] = [("a[", 1), ("./a**", 2), ("x/a[/]b", 1)];
 
 #[test]
 fn plain_patterns(rt: HostRuntime) {
@@ -27,11 +29,7 @@ fn plain_patterns(rt: HostRuntime) {
     for pattern in NOT_PLAIN {
         check_row(&rt, !made(&rt, is_plain(rt.alloc(), pattern)), pattern);
     }
-}
-
-#[test]
-fn a_pattern_with_a_fault_is_refused(rt: HostRuntime) {
-    for (pattern, place) in [("a[", 1), ("./a**", 2), ("x/a[/]b", 1)] {
+    for (pattern, place) in FAULTS {
         match is_plain(rt.alloc(), pattern) {
             Err(PatternRefusal::Syntax(error)) => assert_eq!(rt; error.pos, place, "{pattern}"),
             _ => panic!(rt; "{pattern} is not refused"),

@@ -1,27 +1,22 @@
 //! Walks at many sizes and over characters of each length. Memory is ample, so each of them is done.
-use super::checks::{at_once, check_next, check_over, check_spent, next_of, one_by_one, start};
+use super::checks::{
+    Job, at_once, check_next, check_over, check_spent, next_of, one_by_one, start,
+};
+use super::contents::tree_of;
 use super::items::Item::Path;
 use super::lying::repeated;
 use super::made::{joined, made, text_of};
-use super::reference::Job;
-use crate::trees::{Endless, LyingTree, Ready};
-use glob::{End, MatchOptions, MemTree, Tree};
+use crate::trees::{LyingTree, Ready, Says, saying};
+use glob::{End, MemTree};
 use glob_testing::sizes::{CHARACTERS, sizes_to};
-use std::alloc::Global;
 use std::process::Abort;
-
-/// A tree of one file of this name.
-fn one_file(rt: &(impl Abort + AllocGlobal), name: &str) -> MemTree {
-    let mut tree = made(rt, MemTree::new(rt.alloc()));
-    made(rt, tree.add_other(joined(rt, &["/", name]).as_str()));
-    tree
-}
 
 /// A file of this name is found by its name, by `*`, and by its name and `*` after `**`.
 fn check_name(rt: &(impl Abort + AllocGlobal), name: &str) {
     let after = joined(rt, &["**/", name, "*"]);
+    let file = joined(rt, &["/", name]);
     for (pattern, spent) in [(name, 2), ("*", 3), (after.as_str(), 3)] {
-        let tree = one_file(rt, name);
+        let tree = tree_of(rt, file.as_str());
         check_over(rt, tree, Job::of(pattern), &[Path(name)], spent);
     }
 }
@@ -37,31 +32,18 @@ fn names(rt: HostRuntime) {
     }
 }
 
-/// A walk over a tree gives so many paths and spends so much, by `walk_in`.
-fn check_at_once<T: Tree<Alloc = Global>>(
-    rt: &(impl Abort + AllocGlobal),
-    tree: T,
-    pattern: &str,
-    count: usize,
-    spent: u64,
-) {
-    let walk = at_once(rt, tree, Job::of(pattern));
-    assert!(rt; walk.end == End::Done);
-    assert!(rt; walk.items.len() == count);
-    check_spent(rt, walk.spent, spent, Job::of(pattern));
-}
-
-/// A directory of so many files.
-fn ready(rt: &(impl Abort + AllocGlobal), files: u32) -> LyingTree<Ready<Global>> {
-    LyingTree::new(made(rt, Ready::files(rt.alloc(), files, "")))
-}
-
 /// A directory of so many files is walked in both ways.
 fn check_entries(rt: &(impl Abort + AllocGlobal), size: usize) {
     let files = made(rt, u32::try_from(size));
     let spent = u64::from(files).saturating_add(2);
-    check_at_once(rt, ready(rt, files), "*", size, spent);
-    let given = one_by_one(rt, ready(rt, files), Job::of("*"));
+    let job = Job::of("*");
+    let ready = made(rt, Ready::files(rt.alloc(), files, ""));
+    let walk = at_once(rt, LyingTree::new(ready), job);
+    assert!(rt; walk.end == End::Done);
+    assert!(rt; walk.items.len() == size);
+    check_spent(rt, walk.spent, spent, job);
+    let ready = made(rt, Ready::files(rt.alloc(), files, ""));
+    let given = one_by_one(rt, LyingTree::new(ready), job);
     assert!(rt; given.items.len() == size);
 }
 
@@ -74,35 +56,26 @@ fn entries(rt: HostRuntime) {
     }
 }
 
-/// A pattern of a component so many times finds this path and spends so much.
-fn check_repeated(
-    rt: &(impl Abort + AllocGlobal),
-    component: &str,
-    times: usize,
-    path: &str,
-    spent: u64,
-) {
-    let pattern = repeated(rt, component, times);
-    let endless = LyingTree::new(Endless { alloc: rt.alloc() });
-    check_over(rt, endless, Job::of(pattern.as_str()), &[Path(path)], spent);
-}
-
 /// Patterns of so many components, which lead so deep.
 fn check_components(rt: &(impl Abort + AllocGlobal), size: usize) {
     let depth = size as u64;
     let path = repeated(rt, "d", size);
     let deep = depth.saturating_add(1);
-    check_repeated(rt, "*", size, path.as_str(), depth.saturating_add(deep));
-    check_repeated(rt, "d", size, path.as_str(), deep);
-    check_repeated(rt, ".", size, ".", deep);
+    let rows = [
+        ("*", path.as_str(), depth.saturating_add(deep)),
+        ("d", path.as_str(), deep),
+        (".", ".", deep),
+    ];
+    for (component, path, spent) in rows {
+        let pattern = repeated(rt, component, size);
+        let endless = saying(rt.alloc(), Says::Endless);
+        check_over(rt, endless, Job::of(pattern.as_str()), &[Path(path)], spent);
+    }
 }
 
 #[test]
 fn components(rt: HostRuntime) {
-    for size in 1..=70 {
-        check_components(&rt, size);
-    }
-    for size in [127, 128, 129, 255, 256, 257, 300, 511, 512, 513] {
+    for size in (1..=70).chain([127, 128, 129, 255, 256, 257, 300, 511, 512, 513]) {
         check_components(&rt, size);
     }
 }
@@ -125,8 +98,7 @@ fn comb(rt: &(impl Abort + AllocGlobal)) -> MemTree {
 /// A directory of each level waits while the walk is below the other one.
 #[test]
 fn a_walk_of_many_open_directories(rt: HostRuntime) {
-    let job = Job::of("**/b").under(MatchOptions::new());
-    let mut paths = made(&rt, start(rt.alloc(), comb(&rt), job));
+    let mut paths = made(&rt, start(rt.alloc(), comb(&rt), Job::of("**/b")));
     for level in 0..LEVELS {
         let above = LEVELS.saturating_sub(level.saturating_add(1));
         let wanted = text_of(&rt, &[("a/", above), ("b", 1)]);

@@ -1,11 +1,9 @@
 //! The caller of the walk.
-use super::checks::start;
-use super::contents::{at_root, tree_of};
+use super::checks::{Job, start};
+use super::contents::tree_of;
 use super::made::{check_number, made};
-use super::reference::Job;
 use crate::uses::first_paths;
 use glob::{End, MatchOptions};
-use std::process::Abort;
 
 /// The pattern of each walk: it gives `d` for 3 units, and `d/a` and `d/q` for 3 more.
 const PATTERN: &str = "**/*";
@@ -21,22 +19,21 @@ const ROWS: [(u64, usize, usize, Option<End>); 6] = [
 ];
 
 /// So many paths are found within the limit, and then this end.
-fn check_first(rt: &(impl Abort + AllocGlobal), row: (u64, usize, usize, Option<End>)) {
-    let (limit, most, count, end) = row;
-    let tree = tree_of(rt, &at_root(rt, "d/ d/q d/a"));
-    let job = Job::of(PATTERN).under(MatchOptions::new()).within(limit);
-    let mut paths = made(rt, start(rt.alloc(), tree, job));
-    let found = made(rt, first_paths(rt.alloc(), &mut paths, most));
-    check_number(rt, found.end == end, limit, PATTERN);
-    check_number(rt, found.paths.len() == count, limit, PATTERN);
-    for (path, wanted) in found.paths.iter().zip(&["d", "d/a", "d/q"]) {
-        check_number(rt, path.as_str() == *wanted, limit, wanted);
-    }
-}
-
 #[test]
 fn the_first_paths(rt: HostRuntime) {
-    for row in ROWS {
-        check_first(&rt, row);
+    for (limit, most, count, end) in ROWS {
+        let tree = tree_of(&rt, "/d/ /d/q /d/a");
+        let job = Job {
+            pattern: PATTERN,
+            options: MatchOptions::new(),
+            limit,
+        };
+        let mut paths = made(&rt, start(rt.alloc(), tree, job));
+        let found = made(&rt, first_paths(rt.alloc(), &mut paths, most));
+        check_number(&rt, found.end == end, limit, PATTERN);
+        check_number(&rt, found.paths.len() == count, limit, PATTERN);
+        for (path, wanted) in found.paths.iter().zip(&["d", "d/a", "d/q"]) {
+            check_number(&rt, path.as_str() == *wanted, limit, wanted);
+        }
     }
 }

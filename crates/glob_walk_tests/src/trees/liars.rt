@@ -1,5 +1,5 @@
 //! What lying trees say.
-use super::Liar;
+use super::{Liar, LyingTree};
 use glob::{Entry, ListError, Look, MemTree, Name, Tree};
 use glob_testing::rationing::Rationed;
 use std::alloc::{AllocError, Allocator, Global};
@@ -38,74 +38,46 @@ fn listing<A: Allocator + Copy>(
     Ok(entries)
 }
 
-/// Every path is a directory's, and every directory holds one directory `d`.
+/// What is in a tree, whatever path it is asked for.
+#[derive(Clone, Copy, Drop)]
+pub enum Says {
+    /// Every path is a directory's, and every directory has one directory `d`.
+    Endless,
+    /// The same above this depth. Those below have nothing.
+    Deep(usize),
+    /// A directory has a directory `d`, and a look at that finds nothing.
+    FalseDirectory,
+    /// Every path is a directory's, with a file `b` and then a file `a`.
+    Descending,
+    /// Every path is a directory's, and no directory can be listed, for this reason.
+    Unreadable(io::Error),
+    /// Every answer is out of memory.
+    NoMemory,
+    /// Another answer with each question.
+    Changing,
+}
+
+/// A tree that says this.
 #[derive(Drop)]
-pub struct Endless {
-    /// Where its entries are made.
-    pub alloc: Global,
+pub struct Speaker<A: Allocator + Copy> {
+    alloc: A,
+    says: Says,
+    /// How many questions came before.
+    calls: u64,
 }
 
-impl Liar for Endless {
-    type Alloc = Global;
-
-    fn look(&mut self, _path: &str) -> Result<Look, AllocError> {
-        Ok(Look::Dir)
-    }
-
-    fn list(&mut self, _path: &str) -> Result<Vec<Entry>, ListError> {
-        listing(self.alloc, &["d"], true)
-    }
+/// A tree that says this, and was asked nothing.
+pub fn saying<A: Allocator + Copy>(alloc: A, says: Says) -> LyingTree<Speaker<A>> {
+    LyingTree::new(Speaker {
+        alloc,
+        says,
+        calls: 0,
+    })
 }
 
-/// Every path is a directory's. Each directory above a depth holds one directory `d`, and those below it hold nothing.
-#[derive(Drop)]
-pub struct Chain {
-    /// Where its entries are made.
-    pub alloc: Global,
-    /// How many directories stand one in another.
-    pub depth: usize,
-}
-
-impl Liar for Chain {
-    type Alloc = Global;
-
-    fn look(&mut self, _path: &str) -> Result<Look, AllocError> {
-        Ok(Look::Dir)
-    }
-
-    fn list(&mut self, path: &str) -> Result<Vec<Entry>, ListError> {
-        let depth = path.bytes().filter(|&byte| byte == b'd').count();
-        if depth < self.depth {
-            listing(self.alloc, &["d"], true)
-        } else {
-            Ok(Vec::new(self.alloc))
-        }
-    }
-}
-
-/// Its answers change with each call.
-#[derive(Drop)]
-pub struct Fickle {
-    /// Where its entries are made.
-    pub alloc: Global,
-    /// How many calls came before.
-    pub calls: u64,
-}
-
-impl Liar for Fickle {
-    type Alloc = Global;
-
-    fn look(&mut self, _path: &str) -> Result<Look, AllocError> {
-        self.calls = self.calls.wrapping_add(1);
-        match self.calls % 3 {
-            0 => Ok(Look::Missing),
-            1 => Ok(Look::Dir),
-            _ => Ok(Look::Other),
-        }
-    }
-
-    fn list(&mut self, _path: &str) -> Result<Vec<Entry>, ListError> {
-        self.calls = self.calls.wrapping_add(1);
+impl<A: Allocator + Copy> Speaker<A> {
+    /// A listing that is another with each question.
+    fn changing(&self) -> Result<Vec<Entry<A>, A>, ListError> {
         match self.calls % 5 {
             0 => Err(ListError::Read(io::Error::from(ErrorKind::NotFound))),
             1 => listing(self.alloc, &["b", "a", "b"], true),
@@ -116,90 +88,39 @@ impl Liar for Fickle {
     }
 }
 
-/// Every listing says that there is a directory `d`, and a look at it finds nothing.
-#[derive(Drop)]
-pub struct FalseDirectory {
-    /// Where its entries are made.
-    pub alloc: Global,
+/// How often there is a `d` in a path.
+fn depth_of(path: &str) -> usize {
+    path.bytes().filter(|&byte| byte == b'd').count()
 }
 
-impl Liar for FalseDirectory {
-    type Alloc = Global;
+impl<A: Allocator + Copy> Liar for Speaker<A> {
+    type Alloc = A;
 
     fn look(&mut self, path: &str) -> Result<Look, AllocError> {
-        if path.ends_with('d') {
-            Ok(Look::Missing)
-        } else {
-            Ok(Look::Dir)
+        self.calls = self.calls.wrapping_add(1);
+        match self.says {
+            Says::NoMemory => Err(AllocError),
+            Says::FalseDirectory if path.ends_with('d') => Ok(Look::Missing),
+            Says::Changing if self.calls % 3 == 0 => Ok(Look::Missing),
+            Says::Changing if self.calls % 3 == 2 => Ok(Look::Other),
+            _ => Ok(Look::Dir),
         }
     }
 
-    fn list(&mut self, _path: &str) -> Result<Vec<Entry>, ListError> {
-        listing(self.alloc, &["d"], true)
-    }
-}
-
-/// Every listing answers a file `b` and then a file `a`.
-#[derive(Drop)]
-pub struct Descending {
-    /// Where its entries are made.
-    pub alloc: Global,
-}
-
-impl Liar for Descending {
-    type Alloc = Global;
-
-    fn look(&mut self, _path: &str) -> Result<Look, AllocError> {
-        Ok(Look::Dir)
-    }
-
-    fn list(&mut self, _path: &str) -> Result<Vec<Entry>, ListError> {
-        listing(self.alloc, &["b", "a"], false)
-    }
-}
-
-/// Every answer is out of memory.
-#[derive(Drop)]
-pub struct NoMemory;
-
-impl Liar for NoMemory {
-    type Alloc = Global;
-
-    fn look(&mut self, _path: &str) -> Result<Look, AllocError> {
-        Err(AllocError)
-    }
-
-    fn list(&mut self, _path: &str) -> Result<Vec<Entry>, ListError> {
-        Err(ListError::Memory)
-    }
-}
-
-/// Counts its calls in a place that it is lent. There is nothing in it.
-#[derive(Drop)]
-pub struct Counting<'a> {
-    /// Where its listings are made.
-    pub alloc: Global,
-    /// How many calls there were.
-    pub calls: &'a Cell<u64>,
-}
-
-impl Counting<'_> {
-    fn count(&self) {
-        self.calls.set(self.calls.get().wrapping_add(1));
-    }
-}
-
-impl Liar for Counting<'_> {
-    type Alloc = Global;
-
-    fn look(&mut self, _path: &str) -> Result<Look, AllocError> {
-        self.count();
-        Ok(Look::Missing)
-    }
-
-    fn list(&mut self, _path: &str) -> Result<Vec<Entry>, ListError> {
-        self.count();
-        Ok(Vec::new(self.alloc))
+    fn list(&mut self, path: &str) -> Result<Vec<Entry<A>, A>, ListError> {
+        self.calls = self.calls.wrapping_add(1);
+        match self.says {
+            Says::Deep(depth) if depth_of(path) >= depth => Ok(Vec::new(self.alloc)),
+            Says::Endless | Says::Deep(_) | Says::FalseDirectory => listing(
+                self.alloc,
+                &["d"],
+                true,
+            ),
+            Says::Descending => listing(self.alloc, &["b", "a"], false),
+            Says::Unreadable(error) => Err(ListError::Read(error)),
+            Says::NoMemory => Err(ListError::Memory),
+            Says::Changing => self.changing(),
+        }
     }
 }
 
@@ -243,61 +164,6 @@ impl<A: Allocator + Copy> Liar for Ready<A> {
     }
 }
 
-/// A tree in memory of which one path cannot be listed.
-#[derive(Drop)]
-pub struct Unlisted {
-    tree: MemTree,
-    path: &'static str,
-    kind: Option<ErrorKind>,
-}
-
-impl Unlisted {
-    /// A listing of the path fails with this kind, as on a disk where a name is no text. Where there is none, it is out
-    /// of memory.
-    pub fn at(tree: MemTree, path: &'static str, kind: Option<ErrorKind>) -> Unlisted {
-        Unlisted { tree, path, kind }
-    }
-}
-
-impl Liar for Unlisted {
-    type Alloc = Global;
-
-    fn look(&mut self, path: &str) -> Result<Look, AllocError> {
-        self.tree.look(path)
-    }
-
-    fn list(&mut self, path: &str) -> Result<Vec<Entry>, ListError> {
-        if path != self.path {
-            return self.tree.list(path);
-        }
-        match self.kind {
-            Some(kind) => Err(ListError::Read(io::Error::from(kind))),
-            None => Err(ListError::Memory),
-        }
-    }
-}
-
-/// Every path is a directory's, and no directory can be listed, for this reason.
-#[derive(Drop)]
-pub struct Unreadable<A: Allocator + Copy> {
-    /// Where its listings would be made.
-    pub alloc: A,
-    /// Why they fail.
-    pub error: io::Error,
-}
-
-impl<A: Allocator + Copy> Liar for Unreadable<A> {
-    type Alloc = A;
-
-    fn look(&mut self, _path: &str) -> Result<Look, AllocError> {
-        Ok(Look::Dir)
-    }
-
-    fn list(&mut self, _path: &str) -> Result<Vec<Entry<A>, A>, ListError> {
-        Err(ListError::Read(self.error))
-    }
-}
-
 /// A number that is another after each question, by its kind and its path.
 pub fn noted(before: u64, kind: u64, path: &str) -> u64 {
     let start = before.wrapping_mul(31).wrapping_add(kind);
@@ -306,90 +172,113 @@ pub fn noted(before: u64, kind: u64, path: &str) -> u64 {
     })
 }
 
-/// A tree in memory that notes its questions as one number, in a place that it is lent. Where names alone are asked for, it
-/// says of each directory that it is none, and of each other entry that it is one.
-#[derive(Drop)]
-pub struct Noting<'a, A: Allocator + Copy> {
-    /// Its answers.
-    pub tree: MemTree<A>,
-    /// The number of the questions so far.
-    pub number: &'a Cell<u64>,
+/// What a tree in memory answers otherwise.
+#[derive(Clone, Copy)]
+pub enum Alters {
+    /// Nothing.
+    Nothing,
+    /// Where names alone are asked for, it says of each directory that it is none, and of each other entry that it is one.
+    KindsOfNames,
+    /// It says of every entry that it is no directory.
+    Kinds,
+    /// This path cannot be listed: for a reason of this kind, as on a disk where a name is no text, or for want of memory.
+    Listing(&'static str, Option<ErrorKind>),
 }
 
-impl<A: Allocator + Copy> Liar for Noting<'_, A> {
+/// A tree in memory that notes its questions as one number, in a place that it is lent. As long as it is asked nothing,
+/// that stays 0.
+#[derive(Drop)]
+pub struct Notebook<'a, A: Allocator + Copy> {
+    tree: MemTree<A>,
+    number: &'a Cell<u64>,
+    alters: Alters,
+}
+
+/// The tree with some of its answers otherwise, which notes its questions there.
+pub fn noting<A: Allocator + Copy>(
+    tree: MemTree<A>,
+    number: &Cell<u64>,
+    alters: Alters,
+) -> LyingTree<Notebook<'_, A>> {
+    LyingTree::new(Notebook {
+        tree,
+        number,
+        alters,
+    })
+}
+
+impl<A: Allocator + Copy> Notebook<'_, A> {
+    fn note(&self, kind: u64, path: &str) {
+        self.number.set(noted(self.number.get(), kind, path));
+    }
+
+    /// The listing of the path, unless that fails.
+    fn entries(&mut self, path: &str) -> Result<Vec<Entry<A>, A>, ListError> {
+        let alters = self.alters;
+        match alters {
+            Alters::Listing(unlisted, Some(kind)) if unlisted == path => {
+                Err(ListError::Read(io::Error::from(kind)))
+            }
+            Alters::Listing(unlisted, None) if unlisted == path => Err(ListError::Memory),
+            _ => self.tree.list(path),
+        }
+    }
+}
+
+impl<A: Allocator + Copy> Liar for Notebook<'_, A> {
     type Alloc = A;
 
     fn look(&mut self, path: &str) -> Result<Look, AllocError> {
-        self.number.set(noted(self.number.get(), 1, path));
+        self.note(1, path);
         self.tree.look(path)
     }
 
     fn list(&mut self, path: &str) -> Result<Vec<Entry<A>, A>, ListError> {
-        self.number.set(noted(self.number.get(), 2, path));
-        self.tree.list(path)
+        self.note(2, path);
+        let mut entries = self.entries(path)?;
+        if matches!(self.alters, Alters::Kinds) {
+            for entry in entries.iter_mut() {
+                entry.is_dir = false;
+            }
+        }
+        Ok(entries)
     }
 
     fn list_names(&mut self, path: &str) -> Result<Vec<Entry<A>, A>, ListError> {
-        self.number.set(noted(self.number.get(), 3, path));
-        let mut entries = self.tree.list_names(path)?;
-        for entry in entries.iter_mut() {
-            entry.is_dir = !entry.is_dir;
+        self.note(3, path);
+        let mut entries = self.entries(path)?;
+        if matches!(self.alters, Alters::KindsOfNames) {
+            for entry in entries.iter_mut() {
+                entry.is_dir = !entry.is_dir;
+            }
         }
         Ok(entries)
     }
 }
 
-/// A tree in memory with memory that is rationed. It counts its questions in a place that it is lent.
+/// Every path is a directory's, with nothing in it. Its memory is rationed. It counts its questions in a place that it is
+/// lent.
 #[derive(Drop)]
 pub struct Asked<'a> {
-    /// Its answers.
-    pub tree: MemTree<&'a Rationed<Global>>,
+    /// Where its listings are made.
+    pub alloc: &'a Rationed<Global>,
     /// How many questions there were.
     pub questions: &'a Cell<u64>,
-}
-
-impl Asked<'_> {
-    fn count(&self) {
-        self.questions.set(self.questions.get().wrapping_add(1));
-    }
 }
 
 impl<'a> Liar for Asked<'a> {
     type Alloc = &'a Rationed<Global>;
 
-    fn look(&mut self, path: &str) -> Result<Look, AllocError> {
-        self.count();
-        self.tree.look(path)
+    fn look(&mut self, _path: &str) -> Result<Look, AllocError> {
+        self.questions.set(self.questions.get().wrapping_add(1));
+        Ok(Look::Dir)
     }
 
     fn list(
         &mut self,
-        path: &str,
+        _path: &str,
     ) -> Result<Vec<Entry<&'a Rationed<Global>>, &'a Rationed<Global>>, ListError> {
-        self.count();
-        self.tree.list(path)
-    }
-}
-
-/// A tree in memory that answers each listing with names alone: it says of every entry that it is no directory.
-#[derive(Drop)]
-pub struct NamesAlone {
-    /// Its other answers.
-    pub tree: MemTree,
-}
-
-impl Liar for NamesAlone {
-    type Alloc = Global;
-
-    fn look(&mut self, path: &str) -> Result<Look, AllocError> {
-        self.tree.look(path)
-    }
-
-    fn list(&mut self, path: &str) -> Result<Vec<Entry>, ListError> {
-        let mut entries = self.tree.list(path)?;
-        for entry in entries.iter_mut() {
-            entry.is_dir = false;
-        }
-        Ok(entries)
+        self.questions.set(self.questions.get().wrapping_add(1));
+        Ok(Vec::new(self.alloc))
     }
 }
