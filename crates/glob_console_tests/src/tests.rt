@@ -1,0 +1,5 @@
+mod memory;
+mod order;
+mod runs;
+mod waiting;
+mod writing;
