@@ -36,8 +36,8 @@ EXAMPLES = {
         "crates/glob_examples/src/texts.rt",
         "crates/glob_examples/proofs/texts/reread/Answers.antt",
         "crates/glob_line_tests/src/tests/copies.rt",
-        "crates/glob_run/src/tests/disk.rt",
-        "crates/glob_run/src/tests/disk.rt",
+        "crates/glob_disk_tests/src/tests/calls.rt",
+        "crates/glob_disk_tests/src/tests/calls.rt",
         "crates/glob_examples/src/sources.rt",
         "crates/glob_examples/specs/Sources.antt",
         "crates/glob_console/src/find.rt",
@@ -93,7 +93,7 @@ def headings(path):
 def unknown_files(page):
     """The names of sources on a page that end no path of the repository. One with NAME in it is not looked for."""
     text = re.sub(r"```.*?```", "", (ROOT / page).read_text(encoding="utf-8"), flags=re.S)
-    names = re.findall(r"`([\w/.]+\.(?:rt|antt|md|py|sh|tsv))`", text)
+    names = re.findall(r"`([\w/.]+\.(?:rt|antt|md|py|sh|tsv|txt))`", text)
     return [name for name in names if "NAME" not in name and not any(f"/{file}".endswith(f"/{name}") for file in FILES)]
 
 

@@ -48,7 +48,7 @@ asked() {
     check "$1" 0 "$2" ''
 }
 
-all='lib glob_captures lib glob_console lib glob_explain lib glob_lines lib glob_pattern lib glob_testing lib glob_text lib glob_tree lib glob_walk run glob_run '
+all='lib glob_captures lib glob_console lib glob_explain lib glob_lines lib glob_pattern lib glob_text lib glob_tree lib glob_walk run glob_run '
 
 anew
 for words in --help -h --version; do
@@ -86,17 +86,17 @@ asked 'a source of the program builds anew' 'match x\n'
 anew
 run match x
 sed -i 's/[0-9]* min [0-9]* s$/TIME/' "$work/err"
-grep -c ' of 10: ' "$work/err" >"$work/out"
+grep -c ' of 9: ' "$work/err" >"$work/out"
 sed -n '1,2p;$p' "$work/err" >"$work/some" && cp "$work/some" "$work/err"
-check 'a build says what it is at' 0 '10\n' "$(printf 'glob_run: %s\\n' \
+check 'a build says what it is at' 0 '9\n' "$(printf 'glob_run: %s\\n' \
     'proving and building the program, once for these sources: that takes minutes, or less where some was done' \
-    '1 of 10: glob_text' 'built in TIME')"
+    '1 of 9: glob_text' 'built in TIME')"
 
 for wrong in glob_text glob_tree; do
     anew
     echo "$wrong" >"$work/asked.wrong"
     run match x
-    grep -v ' of 10: ' "$work/err" | sed 1d >"$work/some" && cp "$work/some" "$work/err"
+    grep -v ' of 9: ' "$work/err" | sed 1d >"$work/some" && cp "$work/some" "$work/err"
     check "a build that fails at $wrong" 2 '' \
         "error: wrong\nglob_run: the build of $wrong failed, as the lines above say\n"
 done
@@ -144,9 +144,9 @@ ended_by() {
 
 for signal in TERM INT HUP; do
     anew
-    ended_by "$signal" 3 "$program" match x
+    ended_by "$signal" 2 "$program" match x
     sed -i '/ended/!d' "$work/err"
-    check "ended by SIG$signal, it ends each rt" "$((128 + $(kill -l "$signal")))" '3\n' \
+    check "ended by SIG$signal, it ends each rt" "$((128 + $(kill -l "$signal")))" '2\n' \
         'glob_run: ended before it was built. The next call goes on from here\n'
     anew
     cp -a "$root/tests" "$work/a copy"

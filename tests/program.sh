@@ -10,8 +10,34 @@ binary=$root/crates/glob_run/out/glob_run
 work=$(mktemp -d) || exit 2
 trap 'rm -rf "$work"' EXIT
 passed=0 failed=0
+usage='usage: glob_run match [-i] [-s] [-d] PATTERN | escape TEXT | find [-i] [-s] [-d] [-n LIMIT] PATTERN\n'
 
 . "$root/tests/lib/rows.sh"
+
+# finds PATTERNS [PATHS]: compares what find writes for each of the patterns, as it is and below the absolute path of now.
+# Between two of them, and between two paths, is a blank
+finds() {
+    local program=$binary pattern front path lines
+    for pattern in $1; do
+        for front in '' "$PWD/"; do
+            lines=''
+            for path in ${2-}; do lines+="$front$path\n"; done
+            run find "$("$binary" escape "$front")$pattern"
+            check "find $front$pattern" "$([ -n "$lines" ] && echo 0 || echo 1)" "$lines" ''
+        done
+    done
+}
+
+# advises PATTERN [LINE]: compares the last line that explain writes for the pattern and a text that it does not match, or
+# sees to it that this says nothing of what to write
+advises() {
+    local program=$binary pattern
+    printf -v pattern '%b' "$1"
+    run explain -- "$pattern" $'\1\1/\1'
+    tail -n 1 "$work/out" >"$work/some" && mv "$work/some" "$work/out"
+    [ $# = 2 ] || grep -q '^write' "$work/out" || : >"$work/out"
+    check "what to write instead of $1" 1 "${2+$2\n}" ''
+}
 
 # The first call builds the program, if need be.
 if ! "$program" match '' <<<'' >/dev/null; then
@@ -19,34 +45,10 @@ if ! "$program" match '' <<<'' >/dev/null; then
     exit 1
 fi
 
-printf 'a.rs\nb.c\n' >"$work/in"
-run match '*.rs' <"$work/in"
-check 'matching lines' 0 'a.rs\n' ''
-
-printf 'ab' >"$work/in"
-run match 'a?' <"$work/in"
-check 'a last line without a line feed' 0 'ab\n' ''
-
-run match '*' </dev/null
-check 'no input' 1 '' ''
-
-printf '\xff\na\n' >"$work/in"
-run match '*' <"$work/in"
-check 'a line that is not UTF-8' 0 'a\n' ''
-
-printf '\n' >"$work/in"
-run match '' <"$work/in"
-check 'the empty pattern' 0 '\n' ''
-
-printf -- '-x\n' >"$work/in"
-run match -- '-*' <"$work/in"
-check 'a pattern after --' 0 '-x\n' ''
-
-run match '-*' <"$work/in"
-check 'a pattern that looks like an option' 2 '' 'usage: glob_run match [-i] [-s] [-d] PATTERN | escape TEXT | find [-i] [-s] [-d] [-n LIMIT] PATTERN\n'
-
-run escape 'a*'
-check 'an escaped text' 0 'a[*]\n' ''
+each_row run.txt try
+each_row explain.txt try
+each_row walks.txt finds
+each_row advice.txt advises
 
 # The patterns of the README and of the man page: options, a pattern, lines that match, and lines that do not.
 set -f
@@ -81,14 +83,25 @@ done <<'ROWS'
 ROWS
 set +f
 
-unfed --version
-check 'the version is the one at the top of the changelog' 0 "glob_run $(sed -n 's/^## //p' "$root/CHANGELOG.md" | head -1)\n" ''
+for words in --version '--version x'; do
+    # shellcheck disable=SC2086 # a word for each
+    unfed $words
+    check "by $words the version is the one at the top of the changelog" 0 "glob_run $(version)\n" ''
+done
 
 unfed --help
 cp "$work/out" "$work/page"
-unfed -h
-cmp -s "$work/page" "$work/out" && [ "$(grep -c 'glob_run match' "$work/out")" = 2 ] && : >"$work/out"
-check 'the page that teaches the program' 0 '' ''
+awk 'NR == FNR { begins[$0]; next }
+    length > 100
+    { for (begin in begins) if (index($0, begin) == 1) delete begins[begin] }
+    END { for (begin in begins) print begin }' "$root/tests/rows/help.txt" "$work/page" >"$work/out"
+check 'a line of the page for each word, and none of more than 100 bytes' 0 '' ''
+for words in -h '-h match' 'match --help' 'find --help x' 'escape --help' 'explain --help'; do
+    # shellcheck disable=SC2086 # a word for each
+    unfed $words
+    cmp -s "$work/page" "$work/out" && : >"$work/out"
+    check "the page by $words" 0 '' ''
+done
 
 "$program" --help >/dev/full 2>"$work/err"
 status=$? && : >"$work/out"
@@ -133,18 +146,17 @@ check 'what to write instead of a choice' 1 'write instead: *.[ch]\n' ''
 unfed explain '**.rs' a
 check 'the fault of a pattern, shown' 2 '' 'Pattern syntax error near position 2: recursive wildcards must form a single path component\n**.rs\n  ^\nwrite instead: **/*.rs\n'
 
+unfed explain "$(printf '%8193s' '' | tr ' ' '?')" "$(printf '%8192s' '' | tr ' ' a)"
+check 'a text that is too large to explain' 2 '' "the pattern's tokens times the text's bytes are more than 67108864\n"
+
 unfed match 'abc[def'
 check 'a fault of the pattern before anything is read' 2 '' 'Pattern syntax error near position 3: invalid range pattern\n'
 
-printf 'a.rs\nb.c\n' >"$work/in"
-run match 'abc[def' <"$work/in"
-check 'a fault of the pattern' 2 '' 'Pattern syntax error near position 3: invalid range pattern\n'
-
 unfed
-check 'no word' 2 '' 'usage: glob_run match [-i] [-s] [-d] PATTERN | escape TEXT | find [-i] [-s] [-d] [-n LIMIT] PATTERN\n'
+check 'no word' 2 '' "$usage"
 
 unfed match $'\xff'
-check 'a word that is not UTF-8' 2 '' 'usage: glob_run match [-i] [-s] [-d] PATTERN | escape TEXT | find [-i] [-s] [-d] [-n LIMIT] PATTERN\n'
+check 'a word that is not UTF-8' 2 '' "$usage"
 
 run match '*' <"$work"
 check 'a directory as standard input' 2 '' 'reading failed\n'
@@ -152,7 +164,7 @@ check 'a directory as standard input' 2 '' 'reading failed\n'
 run match '*' <&-
 check 'a closed standard input' 2 '' 'reading failed\n'
 
-: >"$work/out"
+printf 'a.rs\nb.c\n' >"$work/in" && : >"$work/out"
 "$program" match '*.rs' <"$work/in" >/dev/full 2>"$work/err"
 status=$?
 check 'a full standard output' 2 '' 'writing failed\n'
@@ -182,6 +194,15 @@ check 'escape to a full standard output' 2 '' 'writing failed\n'
 status=$?
 check 'escape to a closed standard output' 2 '' 'writing failed\n'
 
+for words in --version 'explain a* ab' 'explain a* b'; do
+    set -f
+    # shellcheck disable=SC2086 # a word for each
+    "$program" $words >/dev/full 2>"$work/err"
+    status=$? && : >"$work/out"
+    set +f
+    check "$words to a full standard output" 2 '' 'writing failed\n'
+done
+
 "$program" match 'abc[def' >"$work/out" 2>/dev/full
 status=$? && : >"$work/err"
 check 'a fault that match cannot report' 2 '' ''
@@ -208,18 +229,17 @@ with $((short + ($(needed "$binary" match '*') - short) / 2)) match '*'
 beginning "$work/in"
 check 'memory that runs out while lines are written' 2 'a beginning\n' 'out of memory\n'
 
-# From too little memory to start the program to enough. Where it is not started, the status is the system's, 126 or more.
+# From too little memory to start the program to enough.
 printf 'a.rs\nb.c\n' >"$work/in"
-for limit in $(seq $((little - 1024)) 16 $((little + 512))); do
-    with "$limit" match '*.rs'
-    if [ "$status" -ge 126 ] && [ ! -s "$work/out" ]; then
-        echo 'not started'
-    else
-        echo "status $status: $(cat "$work/out" "$work/err")"
-    fi
-done | sort -u >"$work/ends"
-mv "$work/ends" "$work/out" && : >"$work/err" && status=
-check 'just too little memory, and just enough' '' 'not started\nstatus 0: a.rs\nstatus 2: out of memory\n' ''
+ends_within "$little" match '*.rs'
+check 'just too little memory, and just enough' '' 'not started\nstatus 0: a.rs \nstatus 2: out of memory\n' ''
+marks=$(printf '%60000s' '' | tr ' ' '?')
+ends_within "$little" escape "$marks"
+check 'just too little memory to escape, and just enough' '' \
+    'not started\nstatus 0: [?][?][?][?][?][?][?\nstatus 2: out of memory\n' ''
+ends_within "$little" explain "${marks:0:2000}" "${marks:0:2000}"
+check 'just too little memory to explain, and just enough' '' \
+    'not started\nstatus 0: ?\t? ?\t? ?\t? ?\t? ?\t? \nstatus 2: out of memory\n' ''
 
 # A signal, while the program waits for more input.
 mkfifo "$work/input"
@@ -244,7 +264,6 @@ status=$?
 check 'SIGPIPE alone ends nothing' 0 'a.rs\nb.c\n' ''
 
 # The command find. All of it runs in a folder of its own.
-usage='usage: glob_run match [-i] [-s] [-d] PATTERN | escape TEXT | find [-i] [-s] [-d] [-n LIMIT] PATTERN\n'
 mkdir "$work/tree"
 cd "$work/tree" || exit 1
 
@@ -275,6 +294,13 @@ here=$(pwd -P)
 run find "$("$program" escape "$here")/paths/x*"
 printf '%s\n' "$here/paths/x1" | cmp -s - "$work/out" && : >"$work/out"
 check 'an absolute pattern' 0 '' ''
+# A unit for the start, one for each name of the path, and three for a listing and its two entries.
+mkdir two && touch two/a two/b
+names=${here//[!\/]/}
+run find -n $((${#names} + 5)) "$("$program" escape "$here")/two/*"
+check 'the units of an absolute pattern' 0 "$here/two/a\n$here/two/b\n" ''
+run find -n $((${#names} + 4)) "$("$program" escape "$here")/two/*"
+check 'one unit less' 2 '' "$(unread "$here/two")walk limit reached\n"
 run find //
 check 'the root' 0 '/\n' ''
 cd paths/sub || exit 1
@@ -369,26 +395,18 @@ check 'a long walk in a cycle of links takes little memory' 2 'late/a/hit1\n' "$
 
 # A directory that is not ours to read. Root can read it, and so gives its rights up.
 mkdir -p shut/a shut/b/sub shut/c && touch shut/a/x shut/b/x shut/b/sub/x shut/c/x && chmod 000 shut/b && chmod 755 "$work"
-as_user=()
-[ "$(id -u)" != 0 ] || as_user=(setpriv --reuid=65534 --regid=65534 --clear-groups)
-if "${as_user[@]}" "$binary" escape a >/dev/null 2>&1; then
-    "${as_user[@]}" "$binary" find 'shut/*/?' >"$work/out" 2>"$work/err"
-    status=$?
+if by_user find 'shut/*/?'; then
     begins 'a directory that cannot be read' 2 'shut/a/x\nshut/c/x\n' "$(unread shut/b)"
 else
     skip 'a directory that cannot be read'
 fi
 chmod 444 shut/b
-if "${as_user[@]}" "$binary" escape a >/dev/null 2>&1; then
-    "${as_user[@]}" "$binary" find 'shut/**/x' >"$work/out" 2>"$work/err"
-    status=$?
+ln -s b/x shut/link
+if by_user find 'shut/**/x'; then
     check 'what a directory that may not be searched has is no directory' 0 'shut/a/x\nshut/b/x\nshut/c/x\n' ''
-    "${as_user[@]}" "$binary" find 'shut/b/x' >"$work/out" 2>"$work/err"
-    status=$?
+    by_user find 'shut/b/x'
     check 'a literal path below a directory that may not be searched' 1 '' ''
-    ln -s b/x shut/link
-    "${as_user[@]}" "$binary" find 'shut/link' >"$work/out" 2>"$work/err"
-    status=$?
+    by_user find 'shut/link'
     check 'a link into a directory that may not be searched' 0 'shut/link\n' ''
 else
     skip 'what a directory that may not be searched has is no directory'

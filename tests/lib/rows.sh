@@ -1,5 +1,5 @@
-# What the rows of program.sh are made of. Sourced, with these set: $program and $binary, the program as a user calls it and as
-# it is built; $work, a folder; $passed and $failed, how many rows did.
+# What the rows of program.sh and files.sh are made of. Sourced, with these set: $root, the repository; $program and $binary,
+# the program as a user calls it and as it is built; $work, a folder; $passed and $failed, how many rows did.
 
 # check NAME STATUS OUTPUT FAULTS: compares $work/out, $work/err and $status, where \n is a line feed
 check() {
@@ -27,6 +27,11 @@ unfed() {
     status=$?
 }
 
+# version: the one at the top of the changelog
+version() {
+    sed -n 's/^## //p' "$root/CHANGELOG.md" | head -1
+}
+
 # needed PROGRAM WORD..: with how much memory, in kilobytes and to a megabyte, a program ends well on $work/in
 needed() {
     local least=0 most=1024
@@ -42,12 +47,24 @@ needed() {
 
 # with KILOBYTES WORD..: runs the program with this much memory
 with() {
-    (
-        ulimit -v "$1"
-        shift
-        exec "$binary" "$@"
-    ) >"$work/out" 2>"$work/err" <"$work/in"
+    prlimit --as=$(($1 * 1024)) "$binary" "${@:2}" >"$work/out" 2>"$work/err" <"$work/in"
     status=$?
+}
+
+# ends_within KILOBYTES WORD..: how the program ends with so much memory, with up to 1,024 kilobytes less, and with some more:
+# each end is a line. Where it is not started, the status is the system's, 126 or more
+ends_within() {
+    local most=$1 limit
+    shift
+    for limit in $(seq $((most - 1024)) 16 $((most + 512))); do
+        with "$limit" "$@"
+        if [ "$status" -ge 126 ] && [ ! -s "$work/out" ]; then
+            echo 'not started'
+        else
+            echo "status $status: $(head -c 20 "$work/out" | tr '\n' ' ')$(cat "$work/err")"
+        fi
+    done | sort -u >"$work/ends"
+    mv "$work/ends" "$work/out" && : >"$work/err" && status=
 }
 
 # beginning FILE: replaces the output by one line, if it is some of the first bytes of FILE
@@ -62,6 +79,15 @@ ends() {
     local signal=$1
     shift
     timeout --preserve-status -k 10 -s "$signal" 1 "$binary" "$@" >"$work/out" 2>"$work/err"
+    status=$?
+}
+
+# by_user WORD..: runs the program without the rights of root, who may read all. False where no other user can run it
+by_user() {
+    local user=()
+    [ "$(id -u)" != 0 ] || user=(setpriv --reuid=65534 --regid=65534 --clear-groups)
+    "${user[@]}" "$binary" --version >/dev/null 2>&1 || return
+    "${user[@]}" "$binary" "$@" >"$work/out" 2>"$work/err"
     status=$?
 }
 
@@ -83,4 +109,50 @@ begins() {
     echo " of $lines" >>"$work/front"
     cp "$work/front" "$work/err"
     check "$1" "$2" "$3" "$4 of 1\n"
+}
+
+# place: makes an empty folder, and goes there. place PATH..: makes directories, whose paths end in /, links NAME->TARGET,
+# files NAME=TEXT, and empty files in the folder of now
+place() {
+    local path
+    [ $# != 0 ] || cd "$(mktemp -d "$work/placed.XXXXXX")" || exit
+    for path in "$@"; do
+        printf -v path '%b' "$path"
+        case $path in
+            */) mkdir -p "$path" ;;
+            *'->'*) ln -s "${path#*->}" "${path%%->*}" ;;
+            *=*) printf '%s' "${path#*=}" >"${path%%=*}" ;;
+            *) mkdir -p "$(dirname "$path")" && : >"$path" ;;
+        esac
+    done
+}
+
+# each_row TABLE COMMAND..: runs the command on the fields of each line of tests/rows/TABLE, between which is |, where \n, \0
+# and so on are as for printf. A line that begins with + has words for place, and one that begins with # is a comment
+each_row() {
+    local table=$root/tests/rows/$1 before=$PWD line fields
+    shift
+    [ -s "$table" ] || exit 2
+    set -f
+    while IFS= read -r line; do
+        if [[ $line == +* ]]; then
+            # shellcheck disable=SC2086 # a word for each path
+            place ${line#+}
+        elif [[ $line != '' && $line != '#'* ]]; then
+            IFS='|' read -r -a fields <<<"$line"
+            "$@" "${fields[@]}" </dev/null
+        fi
+    done <"$table"
+    set +f
+    cd "$before" || exit
+}
+
+# try WORDS [INPUT STATUS OUTPUT FAULTS]: runs the program as it is built on the words, with a blank between each two, and
+# compares. Words alone are to be a usage fault, whose line is $usage
+try() {
+    local program=$binary words=()
+    [ -z "$1" ] || mapfile -t -d ' ' words < <(printf '%b ' "$1")
+    printf '%b' "${2-a\n}" >"$work/in"
+    run "${words[@]}" <"$work/in"
+    if [ $# = 1 ]; then check "$1" 2 '' "$usage"; else check "$1" "$3" "${4-}" "${5-}"; fi
 }

@@ -232,6 +232,3 @@ fn main(rt: HostRuntime) -> ExitCode {
         Err(_) => errors.fault("out of memory"),
     })
 }
-
-#[cfg(test)]
-mod tests;
