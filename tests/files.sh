@@ -5,8 +5,9 @@ set -u
 root=$(cd "$(dirname "$(readlink -f "${BASH_SOURCE[0]}")")/.." && pwd)
 work=$(mktemp -d) || exit 2
 trap 'chmod -R u+rwx "$work" && rm -rf "$work"' EXIT
+chmod 755 "$work"
 passed=0 failed=0
-program=$root/bin/glob_files
+program=$root/bin/glob_files binary=$root/crates/glob_files/out/glob_files
 
 . "$root/tests/lib/rows.sh"
 
@@ -18,7 +19,25 @@ row() {
     check "$name" "$wanted" "$output" "$faults"
 }
 
-"$program" --version >/dev/null
+# pages WORDS..: the version and the page of the program, whose lines have at most 100 bytes, by other words, too
+pages() {
+    local words name=${program##*/}
+    run --version
+    check "the version of $name" 0 "$name $(version)\n" ''
+    run --help
+    cp "$work/out" "$work/page"
+    awk 'length > 100' "$work/page" >"$work/out"
+    check "the page of $name" 0 '' ''
+    for words in "$@"; do
+        # shellcheck disable=SC2086 # a word for each
+        run $words
+        cmp -s "$work/page" "$work/out" && : >"$work/out"
+        check "the page by $words" 0 '' ''
+    done
+}
+
+pages -h '-h -q'
+each_row files.txt try
 mkdir "$work/files" && cd "$work/files" || exit 2
 mkdir -p src/deep target .git
 touch Lib.rs a.o keep.o src/a.rs src/deep/b.rs src/deep/b.c target/x.rs .git/c.rs
@@ -57,12 +76,38 @@ touch "$(printf 'src/deep/x\377y')" 2>/dev/null &&
         'glob_files: a name in `src/deep/` is not UTF-8: x\\xffy\n' 'src/deep/*'
 rm -f src/deep/x*
 
-"$program" -L 'src/**' 2>"$work/err" | head -n 1 >"$work/out"
-status=${PIPESTATUS[0]}
-check 'a reader that goes away' "$status" 'src/a.rs\n' ''
+(
+    sleep 1
+    "$program" '*' 2>"$work/err"
+    echo $? >"$work/status"
+) | true
+status=$(cat "$work/status") && : >"$work/out"
+check 'a reader that is gone' 2 '' ''
+"$program" '*' >/dev/full 2>"$work/err"
+status=$?
+check 'a full standard output' 2 '' 'glob_files: writing failed\n'
 
-program=$root/bin/glob_ignore
-"$program" --version >/dev/null
+# A directory that is not ours to read.
+place
+place a/x b/x c/x
+chmod 755 . && chmod 000 b
+unread_b="glob_files: $(unread b)Permission denied (os error 13)\n"
+if by_user '*/x*'; then
+    check 'a directory that cannot be listed' 2 'a/x\nc/x\n' "$unread_b"
+    by_user '*/x*' q
+    check 'the same with two patterns' 2 'a/x\nc/x\n' "$unread_b"
+    by_user -x b '*/x*' q
+    check 'a directory that is ignored is not listed' 0 'a/x\nc/x\n' ''
+    by_user a/x
+    check 'a directory that is not reached is not listed' 0 'a/x\n' ''
+else
+    skip 'a directory that cannot be listed'
+fi
+cd "$work/files" || exit
+
+program=$root/bin/glob_ignore binary=$root/crates/glob_ignore/out/glob_ignore
+pages -h '--help list'
+each_row ignore.txt try
 
 # filtered NAME STATUS INPUT OUTPUT FAULTS WORD..: as a row, with an input, where ! is NUL in input and output
 filtered() {
@@ -82,8 +127,42 @@ filtered 'a path that is not UTF-8' 0 'x\0377y\nz\n' 'z\n' '' rules
 filtered 'all paths are ignored' 1 'a.o\n' '' '' rules
 filtered 'a line that is refused' 2 'a\n' '' \
     'glob_ignore: refused: line 1: a bracket has an unknown class of characters\n' refused
+run $'\xff'
+check 'a word that is not UTF-8' 2 '' 'glob_ignore: an argument is not UTF-8: glob_ignore [-0] FILE\n'
+printf '\xff' >latin
+filtered 'a file that is not UTF-8' 2 'a\n' '' 'glob_ignore: latin: stream did not contain valid UTF-8\n' latin
 filtered 'no file' 2 'a\n' '' 'glob_ignore: FILE is missing: glob_ignore [-0] FILE\n'
 filtered 'a file that is missing' 2 'a\n' '' 'glob_ignore: missing: No such file or directory (os error 2)\n' missing
+
+run refused <"$work"
+check 'a line that is refused comes before a fault of the input' 2 '' \
+    'glob_ignore: refused: line 1: a bracket has an unknown class of characters\n'
+run rules <"$work"
+check 'a directory as standard input' 2 '' 'glob_ignore: reading failed\n'
+: >"$work/out"
+for words in rules --help; do
+    "$program" "$words" <rules >/dev/full 2>"$work/err"
+    status=$?
+    check "a full standard output for $words" 2 '' 'glob_ignore: writing failed\n'
+    "$program" "$words" <rules >&- 2>"$work/err"
+    status=$?
+    check "a closed standard output for $words" 2 '' 'glob_ignore: writing failed\n'
+done
+"$program" <rules >"$work/out" 2>/dev/full
+status=$? && : >"$work/err"
+check 'a fault that cannot be reported' 2 '' ''
+
+# Memory that lacks for the input, and for the rules.
+printf 'a.o\nb.c\n' >"$work/in"
+ends_within "$(needed "$binary" rules)" rules
+check 'just too little memory, and just enough' '' 'not started\nstatus 0: b.c \nstatus 2: glob_ignore: out of memory\n' ''
+little=$(needed "$binary" rules)
+yes '*.o' | head -n 100000 >many
+with $((little + ($(needed "$binary" many) - little) / 2)) many
+check 'memory that runs out while rules are read' 2 '' 'glob_ignore: out of memory\n'
+yes b.c | head -n 1000000 >"$work/in"
+with $((little + ($(needed "$binary" rules) - little) / 2)) rules
+check 'memory that runs out while the input is read' 2 '' 'glob_ignore: out of memory\n'
 
 echo "$passed passed, $failed failed"
 [ "$failed" = 0 ]

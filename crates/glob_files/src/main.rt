@@ -127,6 +127,3 @@ fn main(rt: HostRuntime) -> ExitCode {
         Err(_) => errors.fault("out of memory"),
     })
 }
-
-#[cfg(test)]
-mod tests;

@@ -206,6 +206,3 @@ fn main(rt: HostRuntime) -> ExitCode {
         Err(_) => errors.fault(Fault::Memory),
     })
 }
-
-#[cfg(test)]
-mod tests;
