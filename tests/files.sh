@@ -1,6 +1,6 @@
 #!/usr/bin/env bash
-# Runs bin/glob_files and bin/glob_ignore in a folder of their own: what they write, their statuses and faults. Prints a
-# line for each row that fails, and last how many passed and failed.
+# Runs bin/glob_files and bin/glob_ignore in a folder of their own, and replays their tables of tests/rows: what they write,
+# their statuses and faults. Prints a line for each row that fails, and last how many passed and failed.
 set -u
 root=$(cd "$(dirname "$(readlink -f "${BASH_SOURCE[0]}")")/.." && pwd)
 work=$(mktemp -d) || exit 2

@@ -1,6 +1,6 @@
 #!/usr/bin/env bash
-# Runs the built program against what no contract can speak of: the streams of the system. Prints a line for each row
-# that fails, and last how many passed and failed.
+# Replays the tables of tests/rows for glob_run on the built program, and runs it against what no contract can speak of: the
+# streams of the system. Prints a line for each row that fails, and last how many passed and failed.
 set -u
 umask 022
 root=$(cd "$(dirname "$(readlink -f "${BASH_SOURCE[0]}")")/.." && pwd)
