@@ -5,7 +5,6 @@ set -u
 root=$(cd "$(dirname "$(readlink -f "${BASH_SOURCE[0]}")")/.." && pwd)
 work=$(mktemp -d) || exit 2
 trap 'chmod -R u+rwx "$work" && rm -rf "$work"' EXIT
-chmod 755 "$work"
 passed=0 failed=0
 program=$root/bin/glob_files binary=$root/crates/glob_files/out/glob_files
 

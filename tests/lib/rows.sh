@@ -82,12 +82,14 @@ ends() {
     status=$?
 }
 
-# by_user WORD..: runs the program without the rights of root, who may read all. False where no other user can run it
+# by_user WORD..: runs the program without the rights of root, who may read all. It is copied to $work, since others may not
+# go where it is built. False where no other user can run it
 by_user() {
     local user=()
     [ "$(id -u)" != 0 ] || user=(setpriv --reuid=65534 --regid=65534 --clear-groups)
-    "${user[@]}" "$binary" --version >/dev/null 2>&1 || return
-    "${user[@]}" "$binary" "$@" >"$work/out" 2>"$work/err"
+    cp "$binary" "$work/by_user" && chmod 755 "$work" "$work/by_user"
+    "${user[@]}" "$work/by_user" --version >/dev/null 2>&1 || return
+    "${user[@]}" "$work/by_user" "$@" >"$work/out" 2>"$work/err"
     status=$?
 }
 
