@@ -108,29 +108,23 @@ fn each_request_of_an_explanation_is_refused(rt: HostRuntime) {
     }
 }
 
-/// Whether the list ignores `a.o`, or the number of its refused line, or `None` where memory ran out.
-fn ignored<A: Allocator + Copy>(alloc: A, text: &str) -> Option<Result<bool, usize>> {
+/// The number of the line that is refused, 0 for none, or `None` where memory ran out.
+fn refused_line<A: Allocator + Copy>(alloc: A, text: &str) -> Option<usize> {
     match IgnoreList::new(alloc, text) {
-        Ok(list) => Some(Ok(list.is_ignored("a.o", false).ok()?)),
-        Err(RuleRefusal::Line(line, _)) => Some(Err(line)),
+        Ok(_) => Some(0),
+        Err(RuleRefusal::Line(line, _)) => Some(line),
         Err(RuleRefusal::Memory) => None,
     }
 }
 
-/// Ignore lists, and what comes of them.
-const LISTS: [(&str, Result<bool, usize>); 2] = [("*.o\n!b\n", Ok(true)), ("a\n[\u{e9}]", Err(2))];
-
 #[test]
-fn each_request_of_an_ignore_list_is_refused(rt: HostRuntime) {
-    for (text, wanted) in LISTS {
-        let ample = Rationed::refusing(0, rt.alloc());
-        assert!(rt; ignored(&ample, text) == Some(wanted), "{text}");
-        assert!(rt; ample.ration.asked() > 0, "{text}");
-        for number in 1..=ample.ration.asked() {
-            let scarce = Rationed::refusing(number, rt.alloc());
-            let short = ignored(&scarce, text);
-            let is_right = short.is_none() || wanted.is_err() && short == Some(wanted);
-            assert!(rt; is_right && scarce.ration.held() == 0, "{text} at {number}");
-        }
+fn a_refused_line_may_lack_memory(rt: HostRuntime) {
+    let text = "a\n[\u{e9}]";
+    let ample = Rationed::refusing(0, rt.alloc());
+    assert!(rt; refused_line(&ample, text) == Some(2));
+    for number in 1..=ample.ration.asked() {
+        let scarce = Rationed::refusing(number, rt.alloc());
+        let is_right = matches!(refused_line(&scarce, text), None | Some(2));
+        assert!(rt; is_right && scarce.ration.held() == 0, "at {number}");
     }
 }
