@@ -2,6 +2,8 @@
 //! names that are not UTF-8 and system calls that fail, and so that their system calls can be counted.
 #![tactic(auto)]
 
+// Used by tests alone, so it is proved with them and not once more without.
+#[cfg(test)]
 pub mod files;
 #[cfg(test)]
 mod tests;

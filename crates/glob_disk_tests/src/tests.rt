@@ -1,10 +1,16 @@
+//! What each disk answers over the file system that is written down, in words, and which calls that takes.
+mod answers;
 mod calls;
 mod codes;
 mod physical;
 mod pruned;
 
 use crate::files::{Calls, Kind, Written};
-use glob::{Disk, ListError, Look, Tree};
+use answers::{entries_in, list_of, word_of};
+use glob::{Disk, ListError, Tree};
+use glob_prune::{Links, PhysicalDisk};
+use physical::NoStrays;
+use std::alloc::AllocError;
 use std::io::{self, ErrorKind};
 use std::process::Abort;
 use std::test::Fail;
@@ -66,83 +72,120 @@ const PATHS: &[(&str, Kind)] = &[
     ("barred", Kind::Lost(ErrorKind::PermissionDenied)),
 ];
 
-/// A path, what a look at it finds, or `None` where memory is missing, and how many lookups of the system it takes.
-const LOOKS: &[(&str, Option<Look>, u64)] = &[
-    ("d", Some(Look::Dir), 1),
-    ("d/", Some(Look::Dir), 1),
-    ("d/f", Some(Look::Other), 1),
-    ("d/s", Some(Look::Dir), 1),
-    ("d/f/", Some(Look::Missing), 1),
-    ("d/f/.", Some(Look::Missing), 1),
-    ("d/near", Some(Look::Dir), 2),
-    ("d/near/", Some(Look::Dir), 1),
-    ("d/same", Some(Look::Other), 2),
-    ("d/gone", Some(Look::Other), 2),
-    ("d/gone/", Some(Look::Missing), 1),
-    ("d/ring", Some(Look::Other), 2),
-    ("d/ring/", Some(Look::Missing), 1),
-    ("d/hidden", Some(Look::Other), 2),
-    ("nothing", Some(Look::Missing), 1),
-    ("", Some(Look::Missing), 1),
-    ("barred", Some(Look::Missing), 1),
-    ("full", None, 1),
-    ("fades", None, 2),
+/// The disks that are asked.
+#[derive(Clone, Copy, PartialEq, Eq, Debug)]
+enum Way {
+    Followed,
+    /// By the other disk, where links are followed.
+    FollowedToo,
+    /// Where no symbolic link is followed.
+    Kept,
+}
+
+const WAYS: [Way; 3] = [Way::Followed, Way::FollowedToo, Way::Kept];
+
+/// What a look at the path finds.
+fn look_by(rt: &impl AllocGlobal, way: Way, calls: &Calls, path: &str) -> &'static str {
+    let (files, alloc) = (Written::new(PATHS, calls), rt.alloc());
+    match way {
+        Way::Followed => {
+            let mut disk = Disk::new(files, alloc);
+            word_of(disk.look(path))
+        }
+        Way::FollowedToo => {
+            let mut disk = PhysicalDisk::with_links(files, NoStrays, alloc, Links::Followed);
+            word_of(disk.look(path))
+        }
+        Way::Kept => {
+            let mut disk = PhysicalDisk::new(files, NoStrays, alloc);
+            word_of(disk.look(path))
+        }
+    }
+}
+
+/// What a listing of the path, or of its names alone, answers.
+fn list_by(
+    rt: &impl AllocGlobal,
+    way: Way,
+    calls: &Calls,
+    path: &str,
+    names: bool,
+) -> Result<String, AllocError> {
+    let (files, alloc) = (Written::new(PATHS, calls), rt.alloc());
+    match way {
+        Way::Followed => list_of(alloc, &mut Disk::new(files, alloc), path, names),
+        Way::FollowedToo => {
+            let mut disk = PhysicalDisk::with_links(files, NoStrays, alloc, Links::Followed);
+            list_of(alloc, &mut disk, path, names)
+        }
+        Way::Kept => {
+            let mut disk = PhysicalDisk::new(files, NoStrays, alloc);
+            list_of(alloc, &mut disk, path, names)
+        }
+    }
+}
+
+/// A path, what a look at it finds where symbolic links are followed, how many lookups of the system that takes, and what a
+/// look finds where they are not, by one.
+const LOOKS: &[(&str, &str, u64, &str)] = &[
+    ("d", "dir", 1, "dir"),
+    ("d/", "dir", 1, "dir"),
+    ("d/f", "other", 1, "other"),
+    ("d/s", "dir", 1, "dir"),
+    ("d/f/", "missing", 1, "missing"),
+    ("d/f/.", "missing", 1, "missing"),
+    ("d/near", "dir", 2, "other"),
+    ("d/near/", "dir", 1, "dir"),
+    ("d/same", "other", 2, "other"),
+    ("d/gone", "other", 2, "other"),
+    ("d/gone/", "missing", 1, "missing"),
+    ("d/ring", "other", 2, "other"),
+    ("d/ring/", "missing", 1, "missing"),
+    ("d/hidden", "other", 2, "other"),
+    ("nothing", "missing", 1, "missing"),
+    ("", "missing", 1, "missing"),
+    ("barred", "missing", 1, "missing"),
+    ("full", "memory", 1, "memory"),
+    ("fades", "memory", 2, "other"),
 ];
 
 #[test]
 fn looks(rt: HostRuntime) {
-    for (path, wanted, lookups) in LOOKS {
-        let calls = Calls::new();
-        let mut disk = Disk::new(Written::new(PATHS, &calls), rt.alloc());
-        assert!(rt; disk.look(path).ok() == *wanted, "{path}");
-        assert_eq!(rt; calls.lookups.get(), *lookups, "{path}");
-        assert_eq!(rt; calls.opens.get(), 0, "{path}");
+    for (path, followed, lookups, kept) in LOOKS {
+        for way in WAYS {
+            let (wanted, lookups) = match way {
+                Way::Followed | Way::FollowedToo => (*followed, *lookups),
+                Way::Kept => (*kept, 1),
+            };
+            let calls = Calls::new();
+            let found = look_by(&rt, way, &calls, path);
+            assert_eq!(rt; found, wanted, "{path} {way:?}");
+            assert_eq!(rt; calls.lookups.get(), lookups, "{path} {way:?}");
+            assert_eq!(rt; calls.opens.get(), 0, "{path} {way:?}");
+        }
     }
 }
 
-/// A path, how many reads of a directory its listing takes, and its entries, each with whether it is a directory.
-const LISTINGS: &[(&str, u64, &[(&str, bool)])] = &[
+/// A path, how many reads of a directory its listing takes, its entries where symbolic links are followed, and where they
+/// are not.
+const LISTINGS: &[(&str, u64, &str, &str)] = &[
     (
         "d",
         4,
-        &[
-            ("f", false),
-            ("s", true),
-            ("gone", false),
-            ("ring", false),
-            ("near", true),
-            ("same", false),
-        ],
+        "f|s/|gone|ring|near/|same|",
+        "f|s/|gone|ring|near|same|",
     ),
     (
         "dots",
         2,
-        &[
-            ("..foo", false),
-            (".git", true),
-            ("...", true),
-            (".a", true),
-            ("a~", true),
-            ("~", false),
-            ("..~", false),
-            ("-", false),
-            (" ", false),
-        ],
+        "..foo|.git/|.../|.a/|a~/|~|..~|-| |",
+        "..foo|.git/|.../|.a|a~/|~|..~|-| |",
     ),
-    ("empty/", 1, &[]),
-    (
-        "large",
-        5,
-        &[
-            ("a", false),
-            ("b", false),
-            ("c", false),
-            ("d", true),
-            ("e", false),
-        ],
-    ),
-    ("unseen", 2, &[("a", false)]),
-    ("/", 2, &[("f", true)]),
+    ("d/near", 1, "", ""),
+    ("empty/", 1, "", ""),
+    ("large", 5, "a|b|c|d/|e|", "a|b|c|d/|e|"),
+    ("unseen", 2, "a|", "a|"),
+    ("/", 2, "f/|", "f/|"),
 ];
 
 /// How many bytes so many reads of a directory have room for: 4 KiB each of the first two, and 32 KiB each further one.
@@ -154,46 +197,43 @@ fn room_of(reads: u64) -> u64 {
         .saturating_add(large.saturating_mul(32_768))
 }
 
-/// A directory is opened once, and metadata is asked for once for each entry.
-fn check_calls(rt: &impl Abort, calls: &Calls, path: &str, entries: usize, reads: u64) {
-    assert_eq!(rt; calls.lookups.get(), entries as u64, "{path}");
-    assert_eq!(rt; calls.opens.get(), 1, "{path}");
-    assert_eq!(rt; calls.room.get(), room_of(reads), "{path}");
+#[test]
+fn listings(rt: HostRuntime) -> Result<(), Fail> {
+    for (path, reads, followed, kept) in LISTINGS {
+        for way in WAYS {
+            let wanted = if way == Way::Kept { *kept } else { *followed };
+            let calls = Calls::new();
+            let found = list_by(&rt, way, &calls, path, false)?;
+            assert_eq!(rt; found.as_str(), wanted, "{path} {way:?}");
+            check_calls(&rt, &calls, way, *reads, entries_in(wanted));
+        }
+    }
+    Ok(())
 }
 
-#[test]
-fn listings(rt: HostRuntime) {
-    for (path, reads, wanted) in LISTINGS {
-        let calls = Calls::new();
-        let mut disk = Disk::new(Written::new(PATHS, &calls), rt.alloc());
-        let Ok(entries) = disk.list(path) else {
-            panic!(rt; "{path}");
-        };
-        assert_eq!(rt; entries.len(), wanted.len(), "{path}");
-        check_calls(&rt, &calls, path, wanted.len(), *reads);
-        for (entry, (name, is_dir)) in entries.iter().zip(*wanted) {
-            assert_eq!(rt; entry.name.as_str(), *name, "{path}");
-            assert_eq!(rt; entry.is_dir, *is_dir, "{path}");
-        }
+/// A directory is opened once and read in so many reads, and so many entries are looked up, each link once more by the disk
+/// that looks at it before it follows it.
+fn check_calls(rt: &impl Abort, calls: &Calls, way: Way, reads: u64, entries: u64) {
+    assert_eq!(rt; calls.opens.get(), 1);
+    if way != Way::FollowedToo {
+        assert_eq!(rt; calls.lookups.get(), entries);
+    }
+    if way == Way::Followed {
+        assert_eq!(rt; calls.room.get(), room_of(reads));
     }
 }
 
 /// The names alone are those of the listing, without a lookup.
 #[test]
-fn names_alone(rt: HostRuntime) {
-    for (path, reads, wanted) in LISTINGS {
+fn names_alone(rt: HostRuntime) -> Result<(), Fail> {
+    for (path, reads, followed, _) in LISTINGS {
         let calls = Calls::new();
-        let mut disk = Disk::new(Written::new(PATHS, &calls), rt.alloc());
-        let Ok(entries) = disk.list_names(path) else {
-            panic!(rt; "{path}");
-        };
-        assert_eq!(rt; entries.len(), wanted.len(), "{path}");
-        check_calls(&rt, &calls, path, 0, *reads);
-        for (entry, (name, _)) in entries.iter().zip(*wanted) {
-            assert_eq!(rt; entry.name.as_str(), *name, "{path}");
-            assert!(rt; !entry.is_dir, "{path}");
-        }
+        let found = list_by(&rt, Way::Followed, &calls, path, true)?;
+        let wanted = followed.replace(rt.alloc(), "/|", "|")?;
+        assert_eq!(rt; found.as_str(), wanted.as_str(), "{path}");
+        check_calls(&rt, &calls, Way::Followed, *reads, 0);
     }
+    Ok(())
 }
 
 /// A directory of a thousand reads has an end.
@@ -207,44 +247,66 @@ fn a_large_directory_is_listed_whole(rt: HostRuntime) {
         Ok(entries) => assert_eq!(rt; entries.len(), 2_000),
         Err(_) => panic!(rt; "the directory is not listed"),
     }
-    check_calls(&rt, &calls, "a", 2_000, 1_001);
+    check_calls(&rt, &calls, Way::Followed, 1_001, 2_000);
     match disk.list_names("a") {
         Ok(entries) => assert_eq!(rt; entries.len(), 2_000),
         Err(_) => panic!(rt; "the names are not listed"),
     }
 }
 
-/// The kind of the error that a listing fails with, and `None` where memory was missing.
-const FAILURES: &[(&str, Option<ErrorKind>)] = &[
-    ("", Some(ErrorKind::NotFound)),
-    ("nothing", Some(ErrorKind::NotFound)),
-    ("shut", Some(ErrorKind::PermissionDenied)),
-    ("torn", Some(ErrorKind::StaleNetworkFileHandle)),
-    ("tears", Some(ErrorKind::StaleNetworkFileHandle)),
-    ("tears_late", Some(ErrorKind::StaleNetworkFileHandle)),
-    ("latin", Some(ErrorKind::InvalidFilename)),
-    ("odd", Some(ErrorKind::InvalidFilename)),
-    ("full", None),
-    ("filling", None),
-    ("overflows", None),
-    ("fills", None),
+/// A path, and how its listing fails: where symbolic links are followed, of its names alone, and where they are not.
+const FAILURES: &[(&str, &str, &str, &str)] = &[
+    ("", "!NotFound", "!NotFound", "!NotFound"),
+    ("nothing", "!NotFound", "!NotFound", "!NotFound"),
+    (
+        "shut",
+        "!PermissionDenied",
+        "!PermissionDenied",
+        "!PermissionDenied",
+    ),
+    (
+        "torn",
+        "!StaleNetworkFileHandle",
+        "!StaleNetworkFileHandle",
+        "!StaleNetworkFileHandle",
+    ),
+    (
+        "tears",
+        "!StaleNetworkFileHandle",
+        "!StaleNetworkFileHandle",
+        "!StaleNetworkFileHandle",
+    ),
+    (
+        "tears_late",
+        "!StaleNetworkFileHandle",
+        "!StaleNetworkFileHandle",
+        "!StaleNetworkFileHandle",
+    ),
+    ("latin", "!InvalidFilename", "!InvalidFilename", "a|"),
+    (
+        "odd",
+        "!InvalidFilename",
+        "!InvalidFilename",
+        "!InvalidFilename",
+    ),
+    ("full", "!", "!", "!"),
+    ("filling", "!", "!", "!"),
+    ("overflows", "!", "!", "!"),
+    ("fills", "!", "a|", "!"),
 ];
 
-/// Where a listing fails, names alone fail so, but for what only a lookup of an entry meets.
 #[test]
-fn failing_listings(rt: HostRuntime) {
+fn failing_listings(rt: HostRuntime) -> Result<(), Fail> {
     let calls = Calls::new();
-    let mut disk = Disk::new(Written::new(PATHS, &calls), rt.alloc());
-    for (path, wanted) in FAILURES {
-        for listed in [disk.list(path), disk.list_names(path)] {
-            match listed {
-                Ok(_) => assert_eq!(rt; *path, "fills"),
-                Err(ListError::Read(error)) => assert!(rt; Some(error.kind()) == *wanted, "{path}"),
-                Err(ListError::Memory) => assert!(rt; wanted.is_none(), "{path}"),
-            }
-        }
-        assert!(rt; disk.list(path).is_err(), "{path}");
+    for (path, followed, names, kept) in FAILURES {
+        let found = list_by(&rt, Way::Followed, &calls, path, false)?;
+        assert_eq!(rt; found.as_str(), *followed, "{path}");
+        let found = list_by(&rt, Way::Followed, &calls, path, true)?;
+        assert_eq!(rt; found.as_str(), *names, "{path}");
+        let found = list_by(&rt, Way::Kept, &calls, path, false)?;
+        assert_eq!(rt; found.as_str(), *kept, "{path}");
     }
+    Ok(())
 }
 
 /// The error of a listing is that of the system, with its code and its words.

@@ -1,11 +1,13 @@
 //! Each error of the system, by its number: only that of lack of memory is out of memory.
+use super::answers::{list_of, word_of};
 use super::physical::NoStrays;
 use crate::files::{Calls, Kind, Written};
-use glob::{Disk, Entry, ListError, Look, Tree};
+use glob::{Disk, Entry, ListError, Tree};
 use glob_prune::PhysicalDisk;
 use std::alloc::{AllocError, Allocator};
 use std::io;
 use std::process::Abort;
+use std::test::Fail;
 
 /// The last number of an error that Linux has. They begin at 1.
 pub(super) const LAST: i32 = 133;
@@ -50,29 +52,28 @@ fn each_error_of_a_listing_is_handed_on(rt: HostRuntime) {
     }
 }
 
-/// A look answers so, or is out of memory where the error is that.
-fn check_look(rt: &impl Abort, found: Result<Look, AllocError>, wanted: Look, code: i32) {
-    match found {
-        Ok(seen) => assert!(rt; code != ENOMEM && seen == wanted, "{code}"),
-        Err(_) => assert_eq!(rt; code, ENOMEM),
-    }
+/// The first answer, or the second where the error of this number is lack of memory.
+fn unless_memory(code: i32, wanted: &'static str, memory: &'static str) -> &'static str {
+    if code == ENOMEM { memory } else { wanted }
 }
 
-/// The entry that cannot be looked up is no directory, or the listing is out of memory where the error is that.
-fn check_entry(rt: &impl Abort, found: Result<Vec<Entry>, ListError>, code: i32) {
-    match found {
-        Ok(entries) => {
-            assert!(rt; code != ENOMEM && entries.len() == 1, "{code}");
-            assert!(rt; entries.iter().all(|entry| !entry.is_dir), "{code}");
-        }
-        Err(ListError::Read(_)) => panic!(rt; "{code} is the error of the directory"),
-        Err(ListError::Memory) => assert_eq!(rt; code, ENOMEM),
-    }
+/// On the disk the path `a` and an entry of `d` cannot be looked up, for the reason of the error of this number: the path is
+/// missing, and the entry no directory.
+fn check_unseen<T: Tree>(
+    rt: &(impl Abort + AllocGlobal),
+    disk: &mut T,
+    code: i32,
+) -> Result<(), AllocError> {
+    let wanted = unless_memory(code, "missing", "memory");
+    assert_eq!(rt; word_of(disk.look("a")), wanted, "{code}");
+    let found = list_of(rt.alloc(), disk, "d", false)?;
+    assert_eq!(rt; found.as_str(), unless_memory(code, "x|", "!"), "{code}");
+    Ok(())
 }
 
 /// A path, a symbolic link and an entry that cannot be looked up, or followed, for the reason of each error.
 #[test]
-fn what_cannot_be_looked_up_is_missing(rt: HostRuntime) {
+fn what_cannot_be_looked_up_is_missing(rt: HostRuntime) -> Result<(), Fail> {
     for code in 1..=LAST {
         let kind = io::Error::from_raw_os_error(code).kind();
         let calls = Calls::new();
@@ -83,12 +84,12 @@ fn what_cannot_be_looked_up_is_missing(rt: HostRuntime) {
             ("d/x", Kind::Lost(kind)),
         ];
         let mut disk = Disk::new(Written::new(&paths, &calls), rt.alloc());
-        check_look(&rt, disk.look("a"), Look::Missing, code);
-        check_look(&rt, disk.look("l"), Look::Other, code);
-        check_entry(&rt, disk.list("d"), code);
+        check_unseen(&rt, &mut disk, code)?;
+        let wanted = unless_memory(code, "other", "memory");
+        assert_eq!(rt; word_of(disk.look("l")), wanted, "{code}");
         let mut disk = PhysicalDisk::new(Written::new(&paths, &calls), NoStrays, rt.alloc());
-        check_look(&rt, disk.look("a"), Look::Missing, code);
-        assert!(rt; disk.look("l") == Ok(Look::Other));
-        check_entry(&rt, disk.list("d"), code);
+        check_unseen(&rt, &mut disk, code)?;
+        assert_eq!(rt; word_of(disk.look("l")), "other", "{code}");
     }
+    Ok(())
 }

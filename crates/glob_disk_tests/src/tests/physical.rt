@@ -1,14 +1,14 @@
-//! The disk on which a symbolic link is no directory.
-use super::{LISTINGS as FOLLOWED_LISTINGS, LOOKS as FOLLOWED_LOOKS, PATHS};
+//! The disk on which a symbolic link is no directory: what it does with stray names, cycles of links and memory.
+use super::PATHS;
+use super::answers::list_of;
 use crate::files::{Calls, Kind, Written};
-use glob::{Disk, End, Entry, ListError, Look, MatchOptions, Tree, walk_in};
-use glob_prune::{Links, PhysicalDisk, Strays};
+use glob::{Disk, End, ListError, MatchOptions, Tree, walk_in};
+use glob_prune::{PhysicalDisk, Strays};
 use glob_testing::rationing::Rationed;
 use std::alloc::Allocator;
 use std::cell::Cell;
-use std::fs::Files;
-use std::io::ErrorKind;
 use std::process::Abort;
+use std::test::Fail;
 
 /// Counts the names that it receives, which are to be this one, in this directory.
 #[derive(Drop)]
@@ -35,117 +35,9 @@ impl Strays for NoStrays {
     fn stray(&mut self, _directory: &str, _name: &[u8]) {}
 }
 
-/// A path and what a look at it finds, or `None` where memory is missing. Each takes one lookup of the system.
-const LOOKS: [(&str, Option<Look>); 19] = [
-    ("d", Some(Look::Dir)),
-    ("d/", Some(Look::Dir)),
-    ("d/f", Some(Look::Other)),
-    ("d/s", Some(Look::Dir)),
-    ("d/f/", Some(Look::Missing)),
-    ("d/f/.", Some(Look::Missing)),
-    ("d/near", Some(Look::Other)),
-    ("d/near/", Some(Look::Dir)),
-    ("d/same", Some(Look::Other)),
-    ("d/gone", Some(Look::Other)),
-    ("d/gone/", Some(Look::Missing)),
-    ("d/ring", Some(Look::Other)),
-    ("d/ring/", Some(Look::Missing)),
-    ("d/hidden", Some(Look::Other)),
-    ("nothing", Some(Look::Missing)),
-    ("", Some(Look::Missing)),
-    ("barred", Some(Look::Missing)),
-    ("full", None),
-    ("fades", Some(Look::Other)),
-];
-
-#[test]
-fn looks_follow_no_link(rt: HostRuntime) {
-    for (path, wanted) in LOOKS {
-        let calls = Calls::new();
-        let mut disk = PhysicalDisk::new(Written::new(PATHS, &calls), NoStrays, rt.alloc());
-        assert!(rt; disk.look(path).ok() == wanted, "{path}");
-        assert_eq!(rt; calls.lookups.get(), 1, "{path}");
-        assert_eq!(rt; calls.opens.get(), 0, "{path}");
-    }
-}
-
-/// What a listing of the path answers, on the disk of these files.
-fn listed<R: Files + Drop, S: Strays, A: Allocator + Copy>(
-    files: R,
-    strays: S,
-    alloc: A,
-    path: &str,
-) -> Result<Vec<Entry<A>, A>, ListError> {
-    let mut disk = PhysicalDisk::new(files, strays, alloc);
-    disk.list(path)
-}
-
-/// A path, and the entries of its listing, where that of a directory ends in `/`.
-const LISTINGS: [(&str, &[&str]); 7] = [
-    ("d", &["f", "s/", "gone", "ring", "near", "same"]),
-    (
-        "dots",
-        &["..foo", ".git/", ".../", ".a", "a~/", "~", "..~", "-", " "],
-    ),
-    ("d/near", &[]),
-    ("empty/", &[]),
-    ("large", &["a", "b", "c", "d/", "e"]),
-    ("unseen", &["a"]),
-    ("/", &["f/"]),
-];
-
-/// The entry is written so: a directory's name has `/` at its end.
-fn check_entry(rt: &impl Abort, name: &str, is_dir: bool, word: &str) {
-    let wanted = word.strip_suffix('/').unwrap_or(word);
-    assert_eq!(rt; name, wanted);
-    assert_eq!(rt; is_dir, word.ends_with('/'), "{name}");
-}
-
-#[test]
-fn listings_say_of_a_link_that_it_is_no_directory(rt: HostRuntime) {
-    for (path, words) in LISTINGS {
-        let calls = Calls::new();
-        let files = Written::new(PATHS, &calls);
-        let Ok(entries) = listed(files, NoStrays, rt.alloc(), path) else {
-            panic!(rt; "{path}");
-        };
-        assert_eq!(rt; entries.len(), words.len(), "{path}");
-        assert_eq!(rt; calls.lookups.get(), words.len() as u64, "{path}");
-        assert_eq!(rt; calls.opens.get(), 1, "{path}");
-        for (entry, word) in entries.iter().zip(words) {
-            check_entry(&rt, entry.name.as_str(), entry.is_dir, word);
-        }
-    }
-}
-
-/// Where links are followed, looks and listings are those of `Disk`, with as many lookups.
-#[test]
-fn links_are_followed_where_wanted(rt: HostRuntime) {
-    for (path, wanted, lookups) in FOLLOWED_LOOKS {
-        let calls = Calls::new();
-        let files = Written::new(PATHS, &calls);
-        let mut disk = PhysicalDisk::with_links(files, NoStrays, rt.alloc(), Links::Followed);
-        assert!(rt; disk.look(path).ok() == *wanted, "{path}");
-        assert_eq!(rt; calls.lookups.get(), *lookups, "{path}");
-    }
-    for (path, _, wanted) in FOLLOWED_LISTINGS {
-        let calls = Calls::new();
-        let files = Written::new(PATHS, &calls);
-        let mut disk = PhysicalDisk::with_links(files, NoStrays, rt.alloc(), Links::Followed);
-        let Ok(entries) = disk.list(path) else {
-            panic!(rt; "{path}");
-        };
-        assert_eq!(rt; entries.len(), wanted.len(), "{path}");
-        for (entry, (name, is_dir)) in entries.iter().zip(*wanted) {
-            assert_eq!(rt; entry.name.as_str(), *name, "{path}");
-            assert_eq!(rt; entry.is_dir, *is_dir, "{path}");
-        }
-    }
-}
-
 /// A name that is not UTF-8 is reported once and left out, and what is beside it is listed.
 #[test]
-fn a_stray_name_costs_only_itself(rt: HostRuntime) {
+fn a_stray_name_costs_only_itself(rt: HostRuntime) -> Result<(), Fail> {
     let paths = [
         ("a/", Kind::Dir(&[b"x\0", b"y\xffz\0d\0"])),
         ("a/d", Kind::Dir(&[])),
@@ -158,44 +50,12 @@ fn a_stray_name_costs_only_itself(rt: HostRuntime) {
         others: &others,
     };
     let calls = Calls::new();
-    let files = Written::new(&paths, &calls);
-    let Ok(entries) = listed(files, strays, rt.alloc(), "a") else {
-        panic!(rt; "no listing");
-    };
-    assert_eq!(rt; entries.len(), 2);
-    for (entry, word) in entries.iter().zip(["x", "d/"]) {
-        check_entry(&rt, entry.name.as_str(), entry.is_dir, word);
-    }
+    let mut disk = PhysicalDisk::new(Written::new(&paths, &calls), strays, rt.alloc());
+    let found = list_of(rt.alloc(), &mut disk, "a", false)?;
+    assert_eq!(rt; found.as_str(), "x|d/|");
     assert_eq!(rt; count.get(), 1);
     assert_eq!(rt; others.get(), 0);
-}
-
-/// The kind of the error that a listing fails with, and `None` where memory was missing.
-const FAILURES: [(&str, Option<ErrorKind>); 11] = [
-    ("", Some(ErrorKind::NotFound)),
-    ("nothing", Some(ErrorKind::NotFound)),
-    ("shut", Some(ErrorKind::PermissionDenied)),
-    ("torn", Some(ErrorKind::StaleNetworkFileHandle)),
-    ("tears", Some(ErrorKind::StaleNetworkFileHandle)),
-    ("tears_late", Some(ErrorKind::StaleNetworkFileHandle)),
-    ("odd", Some(ErrorKind::InvalidFilename)),
-    ("full", None),
-    ("filling", None),
-    ("overflows", None),
-    ("fills", None),
-];
-
-#[test]
-fn physical_listings_that_fail(rt: HostRuntime) {
-    for (path, wanted) in FAILURES {
-        let calls = Calls::new();
-        let files = Written::new(PATHS, &calls);
-        match listed(files, NoStrays, rt.alloc(), path) {
-            Ok(_) => panic!(rt; "{path}"),
-            Err(ListError::Read(error)) => assert!(rt; Some(error.kind()) == wanted, "{path}"),
-            Err(ListError::Memory) => assert!(rt; wanted.is_none(), "{path}"),
-        }
-    }
+    Ok(())
 }
 
 /// A directory with two links to itself, as far as three levels go.
@@ -263,7 +123,8 @@ fn a_link_is_followed_only_by_name(rt: HostRuntime) {
 /// Lists a directory with memory from the allocator. Gives whether memory sufficed.
 fn lists<A: Allocator + Copy>(rt: &impl Abort, alloc: A) -> bool {
     let calls = Calls::new();
-    match listed(Written::new(PATHS, &calls), NoStrays, alloc, "d") {
+    let mut disk = PhysicalDisk::new(Written::new(PATHS, &calls), NoStrays, alloc);
+    match disk.list("d") {
         Ok(entries) => {
             assert_eq!(rt; entries.len(), 6);
             true

@@ -1,14 +1,16 @@
 //! A tree without what is excluded, over the file system that is written down.
 ghost use Rattle.std.specs.Prelude.{bytes_eq};
 
+use super::answers::{list_of, word_of};
 use super::codes::check_failing;
 use crate::files::{Calls, Kind, Written};
 use glob::{Disk, ListError, Look, Tree};
 use glob_prune::{Exclusion, Pruned};
 use glob_testing::rationing::Rationed;
-use std::alloc::{AllocError, Allocator};
+use std::alloc::{AllocError, Allocator, Global};
 use std::io::{self, ErrorKind};
 use std::process::Abort;
+use std::test::Fail;
 
 /// One path is left out.
 #[derive(Drop)]
@@ -43,84 +45,62 @@ const PATHS: &[(&str, Kind)] = &[
     ("full/", Kind::Shut(ErrorKind::OutOfMemory)),
 ];
 
-/// A path, and what a look at it finds where `d/s` and all below it are left out; `None` where the path is refused. At last
-/// how many lookups of the system it takes.
-const LOOKS: &[(&str, Option<Look>, u64)] = &[
-    ("d", Some(Look::Dir), 1),
-    ("./d//f", Some(Look::Other), 1),
-    ("d/s", Some(Look::Missing), 1),
-    ("./d/s/", Some(Look::Missing), 1),
-    ("d/s/x", Some(Look::Missing), 0),
-    ("d//./s/./x/y", Some(Look::Missing), 0),
-    ("d/t", Some(Look::Dir), 2),
-    ("nothing", Some(Look::Missing), 1),
-    (".", Some(Look::Dir), 1),
-    ("/d", None, 0),
-    ("d/../f", None, 0),
-    ("..", None, 0),
+/// The tree without `d/s`.
+fn pruned<'a>(alloc: Global, calls: &'a Calls) -> Pruned<Disk<Written<'a>>, Named<'a>> {
+    let disk = Disk::new(Written::new(PATHS, calls), alloc);
+    Pruned::new(alloc, disk, Named { name: "d/s" })
+}
+
+/// A path, what a look at it finds where `d/s` and all below it are left out, and how many lookups of the system that takes.
+/// A path that is refused is out of memory.
+const LOOKS: &[(&str, &str, u64)] = &[
+    ("d", "dir", 1),
+    ("./d//f", "other", 1),
+    ("d/s", "missing", 1),
+    ("./d/s/", "missing", 1),
+    ("d/s/x", "missing", 0),
+    ("d//./s/./x/y", "missing", 0),
+    ("d/t", "dir", 2),
+    ("nothing", "missing", 1),
+    (".", "dir", 1),
+    ("/d", "memory", 0),
+    ("d/../f", "memory", 0),
+    ("..", "memory", 0),
 ];
 
 #[test]
 fn looks(rt: HostRuntime) {
     for (path, wanted, lookups) in LOOKS {
         let calls = Calls::new();
-        let disk = Disk::new(Written::new(PATHS, &calls), rt.alloc());
-        let mut tree = Pruned::new(rt.alloc(), disk, Named { name: "d/s" });
-        assert!(rt; tree.look(path).ok() == *wanted, "{path}");
+        let mut tree = pruned(rt.alloc(), &calls);
+        assert_eq!(rt; word_of(tree.look(path)), *wanted, "{path}");
         assert_eq!(rt; calls.lookups.get(), *lookups, "{path}");
     }
 }
 
-/// A path, its entries where `d/s` and all below it are left out, and how often a directory is opened for them. In place of
-/// the entries the kind of the error, which is `OutOfMemory` where the path is refused.
-const LISTINGS: &[(&str, Result<&[&str], ErrorKind>, u64)] = &[
-    ("d", Ok(&["f", "t", "u"]), 1),
-    ("./d/.", Ok(&["f", "t", "u"]), 1),
-    ("d/s", Err(ErrorKind::NotFound), 0),
-    ("d/s/x/y", Err(ErrorKind::NotFound), 0),
-    ("d/u", Err(ErrorKind::PermissionDenied), 1),
-    ("nothing", Err(ErrorKind::NotFound), 1),
-    ("full", Err(ErrorKind::OutOfMemory), 1),
-    ("/", Err(ErrorKind::OutOfMemory), 0),
-    ("d/..", Err(ErrorKind::OutOfMemory), 0),
+/// A path, what its listing answers where `d/s` and all below it are left out, and how often a directory is opened for it. A
+/// path that is refused is out of memory.
+const LISTINGS: &[(&str, &str, u64)] = &[
+    ("d", "f|t/|u/|", 1),
+    ("./d/.", "f|t|u|", 1),
+    ("d/s", "!NotFound", 0),
+    ("d/s/x/y", "!NotFound", 0),
+    ("d/u", "!PermissionDenied", 1),
+    ("nothing", "!NotFound", 1),
+    ("full", "!", 1),
+    ("/", "!", 0),
+    ("d/..", "!", 0),
 ];
 
 #[test]
-fn listings(rt: HostRuntime) {
+fn listings(rt: HostRuntime) -> Result<(), Fail> {
     for (path, wanted, opens) in LISTINGS {
         let calls = Calls::new();
-        let disk = Disk::new(Written::new(PATHS, &calls), rt.alloc());
-        let mut tree = Pruned::new(rt.alloc(), disk, Named { name: "d/s" });
-        check_listing(&rt, &mut tree, path, *wanted);
+        let found = list_of(rt.alloc(), &mut pruned(rt.alloc(), &calls), path, false)?;
+        assert_eq!(rt; found.as_str(), *wanted, "{path}");
         assert_eq!(rt; calls.opens.get(), *opens, "{path}");
     }
-}
-
-/// The listing returns these names, or fails with an error of this kind, which is `OutOfMemory` for lack of memory.
-fn check_listing(
-    rt: &impl Abort,
-    tree: &mut impl Tree,
-    path: &str,
-    wanted: Result<&[&str], ErrorKind>,
-) {
-    match (tree.list(path), wanted) {
-        (Ok(entries), Ok(names)) => {
-            assert_eq!(rt; entries.len(), names.len(), "{path}");
-            for (entry, name) in entries.iter().zip(names) {
-                assert_eq!(rt; entry.name.as_str(), *name, "{path}");
-            }
-        }
-        (Err(ListError::Read(error)), Err(kind)) => {
-            assert!(rt;
-                error.kind() == kind && kind != ErrorKind::OutOfMemory,
-                "{path}"
-            );
-        }
-        (Err(ListError::Memory), Err(kind)) => {
-            assert!(rt; kind == ErrorKind::OutOfMemory, "{path}");
-        }
-        _ => panic!(rt; "{path}"),
-    }
+    Ok(())
 }
 
 /// An error of the tree is handed on.
