@@ -4,7 +4,7 @@
 //!
 //! - how a pattern is read: the pattern, and `ok` or the fault's place and words;
 //! - whether it matches: the options as three letters `t` or `f` (case, the separator rule, the dot rule), a pattern, a
-//!   text, and `y` or `n`;
+//!   text, and `y` or `n`, which may be followed by the most questions that this takes;
 //! - how a text is escaped: the text, and the pattern that is written for it and matches it.
 #![tactic(auto)]
 
@@ -41,8 +41,8 @@ fn options_of(letters: &str) -> Result<MatchOptions> {
     }
 }
 
-/// Whether a pattern matches a text, or does not, as the row says, also where questions are counted: at most its
-/// characters times those of the text.
+/// Whether a pattern matches a text, or does not, as the row says, also where questions are counted: as many as the row
+/// says at most, or its characters times those of the text.
 fn matches_alike(alloc: Global, row: &str) -> Result<bool> {
     let mut fields = row.split('\t');
     let options = options_of(fields.next().context("no options")?)?;
