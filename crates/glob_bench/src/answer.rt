@@ -3,6 +3,8 @@
 //!
 //! - `match PATTERN TEXT ..` is answered by the escaped pattern and then `ok` and, for each text, eight letters `y` or
 //!   `n`, one for each setting of the options.
+//! - `captures OPTIONS PATTERN TEXT`, which `tests/captures.py` asks, is answered by each token's kind and where it is
+//!   written up to; where each piece ends, or `no`; and the place that is reached, with the tokens that wait there.
 //! - `walk OPTIONS LIMIT PATTERN` is answered by `ok`, the units of work that were charged, and the items: `=` and a
 //!   path, `!` and the path of a directory that could not be listed, or `?` and the path of the limit's refusal.
 //! - A pattern with a fault is answered by `fault`, its place and its message in place of `ok` and what follows.
@@ -10,6 +12,7 @@
 use crate::options_of;
 use anyhow::{Context, Result, bail};
 use glob::{Disk, GlobCause, GlobResult, MatchOptions, Pattern, PatternRefusal, glob_in};
+use glob_captures::{TokenKind, captures, reach, tokens};
 use std::alloc::Global;
 use std::io::{self, BufRead, BufReader, BufWriter, Write};
 use std::rt::Files;
@@ -33,6 +36,9 @@ fn answer<R: Files + AllocGlobal + Drop + Copy>(rt: R, line: &str) -> Result<Str
     let fields = line.split('\t').collect::<Vec<&str>>(rt.alloc())?;
     let mut answer = match fields.as_slice() {
         ["match", pattern, texts @ ..] => match_answer(rt.alloc(), pattern, texts)?,
+        ["captures", letters, pattern, text] => {
+            captures_answer(rt.alloc(), options_of(letters), pattern, text)?
+        }
         ["walk", letters, limit, pattern] => {
             walk_answer(rt, options_of(letters), limit.parse::<u64>()?, pattern)?
         }
@@ -65,6 +71,54 @@ fn add_matches(answer: &mut String, pattern: &Pattern, text: &str) -> Result<()>
         answer.push(if found { 'y' } else { 'n' })?;
     }
     Ok(())
+}
+
+/// The answer to `captures`.
+fn captures_answer(
+    alloc: Global,
+    options: MatchOptions,
+    pattern: &str,
+    text: &str,
+) -> Result<String> {
+    let pattern = Pattern::new(alloc, pattern)?;
+    let mut answer = String::new(alloc);
+    for token in tokens(alloc, &pattern)?.as_slice() {
+        add_number(alloc, &mut answer, sign_of(token.kind), token.piece.end)?;
+    }
+    answer.push('\t')?;
+    match captures(alloc, &pattern, text, options)? {
+        Some(pieces) => {
+            for piece in pieces.as_slice() {
+                add_number(alloc, &mut answer, " ", piece.end)?;
+            }
+        }
+        None => answer.push_str("no")?,
+    }
+    let reached = reach(alloc, &pattern, text, options)?;
+    add_number(alloc, &mut answer, "\t", reached.place)?;
+    for number in reached.waiting.as_slice() {
+        add_number(alloc, &mut answer, " ", *number)?;
+    }
+    Ok(answer)
+}
+
+/// Adds a number after a sign.
+fn add_number(alloc: Global, answer: &mut String, sign: &str, number: usize) -> Result<()> {
+    let text = format!(in alloc; "{sign}{number}")?;
+    answer.push_str(text.as_str())?;
+    Ok(())
+}
+
+/// A sign for a kind of token.
+fn sign_of(kind: TokenKind) -> &'static str {
+    match kind {
+        TokenKind::Literal => " literal ",
+        TokenKind::AnyChar => " ? ",
+        TokenKind::AnySequence => " * ",
+        TokenKind::Recursive => " ** ",
+        TokenKind::OneOf => " [] ",
+        TokenKind::NoneOf => " [!] ",
+    }
 }
 
 /// The answer to `walk`.

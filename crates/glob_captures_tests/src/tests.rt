@@ -2,8 +2,3 @@ mod bounds;
 mod made;
 mod memory;
 mod printing;
-mod reference;
-mod rows;
-mod splits;
-mod tried;
-mod written;

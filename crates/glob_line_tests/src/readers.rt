@@ -8,9 +8,11 @@ use std::io::{self, Read, Write};
 
 /// What is done in place of one call, and how many calls go before it.
 #[derive(Clone, Copy, Debug)]
-struct Upset<T> {
-    calls_before: u64,
-    what: T,
+pub struct Upset<T> {
+    /// How many calls go before it.
+    pub calls_before: u64,
+    /// What is done.
+    pub what: T,
 }
 
 /// Whether this call is the one that is upset. The calls after it are not.
@@ -34,25 +36,13 @@ pub struct ShortReader<'a> {
 }
 
 impl<'a> ShortReader<'a> {
-    /// A reader of `bytes` that gives at most `most` of them a call, but always one at least, and never fails.
-    pub fn new(bytes: &'a [u8], most: usize) -> Self {
+    /// A reader of `bytes` that gives at most `most` of them a call, but always one at least. One call may fail in place
+    /// of giving some.
+    pub fn new(bytes: &'a [u8], most: usize, planned: Option<Upset<io::Error>>) -> Self {
         ShortReader {
             rest: bytes,
-            most: most.max(1),
-            planned: None,
-        }
-    }
-
-    /// The same reader, whose call number `call`, counted from 0, gives nothing and fails with this error.
-    pub fn failing_at(self, call: u64, error: io::Error) -> Self {
-        let planned = Upset {
-            calls_before: call,
-            what: error,
-        };
-        ShortReader {
-            rest: self.rest,
-            most: self.most,
-            planned: Some(planned),
+            most,
+            planned,
         }
     }
 }
@@ -84,37 +74,20 @@ pub enum Refusal {
 /// A writer into memory, which takes at most so many bytes a call.
 #[derive(Drop)]
 pub struct ShortWriter<A: Allocator = Global> {
-    written: Vec<u8, A>,
+    /// What was written.
+    pub written: Vec<u8, A>,
     most: usize,
     planned: Option<Upset<Refusal>>,
 }
 
 impl<A: Allocator> ShortWriter<A> {
-    /// A writer that takes at most `most` bytes a call, and fails only where there is no memory.
-    pub fn new(alloc: A, most: usize) -> Self {
+    /// A writer that takes at most `most` bytes a call, and fails only where there is no memory, or in one call.
+    pub fn new(alloc: A, most: usize, planned: Option<Upset<Refusal>>) -> Self {
         ShortWriter {
             written: Vec::new(alloc),
             most,
-            planned: None,
+            planned,
         }
-    }
-
-    /// The same writer, whose call number `call`, counted from 0, takes nothing and refuses in this way.
-    pub fn refusing_at(self, call: u64, refusal: Refusal) -> Self {
-        let planned = Upset {
-            calls_before: call,
-            what: refusal,
-        };
-        ShortWriter {
-            written: self.written,
-            most: self.most,
-            planned: Some(planned),
-        }
-    }
-
-    /// What was written.
-    pub fn written(&self) -> &[u8] {
-        self.written.as_slice()
     }
 }
 
@@ -146,17 +119,11 @@ pub struct Counted<'a, S> {
     pub inner: S,
 }
 
-impl<S> Counted<'_, S> {
-    fn count(&self) {
-        self.calls.set(self.calls.get().saturating_add(1));
-    }
-}
-
 impl<S: Read> Read for Counted<'_, S> {
     ghost remaining = { λ r. S.remaining r.inner };
 
     fn read(&mut self, buf: &mut [u8]) -> io::Result<usize> {
-        self.count();
+        self.calls.set(self.calls.get().saturating_add(1));
         self.inner.read(buf)
     }
 }
@@ -165,7 +132,7 @@ impl<S: Write> Write for Counted<'_, S> {
     ghost contents = { λ w. S.contents w.inner };
 
     fn write(&mut self, buf: &[u8]) -> io::Result<usize> {
-        self.count();
+        self.calls.set(self.calls.get().saturating_add(1));
         self.inner.write(buf)
     }
 

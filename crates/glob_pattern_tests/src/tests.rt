@@ -1,14 +1,8 @@
+mod comparing;
 mod costs;
 mod counted;
-mod escaping;
-mod faults;
-mod hostile;
-mod judges;
 mod made;
-mod matching;
 mod memory;
-mod options;
-mod plain_parts;
 mod printing;
 mod questions;
 mod sizes;

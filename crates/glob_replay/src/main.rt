@@ -1,8 +1,11 @@
-//! Compares the crate `glob` with answers of the original crate, which lie beside the program as tables.
+//! Compares the crate `glob` with answers from outside, which lie beside the program as tables.
 //!
-//! Each row of a table is a line with fields between tabs. `parse.tsv`: a pattern, and `ok` or the fault's place and
-//! words. `match.tsv`: the options as three letters `t` or `f` (case, the separator rule, the dot rule), a pattern, a
-//! text, and `y` or `n`.
+//! Each row of a table is a line with fields between tabs:
+//!
+//! - how a pattern is read: the pattern, and `ok` or the fault's place and words;
+//! - whether it matches: the options as three letters `t` or `f` (case, the separator rule, the dot rule), a pattern, a
+//!   text, and `y` or `n`, which may be followed by the most questions that this takes;
+//! - how a text is escaped: the text, and the pattern that is written for it and matches it.
 #![tactic(auto)]
 
 use anyhow::{Context, Result, bail};
@@ -38,45 +41,67 @@ fn options_of(letters: &str) -> Result<MatchOptions> {
     }
 }
 
-/// Whether a pattern matches a text, or does not, as the row says.
+/// Whether a pattern matches a text, or does not, as the row says, also where questions are counted: as many as the row
+/// says at most, or its characters times those of the text.
 fn matches_alike(alloc: Global, row: &str) -> Result<bool> {
     let mut fields = row.split('\t');
     let options = options_of(fields.next().context("no options")?)?;
     let pattern = Pattern::new(alloc, fields.next().context("no pattern")?)?;
-    let found = pattern.matches_with(fields.next().context("no text")?, options)?;
-    Ok(fields.next() == Some(if found { "y" } else { "n" }))
+    let text = fields.next().context("no text")?;
+    let found = pattern.matches_with(text, options)?;
+    let (counted, questions) = pattern.matches_counted(text, options)?;
+    let most = pattern
+        .as_str()
+        .chars()
+        .count()
+        .saturating_mul(text.chars().count());
+    let is_answer = fields.next() == Some(if found { "y" } else { "n" });
+    Ok(is_answer && counted == found && questions <= most as u128)
 }
 
-/// A table of answers.
+/// Whether a text is escaped as the row says, by a pattern that matches it.
+fn escapes_alike(alloc: Global, row: &str) -> Result<bool> {
+    let mut fields = row.split('\t');
+    let text = fields.next().context("no text")?;
+    let escaped = Pattern::escape(alloc, text)?;
+    let is_answer = fields.next() == Some(escaped.as_str());
+    Ok(is_answer && Pattern::new(alloc, escaped.as_str())?.matches(text)?)
+}
+
+/// What the rows of a table say.
 #[derive(Clone, Copy)]
-enum Table {
+enum Rows {
     /// How patterns are read.
     Patterns,
     /// Which texts they match.
     Matches,
+    /// How texts are escaped.
+    Escapes,
 }
 
-impl Table {
-    /// The file of the table.
-    fn name(self) -> &'static str {
-        match self {
-            Table::Patterns => "parse.tsv",
-            Table::Matches => "match.tsv",
-        }
-    }
-
+impl Rows {
     /// Whether `glob` answers as the row says.
     fn is_alike(self, alloc: Global, row: &str) -> Result<bool> {
         match self {
-            Table::Patterns => parses_alike(alloc, row),
-            Table::Matches => matches_alike(alloc, row),
+            Rows::Patterns => parses_alike(alloc, row),
+            Rows::Matches => matches_alike(alloc, row),
+            Rows::Escapes => escapes_alike(alloc, row),
         }
     }
 }
 
+/// The tables. `data/README.md` says where each comes from.
+const TABLES: [(&str, Rows); 6] = [
+    ("parse.tsv", Rows::Patterns),
+    ("match.tsv", Rows::Matches),
+    ("faults.tsv", Rows::Patterns),
+    ("rows.tsv", Rows::Matches),
+    ("words.tsv", Rows::Matches),
+    ("escape.tsv", Rows::Escapes),
+];
+
 /// Replays a table: prints each row that disagrees, and how many rows there are of either kind.
-fn replay<R: Files + Print + AllocGlobal>(rt: &R, table: Table) -> Result<()> {
-    let name = table.name();
+fn replay<R: Files + Print + AllocGlobal>(rt: &R, name: &str, table: Rows) -> Result<()> {
     let text = fs::read_to_string(rt, name)?;
     let mut rows = 0u64;
     let mut disagree = 0u64;
@@ -89,12 +114,14 @@ fn replay<R: Files + Print + AllocGlobal>(rt: &R, table: Table) -> Result<()> {
     }
     println!(rt; "{name}: {rows} rows, {disagree} disagree")?;
     if disagree != 0 {
-        bail!("{name}: the library disagrees with the original crate");
+        bail!("{name}: the library disagrees with the table");
     }
     Ok(())
 }
 
 fn main(rt: HostRuntime) -> Result<()> {
-    replay(&rt, Table::Patterns)?;
-    replay(&rt, Table::Matches)
+    for (name, table) in TABLES {
+        replay(&rt, name, table)?;
+    }
+    Ok(())
 }

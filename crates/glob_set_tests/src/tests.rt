@@ -1,7 +1,6 @@
 mod answers;
 mod made;
 mod memory;
-mod random;
 mod refusals;
 mod rows;
 mod sizes;

@@ -1,5 +1,5 @@
 //! What is printed of an error, whole.
-use super::made::{check, made};
+use super::made::check;
 use glob_captures::CapturesError;
 use glob_testing::texts::prints_as;
 
@@ -10,6 +10,6 @@ fn errors(rt: HostRuntime) {
         (CapturesError::TooLarge, large),
         (CapturesError::Memory, "out of memory"),
     ] {
-        check(&rt, made(&rt, prints_as(&rt, &error, text)), text);
+        check(&rt, prints_as(&rt, &error, text) == Ok(true), text);
     }
 }

@@ -1,6 +1,6 @@
 //! The lines that a pattern matches, or the records that another byte ends, copied; and readers and writers that fail.
-use super::made::{bytes_of, check, pattern_of};
-use crate::readers::{Refusal, ShortReader, ShortWriter};
+use super::made::{check, pattern_of};
+use crate::readers::{Refusal, ShortReader, ShortWriter, Upset};
 use glob_lines::{LineFault, Watch, filter_lines, filter_records};
 use glob_pattern::MatchOptions;
 use glob_testing::texts::are_same;
@@ -32,11 +32,14 @@ fn copy(
         b'\n' => filter_lines(rt.alloc(), &pattern, options, &mut reader, &mut writer),
         _ => filter_records(rt.alloc(), &pattern, options, end, &mut reader, &mut writer),
     };
+    let writer_failed = writer.failed();
+    let inner = writer.into_inner();
+    let written = Vec::from_slice(rt.alloc(), inner.written.as_slice()).expect(rt, "memory");
     Outcome {
         answer,
         reader_failed: reader.failed(),
-        writer_failed: writer.failed(),
-        written: bytes_of(rt, rt.alloc(), writer.into_inner().written()),
+        writer_failed,
+        written,
     }
 }
 
@@ -49,67 +52,40 @@ pub(super) fn copied(
     input: &[u8],
     most: usize,
 ) -> (u64, Vec<u8>) {
-    let writer = ShortWriter::new(rt.alloc(), most);
-    let outcome = copy(rt, pattern, end, ShortReader::new(input, most), writer);
-    check(
+    let reader = ShortReader::new(input, most, None);
+    let outcome = copy(
         rt,
-        !outcome.reader_failed && !outcome.writer_failed,
         pattern,
+        end,
+        reader,
+        ShortWriter::new(rt.alloc(), most, None),
     );
+    check(rt, !outcome.reader_failed, pattern);
+    check(rt, !outcome.writer_failed, pattern);
     match outcome.answer {
         Ok(count) => (count, outcome.written),
         Err(_) => panic!(rt; "{pattern}: a fault"),
     }
 }
 
-/// So many records and these bytes are copied.
-fn check_copied(
-    rt: &(impl Abort + AllocGlobal),
-    pattern: &str,
-    end: u8,
-    input: &[u8],
-    most: usize,
-    output: &[u8],
-    records: u64,
-) {
-    let (count, written) = copied(rt, pattern, end, input, most);
-    check(
-        rt,
-        count == records && written.as_slice() == output,
-        pattern,
-    );
-}
-
-/// A pattern, an input, what is copied of it, and how many lines that is.
-const ROWS: [(&str, &[u8], &[u8], u64); 8] = [
-    ("*.rs", b"a.rs\nb.c\n\nx.rs", b"a.rs\nx.rs\n", 2),
-    ("*.rs", b"a.rs\r\n", b"", 0),
-    ("", b"\n", b"\n", 1),
-    ("*", b"", b"", 0),
-    ("a?", b"ab", b"ab\n", 1),
-    ("*", b"ab\nc\n", b"ab\nc\n", 2),
+/// A pattern, the byte that ends a record, an input, what is copied of it, and how many records that is.
+const ROWS: [(&str, u8, &[u8], &[u8], u64); 18] = [
+    ("*.rs", b'\n', b"a.rs\nb.c\n\nx.rs", b"a.rs\nx.rs\n", 2),
+    ("*.rs", b'\n', b"a.rs\r\n", b"", 0),
+    ("", b'\n', b"\n", b"\n", 1),
+    ("*", b'\n', b"", b"", 0),
+    ("a?", b'\n', b"ab", b"ab\n", 1),
+    ("*", b'\n', b"ab\nc\n", b"ab\nc\n", 2),
     // A line that is not UTF-8 never matches.
-    ("*", b"\xff\na\n", b"a\n", 1),
+    ("*", b'\n', b"\xff\na\n", b"a\n", 1),
     // Lines of 15, 16, 17, 0 and 33 bytes, and one without a line feed.
     (
         "*a",
+        b'\n',
         b"abcdefghijklmna\nabcdefghijklmnoa\nabcdefghijklmnopa\n\nabcdefghijklmnopqrstuvwxyz012345a\nxa",
         b"abcdefghijklmna\nabcdefghijklmnoa\nabcdefghijklmnopa\nabcdefghijklmnopqrstuvwxyz012345a\nxa\n",
         5,
     ),
-];
-
-#[test]
-fn matching_lines_are_copied(rt: HostRuntime) {
-    for (pattern, input, output, lines) in ROWS {
-        for most in [1, 3, 100] {
-            check_copied(&rt, pattern, b'\n', input, most, output, lines);
-        }
-    }
-}
-
-/// A pattern, the byte that ends a record, an input, what is copied of it, and how many records that is.
-const RECORDS: [(&str, u8, &[u8], &[u8], u64); 10] = [
     ("*", 0, b"", b"", 0),
     ("*", 0, b"\0", b"\0", 1),
     ("", 0, b"\0\n\0", b"\0", 1),
@@ -132,9 +108,11 @@ const RECORDS: [(&str, u8, &[u8], &[u8], u64); 10] = [
 
 #[test]
 fn matching_records_are_copied(rt: HostRuntime) {
-    for (pattern, end, input, output, records) in RECORDS {
+    for (pattern, end, input, output, records) in ROWS {
         for most in [1, 3, 100] {
-            check_copied(&rt, pattern, end, input, most, output, records);
+            let (count, written) = copied(&rt, pattern, end, input, most);
+            check(&rt, count == records, pattern);
+            check(&rt, written.as_slice() == output, pattern);
         }
     }
 }
@@ -152,11 +130,6 @@ fn faults() -> [io::Error; 7] {
     ]
 }
 
-/// The errors are the same.
-fn check_error(rt: &(impl Abort + AllocGlobal), found: io::Error, known: io::Error) {
-    check(rt, are_same(rt, found, known) == Ok(true), "another error");
-}
-
 /// A reader that gives so many bytes a call and fails at a call: its error is returned, and nothing is written.
 fn check_reader(
     rt: &(impl Abort + AllocGlobal),
@@ -165,13 +138,27 @@ fn check_reader(
     call: u64,
     error: io::Error,
 ) {
-    let reader = ShortReader::new(input, most).failing_at(call, error);
-    let outcome = copy(rt, "*", b'\n', reader, ShortWriter::new(rt.alloc(), 100));
+    let planned = Upset {
+        calls_before: call,
+        what: error,
+    };
+    let reader = ShortReader::new(input, most, Some(planned));
+    let outcome = copy(
+        rt,
+        "*",
+        b'\n',
+        reader,
+        ShortWriter::new(rt.alloc(), 100, None),
+    );
     check(rt, outcome.reader_failed, "the reader has not failed");
     check(rt, !outcome.writer_failed, "the writer has failed");
     check(rt, outcome.written.is_empty(), "something is written");
     match outcome.answer {
-        Err(LineFault::Read(found)) => check_error(rt, found, error),
+        Err(LineFault::Read(found)) => check(
+            rt,
+            are_same(rt, found, error) == Ok(true),
+            "an error",
+        ),
         _ => panic!(rt; "no fault of the reader"),
     }
 }
@@ -197,69 +184,40 @@ fn check_writer(
     refusal: Refusal,
     written: &[u8],
 ) {
-    let writer = ShortWriter::new(rt.alloc(), most).refusing_at(call, refusal);
-    let reader = ShortReader::new(b"ab\n\xff\nc", 100);
+    let planned = Upset {
+        calls_before: call,
+        what: refusal,
+    };
+    let writer = ShortWriter::new(rt.alloc(), most, Some(planned));
+    let reader = ShortReader::new(b"ab\n\xff\nc", 100, None);
     let outcome = copy(rt, "*", b'\n', reader, writer);
     check(rt, outcome.writer_failed, "the writer has not failed");
     check(rt, !outcome.reader_failed, "the reader has failed");
-    check(
-        rt,
-        outcome.written.as_slice() == written,
-        "other bytes are written",
-    );
+    check(rt, outcome.written.as_slice() == written, "the bytes");
     let error = match refusal {
         Refusal::Fails(error) => error,
         Refusal::TakesNone => io::Error::from(ErrorKind::WriteZero),
     };
     match outcome.answer {
-        Err(LineFault::Write(found)) => check_error(rt, found, error),
+        Err(LineFault::Write(found)) => check(
+            rt,
+            are_same(rt, found, error) == Ok(true),
+            "an error",
+        ),
         _ => panic!(rt; "no fault of the writer"),
     }
 }
 
-/// Each refusal of a writer at a call, before which this was written.
-fn check_refusals(rt: &(impl Abort + AllocGlobal), most: usize, call: u64, written: &[u8]) {
-    for error in faults() {
-        check_writer(rt, most, call, Refusal::Fails(error), written);
-    }
-    check_writer(rt, most, call, Refusal::TakesNone, written);
-}
-
 #[test]
 fn a_writer_that_fails_ends_the_copy(rt: HostRuntime) {
-    let output = b"ab\nc\n";
-    for most in 1..=3usize {
-        for call in 0..output.len() {
-            let taken = call.saturating_mul(most);
-            if taken < output.len() {
-                check_refusals(&rt, most, call as u64, &output[..taken]);
+    // Five bytes are written. After so many calls that take so many bytes each, some are left.
+    for (most, calls) in [(1usize, 5usize), (2, 3), (3, 2)] {
+        for call in 0..calls {
+            let written = &b"ab\nc\n"[..call.saturating_mul(most).min(5)];
+            for error in faults() {
+                check_writer(&rt, most, call as u64, Refusal::Fails(error), written);
             }
-        }
-    }
-}
-
-/// The input, with the line feed that it may lack, and how many lines that are.
-fn ended(rt: &(impl Abort + AllocGlobal), input: &[u8]) -> (Vec<u8>, u64) {
-    let mut output = bytes_of(rt, rt.alloc(), input);
-    if !input.is_empty() && !input.ends_with(b"\n") {
-        output.push(b'\n').expect(rt, "memory");
-    }
-    let mut lines = 0u64;
-    for byte in output.as_slice() {
-        lines = lines.saturating_add(u64::from(*byte == b'\n'));
-    }
-    (output, lines)
-}
-
-/// Each beginning of a text, as the whole input, is copied in pieces of each size, with the line feed that it lacks.
-#[test]
-fn each_beginning_is_copied(rt: HostRuntime) {
-    let input = b"ab\n\n\r\nc d\n\n\ne";
-    for end in 0..=input.len() {
-        let (output, lines) = ended(&rt, &input[..end]);
-        for most in 1..=input.len() {
-            let output = output.as_slice();
-            check_copied(&rt, "*", b'\n', &input[..end], most, output, lines);
+            check_writer(&rt, most, call as u64, Refusal::TakesNone, written);
         }
     }
 }

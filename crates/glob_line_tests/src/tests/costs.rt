@@ -1,6 +1,6 @@
 //! How many requests for memory a copy of lines makes and for how many bytes, and how many calls of its reader and its
 //! writer. The clock is not asked.
-use super::made::{check, check_most, pattern_of, text};
+use super::made::{check, pattern_of, text};
 use crate::readers::{Counted, ShortReader, ShortWriter};
 use glob_lines::{Watch, filter_lines};
 use glob_pattern::MatchOptions;
@@ -19,11 +19,6 @@ struct Flow {
     reads: u64,
     /// The fewest writes that the output may take: it is not gathered whole.
     writes: u64,
-}
-
-/// How many writes so many bytes may take: one for each 4,096 of them, and a few more.
-fn most_writes(bytes: usize) -> u64 {
-    (bytes as u64 / 4_096).saturating_add(3)
 }
 
 /// How often memory may be requested: a few times for each doubling of the input and of the output.
@@ -48,12 +43,12 @@ fn copy(
     input: &[u8],
 ) -> Calls {
     let (reads, writes) = (Cell::new(0), Cell::new(0));
-    let inner = ShortReader::new(input, flow.most);
+    let inner = ShortReader::new(input, flow.most, None);
     let mut reader = Watch::new(Counted {
         calls: &reads,
         inner,
     });
-    let inner = ShortWriter::new(rt.alloc(), usize::MAX);
+    let inner = ShortWriter::new(rt.alloc(), usize::MAX, None);
     let mut writer = Watch::new(Counted {
         calls: &writes,
         inner,
@@ -62,7 +57,7 @@ fn copy(
     let options = MatchOptions::new();
     let answer = filter_lines(alloc, &pattern, options, &mut reader, &mut writer);
     check(rt, answer.is_ok(), flow.pattern);
-    let written = writer.into_inner().inner.written().len();
+    let written = writer.into_inner().inner.written.len();
     Calls {
         reads: reads.get(),
         writes: writes.get(),
@@ -75,14 +70,19 @@ fn check_calls(rt: &(impl Abort + AllocGlobal), flow: &Flow) {
     let input = text(rt, &[(flow.line, flow.lines)]);
     let counted = Rationed::refusing(0, rt.alloc());
     let calls = copy(rt, &counted, flow, input.as_bytes());
-    check_most(rt, calls.reads, flow.reads, "reads");
-    check_most(rt, calls.writes, most_writes(calls.written), "writes");
-    check_most(rt, flow.writes, calls.writes, "writes at least");
-    check_most(rt, counted.ration.asked(), MOST_REQUESTS, "requests");
+    check(rt, calls.reads <= flow.reads, "reads");
+    // One write for each 4,096 bytes, and a few more.
+    let most = (calls.written as u64 / 4_096).saturating_add(3);
+    check(
+        rt,
+        flow.writes <= calls.writes && calls.writes <= most,
+        "writes",
+    );
+    check(rt, counted.ration.asked() <= MOST_REQUESTS, "requests");
     let moved = input.len().saturating_add(calls.written) as u64;
     let room = moved.saturating_mul(4).saturating_add(MOST_ROOM);
-    check_most(rt, counted.ration.bytes(), room, "bytes");
-    check_most(rt, counted.ration.held(), 0, "blocks");
+    check(rt, counted.ration.bytes() <= room, "bytes");
+    check(rt, counted.ration.held() == 0, "blocks");
 }
 
 /// Lines without number, of which all or none match, one line, and reads of few bytes.

@@ -3,12 +3,6 @@ use super::made::check;
 use glob_lines::LineFault;
 use glob_testing::texts::prints_as;
 use std::io::{self, ErrorKind};
-use std::process::Abort;
-
-/// The fault is printed as this text.
-fn check_printed(rt: &(impl Abort + AllocGlobal), fault: &LineFault, text: &str) {
-    check(rt, prints_as(rt, fault, text) == Ok(true), text);
-}
 
 #[test]
 fn faults_of_lines(rt: HostRuntime) {
@@ -19,8 +13,12 @@ fn faults_of_lines(rt: HostRuntime) {
         io::Error::from_raw_os_error(28),
     ];
     for error in errors {
-        check_printed(&rt, &LineFault::Read(error), "reading failed");
-        check_printed(&rt, &LineFault::Write(error), "writing failed");
+        for (fault, text) in [
+            (LineFault::Read(error), "reading failed"),
+            (LineFault::Write(error), "writing failed"),
+            (LineFault::Memory, "out of memory"),
+        ] {
+            check(&rt, prints_as(&rt, &fault, text) == Ok(true), text);
+        }
     }
-    check_printed(&rt, &LineFault::Memory, "out of memory");
 }

@@ -2,45 +2,36 @@
 use super::copies::copied;
 use super::made::{check, sizes, text};
 use glob_testing::sizes::{CHARACTERS, SMALL};
+use glob_testing::texts::Parts;
 use std::process::Abort;
 
 /// The input is copied whole by `*`, as so many lines, with a line feed at the end.
-fn check_copied(rt: &(impl Abort + AllocGlobal), input: &str, lines: usize) {
+fn check_copied(rt: &(impl Abort + AllocGlobal), input: Parts<'_>, lines: usize) {
+    let input = text(rt, input);
     let (count, written) = copied(rt, "*", b'\n', input.as_bytes(), usize::MAX);
     check(rt, count == lines as u64, "the number of lines");
     check(rt, written.starts_with(input.as_bytes()), "the bytes");
     let fed = usize::from(!input.is_empty() && !input.ends_with('\n'));
-    check(
-        rt,
-        written.len() == input.len().saturating_add(fed),
-        "the number of bytes",
-    );
+    let length = input.len().saturating_add(fed);
+    check(rt, written.len() == length, "the number of bytes");
 }
 
-/// Inputs of so many lines, and of one line of so many characters, with a line feed or not.
-fn check_size(rt: &(impl Abort + AllocGlobal), size: usize, character: &str) {
-    check_copied(rt, text(rt, &[("a\n", size)]).as_str(), size);
-    check_copied(rt, text(rt, &[(character, size)]).as_str(), size.min(1));
-    check_copied(rt, text(rt, &[(character, size), ("\n", 1)]).as_str(), 1);
-}
-
-/// The sizes from one to another, both included.
+/// Inputs of so many lines, and of one line of so many characters, with a line feed or not, for each of the sizes from one
+/// to another, both included.
 fn check_sizes(rt: &(impl Abort + AllocGlobal), from: usize, to: usize) {
     for (place, size) in sizes(rt, 17).iter().copied().enumerate() {
         if from <= size && size <= to {
-            check_size(rt, size, CHARACTERS[place % 8]);
+            let character = CHARACTERS[place % 8];
+            check_copied(rt, &[("a\n", size)], size);
+            check_copied(rt, &[(character, size)], size.min(1));
+            check_copied(rt, &[(character, size), ("\n", 1)], 1);
         }
     }
 }
 
 #[test]
 fn lines(rt: HostRuntime) {
-    check_sizes(&rt, 0, 32_769);
-}
-
-#[test]
-fn lines_of_65_536(rt: HostRuntime) {
-    check_sizes(&rt, 65_535, 65_537);
+    check_sizes(&rt, 0, 65_537);
 }
 
 #[test]
@@ -56,5 +47,5 @@ fn lines_of_each_size(rt: HostRuntime) {
         let line = text(&rt, &[(CHARACTERS[size % 8], size), ("\n", 1)]);
         input.push_str(line.as_str()).expect(&rt, "memory");
     }
-    check_copied(&rt, input.as_str(), SMALL);
+    check_copied(&rt, &[(input.as_str(), 1)], SMALL);
 }

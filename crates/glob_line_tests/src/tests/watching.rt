@@ -77,25 +77,18 @@ fn each_fault_is_handed_on(rt: HostRuntime) {
 }
 
 /// An answer without a fault is handed on, and it is a fault only that a writer takes none of some bytes.
-fn check_number(rt: &impl Abort, reads: bool, len: usize, count: usize) {
-    let moved = count.min(len);
-    let takes_none = !reads && moved == 0 && len > 0;
-    match answer_of(rt, Ok(count), reads, len) {
-        Ok(found) => check(rt, found == moved && !takes_none, "a number"),
-        Err(error) => check(
-            rt,
-            takes_none && error.kind() == ErrorKind::WriteZero,
-            "a fault",
-        ),
-    }
-}
-
 #[test]
 fn each_number_is_handed_on(rt: HostRuntime) {
     for reads in [true, false] {
         for len in 0..=3usize {
             for count in 0..=3usize {
-                check_number(&rt, reads, len, count);
+                let moved = count.min(len);
+                let takes_none = !reads && moved == 0 && len > 0;
+                let is_right = match answer_of(&rt, Ok(count), reads, len) {
+                    Ok(found) => found == moved && !takes_none,
+                    Err(error) => takes_none && error.kind() == ErrorKind::WriteZero,
+                };
+                check(&rt, is_right, "a number");
             }
         }
     }

@@ -1,5 +1,5 @@
 //! How many questions a match takes.
-use super::made::{add, check, counted, made, pattern_of, text};
+use super::made::{add, made, pattern_of, text};
 use crate::judges::{Answers, TableJudge};
 use glob_pattern::{Judge, MatchOptions, Pattern, Shape, run_positions};
 use glob_testing::texts::Parts;
@@ -11,64 +11,6 @@ const FREE: MatchOptions = MatchOptions {
     require_literal_separator: false,
     require_literal_leading_dot: false,
 };
-
-const SEPARATOR: MatchOptions = MatchOptions {
-    case_sensitive: true,
-    require_literal_separator: true,
-    require_literal_leading_dot: false,
-};
-
-/// A pattern, a text, options, whether the pattern matches the text, and the most questions that this may take.
-type Row = (Parts<'static>, Parts<'static>, MatchOptions, bool, u128);
-
-const ROWS: [Row; 9] = [
-    (
-        &[("*a", 60), ("b", 1)],
-        &[("a", 200), ("/", 1)],
-        SEPARATOR,
-        false,
-        24_321,
-    ),
-    (&[("*a", 6), ("*b", 1)], &[("a", 40)], FREE, false, 560),
-    (&[("?", 63)], &[("a", 63)], FREE, true, 3_969),
-    (&[("?", 63)], &[("a", 62)], FREE, false, 3_906),
-    (&[("?", 63)], &[("a", 64)], FREE, false, 4_032),
-    (&[("?", 64)], &[("a", 64)], FREE, true, 4_096),
-    (&[("?", 64)], &[("a", 63)], FREE, false, 4_032),
-    (&[("[a]", 42)], &[("a", 42)], FREE, true, 1_764),
-    (
-        &[("**/", 1), ("?", 62)],
-        &[("x/", 1), ("a", 62)],
-        FREE,
-        true,
-        4_032,
-    ),
-];
-
-/// The pattern matches the text so, by at most so many questions.
-fn check_few(
-    rt: &(impl Abort + AllocGlobal),
-    pattern: &str,
-    text: &str,
-    options: MatchOptions,
-    answer: bool,
-    most: u128,
-) {
-    let pattern = pattern_of(rt, rt.alloc(), pattern);
-    let (found, asked) = counted(rt, &pattern, text, options);
-    check(rt, found == answer, pattern.as_str());
-    assert!(rt; asked <= most, "{asked} questions: {pattern}");
-    check(rt, !answer || text.len() as u128 <= asked, pattern.as_str());
-}
-
-#[test]
-fn a_match_takes_few_questions(rt: HostRuntime) {
-    for (pattern, str, options, answer, most) in ROWS {
-        let pattern = text(&rt, pattern);
-        let str = text(&rt, str);
-        check_few(&rt, pattern.as_str(), str.as_str(), options, answer, most);
-    }
-}
 
 /// Adds the token beside the place of each character that it does not take. `*` and `?` take all.
 fn add_refused(
@@ -153,7 +95,7 @@ const COUNTED: [(Parts<'static>, &[Parts<'static>]); 9] = [
 /// As many questions are counted as are asked.
 fn check_count(rt: &(impl Abort + AllocGlobal), pattern: &Pattern, text: &str) {
     let known = questions(rt, pattern.as_str(), text);
-    let (_, asked) = counted(rt, pattern, text, FREE);
+    let (_, asked) = pattern.matches_counted(text, FREE).expect(rt, "memory");
     assert!(rt; asked == known, "{pattern} on {text}");
 }
 

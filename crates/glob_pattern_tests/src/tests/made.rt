@@ -3,16 +3,12 @@ use glob_pattern::{MatchOptions, Pattern};
 use glob_testing::sizes::sizes_to;
 use glob_testing::texts::{Parts, text_of};
 use std::alloc::{AllocError, Allocator};
+use std::path::Path;
 use std::process::Abort;
 
 /// What is compared is right. The row says what it was.
 pub(super) fn check(rt: &impl Abort, is_right: bool, row: &str) {
     assert!(rt; is_right, "{row}");
-}
-
-/// The number is at most so large.
-pub(super) fn check_most(rt: &impl Abort, number: u64, most: u64, row: &str) {
-    assert!(rt; number <= most, "{number}: {row}");
 }
 
 /// The value, which there is where memory suffices.
@@ -31,30 +27,28 @@ pub(super) fn pattern_of<A: Allocator + Copy>(rt: &impl Abort, alloc: A, text: &
     Pattern::new(alloc, text).expect(rt, "a pattern")
 }
 
-/// Whether the pattern matches the text under the options.
-pub(super) fn is_matched<A: Allocator + Copy>(
-    rt: &impl Abort,
-    pattern: &Pattern<A>,
-    text: &str,
-    options: MatchOptions,
-) -> bool {
-    pattern.matches_with(text, options).expect(rt, "memory")
-}
-
-/// Whether the pattern matches the text, and how many questions that took.
-pub(super) fn counted<A: Allocator + Copy>(
-    rt: &impl Abort,
-    pattern: &Pattern<A>,
-    text: &str,
-    options: MatchOptions,
-) -> (bool, u128) {
-    pattern.matches_counted(text, options).expect(rt, "memory")
-}
-
 pub(super) fn text(rt: &(impl Abort + AllocGlobal), parts: Parts<'_>) -> String {
     text_of(rt, parts).expect(rt, "memory")
 }
 
 pub(super) fn sizes(rt: &(impl Abort + AllocGlobal), exponent: u32) -> Vec<usize> {
     sizes_to(rt, exponent).expect(rt, "memory")
+}
+
+/// What each form of matching answers for the text; `None` where memory ran out.
+pub(super) fn forms<A: Allocator + Copy>(pattern: &Pattern<A>, str: &str) -> [Option<bool>; 6] {
+    let path = Path::new(str);
+    let options = MatchOptions::default();
+    let counted = match pattern.matches_counted(str, options) {
+        Ok((found, _)) => Some(found),
+        Err(_) => None,
+    };
+    [
+        pattern.matches(str).ok(),
+        pattern.matches_with(str, MatchOptions::new()).ok(),
+        pattern.matches_with(str, options).ok(),
+        pattern.matches_path(path).ok(),
+        pattern.matches_path_with(path, options).ok(),
+        counted,
+    ]
 }

@@ -52,6 +52,9 @@ fn patterns(rt: HostRuntime) {
             check_printed(&rt, &pattern, text.as_str());
         }
     }
+    for source in ["", "a", "src/**/[!a-c]?*.rs", "\u{e9}[x]"] {
+        check_debug(&rt, source);
+    }
 }
 
 /// What is printed for the eyes of a programmer begins with the type, and has the text in quotes.
@@ -61,11 +64,4 @@ fn check_debug(rt: &(impl Abort + AllocGlobal), source: &str) {
     let quoted = text(rt, &[("\"", 1), (source, 1), ("\"", 1)]);
     check(rt, line.starts_with("Pattern"), line.as_str());
     check(rt, line.contains(quoted.as_str()), line.as_str());
-}
-
-#[test]
-fn a_pattern_for_debugging(rt: HostRuntime) {
-    for text in ["", "a", "src/**/[!a-c]?*.rs", "\u{e9}[x]"] {
-        check_debug(&rt, text);
-    }
 }

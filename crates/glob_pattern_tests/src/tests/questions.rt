@@ -1,22 +1,22 @@
-//! Which questions `run_positions` asks, by judges that note each of them.
-use super::judges::{ROWS, Random, check_shapes, some_pairs, some_places};
+//! Which questions `run_positions` asks, by a judge that notes each of them.
 use super::made::{add, made};
 use crate::judges::{Answers, TableJudge};
 use glob_pattern::{Judge, Shape, run_positions};
+use glob_testing::chance::Random;
 use std::process::Abort;
 
 /// Tokens that were asked at once: the number of characters stepped over, the number of a word of 63 tokens, and a bit
 /// for each of these.
 type Note = (usize, usize, u64);
 
-/// A judge of written answers that has `takes` alone.
+/// A judge of written answers that notes which tokens it is asked.
 #[derive(Drop)]
-struct TokenJudge<'a> {
+struct NotingJudge<'a> {
     answers: TableJudge<'a>,
     notes: Vec<Note>,
 }
 
-impl<'a> Judge for TokenJudge<'a> {
+impl<'a> Judge for NotingJudge<'a> {
     ghost table = { λ judge. ⟦<TableJudge<'a> as Judge>⟧.table judge.answers };
 
     ghost place = { λ judge. ⟦<TableJudge<'a> as Judge>⟧.place judge.answers };
@@ -36,37 +36,6 @@ impl<'a> Judge for TokenJudge<'a> {
         let _ = self
             .notes
             .push((self.answers.place(), token / 63, 1 << (token % 63)));
-        self.answers.takes(token)
-    }
-
-    fn asked(&self) -> u128 {
-        self.answers.asked()
-    }
-}
-
-/// A judge of written answers that is asked whole words of tokens.
-#[derive(Drop)]
-struct WordJudge<'a> {
-    answers: TableJudge<'a>,
-    notes: Vec<Note>,
-}
-
-impl<'a> Judge for WordJudge<'a> {
-    ghost table = { λ judge. ⟦<TableJudge<'a> as Judge>⟧.table judge.answers };
-
-    ghost place = { λ judge. ⟦<TableJudge<'a> as Judge>⟧.place judge.answers };
-
-    ghost count = { λ judge. ⟦<TableJudge<'a> as Judge>⟧.count judge.answers };
-
-    fn step(&mut self) -> bool {
-        self.answers.step()
-    }
-
-    fn opens(&self) -> bool {
-        Judge::opens(&self.answers)
-    }
-
-    fn takes(&mut self, token: usize) -> bool {
         self.answers.takes(token)
     }
 
@@ -95,52 +64,43 @@ fn check_notes(rt: &(impl Abort + AllocGlobal), notes: &[Note], asked: u128, ans
         seen[at] |= bits;
         questions = questions.saturating_add(u128::from(bits.count_ones()));
     }
-    check_shapes(rt, questions == asked, &[], answers);
+    assert!(rt; questions == asked, "{asked} questions on {answers:?}");
 }
 
-/// What `run_positions` answers by a judge that is asked each token, and how many questions it was asked.
-fn by_token(
-    rt: &(impl Abort + AllocGlobal),
-    shapes: &[Shape],
-    answers: Answers<'_>,
-) -> (bool, u128) {
-    assert!(rt; shapes.len() <= answers.tokens);
-    let mut judge = TokenJudge {
-        answers: TableJudge::new(answers),
-        notes: Vec::new(rt.alloc()),
-    };
-    let found = made(rt, run_positions(rt.alloc(), shapes, &mut judge));
-    check_notes(rt, judge.notes.as_slice(), judge.asked(), answers);
-    (found, judge.asked())
-}
-
-/// What `run_positions` answers by a judge that is asked whole words of tokens, and how many questions it was asked.
-fn by_word(
-    rt: &(impl Abort + AllocGlobal),
-    shapes: &[Shape],
-    answers: Answers<'_>,
-) -> (bool, u128) {
-    assert!(rt; shapes.len() <= answers.tokens);
-    let mut judge = WordJudge {
-        answers: TableJudge::new(answers),
-        notes: Vec::new(rt.alloc()),
-    };
-    let found = made(rt, run_positions(rt.alloc(), shapes, &mut judge));
-    check_notes(rt, judge.notes.as_slice(), judge.asked(), answers);
-    (found, judge.asked())
-}
-
-/// What `run_positions` answers by both judges, of which each is asked the same number of questions.
+/// What `run_positions` answers by a judge whose notes are right.
 fn noted(rt: &(impl Abort + AllocGlobal), shapes: &[Shape], answers: Answers<'_>) -> bool {
-    let (found, asked) = by_token(rt, shapes, answers);
-    let (found_too, asked_too) = by_word(rt, shapes, answers);
-    let is_same = found == found_too && asked == asked_too;
-    check_shapes(rt, is_same, shapes, answers);
+    assert!(rt; shapes.len() <= answers.tokens);
+    let mut judge = NotingJudge {
+        answers: TableJudge::new(answers),
+        notes: Vec::new(rt.alloc()),
+    };
+    let found = made(rt, run_positions(rt.alloc(), shapes, &mut judge));
+    check_notes(rt, judge.notes.as_slice(), judge.asked(), answers);
     found
 }
 
+/// Shapes, the number of characters, the places that open, the tokens and characters that do not go together, and
+/// whether the characters split.
+type Row = (
+    &'static [Shape],
+    usize,
+    &'static [usize],
+    &'static [(usize, usize)],
+    bool,
+);
+
+const ROWS: [Row; 7] = [
+    (&[], 0, &[0], &[], true),
+    (&[], 1, &[0], &[], false),
+    (&[Shape::Deep, Shape::One], 2, &[0], &[], false),
+    (&[Shape::Deep, Shape::One], 2, &[0, 1], &[], true),
+    (&[Shape::Deep], 2, &[0], &[], true),
+    (&[Shape::Run, Shape::One], 3, &[0], &[], true),
+    (&[Shape::Run, Shape::One], 3, &[0], &[(1, 2)], false),
+];
+
 #[test]
-fn rows_ask_no_token_twice(rt: HostRuntime) {
+fn written_rows(rt: HostRuntime) {
     for (shapes, characters, opening, refused, answer) in ROWS {
         let answers = Answers {
             characters,
@@ -148,9 +108,27 @@ fn rows_ask_no_token_twice(rt: HostRuntime) {
             opening,
             refused,
         };
-        let is_right = noted(&rt, shapes, answers) == answer;
-        check_shapes(&rt, is_right, shapes, answers);
+        let found = noted(&rt, shapes, answers);
+        assert!(rt; found == answer, "{shapes:?} on {answers:?}");
     }
+}
+
+/// Pairs of a number below the first and one below the second, each about once in so many times.
+fn some_pairs(
+    rt: &(impl Abort + AllocGlobal),
+    random: &mut Random,
+    (firsts, seconds): (usize, usize),
+    times: usize,
+) -> Vec<(usize, usize)> {
+    let mut pairs = Vec::new(rt.alloc());
+    for first in 0..firsts {
+        for second in 0..seconds {
+            if random.once_in(times) {
+                add(rt, &mut pairs, (first, second));
+            }
+        }
+    }
+    pairs
 }
 
 /// So many shapes, of which about one in so many takes one character.
@@ -158,7 +136,7 @@ fn some_shapes(
     rt: &(impl Abort + AllocGlobal),
     random: &mut Random,
     length: usize,
-    one_in: u64,
+    one_in: usize,
 ) -> Vec<Shape> {
     let mut shapes = Vec::new(rt.alloc());
     for _ in 0..length {
@@ -178,15 +156,20 @@ fn some_shapes(
 const LENGTHS: [usize; 10] = [0, 1, 2, 4, 8, 30, 62, 70, 126, 140];
 
 /// Which shapes take one character: about one in so many.
-const ONES: [u64; 3] = [2, 20, 100];
+const ONES: [usize; 3] = [2, 20, 100];
 
 /// The answer on a random table of this number.
 fn noted_table(rt: &(impl Abort + AllocGlobal), random: &mut Random, number: usize) -> bool {
     let length = LENGTHS[number % 10].saturating_add(number / 10 % 4);
     let shapes = some_shapes(rt, random, length, ONES[number % 3]);
     let characters = number % 7;
-    let opening = some_places(rt, random, characters);
-    let refused = some_pairs(rt, random, length, characters);
+    let mut opening = Vec::new(rt.alloc());
+    for place in 0..=characters {
+        if random.once_in(2) {
+            add(rt, &mut opening, place);
+        }
+    }
+    let refused = some_pairs(rt, random, (length, characters), 4);
     let answers = Answers {
         characters,
         tokens: length,

@@ -9,20 +9,6 @@ pub(super) fn made<T, E: Debug + Drop>(rt: &impl Abort, answer: Result<T, E>) ->
     answer.expect(rt, "no error")
 }
 
-/// Adds a value to a list.
-pub(super) fn push<T: Drop>(rt: &impl Abort, list: &mut Vec<T>, value: T) {
-    made(rt, list.push(value));
-}
-
-/// These texts, one after another.
-pub(super) fn joined(rt: &(impl Abort + AllocGlobal), pieces: &[&str]) -> String {
-    let mut text = String::new(rt.alloc());
-    for piece in pieces {
-        made(rt, text.push_str(piece));
-    }
-    text
-}
-
 /// What is compared is right. The row says what it was.
 pub(super) fn check(rt: &impl Abort, is_right: bool, row: &str) {
     assert!(rt; is_right, "{row}");

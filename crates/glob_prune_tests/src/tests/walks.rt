@@ -1,148 +1,80 @@
-//! Walks over a pruned tree beside those of the whole tree, filtered.
-use super::made::{check, made, push};
-use crate::trees::{Listed, Recorded, Rule};
-use glob::{End, GlobResult, Look, MatchOptions, MemTree, Tree, Walk, walk_in};
-use glob_prune::Pruned;
-use std::alloc::{Allocator, Global};
+//! Walks without what a set of patterns matches, or an ignore list ignores.
+use super::made::{check, made, tree_of};
+use glob::{End, MatchOptions, walk_in};
+use glob_prune::{Exclusion, Pruned};
+use glob_rules::IgnoreList;
+use glob_set::PatternSet;
 use std::process::Abort;
 
-/// What a walk finds.
-#[derive(Clone, Copy, Debug, PartialEq, Eq)]
-pub(super) enum Found<'a> {
-    /// A path.
-    Path(&'a str),
-    /// The path of a directory that cannot be read.
-    Unread(&'a str),
-}
-
-/// What an item of a walk is.
-pub(super) fn found_of<A: Allocator>(item: &GlobResult<A>) -> Found<'_> {
-    match item {
-        Ok(path) => Found::Path(path.as_str()),
-        Err(error) => Found::Unread(error.path().as_str()),
-    }
-}
-
-/// What the items of a walk are.
-pub(super) fn all_found<'a, A: Allocator>(
+/// A walk by the pattern over the tree of the keys, without what is excluded, finds these paths in this order.
+fn check_walk<X: Exclusion + Drop>(
     rt: &(impl Abort + AllocGlobal),
-    items: &'a [GlobResult<A>],
-) -> Vec<Found<'a>> {
-    let mut list = Vec::new(rt.alloc());
-    for item in items {
-        push(rt, &mut list, found_of(item));
-    }
-    list
-}
-
-/// Whether these are found.
-pub(super) fn are(found: &[Found<'_>], known: &[Found<'_>]) -> bool {
-    found == known
-}
-
-/// What a walk by the pattern finds is what is kept.
-fn check_found(rt: &impl Abort, found: &[Found<'_>], kept: &[Found<'_>], pattern: &str) {
-    assert!(rt;
-        are(found, kept),
-        "{pattern}: {found:?} in place of {kept:?}"
-    );
-}
-
-/// A whole walk.
-fn walk<T: Tree<Alloc = Global>>(
-    rt: &(impl Abort + AllocGlobal),
-    tree: T,
+    keys: &str,
+    exclusion: X,
     pattern: &str,
-    options: MatchOptions,
-) -> Walk<T> {
-    let walk = made(rt, walk_in(rt.alloc(), tree, pattern, options, u64::MAX));
-    check(rt, walk.end == End::Done, pattern);
-    walk
-}
-
-/// Whether a path below the current directory is left out by the rule: it is that of the rule, or below it.
-fn is_left_out(rule: Rule<'_>, path: &str, is_dir: bool) -> bool {
-    match path.strip_prefix(rule.path) {
-        Some("") => is_dir || !rule.only_directories,
-        Some(rest) => rest.starts_with('/'),
-        None => false,
-    }
-}
-
-/// Whether one of the rules leaves a path out.
-pub(super) fn is_excluded(rules: &[Rule<'_>], path: &str, is_dir: bool) -> bool {
-    let path = path.strip_suffix('/').unwrap_or(path);
-    rules.iter().any(|rule| is_left_out(*rule, path, is_dir))
-}
-
-/// Whether something that a walk finds is a directory.
-fn is_dir(rt: &impl Abort, tree: &mut MemTree, found: Found<'_>) -> bool {
-    match found {
-        Found::Path(path) => made(rt, tree.look(path)) == Look::Dir,
-        Found::Unread(_) => true,
-    }
-}
-
-/// What is found and that the rules keep.
-fn kept<'a>(
-    rt: &(impl Abort + AllocGlobal),
-    tree: &mut MemTree,
-    all: &[Found<'a>],
-    rules: &[Rule<'_>],
-) -> Vec<Found<'a>> {
-    let mut kept = Vec::new(rt.alloc());
-    for found in all {
-        let (Found::Path(path) | Found::Unread(path)) = *found;
-        let is_dir = is_dir(rt, tree, *found);
-        if !is_excluded(rules, path, is_dir) {
-            push(rt, &mut kept, *found);
-        }
-    }
-    kept
-}
-
-/// Nothing that is excluded was listed, and nothing below it was looked at.
-fn check_asked(rt: &impl Abort, tree: &Recorded, rules: &[Rule<'_>]) {
-    for path in &tree.listed {
-        check(rt, !is_excluded(rules, path.as_str(), true), path.as_str());
-    }
-    for path in &tree.looked {
-        // What is excluded itself may be looked at once.
-        let above = path.as_str().rsplit_once('/');
-        let is_above_excluded = above.is_some_and(|(above, _)| is_excluded(rules, above, true));
-        check(rt, !is_above_excluded, path.as_str());
-    }
-}
-
-/// A walk over the tree without what the rules exclude finds these.
-fn check_pruned<'a>(
-    rt: &(impl Abort + AllocGlobal),
-    tree: MemTree,
-    rules: &'a [Rule<'a>],
-    job: (&str, MatchOptions),
-    kept: &[Found<'_>],
+    paths: &str,
 ) {
-    let tree = Recorded::new(rt.alloc(), tree);
-    let pruned = Pruned::new(rt.alloc(), tree, Listed { rules });
-    let walk = walk(rt, pruned, job.0, job.1);
-    let (items, tree) = (walk.items, walk.tree.into_tree());
-    let found = all_found(rt, items.as_slice());
-    check_found(rt, found.as_slice(), kept, job.0);
-    check_asked(rt, &tree, rules);
+    let tree = tree_of(rt, rt.alloc(), keys).expect(rt, "a tree");
+    let tree = Pruned::new(rt.alloc(), tree, exclusion);
+    let options = MatchOptions::new();
+    let walk = made(rt, walk_in(rt.alloc(), tree, pattern, options, u64::MAX));
+    check(rt, walk.end == End::Done, paths);
+    check(
+        rt,
+        walk.items.len() == paths.split_whitespace().count(),
+        paths,
+    );
+    let mut wanted = paths.split_whitespace();
+    for item in &walk.items {
+        let is_next = item.as_ref().ok().map(|path| path.as_str()) == wanted.next();
+        check(rt, is_next, paths);
+    }
 }
 
-/// A walk over the tree without what the rules exclude finds what the walk over the whole tree does and the rules keep.
-/// Gives how much that is, and how much the rules leave out.
-pub(super) fn compare<'a>(
-    rt: &(impl Abort + AllocGlobal),
-    tree: MemTree,
-    rules: &'a [Rule<'a>],
-    job: (&str, MatchOptions),
-) -> (usize, usize) {
-    let whole = walk(rt, tree, job.0, job.1);
-    let (items, mut tree) = (whole.items, whole.tree);
-    let all = all_found(rt, items.as_slice());
-    let kept = kept(rt, &mut tree, all.as_slice(), rules);
-    check_pruned(rt, tree, rules, job, kept.as_slice());
-    (kept.len(), all.len().saturating_sub(kept.len()))
+const SET_KEYS: &str = "/w/a.o /w/b.rs /w/.git/ /w/.git/c.rs /w/src/ /w/src/a.o /w/src/b.rs";
+
+/// The patterns of a set, whether `*` takes a separator, and the paths of the walk by `**/*`.
+const SETS: [(&[&str], bool, &str); 5] = [
+    (&[], true, ".git .git/c.rs a.o b.rs src src/a.o src/b.rs"),
+    (&["**/*.o", ".git"], true, "b.rs src src/b.rs"),
+    (&["*.o"], true, ".git .git/c.rs b.rs src src/b.rs"),
+    (&["*.o"], false, ".git .git/c.rs b.rs src src/a.o src/b.rs"),
+    (&["src/*", "?.rs"], false, ".git .git/c.rs a.o src"),
+];
+
+#[test]
+fn walks_without_what_a_set_matches(rt: HostRuntime) {
+    for (texts, crosses, paths) in SETS {
+        let options = MatchOptions {
+            require_literal_separator: !crosses,
+            ..MatchOptions::new()
+        };
+        let set = made(&rt, PatternSet::from_texts(rt.alloc(), texts, options));
+        check_walk(&rt, SET_KEYS, set, "**/*", paths);
+    }
+}
+
+const LIST_KEYS: &str =
+    "/w/a.o /w/a.rs /w/keep.o /w/src/ /w/src/a.o /w/src/b.rs /w/src/target /w/target/ /w/target/b.rs /w/target/keep.rs /w/x/ /w/x/a.rs";
+
+/// A list, a pattern, and the paths of the walk, as gitignore(5) has them.
+const LISTS: [(&str, &str, &str); 6] = [
+    ("", "*.rs", "a.rs"),
+    ("*.o\n!keep.o\n", "**/*.o", "keep.o"),
+    ("target/\n", "**/*.rs", "a.rs src/b.rs x/a.rs"),
+    ("target/\n!target/keep.rs\n", "target/*", ""),
+    ("/x\n*.o\n", "*", "a.rs src target"),
+    (
+        "*\n!*/\n!*.rs\n",
+        "**/*",
+        "a.rs src src/b.rs target target/b.rs target/keep.rs x x/a.rs",
+    ),
+];
+
+#[test]
+fn walks_by_an_ignore_list(rt: HostRuntime) {
+    for (list, pattern, paths) in LISTS {
+        let list = made(&rt, IgnoreList::new(rt.alloc(), list));
+        check_walk(&rt, LIST_KEYS, list, pattern, paths);
+    }
 }

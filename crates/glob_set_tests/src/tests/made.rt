@@ -26,11 +26,6 @@ pub(super) fn add<T: Drop>(rt: &impl Abort, list: &mut Vec<T>, item: T) {
     }
 }
 
-/// Adds a text to another one.
-pub(super) fn add_text(rt: &impl Abort, text: &mut String, more: &str) {
-    made(rt, text.push_str(more));
-}
-
 /// The texts that strings have.
 pub(super) fn texts_of<'a>(rt: &(impl Abort + AllocGlobal), texts: &'a [String]) -> Vec<&'a str> {
     let mut list = Vec::new(rt.alloc());

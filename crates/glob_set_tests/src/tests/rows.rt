@@ -60,15 +60,9 @@ fn check_parts(rt: &(impl Abort + AllocGlobal), texts: &[&str], options: MatchOp
 }
 
 #[test]
-fn a_set_has_its_patterns_and_options(rt: HostRuntime) {
-    for (texts, number, _, _) in ROWS {
-        check_parts(&rt, texts, options_of(number));
-    }
-}
-
-#[test]
 fn written_rows(rt: HostRuntime) {
     for (texts, number, text, numbers) in ROWS {
+        check_parts(&rt, texts, options_of(number));
         let set = set_of(&rt, rt.alloc(), texts, options_of(number));
         check_answers(&rt, &set, text, numbers);
     }

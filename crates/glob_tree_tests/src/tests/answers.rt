@@ -88,34 +88,21 @@ const UNREADABLE: [(&str, ErrorKind); 4] = [
 ];
 
 #[test]
-fn refusals(rt: HostRuntime) {
-    check_changes(&rt, &mut empty_tree(&rt), &REFUSALS);
-}
-
-/// A tree in which each change was made.
-fn changed_tree(rt: &(impl Abort + AllocGlobal)) -> MemTree {
-    let mut tree = empty_tree(rt);
-    check_changes(rt, &mut tree, &CHANGES);
-    tree
-}
-
-/// Whether the directory cannot be read, by an error of this kind.
-fn fails_with(tree: &mut MemTree, path: &str, kind: ErrorKind) -> bool {
-    match tree.list(path) {
-        Err(ListError::Read(error)) => error.kind() == kind,
-        _ => false,
-    }
-}
-
-#[test]
 fn answers(rt: HostRuntime) {
-    let mut tree = changed_tree(&rt);
+    check_changes(&rt, &mut empty_tree(&rt), &REFUSALS);
+    let mut tree = empty_tree(&rt);
+    check_changes(&rt, &mut tree, &CHANGES);
     for (path, look) in LOOKS {
         check(&rt, looked(&rt, &mut tree, path) == look, path);
     }
     for (path, kind) in UNREADABLE {
-        check(&rt, fails_with(&mut tree, path, kind), path);
+        let is_right = match tree.list(path) {
+            Err(ListError::Read(error)) => error.kind() == kind,
+            _ => false,
+        };
+        check(&rt, is_right, path);
     }
+    check_root(&rt, listed(&rt, &mut tree, "/").as_slice());
 }
 
 /// The entries are those of the root once each change was made.
@@ -126,12 +113,6 @@ pub(super) fn check_root<A: Allocator>(rt: &impl Abort, entries: &[Entry<A>]) {
         let wanted = if entry.is_dir { "s" } else { "f" };
         check(rt, name == wanted, name);
     }
-}
-
-#[test]
-fn the_root_is_listed(rt: HostRuntime) {
-    let mut tree = changed_tree(&rt);
-    check_root(&rt, listed(&rt, &mut tree, "/").as_slice());
 }
 
 #[test]

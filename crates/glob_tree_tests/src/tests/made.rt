@@ -2,6 +2,7 @@
 use glob_testing::sizes::sizes_to;
 use glob_testing::texts::text_of;
 use glob_tree::{Entry, Look, MemTree, Tree};
+use std::alloc::Allocator;
 use std::process::Abort;
 
 /// What is compared is right. The row says what it was.
@@ -33,5 +34,18 @@ pub(super) fn listed<T: Tree>(
     match tree.list(path) {
         Ok(entries) => entries,
         Err(_) => panic!(rt; "{path} is not listed"),
+    }
+}
+
+/// Adds the files of these numbers to the root.
+pub(super) fn add_files<A: Allocator + Copy>(
+    rt: &(impl Abort + AllocGlobal),
+    tree: &mut MemTree<A>,
+    from: usize,
+    to: usize,
+) {
+    for number in from..to {
+        let path = format!(in rt.alloc(); "/{number}").expect(rt, "memory");
+        check(rt, tree.add_other(path.as_str()).is_ok(), path.as_str());
     }
 }

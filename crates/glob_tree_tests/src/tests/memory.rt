@@ -1,6 +1,6 @@
 //! Each request for memory refused in turn: the answer is out of memory, or that with ample memory. No block is left.
 use super::answers::{CHANGES, check_root};
-use super::made::{check, listed, looked};
+use super::made::{add_files, check, listed, looked};
 use glob_testing::rationing::Rationed;
 use glob_tree::{ListError, Look, MemTree, Tree, TreeRefusal};
 use std::alloc::Allocator;
@@ -34,24 +34,19 @@ fn lists<A: Allocator + Copy>(rt: &impl Abort, tree: &mut MemTree<A>) -> bool {
     }
 }
 
-/// Changes and lists the tree. Gives how many calls were refused.
-fn changes_and_lists<A: Allocator + Copy>(rt: &impl Abort, tree: &mut MemTree<A>) -> u32 {
-    let refused = change_all(rt, tree);
-    let is_listed = lists(rt, tree);
-    check(rt, is_listed || lists(rt, tree), "a second listing");
-    check(rt, looked(rt, tree, "x") == Look::Dir, "look");
+/// Changes and lists a tree with memory from `alloc`. Gives how many calls were refused.
+fn uses_tree<A: Allocator + Copy>(rt: &impl Abort, alloc: A) -> u32 {
+    let Ok(mut tree) = MemTree::new(alloc) else {
+        return 1;
+    };
+    let refused = change_all(rt, &mut tree);
+    let is_listed = lists(rt, &mut tree);
+    check(rt, is_listed || lists(rt, &mut tree), "a second listing");
+    check(rt, looked(rt, &mut tree, "x") == Look::Dir, "look");
     refused.saturating_add(u32::from(!is_listed))
 }
 
-/// Changes and lists a tree with memory from `alloc`. Gives how many calls were refused.
-fn uses_tree<A: Allocator + Copy>(rt: &impl Abort, alloc: A) -> u32 {
-    match MemTree::new(alloc) {
-        Ok(mut tree) => changes_and_lists(rt, &mut tree),
-        Err(_) => 1,
-    }
-}
-
-/// Where the request of this number is refused, or none at 0, so many calls are. Gives how many requests there were.
+/// Where the request of this number is refused, so many calls are. Gives how many requests there were.
 fn check_uses(rt: &(impl Abort + AllocGlobal), number: u64, refused: u32) -> u64 {
     let scarce = Rationed::refusing(number, rt.alloc());
     let found = uses_tree(rt, &scarce);
@@ -60,6 +55,7 @@ fn check_uses(rt: &(impl Abort + AllocGlobal), number: u64, refused: u32) -> u64
     scarce.ration.asked()
 }
 
+/// No call is refused with ample memory, which is request 0.
 #[test]
 fn trees(rt: HostRuntime) {
     for number in 1..=check_uses(&rt, 0, 0) {
@@ -67,27 +63,17 @@ fn trees(rt: HostRuntime) {
     }
 }
 
-#[test]
-fn an_empty_tree_needs_no_memory(rt: HostRuntime) {
-    let counted = Rationed::refusing(0, rt.alloc());
-    check(&rt, MemTree::new(&counted).is_ok(), "a tree");
-    check(&rt, counted.ration.asked() == 0, "requests");
-}
-
-/// Adds a hundred files to the root, with a request for each name and a few for the list.
-fn add_hundred<A: Allocator + Copy>(rt: &(impl Abort + AllocGlobal), tree: &mut MemTree<A>) {
-    for number in 100..200u32 {
-        let path = format!(in rt.alloc(); "/{number}").expect(rt, "memory");
-        check(rt, tree.add_other(path.as_str()).is_ok(), path.as_str());
-    }
-}
-
-/// A change and a listing take a request for each name, and a few for the list. A look takes none.
+/// A change and a listing take a request for each name, and a few for the list. A look and an empty tree take none.
 #[test]
 fn a_name_takes_one_request(rt: HostRuntime) {
     let counted = Rationed::refusing(0, rt.alloc());
     let mut tree = MemTree::new(&counted).expect(&rt, "memory");
-    add_hundred(&rt, &mut tree);
+    check(
+        &rt,
+        counted.ration.asked() == 0,
+        "requests of an empty tree",
+    );
+    add_files(&rt, &mut tree, 100, 200);
     let added = counted.ration.asked();
     check(&rt, added <= 110, "requests of changes");
     check(&rt, looked(&rt, &mut tree, "./150") == Look::Other, "look");
