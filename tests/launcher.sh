@@ -28,6 +28,8 @@ mkdir "$work/tools"
 cat >"$work/tools/rt" <<'RT'
 #!/usr/bin/env bash
 crate=${PWD##*/}
+# it has no library of its own that bin/lib/prove could take
+[ "$1" != doc ] || exit 1
 echo "$1 $crate" >>"$ASKED"
 for below in $(sed -n "s/^$crate: //p" ../../crates.txt 2>/dev/null); do
     [ -f "../$below/out/rlib/made" ] || { echo "error: $crate is asked for before $below is made" && exit 1; }
