@@ -55,7 +55,7 @@ fn check_uses(rt: &(impl Abort + AllocGlobal), number: u64, refused: u32) -> u64
     scarce.ration.asked()
 }
 
-/// No call is refused with ample memory, which is request 0.
+/// Number 0 is ample memory, with which no call is refused.
 #[test]
 fn trees(rt: HostRuntime) {
     for number in 1..=check_uses(&rt, 0, 0) {

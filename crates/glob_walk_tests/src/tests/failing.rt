@@ -10,7 +10,7 @@ const PATTERN: &str = "r/**/*.md";
 
 const FILES: &str = "/r/ /r/a.md /r/one/ /r/one/a.md /r/one/b/ /r/one/b/a.md /r/two/ /r/two/b.md";
 
-/// Directories that cannot be listed, for a reason of this kind or for want of memory, and what the walk gives and charges.
+/// Directories that cannot be listed, for a reason of this kind or out of memory, and what the walk gives and charges.
 const ROWS: [(&str, Option<ErrorKind>, &str, u64); 4] = [
     ("r", Some(ErrorKind::InvalidData), "!r", 3),
     (

@@ -181,7 +181,7 @@ pub enum Alters {
     KindsOfNames,
     /// It says of every entry that it is no directory.
     Kinds,
-    /// This path cannot be listed: for a reason of this kind, as on a disk where a name is no text, or for want of memory.
+    /// This path cannot be listed: for a reason of this kind, as on a disk where a name is no text, or out of memory.
     Listing(&'static str, Option<ErrorKind>),
 }
 
