@@ -50,13 +50,18 @@ fn matches_alike(alloc: Global, row: &str) -> Result<bool> {
     let text = fields.next().context("no text")?;
     let found = pattern.matches_with(text, options)?;
     let (counted, questions) = pattern.matches_counted(text, options)?;
-    let most = pattern
-        .as_str()
-        .chars()
-        .count()
-        .saturating_mul(text.chars().count());
     let is_answer = fields.next() == Some(if found { "y" } else { "n" });
-    Ok(is_answer && counted == found && questions <= most as u128)
+    let most = most_questions(fields.next(), pattern.as_str(), text)?;
+    Ok(is_answer && counted == found && questions <= most && fields.next().is_none())
+}
+
+/// The most questions that a match may take.
+fn most_questions(bound: Option<&str>, pattern: &str, text: &str) -> Result<u128> {
+    let (tokens, characters) = (pattern.chars().count(), text.chars().count());
+    match bound {
+        Some(bound) => Ok(bound.parse::<u128>()?),
+        None => Ok(tokens.saturating_mul(characters) as u128),
+    }
 }
 
 /// Whether a text is escaped as the row says, by a pattern that matches it.
