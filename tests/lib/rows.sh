@@ -1,5 +1,6 @@
-# What the rows of program.sh and files.sh are made of. Sourced, with these set: $root, the repository; $program and $binary,
-# the program as a user calls it and as it is built; $work, a folder; $passed and $failed, how many rows did.
+# What the rows of program.sh, files.sh and launcher.sh are made of. Sourced, with these set: $root, the repository; $program,
+# the program as a user calls it; $binary, as it is built, where a row runs that; $work, a folder; $passed and $failed, how
+# many rows did.
 
 # check NAME STATUS OUTPUT FAULTS: compares $work/out, $work/err and $status, where \n is a line feed
 check() {
