@@ -16,21 +16,7 @@ words     1500 docs/PERFORMANCE.md
 words     2000 docs/PROOFS.md docs/FAULTS.md
 words     2950 docs/DECISIONS.md docs/DIFFERENCES.md CONTRIBUTING.md CHANGELOG.md bench/README.md
 words     1650 man/glob_run.1 man/glob_files.1 man/glob_ignore.1
-edits       32 glob_pattern
-edits       27 glob_walk
-edits        7 glob_run
-edits        9 glob_tree
-edits        7 glob_lines
-edits        7 glob_c
-edits        6 glob_set
-edits        5 glob_rules
-edits        5 glob_captures
-edits        4 glob_console
-edits        3 glob_prune
-edits        3 glob_page
-edits        3 glob_ignore
-edits        2 glob_files
-edits      120 all crates
+edits       81 all crates
 functions  160 glob_pattern
 '
 
