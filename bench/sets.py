@@ -4,7 +4,7 @@ the sets.
 
 usage: sets.py FOLDER ROUNDS SHARE DISK
 
-FOLDER has paths.txt, the program sets of ours/ and, if it could be built, globset_sets of peers/. The paths of a real
+FOLDER has paths.txt, the program library of ours/ and, if it could be built, globset_sets of peers/. The paths of a real
 disk are those of files below the folder DISK. A time is the processor's, the least of ROUNDS runs less the least of as
 many that read and make the same and ask nothing. SHARE divides how many paths are asked about, and how often a set is
 made. globset is asked once more before, which is not timed, since it keeps what it learns. Where their answers differ, or
@@ -143,7 +143,7 @@ def tables(programs, patterns, paths, rounds, share):
 
 def main():
     folder, rounds, share = Path(sys.argv[1]), int(sys.argv[2]), int(sys.argv[3])
-    programs = {"ours": folder / "ours/sets", "globset": folder / "peers/globset_sets"}
+    programs = {"ours": folder / "ours/library", "globset": folder / "peers/globset_sets"}
     programs = {name: program for name, program in programs.items() if program.exists()}
     patterns, paths = write_inputs(folder, sys.argv[4], share)
     sys.exit(print_all(tables(programs, patterns, paths, rounds, share)))

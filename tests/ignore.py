@@ -18,7 +18,7 @@ import tempfile
 import time
 from pathlib import Path
 
-PROGRAM = Path(__file__).resolve().parent.parent / "crates/glob_rules_ask/out/glob_rules_ask"
+PROGRAM = Path(__file__).resolve().parent.parent / "crates/glob_bench/out/glob_bench"
 
 # How many lists one process of git is asked about.
 BATCH = 400
@@ -113,7 +113,7 @@ def ours(cases):
     asked = []
     for text, paths in cases:
         asked += ["L" + text] + [("d" if is_dir else "f") + path for path, is_dir in paths]
-    done = subprocess.run([PROGRAM], input="\0".join(asked).encode(), capture_output=True)
+    done = subprocess.run([PROGRAM, "rules"], input="\0".join(asked).encode(), capture_output=True)
     if done.returncode != 0:
         sys.exit(f"the program: {done.stderr.decode()}")
     lines = iter(done.stdout.decode().split("\n"))

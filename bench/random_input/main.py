@@ -5,7 +5,7 @@ first disagreement, cut down to a small one, and last how many of matches, sets,
 
 usage: main.py FOLDER VERSION SECONDS SEED
 
-FOLDER has ours/library, ours/sets and original/answer, which is over this VERSION of the crate. Rounds are made for as
+FOLDER has ours/library and original/answer, which is over this VERSION of the crate. Rounds are made for as
 many SECONDS, the first of them from SEED, and each further one from the next seed.
 """
 
@@ -77,7 +77,7 @@ class Comparer:
     def __init__(self, folder, version):
         self.version = version
         self.programs = [[folder / "ours/library", "answer"], [folder / "original/answer"]]
-        self.set_program = folder / "ours/sets"
+        self.set_program = folder / "ours/library"
         self.place = Place(self.programs)
         self.base, self.above, self.walkers = self.place.base, self.place.above, self.place.walkers
         self.matchers = [Side(words, self.base) for words in self.programs]

@@ -1,5 +1,5 @@
-//! Answers cases for `bench/run --random`: a line of standard output for each line of standard input. Fields stand
-//! between tabs. The crate's side is `bench/original/src/bin/answer.rs`.
+//! Answers cases: a line of standard output for each line of standard input. Fields stand between tabs. The crate's side
+//! is `bench/original/src/bin/answer.rs`.
 //!
 //! - `match PATTERN TEXT ..` is answered by the escaped pattern and then `ok` and, for each text, eight letters `y` or
 //!   `n`, one for each setting of the options.
@@ -9,63 +9,70 @@
 //!   path, `!` and the path of a directory that could not be listed, or `?` and the path of the limit's refusal.
 //! - A pattern with a fault is answered by `fault`, its place and its message in place of `ok` and what follows.
 
-use crate::options_of;
-use anyhow::{Context, Result, bail};
-use glob::{Disk, GlobCause, GlobResult, MatchOptions, Pattern, PatternRefusal, glob_in};
+use crate::words::{number_of, options_of, pattern_of};
+use glob::{Disk, GlobCause, GlobResult, MatchOptions, Paths, Pattern, PatternRefusal, glob_in};
 use glob_captures::{TokenKind, captures, reach, tokens};
-use std::alloc::Global;
-use std::io::{self, BufRead, BufReader, BufWriter, Write};
-use std::rt::Files;
+use std::alloc::{AllocError, Global};
+use std::io::{self, BufRead, BufReader, Write};
 
 /// Each setting of the options, as `options_of` reads it.
 const SETTINGS: [&str; 8] = ["", "d", "s", "sd", "i", "id", "is", "isd"];
 
 /// Answers each line of standard input, and writes each answer at once.
-pub fn answer_lines<R: Files + Input + Print + AllocGlobal + Drop + Copy>(rt: R) -> Result<()> {
+pub fn answer_lines(rt: HostRuntime) -> io::Result<()> {
     let lines = BufReader::new(rt.alloc(), rt.reader())?.lines(rt.alloc());
-    let mut writer = BufWriter::new(rt.alloc(), io::writer(&rt))?;
+    let mut writer = io::writer(&rt);
     for line in lines {
-        writer.write_all(answer(rt, line?.as_str())?.as_bytes())?;
-        writer.flush()?;
+        let answer = answer(rt, line?.as_str())?;
+        writer.write_all(answer.as_bytes())?;
     }
     Ok(())
 }
 
 /// The answer to a line, and a line feed.
-fn answer<R: Files + AllocGlobal + Drop + Copy>(rt: R, line: &str) -> Result<String> {
+fn answer(rt: HostRuntime, line: &str) -> io::Result<String> {
     let fields = line.split('\t').collect::<Vec<&str>>(rt.alloc())?;
-    let mut answer = match fields.as_slice() {
-        ["match", pattern, texts @ ..] => match_answer(rt.alloc(), pattern, texts)?,
-        ["captures", letters, pattern, text] => {
-            captures_answer(rt.alloc(), options_of(letters), pattern, text)?
-        }
-        ["walk", letters, limit, pattern] => {
-            walk_answer(rt, options_of(letters), limit.parse::<u64>()?, pattern)?
-        }
-        _ => bail!("no case: {line}"),
-    };
+    let mut answer = String::new(rt.alloc());
+    add_answer(rt, &mut answer, fields.as_slice())?;
     answer.push('\n')?;
     Ok(answer)
 }
 
-/// The answer to `match`.
-fn match_answer(alloc: Global, pattern: &str, texts: &[&str]) -> Result<String> {
-    let mut answer = Pattern::escape(alloc, pattern)?;
-    answer.push('\t')?;
-    match Pattern::new(alloc, pattern) {
-        Ok(pattern) => {
-            answer.push_str("ok\t")?;
-            for text in texts {
-                add_matches(&mut answer, &pattern, text)?;
-            }
+/// Adds the answer to the fields of a line.
+fn add_answer(rt: HostRuntime, answer: &mut String, fields: &[&str]) -> io::Result<()> {
+    match fields {
+        ["match", pattern, texts @ ..] => add_matches(rt.alloc(), answer, pattern, texts),
+        ["captures", letters, pattern, text] => {
+            let pattern = pattern_of(rt.alloc(), pattern)?;
+            add_captures(rt.alloc(), answer, &pattern, text, options_of(letters))
         }
-        Err(refusal) => answer.push_str(fault(alloc, refusal)?.as_str())?,
+        ["walk", letters, limit, pattern] => {
+            add_walk(rt, answer, pattern, options_of(letters), number_of(limit)?)
+        }
+        _ => Err(io::Error::other("no case")),
     }
-    Ok(answer)
+}
+
+/// Adds the answer to `match`.
+fn add_matches(alloc: Global, answer: &mut String, text: &str, texts: &[&str]) -> io::Result<()> {
+    answer.push_str(Pattern::escape(alloc, text)?.as_str())?;
+    match Pattern::new(alloc, text) {
+        Ok(pattern) => {
+            answer.push_str("\tok\t")?;
+            for text in texts {
+                add_settings(answer, &pattern, text)?;
+            }
+            Ok(())
+        }
+        Err(refusal) => {
+            answer.push_str("\tfault\t")?;
+            add_fault(answer, refusal)
+        }
+    }
 }
 
 /// Adds whether a pattern matches a text, under each setting.
-fn add_matches(answer: &mut String, pattern: &Pattern, text: &str) -> Result<()> {
+fn add_settings(answer: &mut String, pattern: &Pattern, text: &str) -> Result<(), AllocError> {
     for setting in SETTINGS {
         let found = pattern.matches_with(text, options_of(setting))?;
         answer.push(if found { 'y' } else { 'n' })?;
@@ -73,39 +80,25 @@ fn add_matches(answer: &mut String, pattern: &Pattern, text: &str) -> Result<()>
     Ok(())
 }
 
-/// The answer to `captures`.
-fn captures_answer(
+/// Adds the answer to `captures`.
+fn add_captures(
     alloc: Global,
-    options: MatchOptions,
-    pattern: &str,
+    answer: &mut String,
+    pattern: &Pattern,
     text: &str,
-) -> Result<String> {
-    let pattern = Pattern::new(alloc, pattern)?;
-    let mut answer = String::new(alloc);
-    for token in tokens(alloc, &pattern)?.as_slice() {
-        add_number(alloc, &mut answer, sign_of(token.kind), token.piece.end)?;
-    }
+    options: MatchOptions,
+) -> io::Result<()> {
+    add_tokens(alloc, answer, pattern)?;
     answer.push('\t')?;
-    match captures(alloc, &pattern, text, options)? {
-        Some(pieces) => {
-            for piece in pieces.as_slice() {
-                add_number(alloc, &mut answer, " ", piece.end)?;
-            }
-        }
-        None => answer.push_str("no")?,
-    }
-    let reached = reach(alloc, &pattern, text, options)?;
-    add_number(alloc, &mut answer, "\t", reached.place)?;
-    for number in reached.waiting.as_slice() {
-        add_number(alloc, &mut answer, " ", *number)?;
-    }
-    Ok(answer)
+    add_pieces(alloc, answer, pattern, text, options)?;
+    add_reach(alloc, answer, pattern, text, options)
 }
 
-/// Adds a number after a sign.
-fn add_number(alloc: Global, answer: &mut String, sign: &str, number: usize) -> Result<()> {
-    let text = format!(in alloc; "{sign}{number}")?;
-    answer.push_str(text.as_str())?;
+/// Adds the kinds of a pattern's tokens, and where each is written up to.
+fn add_tokens(alloc: Global, answer: &mut String, pattern: &Pattern) -> Result<(), AllocError> {
+    for token in tokens(alloc, pattern)?.as_slice() {
+        write!(answer, "{}{}", sign_of(token.kind), token.piece.end)?;
+    }
     Ok(())
 }
 
@@ -121,49 +114,99 @@ fn sign_of(kind: TokenKind) -> &'static str {
     }
 }
 
-/// The answer to `walk`.
-fn walk_answer<R: Files + AllocGlobal + Drop + Copy>(
-    rt: R,
+/// Adds where the pieces of a text end, or that there are none.
+fn add_pieces(
+    alloc: Global,
+    answer: &mut String,
+    pattern: &Pattern,
+    text: &str,
+    options: MatchOptions,
+) -> io::Result<()> {
+    match captures(alloc, pattern, text, options) {
+        Ok(Some(pieces)) => {
+            for piece in pieces.as_slice() {
+                write!(answer, " {}", piece.end)?;
+            }
+            Ok(())
+        }
+        Ok(None) => Ok(answer.push_str("no")?),
+        Err(_) => Err(io::Error::other("no captures")),
+    }
+}
+
+/// Adds how far tokens take a text, and those that wait there.
+fn add_reach(
+    alloc: Global,
+    answer: &mut String,
+    pattern: &Pattern,
+    text: &str,
+    options: MatchOptions,
+) -> io::Result<()> {
+    let Ok(reached) = reach(alloc, pattern, text, options) else {
+        return Err(io::Error::other("no captures"));
+    };
+    write!(answer, "\t{}", reached.place)?;
+    for number in reached.waiting.as_slice() {
+        write!(answer, " {number}")?;
+    }
+    Ok(())
+}
+
+/// Adds the answer to `walk`.
+fn add_walk(
+    rt: HostRuntime,
+    answer: &mut String,
+    pattern: &str,
     options: MatchOptions,
     limit: u64,
-    pattern: &str,
-) -> Result<String> {
+) -> io::Result<()> {
     let disk = Disk::new(rt, rt.alloc());
-    let mut paths = match glob_in(rt.alloc(), disk, pattern, options, limit) {
-        Ok(paths) => paths,
-        Err(refusal) => return fault(rt.alloc(), refusal),
-    };
-    let mut items = String::new(rt.alloc());
+    match glob_in(rt.alloc(), disk, pattern, options, limit) {
+        Ok(paths) => add_items(rt.alloc(), answer, paths),
+        Err(refusal) => {
+            answer.push_str("fault\t")?;
+            add_fault(answer, refusal)
+        }
+    }
+}
+
+/// Adds the units of work of a walk, and its items.
+fn add_items(
+    alloc: Global,
+    answer: &mut String,
+    mut paths: Paths<Disk<HostRuntime>>,
+) -> io::Result<()> {
+    let mut items = String::new(alloc);
     for item in &mut paths {
         add_item(&mut items, &item)?;
     }
-    let spent = paths.spent();
-    Ok(format!(in rt.alloc(); "ok\t{spent}{items}")?)
+    write!(answer, "ok\t{}{}", paths.spent(), items.as_str())?;
+    Ok(())
 }
 
 /// Adds an item of a walk.
-fn add_item(items: &mut String, item: &GlobResult) -> Result<()> {
+fn add_item(items: &mut String, item: &GlobResult) -> io::Result<()> {
     let (sign, path) = match item {
-        Ok(path) => ('=', path.as_path()),
+        Ok(path) => ("\t=", path.as_path()),
         Err(error) => match error.cause() {
-            GlobCause::Read => ('!', error.path()),
-            GlobCause::Limit => ('?', error.path()),
-            GlobCause::Memory => bail!("out of memory"),
+            GlobCause::Read => ("\t!", error.path()),
+            GlobCause::Limit => ("\t?", error.path()),
+            GlobCause::Memory => return Err(io::ErrorKind::OutOfMemory.into()),
         },
     };
-    items.push('\t')?;
-    items.push(sign)?;
+    items.push_str(sign)?;
     items.push_str(path.as_str())?;
     Ok(())
 }
 
-/// The answer to a pattern with a fault.
-fn fault(alloc: Global, refusal: PatternRefusal) -> Result<String> {
+/// Adds the place and the message of a pattern's fault.
+pub fn add_fault(answer: &mut String, refusal: PatternRefusal) -> io::Result<()> {
     match refusal {
         PatternRefusal::Syntax(error) => {
             let (pos, msg) = (error.pos, error.msg);
-            Ok(format!(in alloc; "fault\t{pos}\t{msg}")?)
+            write!(answer, "{pos}\t{msg}")?;
+            Ok(())
         }
-        PatternRefusal::Memory => bail!("out of memory"),
+        PatternRefusal::Memory => Err(io::ErrorKind::OutOfMemory.into()),
     }
 }

@@ -1,28 +1,58 @@
 //! Times captures beside matches, in turn.
 
-use anyhow::{Context, Result, bail};
+use crate::timing::count_matches;
+use crate::words::{lines_of, number_of, options_of, read_pattern, usage};
 use glob::{MatchOptions, Pattern};
-use glob_captures::{CapturesError, captures};
+use glob_captures::captures;
 use std::alloc::{AllocError, Global};
-use std::rt::Clock;
 use std::time::Instant;
+use std::{fs, io};
 
 /// The least times of all rounds, in nanoseconds, and how many of the lines the pattern matches.
 #[derive(Clone, Copy)]
-pub struct Times {
-    pub count: u64,
-    pub matching: u128,
-    pub capturing: u128,
+struct Times {
+    count: u64,
+    matching: u128,
+    capturing: u128,
+}
+
+/// Asks a pattern about the lines of a file, and writes the count and the times.
+pub fn compare_captures(rt: &HostRuntime, words: &[&str]) -> io::Result<()> {
+    let [letters, pattern, file, rounds] = words else {
+        return Err(usage());
+    };
+    let rounds = number_of(rounds)?;
+    let pattern = read_pattern(rt, pattern)?;
+    let text = fs::read_to_string(rt, file)?;
+    write_times(rt, &pattern, options_of(letters), text.as_str(), rounds)
+}
+
+/// Writes the count and the times for all lines of a text, and the times for those that the pattern matches.
+fn write_times(
+    rt: &HostRuntime,
+    pattern: &Pattern,
+    options: MatchOptions,
+    text: &str,
+    rounds: u64,
+) -> io::Result<()> {
+    let lines = lines_of(rt.alloc(), text)?;
+    let all = time_captures(rt, pattern, options, lines.as_slice(), rounds)?;
+    let found = lines_that_match(rt.alloc(), pattern, options, lines.as_slice())?;
+    let some = time_captures(rt, pattern, options, found.as_slice(), rounds)?;
+    println!(rt;
+        "{} {} {} {} {}",
+        all.count, all.matching, all.capturing, some.matching, some.capturing
+    )
 }
 
 /// Asks the pattern about the lines by one call after the other, in rounds. Both have to find as many.
-pub fn time_captures<R: Clock + AllocGlobal>(
-    rt: &R,
+fn time_captures(
+    rt: &HostRuntime,
     pattern: &Pattern,
     options: MatchOptions,
     lines: &[&str],
-    rounds: u32,
-) -> Result<Times> {
+    rounds: u64,
+) -> io::Result<Times> {
     let mut times = Times {
         count: 0,
         matching: u128::MAX,
@@ -30,34 +60,16 @@ pub fn time_captures<R: Clock + AllocGlobal>(
     };
     for _ in 0..rounds {
         let start = Instant::now(rt)?;
-        times.count = count_matches(pattern, options, lines)?;
+        times.count = count_matches(pattern, options, lines, 1)?;
         times.matching = times.matching.min(start.elapsed(rt)?.as_nanos());
         let start = Instant::now(rt)?;
-        let captured = count_captures(rt.alloc(), pattern, options, lines)
-            .ok()
-            .context("no captures")?;
+        let captured = count_captures(rt.alloc(), pattern, options, lines)?;
         times.capturing = times.capturing.min(start.elapsed(rt)?.as_nanos());
         if captured != times.count {
-            bail!("{captured} captures of {} matches", times.count);
+            return Err(io::Error::other("other captures than matches"));
         }
     }
     Ok(times)
-}
-
-/// How many of the lines the pattern matches.
-#[inline(never)]
-fn count_matches(
-    pattern: &Pattern,
-    options: MatchOptions,
-    lines: &[&str],
-) -> Result<u64, AllocError> {
-    let mut count = 0u64;
-    for line in lines {
-        if pattern.matches_with(line, options)? {
-            count = count.saturating_add(1);
-        }
-    }
-    Ok(count)
 }
 
 /// How many of the lines have captures.
@@ -67,10 +79,13 @@ fn count_captures(
     pattern: &Pattern,
     options: MatchOptions,
     lines: &[&str],
-) -> Result<u64, CapturesError> {
+) -> io::Result<u64> {
     let mut count = 0u64;
     for line in lines {
-        if captures(alloc, pattern, line, options)?.is_some() {
+        let Ok(found) = captures(alloc, pattern, line, options) else {
+            return Err(io::Error::other("no captures"));
+        };
+        if found.is_some() {
             count = count.saturating_add(1);
         }
     }
@@ -78,13 +93,13 @@ fn count_captures(
 }
 
 /// Those of the lines that the pattern matches.
-pub fn lines_that_match<'a>(
-    rt: &impl AllocGlobal,
+fn lines_that_match<'a>(
+    alloc: Global,
     pattern: &Pattern,
     options: MatchOptions,
     lines: &[&'a str],
 ) -> Result<Vec<&'a str>, AllocError> {
-    let mut found = Vec::new(rt.alloc());
+    let mut found = Vec::new(alloc);
     for line in lines {
         if pattern.matches_with(line, options)? {
             found.push(*line)?;

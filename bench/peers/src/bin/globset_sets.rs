@@ -1,4 +1,4 @@
-//! `globset`'s sets, as a program that takes the words `set` and `make` of `crates/glob_set_bench`. A set is asked about all
+//! `globset`'s sets, as a program that takes the words `set` and `make` of `crates/glob_bench`. A set is asked about all
 //! lines once before the time begins, since it keeps what it learns from texts.
 
 use globset::{GlobBuilder, GlobSet, GlobSetBuilder};

@@ -1,0 +1,112 @@
+//! Times matching, reading patterns, and walks.
+
+use crate::chain::Chain;
+use crate::words::{
+    lines_of, number_of, options_of, pattern_of, pattern_text, read_pattern, usage, write_count,
+};
+use glob::{MatchOptions, Pattern, glob_in};
+use std::alloc::{AllocError, Global};
+use std::time::Instant;
+use std::{fs, io};
+
+/// Matches the lines of a file over and over.
+pub fn match_file(rt: &HostRuntime, words: &[&str]) -> io::Result<()> {
+    let [letters, pattern, file, times] = words else {
+        return Err(usage());
+    };
+    let times = number_of(times)?;
+    let pattern = read_pattern(rt, pattern)?;
+    let text = fs::read_to_string(rt, file)?;
+    match_lines(rt, &pattern, options_of(letters), text.as_str(), times)
+}
+
+/// Matches the lines of a text over and over.
+fn match_lines(
+    rt: &HostRuntime,
+    pattern: &Pattern,
+    options: MatchOptions,
+    text: &str,
+    times: u64,
+) -> io::Result<()> {
+    let lines = lines_of(rt.alloc(), text)?;
+    let start = Instant::now(rt)?;
+    let count = count_matches(pattern, options, lines.as_slice(), times)?;
+    write_count(rt, count, start)
+}
+
+/// How many of the lines the pattern matches, `times` times over.
+#[inline(never)]
+pub fn count_matches(
+    pattern: &Pattern,
+    options: MatchOptions,
+    lines: &[&str],
+    times: u64,
+) -> Result<u64, AllocError> {
+    let mut count = 0u64;
+    for _ in 0..times {
+        for line in lines {
+            if pattern.matches_with(line, options)? {
+                count = count.saturating_add(1);
+            }
+        }
+    }
+    Ok(count)
+}
+
+/// Reads a pattern over and over.
+pub fn compile_pattern(rt: &HostRuntime, words: &[&str]) -> io::Result<()> {
+    let [pattern, times] = words else {
+        return Err(usage());
+    };
+    let times = number_of(times)?;
+    let text = pattern_text(rt, pattern)?;
+    let start = Instant::now(rt)?;
+    let count = count_bytes(rt.alloc(), text.as_str(), times)?;
+    write_count(rt, count, start)
+}
+
+/// How many bytes of patterns are read, `times` times over.
+fn count_bytes(alloc: Global, text: &str, times: u64) -> io::Result<u64> {
+    let mut count = 0u64;
+    for _ in 0..times {
+        let pattern = pattern_of(alloc, text)?;
+        count = count.saturating_add(pattern.as_str().len() as u64);
+    }
+    Ok(count)
+}
+
+/// Walks over so many levels over and over.
+pub fn walk_levels(rt: &HostRuntime, words: &[&str]) -> io::Result<()> {
+    let [pattern, levels, times] = words else {
+        return Err(usage());
+    };
+    let levels = number_of(levels)?;
+    let times = number_of(times)?;
+    let text = pattern_text(rt, pattern)?;
+    let start = Instant::now(rt)?;
+    let count = count_items(rt.alloc(), text.as_str(), levels, times)?;
+    write_count(rt, count, start)
+}
+
+/// How many items walks over so many levels give, `times` times over.
+fn count_items(alloc: Global, pattern: &str, levels: u64, times: u64) -> io::Result<u64> {
+    let mut count = 0u64;
+    for _ in 0..times {
+        let items = count_walk(alloc, pattern, levels)?;
+        count = count.saturating_add(items);
+    }
+    Ok(count)
+}
+
+/// How many items a walk over so many levels gives.
+fn count_walk(alloc: Global, pattern: &str, levels: u64) -> io::Result<u64> {
+    let tree = Chain::new(alloc, levels as usize);
+    let Ok(paths) = glob_in(alloc, tree, pattern, MatchOptions::new(), u64::MAX) else {
+        return Err(io::Error::other("no pattern"));
+    };
+    let mut count = 0u64;
+    for _ in paths {
+        count = count.saturating_add(1);
+    }
+    Ok(count)
+}

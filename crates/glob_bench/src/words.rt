@@ -1,0 +1,62 @@
+//! What the words of a command line stand for.
+
+use glob::{MatchOptions, Pattern};
+use std::alloc::Global;
+use std::time::Instant;
+use std::{fs, io};
+
+/// The error of words that no command takes.
+pub fn usage() -> io::Error {
+    io::Error::other("these words are no command, see src/main.rt")
+}
+
+/// The options that the letters of a word stand for.
+pub fn options_of(letters: &str) -> MatchOptions {
+    MatchOptions {
+        case_sensitive: !letters.contains('i'),
+        require_literal_separator: letters.contains('s'),
+        require_literal_leading_dot: letters.contains('d'),
+    }
+}
+
+/// The number that a word stands for.
+pub fn number_of(word: &str) -> io::Result<u64> {
+    match word.parse::<u64>() {
+        Ok(number) => Ok(number),
+        Err(_) => Err(io::Error::other("no number")),
+    }
+}
+
+/// The text of a pattern that a word stands for: its own, or that of a file.
+pub fn pattern_text(rt: &HostRuntime, word: &str) -> io::Result<String> {
+    match word.strip_prefix('@') {
+        Some(file) => fs::read_to_string(rt, file),
+        None => Ok(String::from_str(rt.alloc(), word)?),
+    }
+}
+
+/// The pattern of a text.
+pub fn pattern_of(alloc: Global, text: &str) -> io::Result<Pattern> {
+    match Pattern::new(alloc, text) {
+        Ok(pattern) => Ok(pattern),
+        Err(_) => Err(io::Error::other("no pattern")),
+    }
+}
+
+/// The pattern that a word stands for.
+pub fn read_pattern(rt: &HostRuntime, word: &str) -> io::Result<Pattern> {
+    let text = pattern_text(rt, word)?;
+    pattern_of(rt.alloc(), text.as_str())
+}
+
+/// The lines of a text.
+pub fn lines_of(alloc: Global, text: &str) -> io::Result<Vec<&str>> {
+    Ok(text.lines().collect::<Vec<&str>>(alloc)?)
+}
+
+/// Writes a count, and how long ago the work on it began.
+pub fn write_count(rt: &HostRuntime, count: u64, start: Instant) -> io::Result<()> {
+    let nanoseconds = start.elapsed(rt)?.as_nanos();
+    println!(rt; "{count}")?;
+    eprintln!(rt; "{nanoseconds}")
+}
