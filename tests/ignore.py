@@ -5,7 +5,7 @@
 
 Goes on for so many seconds, or over so many lists (2,000). Says how many questions there were, which lists were refused,
 and each difference; docs/IGNORE.md has those that are let pass. The last line counts lists: 'N passed, M failed'. Without
-git it asks nothing."""
+git it asks nothing. The program is glob_bench, as it was last built."""
 
 import argparse
 import os

@@ -1,5 +1,5 @@
-//! Answers cases: a line of standard output for each line of standard input. Fields stand between tabs. The crate's side
-//! is `bench/original/src/bin/answer.rs`.
+//! Answers cases: a line of standard output for each line of standard input. Fields stand between tabs. The crate's
+//! side is `bench/original/src/bin/answer.rs`.
 //!
 //! - `match PATTERN TEXT ..` is answered by the escaped pattern and then `ok` and, for each text, eight letters `y` or
 //!   `n`, one for each setting of the options.
@@ -9,20 +9,17 @@
 //!   path, `!` and the path of a directory that could not be listed, or `?` and the path of the limit's refusal.
 //! - A pattern with a fault is answered by `fault`, its place and its message in place of `ok` and what follows.
 
-use crate::words::{number_of, options_of, pattern_of};
+use crate::words::{number_of, options_of, pattern_of, unfit};
 use glob::{Disk, GlobCause, GlobResult, MatchOptions, Paths, Pattern, PatternRefusal, glob_in};
 use glob_captures::{TokenKind, captures, reach, tokens};
 use std::alloc::{AllocError, Global};
-use std::io::{self, BufRead, BufReader, Write};
-
-/// Each setting of the options, as `options_of` reads it.
-const SETTINGS: [&str; 8] = ["", "d", "s", "sd", "i", "id", "is", "isd"];
+use std::io::{self, Write};
+use std::path::Path;
 
 /// Answers each line of standard input, and writes each answer at once.
 pub fn answer_lines(rt: HostRuntime) -> io::Result<()> {
-    let lines = BufReader::new(rt.alloc(), rt.reader())?.lines(rt.alloc());
     let mut writer = io::writer(&rt);
-    for line in lines {
+    for line in rt.lines(rt.alloc()) {
         let answer = answer(rt, line?.as_str())?;
         writer.write_all(answer.as_bytes())?;
     }
@@ -49,7 +46,7 @@ fn add_answer(rt: HostRuntime, answer: &mut String, fields: &[&str]) -> io::Resu
         ["walk", letters, limit, pattern] => {
             add_walk(rt, answer, pattern, options_of(letters), number_of(limit)?)
         }
-        _ => Err(io::Error::other("no case")),
+        _ => Err(unfit()),
     }
 }
 
@@ -71,13 +68,22 @@ fn add_matches(alloc: Global, answer: &mut String, text: &str, texts: &[&str]) -
     }
 }
 
-/// Adds whether a pattern matches a text, under each setting.
+/// Adds whether a pattern matches a text, under each of the eight settings of the options.
 fn add_settings(answer: &mut String, pattern: &Pattern, text: &str) -> Result<(), AllocError> {
-    for setting in SETTINGS {
-        let found = pattern.matches_with(text, options_of(setting))?;
+    for setting in 0..8 {
+        let found = pattern.matches_with(text, setting_of(setting))?;
         answer.push(if found { 'y' } else { 'n' })?;
     }
     Ok(())
+}
+
+/// The setting of this number, whose binary digits are no case, the separator rule and the dot rule.
+fn setting_of(number: u8) -> MatchOptions {
+    MatchOptions {
+        case_sensitive: number < 4,
+        require_literal_separator: number % 4 >= 2,
+        require_literal_leading_dot: number % 2 == 1,
+    }
 }
 
 /// Adds the answer to `captures`.
@@ -97,7 +103,7 @@ fn add_captures(
 /// Adds the kinds of a pattern's tokens, and where each is written up to.
 fn add_tokens(alloc: Global, answer: &mut String, pattern: &Pattern) -> Result<(), AllocError> {
     for token in tokens(alloc, pattern)?.as_slice() {
-        write!(answer, "{}{}", sign_of(token.kind), token.piece.end)?;
+        write!(answer, " {} {}", sign_of(token.kind), token.piece.end)?;
     }
     Ok(())
 }
@@ -105,12 +111,12 @@ fn add_tokens(alloc: Global, answer: &mut String, pattern: &Pattern) -> Result<(
 /// A sign for a kind of token.
 fn sign_of(kind: TokenKind) -> &'static str {
     match kind {
-        TokenKind::Literal => " literal ",
-        TokenKind::AnyChar => " ? ",
-        TokenKind::AnySequence => " * ",
-        TokenKind::Recursive => " ** ",
-        TokenKind::OneOf => " [] ",
-        TokenKind::NoneOf => " [!] ",
+        TokenKind::Literal => "literal",
+        TokenKind::AnyChar => "?",
+        TokenKind::AnySequence => "*",
+        TokenKind::Recursive => "**",
+        TokenKind::OneOf => "[]",
+        TokenKind::NoneOf => "[!]",
     }
 }
 
@@ -130,7 +136,7 @@ fn add_pieces(
             Ok(())
         }
         Ok(None) => Ok(answer.push_str("no")?),
-        Err(_) => Err(io::Error::other("no captures")),
+        Err(_) => Err(unfit()),
     }
 }
 
@@ -143,7 +149,7 @@ fn add_reach(
     options: MatchOptions,
 ) -> io::Result<()> {
     let Ok(reached) = reach(alloc, pattern, text, options) else {
-        return Err(io::Error::other("no captures"));
+        return Err(unfit());
     };
     write!(answer, "\t{}", reached.place)?;
     for number in reached.waiting.as_slice() {
@@ -186,25 +192,28 @@ fn add_items(
 
 /// Adds an item of a walk.
 fn add_item(items: &mut String, item: &GlobResult) -> io::Result<()> {
-    let (sign, path) = match item {
-        Ok(path) => ("\t=", path.as_path()),
+    match item {
+        Ok(path) => Ok(add_path(items, '=', path.as_path())?),
         Err(error) => match error.cause() {
-            GlobCause::Read => ("\t!", error.path()),
-            GlobCause::Limit => ("\t?", error.path()),
-            GlobCause::Memory => return Err(io::ErrorKind::OutOfMemory.into()),
+            GlobCause::Read => Ok(add_path(items, '!', error.path())?),
+            GlobCause::Limit => Ok(add_path(items, '?', error.path())?),
+            GlobCause::Memory => Err(io::ErrorKind::OutOfMemory.into()),
         },
-    };
-    items.push_str(sign)?;
-    items.push_str(path.as_str())?;
-    Ok(())
+    }
+}
+
+/// Adds a path after a sign.
+fn add_path(items: &mut String, sign: char, path: Path<'_>) -> Result<(), AllocError> {
+    items.push('\t')?;
+    items.push(sign)?;
+    items.push_str(path.as_str())
 }
 
 /// Adds the place and the message of a pattern's fault.
 pub fn add_fault(answer: &mut String, refusal: PatternRefusal) -> io::Result<()> {
     match refusal {
         PatternRefusal::Syntax(error) => {
-            let (pos, msg) = (error.pos, error.msg);
-            write!(answer, "{pos}\t{msg}")?;
+            write!(answer, "{}\t{}", error.pos, error.msg)?;
             Ok(())
         }
         PatternRefusal::Memory => Err(io::ErrorKind::OutOfMemory.into()),

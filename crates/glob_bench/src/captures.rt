@@ -1,7 +1,7 @@
 //! Times captures beside matches, in turn.
 
 use crate::timing::count_matches;
-use crate::words::{lines_of, number_of, options_of, read_pattern, usage};
+use crate::words::{lines_of, number_of, options_of, read_pattern, unfit};
 use glob::{MatchOptions, Pattern};
 use glob_captures::captures;
 use std::alloc::{AllocError, Global};
@@ -19,7 +19,7 @@ struct Times {
 /// Asks a pattern about the lines of a file, and writes the count and the times.
 pub fn compare_captures(rt: &HostRuntime, words: &[&str]) -> io::Result<()> {
     let [letters, pattern, file, rounds] = words else {
-        return Err(usage());
+        return Err(unfit());
     };
     let rounds = number_of(rounds)?;
     let pattern = read_pattern(rt, pattern)?;
@@ -66,7 +66,7 @@ fn time_captures(
         let captured = count_captures(rt.alloc(), pattern, options, lines)?;
         times.capturing = times.capturing.min(start.elapsed(rt)?.as_nanos());
         if captured != times.count {
-            return Err(io::Error::other("other captures than matches"));
+            return Err(io::Error::other("captures differ"));
         }
     }
     Ok(times)
@@ -83,7 +83,7 @@ fn count_captures(
     let mut count = 0u64;
     for line in lines {
         let Ok(found) = captures(alloc, pattern, line, options) else {
-            return Err(io::Error::other("no captures"));
+            return Err(unfit());
         };
         if found.is_some() {
             count = count.saturating_add(1);

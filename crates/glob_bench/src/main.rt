@@ -5,21 +5,21 @@
 //! - `match OPTIONS PATTERN FILE TIMES` counts the lines of a file that the pattern matches, over and over.
 //! - `compile PATTERN TIMES` reads the pattern over and over, and counts the bytes of all that it read.
 //! - `walk PATTERN LEVELS TIMES` counts the items of a walk over so many directories, one in another, over and over.
-//! - `set OPTIONS PATTERNS QUESTION FILE TIMES` asks a set of the patterns that are the lines of a file about each line of
-//!   another, over and over: `any` counts the lines that a pattern matches, and `first`, `last` or `all` add up the numbers
-//!   of those patterns, counted from 1.
+//! - `set OPTIONS PATTERNS QUESTION FILE TIMES` asks a set of the patterns that are the lines of a file about each line
+//!   of another, over and over: `any` counts the lines that a pattern matches, and `first`, `last` or `all` add up the
+//!   numbers of those patterns, counted from 1. Making the set is not timed.
 //! - `make OPTIONS PATTERNS TIMES` makes such a set over and over, and counts its patterns.
 //!
-//! These print no time on standard error.
+//! These write nothing on standard error.
 //!
-//! - `captures OPTIONS PATTERN FILE ROUNDS` prints how many lines of a file the pattern matches, and the least times of all
-//!   rounds, of a match and of captures in turn: of both for all lines, and of both for those that match.
+//! - `captures OPTIONS PATTERN FILE ROUNDS` prints how many lines of a file the pattern matches, and the least times of
+//!   all rounds, of a match and of captures in turn: of both for all lines, and of both for those that match.
 //! - `answer` answers the cases of `bench/run --random`, `tests/walks.py` and `tests/captures.py`, line by line.
 //! - `rules` asks ignore lists about paths, for `tests/ignore.py`.
-//! - `replay` compares `glob` with the tables of this folder, as they are in `data`.
+//! - `replay` compares `glob` with the tables of `data`, which lie in the folder that it runs in.
 //!
-//! OPTIONS is a word that has `i` for no case, `s` for the separator rule and `d` for the dot rule, as `sd` or `-`. A PATTERN
-//! `@FILE` is the text of a file, since a word of a command line cannot be long.
+//! OPTIONS is a word that has `i` for no case, `s` for the separator rule and `d` for the dot rule, as `sd` or `-`. A
+//! PATTERN `@FILE` is the text of a file, since a word of a command line cannot be long.
 #![tactic(auto)]
 
 mod answer;
@@ -39,7 +39,7 @@ use rules::ask_lists;
 use sets::{ask_set, make_sets};
 use std::io;
 use timing::{compile_pattern, match_file, walk_levels};
-use words::usage;
+use words::unfit;
 
 /// Does what the command says with the words after it.
 fn run(rt: HostRuntime, command: &str, words: &[&str]) -> io::Result<()> {
@@ -53,7 +53,7 @@ fn run(rt: HostRuntime, command: &str, words: &[&str]) -> io::Result<()> {
         "answer" => answer_lines(rt),
         "rules" => ask_lists(&rt),
         "replay" => replay_tables(&rt),
-        _ => Err(usage()),
+        _ => Err(unfit()),
     }
 }
 
@@ -62,6 +62,6 @@ fn main(rt: HostRuntime) -> io::Result<()> {
     let words = words_of(rt.alloc(), arguments.as_slice())?;
     match words.as_slice() {
         [command, words @ ..] => run(rt, command, words),
-        [] => Err(usage()),
+        [] => Err(unfit()),
     }
 }

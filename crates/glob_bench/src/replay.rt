@@ -8,7 +8,7 @@
 //! - how a text is escaped: the text, and the pattern that is written for it and matches it.
 
 use crate::answer::add_fault;
-use crate::words::pattern_of;
+use crate::words::{number_of, pattern_of};
 use glob::{MatchOptions, Pattern};
 use std::alloc::{AllocError, Global};
 use std::{fs, io};
@@ -56,7 +56,7 @@ fn replay(rt: &HostRuntime, name: &str, table: Rows, text: &str) -> io::Result<(
     }
     println!(rt; "{name}: {rows} rows, {disagree} disagree")?;
     if disagree != 0 {
-        return Err(io::Error::other("the library disagrees with a table"));
+        return Err(io::Error::other("rows disagree"));
     }
     Ok(())
 }
@@ -126,7 +126,7 @@ fn is_answer(
 ) -> Result<bool, AllocError> {
     let found = pattern.matches_with(text, options)?;
     let (counted, questions) = pattern.matches_counted(text, options)?;
-    let is_answer = answer == if found { "y" } else { "n" };
+    let is_answer = matches!((found, answer), (true, "y") | (false, "n"));
     Ok(is_answer && counted == found && are_within(questions, most, pattern.as_str(), text))
 }
 
@@ -135,7 +135,10 @@ fn are_within(questions: u128, most: &[&str], pattern: &str, text: &str) -> bool
     let (tokens, characters) = (pattern.chars().count(), text.chars().count());
     match most {
         [] => questions <= tokens.saturating_mul(characters) as u128,
-        [most] => most.parse::<u128>().is_ok_and(|most| questions <= most),
+        [most] => match number_of(most) {
+            Ok(most) => questions <= u128::from(most),
+            Err(_) => false,
+        },
         _ => false,
     }
 }

@@ -1,6 +1,6 @@
-//! Asks ignore lists about paths. Standard input has records that end in NUL: `L` and a list, whose questions follow; `f`
-//! and the path of a file; `d` and that of a directory. For each question a line is printed: the line of the rule that
-//! decides, or 0; for a list that is refused `R` and the line.
+//! Asks ignore lists about paths. Standard input has records that end in NUL: `L` and a list, whose questions follow;
+//! `f` and the path of a file; `d` and that of a directory. For each question a line is printed: the line of the rule
+//! that decides, or 0; for a list that is refused `R` and the line.
 
 use glob_rules::IgnoreList;
 use std::io;
@@ -44,7 +44,7 @@ fn ask(rt: &HostRuntime, list: &Option<IgnoreList>, path: &str, is_dir: bool) ->
         return Ok(());
     };
     match list.deciding_rule(path, is_dir)? {
-        Some(rule) => println!(rt; "{}", rule.line),
-        None => println!(rt; "0"),
+        Some(rule) => rt.println(rule.line),
+        None => rt.println("0"),
     }
 }

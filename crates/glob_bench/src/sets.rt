@@ -1,6 +1,6 @@
 //! Times sets of patterns.
 
-use crate::words::{lines_of, number_of, options_of, usage, write_count};
+use crate::words::{lines_of, number_of, options_of, unfit, write_count};
 use glob_set::PatternSet;
 use std::alloc::{AllocError, Global};
 use std::time::Instant;
@@ -26,7 +26,7 @@ fn question_of(word: &str) -> io::Result<Question> {
         "first" => Ok(Question::First),
         "last" => Ok(Question::Last),
         "all" => Ok(Question::All),
-        _ => Err(io::Error::other("no question")),
+        _ => Err(unfit()),
     }
 }
 
@@ -35,7 +35,7 @@ fn set_of(alloc: Global, text: &str, letters: &str) -> io::Result<PatternSet> {
     let lines = lines_of(alloc, text)?;
     match PatternSet::from_texts(alloc, lines.as_slice(), options_of(letters)) {
         Ok(set) => Ok(set),
-        Err(_) => Err(io::Error::other("no patterns")),
+        Err(_) => Err(unfit()),
     }
 }
 
@@ -48,7 +48,7 @@ fn read_set(rt: &HostRuntime, file: &str, letters: &str) -> io::Result<PatternSe
 /// Makes sets of the lines of a file over and over.
 pub fn make_sets(rt: &HostRuntime, words: &[&str]) -> io::Result<()> {
     let [letters, file, times] = words else {
-        return Err(usage());
+        return Err(unfit());
     };
     let times = number_of(times)?;
     let text = fs::read_to_string(rt, file)?;
@@ -70,7 +70,7 @@ fn count_patterns(alloc: Global, text: &str, letters: &str, times: u64) -> io::R
 /// Asks a set about the lines of a file over and over.
 pub fn ask_set(rt: &HostRuntime, words: &[&str]) -> io::Result<()> {
     let [letters, patterns, question, file, times] = words else {
-        return Err(usage());
+        return Err(unfit());
     };
     let question = question_of(question)?;
     let times = number_of(times)?;

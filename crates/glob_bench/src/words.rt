@@ -5,9 +5,9 @@ use std::alloc::Global;
 use std::time::Instant;
 use std::{fs, io};
 
-/// The error of words that no command takes.
-pub fn usage() -> io::Error {
-    io::Error::other("these words are no command, see src/main.rt")
+/// The error of words, lines or files that are not what a command takes. Long texts are slow to prove, so it says little.
+pub fn unfit() -> io::Error {
+    io::Error::other("unfit input")
 }
 
 /// The options that the letters of a word stand for.
@@ -23,7 +23,7 @@ pub fn options_of(letters: &str) -> MatchOptions {
 pub fn number_of(word: &str) -> io::Result<u64> {
     match word.parse::<u64>() {
         Ok(number) => Ok(number),
-        Err(_) => Err(io::Error::other("no number")),
+        Err(_) => Err(unfit()),
     }
 }
 
@@ -39,7 +39,7 @@ pub fn pattern_text(rt: &HostRuntime, word: &str) -> io::Result<String> {
 pub fn pattern_of(alloc: Global, text: &str) -> io::Result<Pattern> {
     match Pattern::new(alloc, text) {
         Ok(pattern) => Ok(pattern),
-        Err(_) => Err(io::Error::other("no pattern")),
+        Err(_) => Err(unfit()),
     }
 }
 
@@ -57,6 +57,6 @@ pub fn lines_of(alloc: Global, text: &str) -> io::Result<Vec<&str>> {
 /// Writes a count, and how long ago the work on it began.
 pub fn write_count(rt: &HostRuntime, count: u64, start: Instant) -> io::Result<()> {
     let nanoseconds = start.elapsed(rt)?.as_nanos();
-    println!(rt; "{count}")?;
-    eprintln!(rt; "{nanoseconds}")
+    rt.println(count)?;
+    rt.eprintln(nanoseconds)
 }
