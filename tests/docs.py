@@ -45,7 +45,7 @@ EXAMPLES = {
         "crates/glob_examples/src/one_file.rt",
         "crates/glob_examples/src/one_file.rt",
         "crates/glob_examples/proofs/one_file/walk_over_main/Answers.antt",
-        "crates/glob_names/src/judge.rt",
+        "crates/glob_examples/src/names/judge.rt",
     ],
 }
 

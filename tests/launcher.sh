@@ -77,7 +77,7 @@ asked 'a line of crates.txt for a crate of the program builds anew' 'match x\n'
 for folder in must-fail mutants; do
     mkdir "$work/a copy/crates/glob_walk/$folder" && touch "$work/a copy/crates/glob_walk/$folder/some.edit"
 done
-touch "$work/a copy/crates/glob_names/src/lib.rt"
+touch "$work/a copy/crates/glob_examples/src/lib.rt"
 run match x
 asked 'a source of another crate, or a wrong body, builds nothing' 'match x\n'
 touch "$work/a copy/crates/glob_tree/src/lib.rt"

@@ -1,3 +1,6 @@
+pub mod Aligned
 pub mod Chosen
+pub mod NameSplits
 pub mod OneFile
+pub mod Refusals
 pub mod WalkFaults

@@ -1,4 +1,6 @@
 pub mod Copying
+pub mod NameTable
+pub mod Names
 pub mod OneFile
 pub mod Sources
 pub mod WalkFaults

@@ -4,6 +4,7 @@
 pub mod copy;
 pub mod faults;
 pub mod literals;
+pub mod names;
 pub mod one_file;
 pub mod sources;
 pub mod texts;

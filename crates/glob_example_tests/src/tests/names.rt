@@ -1,6 +1,6 @@
 //! Patterns that are decided name by name.
 use glob::{Pattern, PatternRefusal};
-use glob_names::PathPattern;
+use glob_examples::names::PathPattern;
 use glob_testing::texts::text_of;
 use std::process::Abort;
 

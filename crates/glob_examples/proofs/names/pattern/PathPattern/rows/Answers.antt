@@ -3,8 +3,8 @@ use Rattle.std.proofs.lemmas.Iterator.Consumers.{YieldsList-end}
 use Rattle.std.proofs.lemmas.Iterator.Splits.{YieldsList-from_str_split}
 use Rattle.std.proofs.lemmas.List.{map-append}
 use Rattle.glob.specs.Characters.{slash}
-use Rattle.glob_names.proofs.Aligned.{AreAligned-push}
-use Rattle.glob_names.proofs.pattern.PathPattern.rows.Goals as goal
+use Rattle.glob_examples.proofs.Aligned.{AreAligned-push}
+use Rattle.glob_examples.proofs.names.pattern.PathPattern.rows.Goals as goal
 
 pub loop-name-preserved : goal.loop-name-preserved
 loop-name-preserved g c =

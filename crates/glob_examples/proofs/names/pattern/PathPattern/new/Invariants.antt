@@ -1,8 +1,8 @@
 use Rattle.std.proofs.Common.{◌≡◌, map}
 use Rattle.std.specs.List.{All}
-use Rattle.glob_names.specs.Names.{IsComponent}
-use Rattle.glob_names.specs.NameTable.{shape_of}
-use Rattle.glob_names.proofs.pattern.PathPattern.new.Given as goal
+use Rattle.glob_examples.specs.Names.{IsComponent}
+use Rattle.glob_examples.specs.NameTable.{shape_of}
+use Rattle.glob_examples.proofs.names.pattern.PathPattern.new.Given as goal
 
 abbrev pub invariant-loop-component : goal.invariant-loop-component
 invariant-loop-component g l = record {

@@ -2,10 +2,10 @@ use Rattle.std.proofs.Common.{◌≡◌, ◌<◌, ◌^◌, ◌∙◌, [], get_or
 use Rattle.std.proofs.lemmas.List.{length-map}
 use Rattle.std.proofs.lemmas.Result.{IfOk-weaker}
 use Rattle.glob_pattern.proofs.Counts.{product_fits}
-use Rattle.glob_names.specs.Names.{names_of}
-use Rattle.glob_names.specs.NameTable.{shape_of, table_of}
-use Rattle.glob_names.proofs.NameSplits.{NamesSplit-by_table}
-use Rattle.glob_names.proofs.pattern.PathPattern.matches.Goals as goal
+use Rattle.glob_examples.specs.Names.{names_of}
+use Rattle.glob_examples.specs.NameTable.{shape_of, table_of}
+use Rattle.glob_examples.proofs.NameSplits.{NamesSplit-by_table}
+use Rattle.glob_examples.proofs.names.pattern.PathPattern.matches.Goals as goal
 
 pub new-judge-requires : goal.new-judge-requires
 new-judge-requires g c = λ k d below.

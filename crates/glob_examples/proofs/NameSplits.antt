@@ -11,8 +11,8 @@ use Rattle.glob_pattern.specs.declared.matcher.Shape.{Shape}
 use Rattle.glob_pattern.specs.declared.matcher.Shape.TheVariants.{One, Run}
 use Rattle.glob_pattern.proofs.Places.{get_or-at_drop, drop-at_drop, length-at_drop, length-at_end, drop-after_piece, get_or-in_piece, length-after_piece}
 use Rattle.glob_pattern.proofs.MatchingLemmas.Splits.{MayReach-le, SplitsFrom-within}
-use Rattle.glob_names.specs.Names.{any_names, StandsFor, NamesSplit}
-use Rattle.glob_names.specs.NameTable.{TakesName, shape_of, AreAligned, IsRow, table_of}
+use Rattle.glob_examples.specs.Names.{any_names, StandsFor, NamesSplit}
+use Rattle.glob_examples.specs.NameTable.{TakesName, shape_of, AreAligned, IsRow, table_of}
 
 -- the table has the names for characters, and its tokens take what the components take
 pub record KnowsNames (table : Table) (components names : List (List ℕ)) : Type 0 where

@@ -8,7 +8,7 @@ use Rattle.std.specs.List.{All}
 use Rattle.std.specs.Str.{chars}
 use Rattle.glob.specs.Grammar.Faults.{Refuses}
 use Rattle.glob_pattern.specs.declared.error.PatternRefusal.{PatternRefusal}
-use Rattle.glob_names.specs.Names.{IsComponent, RefusesComponent}
+use Rattle.glob_examples.specs.Names.{IsComponent, RefusesComponent}
 
 -- what is in a list from place n on
 drop_from : {X : Type 0} (xs : List X) (n : ℕ) (x : X) → n < length xs → x ≡ get_or xs n x → drop n xs ≡ x ∷ drop (n + 1) xs

@@ -6,7 +6,7 @@ use Rattle.glob.specs.Matching.Options.{new_options}
 use Rattle.glob.specs.Matching.Splits.{Table}
 use Rattle.glob_pattern.specs.declared.matcher.Shape.{Shape}
 use Rattle.glob_pattern.specs.declared.matcher.Shape.TheVariants.{One, Run}
-use Rattle.glob_names.specs.Names.{any_names}
+use Rattle.glob_examples.specs.Names.{any_names}
 
 -- a component as a token: `**` takes any number of names, and another component one
 abbrev pub shape_of : (component : List ℕ) → Shape

@@ -2,7 +2,7 @@
 use Rattle.std.proofs.Common.{◌≡◌, ◌<◌, ◌≢◌, ⊎_elim, List, [], ◌∷◌, ◌++◌, length, sym, subst₂, arith}
 use Rattle.std.proofs.lemmas.Bool.{cases_eq}
 use Rattle.std.proofs.lemmas.List.{get_or_append_left, get_or_push, length_push}
-use Rattle.glob_names.specs.NameTable.{AreAligned}
+use Rattle.glob_examples.specs.NameTable.{AreAligned}
 
 -- Lists that go together still do with one more at the end of each.
 pub AreAligned-push : {X Y : Type 0} (R : X → Y → Type 0) (xs : List X) (ys : List Y) (x : X) (y : Y) → AreAligned R xs ys → R x y → AreAligned R (xs ++ x ∷ []) (ys ++ y ∷ [])

@@ -1,8 +1,8 @@
 ghost use Rattle.std.specs.Prelude.{◌≡◌, ◌↔◌, IsTrue, IfOk, IfErr, All};
-ghost use Rattle.glob_names.specs.Names as names;
-ghost use Rattle.glob_names.specs.NameTable as table;
+ghost use Rattle.glob_examples.specs.Names as names;
+ghost use Rattle.glob_examples.specs.NameTable as table;
 
-use crate::judge::NameJudge;
+use crate::names::judge::NameJudge;
 use glob::{Pattern, PatternRefusal, Shape, run_positions};
 use std::alloc::{AllocError, Allocator, Global};
 use std::marker::Model;
@@ -22,7 +22,7 @@ pub struct PathPattern<A: Allocator = Global> {
 // Clauses see the components.
 impl<A: Allocator> Model for PathPattern<A> {
     ghost use Rattle.std.specs.Prelude.{◌≡◌, List, ℕ, map};
-    ghost use Rattle.glob_names.specs.NameTable.{shape_of};
+    ghost use Rattle.glob_examples.specs.NameTable.{shape_of};
 
     ghost Value = { List (List ℕ) };
 

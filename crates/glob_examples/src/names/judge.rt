@@ -1,5 +1,5 @@
 ghost use Rattle.std.specs.Prelude.{◌≡◌, ◌≤◌, length, map, vec_len, All};
-ghost use Rattle.glob_names.specs.NameTable.{table_of};
+ghost use Rattle.glob_examples.specs.NameTable.{table_of};
 
 use glob::Judge;
 use std::alloc::Allocator;

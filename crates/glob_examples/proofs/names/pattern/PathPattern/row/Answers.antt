@@ -1,7 +1,7 @@
 use Rattle.std.proofs.Common.{◌≡◌, ◌+◌, ◌∙◌, [], ◌∷◌, ◌++◌, take, sym, ap, arith}
 use Rattle.std.proofs.lemmas.List.{take_more}
-use Rattle.glob_names.proofs.Aligned.{AreAligned-push}
-use Rattle.glob_names.proofs.pattern.PathPattern.row.Goals as goal
+use Rattle.glob_examples.proofs.Aligned.{AreAligned-push}
+use Rattle.glob_examples.proofs.names.pattern.PathPattern.row.Goals as goal
 
 pub loop-component-preserved : goal.loop-component-preserved
 loop-component-preserved g c =

@@ -10,10 +10,8 @@
 //! ```
 //!
 //! `glob::run_positions` decides whether names split into groups, one a component. Of names it knows nothing. It asks a
-//! [`glob::Judge`], and this crate's judge looks its answers up in a table that was made before: to match a name needs
+//! [`glob::Judge`], and the judge here looks its answers up in a table that was made before: to match a name needs
 //! memory, and a judge has no answer if allocation fails.
-#![tactic(auto)]
-
 mod judge;
 mod pattern;
 

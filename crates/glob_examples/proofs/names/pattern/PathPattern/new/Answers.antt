@@ -5,10 +5,10 @@ use Rattle.std.proofs.lemmas.List.{map-append}
 use Rattle.std.proofs.lemmas.List.Elements.{All-push}
 use Rattle.glob.specs.Characters.{slash}
 use Rattle.glob.specs.Grammar.Faults.{Refuses}
-use Rattle.glob_names.specs.Names.{IsComponent}
-use Rattle.glob_names.specs.NameTable.{shape_of}
-use Rattle.glob_names.proofs.Refusals.{RefusesComponent-turn, IfErr-from_known}
-use Rattle.glob_names.proofs.pattern.PathPattern.new.Goals as goal
+use Rattle.glob_examples.specs.Names.{IsComponent}
+use Rattle.glob_examples.specs.NameTable.{shape_of}
+use Rattle.glob_examples.proofs.Refusals.{RefusesComponent-turn, IfErr-from_known}
+use Rattle.glob_examples.proofs.names.pattern.PathPattern.new.Goals as goal
 
 pub loop-component-preserved : goal.loop-component-preserved
 loop-component-preserved g c =

@@ -1,3 +1,0 @@
-pub mod Aligned
-pub mod NameSplits
-pub mod Refusals
