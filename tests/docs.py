@@ -26,22 +26,22 @@ ANSWERS_OF_STD = ["eq", "cmp", "hash_input", "output", "is_default"]
 # The pages with examples: the file that has each block of Rust or of proofs word for word, in the order of the page.
 EXAMPLES = {
     "README.md": [
-        "crates/glob_example_tests/src/tests/readme.rt",
+        "crates/glob_tests/src/tests/examples/readme.rt",
         "rust/tests/glob.rs",
     ],
     "crates/glob/CALLING.md": [
-        "crates/glob_example_tests/src/tests/readme.rt",
+        "crates/glob_tests/src/tests/examples/readme.rt",
         "crates/glob_examples/src/literals.rt",
         "crates/glob_examples/proofs/literals/matches_main/Answers.antt",
         "crates/glob_examples/src/texts.rt",
         "crates/glob_examples/proofs/texts/reread/Answers.antt",
-        "crates/glob_line_tests/src/tests/copies.rt",
+        "crates/glob_tests/src/tests/lines/copies.rt",
         "crates/glob_disk_tests/src/tests/calls.rt",
         "crates/glob_disk_tests/src/tests/calls.rt",
         "crates/glob_examples/src/sources.rt",
         "crates/glob_examples/specs/Sources.antt",
         "crates/glob_console/src/find.rt",
-        "crates/glob_tree_tests/src/trees.rt",
+        "crates/glob_tests/src/tests/liars.rt",
         "crates/glob_examples/src/one_file.rt",
         "crates/glob_examples/src/one_file.rt",
         "crates/glob_examples/proofs/one_file/walk_over_main/Answers.antt",

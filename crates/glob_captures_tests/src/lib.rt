@@ -1,5 +1,0 @@
-//! Tests of `glob_captures`.
-#![tactic(auto)]
-
-#[cfg(test)]
-mod tests;

@@ -1,4 +1,0 @@
-mod bounds;
-mod made;
-mod memory;
-mod printing;

@@ -1,7 +1,0 @@
-mod copies;
-mod costs;
-mod made;
-mod memory;
-mod printing;
-mod sizes;
-mod watching;

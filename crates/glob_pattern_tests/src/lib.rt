@@ -1,6 +1,0 @@
-//! Tests of `glob_pattern`, and a judge whose answers are written down.
-#![tactic(auto)]
-
-pub mod judges;
-#[cfg(test)]
-mod tests;

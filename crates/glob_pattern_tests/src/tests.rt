@@ -1,9 +1,0 @@
-mod comparing;
-mod costs;
-mod counted;
-mod made;
-mod memory;
-mod printing;
-mod questions;
-mod sizes;
-mod texts;

@@ -1,5 +1,0 @@
-//! Tests of `glob_set`.
-#![tactic(auto)]
-
-#[cfg(test)]
-mod tests;

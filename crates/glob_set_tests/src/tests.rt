@@ -1,6 +1,0 @@
-mod answers;
-mod made;
-mod memory;
-mod refusals;
-mod rows;
-mod sizes;

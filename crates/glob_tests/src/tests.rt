@@ -1,0 +1,10 @@
+mod captures;
+mod examples;
+mod liars;
+mod lines;
+mod made;
+mod patterns;
+mod printing;
+mod refusing;
+mod sets;
+mod trees;

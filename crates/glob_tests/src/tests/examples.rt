@@ -1,0 +1,2 @@
+mod callers;
+mod readme;

@@ -1,0 +1,6 @@
+mod copies;
+mod costs;
+mod faults;
+mod memory;
+mod sizes;
+mod streams;

@@ -1,0 +1,6 @@
+mod costs;
+mod judges;
+mod memory;
+mod order;
+mod questions;
+mod sizes;

@@ -1,4 +1,0 @@
-mod answers;
-mod made;
-mod memory;
-mod sizes;
