@@ -80,9 +80,9 @@ fn add_settings(answer: &mut String, pattern: &Pattern, text: &str) -> Result<()
 /// The setting of this number, whose binary digits are no case, the separator rule and the dot rule.
 fn setting_of(number: u8) -> MatchOptions {
     MatchOptions {
-        case_sensitive: number < 4,
-        require_literal_separator: number % 4 >= 2,
-        require_literal_leading_dot: number % 2 == 1,
+        case_sensitive: matches!(number, 0..=3),
+        require_literal_separator: matches!(number, 2 | 3 | 6 | 7),
+        require_literal_leading_dot: matches!(number, 1 | 3 | 5 | 7),
     }
 }
 
@@ -204,9 +204,7 @@ fn add_item(items: &mut String, item: &GlobResult) -> io::Result<()> {
 
 /// Adds a path after a sign.
 fn add_path(items: &mut String, sign: char, path: Path<'_>) -> Result<(), AllocError> {
-    items.push('\t')?;
-    items.push(sign)?;
-    items.push_str(path.as_str())
+    write!(items, "\t{sign}{}", path.as_str())
 }
 
 /// Adds the place and the message of a pattern's fault.

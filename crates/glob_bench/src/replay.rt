@@ -76,7 +76,7 @@ fn is_alike(alloc: Global, table: Rows, row: &str) -> io::Result<bool> {
 /// Whether a pattern is read, or refused, as the answer says.
 fn parses_alike(alloc: Global, text: &str, answer: &str) -> io::Result<bool> {
     match Pattern::new(alloc, text) {
-        Ok(pattern) => Ok(answer == "ok" && pattern.as_str() == text),
+        Ok(pattern) => Ok(matches!(answer, "ok") && pattern.as_str() == text),
         Err(refusal) => {
             let mut found = String::new(alloc);
             add_fault(&mut found, refusal)?;
@@ -108,9 +108,9 @@ fn matches_alike(alloc: Global, letters: &str, rest: &str) -> io::Result<bool> {
 fn options_of_row(letters: &str) -> Option<MatchOptions> {
     match letters.as_bytes() {
         [case, separator, leading_dot] => Some(MatchOptions {
-            case_sensitive: *case == b't',
-            require_literal_separator: *separator == b't',
-            require_literal_leading_dot: *leading_dot == b't',
+            case_sensitive: matches!(case, b't'),
+            require_literal_separator: matches!(separator, b't'),
+            require_literal_leading_dot: matches!(leading_dot, b't'),
         }),
         _ => None,
     }

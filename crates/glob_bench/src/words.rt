@@ -5,9 +5,9 @@ use std::alloc::Global;
 use std::time::Instant;
 use std::{fs, io};
 
-/// The error of words, lines or files that are not what a command takes. Long texts are slow to prove, so it says little.
+/// The error of words, lines or files that are not what a command takes.
 pub fn unfit() -> io::Error {
-    io::Error::other("unfit input")
+    io::Error::other("not what a command takes: see the head of src/main.rt")
 }
 
 /// The options that the letters of a word stand for.
@@ -56,7 +56,7 @@ pub fn lines_of(alloc: Global, text: &str) -> io::Result<Vec<&str>> {
 
 /// Writes a count, and how long ago the work on it began.
 pub fn write_count(rt: &HostRuntime, count: u64, start: Instant) -> io::Result<()> {
-    let nanoseconds = start.elapsed(rt)?.as_nanos();
+    let elapsed = start.elapsed(rt)?;
     rt.println(count)?;
-    rt.eprintln(nanoseconds)
+    rt.eprintln(elapsed.as_nanos())
 }
