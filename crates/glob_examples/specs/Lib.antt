@@ -1,4 +1,5 @@
 pub mod Copying
+pub mod FirstPaths
 pub mod NameTable
 pub mod Names
 pub mod OneFile

@@ -1,5 +1,0 @@
-mod answers;
-mod lists;
-mod made;
-mod memory;
-mod walks;
