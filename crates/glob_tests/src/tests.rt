@@ -1,4 +1,5 @@
 mod captures;
+mod console;
 mod examples;
 mod liars;
 mod lines;

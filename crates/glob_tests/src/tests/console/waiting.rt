@@ -1,7 +1,7 @@
 //! How long paths wait, in how many writes they are written, and which listings are asked for.
 use super::runs::{Job, no_asks, run, run_in_hall};
-use crate::hall::Hall;
-use crate::writers::Mood;
+use super::hall::Hall;
+use super::writers::Mood;
 use glob_tree::Asks;
 use std::process::Abort;
 

@@ -1,5 +1,7 @@
+mod hall;
 mod memory;
 mod order;
 mod runs;
 mod waiting;
+mod writers;
 mod writing;

@@ -1,6 +1,6 @@
 //! Writers that are interrupted, take few bytes or none, or fail, and lines of standard error.
 use super::runs::{Job, no_asks, run_in_hall};
-use crate::writers::Mood;
+use super::writers::Mood;
 use glob_console::{ErrorLines, FindFault};
 use std::cell::Cell;
 use std::fmt::{self, Display};

@@ -1,6 +1,6 @@
 //! Errors among the paths of a walk, over trees in memory.
 use super::runs::{Job, run};
-use crate::writers::Digit;
+use super::writers::Digit;
 use glob_console::{ErrorLines, Every, WalkSettings, find_in};
 use glob_pattern::MatchOptions;
 use glob_tree::{MemTree, TreeRefusal};

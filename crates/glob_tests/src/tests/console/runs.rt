@@ -1,6 +1,6 @@
 //! What programs do with a text, a fault and a walk.
-use crate::hall::{Counts, Hall};
-use crate::writers::{Mood, Moody};
+use super::hall::{Counts, Hall};
+use super::writers::{Mood, Moody};
 use glob_console::{ErrorLines, Every, WalkSettings, find_in, write_text};
 use glob_pattern::MatchOptions;
 use glob_tree::{Asks, Tree};
