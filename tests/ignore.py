@@ -1,11 +1,12 @@
 #!/usr/bin/env python3
-"""Compares ignore lists with git: random lists and trees, and which line decides about each path.
+"""Compares ignore lists with git: questions whose answers tests/rows/git.answers keeps, as `glob_bench rules` reads and
+writes them; then random lists and trees, and which line decides about each path.
 
     tests/ignore.py [--seconds N] [--seed N] [--lists N]
 
 Goes on for so many seconds, or over so many lists (2,000). Says how many questions there were, which lists were refused,
-and each difference; docs/IGNORE.md has those that are let pass. The last line counts lists: 'N passed, M failed'. Without
-git it asks nothing. The program is glob_bench, as it was last built."""
+and each difference; docs/IGNORE.md has those that are let pass. The last line counts kept answers and lists: 'N passed, M
+failed'. Without git there are the kept answers alone. The program is glob_bench, as it was last built."""
 
 import argparse
 import os
@@ -19,6 +20,7 @@ import time
 from pathlib import Path
 
 PROGRAM = Path(__file__).resolve().parent.parent / "crates/glob_bench/out/glob_bench"
+KEPT = Path(__file__).resolve().parent / "rows"
 
 # How many lists one process of git is asked about.
 BATCH = 400
@@ -171,6 +173,14 @@ class Count:
             else:
                 self.compare(text, paths, lines, answer)
 
+    def compare_kept(self):
+        ran = subprocess.run([PROGRAM, "rules"], input=(KEPT / "git.questions").read_bytes(), stdout=subprocess.PIPE)
+        found, kept = (it.decode().splitlines() for it in [ran.stdout, (KEPT / "git.answers").read_bytes()])
+        wrong = [f"kept answer {at}: git {git}, ours {we}" for at, (git, we) in enumerate(zip(kept, found), 1) if git != we]
+        print(*wrong[:20], sep="\n", end="\n" * bool(wrong))
+        self.passed += min(len(found), len(kept)) - len(wrong)
+        self.failed += len(wrong) + abs(len(found) - len(kept))
+
     def report(self):
         for reason, found in sorted(self.refused.items()):
             print(f"refused: {reason}, as {sorted(found, key=lambda line: (len(line), line))[:8]}")
@@ -184,12 +194,10 @@ def main():
     options.add_argument("--seed", type=int, default=random.randrange(10**6))
     options.add_argument("--lists", type=int, default=2000)
     options = options.parse_args()
-    if not shutil.which("git"):
-        print("0 passed, 0 failed")
-        return
     print(f"--seed {options.seed}")
     rng, count, end, asked = random.Random(options.seed), Count(), time.time() + options.seconds, 0
-    while time.time() < end if options.seconds else asked < options.lists:
+    count.compare_kept()
+    while shutil.which("git") and (time.time() < end if options.seconds else asked < options.lists):
         cases = [(file_of(rng), tree(rng)) for _ in range(BATCH)]
         count.batch([(text, paths) for text, paths in cases if paths])
         asked += BATCH
