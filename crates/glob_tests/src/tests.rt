@@ -6,6 +6,7 @@ mod lines;
 mod made;
 mod patterns;
 mod printing;
+mod rationing;
 mod refusing;
 mod sets;
 mod trees;
