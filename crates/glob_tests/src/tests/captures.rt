@@ -9,9 +9,9 @@ use std::alloc::{Allocator, Global};
 use std::process::Abort;
 
 /// How many pieces the text splits into, one for each token; `None` if it does not match.
-fn pieces<A: Allocator + Copy>(
+fn pieces<A: Allocator + Copy, B: Allocator + Copy>(
     alloc: A,
-    pattern: &Pattern<A>,
+    pattern: &Pattern<B>,
     text: &str,
 ) -> Result<Option<usize>, CapturesError> {
     match captures(alloc, pattern, text, MatchOptions::new()) {
@@ -22,9 +22,9 @@ fn pieces<A: Allocator + Copy>(
 }
 
 /// The place up to which the text is taken.
-fn place<A: Allocator + Copy>(
+fn place<A: Allocator + Copy, B: Allocator + Copy>(
     alloc: A,
-    pattern: &Pattern<A>,
+    pattern: &Pattern<B>,
     text: &str,
 ) -> Result<Option<usize>, CapturesError> {
     match reach(alloc, pattern, text, MatchOptions::new()) {
@@ -67,10 +67,10 @@ fn is_wanted(found: Result<Option<usize>, CapturesError>, wanted: Option<usize>)
 
 impl Capturing<'_> {
     /// Makes each call, and lets go what it gives.
-    fn captures(
+    fn captures<'a>(
         &self,
-        alloc: &Rationed<Global>,
-        pattern: &Pattern<&Rationed<Global>>,
+        alloc: &'a Rationed<Global>,
+        pattern: &Pattern<&'a Rationed<Global>>,
     ) -> Option<bool> {
         let held = alloc.ration.held();
         let split = is_wanted(pieces(alloc, pattern, self.1), self.2);

@@ -31,10 +31,17 @@ fn check_pattern(rt: &(impl Abort + AllocGlobal), source: &str, str: &str, answe
     check(rt, is_right, "a pattern");
 }
 
-/// The same of parts.
-fn check_parts(rt: &(impl Abort + AllocGlobal), pattern: Parts<'_>, str: Parts<'_>, answer: bool) {
-    let str = text(rt, str);
-    check_pattern(rt, text(rt, pattern).as_str(), str.as_str(), answer);
+/// The unit so many times, and then the tail, is a pattern that matches the character so many times, or not.
+fn check_row(
+    rt: &(impl Abort + AllocGlobal),
+    (unit, tail): (&str, &str),
+    character: &str,
+    (tokens, characters): (usize, usize),
+    answer: bool,
+) {
+    let source = text(rt, &[(unit, tokens), (tail, 1)]);
+    let str = text(rt, &[(character, characters)]);
+    check_pattern(rt, source.as_str(), str.as_str(), answer);
 }
 
 /// The unit so many times, with `*` after it, matches the character as often and once more, and without `*` only as
@@ -46,29 +53,22 @@ fn check_unit(rt: &(impl Abort + AllocGlobal), unit: &str, character: &str, size
         SQUARE
     };
     let more = size.saturating_add(1);
-    let all = [
-        (size, "*", size, true),
-        (size, "*", more, true),
-        (size, "", size, true),
-        (size, "", more, false),
-    ];
-    let few = [(size, "*", 3, false), (3, "*", size, true)];
-    let rows = if size <= most {
-        all.as_slice()
+    if size <= most {
+        check_row(rt, (unit, "*"), character, (size, size), true);
+        check_row(rt, (unit, "*"), character, (size, more), true);
+        check_row(rt, (unit, ""), character, (size, size), true);
+        check_row(rt, (unit, ""), character, (size, more), false);
     } else {
-        few.as_slice()
-    };
-    for (tokens, tail, characters, answer) in rows.iter().copied() {
-        let str = [(character, characters)];
-        check_parts(rt, &[(unit, tokens), (tail, 1)], &str, answer);
+        check_row(rt, (unit, "*"), character, (size, 3), false);
+        check_row(rt, (unit, "*"), character, (3, size), true);
     }
 }
 
 /// A bracket with so many of the entry matches the character.
 fn check_bracket(rt: &(impl Abort + AllocGlobal), entry: Parts<'_>, character: &str, size: usize) {
     let entries = text(rt, entry);
-    let source = [("[", 1), (entries.as_str(), size.max(1)), ("]", 1)];
-    check_parts(rt, &source, &[(character, 1)], true);
+    let source = text(rt, &[("[", 1), (entries.as_str(), size.max(1)), ("]", 1)]);
+    check_pattern(rt, source.as_str(), character, true);
 }
 
 fn matched(pattern: &Pattern, str: &str) -> Option<bool> {
