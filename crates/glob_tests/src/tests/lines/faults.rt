@@ -30,8 +30,8 @@ fn is_fault(rt: &impl AllocGlobal, facts: Facts, reads: bool, error: io::Error) 
     has_failed && are_same(rt, found, error) == Ok(true)
 }
 
-/// A reader that gives so many bytes a call and fails at a call: its error is returned, it is not called again, and nothing
-/// is written.
+/// A reader that gives so many bytes a call and fails at a call: its error is returned, it is not called again, and
+/// nothing is written.
 fn check_reader(
     rt: &(impl Abort + AllocGlobal),
     input: &[u8],

@@ -19,8 +19,8 @@ fn add_refused(
     }
 }
 
-/// How many questions are asked of a judge of the same table, which counts them by itself. In the pattern `*` is any
-/// number of characters, `?` one, and each other character is itself.
+/// How many questions are asked of a judge of the same table, which counts them by itself, or `u128::MAX` where one is
+/// asked twice. In the pattern `*` is any number of characters, `?` one, and each other character is itself.
 fn questions(rt: &(impl Abort + AllocGlobal), pattern: &str, text: &str) -> u128 {
     let mut shapes = Vec::new(rt.alloc());
     let mut refused = Vec::new(rt.alloc());
@@ -34,7 +34,8 @@ fn questions(rt: &(impl Abort + AllocGlobal), pattern: &str, text: &str) -> u128
         opening: &[],
         refused: refused.as_slice(),
     };
-    made(rt, split(rt.alloc(), shapes.as_slice(), answers)).1
+    let (_, count, is_asked_twice) = made(rt, split(rt.alloc(), shapes.as_slice(), answers));
+    if is_asked_twice { u128::MAX } else { count }
 }
 
 /// Patterns, each with texts that it matches and texts that it does not.
