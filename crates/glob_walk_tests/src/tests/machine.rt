@@ -4,7 +4,7 @@ ghost use Rattle.std.specs.Prelude.{◌≡◌, None};
 use super::made::{Memory, check, check_text};
 use super::trees::{Says, Told};
 use super::walks::{Job, Walked, agreed, refused};
-use glob::{Step, Tree, WalkMachine};
+use glob::{GlobResult, Step, Tree, WalkMachine};
 use std::process::Abort;
 
 /// Drives a walk that has asked nothing, for at most so many steps. Where it ends, it stays so.
@@ -33,7 +33,7 @@ fn drive<'a>(
                 machine.listed(named)
             }
             Step::Item(item) => {
-                walked.add(rt, &item);
+                add_item(rt, &mut walked, item);
                 machine.next()
             }
             Step::Done => {
@@ -43,6 +43,11 @@ fn drive<'a>(
         };
     }
     walked
+}
+
+/// Adds an item, and lets it go.
+fn add_item(rt: &impl Abort, walked: &mut Walked, item: GlobResult<Memory<'_>>) {
+    walked.add(rt, &item);
 }
 
 /// No step is left.
