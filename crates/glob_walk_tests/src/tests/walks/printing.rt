@@ -28,13 +28,21 @@ fn check_same(rt: &(impl AllocGlobal + Abort), found: io::Error, known: io::Erro
     assert!(rt; made(rt, are_same(rt, found, known)));
 }
 
-/// The first item of the walk is an error at the path, with this one in it, which it keeps and prints. Its calls take
-/// no memory.
-fn check_error(rt: &(impl AllocGlobal + Abort), job: Job<'_>, path: &str, known: io::Error) {
+/// The first item of the walk is an error at the path, if that is known, with this one in it, which it keeps and prints.
+/// Its calls take no memory.
+fn check_error(
+    rt: &(impl AllocGlobal + Abort),
+    job: Job<'_>,
+    known_path: Option<&str>,
+    known: io::Error,
+) {
     let (ample, notes) = (Rationed::refusing(0, rt.alloc()), Notes::new());
     let error = error_of(rt, &ample, &notes, job);
     let requests = ample.ration.asked();
-    check(rt, error.path().as_str() == path, 0, path);
+    let path = error.path().as_str();
+    if let Some(known_path) = known_path {
+        check(rt, path == known_path, 0, job.pattern);
+    }
     check_same(rt, *error.error(), known);
     let words = made(rt, format!(in rt.alloc(); "{known}"));
     let line = text_of(
@@ -48,7 +56,7 @@ fn check_error(rt: &(impl AllocGlobal + Abort), job: Job<'_>, path: &str, known:
     );
     assert!(rt; made(rt, prints_as(rt, &error, line.as_str())));
     check_same(rt, io::Error::from(error), known);
-    check(rt, ample.ration.asked() == requests, requests, path);
+    check(rt, ample.ration.asked() == requests, requests, job.pattern);
     let error = error_of(rt, &ample, &notes, job);
     check_same(rt, error.into_error(), known);
 }
@@ -57,7 +65,7 @@ fn check_error(rt: &(impl AllocGlobal + Abort), job: Job<'_>, path: &str, known:
 fn check_unread(rt: &(impl AllocGlobal + Abort), path: &str, reason: io::Error) {
     let pattern = text_of(rt, &[(path, 1), ("/*", 1)]);
     let job = Job::over(Says::Unreadable(reason), pattern.as_str());
-    check_error(rt, job, path, reason);
+    check_error(rt, job, Some(path), reason);
 }
 
 #[test]
@@ -81,10 +89,10 @@ fn unreadable_directories(rt: HostRuntime) {
 #[test]
 fn refusals_are_printed(rt: HostRuntime) {
     let memory = io::Error::from(ErrorKind::OutOfMemory);
-    check_error(&rt, Job::over(Says::NoMemory, "a"), "", memory);
+    check_error(&rt, Job::over(Says::NoMemory, "a"), None, memory);
     let long = text_of(&rt, &[("\u{e9}", 20_000)]);
     for (pattern, limit, path) in [("a", 0, "."), (long.as_str(), 1, long.as_str())] {
         let job = Job::over(Says::Endless, pattern).within(limit);
-        check_error(&rt, job, path, io::Error::other("walk limit reached"));
+        check_error(&rt, job, Some(path), io::Error::other("walk limit reached"));
     }
 }
