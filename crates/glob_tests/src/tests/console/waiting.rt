@@ -1,6 +1,6 @@
 //! How long paths wait, in how many writes they are written, and which listings are asked for.
-use super::runs::{Job, no_asks, run, run_in_hall};
 use super::hall::Hall;
+use super::runs::{Job, no_asks, run, run_in_hall};
 use super::writers::Mood;
 use glob_tree::Asks;
 use std::process::Abort;

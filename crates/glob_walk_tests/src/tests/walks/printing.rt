@@ -28,33 +28,41 @@ fn check_same(rt: &(impl AllocGlobal + Abort), found: io::Error, known: io::Erro
     assert!(rt; made(rt, are_same(rt, found, known)));
 }
 
+/// The error is printed with its path and this tail.
+fn check_printed<'a>(
+    rt: &(impl AllocGlobal + Abort),
+    error: &'a GlobError<Memory<'_>>,
+    tail: &'a str,
+) {
+    let line = text_of(
+        rt,
+        &[
+            ("attempting to read `", 1),
+            (error.path().as_str(), 1),
+            ("` resulted in an error: ", 1),
+            (tail, 1),
+        ],
+    );
+    assert!(rt; made(rt, prints_as(rt, error, line.as_str())));
+}
+
 /// The first item of the walk is an error at the path, if that is known, with this one in it, which it keeps and prints.
 /// Its calls take no memory.
 fn check_error(
     rt: &(impl AllocGlobal + Abort),
     job: Job<'_>,
-    known_path: Option<&str>,
+    path: Option<&str>,
     known: io::Error,
 ) {
     let (ample, notes) = (Rationed::refusing(0, rt.alloc()), Notes::new());
     let error = error_of(rt, &ample, &notes, job);
     let requests = ample.ration.asked();
-    let path = error.path().as_str();
-    if let Some(known_path) = known_path {
-        check(rt, path == known_path, 0, job.pattern);
+    if let Some(path) = path {
+        check(rt, error.path().as_str() == path, 0, job.pattern);
     }
     check_same(rt, *error.error(), known);
     let words = made(rt, format!(in rt.alloc(); "{known}"));
-    let line = text_of(
-        rt,
-        &[
-            ("attempting to read `", 1),
-            (path, 1),
-            ("` resulted in an error: ", 1),
-            (words.as_str(), 1),
-        ],
-    );
-    assert!(rt; made(rt, prints_as(rt, &error, line.as_str())));
+    check_printed(rt, &error, words.as_str());
     check_same(rt, io::Error::from(error), known);
     check(rt, ample.ration.asked() == requests, requests, job.pattern);
     let error = error_of(rt, &ample, &notes, job);
