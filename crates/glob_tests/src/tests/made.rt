@@ -1,9 +1,8 @@
 //! What tests need made. Where memory is short, or a text is no pattern, the test ends.
-use glob_pattern::{MatchOptions, Pattern};
+use glob_pattern::Pattern;
 use glob_testing::sizes::sizes_to;
 use glob_testing::texts::{Parts, text_of};
 use std::alloc::{AllocError, Allocator};
-use std::path::Path;
 use std::process::Abort;
 
 /// What is compared is right. The row says what it was.
@@ -34,27 +33,4 @@ pub(super) fn text(rt: &(impl Abort + AllocGlobal), parts: Parts<'_>) -> String 
 /// The sizes from 0 to 300, and those around each power of two up to the one of this exponent.
 pub(super) fn sizes(rt: &(impl Abort + AllocGlobal), exponent: u32) -> Vec<usize> {
     made(rt, sizes_to(rt, exponent))
-}
-
-/// What each form of matching answers for the text; `None` where memory ran out.
-pub(super) fn forms<A: Allocator + Copy>(pattern: &Pattern<A>, str: &str) -> [Option<bool>; 6] {
-    let path = Path::new(str);
-    let options = MatchOptions::default();
-    let counted = match pattern.matches_counted(str, options) {
-        Ok((found, _)) => Some(found),
-        Err(_) => None,
-    };
-    [
-        pattern.matches(str).ok(),
-        pattern.matches_with(str, MatchOptions::new()).ok(),
-        pattern.matches_with(str, options).ok(),
-        pattern.matches_path(path).ok(),
-        pattern.matches_path_with(path, options).ok(),
-        counted,
-    ]
-}
-
-/// Whether each form of matching gives this answer for the text.
-pub(super) fn answers<A: Allocator + Copy>(pattern: &Pattern<A>, str: &str, answer: bool) -> bool {
-    forms(pattern, str) == [Some(answer); 6]
 }

@@ -1,6 +1,7 @@
 //! How many requests for memory are made and for how many bytes. The clock is not asked.
-use crate::tests::made::{answers, check, text};
+use crate::tests::made::{check, text};
 use glob_pattern::Pattern;
+use glob_testing::matches::answers;
 use glob_testing::rationing::Rationed;
 use std::alloc::{Allocator, Global};
 use std::hash::{DefaultHasher, Hash};

@@ -1,8 +1,9 @@
 //! Each request for memory refused in turn: the answer is out of memory, or that with ample memory. No block is left.
 use super::judges::{Answers, split};
-use crate::tests::made::{add, answers, check, forms, text};
+use crate::tests::made::{add, check, text};
 use crate::tests::refusing::{Calls, both, refuse_each};
 use glob_pattern::{Pattern, PatternRefusal, Shape};
+use glob_testing::matches::{answers, forms};
 use glob_testing::rationing::Rationed;
 use glob_testing::texts::Parts;
 use std::alloc::Global;

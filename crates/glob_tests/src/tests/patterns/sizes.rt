@@ -1,7 +1,8 @@
 //! Calls at many sizes and over characters of each length. Memory is ample, so each of them succeeds.
 use super::judges::{Answers, split};
-use crate::tests::made::{add, answers, check, made, sizes, text};
+use crate::tests::made::{add, check, made, sizes, text};
 use glob_pattern::{Pattern, Shape};
+use glob_testing::matches::answers;
 use glob_testing::sizes::{CHARACTERS, SMALL};
 use glob_testing::texts::{Parts, all_over};
 use std::alloc::Global;
