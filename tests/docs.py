@@ -26,11 +26,11 @@ ANSWERS_OF_STD = ["eq", "cmp", "hash_input", "output", "is_default"]
 # The pages with examples: the file that has each block of Rust or of proofs word for word, in the order of the page.
 EXAMPLES = {
     "README.md": [
-        "crates/glob_tests/src/tests/examples/readme.rt",
+        "crates/glob_program_tests/src/tests/readme.rt",
         "rust/tests/glob.rs",
     ],
     "crates/glob/CALLING.md": [
-        "crates/glob_tests/src/tests/examples/readme.rt",
+        "crates/glob_program_tests/src/tests/readme.rt",
         "crates/glob_examples/src/literals.rt",
         "crates/glob_examples/proofs/literals/matches_main/Answers.antt",
         "crates/glob_examples/src/texts.rt",

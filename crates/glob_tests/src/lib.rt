@@ -1,5 +1,4 @@
-//! Tests of patterns, captures, sets, lines, trees in memory, what the programs share, the callers in `glob_examples`, and
-//! the example of the README.
+//! Tests of patterns, captures, sets, lines and trees in memory.
 #![tactic(auto)]
 
 // All of it stands below `tests`, so it is proved once, with the tests.

@@ -1,6 +1,4 @@
 mod captures;
-mod console;
-mod examples;
 mod liars;
 mod lines;
 mod made;

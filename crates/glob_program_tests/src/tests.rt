@@ -1,2 +1,3 @@
 mod callers;
+mod console;
 mod readme;

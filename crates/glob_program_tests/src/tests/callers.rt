@@ -1,13 +1,23 @@
 //! Each call of `glob_examples` once, with ample memory: that it answers. What it answers is proved.
-use crate::tests::made::{check, text};
 use glob_examples::copy::{CopyRules, paths_to_copy, pattern_below};
 use glob_examples::literals::matches_main;
 use glob_examples::names::PathPattern;
 use glob_examples::one_file::{OneFile, walk_over_main};
 use glob_examples::sources::sources;
 use glob_examples::texts::matches_text;
-use glob_testing::texts::Parts;
+use glob_testing::texts::{Parts, text_of};
 use std::alloc::Global;
+use std::process::Abort;
+
+/// What is compared is right. The row says what it was.
+fn check(rt: &impl Abort, is_right: bool, row: &str) {
+    assert!(rt; is_right, "{row}");
+}
+
+/// The text of the parts.
+fn text(rt: &(impl Abort + AllocGlobal), parts: Parts<'_>) -> String {
+    text_of(rt, parts).expect(rt, "memory")
+}
 
 fn copies_by(alloc: Global, rules: &CopyRules) -> bool {
     let tree = OneFile::new(alloc, "main.rs");
