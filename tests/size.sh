@@ -16,7 +16,7 @@ words     1500 docs/PERFORMANCE.md
 words     2000 docs/PROOFS.md docs/FAULTS.md
 words     2950 docs/DECISIONS.md docs/DIFFERENCES.md CONTRIBUTING.md CHANGELOG.md bench/README.md
 words     1650 man/glob_run.1 man/glob_files.1 man/glob_ignore.1
-edits       81 all crates
+edits       98 all crates
 functions  160 glob_pattern
 '
 
