@@ -5,7 +5,8 @@ altered, the comment of the lemma.
 
     tests/edits.py            writes the page
     tests/edits.py --check    writes nothing, and fails where the page is not what the edits say
-"""
+
+It fails where an edit cannot be applied."""
 
 import re
 import sys
@@ -33,6 +34,7 @@ something else, it does not hold. Each line is such a lemma, of `proofs/Examples
 
 def row(path):
     edit = Edit(path)
+    edit.changed(edit.crate)
     file, old, _ = edit.pairs[0]
     name = edit.function_with(file, old)
     return f"- `{edit.name}` ({f'`{name}`, ' if name else ''}`{file}`): {edit.what}"

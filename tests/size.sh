@@ -14,9 +14,9 @@ words      500 docs/IGNORE.md
 words     1000 docs/ARGUMENT.md
 words     1500 docs/PERFORMANCE.md
 words     2000 docs/PROOFS.md docs/FAULTS.md
-words     2950 docs/DECISIONS.md docs/DIFFERENCES.md CONTRIBUTING.md CHANGELOG.md bench/README.md
-words     1650 man/glob_run.1 man/glob_files.1 man/glob_ignore.1
-edits       98 all crates
+words     3500 docs/DECISIONS.md docs/DIFFERENCES.md CONTRIBUTING.md CHANGELOG.md bench/README.md man/glob_run.1
+words      900 man/glob_files.1 man/glob_ignore.1
+edits      110 all crates
 functions  160 glob_pattern
 '
 
@@ -31,9 +31,9 @@ words() {
     done | wc -w
 }
 
-# how many edits the gate tries, of one crate or of all
+# how many edits the gate tries
 edits() {
-    find crates -path "crates/${1/#all/*}/must-fail/*.edit" | wc -l
+    find crates -path "crates/*/must-fail/*.edit" | wc -l
 }
 
 # how many functions are in the sources, those of the tests left out

@@ -16,7 +16,7 @@ def function_at(source, number, with_trait=False):
         owner = re.match(r"(?:pub )?(?:unsafe )?(?:impl|trait)\b(?:<.*?>)? (.*)", it)
         if owner and found:
             words = re.sub(r"<[^<>]*>", "", re.sub(r"<[^<>]*>", "", owner[1])).split("{")[0].split(": ")[0]
-            owners = [it.split()[0] for it in reversed(words.split(" for "))]
+            owners = [it.split()[0].split("::")[-1] for it in reversed(words.split(" for "))]
             return f"{''.join(owners if with_trait else owners[:1])}::{found}"
         if re.match(r"\S.*[;}]$", it) and not found:
             return None
@@ -54,10 +54,17 @@ class Edit:
         both = self.functions() | other.functions()
         return len(both) < len(self.functions()) + len(other.functions()) or any(name is None for _, name in both)
 
-    def apply(self, crate):
-        """Applies it to a copy of the crate in this folder."""
+    def changed(self, crate):
+        """The files that it changes of a crate in this folder, as it leaves them. Each old text stands there once."""
+        texts = {}
         for file, old, new in self.pairs:
-            text = (crate / file).read_text(encoding="utf-8")
+            text = texts.get(file) or (crate / file).read_text(encoding="utf-8")
             if text.count(old) != 1:
                 raise ValueError(f"{self.path}: the text {old!r} is in {file} {text.count(old)} times, and not once")
-            (crate / file).write_text(text.replace(old, new), encoding="utf-8")
+            texts[file] = text.replace(old, new)
+        return texts
+
+    def apply(self, crate):
+        """Applies it to a copy of the crate in this folder."""
+        for file, text in self.changed(crate).items():
+            (crate / file).write_text(text, encoding="utf-8")
