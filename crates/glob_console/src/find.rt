@@ -74,8 +74,7 @@ pub fn find_in<T: Tree, C: Choice, W: Write, E: Write>(
     }
 }
 
-/// Writes the wanted items of a walk up to its end, whose questions the tree answers. Before each question, the lines
-/// that have waited long are written.
+/// Writes the wanted items of a walk up to its end, whose questions the tree answers.
 fn write_items<T: Tree, C: Choice, W: Write, E: Write>(
     alloc: T::Alloc,
     mut tree: T,
@@ -96,6 +95,32 @@ fn write_items<T: Tree, C: Choice, W: Write, E: Write>(
         (W.contents output.old) (W.contents output.new)) }
 {
     let mut lines = Lines::new(alloc)?;
+    write_by(
+        &mut lines, &mut tree, &mut walk, choice, end, output, errors,
+    )
+}
+
+/// Writes them by way of lines, of which none waits yet. Before each question, those that have waited long are written.
+fn write_by<T: Tree, C: Choice, W: Write, E: Write>(
+    lines: &mut Lines<T::Alloc>,
+    tree: &mut T,
+    walk: &mut WalkMachine<T::Alloc>,
+    choice: &C,
+    end: u8,
+    output: &mut W,
+    errors: &mut ErrorLines<'_, T::Alloc, E>,
+) -> io::Result<Findings>
+    requires none { lines.old.waiting.items ≡ [] }
+    requires free { walk.old.asked ≡ None }
+    ensures paths { (c : Content) → IsTold (T.tells tree.old) c → (ms : List Mark)
+        → HasGiven ms c [] walk.old → IfOk result (FindsPaths
+        end (C.wanted choice.now c) ms walk.old.limit
+        (W.contents output.old) (W.contents output.new)) }
+    ensures some { (c : Content) → IsTold (T.tells tree.old) c → (ms : List Mark)
+        → HasGiven ms c [] walk.old → OnErr result (FindsSomeBytes
+        end (C.wanted choice.now c) ms
+        (W.contents output.old) (W.contents output.new)) }
+{
     let mut findings = Findings::new();
     let mut step = walk.next();
     loop {
@@ -116,9 +141,9 @@ fn write_items<T: Tree, C: Choice, W: Write, E: Write>(
                 walk.listed(named)
             }
             Step::Item(item) => {
-                if wants_item(choice, &mut tree, &item)? {
+                if wants_item(choice, tree, &item)? {
                     findings.note(&item);
-                    write_item(item, end, &mut lines, output, errors)?;
+                    write_item(item, end, lines, output, errors)?;
                     walk.next()
                 } else {
                     walk.next()

@@ -75,24 +75,45 @@ fn add_form<'a, A: Allocator + Copy>(
     ways: &mut Vec<String<A>, A>,
     text: &'a str,
 ) -> Result<Option<&'a str>, AllocError> {
-    let mut form = String::new(alloc);
-    let after = if let Some(after) = text.strip_prefix('[') {
-        add_bracket(&mut form, after)?
-    } else if let Some(after) = text.strip_prefix('\\') {
-        add_escaped(&mut form, after)?
-    } else if let Some((inner, after)) = split_choice(text) {
-        if !are_characters(inner) {
-            return add_alternatives(alloc, ways, inner, after);
+    match split_choice(text) {
+        Some((inner, after)) if !are_characters(inner) => {
+            add_alternatives(alloc, ways, inner, after)
         }
-        add_characters(&mut form, inner)?;
-        Some(after)
-    } else {
-        Some(add_first(&mut form, text)?)
-    };
-    for way in ways.iter_mut() {
-        way.push_str(form.as_str())?;
+        _ => {
+            let mut form = String::new(alloc);
+            let after = add_native(&mut form, text)?;
+            add_to_each(ways, form.as_str())?;
+            Ok(after)
+        }
     }
-    Ok(after)
+}
+
+/// Adds what stands for the first form of a text, if that is no choice of longer texts, as `add_form`.
+fn add_native<'a, A: Allocator>(
+    made: &mut String<A>,
+    text: &'a str,
+) -> Result<Option<&'a str>, AllocError> {
+    if let Some(after) = text.strip_prefix('[') {
+        return add_bracket(made, after);
+    }
+    if let Some(after) = text.strip_prefix('\\') {
+        return add_escaped(made, after);
+    }
+    match split_choice(text) {
+        Some((inner, after)) => {
+            add_characters(made, inner)?;
+            Ok(Some(after))
+        }
+        None => Ok(Some(add_first(made, text)?)),
+    }
+}
+
+/// Adds a text to each way.
+fn add_to_each<A: Allocator>(ways: &mut [String<A>], text: &str) -> Result<(), AllocError> {
+    for way in ways.iter_mut() {
+        way.push_str(text)?;
+    }
+    Ok(())
 }
 
 /// Adds the first character.

@@ -44,18 +44,28 @@ fn with_whole_components<A: Allocator>(alloc: A, pattern: &str) -> Result<String
         let Some((before, after)) = rest.split_once("**") else {
             break;
         };
-        made.push_str(before)?;
-        if !made.is_empty() && !made.as_str().ends_with('/') {
-            made.push_str("*/")?;
-        }
-        made.push_str("**")?;
         rest = after.trim_start_matches('*');
-        if !rest.is_empty() && !rest.starts_with('/') {
-            made.push_str("/*")?;
-        }
+        add_component(&mut made, before, rest)?;
     }
     made.push_str(rest)?;
     Ok(made)
+}
+
+/// Adds what is before a `**`, and that as a component. `rest` follows it.
+fn add_component<A: Allocator>(
+    made: &mut String<A>,
+    before: &str,
+    rest: &str,
+) -> Result<(), AllocError> {
+    made.push_str(before)?;
+    if !made.is_empty() && !made.as_str().ends_with('/') {
+        made.push_str("*/")?;
+    }
+    made.push_str("**")?;
+    if !rest.is_empty() && !rest.starts_with('/') {
+        made.push_str("/*")?;
+    }
+    Ok(())
 }
 
 /// The pattern, where the character at the place stands for itself: `a[b` becomes `a[[]b`.

@@ -16,12 +16,22 @@ pub fn explain_refusal<A: Allocator + Copy>(
 ) -> Result<String<A>, AllocError> {
     let mut lines = format!(in alloc; "{error}\n")?;
     add_caret(&mut lines, written, error.pos)?;
-    match accepted_instead(alloc, written, error.pos)? {
+    add_instead(alloc, &mut lines, written, error.pos)?;
+    Ok(lines)
+}
+
+/// Adds what to write instead of a text that is refused at the place.
+fn add_instead<A: Allocator + Copy>(
+    alloc: A,
+    lines: &mut String<A>,
+    written: &str,
+    place: usize,
+) -> Result<(), AllocError> {
+    match accepted_instead(alloc, written, place)? {
         Some(advice) => {
             lines.push_str("write instead: ")?;
-            lines.push_str(advice.as_str())?;
+            lines.push_str(advice.as_str())
         }
-        None => lines.push_str("write [[] for the character [, and ** as a whole component")?,
+        None => lines.push_str("write [[] for the character [, and ** as a whole component"),
     }
-    Ok(lines)
 }

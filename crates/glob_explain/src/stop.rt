@@ -7,7 +7,7 @@ mod wanted;
 use crate::caret::add_caret;
 use crate::foreign::foreign_instead;
 use crate::rows::{add_row, part_of};
-use glob_captures::{CapturesError, MOST_STEPS, Piece, Written, reach, tokens};
+use glob_captures::{CapturesError, MOST_STEPS, Piece, Reached, Written, reach, tokens};
 use glob_pattern::{MatchOptions, Pattern, PatternRefusal};
 use std::alloc::{AllocError, Allocator};
 use wanted::{add_want, grows, run_end};
@@ -40,6 +40,17 @@ pub fn stop_lines<A: Allocator + Copy>(
         ↔ (MOST_STEPS < length (tokens_of (chars pattern.now)) * length text.now) }
 {
     let reached = reach(alloc, pattern, text, options)?;
+    Ok(lines_at(alloc, pattern, text, options, &reached)?)
+}
+
+/// The lines of a text that is taken up to this place.
+fn lines_at<A: Allocator + Copy>(
+    alloc: A,
+    pattern: &Pattern<A>,
+    text: &str,
+    options: MatchOptions,
+    reached: &Reached<A>,
+) -> Result<String<A>, AllocError> {
     let list = tokens(alloc, pattern)?;
     let stop = Stop {
         pattern: pattern.as_str(),
@@ -50,15 +61,25 @@ pub fn stop_lines<A: Allocator + Copy>(
         options,
     };
     let mut lines = String::new(alloc);
-    add_caret(&mut lines, text, stop.before.chars().count())?;
-    if !add_ending(alloc, &mut lines, &stop)? {
-        add_waiting(&mut lines, &stop)?;
-        add_end(&mut lines, pattern, &stop)?;
-    }
-    add_hindering(&mut lines, pattern, text, options)?;
-    let instead = foreign_instead(alloc, pattern.as_str())?;
-    add_advice(&mut lines, instead.as_slice())?;
+    add_stop(alloc, &mut lines, pattern, text, &stop)?;
+    add_advice(alloc, &mut lines, pattern)?;
     Ok(lines)
+}
+
+/// Adds the text with a caret, what is wanted there, and which option hinders.
+fn add_stop<A: Allocator + Copy>(
+    alloc: A,
+    lines: &mut String<A>,
+    pattern: &Pattern<A>,
+    text: &str,
+    stop: &Stop<'_>,
+) -> Result<(), AllocError> {
+    add_caret(lines, text, stop.before.chars().count())?;
+    if !add_ending(alloc, lines, stop)? {
+        add_waiting(lines, stop)?;
+        add_end(lines, pattern, stop)?;
+    }
+    add_hindering(lines, pattern, text, stop.options)
 }
 
 /// Adds a line for the tokens after the last wildcard, where that took the whole text and the text does not end as they
@@ -198,8 +219,18 @@ fn add_hindering<A: Allocator + Copy>(
     Ok(())
 }
 
+/// Adds a line with what to write instead of a pattern with a form of another tool.
+fn add_advice<A: Allocator + Copy>(
+    alloc: A,
+    lines: &mut String<A>,
+    pattern: &Pattern<A>,
+) -> Result<(), AllocError> {
+    let instead = foreign_instead(alloc, pattern.as_str())?;
+    add_patterns(lines, instead.as_slice())
+}
+
 /// Adds a line with the pattern to write instead, or with those that do so together.
-fn add_advice<A: Allocator>(
+fn add_patterns<A: Allocator>(
     lines: &mut String<A>,
     patterns: &[String<A>],
 ) -> Result<(), AllocError> {

@@ -141,6 +141,28 @@ fn entries_of<R: Files, S: Strays, A: Allocator + Copy>(
     }
     let mut names = rt.open_dir(directory.as_str())?;
     let mut entries = Vec::new(alloc);
+    read_entries(
+        rt,
+        links,
+        strays,
+        alloc,
+        &mut directory,
+        &mut names,
+        &mut entries,
+    )?;
+    Ok(entries)
+}
+
+/// Adds the entries of an opened directory.
+fn read_entries<R: Files, S: Strays, A: Allocator + Copy>(
+    rt: &R,
+    links: Links,
+    strays: &mut S,
+    alloc: A,
+    directory: &mut String<A>,
+    names: &mut R::Dir,
+    entries: &mut Vec<Entry<A>, A>,
+) -> io::Result<()> {
     let mut block = [0; BLOCK];
     // A bound that no directory reaches: nothing says that a reader has an end.
     for _ in 0..u64::MAX {
@@ -148,17 +170,10 @@ fn entries_of<R: Files, S: Strays, A: Allocator + Copy>(
         if count == 0 {
             break;
         }
-        add_entries(
-            rt,
-            links,
-            strays,
-            alloc,
-            &mut directory,
-            &block[..count],
-            &mut entries,
-        )?;
+        let block = &block[..count];
+        add_entries(rt, links, strays, alloc, directory, block, entries)?;
     }
-    Ok(entries)
+    Ok(())
 }
 
 /// Adds an entry for each of some names of a directory. A NUL stands after each name, and no read ends inside one.

@@ -134,25 +134,30 @@ impl<R: Files, A: Allocator + Copy> Disk<R, A> {
         }
     }
 
-    /// The entries of a directory. Most directories end within two reads of a small block: one of all names, and one of
-    /// none.
+    /// The entries of a directory.
     fn entries(&self, path: &str, kinds: Kinds) -> io::Result<Vec<Entry<A>, A>> {
         // The separator at its end, so that a link there is followed.
         let mut directory = join(self.alloc, path, "")?;
         let mut names = self.rt.open_dir(directory.as_str())?;
         let mut entries = Vec::new(self.alloc);
-        let mut block = [0; BLOCK];
-        if !self.read_entries(
-            &mut names,
-            &mut block,
-            2,
-            &mut directory,
-            kinds,
-            &mut entries,
-        )? {
-            self.read_further_entries(&mut names, &mut directory, kinds, &mut entries)?;
-        }
+        self.read_all_entries(&mut names, &mut directory, kinds, &mut entries)?;
         Ok(entries)
+    }
+
+    /// Adds the entries of a directory. Most directories end within two reads of a small block: one of all names, and one
+    /// of none.
+    fn read_all_entries(
+        &self,
+        names: &mut R::Dir,
+        directory: &mut String<A>,
+        kinds: Kinds,
+        entries: &mut Vec<Entry<A>, A>,
+    ) -> io::Result<()> {
+        let mut block = [0; BLOCK];
+        if !self.read_entries(names, &mut block, 2, directory, kinds, entries)? {
+            self.read_further_entries(names, directory, kinds, entries)?;
+        }
+        Ok(())
     }
 
     /// Adds the entries that two reads of a large directory have left.

@@ -2,7 +2,7 @@
 use Rattle.std.proofs.Common.{◌+◌, ◌-◌, ◌*◌}
 use Rattle.glob_walk.specs.Machines.{saying}
 use Rattle.glob_console.proofs.FoundLemmas.{Written, step_number}
-use Rattle.glob_console.proofs.find.write_items.Given as goal
+use Rattle.glob_console.proofs.find.write_by.Given as goal
 
 abbrev pub invariant-loop-step : goal.invariant-loop-step
 invariant-loop-step g l =
