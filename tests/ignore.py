@@ -1,6 +1,7 @@
 #!/usr/bin/env python3
 """Compares ignore lists with git: questions whose answers tests/rows/git.answers keeps, as `glob_bench rules` reads and
-writes them; then random lists and trees, and which line decides about each path.
+writes them (of git 2.39, and at the end, each with an R, lists that docs/IGNORE.md says are refused); then random lists and
+trees, and which line decides about each path.
 
     tests/ignore.py [--seconds N] [--seed N] [--lists N]
 
@@ -176,7 +177,7 @@ class Count:
     def compare_kept(self):
         ran = subprocess.run([PROGRAM, "rules"], input=(KEPT / "git.questions").read_bytes(), stdout=subprocess.PIPE)
         found, kept = (it.decode().splitlines() for it in [ran.stdout, (KEPT / "git.answers").read_bytes()])
-        wrong = [f"kept answer {at}: git {git}, ours {we}" for at, (git, we) in enumerate(zip(kept, found), 1) if git != we]
+        wrong = [f"kept answer {at}: {git}, ours {we}" for at, (git, we) in enumerate(zip(kept, found), 1) if git != we]
         print(*wrong[:20], sep="\n", end="\n" * bool(wrong))
         self.passed += min(len(found), len(kept)) - len(wrong)
         self.failed += len(wrong) + abs(len(found) - len(kept))

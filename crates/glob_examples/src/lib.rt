@@ -1,7 +1,7 @@
 //! Callers of the library, one file for each kind of user, with what each promises in words of its own.
 #![tactic(auto)]
 
-pub mod beginnings;
+pub mod first_paths;
 pub mod copy;
 pub mod faults;
 pub mod literals;

@@ -1,7 +1,4 @@
-mod disks;
-mod lists;
+mod fake_tree;
 mod machine;
-mod made;
 mod memory;
-mod trees;
 mod walks;

@@ -1,10 +1,12 @@
 //! Each call of `glob_examples` once, with ample memory: that it answers. What it answers is proved.
+use glob::{End, MatchOptions, Pattern, glob_in};
 use glob_examples::copy::{CopyRules, paths_to_copy, pattern_below};
+use glob_examples::first_paths::first_paths;
 use glob_examples::literals::matches_main;
 use glob_examples::names::PathPattern;
 use glob_examples::one_file::{OneFile, walk_over_main};
 use glob_examples::sources::sources;
-use glob_examples::texts::matches_text;
+use glob_examples::texts::{matches_text, reread};
 use glob_testing::texts::{Parts, text_of};
 use std::alloc::Global;
 use std::process::Abort;
@@ -42,6 +44,30 @@ fn walks(alloc: Global) -> bool {
     }
 }
 
+fn takes_the_first_path(alloc: Global) -> bool {
+    let tree = OneFile::new(alloc, "main.rs");
+    let Ok(mut paths) = glob_in(alloc, tree, "*", MatchOptions::new(), 99) else {
+        return false;
+    };
+    match (
+        first_paths(alloc, &mut paths, 1),
+        first_paths(alloc, &mut paths, 1),
+    ) {
+        (Ok(first), Ok(rest)) => {
+            let is_first = first.paths.len() == 1 && first.end.is_none();
+            is_first && rest.paths.is_empty() && rest.end == Some(End::Done)
+        }
+        _ => false,
+    }
+}
+
+fn rereads(alloc: Global) -> bool {
+    match Pattern::new(alloc, "a*") {
+        Ok(pattern) => matches!(reread(alloc, &pattern), Ok(again) if again.as_str() == "a*"),
+        Err(_) => false,
+    }
+}
+
 fn escapes_a_folder(alloc: Global) -> bool {
     match pattern_below(alloc, "a[1]") {
         Ok(pattern) => pattern.as_str() == "a[[]1[]]/**/*",
@@ -56,6 +82,8 @@ fn examples_answer(rt: HostRuntime) {
     check(&rt, matches_text(alloc, "[", "[") == Ok(false), "a fault");
     check(&rt, escapes_a_folder(alloc), "a pattern below");
     check(&rt, walks(alloc), "a walk");
+    check(&rt, takes_the_first_path(alloc), "the first path");
+    check(&rt, rereads(alloc), "a pattern again");
     check(&rt, finds_sources(alloc), "sources");
     check(&rt, copies_one_file(alloc), "paths");
 }

@@ -1,4 +1,4 @@
-mod hall;
+mod counted_tree;
 mod memory;
 mod order;
 mod runs;

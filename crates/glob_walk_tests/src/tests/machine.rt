@@ -1,17 +1,17 @@
 //! Walks that a test drives, with the answers of a tree.
 ghost use Rattle.std.specs.Prelude.{◌≡◌, None};
 
-use super::made::{Memory, check, check_text};
-use super::trees::{Says, Told};
+use super::fake_tree::{Behaviour, FakeTree};
 use super::walks::{Job, Walked, agreed, refused};
 use glob::{GlobResult, Step, Tree, WalkMachine};
+use glob_testing::checking::{Memory, check, check_text};
 use std::process::Abort;
 
 /// Drives a walk that has asked nothing, for at most so many steps. Where it ends, it stays so.
 fn drive<'a>(
     rt: &(impl Abort + AllocGlobal),
     machine: &mut WalkMachine<Memory<'a>>,
-    tree: &mut Told<'a>,
+    tree: &mut FakeTree<'a>,
     most: u64,
 ) -> Walked
     requires { machine.old.asked ≡ None }
@@ -59,7 +59,7 @@ fn check_done(rt: &impl Abort, step: Step<Memory<'_>>) {
 pub(super) fn driven<'a>(
     rt: &(impl Abort + AllocGlobal),
     alloc: Memory<'a>,
-    mut tree: Told<'a>,
+    mut tree: FakeTree<'a>,
     job: Job<'_>,
     most: u64,
 ) -> Walked {
@@ -119,7 +119,7 @@ const BELOW_NAMES: [(&str, &str); 7] = [
 fn a_driver_that_answers_names_alone(rt: HostRuntime) {
     for (pattern, words) in BELOW_NAMES {
         let job = Job {
-            says: Says::NoKinds,
+            behaviour: Behaviour::NoKinds,
             ..Job::of(SMALL, pattern)
         };
         check_text(&rt, agreed(&rt, job).text.as_str(), words, pattern);

@@ -4,12 +4,12 @@ mod costs;
 mod printing;
 mod sizes;
 
+use super::fake_tree::{Asked, Behaviour, FakeTree, LIES, Notes, tree_of};
 use super::machine::driven;
-use super::made::{Memory, add, check, check_beginning, check_text, made};
-use super::trees::{Asked, LIES, Notes, Says, Told, tree_of};
 use glob::{
     End, GlobCause, GlobResult, MatchOptions, Paths, PatternRefusal, Tree, Walk, glob_in, walk_in,
 };
+use glob_testing::checking::{Memory, add, check, check_beginning, check_text, made};
 use glob_testing::rationing::{Ration, Rationed};
 use std::alloc::Allocator;
 use std::process::Abort;
@@ -24,7 +24,7 @@ pub(super) const CASE: MatchOptions = MatchOptions {
 /// A tree, and a walk over it.
 #[derive(Clone, Copy)]
 pub(super) struct Job<'a> {
-    pub(super) says: Says<'a>,
+    pub(super) behaviour: Behaviour<'a>,
     /// What is in the tree's files.
     pub(super) words: &'a str,
     pub(super) pattern: &'a str,
@@ -36,7 +36,7 @@ impl<'a> Job<'a> {
     /// A walk over files that words write, case-sensitively, without rules and within the highest limit.
     pub(super) fn of(words: &'a str, pattern: &'a str) -> Self {
         Job {
-            says: Says::Files,
+            behaviour: Behaviour::Files,
             words,
             pattern,
             options: CASE,
@@ -44,10 +44,10 @@ impl<'a> Job<'a> {
         }
     }
 
-    /// The same over a tree that says this.
-    pub(super) fn over(says: Says<'a>, pattern: &'a str) -> Self {
+    /// The same over a tree that answers so.
+    pub(super) fn over(behaviour: Behaviour<'a>, pattern: &'a str) -> Self {
         Job {
-            says,
+            behaviour,
             ..Job::of(LIES, pattern)
         }
     }
@@ -139,14 +139,14 @@ pub(super) fn refused(rt: &(impl Abort + AllocGlobal), refusal: PatternRefusal) 
 /// would carry it.
 fn start<'a>(
     alloc: Memory<'a>,
-    tree: Told<'a>,
+    tree: FakeTree<'a>,
     job: Job<'_>,
-) -> Result<Paths<Told<'a>>, PatternRefusal> {
+) -> Result<Paths<FakeTree<'a>>, PatternRefusal> {
     glob_in(alloc, tree, job.pattern, job.options, job.limit)
 }
 
 /// The next item of a walk.
-fn next_of<'a>(paths: &mut Paths<Told<'a>>) -> Option<GlobResult<Memory<'a>>> {
+fn next_of<'a>(paths: &mut Paths<FakeTree<'a>>) -> Option<GlobResult<Memory<'a>>> {
     paths.next()
 }
 
@@ -180,7 +180,11 @@ pub(super) fn gathered<T: Tree>(
 }
 
 /// Takes the items of a walk one by one.
-fn taken(rt: &(impl Abort + AllocGlobal), ration: &Ration, paths: &mut Paths<Told<'_>>) -> Walked {
+fn taken(
+    rt: &(impl Abort + AllocGlobal),
+    ration: &Ration,
+    paths: &mut Paths<FakeTree<'_>>,
+) -> Walked {
     let mut walked = Walked::new(rt);
     for _ in 0..u64::MAX {
         let item = next_of(paths);
@@ -196,7 +200,7 @@ fn taken(rt: &(impl Abort + AllocGlobal), ration: &Ration, paths: &mut Paths<Tol
 }
 
 /// A walk that has ended stays so, and has counted its items. Gives what it has spent.
-fn ended(rt: &impl Abort, paths: &mut Paths<Told<'_>>, count: u64) -> u64 {
+fn ended(rt: &impl Abort, paths: &mut Paths<FakeTree<'_>>, count: u64) -> u64 {
     for _ in 0..3 {
         assert!(rt; next_of(paths).is_none());
     }
@@ -209,7 +213,7 @@ fn ended(rt: &impl Abort, paths: &mut Paths<Told<'_>>, count: u64) -> u64 {
 fn stepped<'a>(
     rt: &(impl Abort + AllocGlobal),
     alloc: Memory<'a>,
-    tree: Told<'a>,
+    tree: FakeTree<'a>,
     notes: &Notes,
     job: Job<'_>,
 ) -> Walked {
@@ -236,7 +240,7 @@ pub(super) fn walk(
     way: Way,
 ) -> Walked {
     let notes = Notes::new();
-    let Ok(tree) = tree_of(alloc, job.says, job.words, &notes) else {
+    let Ok(tree) = tree_of(alloc, job.behaviour, job.words, &notes) else {
         let mut walked = Walked::new(rt);
         walked.is_short = true;
         return walked;
@@ -263,18 +267,39 @@ pub(super) fn agreed(rt: &(impl Abort + AllocGlobal), job: Job<'_>) -> Walked {
     let ample = Rationed::refusing(0, rt.alloc());
     let known = walk(rt, &ample, job, Way::Steps);
     check(rt, known.spent <= job.limit, job.limit, job.pattern);
-    for way in [Way::Whole, Way::Driven(u64::MAX)] {
-        let found = walk(rt, &ample, job, way);
-        check_text(rt, found.text.as_str(), known.text.as_str(), job.pattern);
-        check(rt, found.spent == known.spent, found.spent, job.pattern);
-        check(rt, found.is_short == known.is_short, 0, job.pattern);
-        let is_same = found.asked.number == known.asked.number;
-        check(rt, is_same, found.asked.questions, job.pattern);
-    }
+    check_way(rt, &ample, job, Way::Whole, &known);
+    check_way(rt, &ample, job, Way::Driven(u64::MAX), &known);
     let most = known.asked.questions.saturating_add(known.count) / 2;
-    let found = walk(rt, &ample, job, Way::Driven(most));
-    check_beginning(rt, &found.text, &known.text, job.pattern);
+    check_half(rt, &ample, job, most, &known);
     known
+}
+
+/// The walk in this way gives and spends the same as the known one, and asks the same.
+fn check_way(
+    rt: &(impl Abort + AllocGlobal),
+    alloc: Memory<'_>,
+    job: Job<'_>,
+    way: Way,
+    known: &Walked,
+) {
+    let found = walk(rt, alloc, job, way);
+    check_text(rt, found.text.as_str(), known.text.as_str(), job.pattern);
+    check(rt, found.spent == known.spent, found.spent, job.pattern);
+    check(rt, found.is_short == known.is_short, 0, job.pattern);
+    let is_same = found.asked.number == known.asked.number;
+    check(rt, is_same, found.asked.questions, job.pattern);
+}
+
+/// The walk that is driven for so many steps gives a beginning of the known one.
+fn check_half(
+    rt: &(impl Abort + AllocGlobal),
+    alloc: Memory<'_>,
+    job: Job<'_>,
+    most: u64,
+    known: &Walked,
+) {
+    let found = walk(rt, alloc, job, Way::Driven(most));
+    check_beginning(rt, &found.text, &known.text, job.pattern);
 }
 
 /// Walks in each way give these items, and spend so much.

@@ -1,5 +1,5 @@
 //! What programs do with a text, a fault and a walk.
-use super::hall::{Counts, Hall};
+use super::counted_tree::{CountedTree, Counts};
 use super::writers::{Mood, Moody};
 use glob_console::{ErrorLines, Every, WalkSettings, find_in, write_text};
 use glob_pattern::MatchOptions;
@@ -58,14 +58,14 @@ pub(super) fn no_asks() -> Counts {
 }
 
 /// Does the job over 300 directories, in which are so many files. Gives the status and both writers.
-pub(super) fn run_in_hall<'a>(
+pub(super) fn run_counted<'a>(
     alloc: Global,
     job: Job,
     files: u32,
     [output, errors]: [Mood; 2],
     counts: &'a Counts,
 ) -> (u8, Moody<'a>, Moody<'a>) {
-    let tree = Hall {
+    let tree = CountedTree {
         alloc,
         asks: Asks::new(),
         counts,

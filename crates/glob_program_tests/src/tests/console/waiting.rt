@@ -1,6 +1,6 @@
 //! How long paths wait, in how many writes they are written, and which listings are asked for.
-use super::hall::Hall;
-use super::runs::{Job, no_asks, run, run_in_hall};
+use super::counted_tree::CountedTree;
+use super::runs::{Job, no_asks, run, run_counted};
 use super::writers::Mood;
 use glob_tree::Asks;
 use std::process::Abort;
@@ -23,7 +23,7 @@ fn check_waits(
 ) {
     let counts = no_asks();
     let willing = [Mood::Willing, Mood::Willing];
-    let (status, output, _) = run_in_hall(rt.alloc(), Job::Walk(pattern), files, willing, &counts);
+    let (status, output, _) = run_counted(rt.alloc(), Job::Walk(pattern), files, willing, &counts);
     let (mut early, mut late) = (0, 0);
     if let [one, two] = output.times.as_slice() {
         (early, late) = (*one, *two);
@@ -48,7 +48,7 @@ fn many_paths_take_few_writes(rt: HostRuntime) {
     let counts = no_asks();
     let willing = [Mood::Willing, Mood::Willing];
     let job = Job::Walk("001/y*");
-    let (status, output, _) = run_in_hall(rt.alloc(), job, 5_000, willing, &counts);
+    let (status, output, _) = run_counted(rt.alloc(), job, 5_000, willing, &counts);
     let blocks = output.written.len() as u64 / 8_192;
     let are_few = blocks <= output.writes && output.writes <= blocks.saturating_add(2);
     assert!(rt; status == 0 && blocks > 4 && are_few, "{blocks}");
@@ -69,7 +69,7 @@ const KINDS: [(&str, u64, u64); 7] = [
 fn kinds_are_asked_for_where_they_matter(rt: HostRuntime) {
     for (pattern, entries, names) in KINDS {
         let counts = no_asks();
-        let tree = Hall {
+        let tree = CountedTree {
             alloc: rt.alloc(),
             asks: Asks::new(),
             counts: &counts,

@@ -1,5 +1,5 @@
 //! Writers that are interrupted, take few bytes or none, or fail, and lines of standard error.
-use super::runs::{Job, no_asks, run_in_hall};
+use super::runs::{Job, no_asks, run_counted};
 use super::writers::Mood;
 use glob_console::{ErrorLines, FindFault};
 use std::cell::Cell;
@@ -18,8 +18,8 @@ const JOBS: [Job; 3] = [
 fn check_short(rt: &(impl Abort + AllocGlobal), job: Job, mood: Mood) {
     let counts = no_asks();
     let willing = [Mood::Willing, Mood::Willing];
-    let (_, whole, _) = run_in_hall(rt.alloc(), job, 0, willing, &counts);
-    let (status, output, errors) = run_in_hall(rt.alloc(), job, 0, [mood, mood], &counts);
+    let (_, whole, _) = run_counted(rt.alloc(), job, 0, willing, &counts);
+    let (status, output, errors) = run_counted(rt.alloc(), job, 0, [mood, mood], &counts);
     let is_same = output.written == whole.written && whole.written.len() > 3;
     let is_done = status == 0 && errors.writes == 0 && whole.writes <= 2;
     assert!(rt; is_same && is_done, "{job:?} {mood:?}");
@@ -49,7 +49,7 @@ const FAULTS: [(Job, &str); 3] = [
 /// A writer of this mood gets the whole line of a fault, and a willing one at once.
 fn check_line(rt: &(impl Abort + AllocGlobal), (job, line): (Job, &str), mood: Mood) {
     let counts = no_asks();
-    let (status, output, errors) = run_in_hall(rt.alloc(), job, 0, [Mood::Willing, mood], &counts);
+    let (status, output, errors) = run_counted(rt.alloc(), job, 0, [Mood::Willing, mood], &counts);
     let is_line = errors.written.as_slice() == line.as_bytes();
     let is_once = errors.writes == 1 || !matches!(mood, Mood::Willing);
     let is_fault = status == 2 && output.writes == 0;
@@ -68,7 +68,7 @@ fn the_line_of_a_fault_is_whole(rt: HostRuntime) {
 /// A writer of this mood is asked once, and the fault is one line in one write.
 fn check_once(rt: &(impl Abort + AllocGlobal), job: Job, mood: Mood, line: &str) {
     let counts = no_asks();
-    let (status, output, errors) = run_in_hall(rt.alloc(), job, 0, [mood, Mood::Willing], &counts);
+    let (status, output, errors) = run_counted(rt.alloc(), job, 0, [mood, Mood::Willing], &counts);
     let is_line = errors.written.as_slice() == line.as_bytes() && errors.writes == 1;
     let is_once = output.writes == 1 && output.flushes <= 1;
     assert!(rt; status == 2 && is_line && is_once, "{job:?} {mood:?}");

@@ -1,9 +1,9 @@
 //! Walks of trees whose root is the current directory, of trees whose answers belong to no content, and within
 //! limits. Others are in the tables of `tests/walks`, which are walked on a disk.
 use super::{CASE, Job, agreed, check_walks};
-use crate::tests::made::check;
-use crate::tests::trees::{FILES, LIES, Says};
+use crate::tests::fake_tree::{Behaviour, FILES, LIES};
 use glob::MatchOptions;
+use glob_testing::checking::check;
 use std::io::ErrorKind;
 use std::process::Abort;
 
@@ -14,39 +14,49 @@ const DOCUMENTS: &str =
 
 const NO_TEXT: Option<ErrorKind> = Some(ErrorKind::InvalidData);
 
-/// What a tree says, what is in it, a pattern, and a limit.
-type Walk = (Says<'static>, &'static str, &'static str, u64);
+/// How a tree answers, what is in it, a pattern, and a limit.
+type Walk = (Behaviour<'static>, &'static str, &'static str, u64);
 
 /// A walk, and what it gives and spends: a listing that fails is one error, and the walk goes on.
 const ROWS: [(Walk, &str, u64); 21] = [
     (
-        (Says::Files, "", ".*/.*", 99),
+        (Behaviour::Files, "", ".*/.*", 99),
         "./../.. ./../. ././.. ././. ",
         10,
     ),
-    ((Says::Files, "", "..", 99), ".. ", 2),
-    ((Says::Files, "d /a f /a/b", "/", 99), "/ ", 2),
-    ((Says::Files, "d /a f /a/b", "//", 99), "/ ", 2),
-    ((Says::Files, "d /a f /a/b", "/*", 99), "/a ", 3),
-    ((Says::Files, "d /a f /a/b", "", 99), "", 2),
+    ((Behaviour::Files, "", "..", 99), ".. ", 2),
+    ((Behaviour::Files, "d /a f /a/b", "/", 99), "/ ", 2),
+    ((Behaviour::Files, "d /a f /a/b", "//", 99), "/ ", 2),
+    ((Behaviour::Files, "d /a f /a/b", "/*", 99), "/a ", 3),
+    ((Behaviour::Files, "d /a f /a/b", "", 99), "", 2),
     (
-        (Says::Files, MEDIA, "/media/**/*.jpg", 99),
+        (Behaviour::Files, MEDIA, "/media/**/*.jpg", 99),
         "/media/a.jpg /media/p/b.jpg ",
         8,
     ),
     (
-        (Says::Unlisted("r", NO_TEXT), DOCUMENTS, "r/**/*.md", 99),
+        (
+            Behaviour::Unlisted("r", NO_TEXT),
+            DOCUMENTS,
+            "r/**/*.md",
+            99,
+        ),
         "!r ",
         3,
     ),
     (
-        (Says::Unlisted("r/one", NO_TEXT), DOCUMENTS, "r/**/*.md", 99),
+        (
+            Behaviour::Unlisted("r/one", NO_TEXT),
+            DOCUMENTS,
+            "r/**/*.md",
+            99,
+        ),
         "r/a.md !r/one r/two/b.md ",
         9,
     ),
     (
         (
-            Says::Unlisted("r/one/b", NO_TEXT),
+            Behaviour::Unlisted("r/one/b", NO_TEXT),
             DOCUMENTS,
             "r/**/*.md",
             99,
@@ -55,25 +65,25 @@ const ROWS: [(Walk, &str, u64); 21] = [
         12,
     ),
     (
-        (Says::Endless, LIES, "**/*", 10),
+        (Behaviour::Endless, LIES, "**/*", 10),
         "d d/d d/d/d d/d/d/d ^ ",
         10,
     ),
-    ((Says::Descending, LIES, "*", 99), "a b ", 4),
-    ((Says::FalseDirectory, LIES, "*", 99), "d ", 3),
-    ((Says::FalseDirectory, LIES, "*/", 99), "d ", 3),
-    ((Says::FalseDirectory, LIES, "d", 99), "", 2),
-    ((Says::FalseDirectory, LIES, "*/d", 99), "", 4),
-    ((Says::FalseDirectory, LIES, "*/*", 99), "d/d ", 5),
-    ((Says::Files, "", "a", 0), "^ ", 0),
-    ((Says::Files, "", "a", 99), "", 2),
+    ((Behaviour::Descending, LIES, "*", 99), "a b ", 4),
+    ((Behaviour::FalseDirectory, LIES, "*", 99), "d ", 3),
+    ((Behaviour::FalseDirectory, LIES, "*/", 99), "d ", 3),
+    ((Behaviour::FalseDirectory, LIES, "d", 99), "", 2),
+    ((Behaviour::FalseDirectory, LIES, "*/d", 99), "", 4),
+    ((Behaviour::FalseDirectory, LIES, "*/*", 99), "d/d ", 5),
+    ((Behaviour::Files, "", "a", 0), "^ ", 0),
+    ((Behaviour::Files, "", "a", 99), "", 2),
     (
-        (Says::Files, "", "a/**b[", 99),
+        (Behaviour::Files, "", "a/**b[", 99),
         "4 recursive wildcards must form a single path component",
         0,
     ),
     (
-        (Says::Files, "", "x/a[/]b", 99),
+        (Behaviour::Files, "", "x/a[/]b", 99),
         "1 invalid range pattern",
         0,
     ),
@@ -82,20 +92,25 @@ const ROWS: [(Walk, &str, u64); 21] = [
 /// Walks that end where a listing or a look is out of memory.
 const SHORT: [(Walk, &str, u64); 5] = [
     (
-        (Says::Unlisted("r/one", None), DOCUMENTS, "r/**/*.md", 99),
+        (
+            Behaviour::Unlisted("r/one", None),
+            DOCUMENTS,
+            "r/**/*.md",
+            99,
+        ),
         "r/a.md ",
         7,
     ),
-    ((Says::NoMemory, LIES, "*", 99), "", 1),
-    ((Says::NoMemory, LIES, "a", 99), "", 1),
-    ((Says::NoMemory, LIES, "**", 99), "", 1),
-    ((Says::NoMemory, LIES, "/", 99), "", 1),
+    ((Behaviour::NoMemory, LIES, "*", 99), "", 1),
+    ((Behaviour::NoMemory, LIES, "a", 99), "", 1),
+    ((Behaviour::NoMemory, LIES, "**", 99), "", 1),
+    ((Behaviour::NoMemory, LIES, "/", 99), "", 1),
 ];
 
 fn check_rows(rt: &(impl Abort + AllocGlobal), rows: &[(Walk, &str, u64)], is_short: bool) {
-    for ((says, words, pattern, limit), items, spent) in rows {
+    for ((behaviour, words, pattern, limit), items, spent) in rows {
         let job = Job {
-            says: *says,
+            behaviour: *behaviour,
             words,
             pattern,
             options: CASE,
@@ -155,12 +170,12 @@ fn walks_within_each_limit(rt: HostRuntime) {
     }
 }
 
-const LIARS: [Says<'static>; 5] = [
-    Says::Changing,
-    Says::Endless,
-    Says::Descending,
-    Says::FalseDirectory,
-    Says::NoMemory,
+const LIARS: [Behaviour<'static>; 5] = [
+    Behaviour::Changing,
+    Behaviour::Endless,
+    Behaviour::Descending,
+    Behaviour::FalseDirectory,
+    Behaviour::NoMemory,
 ];
 
 const LIMITS: [u64; 20] = [
@@ -174,10 +189,10 @@ const OVER_LIARS: [&str; 11] = [
 
 #[test]
 fn answers_that_change_with_each_call(rt: HostRuntime) {
-    for says in LIARS {
+    for behaviour in LIARS {
         for pattern in OVER_LIARS {
             for limit in LIMITS {
-                agreed(&rt, Job::over(says, pattern).within(limit));
+                agreed(&rt, Job::over(behaviour, pattern).within(limit));
             }
         }
     }

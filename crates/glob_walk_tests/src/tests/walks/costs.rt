@@ -1,8 +1,8 @@
 //! How many requests for memory a walk makes, and for how many bytes. The clock is not asked.
 use super::sizes::names_of;
 use super::{Job, Way, walk};
-use crate::tests::made::{check, text_of};
-use crate::tests::trees::Says;
+use crate::tests::fake_tree::Behaviour;
+use glob_testing::checking::{check, text_of};
 use glob_testing::rationing::Rationed;
 use std::process::Abort;
 
@@ -63,7 +63,7 @@ fn check_row(rt: &(impl Abort + AllocGlobal), row: Row, whole: bool) {
     let words = names_of(rt, row.files, end.as_str());
     let pattern = text_of(rt, &[(row.part, row.times)]);
     let job = Job {
-        says: Says::Ready,
+        behaviour: Behaviour::Ready,
         ..Job::of(words.as_str(), pattern.as_str())
     };
     let ample = Rationed::refusing(0, rt.alloc());

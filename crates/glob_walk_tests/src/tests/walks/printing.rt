@@ -1,8 +1,8 @@
 //! What is printed of an error, whole; and what its other calls give.
 use super::{Job, next_of, start};
-use crate::tests::made::{Memory, check, made, text_of};
-use crate::tests::trees::{Notes, Says, tree_of};
+use crate::tests::fake_tree::{Behaviour, Notes, tree_of};
 use glob::GlobError;
+use glob_testing::checking::{Memory, check, made, text_of};
 use glob_testing::rationing::Rationed;
 use glob_testing::texts::{are_same, prints_as};
 use std::io::{self, ErrorKind};
@@ -15,7 +15,7 @@ fn error_of<'a>(
     notes: &'a Notes,
     job: Job<'a>,
 ) -> GlobError<Memory<'a>> {
-    let tree = made(rt, tree_of(alloc, job.says, job.words, notes));
+    let tree = made(rt, tree_of(alloc, job.behaviour, job.words, notes));
     let mut paths = made(rt, start(alloc, tree, job));
     match next_of(&mut paths) {
         Some(Err(error)) => error,
@@ -60,19 +60,24 @@ fn check_error(
     if let Some(path) = path {
         check(rt, error.path().as_str() == path, 0, job.pattern);
     }
-    check_same(rt, *error.error(), known);
-    let words = made(rt, format!(in rt.alloc(); "{known}"));
-    check_printed(rt, &error, words.as_str());
+    check_shown(rt, &error, known);
     check_same(rt, io::Error::from(error), known);
     check(rt, ample.ration.asked() == requests, requests, job.pattern);
     let error = error_of(rt, &ample, &notes, job);
     check_same(rt, error.into_error(), known);
 }
 
+/// The error has this one in it, and prints it.
+fn check_shown(rt: &(impl AllocGlobal + Abort), error: &GlobError<Memory<'_>>, known: io::Error) {
+    check_same(rt, *error.error(), known);
+    let words = made(rt, format!(in rt.alloc(); "{known}"));
+    check_printed(rt, error, words.as_str());
+}
+
 /// The directory at the path cannot be read for this reason.
 fn check_unread(rt: &(impl AllocGlobal + Abort), path: &str, reason: io::Error) {
     let pattern = text_of(rt, &[(path, 1), ("/*", 1)]);
-    let job = Job::over(Says::Unreadable(reason), pattern.as_str());
+    let job = Job::over(Behaviour::Unreadable(reason), pattern.as_str());
     check_error(rt, job, Some(path), reason);
 }
 
@@ -97,10 +102,10 @@ fn unreadable_directories(rt: HostRuntime) {
 #[test]
 fn refusals_are_printed(rt: HostRuntime) {
     let memory = io::Error::from(ErrorKind::OutOfMemory);
-    check_error(&rt, Job::over(Says::NoMemory, "a"), None, memory);
+    check_error(&rt, Job::over(Behaviour::NoMemory, "a"), None, memory);
     let long = text_of(&rt, &[("\u{e9}", 20_000)]);
     for (pattern, limit, path) in [("a", 0, "."), (long.as_str(), 1, long.as_str())] {
-        let job = Job::over(Says::Endless, pattern).within(limit);
+        let job = Job::over(Behaviour::Endless, pattern).within(limit);
         check_error(&rt, job, Some(path), io::Error::other("walk limit reached"));
     }
 }

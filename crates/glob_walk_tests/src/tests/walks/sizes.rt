@@ -1,7 +1,7 @@
 //! Walks at many sizes and over characters of each length. Memory is ample, so each of them is done.
 use super::{Job, Way, agreed, check_walks, walk};
-use crate::tests::made::{add, check, check_text, made, repeated, text_of};
-use crate::tests::trees::Says;
+use crate::tests::fake_tree::Behaviour;
+use glob_testing::checking::{add, check, check_text, made, repeated, text_of};
 use glob_testing::rationing::Rationed;
 use glob_testing::sizes::{CHARACTERS, sizes_to};
 use std::process::Abort;
@@ -68,7 +68,7 @@ fn check_components(rt: &(impl Abort + AllocGlobal), size: usize) {
     ];
     for (component, path, spent) in rows {
         let pattern = repeated(rt, component, size);
-        let job = Job::over(Says::Endless, pattern.as_str());
+        let job = Job::over(Behaviour::Endless, pattern.as_str());
         check_walks(rt, job, path, spent);
     }
 }
@@ -86,11 +86,11 @@ fn components(rt: HostRuntime) {
 /// What is found: a part so many times, and then the last one.
 type Found = (&'static str, usize, &'static str);
 
-/// What a tree says, a component, how many of them the pattern has, in which way it walks, what it gives, and what it
+/// How a tree answers, a component, how many of them the pattern has, in which way it walks, what it gives, and what it
 /// spends.
-const LARGE: [(Says<'static>, &str, usize, Way, Found, u64); 6] = [
+const LARGE: [(Behaviour<'static>, &str, usize, Way, Found, u64); 6] = [
     (
-        Says::Endless,
+        Behaviour::Endless,
         "a",
         5_000,
         Way::Whole,
@@ -98,32 +98,46 @@ const LARGE: [(Says<'static>, &str, usize, Way, Found, u64); 6] = [
         5_001,
     ),
     (
-        Says::Endless,
+        Behaviour::Endless,
         "*",
         5_000,
         Way::Steps,
         ("d/", 4_999, "d "),
         10_001,
     ),
-    (Says::Descending, "*", 5_000, Way::Whole, ("", 0, ""), 4),
-    (Says::Deep(0), "**", 5_000, Way::Whole, ("", 0, ""), 2),
     (
-        Says::Endless,
+        Behaviour::Descending,
+        "*",
+        5_000,
+        Way::Whole,
+        ("", 0, ""),
+        4,
+    ),
+    (Behaviour::Deep(0), "**", 5_000, Way::Whole, ("", 0, ""), 2),
+    (
+        Behaviour::Endless,
         ".",
         100_000,
         Way::Whole,
         ("", 0, ". "),
         100_001,
     ),
-    (Says::Deep(0), "**", 100_000, Way::Steps, ("", 0, ""), 2),
+    (
+        Behaviour::Deep(0),
+        "**",
+        100_000,
+        Way::Steps,
+        ("", 0, ""),
+        2,
+    ),
 ];
 
 #[test]
 fn a_hundred_thousand_components(rt: HostRuntime) {
     let ample = Rationed::refusing(0, rt.alloc());
-    for (says, component, times, way, (part, parts, last), spent) in LARGE {
+    for (behaviour, component, times, way, (part, parts, last), spent) in LARGE {
         let pattern = repeated(&rt, component, times);
-        let job = Job::over(says, pattern.as_str()).within(200_000);
+        let job = Job::over(behaviour, pattern.as_str()).within(200_000);
         let found = walk(&rt, &ample, job, way);
         let path = text_of(&rt, &[(part, parts), (last, 1)]);
         check_text(&rt, found.text.as_str(), path.as_str(), component);
@@ -136,7 +150,7 @@ fn a_hundred_thousand_components(rt: HostRuntime) {
 #[test]
 fn a_deep_tree(rt: HostRuntime) {
     let ample = Rationed::refusing(0, rt.alloc());
-    let job = Job::over(Says::Deep(5_000), "**");
+    let job = Job::over(Behaviour::Deep(5_000), "**");
     let found = walk(&rt, &ample, job, Way::Whole);
     check(&rt, found.spent == 10_002, found.spent, "**");
     check(&rt, found.count == 5_000, found.count, "**");

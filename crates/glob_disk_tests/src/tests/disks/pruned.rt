@@ -2,10 +2,10 @@
 ghost use Rattle.std.specs.Prelude.{bytes_eq};
 
 use super::files::{Calls, Kind, Written};
-use super::{Question, Way, check_answer, found};
-use crate::tests::made::{Memory, check};
+use super::{Question, Which, check_answer, found};
 use glob::{Disk, Look, Tree};
 use glob_prune::{Exclusion, Pruned};
+use glob_testing::checking::{Memory, check};
 use glob_testing::rationing::Rationed;
 use std::alloc::AllocError;
 use std::io::ErrorKind;
@@ -84,7 +84,7 @@ const ROWS: &[(Question, &str, &str, u64)] = &[
 #[test]
 fn what_is_excluded_is_not_there(rt: HostRuntime) {
     for (question, path, known, calls) in ROWS {
-        let found = found(&rt, PATHS, Way::Pruned, *question, path);
+        let found = found(&rt, PATHS, Which::Pruned, *question, path);
         check_answer(&rt, &found, known, path);
         let (opens, lookups) = (found.counts.opens, found.counts.lookups);
         let count = match question {

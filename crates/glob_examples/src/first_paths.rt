@@ -1,4 +1,4 @@
-//! A caller of the walk. What each ensures follows from the contracts of the calls alone.
+//! The first paths of a walk. Its contract follows from those of the calls alone.
 ghost use Rattle.std.specs.Prelude.{◌≡◌, ◌-◌, ◌<◌, ◌≤◌, true, false, List, Some, IfOk, is_some, vec_len};
 ghost use Rattle.glob.specs.Answers.{IsTold};
 ghost use Rattle.glob.specs.Content.{Content};

@@ -1,4 +1,4 @@
-//! A file system that is written down.
+//! A scripted file system.
 use glob_prune::Strays;
 use std::cell::Cell;
 use std::fs::{File, Files, Metadata, OpenOptions};

@@ -1,7 +1,7 @@
 //! Each error of the system, by its number: only that of lack of memory is out of memory.
 use super::files::Kind;
-use super::{Answer, Question, Way, check_answer, found};
-use crate::tests::made::{check, made};
+use super::{Answer, Question, Which, check_answer, found};
+use glob_testing::checking::{check, made};
 use glob_testing::texts::are_same;
 use std::io::{self, ErrorKind};
 use std::process::Abort;
@@ -12,15 +12,20 @@ const LAST: i32 = 133;
 /// The number of lack of memory.
 const ENOMEM: i32 = 12;
 
-const ALL: [Way; 4] = [Way::Followed, Way::FollowedToo, Way::Kept, Way::Pruned];
+const ALL: [Which; 4] = [
+    Which::Following,
+    Which::PhysicalFollowing,
+    Which::Physical,
+    Which::Pruned,
+];
 
 /// The listings of a directory fail with this error, where it is opened and where it is read. It is handed on.
 fn check_failing(rt: &(impl Abort + AllocGlobal), error: io::Error) {
     for opening in [true, false] {
         let paths = [("a/", Kind::Failing(error, opening))];
-        for way in ALL {
+        for disk in ALL {
             for question in [Question::List, Question::Names] {
-                check_fault(rt, &found(rt, &paths, way, question, "a"), error);
+                check_fault(rt, &found(rt, &paths, disk, question, "a"), error);
             }
         }
     }
@@ -62,12 +67,12 @@ fn what_cannot_be_looked_up_is_missing(rt: HostRuntime) {
             ("d/", Kind::Dir(&[b"x\0"])),
             ("d/x", Kind::Lost(kind)),
         ];
-        for way in ALL {
+        for disk in ALL {
             for (question, path, known) in UNSEEN {
-                let is_followed = way != Way::Kept || path != "l";
+                let is_followed = disk != Which::Physical || path != "l";
                 let is_memory = code == ENOMEM && is_followed;
                 let known = if is_memory { "$" } else { known };
-                let found = found(&rt, &paths, way, question, path);
+                let found = found(&rt, &paths, disk, question, path);
                 check_answer(&rt, &found, known, path);
             }
         }

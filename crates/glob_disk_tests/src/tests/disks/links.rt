@@ -1,7 +1,7 @@
 //! Walks of disks: what each does with cycles of links, and with a directory that is removed.
 use super::files::Kind;
-use super::{Question, Way, check_answer, found};
-use crate::tests::made::check;
+use super::{Question, Which, check_answer, found};
+use glob_testing::checking::check;
 
 /// A directory with two links to itself, as far as two levels go, and one that is removed before it can be opened.
 const PATHS: [(&str, Kind<'static>); 13] = [
@@ -22,27 +22,27 @@ const PATHS: [(&str, Kind<'static>); 13] = [
 
 /// A disk, a pattern, what its walk gives, and how often a directory is opened. Where links are not followed, a path
 /// through one is, but none is a directory that is listed, so that a cycle ends.
-const ROWS: [(Way, &str, &str, u64); 9] = [
-    (Way::Kept, "c/**/*", "c/f c/one c/two ", 1),
+const ROWS: [(Which, &str, &str, u64); 9] = [
+    (Which::Physical, "c/**/*", "c/f c/one c/two ", 1),
     (
-        Way::Followed,
+        Which::Following,
         "c/**/*",
         "c/f c/one c/one/f c/one/one !c/one/one c/one/two !c/one/two c/two !c/two ",
         5,
     ),
-    (Way::Kept, "c/one/f", "c/one/f ", 0),
-    (Way::Kept, "c/one/x", "", 0),
-    (Way::Kept, "c/*", "c/f c/one c/two ", 1),
-    (Way::Kept, "c/*/f", "c/one/f ", 1),
-    (Way::Kept, "c/*/*", "", 1),
-    (Way::Kept, "c/one/*", "", 0),
-    (Way::Followed, "**", "AAA !AAA ", 2),
+    (Which::Physical, "c/one/f", "c/one/f ", 0),
+    (Which::Physical, "c/one/x", "", 0),
+    (Which::Physical, "c/*", "c/f c/one c/two ", 1),
+    (Which::Physical, "c/*/f", "c/one/f ", 1),
+    (Which::Physical, "c/*/*", "", 1),
+    (Which::Physical, "c/one/*", "", 0),
+    (Which::Following, "**", "AAA !AAA ", 2),
 ];
 
 #[test]
 fn a_cycle_of_links_ends(rt: HostRuntime) {
-    for (way, pattern, known, opens) in ROWS {
-        let found = found(&rt, &PATHS, way, Question::Walk, pattern);
+    for (disk, pattern, known, opens) in ROWS {
+        let found = found(&rt, &PATHS, disk, Question::Walk, pattern);
         check_answer(&rt, &found, known, pattern);
         check(
             &rt,

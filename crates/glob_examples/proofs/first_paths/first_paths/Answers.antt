@@ -6,7 +6,7 @@ use Rattle.glob.specs.GlobErrors.{cause_of}
 use Rattle.glob.specs.Marks.{Found, items, paths}
 use Rattle.glob_examples.specs.FirstPaths.{EndsWith, end_after}
 use Rattle.glob_examples.proofs.FirstPaths.{Finds, Finds-none, Finds-error, Finds-path, Finds-end, Finds-all, Finds-ended, ends-after, taken-all}
-use Rattle.glob_examples.proofs.beginnings.first_paths.Goals as goal
+use Rattle.glob_examples.proofs.first_paths.first_paths.Goals as goal
 
 -- no path is found yet
 pub loop-paths-init : goal.loop-paths-init

@@ -1,9 +1,9 @@
-//! A tree that answers what it is told to, of files or against them, and notes what it is asked. It tells contracts
-//! nothing, so that any answer is its to give.
+//! A tree that answers by its files or against them, as a test wants, and notes what it is asked. Its contracts know no
+//! content, so any answer is allowed.
 ghost use Rattle.std.specs.Prelude.{None};
 
-use super::made::Memory;
 use glob::{Asks, Entry, ListError, Look, MemTree, Tree, TreeRefusal};
+use glob_testing::checking::Memory;
 use std::alloc::AllocError;
 use std::cell::Cell;
 use std::io::{self, ErrorKind};
@@ -16,9 +16,9 @@ pub(super) const FILES: &str = "d /a /a/b f /a/b/x /a/y s /s f /z";
 pub(super) const LIES: &str =
     "d /none /one /one/d /falling f /falling/b /falling/a d /other f /other/c /other/a d /twice /twice/b /twice/a";
 
-/// What a tree answers.
+/// How a tree answers.
 #[derive(Clone, Copy)]
-pub(super) enum Says<'a> {
+pub(super) enum Behaviour<'a> {
     /// What is in its files.
     Files,
     /// The same, but no entry is a directory.
@@ -181,19 +181,25 @@ fn depth_of(path: &str) -> usize {
 
 /// The path in the files whose entries a listing gives after so many questions, or `None` where it is that of the
 /// listing.
-fn place_of(says: Says<'_>, questions: u64, path: &str) -> Result<Option<&'static str>, ListError> {
-    match says {
-        Says::Unlisted(unlisted, Some(kind)) if unlisted == path => {
+fn place_of(
+    behaviour: Behaviour<'_>,
+    questions: u64,
+    path: &str,
+) -> Result<Option<&'static str>, ListError> {
+    match behaviour {
+        Behaviour::Unlisted(unlisted, Some(kind)) if unlisted == path => {
             Err(ListError::Read(io::Error::from(kind)))
         }
-        Says::Unlisted(unlisted, None) if unlisted == path => Err(ListError::Memory),
-        Says::Files | Says::NoKinds | Says::Unlisted(..) | Says::Ready => Ok(None),
-        Says::Deep(depth) if depth_of(path) >= depth => Ok(Some("/none")),
-        Says::Endless | Says::Deep(_) | Says::FalseDirectory => Ok(Some("/one")),
-        Says::Descending => Ok(Some("/falling")),
-        Says::Unreadable(error) => Err(ListError::Read(error)),
-        Says::NoMemory => Err(ListError::Memory),
-        Says::Changing => changing(questions),
+        Behaviour::Unlisted(unlisted, None) if unlisted == path => Err(ListError::Memory),
+        Behaviour::Files | Behaviour::NoKinds | Behaviour::Unlisted(..) | Behaviour::Ready => Ok(
+            None,
+        ),
+        Behaviour::Deep(depth) if depth_of(path) >= depth => Ok(Some("/none")),
+        Behaviour::Endless | Behaviour::Deep(_) | Behaviour::FalseDirectory => Ok(Some("/one")),
+        Behaviour::Descending => Ok(Some("/falling")),
+        Behaviour::Unreadable(error) => Err(ListError::Read(error)),
+        Behaviour::NoMemory => Err(ListError::Memory),
+        Behaviour::Changing => changing(questions),
     }
 }
 
@@ -210,23 +216,25 @@ fn changing(questions: u64) -> Result<Option<&'static str>, ListError> {
 
 /// What a tree answers from.
 #[derive(Drop)]
-struct Teller<'a> {
+struct Answers<'a> {
     alloc: Memory<'a>,
-    says: Says<'a>,
+    behaviour: Behaviour<'a>,
     files: Files<'a>,
     ready: Entries<'a>,
     notes: &'a Notes,
 }
 
-impl<'a> Teller<'a> {
+impl<'a> Answers<'a> {
     fn look(&mut self, path: &str) -> Result<Look, AllocError> {
         let questions = self.notes.note(Kind::Look, path);
-        match self.says {
-            Says::Files | Says::NoKinds | Says::Unlisted(..) => self.files.look(path),
-            Says::NoMemory => Err(AllocError),
-            Says::FalseDirectory if ends_in_d(path) => Ok(Look::Missing),
-            Says::Changing if questions % 3 == 0 => Ok(Look::Missing),
-            Says::Changing if questions % 3 == 2 => Ok(Look::Other),
+        match self.behaviour {
+            Behaviour::Files | Behaviour::NoKinds | Behaviour::Unlisted(..) => self
+                .files
+                .look(path),
+            Behaviour::NoMemory => Err(AllocError),
+            Behaviour::FalseDirectory if ends_in_d(path) => Ok(Look::Missing),
+            Behaviour::Changing if questions % 3 == 0 => Ok(Look::Missing),
+            Behaviour::Changing if questions % 3 == 2 => Ok(Look::Other),
             _ => Ok(Look::Dir),
         }
     }
@@ -234,11 +242,11 @@ impl<'a> Teller<'a> {
     /// The entries at a path, with their kinds as the files have them.
     fn found(&mut self, kind: Kind, path: &str) -> Result<Entries<'a>, ListError> {
         let questions = self.notes.note(kind, path);
-        match place_of(self.says, questions, path) {
+        match place_of(self.behaviour, questions, path) {
             Err(error) => Err(error),
             Ok(Some("/twice")) => twice(&mut self.files, "/twice"),
             Ok(Some(place)) => entries(&mut self.files, place),
-            Ok(None) if matches!(self.says, Says::Ready) => {
+            Ok(None) if matches!(self.behaviour, Behaviour::Ready) => {
                 Ok(mem::replace(&mut self.ready, Vec::new(self.alloc)))
             }
             Ok(None) => entries(&mut self.files, path),
@@ -249,7 +257,7 @@ impl<'a> Teller<'a> {
     /// other entry that it is one.
     fn list(&mut self, kind: Kind, path: &str) -> Result<Entries<'a>, ListError> {
         let mut entries = self.found(kind, path)?;
-        let has_kinds = !matches!(self.says, Says::NoKinds);
+        let has_kinds = !matches!(self.behaviour, Behaviour::NoKinds);
         for entry in entries.iter_mut() {
             entry.is_dir = has_kinds && entry.is_dir == (kind == Kind::List);
         }
@@ -257,42 +265,42 @@ impl<'a> Teller<'a> {
     }
 }
 
-/// A tree that answers what it is told to.
+/// A tree that answers as its behaviour has it.
 #[derive(Drop)]
-pub(super) struct Told<'a> {
-    teller: Teller<'a>,
+pub(super) struct FakeTree<'a> {
+    answers: Answers<'a>,
     asks: Asks,
 }
 
-/// A tree of what words write, which answers what `says` has, and notes there what it is asked.
+/// A tree of what words write, which answers as `behaviour` has it, and notes there what it is asked.
 pub(super) fn tree_of<'a>(
     alloc: Memory<'a>,
-    says: Says<'a>,
+    behaviour: Behaviour<'a>,
     words: &str,
     notes: &'a Notes,
-) -> Result<Told<'a>, TreeRefusal> {
+) -> Result<FakeTree<'a>, TreeRefusal> {
     let mut files = planted(alloc, words)?;
-    let listed = match says {
-        Says::Ready => entries(&mut files, "/"),
+    let listed = match behaviour {
+        Behaviour::Ready => entries(&mut files, "/"),
         _ => Ok(Vec::new(alloc)),
     };
     let Ok(ready) = listed else {
         return Err(TreeRefusal::Memory);
     };
-    let teller = Teller {
+    let answers = Answers {
         alloc,
-        says,
+        behaviour,
         files,
         ready,
         notes,
     };
-    Ok(Told {
-        teller,
+    Ok(FakeTree {
+        answers,
         asks: Asks::new(),
     })
 }
 
-impl<'a> Tree for Told<'a> {
+impl<'a> Tree for FakeTree<'a> {
     type Alloc = Memory<'a>;
 
     ghost tells = { λ _. None };
@@ -301,19 +309,19 @@ impl<'a> Tree for Told<'a> {
 
     fn look(&mut self, path: &str) -> Result<Look, AllocError> {
         self.asks = self.asks.after(1);
-        self.teller.look(path)
+        self.answers.look(path)
     }
 
     fn list(&mut self, path: &str) -> Result<Entries<'a>, ListError> {
         self.asks = self.asks.after(1);
-        let entries = self.teller.list(Kind::List, path)?;
+        let entries = self.answers.list(Kind::List, path)?;
         self.asks = self.asks.after(entries.len());
         Ok(entries)
     }
 
     fn list_names(&mut self, path: &str) -> Result<Entries<'a>, ListError> {
         self.asks = self.asks.after(1);
-        let entries = self.teller.list(Kind::Names, path)?;
+        let entries = self.answers.list(Kind::Names, path)?;
         self.asks = self.asks.after(entries.len());
         Ok(entries)
     }

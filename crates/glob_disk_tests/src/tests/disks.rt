@@ -1,5 +1,5 @@
-//! What disks answer over a file system that is written down, in words, and which system calls that takes: names that
-//! are not UTF-8 and system calls that fail, which tests do not make on a disk.
+//! What disks answer over a scripted file system, and with which system calls: names that are not UTF-8 and system calls
+//! that fail, which a test cannot make on a real disk.
 mod calls;
 mod codes;
 mod files;
@@ -7,11 +7,13 @@ mod links;
 mod paths;
 mod pruned;
 
-use super::made::{Memory, add, check, check_text, made, text_of};
-use super::walks::{Job, gathered};
 use files::{Calls, Counts, Kind, Noted, Written};
-use glob::{Disk, Entry, ListError, Look, Tree};
+use glob::{
+    Disk, End, Entry, GlobResult, ListError, Look, MatchOptions, PatternRefusal, Tree, Walk,
+    walk_in,
+};
 use glob_prune::{Links, PhysicalDisk};
+use glob_testing::checking::{Memory, add, check, check_text, made, text_of};
 use glob_testing::rationing::Rationed;
 pub(super) use paths::PATHS;
 use pruned::pruned;
@@ -19,19 +21,20 @@ use std::alloc::{AllocError, Allocator};
 use std::io;
 use std::process::Abort;
 
-/// The disks that are asked.
+/// Which disk is asked.
 #[derive(Clone, Copy, PartialEq, Eq)]
-pub(super) enum Way {
-    Followed,
-    /// By the other disk, where links are followed.
-    FollowedToo,
-    /// Where no symbolic link is followed.
-    Kept,
-    /// As the first, without one path.
+pub(super) enum Which {
+    /// A `Disk`, which follows links.
+    Following,
+    /// A `PhysicalDisk` that follows links.
+    PhysicalFollowing,
+    /// A `PhysicalDisk` that follows no link.
+    Physical,
+    /// A `Disk` without one path.
     Pruned,
 }
 
-const WAYS: [Way; 3] = [Way::Followed, Way::FollowedToo, Way::Kept];
+const DISKS: [Which; 3] = [Which::Following, Which::PhysicalFollowing, Which::Physical];
 
 /// What is asked about a path.
 #[derive(Clone, Copy)]
@@ -47,7 +50,8 @@ pub(super) enum Question {
 #[derive(Drop)]
 pub(super) struct Answer {
     /// What a look finds: `dir`, `other` or `missing`. Of entries the names, a directory's with `/` at its end, and
-    /// `|` after each. Of a walk a word for each item. After `!` the kind of an error.
+    /// `|` after each. Of a walk a word for each item, with a space after it. After `!` the kind of an error, or the path
+    /// that a walk could not read.
     pub(super) text: String,
     /// Whether memory ran out.
     pub(super) is_short: bool,
@@ -61,12 +65,12 @@ pub(super) fn ask(
     rt: &(impl Abort + AllocGlobal),
     alloc: Memory<'_>,
     paths: &[(&str, Kind<'_>)],
-    way: Way,
+    disk: Which,
     question: Question,
     path: &str,
 ) -> Answer {
     let calls = Calls::new();
-    let mut answer = answer_of(rt, alloc, Written::new(paths, &calls), way, question, path);
+    let mut answer = answer_of(rt, alloc, Written::new(paths, &calls), disk, question, path);
     answer.counts = calls.counts.get();
     answer
 }
@@ -75,34 +79,34 @@ pub(super) fn ask(
 fn found(
     rt: &(impl Abort + AllocGlobal),
     paths: &[(&str, Kind<'_>)],
-    way: Way,
+    disk: Which,
     question: Question,
     path: &str,
 ) -> Answer {
     let ample = Rationed::refusing(0, rt.alloc());
-    ask(rt, &ample, paths, way, question, path)
+    ask(rt, &ample, paths, disk, question, path)
 }
 
 fn answer_of<'a>(
     rt: &(impl Abort + AllocGlobal),
     alloc: Memory<'a>,
     files: Written<'a>,
-    way: Way,
+    disk: Which,
     question: Question,
     path: &str,
 ) -> Answer {
     let strays = Noted { calls: files.calls };
-    match way {
-        Way::Followed => asked(rt, alloc, Disk::new(files, alloc), question, path),
-        Way::FollowedToo => {
+    match disk {
+        Which::Following => asked(rt, alloc, Disk::new(files, alloc), question, path),
+        Which::PhysicalFollowing => {
             let disk = PhysicalDisk::with_links(files, strays, alloc, Links::Followed);
             asked(rt, alloc, disk, question, path)
         }
-        Way::Kept => {
+        Which::Physical => {
             let disk = PhysicalDisk::new(files, strays, alloc);
             asked(rt, alloc, disk, question, path)
         }
-        Way::Pruned => asked(rt, alloc, pruned(alloc, files), question, path),
+        Which::Pruned => asked(rt, alloc, pruned(alloc, files), question, path),
     }
 }
 
@@ -118,9 +122,35 @@ fn asked<T: Tree>(
         Question::Look => look_answer(rt, tree.look(path)),
         Question::List => list_answer(rt, tree.list(path)),
         Question::Names => list_answer(rt, tree.list_names(path)),
-        Question::Walk => {
-            let walked = gathered(rt, alloc, tree, Job::of("", path).within(1_000));
-            Answer::of(walked.text, walked.is_short)
+        Question::Walk => walk_answer(rt, walked(alloc, tree, path)),
+    }
+}
+
+/// A walk within a thousand units. No contract is handed on, since its caller's proof would carry it.
+fn walked<T: Tree>(alloc: T::Alloc, tree: T, pattern: &str) -> Result<Walk<T>, PatternRefusal> {
+    walk_in(alloc, tree, pattern, MatchOptions::new(), 1_000)
+}
+
+/// Adds the word of an item.
+fn add_item<A: Allocator>(rt: &impl Abort, words: &mut String, item: &GlobResult<A>) {
+    match item {
+        Ok(path) => add(rt, words, &[path.as_str(), " "]),
+        Err(error) => add(rt, words, &["!", error.path().as_str(), " "]),
+    }
+}
+
+fn walk_answer<T: Tree>(
+    rt: &(impl Abort + AllocGlobal),
+    walked: Result<Walk<T>, PatternRefusal>,
+) -> Answer {
+    let mut words = String::new(rt.alloc());
+    match walked {
+        Err(_) => Answer::of(words, true),
+        Ok(walk) => {
+            for item in walk.items.iter() {
+                add_item(rt, &mut words, item);
+            }
+            Answer::of(words, walk.end == End::Memory)
         }
     }
 }
@@ -213,12 +243,12 @@ const LOOKS: &[(&str, &str, u64, &str)] = &[
 #[test]
 fn looks(rt: HostRuntime) {
     for (path, followed, lookups, kept) in LOOKS {
-        for way in WAYS {
-            let (known, lookups) = match way {
-                Way::Kept => (*kept, 1),
+        for disk in DISKS {
+            let (known, lookups) = match disk {
+                Which::Physical => (*kept, 1),
                 _ => (*followed, *lookups),
             };
-            let found = found(&rt, PATHS, way, Question::Look, path);
+            let found = found(&rt, PATHS, disk, Question::Look, path);
             check_answer(&rt, &found, known, path);
             let counts = found.counts;
             check(&rt, counts.lookups == lookups, counts.lookups, path);
@@ -267,30 +297,39 @@ fn room_of(reads: u64) -> u64 {
 fn check_calls(
     rt: &impl Abort,
     counts: Counts,
-    way: Way,
+    disk: Which,
     (reads, entries): (u64, u64),
     path: &str,
 ) {
     check(rt, counts.opens == 1, counts.opens, path);
     let is_once = counts.lookups == entries;
-    check(rt, is_once || way == Way::FollowedToo, counts.lookups, path);
+    check(
+        rt,
+        is_once || disk == Which::PhysicalFollowing,
+        counts.lookups,
+        path,
+    );
     let is_room = counts.room == room_of(reads);
-    check(rt, is_room || way != Way::Followed, counts.room, path);
+    check(rt, is_room || disk != Which::Following, counts.room, path);
 }
 
 /// The names alone are those of the listing, without a lookup.
 #[test]
 fn listings(rt: HostRuntime) {
     for (path, reads, entries, followed, names, kept) in LISTINGS {
-        for way in WAYS {
-            let known = if way == Way::Kept { *kept } else { *followed };
-            let found = found(&rt, PATHS, way, Question::List, path);
+        for disk in DISKS {
+            let known = if disk == Which::Physical {
+                *kept
+            } else {
+                *followed
+            };
+            let found = found(&rt, PATHS, disk, Question::List, path);
             check_answer(&rt, &found, known, path);
-            check_calls(&rt, found.counts, way, (*reads, *entries), path);
+            check_calls(&rt, found.counts, disk, (*reads, *entries), path);
         }
-        let found = found(&rt, PATHS, Way::Followed, Question::Names, path);
+        let found = found(&rt, PATHS, Which::Following, Question::Names, path);
         check_answer(&rt, &found, names, path);
-        check_calls(&rt, found.counts, Way::Followed, (*reads, 0), path);
+        check_calls(&rt, found.counts, Which::Following, (*reads, 0), path);
     }
 }
 
@@ -300,10 +339,10 @@ fn a_large_directory_is_listed_whole(rt: HostRuntime) {
     let blocks = [b"a\0b\0".as_slice(); 1_000];
     let paths = [("a/", Kind::Dir(&blocks))];
     for (question, lookups) in [(Question::List, 2_000), (Question::Names, 0)] {
-        let found = found(&rt, &paths, Way::Followed, question, "a");
+        let found = found(&rt, &paths, Which::Following, question, "a");
         let is_whole = found.text.as_str().len() == 4_000;
         check(&rt, is_whole, 2_000, "a");
-        check_calls(&rt, found.counts, Way::Followed, (1_001, lookups), "a");
+        check_calls(&rt, found.counts, Which::Following, (1_001, lookups), "a");
     }
 }
 
@@ -352,15 +391,15 @@ const FAILURES: &[(&str, &str, &str, &str)] = &[
 fn failing_listings(rt: HostRuntime) {
     for (path, followed, names, kept) in FAILURES {
         let rows = [
-            (Way::Followed, Question::List, *followed),
-            (Way::Followed, Question::Names, *names),
-            (Way::FollowedToo, Question::List, *kept),
-            (Way::Kept, Question::List, *kept),
+            (Which::Following, Question::List, *followed),
+            (Which::Following, Question::Names, *names),
+            (Which::PhysicalFollowing, Question::List, *kept),
+            (Which::Physical, Question::List, *kept),
         ];
-        for (way, question, known) in rows {
-            let found = found(&rt, PATHS, way, question, path);
+        for (disk, question, known) in rows {
+            let found = found(&rt, PATHS, disk, question, path);
             check_answer(&rt, &found, known, path);
-            let strays = u64::from(*path == "latin" && way != Way::Followed);
+            let strays = u64::from(*path == "latin" && disk != Which::Following);
             check(&rt, found.counts.strays == (strays, 0), strays, path);
         }
     }

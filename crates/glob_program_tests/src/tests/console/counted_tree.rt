@@ -19,7 +19,7 @@ pub struct Counts {
 /// Directories of the current one, at most a thousand, named `000` and on. In the first are files `x0` and `x1`, and in the
 /// others so many files `y`. A lookup finds a directory at each path that begins with `000`, `001` or `a`, and no others.
 #[derive(Drop)]
-pub struct Hall<'a> {
+pub struct CountedTree<'a> {
     pub alloc: Global,
     pub asks: Asks,
     pub counts: &'a Counts,
@@ -32,7 +32,7 @@ fn add(count: &Cell<u64>, more: usize) {
     count.set(count.get().saturating_add(more as u64));
 }
 
-impl Hall<'_> {
+impl CountedTree<'_> {
     /// Adds an entry.
     fn push(&self, entries: &mut Vec<Entry>, name: String, is_dir: bool) -> Result<(), AllocError> {
         match Name::new(name) {
@@ -61,7 +61,7 @@ impl Hall<'_> {
     }
 }
 
-impl Tree for Hall<'_> {
+impl Tree for CountedTree<'_> {
     type Alloc = Global;
 
     ghost tells = { λ _. None };
