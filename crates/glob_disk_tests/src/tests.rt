@@ -1,3 +1,4 @@
 mod disks;
 mod lists;
+mod made;
 mod memory;

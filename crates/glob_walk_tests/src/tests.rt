@@ -1,4 +1,5 @@
 mod fake_tree;
 mod machine;
+mod made;
 mod memory;
 mod walks;

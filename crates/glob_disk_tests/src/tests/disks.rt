@@ -7,13 +7,13 @@ mod links;
 mod paths;
 mod pruned;
 
+use super::made::{Memory, add, check, check_text, made, text_of};
 use files::{Calls, Counts, Kind, Noted, Written};
 use glob::{
     Disk, End, Entry, GlobResult, ListError, Look, MatchOptions, PatternRefusal, Tree, Walk,
     walk_in,
 };
 use glob_prune::{Links, PhysicalDisk};
-use glob_testing::checking::{Memory, add, check, check_text, made, text_of};
 use glob_testing::rationing::Rationed;
 pub(super) use paths::PATHS;
 use pruned::pruned;

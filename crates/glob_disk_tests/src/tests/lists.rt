@@ -1,6 +1,6 @@
 //! An ignore list that is made and asked.
+use super::made::{Memory, check};
 use glob_rules::{IgnoreList, RuleRefusal};
-use glob_testing::checking::{Memory, check};
 use std::process::Abort;
 
 /// Lines of each kind. The pattern of the last has 65 tokens, so that a question takes memory.

@@ -2,7 +2,7 @@
 //! memory.
 use super::disks::{PATHS, Question, Which, ask};
 use super::lists::suffices;
-use glob_testing::checking::{check, check_beginning};
+use super::made::{check, check_beginning};
 use glob_testing::rationing::Rationed;
 use std::process::Abort;
 

@@ -2,8 +2,8 @@
 //! content, so any answer is allowed.
 ghost use Rattle.std.specs.Prelude.{None};
 
+use super::made::Memory;
 use glob::{Asks, Entry, ListError, Look, MemTree, Tree, TreeRefusal};
-use glob_testing::checking::Memory;
 use std::alloc::AllocError;
 use std::cell::Cell;
 use std::io::{self, ErrorKind};

@@ -2,9 +2,9 @@
 ghost use Rattle.std.specs.Prelude.{◌≡◌, None};
 
 use super::fake_tree::{Behaviour, FakeTree};
+use super::made::{Memory, check, check_text};
 use super::walks::{Job, Walked, agreed, refused};
 use glob::{GlobResult, Step, Tree, WalkMachine};
-use glob_testing::checking::{Memory, check, check_text};
 use std::process::Abort;
 
 /// Drives a walk that has asked nothing, for at most so many steps. Where it ends, it stays so.

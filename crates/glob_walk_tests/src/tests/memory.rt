@@ -1,8 +1,8 @@
 //! Each request for memory refused in turn: the answer is a beginning of that with ample memory, and then out of
 //! memory.
 use super::fake_tree::FILES;
+use super::made::{check, check_beginning};
 use super::walks::{Job, WAYS, Way, walk};
-use glob_testing::checking::{check, check_beginning};
 use glob_testing::rationing::Rationed;
 use std::process::Abort;
 

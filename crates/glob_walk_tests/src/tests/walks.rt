@@ -6,10 +6,10 @@ mod sizes;
 
 use super::fake_tree::{Asked, Behaviour, FakeTree, LIES, Notes, tree_of};
 use super::machine::driven;
+use super::made::{Memory, add, check, check_beginning, check_text, made};
 use glob::{
     End, GlobCause, GlobResult, MatchOptions, Paths, PatternRefusal, Tree, Walk, glob_in, walk_in,
 };
-use glob_testing::checking::{Memory, add, check, check_beginning, check_text, made};
 use glob_testing::rationing::{Ration, Rationed};
 use std::alloc::Allocator;
 use std::process::Abort;

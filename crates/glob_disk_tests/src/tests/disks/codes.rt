@@ -1,7 +1,7 @@
 //! Each error of the system, by its number: only that of lack of memory is out of memory.
 use super::files::Kind;
 use super::{Answer, Question, Which, check_answer, found};
-use glob_testing::checking::{check, made};
+use crate::tests::made::{check, made};
 use glob_testing::texts::are_same;
 use std::io::{self, ErrorKind};
 use std::process::Abort;

@@ -1,7 +1,7 @@
 //! Walks of disks: what each does with cycles of links, and with a directory that is removed.
 use super::files::Kind;
 use super::{Question, Which, check_answer, found};
-use glob_testing::checking::check;
+use crate::tests::made::check;
 
 /// A directory with two links to itself, as far as two levels go, and one that is removed before it can be opened.
 const PATHS: [(&str, Kind<'static>); 13] = [

@@ -3,9 +3,9 @@ ghost use Rattle.std.specs.Prelude.{bytes_eq};
 
 use super::files::{Calls, Kind, Written};
 use super::{Question, Which, check_answer, found};
+use crate::tests::made::{Memory, check};
 use glob::{Disk, Look, Tree};
 use glob_prune::{Exclusion, Pruned};
-use glob_testing::checking::{Memory, check};
 use glob_testing::rationing::Rationed;
 use std::alloc::AllocError;
 use std::io::ErrorKind;

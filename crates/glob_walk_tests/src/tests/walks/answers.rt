@@ -2,8 +2,8 @@
 //! limits. Others are in the tables of `tests/walks`, which are walked on a disk.
 use super::{CASE, Job, agreed, check_walks};
 use crate::tests::fake_tree::{Behaviour, FILES, LIES};
+use crate::tests::made::check;
 use glob::MatchOptions;
-use glob_testing::checking::check;
 use std::io::ErrorKind;
 use std::process::Abort;
 

@@ -2,7 +2,7 @@
 use super::sizes::names_of;
 use super::{Job, Way, walk};
 use crate::tests::fake_tree::Behaviour;
-use glob_testing::checking::{check, text_of};
+use crate::tests::made::{check, text_of};
 use glob_testing::rationing::Rationed;
 use std::process::Abort;
 

@@ -1,8 +1,8 @@
 //! What is printed of an error, whole; and what its other calls give.
 use super::{Job, next_of, start};
 use crate::tests::fake_tree::{Behaviour, Notes, tree_of};
+use crate::tests::made::{Memory, check, made, text_of};
 use glob::GlobError;
-use glob_testing::checking::{Memory, check, made, text_of};
 use glob_testing::rationing::Rationed;
 use glob_testing::texts::{are_same, prints_as};
 use std::io::{self, ErrorKind};

@@ -1,7 +1,7 @@
 //! Walks at many sizes and over characters of each length. Memory is ample, so each of them is done.
 use super::{Job, Way, agreed, check_walks, walk};
 use crate::tests::fake_tree::Behaviour;
-use glob_testing::checking::{add, check, check_text, made, repeated, text_of};
+use crate::tests::made::{add, check, check_text, made, repeated, text_of};
 use glob_testing::rationing::Rationed;
 use glob_testing::sizes::{CHARACTERS, sizes_to};
 use std::process::Abort;

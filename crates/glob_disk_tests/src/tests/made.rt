@@ -1,14 +1,14 @@
-//! What tests of walks and disks take for granted: where a call gives an error in its place, the test ends.
-use crate::rationing::Rationed;
-use crate::texts::{self, Parts};
+//! What tests take for granted: where a call gives an error in its place, the test ends.
+use glob_testing::rationing::Rationed;
+use glob_testing::texts::{self, Parts};
 use std::alloc::Global;
 use std::process::Abort;
 
 /// Memory whose requests are counted, one of which may be refused.
-pub type Memory<'a> = &'a Rationed<Global>;
+pub(super) type Memory<'a> = &'a Rationed<Global>;
 
 /// The value of an answer that is no error.
-pub fn made<T, E: Drop>(rt: &impl Abort, answer: Result<T, E>) -> T {
+pub(super) fn made<T, E: Drop>(rt: &impl Abort, answer: Result<T, E>) -> T {
     match answer {
         Ok(value) => value,
         Err(_) => panic!(rt; "an error"),
@@ -16,17 +16,17 @@ pub fn made<T, E: Drop>(rt: &impl Abort, answer: Result<T, E>) -> T {
 }
 
 /// What a row of a table says holds, for a number that may say where it does not.
-pub fn check(rt: &impl Abort, holds: bool, number: u64, row: &str) {
+pub(super) fn check(rt: &impl Abort, holds: bool, number: u64, row: &str) {
     assert!(rt; holds, "{number} for {row}");
 }
 
 /// A text is the known one.
-pub fn check_text(rt: &impl Abort, found: &str, known: &str, row: &str) {
+pub(super) fn check_text(rt: &impl Abort, found: &str, known: &str, row: &str) {
     assert!(rt; found == known, "{found} in place of {known} for {row}");
 }
 
 /// A text begins with another.
-pub fn check_beginning(rt: &impl Abort, found: &String, whole: &String, row: &str) {
+pub(super) fn check_beginning(rt: &impl Abort, found: &String, whole: &String, row: &str) {
     let (found_bytes, whole_bytes) = (found.as_bytes(), whole.as_bytes());
     let begins = match whole_bytes.get(..found_bytes.len()) {
         Some(beginning) => beginning == found_bytes,
@@ -36,22 +36,13 @@ pub fn check_beginning(rt: &impl Abort, found: &String, whole: &String, row: &st
 }
 
 /// Adds pieces to a text.
-pub fn add(rt: &impl Abort, text: &mut String, pieces: &[&str]) {
+pub(super) fn add(rt: &impl Abort, text: &mut String, pieces: &[&str]) {
     for piece in pieces {
         made(rt, text.push_str(piece));
     }
 }
 
 /// The text of the parts.
-pub fn text_of(rt: &(impl Abort + AllocGlobal), parts: Parts<'_>) -> String {
+pub(super) fn text_of(rt: &(impl Abort + AllocGlobal), parts: Parts<'_>) -> String {
     made(rt, texts::text_of(rt, parts))
-}
-
-/// The text so many times, with separators between.
-pub fn repeated(rt: &(impl Abort + AllocGlobal), part: &str, times: usize) -> String {
-    let mut text = text_of(rt, &[(part, 1)]);
-    for _ in 1..times {
-        add(rt, &mut text, &["/", part]);
-    }
-    text
 }
