@@ -1,9 +1,9 @@
 //! Callers of the library, one file for each kind of user, with what each promises in words of its own.
 #![tactic(auto)]
 
-pub mod first_paths;
 pub mod copy;
 pub mod faults;
+pub mod first_paths;
 pub mod literals;
 pub mod names;
 pub mod one_file;
