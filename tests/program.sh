@@ -520,8 +520,10 @@ check 'find ended by SIGINT' 130 'a beginning\n' ''
 counts() {
     local program=$root/crates/glob_bench/out/glob_bench
     [ -x "$program" ] || { skip "glob_bench $1" 'it is not built'; return; }
+    set -f
     # shellcheck disable=SC2086 # a word for each
     run $1
+    set +f
     sed -i 's/ .*//' "$work/out" && : >"$work/err"
     check "what glob_bench $1 counts" 0 "$2\n" ''
 }
