@@ -1,7 +1,9 @@
-"""What the toolchain's command rt is made of, as far as scripts here go on where its words end. TOOLCHAIN names the
-toolchain that has it so."""
+"""What the toolchain's command rt is made of, as far as scripts here go on where its words end, and how what it built is
+taken to another folder. TOOLCHAIN names the toolchain that has it so."""
 
 import importlib.util
+import os
+import shutil
 import subprocess
 import sys
 from pathlib import Path
@@ -18,3 +20,11 @@ def rtlib():
     sys.modules["rtlib"] = importlib.util.module_from_spec(spec)
     spec.loader.exec_module(sys.modules["rtlib"])
     return sys.modules["rtlib"]
+
+
+def link(source, target):
+    """As shutil.copy2, without a copy where the file system allows it."""
+    try:
+        os.link(source, target)
+    except OSError:
+        shutil.copy2(source, target)
