@@ -1,10 +1,11 @@
 //! What a copy tool copies: of the paths that a walk finds, those that an include pattern matches, and no exclude
 //! pattern.
-ghost use Rattle.std.specs.Prelude.{◌≡◌, ◌↔◌, ◌⊎◌, true, map, chars, string_bytes, IsTrue, IfOk, IfErr};
+ghost use Rattle.std.specs.Prelude.{◌≡◌, ◌↔◌, ◌⊎◌, true, List, [], ◌∷◌, ◌++◌, map, chars, string_bytes, IsTrue, IfOk, IfErr};
 ghost use Rattle.std.specs.Path.{path_bytes, path_buf_bytes};
 ghost use Rattle.glob.specs.Answers.{IsTold};
 ghost use Rattle.glob.specs.Content.{Content};
 ghost use Rattle.glob.specs.Goal.{is_plain};
+ghost use Rattle.glob.specs.Lines.{AreKept};
 ghost use Rattle.glob.specs.Matching.Texts.{Matches};
 ghost use Rattle.glob.specs.PathOptions.{path_options};
 ghost use Rattle.glob.specs.Text.{Text};
@@ -12,8 +13,9 @@ ghost use Rattle.glob_set.specs.Sets.{RefusesTexts};
 ghost use Rattle.glob_examples.specs.Copying.{AreToCopy, Copies, IsBelow};
 ghost use Rattle.glob_examples.specs.WalkFaults.{IsMet, IsWalkFault};
 
-use crate::faults::{WalkFault, check_plain};
-use glob::{MatchOptions, Pattern, Tree, glob_in};
+use crate::faults::WalkFault;
+use crate::sources::sources;
+use glob::{MatchOptions, Pattern, Tree};
 use glob_set::{PatternSet, SetRefusal};
 use std::alloc::{AllocError, Allocator, Global};
 use std::marker::Model;
@@ -83,16 +85,41 @@ pub fn paths_to_copy<T: Tree, A: Allocator + Copy>(
     ensures met { (c : Content) → IsTold (T.tells tree) c
         → IfErr result (IsMet c pattern.now limit) }
 {
-    check_plain(alloc, pattern)?;
-    let paths = glob_in(alloc, tree, pattern, MatchOptions::new(), limit)?;
+    let paths = sources(alloc, tree, pattern, limit)?;
+    Ok(copied(alloc, rules, paths)?)
+}
+
+/// Those of the paths that the rules copy, in their order. Fails only if allocation fails.
+fn copied<A: Allocator + Copy, B: Allocator>(
+    alloc: B,
+    rules: &CopyRules<A>,
+    paths: Vec<PathBuf<B>, B>,
+) -> Result<Vec<PathBuf<B>, B>, AllocError>
+    ensures { IfOk result (λ files.
+        AreKept (Copies rules.now) (map path_buf_bytes paths.items) (map path_buf_bytes files.items)) }
+{
     let mut files = Vec::new(alloc);
-    for item in paths {
-        let path = item?;
-        if rules.copies(path.as_path())? {
-            files.push(path)?;
-        }
+    for path in paths {
+        push_copied(&mut files, rules, path)?;
     }
     Ok(files)
+}
+
+/// Adds the path if the rules copy it: so what is copied of some paths becomes what is copied of these and this one.
+/// Fails only if allocation fails.
+fn push_copied<A: Allocator + Copy, B: Allocator>(
+    files: &mut Vec<PathBuf<B>, B>,
+    rules: &CopyRules<A>,
+    path: PathBuf<B>,
+) -> Result<(), AllocError>
+    ensures { (paths : List Text) → AreKept (Copies rules.now) paths (map path_buf_bytes files.old.items)
+        → IfOk result (λ _. AreKept (Copies rules.now) (paths ++ path_buf_bytes path ∷ [])
+        (map path_buf_bytes files.new.items)) }
+{
+    if rules.copies(path.as_path())? {
+        files.push(path)?;
+    }
+    Ok(())
 }
 
 /// The pattern of all that is below a folder, whose name is plain text: in `a[1]` the brackets stand for themselves, so
