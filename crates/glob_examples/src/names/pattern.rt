@@ -1,4 +1,5 @@
-ghost use Rattle.std.specs.Prelude.{◌≡◌, ◌↔◌, IsTrue, IfOk, IfErr, All};
+ghost use Rattle.std.specs.Prelude.{◌≡◌, ◌↔◌, [], ◌∷◌, ◌++◌, IsTrue, IfOk, IfErr, All, chars};
+ghost use Rattle.glob.specs.Grammar.Faults.{Refuses};
 ghost use Rattle.glob_examples.specs.Names as names;
 ghost use Rattle.glob_examples.specs.NameTable as table;
 
@@ -42,8 +43,7 @@ impl<A: Allocator + Copy> PathPattern<A> {
         let mut components = Vec::new(alloc);
         let mut shapes = Vec::new(alloc);
         for component in text.split('/') {
-            components.push(Pattern::new(alloc, component)?)?;
-            shapes.push(shape_of(component))?;
+            push_component(alloc, &mut components, &mut shapes, component)?;
         }
         Ok(PathPattern {
             components,
@@ -89,6 +89,26 @@ impl<A: Allocator + Copy> PathPattern<A> {
         }
         Ok(row)
     }
+}
+
+/// Adds a component and its shape. It is refused with its fault if it is no pattern; and any may be refused if allocation
+/// fails.
+fn push_component<A: Allocator + Copy>(
+    alloc: A,
+    components: &mut Vec<Pattern<A>, A>,
+    shapes: &mut Vec<Shape, A>,
+    component: &str,
+) -> Result<(), PatternRefusal>
+    ensures added { IfOk result (λ _.
+        components.new.items ≡ components.old.items ++ component.now ∷ []) }
+    ensures shaped { IfOk result (λ _.
+        shapes.new.items ≡ shapes.old.items ++ table.shape_of component.now ∷ []) }
+    ensures accepted { IfOk result (λ _. names.IsComponent component.now) }
+    ensures refused { IfErr result (Refuses (chars component.now)) }
+{
+    components.push(Pattern::new(alloc, component)?)?;
+    shapes.push(shape_of(component))?;
+    Ok(())
 }
 
 /// Which groups the component may stand for.

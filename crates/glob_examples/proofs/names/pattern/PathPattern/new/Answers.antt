@@ -14,39 +14,21 @@ pub loop-component-preserved : goal.loop-component-preserved
 loop-component-preserved g c =
     let i = c.loop-component.invariant in
     let component = c.in-Some.component in
-    let items = rw c.in_ok-new.ensures.text at c.in_ok-push.ensures.items in
+    let e = c.in_ok-push_component.ensures in
     record {
-      read = rw (items, map-append (λ x. x.now) c.loop-component.yielded (component ∷ [])) (ap (λ xs. xs ++ component.now ∷ []) i.read);
-      shaped = rw (c.in_ok-push-2.ensures.items, items, map-append shape_of c.loop-component.components.items (component.now ∷ []), c.shape_of.ensures) (ap (λ xs. xs ++ shape_of component.now ∷ []) i.shaped);
-      accepted = rw items (All-push IsComponent _ _ i.accepted c.in_ok-new.ensures.accepted);
+      read = rw (e.added, map-append (λ x. x.now) c.loop-component.yielded (component ∷ [])) (ap (λ xs. xs ++ component.now ∷ []) i.read);
+      shaped = rw (e.shaped, e.added, map-append shape_of c.loop-component.components.items (component.now ∷ [])) (ap (λ xs. xs ++ shape_of component.now ∷ []) i.shaped);
+      accepted = rw e.added (All-push IsComponent _ _ i.accepted e.accepted);
     }
 
-pub returns-in_err-new-clause-refused : goal.returns-in_err-new-clause-refused
-returns-in_err-new-clause-refused g c =
+pub returns-in_err-push_component-clause-refused : goal.returns-in_err-push_component-clause-refused
+returns-in_err-push_component-clause-refused g c =
     let parts = YieldsList-from_str_split slash c.args.text.now (lit< tt) (cc) (cc) (cc) in
     IfErr-from_known _ _ _
     (λ refusal is. RefusesComponent-turn parts c.loop-component.yielded _ c.loop-component.yielded_by
     _ _ c.in-Some.component c.in-Some.is c.next.ensures.steps _ c.loop-component.invariant.read c.loop-component.invariant.accepted
-    refusal (subst (Refuses (chars c.in-Some.component.now)) (sym is) c.in_err-new.ensures.refused))
+    refusal (subst (Refuses (chars c.in-Some.component.now)) (sym is) c.in_err-push_component.ensures.refused))
     c.from_residual.ensures.1
-
-pub returns-in_err-push-clause-refused : goal.returns-in_err-push-clause-refused
-returns-in_err-push-clause-refused g c =
-    let parts = YieldsList-from_str_split slash c.args.text.now (lit< tt) (cc) (cc) (cc) in
-    IfErr-from_known _ _ _
-    (λ refusal is. RefusesComponent-turn parts c.loop-component.yielded _ c.loop-component.yielded_by
-    _ _ c.in-Some.component c.in-Some.is c.next.ensures.steps _ c.loop-component.invariant.read c.loop-component.invariant.accepted
-    refusal (subst (Refuses (chars c.in-Some.component.now)) (sym is) tt))
-    c.from_residual-in_err-push.ensures.1
-
-pub returns-in_err-push-2-clause-refused : goal.returns-in_err-push-2-clause-refused
-returns-in_err-push-2-clause-refused g c =
-    let parts = YieldsList-from_str_split slash c.args.text.now (lit< tt) (cc) (cc) (cc) in
-    IfErr-from_known _ _ _
-    (λ refusal is. RefusesComponent-turn parts c.loop-component.yielded _ c.loop-component.yielded_by
-    _ _ c.in-Some.component c.in-Some.is c.next.ensures.steps _ c.loop-component.invariant.read c.loop-component.invariant.accepted
-    refusal (subst (Refuses (chars c.in-Some.component.now)) (sym is) tt))
-    c.from_residual-in_err-push-2.ensures.1
 
 pub returns-clause-components : goal.returns-clause-components
 returns-clause-components g c =
