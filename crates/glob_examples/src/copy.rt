@@ -1,6 +1,6 @@
 //! What a copy tool copies: of the paths that a walk finds, those that an include pattern matches, and no exclude
 //! pattern.
-ghost use Rattle.std.specs.Prelude.{◌≡◌, ◌↔◌, ◌⊎◌, true, List, [], ◌∷◌, ◌++◌, map, chars, string_bytes, IsTrue, IfOk, IfErr};
+ghost use Rattle.std.specs.Prelude.{◌≡◌, ◌↔◌, ◌⊎◌, true, map, chars, string_bytes, IsTrue, IfOk, IfErr};
 ghost use Rattle.std.specs.Path.{path_bytes, path_buf_bytes};
 ghost use Rattle.glob.specs.Answers.{IsTold};
 ghost use Rattle.glob.specs.Content.{Content};
@@ -100,26 +100,11 @@ fn copied<A: Allocator + Copy, B: Allocator>(
 {
     let mut files = Vec::new(alloc);
     for path in paths {
-        push_copied(&mut files, rules, path)?;
+        if rules.copies(path.as_path())? {
+            files.push(path)?;
+        }
     }
     Ok(files)
-}
-
-/// Adds the path if the rules copy it: so what is copied of some paths becomes what is copied of these and this one.
-/// Fails only if allocation fails.
-fn push_copied<A: Allocator + Copy, B: Allocator>(
-    files: &mut Vec<PathBuf<B>, B>,
-    rules: &CopyRules<A>,
-    path: PathBuf<B>,
-) -> Result<(), AllocError>
-    ensures { (paths : List Text) → AreKept (Copies rules.now) paths (map path_buf_bytes files.old.items)
-        → IfOk result (λ _. AreKept (Copies rules.now) (paths ++ path_buf_bytes path ∷ [])
-        (map path_buf_bytes files.new.items)) }
-{
-    if rules.copies(path.as_path())? {
-        files.push(path)?;
-    }
-    Ok(())
 }
 
 /// The pattern of all that is below a folder, whose name is plain text: in `a[1]` the brackets stand for themselves, so

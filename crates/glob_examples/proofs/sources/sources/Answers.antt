@@ -1,14 +1,22 @@
 use Rattle.std.proofs.Common.{◌≡◌, [], ◌∷◌, Some, map, ap, sym, subst, refl, ◌∙◌}
 use Rattle.std.proofs.lemmas.List.{map-append}
 use Rattle.std.specs.Path.{path_buf_bytes}
+use Rattle.glob.specs.Content.{Content}
 use Rattle.glob.specs.Goal.{IsPlainWalk}
 use Rattle.glob.specs.Listing.{listing}
 use Rattle.glob.specs.Matching.Options.{new_options}
-use Rattle.glob.specs.Walks.{IsFresh}
+use Rattle.glob.specs.Text.{Text}
+use Rattle.glob.specs.Types.{MatchOptions}
+use Rattle.glob.specs.Walks.{IsFresh, Walking}
 use Rattle.glob.proofs.FoundPaths.{FindsSoFar, FindsSoFar-start, FindsSoFar-next, FindsSoFar-whole, goal-listed, orderly-listed, paths-listed}
 use Rattle.glob_examples.specs.WalkFaults.{IsPatternFault}
 use Rattle.glob_examples.proofs.WalkFaults.{EndsAt, IfErr-from_known, IsMet-end, IsMet-pattern, IsWalkFault-end, IsWalkFault-pattern}
 use Rattle.glob_examples.proofs.sources.sources.Goals as goal
+
+-- what the loop has before it is the written listing
+left_of : {X : Type 0} (first walk : Walking X) (c : Content) (pattern : Text) (o : MatchOptions) → first ≡ walk → walk.left ≡ Some (listing c o pattern) → o ≡ new_options
+    → first.left ≡ Some (listing c new_options pattern)
+left_of first walk c pattern o same left is = ap (λ w. w.left) same ∙ left ∙ ap (λ o. Some (listing c o pattern)) is
 
 -- the pattern is refused
 pub returns-in_err-check_plain-clause-fault : goal.returns-in_err-check_plain-clause-fault
@@ -34,7 +42,7 @@ pub returns-in_err-push_found-clause-met : goal.returns-in_err-push_found-clause
 returns-in_err-push_found-clause-met g c = λ content told.
     let same = c.into_iter-item-iterator.ensures.into_iter_gives in
     let left : c.into_iter-item-iterator.result.left ≡ Some (listing content new_options c.args.pattern.now) =
-    ap (λ walk. walk.left) same ∙ c.in_ok-paths.ensures.listing content told ∙ ap (λ o. Some (listing content o c.args.pattern.now)) c.new.ensures in
+    left_of _ _ content _ _ same (c.in_ok-paths.ensures.listing content told) c.new.ensures in
     IfErr-from_known _ _ _
     (λ fault is. IsMet-end _ content c.args.limit g.T.Tree.asks g.T.Tree.tells _ _ c.next.new.self _ c.loop-item.invariant
     c.args.tree (subst (IsFresh c.args.tree c.args.limit) (sym same) c.in_ok-paths.ensures.fresh) told left
@@ -64,7 +72,7 @@ returns-clause-files g c = λ content told.
       case = refl;
     } in
     let left : c.into_iter-item-iterator.result.left ≡ Some (listing content new_options c.args.pattern.now) =
-    ap (λ walk. walk.left) same ∙ c.in_ok-paths.ensures.listing content told ∙ ap (λ o. Some (listing content o c.args.pattern.now)) c.new.ensures in
+    left_of _ _ content _ _ same (c.in_ok-paths.ensures.listing content told) c.new.ensures in
     let files = map path_buf_bytes c.loop-item.files.items in
     let whole =
     FindsSoFar-whole g.T.Tree.asks g.T.Tree.tells _ _ c.next.new.self files c.loop-item.invariant _ c.in-None.is c.next.ensures.steps c.args.limit c.args.tree
