@@ -35,7 +35,7 @@ pub(super) enum Which {
     Pruned,
 }
 
-const DISKS: [Which; 3] = [Which::Following, Which::PhysicalFollowing, Which::Physical];
+static DISKS: [Which; 3] = [Which::Following, Which::PhysicalFollowing, Which::Physical];
 
 /// What is asked about a path.
 #[derive(Clone, Copy)]
@@ -219,7 +219,7 @@ fn check_answer(rt: &impl Abort, answer: &Answer, known: &str, path: &str) {
 
 /// A path, what a look at it finds where symbolic links are followed, how many lookups of the system that takes, and
 /// what a look finds where they are not, by one.
-const LOOKS: &[(&str, &str, u64, &str)] = &[
+static LOOKS: &[(&str, &str, u64, &str)] = &[
     ("d", "dir", 1, "dir"),
     ("d/", "dir", 1, "dir"),
     ("d/f", "other", 1, "other"),
@@ -244,7 +244,7 @@ const LOOKS: &[(&str, &str, u64, &str)] = &[
 #[test]
 fn looks(rt: HostRuntime) {
     for (path, followed, lookups, kept) in LOOKS {
-        for disk in DISKS {
+        for &disk in &DISKS {
             let (known, lookups) = match disk {
                 Which::Physical => (*kept, 1),
                 _ => (*followed, *lookups),

@@ -8,7 +8,7 @@ const LINES: &str =
     "# a\n*.o\n!keep.o\n[[:digit:]][!0-9]\ntarget/\n/*abcdefghijklmnopqrstuvwxyzabcdefghijklmnopqrstuvwxyzabcdefghijk[l]\n";
 
 /// A path, whether it is a directory, the line that decides, and whether it is ignored, as gitignore(5) has it.
-const ROWS: [(&str, bool, Option<usize>, bool); 8] = [
+static ROWS: [(&str, bool, Option<usize>, bool); 8] = [
     (
         "0abcdefghijklmnopqrstuvwxyzabcdefghijklmnopqrstuvwxyzabcdefghijkl",
         false,
@@ -28,7 +28,7 @@ const ROWS: [(&str, bool, Option<usize>, bool); 8] = [
 /// sufficed.
 fn answers(rt: &impl Abort, list: &IgnoreList<Memory<'_>>) -> bool {
     let mut suffices = true;
-    for (path, is_directory, line, is_ignored) in ROWS {
+    for &(path, is_directory, line, is_ignored) in &ROWS {
         match list.is_ignored(path, is_directory) {
             Ok(yes) => check(rt, yes == is_ignored, 0, path),
             Err(_) => suffices = false,

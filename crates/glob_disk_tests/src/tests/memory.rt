@@ -28,7 +28,7 @@ fn check_ask(
 }
 
 /// Which disk is asked what, and how many requests that takes at least.
-const ASKS: [(Which, Question, &str, u64); 7] = [
+static ASKS: [(Which, Question, &str, u64); 7] = [
     (Which::Following, Question::List, "d", 8),
     (Which::Following, Question::Names, "d", 8),
     (Which::Physical, Question::List, "d", 8),
@@ -40,7 +40,7 @@ const ASKS: [(Which, Question, &str, u64); 7] = [
 
 #[test]
 fn each_request_of_a_disk_is_refused(rt: HostRuntime) {
-    for (disk, question, path, least) in ASKS {
+    for &(disk, question, path, least) in &ASKS {
         check_ask(&rt, disk, question, path, least);
     }
 }

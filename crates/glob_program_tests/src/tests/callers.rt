@@ -89,7 +89,7 @@ fn examples_answer(rt: HostRuntime) {
 }
 
 /// Path patterns, paths, and whether they are matched. Many recursive components are decided at once.
-const ROWS: [(Parts<'static>, Parts<'static>, bool); 5] = [
+static ROWS: [(Parts<'static>, Parts<'static>, bool); 5] = [
     (&[("a/**/[b-d]?", 1)], &[("a/x/y/bx", 1)], true),
     (&[("a*b", 1)], &[("a/b", 1)], false),
     (&[("a/**", 1)], &[("a", 1)], true),
@@ -107,7 +107,7 @@ fn by_names(alloc: Global, pattern: &str, path: &str) -> Option<bool> {
 
 #[test]
 fn paths_are_decided_name_by_name(rt: HostRuntime) {
-    for (pattern, path, answer) in ROWS {
+    for &(pattern, path, answer) in &ROWS {
         let path = text(&rt, path);
         let found = by_names(rt.alloc(), text(&rt, pattern).as_str(), path.as_str());
         check(&rt, found == Some(answer), path.as_str());

@@ -78,7 +78,7 @@ pub(super) fn driven<'a>(
 const SMALL: &str = "d /a f /a/b /c d /d f /d/e";
 
 /// How often a walk of a small tree asks for entries, and how often for names alone.
-const NAMES: [(&str, u64, u64); 12] = [
+static NAMES: [(&str, u64, u64); 12] = [
     ("*", 0, 1),
     ("?", 0, 1),
     (".*", 0, 1),
@@ -96,7 +96,7 @@ const NAMES: [(&str, u64, u64); 12] = [
 /// Names alone are asked for exactly where no entry's kind can change what follows.
 #[test]
 fn names_alone_where_no_kind_matters(rt: HostRuntime) {
-    for (pattern, listings, names) in NAMES {
+    for &(pattern, listings, names) in &NAMES {
         let asked = agreed(&rt, Job::of(SMALL, pattern)).asked;
         check(&rt, asked.listings == listings, asked.listings, pattern);
         check(&rt, asked.names == names, asked.names, pattern);
@@ -105,7 +105,7 @@ fn names_alone_where_no_kind_matters(rt: HostRuntime) {
 
 /// Patterns, and what a walk gives whose driver answers names alone where a listing is asked for: nothing is listed
 /// below them, and no directory is among them.
-const BELOW_NAMES: [(&str, &str); 7] = [
+static BELOW_NAMES: [(&str, &str); 7] = [
     ("*", "a c d "),
     ("**/*", "a c d "),
     ("**", ""),
@@ -117,7 +117,7 @@ const BELOW_NAMES: [(&str, &str); 7] = [
 
 #[test]
 fn a_driver_that_answers_names_alone(rt: HostRuntime) {
-    for (pattern, words) in BELOW_NAMES {
+    for &(pattern, words) in &BELOW_NAMES {
         let job = Job {
             behaviour: Behaviour::NoKinds,
             ..Job::of(SMALL, pattern)

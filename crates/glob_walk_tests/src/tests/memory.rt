@@ -23,7 +23,7 @@ fn check_walk(rt: &(impl Abort + AllocGlobal), way: Way, pattern: &str) {
 }
 
 /// Patterns of walks. The last has more than 63 tokens.
-const WALKS: [&str; 10] = [
+static WALKS: [&str; 10] = [
     "**/[!.]*",
     "**",
     "*/*",
@@ -38,7 +38,7 @@ const WALKS: [&str; 10] = [
 
 #[test]
 fn each_request_of_a_walk_is_refused(rt: HostRuntime) {
-    for pattern in WALKS {
+    for &pattern in &WALKS {
         for way in WAYS {
             check_walk(&rt, way, pattern);
         }

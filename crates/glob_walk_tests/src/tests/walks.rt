@@ -69,7 +69,7 @@ pub(super) enum Way {
     Driven(u64),
 }
 
-pub(super) const WAYS: [Way; 3] = [Way::Steps, Way::Whole, Way::Driven(u64::MAX)];
+pub(super) static WAYS: [Way; 3] = [Way::Steps, Way::Whole, Way::Driven(u64::MAX)];
 
 /// What a walk gave.
 #[derive(Drop)]

@@ -6,7 +6,7 @@ use std::fs::Files;
 use std::test::Fail;
 
 /// A file and a directory, which is removed before it can be opened.
-const PATHS: [(&str, Kind<'static>); 4] = [
+static PATHS: [(&str, Kind<'static>); 4] = [
     (".", Kind::Dir(&[])),
     ("./", Kind::Dir(&[b".a\0AAA\0"])),
     ("./.a", Kind::File),
@@ -39,7 +39,7 @@ fn by_glob<R: Files + Drop>(rt: R, alloc: Global, pattern: &str) -> Result<Strin
 }
 
 /// Patterns, and what `glob` gives for each.
-const ROWS: [(&str, &str); 3] = [
+static ROWS: [(&str, &str); 3] = [
     ("*a*", ".a\n"),
     ("**", "AAA\n!\n"),
     (
@@ -51,7 +51,7 @@ const ROWS: [(&str, &str); 3] = [
 #[test]
 fn options_are_those_of_the_caller(rt: HostRuntime) -> Result<(), Fail> {
     let calls = Calls::new();
-    for (pattern, wanted) in ROWS {
+    for &(pattern, wanted) in &ROWS {
         let found = by_glob(Written::new(&PATHS, &calls), rt.alloc(), pattern)?;
         assert_eq!(rt; found.as_str(), wanted);
     }

@@ -12,7 +12,7 @@ const LAST: i32 = 133;
 /// The number of lack of memory.
 const ENOMEM: i32 = 12;
 
-const ALL: [Which; 4] = [
+static ALL: [Which; 4] = [
     Which::Following,
     Which::PhysicalFollowing,
     Which::Physical,
@@ -23,7 +23,7 @@ const ALL: [Which; 4] = [
 fn check_failing(rt: &(impl Abort + AllocGlobal), error: io::Error) {
     for opening in [true, false] {
         let paths = [("a/", Kind::Failing(error, opening))];
-        for disk in ALL {
+        for &disk in &ALL {
             for question in [Question::List, Question::Names] {
                 check_fault(rt, &found(rt, &paths, disk, question, "a"), error);
             }
@@ -50,7 +50,7 @@ fn each_error_of_a_listing_is_handed_on(rt: HostRuntime) {
 }
 
 /// What is asked, and the answer where the path, the target of the link `l`, or the entry of `d` cannot be looked up.
-const UNSEEN: [(Question, &str, &str); 3] = [
+static UNSEEN: [(Question, &str, &str); 3] = [
     (Question::Look, "a", "missing"),
     (Question::Look, "l", "other"),
     (Question::List, "d", "x|"),
@@ -67,8 +67,8 @@ fn what_cannot_be_looked_up_is_missing(rt: HostRuntime) {
             ("d/", Kind::Dir(&[b"x\0"])),
             ("d/x", Kind::Lost(kind)),
         ];
-        for disk in ALL {
-            for (question, path, known) in UNSEEN {
+        for &disk in &ALL {
+            for &(question, path, known) in &UNSEEN {
                 let is_followed = disk != Which::Physical || path != "l";
                 let is_memory = code == ENOMEM && is_followed;
                 let known = if is_memory { "$" } else { known };

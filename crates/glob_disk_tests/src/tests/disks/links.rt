@@ -4,7 +4,7 @@ use super::{Question, Which, check_answer, found};
 use crate::tests::made::check;
 
 /// A directory with two links to itself, as far as two levels go, and one that is removed before it can be opened.
-const PATHS: [(&str, Kind<'static>); 13] = [
+static PATHS: [(&str, Kind<'static>); 13] = [
     (".", Kind::Dir(&[])),
     ("./", Kind::Dir(&[b".a\0AAA\0"])),
     ("./.a", Kind::File),
@@ -22,7 +22,7 @@ const PATHS: [(&str, Kind<'static>); 13] = [
 
 /// A disk, a pattern, what its walk gives, and how often a directory is opened. Where links are not followed, a path
 /// through one is, but none is a directory that is listed, so that a cycle ends.
-const ROWS: [(Which, &str, &str, u64); 9] = [
+static ROWS: [(Which, &str, &str, u64); 9] = [
     (Which::Physical, "c/**/*", "c/f c/one c/two ", 1),
     (
         Which::Following,
@@ -41,7 +41,7 @@ const ROWS: [(Which, &str, &str, u64); 9] = [
 
 #[test]
 fn a_cycle_of_links_ends(rt: HostRuntime) {
-    for (disk, pattern, known, opens) in ROWS {
+    for &(disk, pattern, known, opens) in &ROWS {
         let found = found(&rt, &PATHS, disk, Question::Walk, pattern);
         check_answer(&rt, &found, known, pattern);
         check(

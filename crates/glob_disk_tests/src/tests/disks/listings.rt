@@ -6,7 +6,7 @@ use std::process::Abort;
 
 /// A path, how many reads of a directory its listing takes, how many entries it has, which those are where symbolic
 /// links are followed, their names alone, and which they are where links are not followed.
-const LISTINGS: &[(&str, u64, u64, &str, &str, &str)] = &[
+static LISTINGS: &[(&str, u64, u64, &str, &str, &str)] = &[
     (
         "d",
         4,
@@ -94,7 +94,7 @@ fn a_large_directory_is_listed_whole(rt: HostRuntime) {
 }
 
 /// A path, and how its listing fails: where symbolic links are followed, of its names alone, and where they are not.
-const FAILURES: &[(&str, &str, &str, &str)] = &[
+static FAILURES: &[(&str, &str, &str, &str)] = &[
     ("", "!NotFound", "!NotFound", "!NotFound"),
     ("nothing", "!NotFound", "!NotFound", "!NotFound"),
     (

@@ -2,7 +2,7 @@
 use super::files::Kind;
 use std::io::ErrorKind;
 
-pub(in crate::tests) const PATHS: &[(&str, Kind)] = &[
+pub(in crate::tests) static PATHS: &[(&str, Kind)] = &[
     ("d", Kind::Dir(&[])),
     (
         "d/",

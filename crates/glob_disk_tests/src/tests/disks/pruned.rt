@@ -35,7 +35,7 @@ pub(super) fn pruned<'a>(
 const NAMES: &[&[u8]] = &[b"f\0s\0t\0", b"u\0"];
 
 /// A directory `d`, each of whose paths leads to it.
-const PATHS: &[(&str, Kind)] = &[
+static PATHS: &[(&str, Kind)] = &[
     (".", Kind::Dir(&[])),
     ("d", Kind::Dir(&[])),
     ("d/", Kind::Dir(NAMES)),
@@ -54,7 +54,7 @@ const PATHS: &[(&str, Kind)] = &[
 
 /// What is asked, the answer where `d/s` and all below it are left out, how many lookups of the system a look takes,
 /// and how often a directory is opened. A path that is refused is out of memory.
-const ROWS: &[(Question, &str, &str, u64)] = &[
+static ROWS: &[(Question, &str, &str, u64)] = &[
     (Question::Look, "d", "dir", 1),
     (Question::Look, "./d//f", "other", 1),
     (Question::Look, "d/s", "missing", 1),

@@ -45,7 +45,7 @@ fn run_refusing(rt: &(impl Abort + AllocGlobal), job: Job, number: u64) -> Outco
 }
 
 /// What is done with memory, and the status where there is enough. A fault is whole without memory.
-const JOBS: [(Job, u8); 4] = [
+static JOBS: [(Job, u8); 4] = [
     (Job::Fault("usage: name"), 2),
     (Job::Walk("a**"), 2),
     (Job::Walk("a?"), 0),
@@ -70,7 +70,7 @@ fn check_refused(rt: &(impl Abort + AllocGlobal), job: Job, ample: &Outcome, num
 
 #[test]
 fn each_request_of_a_run_is_refused(rt: HostRuntime) {
-    for (job, status) in JOBS {
+    for &(job, status) in &JOBS {
         let ample = run_refusing(&rt, job, 0);
         assert!(rt; ample.status == status && ample.requests > 0, "{job:?}");
         for number in 1..=ample.requests {
@@ -89,11 +89,11 @@ fn explained<A: Allocator + Copy>(alloc: A, pattern: &str, text: &str) -> Option
 }
 
 /// Patterns and texts: one that matches, two that do not, and a pattern that is refused.
-const EXPLAINED: [(&str, &str); 4] = [("a?", "ab"), ("a?", "b"), ("*.{c,h}", "a.c"), ("a**", "a")];
+static EXPLAINED: [(&str, &str); 4] = [("a?", "ab"), ("a?", "b"), ("*.{c,h}", "a.c"), ("a**", "a")];
 
 #[test]
 fn each_request_of_an_explanation_is_refused(rt: HostRuntime) {
-    for (pattern, text) in EXPLAINED {
+    for &(pattern, text) in &EXPLAINED {
         let ample = Rationed::refusing(0, rt.alloc());
         let lines = explained(&ample, pattern, text).expect(&rt, "lines");
         for number in 1..=ample.ration.asked() {

@@ -45,7 +45,7 @@ fn paths_are_written_before_an_error_after_them(rt: HostRuntime) {
 const DENIED: &str = "name: attempting to read `d` resulted in an error: permission denied\n";
 
 /// The keys, the byte that ends a path, and what is written, with a path after the error, too.
-const ROWS: [(&[&str], u8, &str); 3] = [
+static ROWS: [(&[&str], u8, &str); 3] = [
     (&["/d#"], b'\n', "d\n"),
     (&["/d#", "/e/"], b'\n', "d\ne\n"),
     (&["/d#", "/e/"], 0, "d\0e\0"),
@@ -54,7 +54,7 @@ const ROWS: [(&[&str], u8, &str); 3] = [
 /// A path may end in a NUL, and an error is a line all the same.
 #[test]
 fn paths_and_errors(rt: HostRuntime) {
-    for (keys, end, paths) in ROWS {
+    for &(keys, end, paths) in &ROWS {
         let (mut output, mut errors) = (Vec::new(rt.alloc()), Vec::new(rt.alloc()));
         let job = Job::Bounded("**", 9, end);
         let status = run(

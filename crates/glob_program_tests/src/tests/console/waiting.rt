@@ -7,7 +7,7 @@ use std::process::Abort;
 
 /// A pattern, how many files there are, and the asks before the first path, before the second, and at most before that
 /// is written: a lookup, listings and their entries, and then a hundred lookups, listings or entries.
-const WAITS: [(&str, u32, u64, u64, u64); 6] = [
+static WAITS: [(&str, u32, u64, u64, u64); 6] = [
     ("*/x*", 0, 305, 305, 406),
     ("*/x*", 30, 305, 305, 430),
     ("*/x*", 150, 305, 305, 457),
@@ -37,7 +37,7 @@ fn check_waits(
 
 #[test]
 fn a_path_waits_for_few_asks(rt: HostRuntime) {
-    for row in WAITS {
+    for &row in &WAITS {
         check_waits(&rt, row);
     }
 }
@@ -55,7 +55,7 @@ fn many_paths_take_few_writes(rt: HostRuntime) {
 }
 
 /// A pattern, and how often entries are asked for, and names alone: these where no entry's kind changes what is written.
-const KINDS: [(&str, u64, u64); 7] = [
+static KINDS: [(&str, u64, u64); 7] = [
     ("*", 0, 1),
     ("a/b*", 0, 1),
     ("*/", 1, 0),
@@ -67,7 +67,7 @@ const KINDS: [(&str, u64, u64); 7] = [
 
 #[test]
 fn kinds_are_asked_for_where_they_matter(rt: HostRuntime) {
-    for (pattern, entries, names) in KINDS {
+    for &(pattern, entries, names) in &KINDS {
         let counts = no_asks();
         let tree = CountedTree {
             alloc: rt.alloc(),

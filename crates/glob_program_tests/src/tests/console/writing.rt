@@ -8,7 +8,7 @@ use std::io::{self, ErrorKind};
 use std::process::Abort;
 
 /// What writes more than three bytes.
-const JOBS: [Job; 3] = [
+static JOBS: [Job; 3] = [
     Job::Text("some lines\nof a page\n"),
     Job::Walk("*/x*"),
     Job::Walk("*"),
@@ -27,14 +27,14 @@ fn check_short(rt: &(impl Abort + AllocGlobal), job: Job, mood: Mood) {
 
 #[test]
 fn short_and_interrupted_writes_lose_nothing(rt: HostRuntime) {
-    for job in JOBS {
+    for &job in &JOBS {
         check_short(&rt, job, Mood::Slow);
         check_short(&rt, job, Mood::Interrupted);
     }
 }
 
 /// What reports a fault, and its line.
-const FAULTS: [(Job, &str); 3] = [
+static FAULTS: [(Job, &str); 3] = [
     (Job::Fault("usage: name"), "name: usage: name\n"),
     (
         Job::Walk("abc[def"),
@@ -58,7 +58,7 @@ fn check_line(rt: &(impl Abort + AllocGlobal), (job, line): (Job, &str), mood: M
 
 #[test]
 fn the_line_of_a_fault_is_whole(rt: HostRuntime) {
-    for row in FAULTS {
+    for &row in &FAULTS {
         check_line(&rt, row, Mood::Willing);
         check_line(&rt, row, Mood::Slow);
         check_line(&rt, row, Mood::Interrupted);
@@ -79,7 +79,7 @@ const FAILED: &str = "name: writing failed\n";
 /// A writer that took nothing, or failed, is not asked again.
 #[test]
 fn a_writer_that_fails_is_asked_once(rt: HostRuntime) {
-    for job in JOBS {
+    for &job in &JOBS {
         for mood in [
             Mood::Idle,
             Mood::Broken(ErrorKind::Other),
@@ -135,7 +135,7 @@ fn a_line_that_is_not_formatted_is_written_in_pieces(rt: HostRuntime) {
 }
 
 /// Why the arguments could not be read, and the line.
-const UNREAD_ARGUMENTS: [(ErrorKind, &str); 3] = [
+static UNREAD_ARGUMENTS: [(ErrorKind, &str); 3] = [
     (ErrorKind::OutOfMemory, "out of memory\n"),
     (ErrorKind::InvalidData, "not UTF-8\n"),
     (ErrorKind::Other, "not UTF-8\n"),
@@ -143,7 +143,7 @@ const UNREAD_ARGUMENTS: [(ErrorKind, &str); 3] = [
 
 #[test]
 fn arguments_that_cannot_be_read(rt: HostRuntime) {
-    for (kind, line) in UNREAD_ARGUMENTS {
+    for &(kind, line) in &UNREAD_ARGUMENTS {
         let mut errors = Vec::new(rt.alloc());
         let error = io::Error::from(kind);
         let lines = &mut ErrorLines::new(rt.alloc(), "", &mut errors);

@@ -18,7 +18,7 @@ const NO_TEXT: Option<ErrorKind> = Some(ErrorKind::InvalidData);
 type Walk = (Behaviour<'static>, &'static str, &'static str, u64);
 
 /// A walk, and what it gives and spends: a listing that fails is one error, and the walk goes on.
-const ROWS: [(Walk, &str, u64); 21] = [
+static ROWS: [(Walk, &str, u64); 21] = [
     (
         (Behaviour::Files, "", ".*/.*", 99),
         "./../.. ./../. ././.. ././. ",
@@ -90,7 +90,7 @@ const ROWS: [(Walk, &str, u64); 21] = [
 ];
 
 /// Walks that end where a listing or a look is out of memory.
-const SHORT: [(Walk, &str, u64); 5] = [
+static SHORT: [(Walk, &str, u64); 5] = [
     (
         (
             Behaviour::Unlisted("r/one", None),
@@ -128,7 +128,7 @@ fn answers_that_no_files_give(rt: HostRuntime) {
 }
 
 /// Patterns of walks over a few files.
-const PATTERNS: [&str; 16] = [
+static PATTERNS: [&str; 16] = [
     "",
     "/",
     "..",
@@ -157,7 +157,7 @@ const OTHERS: MatchOptions = MatchOptions {
 /// Walks without a limit and within each limit up to what they spend.
 #[test]
 fn walks_within_each_limit(rt: HostRuntime) {
-    for pattern in PATTERNS {
+    for &pattern in &PATTERNS {
         for options in [CASE, OTHERS] {
             let job = Job {
                 options,
@@ -170,7 +170,7 @@ fn walks_within_each_limit(rt: HostRuntime) {
     }
 }
 
-const LIARS: [Behaviour<'static>; 5] = [
+static LIARS: [Behaviour<'static>; 5] = [
     Behaviour::Changing,
     Behaviour::Endless,
     Behaviour::Descending,
@@ -178,20 +178,20 @@ const LIARS: [Behaviour<'static>; 5] = [
     Behaviour::NoMemory,
 ];
 
-const LIMITS: [u64; 20] = [
+static LIMITS: [u64; 20] = [
     0, 1, 2, 3, 4, 5, 6, 7, 8, 9, 10, 11, 12, 13, 17, 23, 29, 59, 100, 1_000,
 ];
 
 /// Patterns of walks over trees whose answers belong to no content.
-const OVER_LIARS: [&str; 11] = [
+static OVER_LIARS: [&str; 11] = [
     "**/*/d", "*", "*/", "d/*", "**", ".*/../d", "**/*", "*/*", "a/b", "*/**/b", "/*/../*",
 ];
 
 #[test]
 fn answers_that_change_with_each_call(rt: HostRuntime) {
-    for behaviour in LIARS {
-        for pattern in OVER_LIARS {
-            for limit in LIMITS {
+    for &behaviour in &LIARS {
+        for &pattern in &OVER_LIARS {
+            for &limit in &LIMITS {
                 agreed(&rt, Job::over(behaviour, pattern).within(limit));
             }
         }

@@ -25,7 +25,7 @@ struct Row {
 }
 
 /// How many files, a pattern, how many paths a walk over them gives, and the most requests beside one for each path.
-const WALKS: [(u32, &str, u64, u64); 8] = [
+static WALKS: [(u32, &str, u64, u64); 8] = [
     (250, "a", 1, 4),
     (250, "*", 250, 13),
     (250, "a_long_directory/*", 250, 15),
@@ -37,7 +37,7 @@ const WALKS: [(u32, &str, u64, u64); 8] = [
 ];
 
 /// A part of a pattern that is repeated, and the most requests and bytes that each further one takes: it is read once.
-const PARTS: [(&str, u64, u64); 6] = [
+static PARTS: [(&str, u64, u64); 6] = [
     ("a", 0, 3),
     ("?", 1, 220),
     ("[a]", 1, 240),
@@ -93,7 +93,7 @@ fn check_row(rt: &(impl Abort + AllocGlobal), row: Row, whole: bool) {
 #[test]
 fn a_directory_of_files_takes_a_request_for_each_path(rt: HostRuntime) {
     check_both(&rt, MATCHED);
-    for (files, part, paths, most) in WALKS {
+    for &(files, part, paths, most) in &WALKS {
         let row = Row {
             files,
             end: 0,
@@ -105,7 +105,7 @@ fn a_directory_of_files_takes_a_request_for_each_path(rt: HostRuntime) {
         };
         check_both(&rt, row);
     }
-    for (part, requests, bytes) in PARTS {
+    for &(part, requests, bytes) in &PARTS {
         let row = Row {
             files: 0,
             end: 0,

@@ -37,14 +37,14 @@ pub(super) fn names_of(rt: &(impl Abort + AllocGlobal), count: u32, end: &str) -
     words
 }
 
-const FILES: [u32; 20] = [
+static FILES: [u32; 20] = [
     0, 1, 2, 3, 4, 7, 8, 9, 15, 16, 17, 31, 32, 33, 63, 64, 65, 128, 257, 512,
 ];
 
 /// Directories of so many files, with none as well.
 #[test]
 fn entries(rt: HostRuntime) {
-    for size in FILES {
+    for &size in &FILES {
         let words = names_of(&rt, size, "");
         let found = agreed(&rt, Job::of(words.as_str(), "*"));
         let count = u64::from(size);
@@ -54,7 +54,7 @@ fn entries(rt: HostRuntime) {
 }
 
 /// Sizes around powers of two.
-const POWERS: [usize; 9] = [127, 128, 129, 255, 256, 257, 511, 512, 513];
+static POWERS: [usize; 9] = [127, 128, 129, 255, 256, 257, 511, 512, 513];
 
 /// Patterns of so many components, which lead so deep.
 fn check_components(rt: &(impl Abort + AllocGlobal), size: usize) {
@@ -78,7 +78,7 @@ fn components(rt: HostRuntime) {
     for size in 1..=70 {
         check_components(&rt, size);
     }
-    for size in POWERS {
+    for &size in &POWERS {
         check_components(&rt, size);
     }
 }
@@ -88,7 +88,7 @@ type Found = (&'static str, usize, &'static str);
 
 /// How a tree answers, a component, how many of them the pattern has, in which way it walks, what it gives, and what it
 /// spends.
-const LARGE: [(Behaviour<'static>, &str, usize, Way, Found, u64); 6] = [
+static LARGE: [(Behaviour<'static>, &str, usize, Way, Found, u64); 6] = [
     (
         Behaviour::Endless,
         "a",
@@ -135,7 +135,7 @@ const LARGE: [(Behaviour<'static>, &str, usize, Way, Found, u64); 6] = [
 #[test]
 fn a_hundred_thousand_components(rt: HostRuntime) {
     let ample = Rationed::refusing(0, rt.alloc());
-    for (behaviour, component, times, way, (part, parts, last), spent) in LARGE {
+    for &(behaviour, component, times, way, (part, parts, last), spent) in &LARGE {
         let pattern = repeated(&rt, component, times);
         let job = Job::over(behaviour, pattern.as_str()).within(200_000);
         let found = walk(&rt, &ample, job, way);
