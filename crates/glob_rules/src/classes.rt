@@ -1,6 +1,6 @@
 //! The classes of characters that a bracket may name.
-ghost use Rattle.std.specs.Prelude.{◌≡◌};
-ghost use Rattle.glob_rules.specs.Classes.{class_has, class_named, before_close};
+ghost use Rattle.std.specs.Prelude.{◌≡◌, map};
+ghost use Rattle.glob_rules.specs.Classes.{class_has, class_in, class_named, before_close};
 
 /// A class of characters, as git has it: all of them are ASCII.
 #[derive(Clone, Copy, Debug, PartialEq, Eq)]
@@ -31,27 +31,29 @@ pub enum Class {
     Xdigit,
 }
 
+/// Each class, after its name.
+const NAMES: [(&[u8], Class); 12] = [
+    (b"alnum", Class::Alnum),
+    (b"alpha", Class::Alpha),
+    (b"blank", Class::Blank),
+    (b"cntrl", Class::Cntrl),
+    (b"digit", Class::Digit),
+    (b"graph", Class::Graph),
+    (b"lower", Class::Lower),
+    (b"print", Class::Print),
+    (b"punct", Class::Punct),
+    (b"space", Class::Space),
+    (b"upper", Class::Upper),
+    (b"xdigit", Class::Xdigit),
+];
+
 impl Class {
     /// The class of a name.
     #[tactic(auto, unfolding(crate::specs::Classes::class_named))]
     pub fn named(name: &[u8]) -> Option<Class>
         ensures { result ≡ class_named name.now }
     {
-        match name {
-            b"alnum" => Some(Class::Alnum),
-            b"alpha" => Some(Class::Alpha),
-            b"blank" => Some(Class::Blank),
-            b"cntrl" => Some(Class::Cntrl),
-            b"digit" => Some(Class::Digit),
-            b"graph" => Some(Class::Graph),
-            b"lower" => Some(Class::Lower),
-            b"print" => Some(Class::Print),
-            b"punct" => Some(Class::Punct),
-            b"space" => Some(Class::Space),
-            b"upper" => Some(Class::Upper),
-            b"xdigit" => Some(Class::Xdigit),
-            _ => None,
-        }
+        class_in(&NAMES, name)
     }
 
     /// Whether it has a character.
@@ -73,6 +75,19 @@ impl Class {
             Class::Xdigit => c.is_ascii_hexdigit(),
         }
     }
+}
+
+/// The class of a name in a table.
+fn class_in(mut classes: &[(&[u8], Class)], name: &[u8]) -> Option<Class>
+    ensures { result ≡ class_in (map (λ c. (c.0.now, c.1)) classes.entry.now) name.now }
+{
+    while let [class, rest @ ..] = classes {
+        if name == class.0 {
+            return Some(class.1);
+        }
+        classes = rest;
+    }
+    None
 }
 
 /// What is before the first `]`, or all of it where there is none.
