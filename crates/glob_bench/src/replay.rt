@@ -25,7 +25,7 @@ enum Rows {
 }
 
 /// The tables. `data/README.md` says where each comes from.
-const TABLES: [(&str, Rows); 6] = [
+static TABLES: [(&str, Rows); 6] = [
     ("parse.tsv", Rows::Patterns),
     ("match.tsv", Rows::Matches),
     ("faults.tsv", Rows::Patterns),
@@ -36,7 +36,7 @@ const TABLES: [(&str, Rows); 6] = [
 
 /// Replays the tables, up to one with a row that disagrees.
 pub fn replay_tables(rt: &HostRuntime) -> io::Result<()> {
-    for (name, table) in TABLES {
+    for &(name, table) in &TABLES {
         let text = fs::read_to_string(rt, name)?;
         replay(rt, name, table, text.as_str())?;
     }

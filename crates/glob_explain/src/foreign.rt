@@ -13,7 +13,7 @@ const MOST_WAYS: usize = 8;
 
 /// Characters that are not in a bracket what they are between braces: some have a meaning there, or in a bracket, and
 /// the rules for `/` and a leading `.` are those of brackets alone.
-const UNLIKE_IN_BRACKETS: &[char] = &['*', '?', '!', '^', '-', ']', '/', '.'];
+static UNLIKE_IN_BRACKETS: &[char] = &['*', '?', '!', '^', '-', ']', '/', '.'];
 
 /// What stands for a pattern with forms of other tools: one pattern, or one for each alternative. There is none where the
 /// pattern has no such form, where its meaning is not certain, and where it would take more than [`MOST_WAYS`].

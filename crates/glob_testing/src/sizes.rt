@@ -2,7 +2,7 @@
 use std::alloc::AllocError;
 
 /// Characters of one to four bytes, the first and the last of each length, and the last but one of all.
-pub const CHARACTERS: [&str; 8] = [
+pub static CHARACTERS: [&str; 8] = [
     "a",
     "\u{7f}",
     "\u{80}",

@@ -4,7 +4,6 @@ mod lines;
 mod made;
 mod patterns;
 mod printing;
-mod rationing;
 mod refusing;
 mod sets;
 mod trees;

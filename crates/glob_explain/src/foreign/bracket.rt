@@ -2,7 +2,7 @@
 use std::alloc::{AllocError, Allocator};
 
 /// Classes of characters, as other tools write them in a bracket, and the ranges that stand for each.
-const CLASSES: &[(&str, &str)] = &[
+static CLASSES: &[(&str, &str)] = &[
     ("[:alpha:]", "a-zA-Z"),
     ("[:digit:]", "0-9"),
     ("[:alnum:]", "0-9a-zA-Z"),

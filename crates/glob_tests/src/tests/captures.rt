@@ -91,7 +91,7 @@ impl Calls for Capturing<'_> {
 }
 
 /// Rows of which the last is of a pattern whose matches ask for memory, too.
-const ROWS: [(Parts<'static>, Parts<'static>, Option<usize>, usize); 6] = [
+static ROWS: [(Parts<'static>, Parts<'static>, Option<usize>, usize); 6] = [
     (&[], &[], Some(0), 0),
     (&[("*.rs", 1)], &[("main.rs", 1)], Some(4), 7),
     (&[("**/*.[r]s", 1)], &[("a/b/c.css", 1)], None, 9),
@@ -102,7 +102,7 @@ const ROWS: [(Parts<'static>, Parts<'static>, Option<usize>, usize); 6] = [
 
 #[test]
 fn each_request_is_refused_in_turn(rt: HostRuntime) {
-    for (pattern, str, count, place) in ROWS {
+    for &(pattern, str, count, place) in &ROWS {
         let pattern = text(&rt, pattern);
         let str = text(&rt, str);
         let capturing = Capturing(pattern.as_str(), str.as_str(), count, place);

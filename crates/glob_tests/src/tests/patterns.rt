@@ -1,5 +1,6 @@
 mod costs;
 mod judges;
+mod matches;
 mod memory;
 mod order;
 mod questions;

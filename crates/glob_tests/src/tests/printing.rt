@@ -15,7 +15,7 @@ fn check_printed<T: Display>(rt: &(impl Abort + AllocGlobal), value: &T, text: &
 }
 
 /// Places with their digits, and messages.
-const FAULTS: [(usize, &str, &str); 4] = [
+static FAULTS: [(usize, &str, &str); 4] = [
     (0, "0", ""),
     (10, "10", "\u{e9}\u{20ac}\u{10fffe}"),
     (
@@ -44,7 +44,7 @@ fn check_fault(rt: &(impl Abort + AllocGlobal), pos: usize, msg: &'static str, l
 
 #[test]
 fn faults_of_patterns(rt: HostRuntime) {
-    for (pos, digits, msg) in FAULTS {
+    for &(pos, digits, msg) in &FAULTS {
         let before = "Pattern syntax error near position ";
         let line = text(&rt, &[(before, 1), (digits, 1), (": ", 1), (msg, 1)]);
         check_fault(&rt, pos, msg, line.as_str());

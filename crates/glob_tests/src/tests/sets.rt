@@ -94,7 +94,7 @@ fn check_forms(rt: &(impl Abort + AllocGlobal), set: &PatternSet, text: &str, nu
 }
 
 /// How many patterns the sets have: around one and two words of 64 bits, and many.
-const SIZES: [usize; 9] = [0, 1, 63, 64, 65, 127, 128, 129, 5_000];
+static SIZES: [usize; 9] = [0, 1, 63, 64, 65, 127, 128, 129, 5_000];
 
 /// So many names, and one more.
 fn names(rt: &(impl Abort + AllocGlobal), size: usize) -> Vec<String> {
@@ -137,7 +137,7 @@ fn check_all(rt: &(impl Abort + AllocGlobal), size: usize) {
 
 #[test]
 fn sets_of_each_size(rt: HostRuntime) {
-    for size in SIZES {
+    for &size in &SIZES {
         check_names(
             &rt,
             names(&rt, size).as_slice(),
@@ -161,7 +161,7 @@ impl Calls for Reading<'_> {
     }
 }
 
-const READINGS: [Reading<'static>; 2] = [
+static READINGS: [Reading<'static>; 2] = [
     Reading(&["*.o", "é[!ab]", "[a-c]?*", "**/target/**"], None),
     Reading(&["*.o", "é[!ab]", "[a-c]?*", "a**", "["], Some(3)),
 ];
@@ -174,7 +174,7 @@ fn each_request_of_a_new_set_is_refused(rt: HostRuntime) {
 }
 
 /// The numbers of the patterns below that match the long text below.
-const NUMBERS: [usize; 3] = [0, 1, 3];
+static NUMBERS: [usize; 3] = [0, 1, 3];
 
 /// A question of a form, about a text and the set of two long patterns, one that matches the same text, and two that do
 /// not.

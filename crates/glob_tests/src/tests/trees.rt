@@ -47,7 +47,7 @@ impl Change {
 }
 
 /// Changes that succeed, and some of which each is refused.
-const CHANGES: [(Change, &str, Result<(), TreeRefusal>); 9] = [
+static CHANGES: [(Change, &str, Result<(), TreeRefusal>); 9] = [
     (AddDir, "//a", Err(TreeRefusal::Improper)),
     (AddShut, "/s", Ok(())),
     (AddOther, "/s", Err(TreeRefusal::Taken)),
@@ -77,7 +77,7 @@ fn changes<A: Allocator + Copy>(
 
 fn change_all<A: Allocator + Copy>(tree: &mut MemTree<A>) -> Option<bool> {
     let mut changed = Some(true);
-    for change in CHANGES {
+    for &change in &CHANGES {
         changed = both(changed, changes(tree, change));
     }
     changed

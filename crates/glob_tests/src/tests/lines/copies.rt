@@ -119,7 +119,7 @@ fn is_copied(rt: &(impl Abort + AllocGlobal), row: &Row, most: usize) -> bool {
     count == Some(row.3) && written.as_slice() == row.2
 }
 
-const ROWS: [Row; 5] = [
+static ROWS: [Row; 5] = [
     (("*.rs", b'\n'), b"a.rs\nb.c\n\nx.rs", b"a.rs\nx.rs\n", 2),
     // A line that is not UTF-8 never matches.
     (("*", b'\n'), b"\xff\na\n", b"a\n", 1),

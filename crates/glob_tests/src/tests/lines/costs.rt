@@ -63,7 +63,7 @@ fn are_few(flow: &Flow, input: usize, calls: Calls) -> bool {
 }
 
 /// Lines without number, of which all or none match, one line, and reads of few bytes.
-const FLOWS: [Flow; 5] = [
+static FLOWS: [Flow; 5] = [
     Flow {
         pattern: "*",
         line: "a line\n",

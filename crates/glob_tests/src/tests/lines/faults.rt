@@ -97,7 +97,7 @@ fn a_writer_that_fails_ends_the_copy(rt: HostRuntime) {
     }
 }
 
-const KINDS: [ErrorKind; 14] = [
+static KINDS: [ErrorKind; 14] = [
     ErrorKind::WouldBlock,
     ErrorKind::TimedOut,
     ErrorKind::Interrupted,
@@ -116,7 +116,7 @@ const KINDS: [ErrorKind; 14] = [
 
 #[test]
 fn each_error_is_handed_on(rt: HostRuntime) {
-    for kind in KINDS {
+    for &kind in &KINDS {
         for error in [io::Error::from(kind), io::Error::new(kind, "")] {
             check_reader(&rt, b"ab", 1, (1, error));
             check_writer(&rt, (2, 0), Some(error), error, b"");

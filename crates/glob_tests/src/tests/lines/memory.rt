@@ -34,7 +34,7 @@ impl Calls for Copying<'_> {
 
 /// A pattern, lines, and those that it matches. One pattern has 64 tokens. The last output is more than one buffer, so
 /// that whole lines are written before memory runs out.
-const ROWS: [(Parts<'static>, Parts<'static>, Parts<'static>); 5] = [
+static ROWS: [(Parts<'static>, Parts<'static>, Parts<'static>); 5] = [
     (&[("*", 1)], &[], &[]),
     (&[("a*", 1)], &[("ab\nc\na", 1)], &[("ab\na\n", 1)]),
     (&[], &[("a\n\n", 1)], &[("\n", 1)]),
@@ -52,7 +52,7 @@ const ROWS: [(Parts<'static>, Parts<'static>, Parts<'static>); 5] = [
 
 #[test]
 fn lines(rt: HostRuntime) {
-    for (pattern, input, output) in ROWS {
+    for &(pattern, input, output) in &ROWS {
         let pattern = text(&rt, pattern);
         let input = text(&rt, input);
         let output = text(&rt, output);

@@ -1,7 +1,7 @@
 //! How many requests for memory are made and for how many bytes. The clock is not asked.
+use super::matches::answers;
 use crate::tests::made::{check, text};
 use glob_pattern::Pattern;
-use glob_testing::matches::answers;
 use glob_testing::rationing::Rationed;
 use std::alloc::{Allocator, Global};
 use std::hash::{DefaultHasher, Hash};
@@ -32,7 +32,7 @@ fn the_empty_pattern_needs_no_memory(rt: HostRuntime) {
 }
 
 /// A part that is repeated, how many bytes a pattern of it takes at most for each, and besides.
-const ROOMS: [(&str, u64, u64); 5] = [
+static ROOMS: [(&str, u64, u64); 5] = [
     ("a", 110, 0),
     ("?", 110, 0),
     ("[a]", 170, 0),
@@ -59,7 +59,7 @@ fn is_escaped_in_place(alloc: Global, source: &str) -> bool {
 
 #[test]
 fn patterns_and_escaped_texts_take_little_room(rt: HostRuntime) {
-    for (part, each, besides) in ROOMS {
+    for &(part, each, besides) in &ROOMS {
         for times in [1, 10, 63, 64, 1_000] {
             let most = each.saturating_mul(times as u64).saturating_add(besides);
             let source = text(&rt, &[(part, times)]);

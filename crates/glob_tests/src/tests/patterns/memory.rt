@@ -1,9 +1,9 @@
 //! Each request for memory refused in turn: the answer is out of memory, or that with ample memory. No block is left.
 use super::judges::{Answers, split};
+use super::matches::{answers, forms};
 use crate::tests::made::{add, check, text};
 use crate::tests::refusing::{Calls, both, refuse_each};
 use glob_pattern::{Pattern, PatternRefusal, Shape};
-use glob_testing::matches::{answers, forms};
 use glob_testing::rationing::Rationed;
 use glob_testing::texts::Parts;
 use std::alloc::Global;
@@ -12,7 +12,7 @@ use std::alloc::Global;
 #[derive(Clone, Copy)]
 struct Reading(&'static str, Option<usize>, &'static str);
 
-const TEXTS: [Reading; 7] = [
+static TEXTS: [Reading; 7] = [
     Reading("", None, ""),
     Reading("*.rs", None, "[*].rs"),
     Reading("a/**/**/[xyz]?", None, "a/[*][*]/[*][*]/[[]xyz[]][?]"),
@@ -111,7 +111,7 @@ const MANY: usize = 100_000;
 /// Patterns, texts, whether they are matched, and whether that asks for memory: where the pattern has more than 63
 /// tokens, and not all of them take one character. No text is refused for its bytes alone, which are counted and
 /// compared first and without memory.
-const ROWS: [(Parts<'static>, Parts<'static>, bool, bool); 11] = [
+static ROWS: [(Parts<'static>, Parts<'static>, bool, bool); 11] = [
     (&[("*.rs", 1)], &[("main.rs", 1)], true, false),
     (&[("*a", 6), ("*[b]", 1)], &[("a", 40)], false, false),
     (&[("?", 63)], &[("a", 63)], true, false),
@@ -142,7 +142,7 @@ const ROWS: [(Parts<'static>, Parts<'static>, bool, bool); 11] = [
 
 #[test]
 fn long_patterns_match_with_memory_and_short_ones_without(rt: HostRuntime) {
-    for (pattern, str, answer, asks) in ROWS {
+    for &(pattern, str, answer, asks) in &ROWS {
         let pattern = text(&rt, pattern);
         let str = text(&rt, str);
         let matching = Matching {

@@ -39,7 +39,7 @@ fn questions(rt: &(impl Abort + AllocGlobal), pattern: &str, text: &str) -> u128
 }
 
 /// Patterns, each with texts that it matches and texts that it does not.
-const COUNTED: [(Parts<'static>, &[Parts<'static>]); 7] = [
+static COUNTED: [(Parts<'static>, &[Parts<'static>]); 7] = [
     (&[], &[&[], &[("a", 1)]]),
     (
         &[("abc", 1)],
@@ -77,7 +77,7 @@ fn check_count(rt: &(impl Abort + AllocGlobal), source: &str, text: &str) {
 
 #[test]
 fn the_count_is_that_of_the_questions(rt: HostRuntime) {
-    for (pattern, texts) in COUNTED {
+    for &(pattern, texts) in &COUNTED {
         let pattern = text(&rt, pattern);
         for str in texts {
             check_count(&rt, pattern.as_str(), text(&rt, str).as_str());

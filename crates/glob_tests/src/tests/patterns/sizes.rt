@@ -1,8 +1,8 @@
 //! Calls at many sizes and over characters of each length. Memory is ample, so each of them succeeds.
 use super::judges::{Answers, split};
+use super::matches::answers;
 use crate::tests::made::{add, check, made, sizes, text};
 use glob_pattern::{Pattern, Shape};
-use glob_testing::matches::answers;
 use glob_testing::sizes::{CHARACTERS, SMALL};
 use glob_testing::texts::{Parts, all_over};
 use std::alloc::Global;
@@ -212,7 +212,7 @@ fn characters_all_over(rt: HostRuntime) {
 const MILLION: usize = 1_000_000;
 
 /// A part so many times, as a pattern, another one so many times, and whether the pattern matches it.
-const LARGE: [(&str, usize, &str, usize, bool); 4] = [
+static LARGE: [(&str, usize, &str, usize, bool); 4] = [
     ("*a", 1, "a", MILLION, true),
     ("[b-y]", 200_000, "b", 1, false),
     ("a", MILLION, "a", MILLION, true),
@@ -221,7 +221,7 @@ const LARGE: [(&str, usize, &str, usize, bool); 4] = [
 
 #[test]
 fn long_patterns_and_texts(rt: HostRuntime) {
-    for (unit, tokens, part, times, answer) in LARGE {
+    for &(unit, tokens, part, times, answer) in &LARGE {
         let source = text(&rt, &[(unit, tokens)]);
         let str = text(&rt, &[(part, times)]);
         let found = matches(rt.alloc(), source.as_str(), str.as_str());

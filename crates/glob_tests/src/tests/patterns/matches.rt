@@ -4,7 +4,7 @@ use std::alloc::Allocator;
 use std::path::Path;
 
 /// What each form of matching answers for the text; `None` where memory ran out.
-pub fn forms<A: Allocator + Copy>(pattern: &Pattern<A>, str: &str) -> [Option<bool>; 6] {
+pub(super) fn forms<A: Allocator + Copy>(pattern: &Pattern<A>, str: &str) -> [Option<bool>; 6] {
     let path = Path::new(str);
     let options = MatchOptions::default();
     let counted = match pattern.matches_counted(str, options) {
@@ -22,6 +22,6 @@ pub fn forms<A: Allocator + Copy>(pattern: &Pattern<A>, str: &str) -> [Option<bo
 }
 
 /// Whether each form of matching gives this answer for the text.
-pub fn answers<A: Allocator + Copy>(pattern: &Pattern<A>, str: &str, answer: bool) -> bool {
+pub(super) fn answers<A: Allocator + Copy>(pattern: &Pattern<A>, str: &str, answer: bool) -> bool {
     forms(pattern, str) == [Some(answer); 6]
 }
