@@ -147,7 +147,7 @@ def crates_page():
         rows = [(path.relative_to(folder), first_sentence(path)) for path in files]
         on = ", ".join(f"`{it}`" for it in below.split())
         rows = [f"- `{path}`: {said}" for path, said in rows if said]
-        parts.append(f"## `{crate.split()[0]}`\n\nStands on {on or 'std alone'}.\n\n" + "\n".join(rows) + "\n")
+        parts.append(f"## `{crate.split()[0]}`\n\nUses {on or 'std alone'}.\n\n" + "\n".join(rows) + "\n")
     return "\n".join(parts)
 
 

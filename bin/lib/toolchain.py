@@ -1,5 +1,5 @@
-"""What the toolchain's command rt is made of, as far as scripts here go on where its words end, and how what it built is
-taken to another folder. TOOLCHAIN names the toolchain that has it so."""
+"""The library of the toolchain's command rt, for scripts that need more than its words, and a way to take what it built to
+another folder. TOOLCHAIN names the toolchain that has it so."""
 
 import importlib.util
 import os
@@ -23,7 +23,7 @@ def rtlib():
 
 
 def link(source, target):
-    """As shutil.copy2, without a copy where the file system allows it."""
+    """Like shutil.copy2, but a hard link where the file system has them."""
     try:
         os.link(source, target)
     except OSError:

@@ -1,5 +1,6 @@
 -- When it is told why the paths of a walk are not all known.
-use Rattle.std.specs.Prelude.{◌≡◌, ℕ, ◌<◌, true, false, Contains, None, ⊤}
+use Rattle.std.specs.Prelude.{◌≡◌, ◌⊎◌, ℕ, ◌<◌, true, false, Contains, None, Result, Err, ⊤}
+use Rattle.std.specs.declared.path.buf.PathBuf.{PathBuf}
 use Rattle.std.specs.IoError.{error_kind}
 use Rattle.glob.specs.Components.{walk_fault}
 use Rattle.glob.specs.Content.{Content}
@@ -26,6 +27,10 @@ abbrev pub fault_by_cause : {A : Type 0} → GlobCause → GlobError A → WalkF
 fault_by_cause cause.Read e = Unread e
 fault_by_cause cause.Memory e = Memory
 fault_by_cause cause.Limit e = Limit
+
+-- what ends a loop at an item of a walk: an allocation failure, or an error in place of a path
+abbrev pub EndsAt : {A : Type 0} → Result (PathBuf A) (GlobError A) → WalkFault A → Type 0
+EndsAt {A = A} item fault = (fault ≡ Memory) ⊎ ((e : GlobError A) × (item ≡ Err e) × (fault ≡ fault_by_cause (cause_of e) e))
 
 -- The pattern may be refused so: for its fault, or because it is not plain, or for lack of memory.
 abbrev pub IsPatternFault : {A : Type 0} → (pattern : Text) → WalkFault A → Type 0

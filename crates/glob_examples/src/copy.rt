@@ -1,7 +1,8 @@
 //! What a copy tool copies: of the paths that a walk finds, those that an include pattern matches, and no exclude
 //! pattern.
-ghost use Rattle.std.specs.Prelude.{◌≡◌, ◌↔◌, ◌⊎◌, true, map, chars, string_bytes, IsTrue, IfOk, IfErr};
+ghost use Rattle.std.specs.Prelude.{◌≡◌, ◌↔◌, ◌⊎◌, [], ◌∷◌, ◌++◌, true, map, chars, string_bytes, IsTrue, Ok, IfOk, IfErr};
 ghost use Rattle.std.specs.Path.{path_bytes, path_buf_bytes};
+ghost use Rattle.std.specs.declared.path.buf.PathBuf.{PathBuf};
 ghost use Rattle.glob.specs.Answers.{IsTold};
 ghost use Rattle.glob.specs.Content.{Content};
 ghost use Rattle.glob.specs.Goal.{is_plain};
@@ -11,11 +12,11 @@ ghost use Rattle.glob.specs.PathOptions.{path_options};
 ghost use Rattle.glob.specs.Text.{Text};
 ghost use Rattle.glob_set.specs.Sets.{RefusesTexts};
 ghost use Rattle.glob_examples.specs.Copying.{AreToCopy, Copies, IsBelow};
-ghost use Rattle.glob_examples.specs.WalkFaults.{IsMet, IsWalkFault};
+ghost use Rattle.glob_examples.specs.Sources.{AreSources};
+ghost use Rattle.glob_examples.specs.WalkFaults.{EndsAt, IsMet, IsWalkFault};
 
-use crate::faults::WalkFault;
-use crate::sources::sources;
-use glob::{MatchOptions, Pattern, Tree};
+use crate::faults::{WalkFault, check_plain};
+use glob::{GlobError, MatchOptions, Pattern, Tree, glob_in};
 use glob_set::{PatternSet, SetRefusal};
 use std::alloc::{AllocError, Allocator, Global};
 use std::marker::Model;
@@ -69,8 +70,8 @@ impl<A: Allocator + Copy> CopyRules<A> {
 /// Of the paths that a plain pattern leads to, those that the rules copy. The walk comes to its end, or its first error
 /// is returned: so over a tree with a known content none is missing. `limit` is in lookups, listings and entries.
 ///
-/// A directory is a path, too. So by `src/**/*` and the rules of the lists `**/*.rs` and `**/tests/*`, `src/main.rs` is
-/// copied.
+/// All paths that the pattern leads to are held at once. A directory is a path, too. So by `src/**/*` and the rules of the
+/// lists `**/*.rs` and `**/tests/*`, `src/main.rs` is copied.
 pub fn paths_to_copy<T: Tree, A: Allocator + Copy>(
     alloc: T::Alloc,
     tree: T,
@@ -85,8 +86,45 @@ pub fn paths_to_copy<T: Tree, A: Allocator + Copy>(
     ensures met { (c : Content) → IsTold (T.tells tree) c
         → IfErr result (IsMet c pattern.now limit) }
 {
-    let paths = sources(alloc, tree, pattern, limit)?;
+    let paths = found_paths(alloc, tree, pattern, limit)?;
     Ok(copied(alloc, rules, paths)?)
+}
+
+/// All paths that a plain pattern leads to, or the first error of the walk.
+fn found_paths<T: Tree>(
+    alloc: T::Alloc,
+    tree: T,
+    pattern: &str,
+    limit: u64,
+) -> Result<Vec<PathBuf<T::Alloc>, T::Alloc>, WalkFault<T::Alloc>>
+    ensures files { (c : Content) → IsTold (T.tells tree) c
+        → IfOk result (λ files. AreSources c pattern.now (map path_buf_bytes files.items)) }
+    ensures plain { IfOk result (λ _. is_plain pattern.now ≡ true) }
+    ensures fault { IfErr result (IsWalkFault pattern.now) }
+    ensures met { (c : Content) → IsTold (T.tells tree) c
+        → IfErr result (IsMet c pattern.now limit) }
+{
+    check_plain(alloc, pattern)?;
+    let paths = glob_in(alloc, tree, pattern, MatchOptions::new(), limit)?;
+    let mut files = Vec::new(alloc);
+    for item in paths {
+        push_found(&mut files, item)?;
+    }
+    Ok(files)
+}
+
+/// Adds the path that a walk gave, or returns the error that it gave in place of one. Fails otherwise only if allocation
+/// fails.
+fn push_found<A: Allocator>(
+    files: &mut Vec<PathBuf<A>, A>,
+    item: Result<PathBuf<A>, GlobError<A>>,
+) -> Result<(), WalkFault<A>>
+    ensures added { IfOk result (λ _. (path : PathBuf A) × (item ≡ Ok path)
+        × (files.new.items ≡ files.old.items ++ path ∷ [])) }
+    ensures fault { IfErr result (EndsAt item) }
+{
+    files.push(item?)?;
+    Ok(())
 }
 
 /// Those of the paths that the rules copy, in their order. Fails only if allocation fails.

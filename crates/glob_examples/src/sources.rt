@@ -1,19 +1,14 @@
 //! A build tool's list of sources: all paths that a plain pattern matches, or the reason why they are not known.
-ghost use Rattle.std.specs.Prelude.{◌≡◌, ◌⊎◌, true, [], ◌∷◌, ◌++◌, map, Ok, Err, IfOk, IfErr};
+ghost use Rattle.std.specs.Prelude.{◌≡◌, true, map, IfOk, IfErr};
 ghost use Rattle.std.specs.Path.{path_buf_bytes};
 ghost use Rattle.glob.specs.Answers.{IsTold};
 ghost use Rattle.glob.specs.Content.{Content};
 ghost use Rattle.glob.specs.Goal.{is_plain};
-ghost use Rattle.glob.specs.GlobErrors.{cause_of};
 ghost use Rattle.glob_examples.specs.Sources.{AreSources};
-ghost use Rattle.glob_examples.specs.WalkFaults.{IsMet, IsWalkFault, fault_by_cause};
-ghost use Rattle.glob_examples.specs.declared.faults.WalkFault.TheVariants.{Memory};
-ghost use Rattle.glob.specs.Types.{GlobError};
-ghost use Rattle.std.specs.declared.path.buf.PathBuf.{PathBuf};
+ghost use Rattle.glob_examples.specs.WalkFaults.{IsMet, IsWalkFault};
 
 use crate::faults::{WalkFault, check_plain};
-use glob::{GlobError, MatchOptions, Tree, glob_in};
-use std::alloc::Allocator;
+use glob::{End, MatchOptions, Tree, walk_in};
 use std::path::PathBuf;
 
 /// The sources of a build: each path below the current directory, or below `/` if the pattern begins with that, which
@@ -34,25 +29,15 @@ pub fn sources<T: Tree>(
         → IfErr result (IsMet c pattern.now limit) }
 {
     check_plain(alloc, pattern)?;
-    let paths = glob_in(alloc, tree, pattern, MatchOptions::new(), limit)?;
+    let walk = walk_in(alloc, tree, pattern, MatchOptions::new(), limit)?;
+    match walk.end {
+        End::Done => {}
+        End::Limit => return Err(WalkFault::Limit),
+        End::Memory => return Err(WalkFault::Memory),
+    }
     let mut files = Vec::new(alloc);
-    for item in paths {
-        push_found(&mut files, item)?;
+    for item in walk.items {
+        files.push(item?)?;
     }
     Ok(files)
-}
-
-/// Adds the path that a walk gave, or returns the error that it gave in place of one. Fails otherwise only if allocation
-/// fails.
-fn push_found<A: Allocator>(
-    files: &mut Vec<PathBuf<A>, A>,
-    item: Result<PathBuf<A>, GlobError<A>>,
-) -> Result<(), WalkFault<A>>
-    ensures added { IfOk result (λ _. (path : PathBuf A) × (item ≡ Ok path)
-        × (files.new.items ≡ files.old.items ++ path ∷ [])) }
-    ensures fault { IfErr result (λ fault. (fault ≡ Memory)
-        ⊎ ((e : GlobError A) × (item ≡ Err e) × (fault ≡ fault_by_cause (cause_of e) e))) }
-{
-    files.push(item?)?;
-    Ok(())
 }

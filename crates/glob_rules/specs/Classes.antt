@@ -1,6 +1,6 @@
 -- The classes of characters that a bracket may name, as `[[:digit:]_]` does: those of git, in ASCII alone.
 use Rattle.std.specs.Char.{is_ascii_alphabetic, is_ascii_alphanumeric, is_ascii_control, is_ascii_digit, is_ascii_graphic, is_ascii_hexdigit, is_ascii_lowercase, is_ascii_punctuation, is_ascii_uppercase}
-use Rattle.std.specs.Prelude.{ℕ, ◌-◌, Bool, ◌&&◌, ◌||◌, nat_le, ◌==◌, if◌then◌else◌, List, [], ◌∷◌, length, take, drop, Option, Some, None, codes, bytes_eq}
+use Rattle.std.specs.Prelude.{ℕ, ◌-◌, Bool, ◌&&◌, ◌||◌, nat_le, ◌==◌, if◌then◌else◌, length, take, drop, Option, Some, None, codes, bytes_eq}
 use Rattle.std.specs.List.{before_first}
 use Rattle.glob_text.specs.Text.{Text, has}
 use Rattle.glob_pattern.specs.Grammar.Characters.{close_bracket}
@@ -42,11 +42,6 @@ class_named name =
     else if bytes_eq name (codes "upper") then Some Upper
     else if bytes_eq name (codes "xdigit") then Some Xdigit
     else None
-
--- the class of a name in a table
-abbrev pub class_in : List (Text × Class) → (name : Text) → Option Class
-class_in [] name = None
-class_in (class ∷ classes) name = if bytes_eq name class.0 then Some class.1 else class_in classes name
 
 -- what is before the first `]`, or all of it where there is none
 abbrev pub before_close : Text → Text

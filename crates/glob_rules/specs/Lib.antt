@@ -2,6 +2,7 @@ pub mod Classes
 pub mod Deciding
 pub mod Lines
 pub mod Lists
+pub mod Private
 pub mod Readings
 pub mod Steps
 pub mod Words

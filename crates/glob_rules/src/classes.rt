@@ -1,6 +1,7 @@
 //! The classes of characters that a bracket may name.
 ghost use Rattle.std.specs.Prelude.{◌≡◌, map};
-ghost use Rattle.glob_rules.specs.Classes.{class_has, class_in, class_named, before_close};
+ghost use Rattle.glob_rules.specs.Classes.{class_has, class_named, before_close};
+ghost use Rattle.glob_rules.specs.Private.ClassTables.{class_in};
 
 /// A class of characters, as git has it: all of them are ASCII.
 #[derive(Clone, Copy, Debug, PartialEq, Eq)]
@@ -31,8 +32,8 @@ pub enum Class {
     Xdigit,
 }
 
-/// Each class, after its name.
-const NAMES: [(&[u8], Class); 12] = [
+/// The classes by name.
+const CLASSES: [(&[u8], Class); 12] = [
     (b"alnum", Class::Alnum),
     (b"alpha", Class::Alpha),
     (b"blank", Class::Blank),
@@ -53,7 +54,7 @@ impl Class {
     pub fn named(name: &[u8]) -> Option<Class>
         ensures { result ≡ class_named name.now }
     {
-        class_in(&NAMES, name)
+        class_in(&CLASSES, name)
     }
 
     /// Whether it has a character.

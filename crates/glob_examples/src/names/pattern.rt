@@ -91,7 +91,7 @@ impl<A: Allocator + Copy> PathPattern<A> {
     }
 }
 
-/// Adds a component and its shape. It is refused with its fault if it is no pattern; and any may be refused if allocation
+/// Adds a component and its shape. A component that is no pattern is refused with its fault. Any is refused if allocation
 /// fails.
 fn push_component<A: Allocator + Copy>(
     alloc: A,

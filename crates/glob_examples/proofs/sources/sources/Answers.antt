@@ -1,22 +1,21 @@
-use Rattle.std.proofs.Common.{◌≡◌, [], ◌∷◌, Some, map, ap, sym, subst, refl, ◌∙◌}
-use Rattle.std.proofs.lemmas.List.{map-append}
+use Rattle.std.proofs.Common.{◌≡◌, [], ◌∷◌, Contains, Err, map, ap, sym, subst, refl, ◌∙◌}
+use Rattle.std.proofs.lemmas.List.{map-id, map-append}
+use Rattle.std.proofs.lemmas.Iterator.Adapters.{YieldsList-from_vec}
+use Rattle.std.proofs.lemmas.Iterator.Consumers.{YieldsList-end, YieldsList-turn}
 use Rattle.std.specs.Path.{path_buf_bytes}
-use Rattle.glob.specs.Content.{Content}
-use Rattle.glob.specs.Goal.{IsPlainWalk}
 use Rattle.glob.specs.Listing.{listing}
+use Rattle.glob.specs.Marks.{items, paths}
 use Rattle.glob.specs.Matching.Options.{new_options}
-use Rattle.glob.specs.Text.{Text}
-use Rattle.glob.specs.Types.{MatchOptions}
-use Rattle.glob.specs.Walks.{IsFresh, Walking}
-use Rattle.glob.proofs.FoundPaths.{FindsSoFar, FindsSoFar-start, FindsSoFar-next, FindsSoFar-whole, goal-listed, orderly-listed, paths-listed}
+use Rattle.glob.specs.Order.{IsOrderly}
+use Rattle.glob.specs.Variants.End.{Done, Limit}
+use Rattle.glob.specs.WalkGoals.{given_items, WalksPlainly, FindsGoal, FindsInOrder}
+use Rattle.glob.specs.Walks.{IsWalk}
+use Rattle.glob.proofs.FoundPaths.{AreFound-more, found_items, given_items-are, given_items-found, goal-found, paths-found, paths-listed}
+use Rattle.glob.proofs.WalkLemmas.{walks_plainly, found_goal, found_in_order, done_walk, limited_walk}
 use Rattle.glob_examples.specs.WalkFaults.{IsPatternFault}
-use Rattle.glob_examples.proofs.WalkFaults.{EndsAt, IfErr-from_known, IsMet-end, IsMet-pattern, IsWalkFault-end, IsWalkFault-pattern}
+use Rattle.glob_examples.proofs.Refusals.{IfErr-from_known}
+use Rattle.glob_examples.proofs.WalkFaults.{IsMet-answer, IsMet-pattern, IsWalkFault-error, IsWalkFault-pattern}
 use Rattle.glob_examples.proofs.sources.sources.Goals as goal
-
--- what the loop has before it is the written listing
-left_of : {X : Type 0} (first walk : Walking X) (c : Content) (pattern : Text) (o : MatchOptions) → first ≡ walk → walk.left ≡ Some (listing c o pattern) → o ≡ new_options
-    → first.left ≡ Some (listing c new_options pattern)
-left_of first walk c pattern o same left is = ap (λ w. w.left) same ∙ left ∙ ap (λ o. Some (listing c o pattern)) is
 
 -- the pattern is refused
 pub returns-in_err-check_plain-clause-fault : goal.returns-in_err-check_plain-clause-fault
@@ -31,54 +30,65 @@ returns-in_err-check_plain-clause-met g c = λ content told.
     (λ fault is. IsMet-pattern _ content c.args.limit fault (subst (IsPatternFault _) (sym is) c.in_err-check_plain.ensures.fault))
     c.from_residual.ensures.1
 
--- the walk ends with an error, or an allocation fails
-pub returns-in_err-push_found-clause-fault : goal.returns-in_err-push_found-clause-fault
-returns-in_err-push_found-clause-fault g c =
+-- the limit does not suffice
+pub returns-in-Limit-clause-met : goal.returns-in-Limit-clause-met
+returns-in-Limit-clause-met g c = λ content told.
+    let ms = listing content new_options c.args.pattern.now in
+    let walk : IsWalk ms c.args.limit Limit c.in_ok-walk.walk.spent c.in_ok-walk.walk.items.items =
+    rw (c.new.ensures, c.in-Limit.is) at (c.in_ok-walk.ensures.walk content told) in
+    (limited_walk c.in_ok-walk.walk.items.items ms c.args.limit c.in_ok-walk.walk.spent walk).0
+
+-- a directory could not be listed
+pub returns-in_err-item-clause-fault : goal.returns-in_err-item-clause-fault
+returns-in_err-item-clause-fault g c =
     IfErr-from_known _ _ _
-    (λ fault is. IsWalkFault-end _ c.in_ok-check_plain.ensures.plain _ fault (subst (EndsAt _) (sym is) c.in_err-push_found.ensures.fault))
-    c.from_residual-in_err-push_found.ensures.1
+    (λ fault is. IsWalkFault-error _ c.in_ok-check_plain.ensures.plain c.in_err-item.field-0.0 fault is)
+    c.from_residual-in_err-item.ensures.1
 
-pub returns-in_err-push_found-clause-met : goal.returns-in_err-push_found-clause-met
-returns-in_err-push_found-clause-met g c = λ content told.
-    let same = c.into_iter-item-iterator.ensures.into_iter_gives in
-    let left : c.into_iter-item-iterator.result.left ≡ Some (listing content new_options c.args.pattern.now) =
-    left_of _ _ content _ _ same (c.in_ok-paths.ensures.listing content told) c.new.ensures in
+pub returns-in_err-item-clause-met : goal.returns-in_err-item-clause-met
+returns-in_err-item-clause-met g c = λ content told.
+    let answers = c.in_ok-walk.walk.items.items in
+    let ms = listing content new_options c.args.pattern.now in
+    let walk : IsWalk ms c.args.limit Done c.in_ok-walk.walk.spent answers =
+    rw (c.new.ensures, c.in-Done.is) at (c.in_ok-walk.ensures.walk content told) in
+    let parts = YieldsList-from_vec answers (cc) (cc) in
+    let turn = YieldsList-turn parts c.loop-item.yielded _ c.loop-item.yielded_by _ c.next.new.self c.in-Some.item c.in-Some.is c.next.ensures.steps in
+    let has : Contains answers (Err c.in_err-item.field-0.0) =
+    subst (Contains answers) c.in_err-item.was (_, turn.0, sym turn.1) in
     IfErr-from_known _ _ _
-    (λ fault is. IsMet-end _ content c.args.limit g.T.Tree.asks g.T.Tree.tells _ _ c.next.new.self _ c.loop-item.invariant
-    c.args.tree (subst (IsFresh c.args.tree c.args.limit) (sym same) c.in_ok-paths.ensures.fresh) told left
-    _ _ c.in-Some.is c.next.ensures.steps fault (subst (EndsAt _) (sym is) c.in_err-push_found.ensures.fault))
-    c.from_residual-in_err-push_found.ensures.1
+    (λ fault is. IsMet-answer _ content c.args.limit c.in_err-item.field-0.0 answers (done_walk answers ms c.args.limit c.in_ok-walk.walk.spent walk).2 has fault is)
+    c.from_residual-in_err-item.ensures.1
 
-pub loop-item-init : goal.loop-item-init
-loop-item-init g c =
-    subst (λ files. FindsSoFar g.T.Tree.tells c.into_iter-item-iterator.result c.into_iter-item-iterator.result (map path_buf_bytes files)) (sym c.new-files.ensures.items)
-    (FindsSoFar-start g.T.Tree.tells _ (ap (λ walk. walk.over) c.into_iter-item-iterator.ensures.into_iter_gives ∙ c.in_ok-paths.ensures.fresh.over))
-
--- one more path
-pub loop-item-preserved : goal.loop-item-preserved
-loop-item-preserved g c =
-    let added = c.in_ok-push_found.ensures.added in
-    rw (added.2, map-append path_buf_bytes c.loop-item.files.items (added.0 ∷ []))
-    (FindsSoFar-next g.T.Tree.asks g.T.Tree.tells _ _ c.next.new.self _ c.loop-item.invariant _ _ added.0 c.in-Some.is added.1 c.next.ensures.steps)
-
--- the walk has come to its end
+-- all items are paths, so no goal is hidden
 pub returns-clause-files : goal.returns-clause-files
 returns-clause-files g c = λ content told.
-    let same = c.into_iter-item-iterator.ensures.into_iter_gives in
-    let plain : IsPlainWalk content new_options c.args.pattern.now = record {
-      content = told.1;
-      text = c.utf8.pattern;
-      plain = c.in_ok-check_plain.ensures.plain;
-      case = refl;
-    } in
-    let left : c.into_iter-item-iterator.result.left ≡ Some (listing content new_options c.args.pattern.now) =
-    left_of _ _ content _ _ same (c.in_ok-paths.ensures.listing content told) c.new.ensures in
+    let answers = c.in_ok-walk.walk.items.items in
+    let ms = listing content new_options c.args.pattern.now in
+    let parts = YieldsList-from_vec answers (cc) (cc) in
+    let all = YieldsList-end parts c.loop-item.yielded _ c.loop-item.yielded_by _ c.next.new.self c.in-None.is c.next.ensures.steps in
+    let whole : c.loop-item.yielded ≡ answers = sym (map-id c.loop-item.yielded) ∙ all.0 in
     let files = map path_buf_bytes c.loop-item.files.items in
-    let whole =
-    FindsSoFar-whole g.T.Tree.asks g.T.Tree.tells _ _ c.next.new.self files c.loop-item.invariant _ c.in-None.is c.next.ensures.steps c.args.limit c.args.tree
-    (subst (IsFresh c.args.tree c.args.limit) (sym same) c.in_ok-paths.ensures.fresh) content told _ left in
+    let given : given_items answers ≡ found_items files =
+    ap given_items (sym whole) ∙ given_items-found c.loop-item.yielded files c.loop-item.invariant in
+    let finds : FindsGoal (g.T.Tree.tells c.args.tree) new_options c.args.pattern.now c.in_ok-walk.walk.end answers =
+    subst (λ o. FindsGoal (g.T.Tree.tells c.args.tree) o c.args.pattern.now c.in_ok-walk.walk.end answers) c.new.ensures c.in_ok-walk.ensures.goal in
+    let orderly : FindsInOrder (g.T.Tree.tells c.args.tree) new_options c.args.pattern.now answers =
+    subst (λ o. FindsInOrder (g.T.Tree.tells c.args.tree) o c.args.pattern.now answers) c.new.ensures c.in_ok-walk.ensures.orderly in
+    let plain : WalksPlainly (g.T.Tree.tells c.args.tree) content new_options c.args.pattern.now =
+    walks_plainly _ content new_options c.args.pattern.now told c.in_ok-check_plain.ensures.plain refl in
+    let walk : IsWalk ms c.args.limit Done c.in_ok-walk.walk.spent answers =
+    rw (c.new.ensures, c.in-Done.is) at (c.in_ok-walk.ensures.walk content told) in
     record {
-      exact = goal-listed content new_options c.args.pattern.now plain files whole;
-      orderly = orderly-listed content new_options c.args.pattern.now plain files whole;
-      listed = paths-listed files (listing content new_options c.args.pattern.now) whole;
+      exact = goal-found content new_options c.args.pattern.now _ files (c.in_ok-walk.walk.end ≡ Done) given c.in-Done.is
+          (found_goal _ _ _ _ _ finds content plain);
+      orderly = subst (IsOrderly c.args.pattern.now) (ap paths given ∙ paths-found files)
+          (found_in_order _ _ _ c.in_ok-walk.walk.end _ orderly content plain);
+      listed = paths-listed files ms
+          (sym given ∙ given_items-are answers (items ms) (done_walk answers ms c.args.limit c.in_ok-walk.walk.spent walk).2);
     }
+
+-- one more path is kept
+pub loop-item-preserved : goal.loop-item-preserved
+loop-item-preserved g c =
+    let files = map-append path_buf_bytes c.loop-item.files.items (c.in_ok-item.field-0 ∷ []) in
+    rw (c.in_ok-item.was, c.in_ok-push.ensures.items, files) (AreFound-more c.loop-item.yielded (map path_buf_bytes c.loop-item.files.items) c.in_ok-item.field-0 c.loop-item.invariant)

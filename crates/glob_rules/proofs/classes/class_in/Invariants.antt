@@ -1,5 +1,5 @@
 use Rattle.std.proofs.Common.{◌≡◌, map, length}
-use Rattle.glob_rules.specs.Classes.{class_in}
+use Rattle.glob_rules.specs.Private.ClassTables.{class_in}
 use Rattle.glob_rules.proofs.classes.class_in.Given as goal
 
 abbrev pub invariant-loop-classes : goal.invariant-loop-classes

@@ -1,6 +1,6 @@
 use Rattle.std.proofs.Common.{inr}
-use Rattle.glob_examples.proofs.WalkFaults.{IfErr-from_known}
-use Rattle.glob_examples.proofs.sources.push_found.Goals as goal
+use Rattle.glob_examples.proofs.Refusals.{IfErr-from_known}
+use Rattle.glob_examples.proofs.copy.push_found.Goals as goal
 
 pub returns-in_err-item-clause-fault : goal.returns-in_err-item-clause-fault
 returns-in_err-item-clause-fault g c =
