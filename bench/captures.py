@@ -1,5 +1,5 @@
 #!/usr/bin/env python3
-"""Times captures beside matches_with, and prints a table.
+"""Times captures beside matches_with, and prints a table of all paths and one of those that match.
 
 usage: captures.py FOLDER ROUNDS
 
@@ -12,26 +12,33 @@ import sys
 from pathlib import Path
 
 import cases
+from peers import print_head, print_row, ratio, shown
 
 
-def row_of(folder, case, rounds):
-    """A row of the table."""
+def measure(folder, case, rounds):
+    """How many paths match, and the nanoseconds of matches_with and captures for all, and of both for those that match."""
     words = ["captures", case.options or "-", case.pattern, folder / "paths.txt", str(rounds)]
     ran = subprocess.run([folder / "ours/library", *words], capture_output=True, text=True, check=True)
-    count, *times = map(int, ran.stdout.split())
-    paths = len((folder / "paths.txt").read_bytes().splitlines())
-    matching, capturing, some_matching, some_capturing = times
-    row = [case.name(), f"{matching / paths:.0f}", f"{capturing / matching:.2f}", f"{count}"]
-    some = [f"{some_matching / count:.0f}", f"{some_capturing / some_matching:.2f}"] if count else ["-", "-"]
-    return "| " + " | ".join(row + some) + " |"
+    return map(int, ran.stdout.split())
+
+
+def row(case, paths, matching, capturing):
+    times = [shown(matching / paths), shown(capturing / paths), ratio(capturing, matching)] if paths else ["-"] * 3
+    return [case.name(), f"{paths:,}", *times]
 
 
 def main():
     folder, rounds = Path(sys.argv[1]), int(sys.argv[2])
-    print("\n| Case | matches_with, ns | captures, times that | that match | matches_with, ns | captures, times that |")
-    print("|---|--:|--:|--:|--:|--:|")
+    count = len((folder / "paths.txt").read_bytes().splitlines())
+    all_rows, some_rows = [], []
     for case in cases.MATCHES:
-        print(row_of(folder, case, rounds))
+        some, *times = measure(folder, case, rounds)
+        all_rows.append(row(case, count, *times[:2]))
+        some_rows.append(row(case, some, *times[2:]))
+    for title, rows in (("All paths", all_rows), ("Paths that match", some_rows)):
+        print_head(f"{title}, nanoseconds a path:", ["case"], ["paths", "matches_with", "captures", "to matches_with"])
+        for cells in rows:
+            print_row(cells)
 
 
 main()

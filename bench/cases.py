@@ -73,19 +73,24 @@ GROWTH = [
 
 @dataclass(frozen=True)
 class Compile:
-    """Reads a pattern of `length` characters, `times` times over; a row has the time of all of them."""
+    """Parses ten characters so often, `times` times over; a row has the time of all of them."""
 
-    length: int
+    ten: str
+    often: int
     times: int
 
     def pattern(self):
-        return "a*b[c-e]?/" * (self.length // 10)
+        return self.ten * self.often
 
     def name(self):
-        return f"compile {self.length:,} characters, {self.times:,} times"
+        return f"compile `{self.ten}` {self.often:,} times, {self.times:,} times over"
 
 
-COMPILES = [Compile(10, 1_000_000), Compile(100, 100_000), Compile(10_000, 1_000)]
+COMPILES = [
+    Compile(ten, often, 1_000_000 // often)
+    for ten in ("a*b[c-e]?/", "abcdefgh*/", "*?a?*?b?*?")
+    for often in (1, 10, 1_000)
+]
 
 
 @dataclass(frozen=True)

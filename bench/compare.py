@@ -158,15 +158,15 @@ def digits(number):
         return f"{number:,.0f}"
     if number >= 1:
         return f"{number:.2f}"
-    return f"{number:.6f}" if number < 0.01 else f"{number:.3f}"
+    return f"{number:.2g}" if number < 0.01 else f"{number:.3f}"
 
 
 def milliseconds(row, side):
     return digits(row.least[side] / NANOSECONDS_A_MILLISECOND) if side in row.least else "-"
 
 
-def print_ratios(rows):
-    print("\n| case | ours ms | the crate's ms | ratio |\n|---|--:|--:|--:|")
+def print_ratios(title, rows):
+    print(f"\n{title}, milliseconds:\n\n| case | ours | the crate | to the crate |\n|---|--:|--:|--:|")
     for row in rows:
         ratio = "-"
         if row.fault:
@@ -178,7 +178,7 @@ def print_ratios(rows):
 
 def print_growth(rows):
     print("\nOurs alone on longer texts and patterns of that kind, where the crate does not end:")
-    print("\n| n, times `*a` | m, times `a` | ours ms | ns for each of n · m |\n|--:|--:|--:|--:|")
+    print("\n| n, times `*a` | m, times `a` | ours, ms | ns for each of n · m |\n|--:|--:|--:|--:|")
     for row in rows:
         stars, letters = row.case.stars, row.case.letters
         each = digits(row.least["ours"] / (stars * letters)) if not row.fault else "failed"
@@ -191,18 +191,21 @@ def main():
     lines = folder / "paths.txt"
     sides = {name: Programs(folder / name) for name in ("ours", "original") if (folder / name).is_dir()}
     filters = filter_rows(folder, lines) if sides["ours"].program.exists() else []
-    rows = [
-        *(match_row(case, lines) for case in fewer(cases.MATCHES, share)),
-        *(hostile_row(case, folder) for case in fewer(cases.HOSTILE, share)),
-        *(compile_row(case) for case in fewer(cases.COMPILES, share)),
-        *(row for row, _ in filters),
-    ]
+    tables = {
+        "Matching": [match_row(case, lines) for case in fewer(cases.MATCHES, share)],
+        "Many stars": [hostile_row(case, folder) for case in fewer(cases.HOSTILE, share)],
+        "Parsing": [compile_row(case) for case in fewer(cases.COMPILES, share)],
+        "Programs": [row for row, _ in filters],
+    }
+    rows = [row for some in tables.values() for row in some]
     growth = [hostile_row(case, folder) for case in fewer(cases.GROWTH, share)]
     for row, of in filters:
         compare_outputs(row, of, folder, sides)
     run_rounds(rows, sides, rounds, "side by side")
     run_rounds(growth, {"ours": sides["ours"]}, rounds, "ours alone")
-    print_ratios(rows)
+    for title, some in tables.items():
+        if some:
+            print_ratios(title, some)
     print_growth(growth)
     faults = [f"bench: {row.case.name()}: {row.fault}" for row in rows + growth if row.fault]
     print(*faults, sep="\n", end="\n" if faults else "", file=sys.stderr)

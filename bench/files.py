@@ -1,5 +1,5 @@
 #!/usr/bin/env python3
-"""Runs glob_files over a tree half of which is ignored, beside other finders of one thread each, and prints a table.
+"""Runs glob_files over a tree half of which is ignored, beside other finders of one thread each, and prints tables.
 
 usage: files.py FOLDER PROGRAM ROUNDS SHARE
 
@@ -13,7 +13,8 @@ import subprocess
 import sys
 from pathlib import Path
 
-from walks import lines, run
+from peers import print_head, print_row, ratio
+from walks import cell, lines, run
 
 EXCLUDED = ["target", "node_modules"]
 
@@ -54,6 +55,15 @@ def paths_of(words, tree, folder):
     return sorted(line.removeprefix(b"./") for line in lines(words, tree, folder))
 
 
+def print_tables(cells):
+    print_head("Milliseconds, and peak memory in megabytes:", ["program"], ["processor", "clock", "peak"])
+    for head, it in cells.items():
+        print_row([head, f"{it.busy:.1f}", f"{it.clock:.1f}", f"{it.peak:.1f}"])
+    others = [head for head in cells if head != "glob_files"]
+    print_head("Half of the tree ignored, processor time:", ["pattern"], [f"to {head}" for head in others])
+    print_row(["`**/*.rs`", *(ratio(cells["glob_files"].busy, cells[head].busy) for head in others)])
+
+
 def main():
     folder, program = Path(sys.argv[1]), Path(sys.argv[2]).resolve()
     rounds, share = int(sys.argv[3]), int(sys.argv[4])
@@ -66,12 +76,7 @@ def main():
     for _ in range(rounds):
         for head, (tree, words) in some.items():
             runs[head].append(run(words, folder / tree, folder, subprocess.DEVNULL))
-    ours = min(one.busy for one in runs["glob_files"])
-    print("\n| program | processor, ms | clock, ms | peak, MB | glob_files takes of its processor time |\n|---|--:|--:|--:|--:|")
-    for head, some_runs in runs.items():
-        busy = min(one.busy for one in some_runs)
-        clock, peak = min(one.clock for one in some_runs), max(one.peak for one in some_runs)
-        print(f"| {head} | {busy:.1f} | {clock:.1f} | {peak:.1f} | {ours / busy:.2f} |")
+    print_tables({head: cell(of, None) for head, of in runs.items()})
 
 
 if __name__ == "__main__":

@@ -39,7 +39,7 @@ def main():
     sides = [it for it in (folder / "ours/library", folder / "original/library") if it.exists()]
     with ThreadPoolExecutor() as pool:
         counts = list(pool.map(lambda case: [for_each_byte(it, case, lines) for it in sides], cases.MATCHES))
-    print("\n| case | ours | the crate's | ratio |\n|---|--:|--:|--:|")
+    print("\nMatching, instructions a byte:\n\n| case | ours | the crate | to the crate |\n|---|--:|--:|--:|")
     for case, (ours, *others) in zip(cases.MATCHES, counts):
         crate, ratio = (f"{others[0]:.1f}", f"{ours / others[0]:.3f}") if others else ("-", "-")
         print(f"| {case.name()} | {ours:.1f} | {crate} | {ratio} |")

@@ -121,7 +121,7 @@ def shown(time):
 
 
 def ratio(time, other):
-    return "-" if time is None or other is None else f"{time / other:.3f}"
+    return "-" if time is None or other is None else f"{time / other:.3g}"
 
 
 def times_of(least):
@@ -179,7 +179,7 @@ def hostile_row(stars, letters, programs, folder, rounds):
 
 
 def compile_row(case, programs, share, rounds):
-    """Patterns that are read: nanoseconds for each."""
+    """Patterns that are parsed: nanoseconds for each."""
     times = max(1, case.times // share)
 
     def run(_, program):
@@ -188,7 +188,7 @@ def compile_row(case, programs, share, rounds):
 
     _, least = measure(case.name(), programs, rounds, run)
     demand_original(case.name(), programs, least)
-    print_row([f"{case.length:,}", *times_of(least)[:2], ratio(least["ours"], least.get("original"))])
+    print_row([f"`{case.ten}` {case.often:,} times", *times_of(least)[:2], ratio(least["ours"], least.get("original"))])
 
 
 def program_row(programs, folder, rounds):
@@ -225,13 +225,13 @@ def tables(folder, rounds, share):
         [partial(match_row, row, matchers, texts, rounds) for row in ROWS],
     )
     yield (
-        "`*a` n times and `b`, with m times `a` and `/ab`, under the separator rule, nanoseconds a match:",
+        "Many stars: `*a` n times and `b`, with m times `a` and `/ab`, separator rule, nanoseconds a match:",
         ([], ["n", "m", "ours ns for each of n · m", *TIMES]),
         [partial(hostile_row, *sizes, matchers, folder, rounds) for sizes in HOSTILE],
     )
     yield (
-        "Compiling, nanoseconds a pattern:",
-        ([], ["characters", *TIMES[:2], "to the crate"]),
+        "Parsing, nanoseconds a pattern:",
+        (["pattern"], [*TIMES[:2], "to the crate"]),
         [partial(compile_row, case, libraries, share, rounds) for case in cases.COMPILES],
     )
     yield (

@@ -1,12 +1,12 @@
 #!/usr/bin/env bash
-# Draws results/instructions.md, what `bench/run --instructions --keep` wrote, as instructions-light.svg and -dark.svg
-# beside it: for each pattern our instructions as a part of the crate's. It needs gnuplot.
+# Writes the table of docs/PERFORMANCE.md from results/, and draws results/instructions.json as instructions-light.svg and
+# -dark.svg beside it: for each pattern our instructions as a part of the crate's. It needs gnuplot.
 set -euo pipefail
 cd "$(dirname "$(readlink -f "${BASH_SOURCE[0]}")")/results"
 rows=$(mktemp)
 trap 'rm -f "$rows"' EXIT
-# the rows of single patterns, the last first, since gnuplot counts upwards
-sed -nE 's/^\| match `([^`]*)`([^|]*[^0-9|])? \| .* \| ([0-9.]+) \|$/\3\t\1\2/p' instructions.md | tac >"$rows"
+../report.py
+../report.py chart >"$rows"
 for shade in light:#24292f:#0969da dark:#e6edf3:#58a6ff; do
     IFS=: read -r name text bar <<<"$shade"
     gnuplot <<PLOT

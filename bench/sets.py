@@ -130,12 +130,12 @@ def tables(programs, patterns, paths, rounds, share):
     times = ["ours", "globset", "to globset"]
     asked = [(size, which, question) for size, which in paths for question in QUESTIONS]
     yield (
-        "Questions, nanoseconds a path. The sum is of the numbers of patterns that match:",
-        (["patterns", "paths", "question", "sum"], times),
+        "Sets, nanoseconds a path:",
+        (["patterns", "paths", "question", "sum of the numbers that match"], times),
         [partial(ask_row, *it, programs, patterns, paths, rounds) for it in asked],
     )
     yield (
-        "Making a set from texts, microseconds:",
+        "Making sets from texts, microseconds:",
         (["patterns"], times),
         [partial(make_row, size, share, programs, patterns, rounds) for size in patterns],
     )

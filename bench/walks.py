@@ -180,7 +180,7 @@ def print_tables(measured):
     for title, text in titles.items():
         print_table(title, heads, {row: [text(cells[head]) for head in heads] for row, cells in measured.items()})
     others = [head for head in ("the crate", "the calls alone") if head in heads]
-    print_table("Our processor time as a part of that of", others, {row: ratios(cells) for row, cells in measured.items()})
+    print_table("Walks, processor time:", [f"to {head}" for head in others], {row: ratios(cells) for row, cells in measured.items()})
 
 
 def main():

@@ -17,8 +17,8 @@ PAGES = [name for name in FILES if name.endswith(".md")]
 # Names on the pages that no source has: those of the original crate, of std and of the toolchain.
 OUTSIDE = {"PathWrapper", "once_cell", "read_to_end"}
 
-# The scripts that write docs/reference.
-WRITERS = ["tests/contracts.py", "tests/words.py", "tests/edits.py"]
+# The scripts that write docs/reference, and the table of docs/PERFORMANCE.md.
+WRITERS = ["tests/contracts.py", "tests/words.py", "tests/edits.py", "bench/report.py"]
 
 # What the contracts of std's traits say of their answers.
 ANSWERS_OF_STD = ["eq", "cmp", "hash_input", "output", "is_default"]
@@ -64,8 +64,8 @@ def is_quoted(block, source):
 
 
 def wrong_examples(page, sources):
-    """The blocks of a page that are not in their file, or that nothing checks. tests/manual.py runs those of a shell, and
-    a block of text is a drawing."""
+    """The blocks of a page that are not in their file, or that nothing checks. tests/manual.py runs those of a shell and
+    the calls of the README's block of text; another block of text is a drawing."""
     blocks = re.findall(r"^```(\w*)\n(.*?)^```$", (ROOT / page).read_text(encoding="utf-8"), re.S | re.M)
     found = [f"nothing checks a block of {kind}" for kind, _ in blocks if kind not in ("rust", "antt", "sh", "text")]
     quoted = [block for kind, block in blocks if kind in ("rust", "antt")]
