@@ -1,8 +1,7 @@
 #!/usr/bin/env python3
-"""Runs each example of the man pages, and each call of glob_run that the README shows. Checks the man pages where
-`mandoc` or `groff` is installed, asks bash, fish and zsh what the completions of glob_run offer, installs all of it, and
-compares what the launcher answers before anything is built. Prints what is wrong, and last how many checks passed and
-failed."""
+"""Runs each example of the man pages and of the README. Checks the man pages where `mandoc` or `groff` is installed, asks
+bash, fish and zsh what the completions of glob_run offer, installs all of it, and compares what the launcher answers before
+anything is built. Prints what is wrong, and last how many checks passed and failed."""
 
 import contextlib
 import os
@@ -111,15 +110,13 @@ INSTALLED = sorted(
 
 
 def examples():
-    """The commands of the man pages, each with what it writes."""
+    """The commands of the man pages, and those that the README shows after a `$`, each with what it writes."""
     # The examples of glob_run come first: those of others make files.
     text = "".join((ROOT / f"man/{name}.1").read_text(encoding="utf-8") for name in ["glob_run", *PROGRAMS[:-1]])
-    found = []
-    for block in re.findall(r"^\.EX\n(.*?)^\.EE$", text, re.M | re.S):
-        block = re.sub(r"\\\(..|\\.", lambda it: ROFF[it[0]], block)
-        for command, output in re.findall(r"^\$ (.*)\n((?:(?!\$ ).*\n)*)", block, re.M):
-            found.append((command, output))
-    return found
+    blocks = re.findall(r"^\.EX\n(.*?)^\.EE$", text, re.M | re.S)
+    blocks = [re.sub(r"\\\(..|\\.", lambda it: ROFF[it[0]], block) for block in blocks]
+    blocks += re.findall(r"^```text\n(.*?)^```$", (ROOT / "README.md").read_text(encoding="utf-8"), re.M | re.S)
+    return [it for block in blocks for it in re.findall(r"^\$ (.*)\n((?:(?!\$ ).*\n)*)", block, re.M)]
 
 
 def shown_calls():

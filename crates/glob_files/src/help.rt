@@ -34,7 +34,7 @@ Patterns match whole paths, as src/main.rs, where no wildcard takes a /:
 A pattern that begins or ends with /, or has an empty component, . or .., is refused.
 
 Each path is written once, in ascending byte order of its names. What is ignored is never listed,
-nor what is below it. With one pattern only the directories are entered that it can reach.
+nor what is below it. Without -i one pattern usually enters only directories that it can reach.
 
 Status:
   0         a path was written, or this page or the version

@@ -45,7 +45,7 @@ does not match a line that ends in it. A line that is not UTF-8 never matches.
 
 explain writes a line for each wildcard, bracket and character of the pattern, and after a tab the
 piece of the text that it takes. Where the text does not match, a caret shows where it stops, and
-the lines below say what is wanted there, which option alone hinders a match, and what to write
+the lines below say what is wanted there, which changed option gives a match, and what to write
 instead of a form of another tool. A caret under a pattern that is refused shows its fault.
 
 Paths: find walks from the current directory, or from / if the pattern begins with that. Each
