@@ -20,7 +20,7 @@ from pathlib import Path
 BENCH = Path(__file__).resolve().parent
 PAGE = BENCH.parent / "docs/PERFORMANCE.md"
 MARK = "<!-- bench/report.py writes this table -->\n"
-HEADS = ["Command", "What", "Ours", "Cases", "Least", "Median", "Most", "Commit"]
+HEADS = ["Command", "What", "Ratio", "Cases", "Least", "Median", "Most", "Commit"]
 
 
 def cells(line):
@@ -69,7 +69,7 @@ def ratio_rows(report):
             numbers = [row[column].replace(",", "") for row in table["rows"] if head.startswith("to ")]
             ratios = [float(it) for it in numbers if re.fullmatch(r"[\d.]+(e-\d+)?", it)]
             if ratios:
-                some = [f"{it:.2g}" for it in (min(ratios), statistics.median(ratios), max(ratios))]
+                some = [f"{it:.3g}" for it in (min(ratios), statistics.median(ratios), max(ratios))]
                 title = re.split("[,:]", table["title"])[0]
                 yield [f"`bench/run{command}`", title, head, str(len(ratios)), *some, f"`{report['commit']}`"]
 
