@@ -83,7 +83,7 @@ class Compile:
         return self.ten * self.often
 
     def name(self):
-        return f"compile `{self.ten}` {self.often:,} times, {self.times:,} times over"
+        return f"parse `{self.ten}` {self.often:,} times, {self.times:,} times over"
 
 
 COMPILES = [

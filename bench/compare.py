@@ -153,7 +153,7 @@ def run_rounds(rows, sides, rounds, what):
 
 
 def digits(number):
-    """The number with three digits or more that count."""
+    """The number with two digits or more that count."""
     if number >= 100:
         return f"{number:,.0f}"
     if number >= 1:
@@ -177,7 +177,7 @@ def print_ratios(title, rows):
 
 
 def print_growth(rows):
-    print("\nOurs alone on longer texts and patterns of that kind, where the crate does not end:")
+    print("\nMany stars, ours alone, where the crate does not end:")
     print("\n| n, times `*a` | m, times `a` | ours, ms | ns for each of n · m |\n|--:|--:|--:|--:|")
     for row in rows:
         stars, letters = row.case.stars, row.case.letters
@@ -195,7 +195,8 @@ def main():
         "Matching": [match_row(case, lines) for case in fewer(cases.MATCHES, share)],
         "Many stars": [hostile_row(case, folder) for case in fewer(cases.HOSTILE, share)],
         "Parsing": [compile_row(case) for case in fewer(cases.COMPILES, share)],
-        "Programs": [row for row, _ in filters],
+        "Programs": [row for row, _ in filters[: len(cases.FILTERS)]],
+        "Programs, many stars": [row for row, _ in filters[len(cases.FILTERS) :]],
     }
     rows = [row for some in tables.values() for row in some]
     growth = [hostile_row(case, folder) for case in fewer(cases.GROWTH, share)]

@@ -1,5 +1,5 @@
 #!/usr/bin/env python3
-"""Runs glob_files over a tree half of which is ignored, beside other finders of one thread each, and prints tables.
+"""Runs glob_files over a tree half of which is ignored, beside other finders, each told to use one thread, and prints tables.
 
 usage: files.py FOLDER PROGRAM ROUNDS SHARE
 

@@ -42,6 +42,8 @@ class Run:
     milliseconds: float
     megabytes: float
     output: bytes
+    # those of a second run, which does the work over and over, if there is one
+    more_milliseconds: float | None = None
 
 
 def ours(folder, job):
@@ -93,12 +95,17 @@ def started(folder, program, words, job, before):
 
 
 def measured(folder, program, words, job, before):
-    """A run of a program. Where the work is done over and over, its time is that of one more, without all else."""
+    """A run of a program, and a second one where the work is done over and over."""
     run = started(folder, program, words(job.words), job, before)
     if job.times:
-        more = started(folder, program, words(job.words_again()), job, before)
-        run.milliseconds = (more.milliseconds - run.milliseconds) / job.times
+        run.more_milliseconds = started(folder, program, words(job.words_again()), job, before).milliseconds
     return run
+
+
+def least(job, runs):
+    """The least time. Where the work is done over and over, it is that of doing it once more, without all else."""
+    once = min(run.milliseconds for run in runs)
+    return (min(run.more_milliseconds for run in runs) - once) / job.times if job.times else once
 
 
 def instructions(folder, job, words):
@@ -163,7 +170,7 @@ def beside(folder, job, answer, rounds):
     runs = [measured(folder, original(folder, job), original_words, job, None) for _ in range(rounds)]
     if runs[0].output != answer:
         raise Failed("the answers differ")
-    return f"{digits(min(run.milliseconds for run in runs))}, {max(run.megabytes for run in runs):.1f} MB"
+    return f"{digits(least(job, runs))}, {max(run.megabytes for run in runs):.1f} MB"
 
 
 def digits(milliseconds):
@@ -177,7 +184,7 @@ def row(folder, case, sizes, rounds):
     for _ in range(rounds):
         for job, of in zip(jobs, runs):
             of.append(measured(folder, ours(folder, job), our_words, job, with_stack(STACK)))
-    half, whole = (min(run.milliseconds for run in of) for of in runs)
+    half, whole = map(least, jobs, runs)
     peaks = [max(run.megabytes for run in of) for of in runs]
     stacks = [least_stack(folder, job) for job in jobs]
     # a difference of two short runs may be nothing

@@ -1,11 +1,12 @@
 #!/usr/bin/env python3
-"""Keeps what `run` prints as data, and writes from it the table of docs/PERFORMANCE.md and what plot.sh draws.
+"""Makes data of what `run` prints, and writes what pages say of them: the table of docs/PERFORMANCE.md, and README's
+sentence and the words for its chart.
 
-usage: report.py                     writes the table: the least, median and greatest ratio of each column
-       report.py --check             writes nothing, and fails where the page has another table
-       report.py keep NAME COMMIT    prints a report that it reads, and writes it into results/NAME.json
-       report.py chart               prints a ratio and a name for each pattern of results/instructions.json, the last
-                                     one first, since gnuplot counts upwards
+usage: report.py                          writes them
+       report.py --check                  writes nothing, and fails where a page says something else
+       report.py keep NAME COMMIT FILE    prints a report that it reads, and writes it into FILE
+       report.py chart                    prints a ratio and a name for each pattern of results/instructions.json, the
+                                          last one first, since gnuplot counts upwards
 
 A report has blocks with blank lines between: lines about it, then tables of Markdown, each after its title, if it has
 one, which ends in `:`. A column has ratios if its head begins with `to `, as in `to the crate`.
@@ -18,9 +19,14 @@ import sys
 from pathlib import Path
 
 BENCH = Path(__file__).resolve().parent
-PAGE = BENCH.parent / "docs/PERFORMANCE.md"
+README, PAGE = BENCH.parent / "README.md", BENCH.parent / "docs/PERFORMANCE.md"
 MARK = "<!-- bench/report.py writes this table -->\n"
 HEADS = ["Command", "What", "Ratio", "Cases", "Least", "Median", "Most", "Commit"]
+
+CHART = 'alt="{} patterns: from {:.2f} to {:.2f}"'
+SENTENCE = """From Rust parsing takes {:.2g} to {:.2g} times the crate's [time](docs/PERFORMANCE.md#measured), walks {:.2g} to {:.2g};
+sets take at most {:.2g} of `globset`'s.
+"""
 
 
 def cells(line):
@@ -43,7 +49,7 @@ def read_report(text):
     return {"about": about, "tables": tables}
 
 
-def keep(name, commit):
+def keep(name, commit, file):
     """Writes the report that is read, each row into a line."""
     lines = []
     for line in sys.stdin:
@@ -53,56 +59,78 @@ def keep(name, commit):
     text = json.dumps(report, indent=1, ensure_ascii=False)
     # a list of texts alone is a row
     text = re.sub(r'\[\n\s+("(?:[^\n]*",\n\s+)*[^\n]*")\n\s+\]', lambda it: "[" + re.sub(r",\n\s+", ", ", it[1]) + "]", text)
-    (BENCH / f"results/{name.replace(' ', '-')}.json").write_text(text + "\n", encoding="utf-8")
+    Path(file).write_text(text + "\n", encoding="utf-8")
 
 
 def kept():
-    paths = sorted(BENCH.glob("results/*.json"))
-    return [json.loads(path.read_text(encoding="utf-8")) for path in paths]
+    """Each report."""
+    return [json.loads(path.read_text(encoding="utf-8")) for path in sorted(BENCH.glob("results/*.json"))]
 
 
-def ratio_rows(report):
+def ratios(table):
+    """The ratios of each column that has them, by its head. `-` stands where there is none."""
+    columns = {head: [row[at] for row in table["rows"]] for at, head in enumerate(table["heads"]) if head.startswith("to ")}
+    return {head: [float(cell.replace(",", "")) for cell in found if cell != "-"] for head, found in columns.items()}
+
+
+def rows_of(report):
     """A row of the table for each column with ratios."""
     command = "".join(f" --{it}" for it in report["name"].split() if it != "match")
     for table in report["tables"]:
-        for column, head in enumerate(table["heads"]):
-            numbers = [row[column].replace(",", "") for row in table["rows"] if head.startswith("to ")]
-            ratios = [float(it) for it in numbers if re.fullmatch(r"[\d.]+(e-\d+)?", it)]
-            if ratios:
-                some = [f"{it:.3g}" for it in (min(ratios), statistics.median(ratios), max(ratios))]
-                title = re.split("[,:]", table["title"])[0]
-                yield [f"`bench/run{command}`", title, head, str(len(ratios)), *some, f"`{report['commit']}`"]
+        for head, found in ratios(table).items():
+            some = [f"{it:.2g}" for it in (min(found), statistics.median(found), max(found))]
+            title = table["title"].split(":")[0]
+            yield [f"`bench/run{command}`", title, head, str(len(found)), *some, f"`{report['commit']}`"]
 
 
-def table():
-    rows = [HEADS, ["---"] * 3 + ["--:"] * 4 + ["---"], *(row for report in kept() for row in ratio_rows(report))]
-    return "".join(f"| {' | '.join(row)} |\n" for row in rows)
-
-
-def write_table(is_checked):
-    page = PAGE.read_text(encoding="utf-8")
+def with_table(page):
+    rows = [HEADS, ["---"] * 3 + ["--:"] * 4 + ["---"], *(row for report in kept() for row in rows_of(report))]
     before, _, after = page.partition(MARK)
-    changed = before + MARK + table() + re.sub(r"\A(\|.*\n)*", "", after)
-    if not is_checked:
-        PAGE.write_text(changed, encoding="utf-8")
-    elif changed != page:
-        sys.exit("docs/PERFORMANCE.md has not the table that bench/report.py writes.")
+    return before + MARK + "".join(f"| {' | '.join(row)} |\n" for row in rows) + re.sub(r"\A(\|.*\n)*", "", after)
+
+
+def found_in(name, title, head):
+    """The ratios of a column, by the beginning of its table's title."""
+    [report] = [it for it in kept() if it["name"] == name]
+    [table] = [it for it in report["tables"] if it["title"].startswith(title)]
+    return ratios(table)[head]
+
+
+def with_sentence(page):
+    chart = found_in("instructions", "Matching", "to the crate")
+    parsing, walks = found_in("process", "Parsing", "to the crate"), found_in("process walks", "Walks", "to the crate")
+    sets = found_in("sets", "Sets", "to globset")
+    sentence = SENTENCE.format(min(parsing), max(parsing), min(walks), max(walks), max(sets))
+    page = re.sub(r'alt="\d+ patterns: [^"]*"', CHART.format(len(chart), min(chart), max(chart)), page)
+    return re.sub(r"^From Rust parsing takes (.+\n)+", lambda _: sentence, page, flags=re.M)
+
+
+def write_pages(is_checked):
+    for file, changed in ((PAGE, with_table), (README, with_sentence)):
+        page = file.read_text(encoding="utf-8")
+        if not is_checked:
+            file.write_text(changed(page), encoding="utf-8")
+        elif changed(page) != page:
+            sys.exit(f"{file.name} does not say what the reports say. Run bench/report.py.")
 
 
 def print_chart():
     report = json.loads((BENCH / "results/instructions.json").read_text(encoding="utf-8"))
     for name, *_, ratio in reversed(report["tables"][0]["rows"]):
-        print(f"{ratio}\t{name.removeprefix('match ').replace('`', '')}")
+        if ratio != "-":
+            print(f"{ratio}\t{name.removeprefix('match ').replace('`', '')}")
 
 
 def main():
     match sys.argv[1:]:
-        case ["keep", name, commit]:
-            keep(name, commit)
+        case ["keep", name, commit, file]:
+            keep(name, commit, file)
         case ["chart"]:
             print_chart()
-        case words:
-            write_table(words == ["--check"])
+        case [] | ["--check"]:
+            write_pages("--check" in sys.argv)
+        case _:
+            sys.exit(__doc__)
 
 
 main()

@@ -105,7 +105,7 @@ def commands(folder, pattern):
         "the crate": [folder / "original/walk", pattern],
         "the calls alone": [folder / "calls", str(depth), *(["names"] if pattern in NAMES else [])],
         "find": [shutil.which("find"), ".", "-mindepth", "1", *find_words(pattern)],
-        "fd, one thread": [fd, "--unrestricted", "--threads", "1", "--color", "never", *fd_words(pattern)],
+        "fd --threads 1": [fd, "--unrestricted", "--threads", "1", "--color", "never", *fd_words(pattern)],
         "bash": [shutil.which("bash"), *bash_words(pattern)],
     }
     return {head: words for head, words in some.items() if words[0] and os.path.exists(words[0])}

@@ -65,7 +65,7 @@ def is_quoted(block, source):
 
 def wrong_examples(page, sources):
     """The blocks of a page that are not in their file, or that nothing checks. tests/manual.py runs those of a shell and
-    the calls of the README's block of text; another block of text is a drawing."""
+    the calls of the README's block of text; nothing checks other blocks of text."""
     blocks = re.findall(r"^```(\w*)\n(.*?)^```$", (ROOT / page).read_text(encoding="utf-8"), re.S | re.M)
     found = [f"nothing checks a block of {kind}" for kind, _ in blocks if kind not in ("rust", "antt", "sh", "text")]
     quoted = [block for kind, block in blocks if kind in ("rust", "antt")]

@@ -1,5 +1,5 @@
 #!/usr/bin/env python3
-"""Runs each example of the man pages and of the README. Checks the man pages where `mandoc` or `groff` is installed, asks
+"""Runs each example of the man pages, and each call of glob_run that the README shows. Checks the man pages where `mandoc` or `groff` is installed, asks
 bash, fish and zsh what the completions of glob_run offer, installs all of it, and compares what the launcher answers before
 anything is built. Prints what is wrong, and last how many checks passed and failed."""
 
