@@ -4,12 +4,11 @@ _glob_run() {
     local word=${COMP_WORDS[COMP_CWORD]} last=${COMP_WORDS[COMP_CWORD - 1]} options i
     COMPREPLY=()
     if [ "$COMP_CWORD" = 1 ]; then
-        mapfile -t COMPREPLY < <(compgen -W 'match find explain escape --help -h --version' -- "$word")
+        mapfile -t COMPREPLY < <(compgen -W 'match find escape --help -h --version' -- "$word")
         return
     fi
     case ${COMP_WORDS[1]} in
     match) options='-i -s -d -0 --' ;;
-    explain) options='-i -s -d --' ;;
     find) options='-i -s -d -0 -n --' ;;
     escape) options='--' ;;
     *) return ;;

@@ -21,7 +21,7 @@ OTHERS = {
     "glob_prune": {"Pruned", "PhysicalDisk", "Exclusion"},
     "glob_console": {"find_in", "Choice"},
     "glob_files": {"run_words", "run_find"},
-    "glob_explain": {"explain"},
+    "glob_explain": {"run_words", "explain"},
     "glob_ignore": {"run_words"},
     "glob_rules": {"IgnoreList"},
     "glob_captures": {"captures", "reach", "tokens"},

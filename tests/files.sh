@@ -1,6 +1,6 @@
 #!/usr/bin/env bash
-# Runs bin/glob_files and bin/glob_ignore in a folder of their own, and replays their tables of tests/rows: what they write,
-# their statuses and faults. Prints a line for each row that fails, and last how many passed and failed.
+# Runs bin/glob_files, bin/glob_ignore and bin/glob_explain in a folder of their own, and replays their tables of
+# tests/rows: what they write, their statuses and faults. Prints a line for each row that fails, and last how many passed and failed.
 set -u
 root=$(cd "$(dirname "$(readlink -f "${BASH_SOURCE[0]}")")/.." && pwd)
 work=$(mktemp -d) || exit 2
@@ -162,6 +162,42 @@ check 'memory that runs out while rules are read' 2 '' 'glob_ignore: out of memo
 yes b.c | head -n 1000000 >"$work/in"
 with $((little + ($(needed "$binary" rules) - little) / 2)) rules
 check 'memory that runs out while the input is read' 2 '' 'glob_ignore: out of memory\n'
+
+program=$root/bin/glob_explain binary=$root/crates/glob_explain/out/glob_explain
+usage='usage: glob_explain [-i] [-s] [-d] PATTERN TEXT\n'
+pages -h '--help a'
+# advises PATTERN [LINE]: compares the last line that glob_explain writes for the pattern and a text that it does not match, or
+# sees to it that this says nothing of what to write
+advises() {
+    local program=$binary pattern
+    printf -v pattern '%b' "$1"
+    run -- "$pattern" $'\1\1/\1'
+    [ -s "$work/out" ] || echo 'no output' >"$work/out"
+    tail -n 1 "$work/out" >"$work/some" && mv "$work/some" "$work/out"
+    [ $# = 2 ] || grep -qE '^(write|no output$)' "$work/out" || : >"$work/out"
+    check "what to write instead of $1" 1 "${2+$2\n}" ''
+}
+
+each_row explain.txt try
+each_row advice.txt advises
+
+row 'a text that is too large to explain' 2 '' "the pattern's tokens times the text's bytes are more than 67108864\n" \
+    "$(printf '%8193s' '' | tr ' ' '?')" "$(printf '%8192s' '' | tr ' ' a)"
+run a $'\xff'
+check 'a word of explain that is not UTF-8' 2 '' "$usage"
+for text in ab b; do
+    "$program" 'a*' "$text" >/dev/full 2>"$work/err"
+    status=$? && : >"$work/out"
+    check "an explanation of $text to a full standard output" 2 '' 'writing failed\n'
+done
+"$root/bin/glob_run" explain 'a?' ab >"$work/out" 2>"$work/err"
+status=$?
+check 'explain by the launcher of glob_run' 0 'a\ta\n?\tb\n' ''
+: >"$work/in"
+marks=$(printf '%2000s' '' | tr ' ' '?')
+ends_within "$(needed "$binary" a a)" "$marks" "$marks"
+check 'just too little memory to explain, and just enough' '' \
+    'not started\nstatus 0: ?\t? ?\t? ?\t? ?\t? ?\t? \nstatus 2: out of memory\n' ''
 
 echo "$passed passed, $failed failed"
 [ "$failed" = 0 ]

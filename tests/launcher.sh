@@ -50,7 +50,7 @@ asked() {
     check "$1" 0 "$2" ''
 }
 
-all='lib glob_captures lib glob_console lib glob_explain lib glob_lines lib glob_pattern lib glob_text lib glob_tree lib glob_walk run glob_run '
+all='lib glob_console lib glob_lines lib glob_pattern lib glob_text lib glob_tree lib glob_walk run glob_run '
 
 anew
 for words in --help -h --version; do
@@ -88,17 +88,17 @@ asked 'a source of the program builds anew' 'match x\n'
 anew
 run match x
 sed -i 's/[0-9]* min [0-9]* s$/TIME/' "$work/err"
-grep -c ' of 9: ' "$work/err" >"$work/out"
+grep -c ' of 7: ' "$work/err" >"$work/out"
 sed -n '1,2p;$p' "$work/err" >"$work/some" && cp "$work/some" "$work/err"
-check 'a build says what it is at' 0 '9\n' "$(printf 'glob_run: %s\\n' \
+check 'a build says what it is at' 0 '7\n' "$(printf 'glob_run: %s\\n' \
     'proving and building the program, once for these sources: that takes minutes, or less where some was done' \
-    '1 of 9: glob_text' 'built in TIME')"
+    '1 of 7: glob_text' 'built in TIME')"
 
 for wrong in glob_text glob_tree; do
     anew
     echo "$wrong" >"$work/asked.wrong"
     run match x
-    grep -v ' of 9: ' "$work/err" | sed 1d >"$work/some" && cp "$work/some" "$work/err"
+    grep -v ' of 7: ' "$work/err" | sed 1d >"$work/some" && cp "$work/some" "$work/err"
     check "a build that fails at $wrong" 2 '' \
         "error: wrong\nglob_run: the build of $wrong failed, as the lines above say\n"
 done

@@ -21,14 +21,12 @@ ROFF = {r"\(aq": "'", r"\(ga": "`", r"\e": "\\", r"\-": "-", r"\&": ""}
 # The words of a command line, of which the last is being written, and what bash offers for it. So do fish and zsh, but
 # for the lines of FISH and of ZSH. Neither offers `--`, and fish offers options only after a hyphen.
 COMPLETIONS = [
-    ("glob_run ", "--help --version -h escape explain find match"),
+    ("glob_run ", "--help --version -h escape find match"),
     ("glob_run m", "match"),
     ("glob_run --", "--help --version"),
     ("glob_run match -", "-- -0 -d -i -s"),
     ("glob_run match -i", "-i"),
     ("glob_run match -i -", "-- -0 -d -i -s"),
-    ("glob_run explain -", "-- -d -i -s"),
-    ("glob_run explain a b", ""),
     ("glob_run match -- -", ""),
     ("glob_run match a -", ""),
     ("glob_run find -", "-- -0 -d -i -n -s"),
@@ -46,10 +44,9 @@ COMPLETIONS = [
 ]
 
 FISH = {
-    "glob_run ": "escape explain find match",
+    "glob_run ": "escape find match",
     "glob_run match -": "-0 -d -i -s",
     "glob_run match -i -": "-0 -d -i -s",
-    "glob_run explain -": "-d -i -s",
     "glob_run find -": "-0 -d -i -n -s",
     "glob_run find -n 5 -": "-0 -d -i -n -s",
     "glob_run find fo": "folder/",
@@ -61,7 +58,6 @@ FISH = {
 ZSH = {
     "glob_run match -": "-0 -d -i -s",
     "glob_run match -i -": "-0 -d -i -s",
-    "glob_run explain -": "-d -i -s",
     "glob_run find -": "-0 -d -i -n -s",
     "glob_run find -n 5 -": "-0 -d -i -n -s",
     "glob_run find br": r"br\[\[\]1\[\]\]",
@@ -251,7 +247,7 @@ def launcher_faults(prefix, copy):
     shutil.copy(ROOT / "crates.txt", copy)
     shutil.copytree(ROOT / "bin", copy / "bin")
     said = lambda *words: subprocess.run(words, capture_output=True, text=True).stdout
-    calls = [[name, word] for name in PROGRAMS for word in ("--help", "-h", "--version")] + [["glob_run", "explain", "--help"]]
+    calls = [[name, word] for name in PROGRAMS for word in ("--help", "-h", "--version")] + [["glob_run", "find", "--help"]]
     differs = lambda name, *words: said(copy / "bin" / name, *words) != said(prefix / "bin" / name, *words)
     return [it for it in calls if differs(*it)]
 

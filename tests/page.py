@@ -1,11 +1,10 @@
 #!/usr/bin/env python3
 """Checks the page of docs/page: that it is made of the present sources, and, where Chromium is installed, that it answers
-as `explain` of bin/glob_run does on 200 patterns and lines from a seeded generator, piece by piece, and that it walks a
+as bin/glob_explain does on 200 patterns and lines from a seeded generator, piece by piece, and that it walks a
 tree as `find` does. It drives the page's own fields in a headless browser, without a network. Its last line is 'N passed,
 M failed'."""
 
 import json
-import os
 import random
 import re
 import shutil
@@ -17,7 +16,7 @@ from urllib.parse import unquote
 
 ROOT = Path(__file__).resolve().parent.parent
 PAGE = ROOT / "docs/page/index.html"
-PROGRAM = os.environ.get("PROGRAM", str(ROOT / "bin/glob_run"))
+PROGRAM, EXPLAIN = str(ROOT / "bin/glob_run"), str(ROOT / "bin/glob_explain")
 CASES = 200
 TREE = ["src/main.rs", "src/walk/lines.rs", "src/walk/_x.rs", "src/walk/.hidden.rs", "src/empty/", "docs/A.md", "README.md"]
 WALKS = ["*", "**", "src/**/[!_]*.rs", "**/*.rs", "*/", "src/*/*", "docs/A*.md", "missing/*", "**/empty", "[R-S]*"]
@@ -68,8 +67,8 @@ def cases():
     return made
 
 
-def run(words, text="", folder=None):
-    done = subprocess.run([PROGRAM, *words], input=text, capture_output=True, text=True, cwd=folder, check=False)
+def run(words, text="", folder=None, program=PROGRAM):
+    done = subprocess.run([program, *words], input=text, capture_output=True, text=True, cwd=folder, check=False)
     return done.returncode, done.stdout, done.stderr
 
 
@@ -77,7 +76,7 @@ def expected(pattern, flags, line):
     """What the page has to show: a fault; or that the line matches, and the pieces, those of neighbouring characters as
     one; or that it does not, and after how many characters it stops."""
     options = [word for i, word in enumerate(("-i", "-s", "-d")) if flags & (1 << i)]
-    status, out, error = run(["explain", *options, "--", pattern, line])
+    status, out, error = run([*options, "--", pattern, line], program=EXPLAIN)
     if status == 2:
         fault = re.match(r"Pattern syntax error near position (\d+): (.*)\n", error)
         return [f"Refused at character {fault[1]}: {fault[2]}", "", [], None]

@@ -28,18 +28,6 @@ finds() {
     done
 }
 
-# advises PATTERN [LINE]: compares the last line that explain writes for the pattern and a text that it does not match, or
-# sees to it that this says nothing of what to write
-advises() {
-    local program=$binary pattern
-    printf -v pattern '%b' "$1"
-    run explain -- "$pattern" $'\1\1/\1'
-    [ -s "$work/out" ] || echo 'no output' >"$work/out"
-    tail -n 1 "$work/out" >"$work/some" && mv "$work/some" "$work/out"
-    [ $# = 2 ] || grep -qE '^(write|no output$)' "$work/out" || : >"$work/out"
-    check "what to write instead of $1" 1 "${2+$2\n}" ''
-}
-
 # The first call builds the program, if need be.
 if ! "$program" match '' <<<'' >/dev/null; then
     echo "0 passed, 1 failed"
@@ -47,9 +35,7 @@ if ! "$program" match '' <<<'' >/dev/null; then
 fi
 
 each_row run.txt try
-each_row explain.txt try
 each_row walks.txt finds
-each_row advice.txt advises
 
 # The patterns of the README and of the man page: options, a pattern, lines that match, and lines that do not.
 set -f
@@ -97,7 +83,7 @@ awk 'NR == FNR { begins[$0]; next }
     { for (begin in begins) if (index($0, begin) == 1) delete begins[begin] }
     END { for (begin in begins) print begin }' "$root/tests/rows/help.txt" "$work/page" >"$work/out"
 check 'a line of the page for each word, and none of more than 100 bytes' 0 '' ''
-for words in -h '-h match' 'match --help' 'find --help x' 'escape --help' 'explain --help'; do
+for words in -h '-h match' 'match --help' 'find --help x' 'escape --help'; do
     # shellcheck disable=SC2086 # a word for each
     unfed $words
     cmp -s "$work/page" "$work/out" && : >"$work/out"
@@ -130,25 +116,6 @@ printf 'a\nb\0b\0a' >"$work/in"
 "$program" match -0 'a*' <"$work/in" 2>"$work/err" | tr '\0' '!' >"$work/out"
 status=${PIPESTATUS[0]}
 check 'records that end in a NUL' 0 'a\nb!a!' ''
-
-unfed explain 'a[0-9]*' a17x
-check 'the pieces of a text' 0 'a\ta\n[0-9]\t1\n*\t7x\n' ''
-
-unfed explain 'é[0-9]' éx
-check 'where a text stops' 1 'éx\n ^\n[0-9]\twants a character that it lists\n' ''
-
-unfed explain '*.rs' main.c
-check 'what a text has to end in' 1 'main.c\n      ^\n.rs\tis wanted at the end of the text\n' ''
-
-unfed explain '*.{c,h}' a.c
-printf '%s\n' "$(tail -1 "$work/out")" >"$work/some" && mv "$work/some" "$work/out"
-check 'what to write instead of a choice' 1 'write instead: *.[ch]\n' ''
-
-unfed explain '**.rs' a
-check 'the fault of a pattern, shown' 2 '' 'Pattern syntax error near position 2: recursive wildcards must form a single path component\n**.rs\n  ^\nwrite instead: **/*.rs\n'
-
-unfed explain "$(printf '%8193s' '' | tr ' ' '?')" "$(printf '%8192s' '' | tr ' ' a)"
-check 'a text that is too large to explain' 2 '' "the pattern's tokens times the text's bytes are more than 67108864\n"
 
 unfed match 'abc[def'
 check 'a fault of the pattern before anything is read' 2 '' 'Pattern syntax error near position 3: invalid range pattern\n'
@@ -195,14 +162,9 @@ check 'escape to a full standard output' 2 '' 'writing failed\n'
 status=$?
 check 'escape to a closed standard output' 2 '' 'writing failed\n'
 
-for words in --version 'explain a* ab' 'explain a* b'; do
-    set -f
-    # shellcheck disable=SC2086 # a word for each
-    "$program" $words >/dev/full 2>"$work/err"
-    status=$? && : >"$work/out"
-    set +f
-    check "$words to a full standard output" 2 '' 'writing failed\n'
-done
+"$program" --version >/dev/full 2>"$work/err"
+status=$? && : >"$work/out"
+check 'the version to a full standard output' 2 '' 'writing failed\n'
 
 "$program" match 'abc[def' >"$work/out" 2>/dev/full
 status=$? && : >"$work/err"
@@ -238,9 +200,6 @@ marks=$(printf '%60000s' '' | tr ' ' '?')
 ends_within "$little" escape "$marks"
 check 'just too little memory to escape, and just enough' '' \
     'not started\nstatus 0: [?][?][?][?][?][?][?\nstatus 2: out of memory\n' ''
-ends_within "$little" explain "${marks:0:2000}" "${marks:0:2000}"
-check 'just too little memory to explain, and just enough' '' \
-    'not started\nstatus 0: ?\t? ?\t? ?\t? ?\t? ?\t? \nstatus 2: out of memory\n' ''
 
 # A signal, while the program waits for more input.
 mkfifo "$work/input"

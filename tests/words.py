@@ -17,7 +17,7 @@ REFERENCE = ROOT / "docs/reference"
 # Crates with definitions that contracts cite. Those of the library are cited by the crate `glob`.
 LIBRARY = ["glob_text", "glob_pattern", "glob_lines", "glob_tree", "glob_walk", "glob"]
 OTHERS = ["glob_set", "glob_rules", "glob_captures", "glob_prune", "glob_console", "glob_run", "glob_files", "glob_ignore",
-          "glob_c", "glob_examples"]
+          "glob_explain", "glob_c", "glob_examples"]
 
 WORDS = """# Words of contracts
 

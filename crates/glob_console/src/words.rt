@@ -2,8 +2,9 @@
 ghost use Rattle.std.specs.Prelude.{◌≡◌, IfOk, map, string_bytes};
 ghost use Rattle.std.specs.Char.{is_ascii_digit};
 ghost use Rattle.std.specs.List.{list_all};
-ghost use Rattle.glob_console.specs.Words.{limit_of};
+ghost use Rattle.glob_console.specs.Words.{is_match_option, limit_of, with_option};
 
+use glob_pattern::MatchOptions;
 use std::alloc::{AllocError, Allocator};
 use std::{env, io};
 
@@ -27,6 +28,20 @@ pub fn words_of<A: Allocator + Copy>(
         rest = after;
     }
     Ok(words)
+}
+
+/// Sets the match option that the word names: `-i`, `-s` or `-d`. False where it names none.
+pub fn set_match_option(options: &mut MatchOptions, word: &str) -> bool
+    ensures named { result ≡ is_match_option word.now }
+    ensures set { options.new ≡ with_option word.now options.old }
+{
+    match word {
+        "-i" => options.case_sensitive = false,
+        "-s" => options.require_literal_separator = true,
+        "-d" => options.require_literal_leading_dot = true,
+        _ => return false,
+    }
+    true
 }
 
 /// A limit: one to twenty decimal digits, whose number is at most `u64::MAX`. So `007` is 7, and `+7` none.

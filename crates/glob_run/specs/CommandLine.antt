@@ -1,12 +1,11 @@
 -- What the words of a command line ask for. No request is a usage fault.
 use Rattle.std.specs.Prelude.{ℕ, ◌^◌, ◌-◌, ◌||◌, Bool, List, [], ◌∷◌, Option, None, Some, if◌then◌else◌, codes, bytes_eq, true, false, option_map, option_and_then}
-use Rattle.glob_console.specs.Words.{is_option, limit_of}
-use Rattle.glob_pattern.specs.declared.options.MatchOptions.{MatchOptions}
+use Rattle.glob_console.specs.Words.{is_match_option, is_option, limit_of, with_option}
 use Rattle.glob_pattern.specs.Matching.Options.{new_options}
 use Rattle.glob_lines.specs.Lines.{line_feed}
 use Rattle.glob_run.specs.declared.command.Settings.{Settings}
 use Rattle.glob_run.specs.Requests.{Request}
-use Rattle.glob_run.specs.Requests.{Lines, Escaped, Paths, Pieces, Page, VersionLine}
+use Rattle.glob_run.specs.Requests.{Lines, Escaped, Paths, Page, VersionLine}
 
 -- the one word that is left after the options
 abbrev pub operand_of : List (List ℕ) → Option (List ℕ)
@@ -14,17 +13,6 @@ operand_of [] = None
 operand_of (word ∷ []) = if is_option word then None else Some word
 operand_of (dashes ∷ word ∷ []) = if bytes_eq dashes (codes "--") then Some word else None
 operand_of (a ∷ b ∷ c ∷ more) = None
-
--- a word that sets a match option
-abbrev pub is_match_option : List ℕ → Bool
-is_match_option word = bytes_eq word (codes "-i") || (bytes_eq word (codes "-s") || bytes_eq word (codes "-d"))
-
--- the options once the word has set its own
-abbrev pub with_option : List ℕ → MatchOptions → MatchOptions
-with_option word options =
-    if bytes_eq word (codes "-i") then record options { case_sensitive = false }
-    else (if bytes_eq word (codes "-s") then record options { require_literal_separator = true }
-    else (if bytes_eq word (codes "-d") then record options { require_literal_leading_dot = true } else options))
 
 -- before any option: lines, under the match options that are first
 abbrev pub new_settings : Settings
@@ -56,21 +44,6 @@ paths_request settings limit (word ∷ next ∷ words) =
     else (if is_setting word then paths_request (with_setting word settings) limit (next ∷ words)
     else option_map (Paths settings limit) (operand_of (word ∷ next ∷ words)))
 
--- the pattern and the text that are left after the options
-abbrev pub operands_of : List (List ℕ) → Option (List ℕ × List ℕ)
-operands_of [] = None
-operands_of (a ∷ []) = None
-operands_of (pattern ∷ text ∷ []) = if is_option pattern || is_option text then None else Some (pattern, text)
-operands_of (dashes ∷ pattern ∷ text ∷ []) = if bytes_eq dashes (codes "--") then Some (pattern, text) else None
-operands_of (a ∷ b ∷ c ∷ d ∷ more) = None
-
--- the words after `explain`, under the options that were set before them
-abbrev pub pieces_request : MatchOptions → List (List ℕ) → Option Request
-pieces_request options [] = None
-pieces_request options (word ∷ words) =
-    if is_match_option word then pieces_request (with_option word options) words
-    else option_map (λ ws. Pieces options ws.0 ws.1) (operands_of (word ∷ words))
-
 -- whether the first of the words is `--help`
 abbrev pub asks_help : List (List ℕ) → Bool
 asks_help [] = false
@@ -87,6 +60,5 @@ request_asked (name ∷ words) =
     if bytes_eq name (codes "match") then after_command (lines_request new_settings) words
     else (if bytes_eq name (codes "escape") then after_command (λ ws. option_map Escaped (operand_of ws)) words
     else (if bytes_eq name (codes "find") then after_command (paths_request new_settings (2 ^ 64 - 1)) words
-    else (if bytes_eq name (codes "explain") then after_command (pieces_request new_options) words
     else (if bytes_eq name (codes "-h") || bytes_eq name (codes "--help") then Some Page
-    else (if bytes_eq name (codes "--version") then Some VersionLine else None)))))
+    else (if bytes_eq name (codes "--version") then Some VersionLine else None))))

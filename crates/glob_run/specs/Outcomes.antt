@@ -3,7 +3,6 @@ use Rattle.std.specs.Prelude.{◌≡◌, ℕ, ◌<◌, ◌⊎◌, List, Option, 
 use Rattle.std.specs.Io.KnownBytes.{Keeps}
 use Rattle.glob_console.specs.Outcomes.{WritesText}
 use Rattle.glob_pattern.specs.Escaping.{escaped_text}
-use Rattle.glob_pattern.specs.Matching.Texts.{Matches}
 use Rattle.glob_lines.specs.Lines.{FiltersRecords, FiltersRecordBytes, ended_record, line_feed}
 use Rattle.glob_pattern.specs.declared.options.MatchOptions.{MatchOptions}
 
@@ -14,12 +13,6 @@ CopiesRecords end options pattern input old new status =
     (status ≡ 0 → (n : ℕ) × (0 < n) × FiltersRecords end options pattern input old new n)
     × (status ≡ 1 → FiltersRecords end options pattern input old new 0)
     × (status ≡ 2 → FiltersRecordBytes end options pattern input old new)
-
--- Status 0: the pattern matches the text. Status 1: it does not.
-unfoldable pub Explains : MatchOptions → (pattern text : List ℕ) → (status : ℕ) → Type 0
-Explains options pattern text status =
-    (status ≡ 0 → Matches options (chars pattern) (chars text))
-    × (status ≡ 1 → ¬ (Matches options (chars pattern) (chars text)))
 
 -- the pattern that stands for the text alone, and a line feed
 abbrev pub IsEscapedLine : (text line : List ℕ) → Type 0

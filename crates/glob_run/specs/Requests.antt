@@ -1,19 +1,16 @@
 -- What the words of a command line ask of the program.
 use Rattle.std.specs.Prelude.{ℕ, List}
-use Rattle.glob_pattern.specs.declared.options.MatchOptions.{MatchOptions}
 use Rattle.glob_run.specs.declared.command.Command.{Command}
-use Rattle.glob_run.specs.declared.command.Command.TheVariants.{Match, Escape, Explain, Find, Help, Version}
+use Rattle.glob_run.specs.declared.command.Command.TheVariants.{Match, Escape, Find, Help, Version}
 use Rattle.glob_run.specs.declared.command.Search.{Search}
 use Rattle.glob_run.specs.declared.command.Settings.{Settings}
 
 -- the records that a pattern matches, which are lines but for `-0`; the pattern that stands for a text; the paths that a
--- pattern finds within a limit, in units of the walk; the pieces of a text that a pattern takes; the page that teaches the
--- program; its version
+-- pattern finds within a limit, in units of the walk; the page that teaches the program; its version
 pub data Request : Type 0 where
   Lines : Settings → (pattern : List ℕ) → Request
   Escaped : (text : List ℕ) → Request
   Paths : Settings → (limit : ℕ) → (pattern : List ℕ) → Request
-  Pieces : MatchOptions → (pattern text : List ℕ) → Request
   Page : Request
   VersionLine : Request
 
@@ -25,7 +22,6 @@ search_request search = Paths search.settings search.limit search.pattern.now
 abbrev pub request_of : Command → Request
 request_of (Match settings pattern) = Lines settings pattern.now
 request_of (Escape text) = Escaped text.now
-request_of (Explain options pattern text) = Pieces options pattern.now text.now
 request_of (Find search) = search_request search
 request_of Help = Page
 request_of Version = VersionLine

@@ -1,10 +1,9 @@
 //! What the words of a command line ask for.
 ghost use Rattle.std.specs.Prelude.{◌≡◌, ◌-◌, ◌^◌, map, option_map, true, false};
-ghost use Rattle.glob_run.specs.CommandLine.{asks_help, operands_of, pieces_request, is_match_option, is_setting, lines_request, new_settings, operand_of, paths_request, request_asked, with_option, with_setting};
-ghost use Rattle.glob_pattern.specs.Matching.Options.{new_options};
+ghost use Rattle.glob_run.specs.CommandLine.{asks_help, is_setting, lines_request, new_settings, operand_of, paths_request, request_asked, with_setting};
 ghost use Rattle.glob_run.specs.Requests.{request_of, search_request};
 
-use glob_console::parse_limit;
+use glob_console::{parse_limit, set_match_option};
 use glob_pattern::MatchOptions;
 
 /// What a list of words asks of the program.
@@ -16,12 +15,6 @@ pub enum Command<'a> {
     },
     /// Write the pattern that stands for the text alone.
     Escape {
-        text: &'a str,
-    },
-    /// Write which piece of the text each token of the pattern takes.
-    Explain {
-        options: MatchOptions,
-        pattern: &'a str,
         text: &'a str,
     },
     /// Write the paths that a walk of the disk finds.
@@ -57,13 +50,12 @@ impl<'a> Command<'a> {
     {
         let (&name, words) = words.split_first()?;
         match name {
-            "match" | "escape" | "find" | "explain" if asks_for_help(words) => Some(Command::Help),
+            "match" | "escape" | "find" if asks_for_help(words) => Some(Command::Help),
             "match" => Self::parse_match(words),
             "escape" => Some(Command::Escape {
                 text: only_operand(words)?,
             }),
             "find" => Some(Command::Find(Search::parse(words)?)),
-            "explain" => Self::parse_explain(words),
             "-h" | "--help" => Some(Command::Help),
             "--version" => Some(Command::Version),
             _ => None,
@@ -81,29 +73,6 @@ impl<'a> Command<'a> {
             if !settings.set(word) {
                 let pattern = only_operand(rest)?;
                 return Some(Command::Match { settings, pattern });
-            }
-            rest = after;
-        }
-        None
-    }
-}
-
-impl<'a> Command<'a> {
-    /// Reads the words after `explain`.
-    fn parse_explain(words: &[&'a str]) -> Option<Self>
-        ensures { option_map request_of result
-            ≡ pieces_request new_options (map (λ w. w.now) words.now) }
-    {
-        let mut options = MatchOptions::new();
-        let mut rest = words;
-        while let [word, after @ ..] = rest {
-            if !set_option(&mut options, word) {
-                let (pattern, text) = two_operands(rest)?;
-                return Some(Command::Explain {
-                    options,
-                    pattern,
-                    text,
-                });
             }
             rest = after;
         }
@@ -132,7 +101,7 @@ impl Settings {
             self.end = 0;
             return true;
         }
-        set_option(&mut self.options, word)
+        set_match_option(&mut self.options, word)
     }
 }
 
@@ -173,20 +142,6 @@ fn asks_for_help(words: &[&str]) -> bool
     matches!(words, [word, ..] if *word == "--help")
 }
 
-/// Sets the match option that the word names. False where it names none.
-fn set_option(options: &mut MatchOptions, word: &str) -> bool
-    ensures named { result ≡ is_match_option word.now }
-    ensures set { options.new ≡ with_option word.now options.old }
-{
-    match word {
-        "-i" => options.case_sensitive = false,
-        "-s" => options.require_literal_separator = true,
-        "-d" => options.require_literal_leading_dot = true,
-        _ => return false,
-    }
-    true
-}
-
 /// The one word that is left after the options. A word that begins with `-` can stand there only after `--`.
 fn only_operand<'a>(words: &[&'a str]) -> Option<&'a str>
     ensures { option_map (λ w. w.now) result ≡ operand_of (map (λ w. w.now) words.now) }
@@ -197,30 +152,5 @@ fn only_operand<'a>(words: &[&'a str]) -> Option<&'a str>
         [word] => Some(word),
         [dashes, word] => { if *dashes == "--" { Some(word) } else { None } }
         [_, _, _, ..] => None,
-    }
-}
-
-/// The two words that are left after the options. Words that begin with `-` can stand there only after `--`.
-fn two_operands<'a>(words: &[&'a str]) -> Option<(&'a str, &'a str)>
-    ensures { option_map (λ ws. (ws.0.now, ws.1.now)) result
-        ≡ operands_of (map (λ w. w.now) words.now) }
-{
-    match words {
-        [] | [_] => None,
-        [pattern, text] => {
-            if pattern.starts_with('-') || text.starts_with('-') {
-                None
-            } else {
-                Some((pattern, text))
-            }
-        }
-        [dashes, pattern, text] => {
-            if *dashes == "--" {
-                Some((pattern, text))
-            } else {
-                None
-            }
-        }
-        [_, _, _, _, ..] => None,
     }
 }

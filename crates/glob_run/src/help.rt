@@ -9,7 +9,6 @@ glob_run: Unix shell patterns for lines and paths
 
   glob_run match [-i] [-s] [-d] [-0] PATTERN            copy the matching lines of standard input
   glob_run find [-i] [-s] [-d] [-0] [-n LIMIT] PATTERN  write the paths of the disk that match
-  glob_run explain [-i] [-s] [-d] PATTERN TEXT          show which piece each part of PATTERN takes
   glob_run escape TEXT                                  write the pattern that stands for TEXT alone
   glob_run --help, -h                                   write this page, also after a command
   glob_run --version                                    write the version
@@ -43,11 +42,6 @@ Lines: match reads its input to the end before it writes anything. A line ends b
 The last one may lack it, and is written with one. A carriage return belongs to its line, so *.rs
 does not match a line that ends in it. A line that is not UTF-8 never matches.
 
-explain writes a line for each wildcard, bracket and character of the pattern, and after a tab the
-piece of the text that it takes. Where the text does not match, a caret shows where it stops, and
-the lines below say what is wanted there, which changed option gives a match, and what to write
-instead of a form of another tool. A caret under a pattern that is refused shows its fault.
-
 Paths: find walks from the current directory, or from / if the pattern begins with that. Each
 directory's names come in ascending byte order. If the pattern ends in / or **, only directories
 match. A directory that cannot be listed is a line on standard error, and the walk goes on.
@@ -56,6 +50,5 @@ Status:
   0         something matched, a text was escaped, or this page or the version was written
   1         nothing matched
   2         a fault, a directory that could not be listed, or the limit was reached
-A fault is one line on standard error. That of a pattern that explain refuses is followed by the
-pattern, the caret, and what to write instead.
+A fault is one line on standard error. glob_explain says why a pattern matches a text, or does not.
 ";

@@ -1,6 +1,6 @@
 //! Shell patterns at the command line. `glob_run match PATTERN` copies the matching lines of standard input,
 //! `glob_run escape TEXT` writes the pattern that stands for the text alone, and `glob_run find PATTERN` writes the paths
-//! of the disk that the pattern matches, and `glob_run explain PATTERN TEXT` which piece of a text each token takes.
+//! of the disk that the pattern matches.
 #![tactic(auto)]
 
 ghost use Rattle.std.specs.Prelude.{◌≡◌, ◌≢◌, ◌≤◌, List, ℕ, Some, None, IfOk, OnErr, chars, map, string_bytes};
@@ -10,24 +10,21 @@ ghost use Rattle.glob_tree.specs.Content.{Content};
 ghost use Rattle.glob_pattern.specs.Grammar.Units.{IsAccepted};
 ghost use Rattle.glob_lines.specs.Lines.{FiltersRecords, FiltersRecordBytes};
 ghost use Rattle.glob_walk.specs.Listing.{listing};
-ghost use Rattle.glob_pattern.specs.declared.options.MatchOptions.{MatchOptions};
 ghost use Rattle.glob_run.specs.CommandLine.{request_asked};
 ghost use Rattle.glob_console.specs.FoundPaths.{IsFindStatus, WritesFound, every};
 ghost use Rattle.glob_console.specs.Outcomes.{IsRefused, WritesText};
-ghost use Rattle.glob_run.specs.Outcomes.{CopiesRecords, Explains, IsEscapedLine, WritesEscaped};
-ghost use Rattle.glob_run.specs.Requests.{Escaped, Lines, Page, Paths, Pieces, VersionLine};
+ghost use Rattle.glob_run.specs.Outcomes.{CopiesRecords, IsEscapedLine, WritesEscaped};
+ghost use Rattle.glob_run.specs.Requests.{Escaped, Lines, Page, Paths, VersionLine};
 ghost use Rattle.glob_run.specs.declared.command.Settings.{Settings};
 ghost use Rattle.glob_run.specs.declared.help.TheConstants.{HELP, VERSION};
 
 mod borrowed;
 mod command;
-mod explain;
 mod find;
 mod help;
 
 use borrowed::Borrowed;
 use command::{Command, Settings};
-use explain::run_explain;
 use find::run_find;
 use glob_console::{ErrorLines, FOUND, UNFOUND, arguments, words_of, write_text};
 use glob_lines::{LineFault, Watch, filter_records};
@@ -46,9 +43,8 @@ const USAGE: &str =
 /// escaped or a page was written, 1 where nothing matched, 2 at a fault or where a walk met an error. `find` walks the
 /// tree.
 ///
-/// A fault is one line on `errors`, or more of a pattern that `explain` refuses; a fault of `errors` itself is dropped. A
-/// usage fault, or a fault of the pattern, leaves the output as it was. Tests, not clauses, show that neither the input nor
-/// the tree is asked then.
+/// A fault is one line on `errors`; a fault of `errors` itself is dropped. A usage fault, or a fault of the pattern, leaves
+/// the output as it was. Tests, not clauses, show that neither the input nor the tree is asked then.
 ///
 /// Over the input `"a.rs\nb.c\n"` the words `match` and `*.rs` write `"a.rs\n"`, and the status is 0.
 pub fn run_words<T: Tree, R: Read + Drop, W: Write, E: Write>(
@@ -84,12 +80,6 @@ pub fn run_words<T: Tree, R: Read + Drop, W: Write, E: Write>(
         → (c : Content) → IsTold (T.tells tree) c
         → WritesFound settings.end every (listing c settings.options pattern) limit
         (W.contents output.old) (W.contents output.new) result }
-    ensures unexplained { (options : MatchOptions) → (pattern text : List ℕ)
-        → request_asked (map (λ w. w.now) words.now) ≡ Some (Pieces options pattern text)
-        → (¬ (IsAccepted (chars pattern))) → IsRefused output.old output.new result }
-    ensures explained { (options : MatchOptions) → (pattern text : List ℕ)
-        → request_asked (map (λ w. w.now) words.now) ≡ Some (Pieces options pattern text)
-        → Explains options pattern text result }
     ensures page { request_asked (map (λ w. w.now) words.now) ≡ Some Page
         → WritesText HELP.now (W.contents output.old) (W.contents output.new) result }
     ensures version { request_asked (map (λ w. w.now) words.now) ≡ Some VersionLine
@@ -104,11 +94,6 @@ pub fn run_words<T: Tree, R: Read + Drop, W: Write, E: Write>(
             run_match(alloc, settings, pattern, input, output, errors)
         }
         Command::Escape { text } => run_escape(alloc, text, output, errors),
-        Command::Explain {
-            options,
-            pattern,
-            text,
-        } => run_explain(alloc, options, pattern, text, output, errors),
         Command::Find(search) => run_find(alloc, tree, search, output, errors),
         Command::Help => write_text(help::HELP, output, errors),
         Command::Version => write_text(help::VERSION, output, errors),

@@ -1,8 +1,8 @@
 -- What the rest asks for under the options so far is what all words ask for.
 use Rattle.std.proofs.Common.{◌≡◌, length, map}
 use Rattle.glob_pattern.specs.Matching.Options.{new_options}
-use Rattle.glob_run.specs.CommandLine.{pieces_request}
-use Rattle.glob_run.proofs.command.Command.parse_explain.Given as goal
+use Rattle.glob_explain.specs.CommandLine.{pieces_request}
+use Rattle.glob_explain.proofs.command.Command.parse_texts.Given as goal
 
 abbrev pub invariant-loop-rest : goal.invariant-loop-rest
 invariant-loop-rest l =
