@@ -14,8 +14,8 @@ words      500 docs/IGNORE.md
 words     1000 docs/ARGUMENT.md
 words     1500 docs/PERFORMANCE.md
 words     2000 docs/PROOFS.md docs/FAULTS.md
-words     3500 docs/DECISIONS.md docs/DIFFERENCES.md CONTRIBUTING.md CHANGELOG.md bench/README.md man/glob_run.1
-words      900 man/glob_files.1 man/glob_ignore.1
+words     3400 docs/DECISIONS.md docs/DIFFERENCES.md CONTRIBUTING.md CHANGELOG.md bench/README.md man/glob_run.1
+words     1050 man/glob_explain.1 man/glob_files.1 man/glob_ignore.1
 edits      110 all crates
 functions  160 glob_pattern
 '
