@@ -2,7 +2,7 @@
 # Runs the static library for C and Rust: calls from C under valgrind and the sanitizers, the example, and the tests of
 # the Cargo crate; and beside the Rust crate `glob`, of the Debian package librust-glob-dev, a million random matches,
 # 5,000 walks (or WALKS) and programs of users. What is not installed is left out, and said. Its last line is
-# 'N passed, M failed'. Ended by a signal, it ends what it started. Its arguments go to bin/c_library.
+# 'N passed, M failed'. Ended by a signal, it ends what it started. With --built it takes what is built of the library.
 set -uo pipefail
 root=$(cd "$(dirname "$(readlink -f "${BASH_SOURCE[0]}")")/.." && pwd)
 . "$root/tests/lib/commands.sh"

@@ -1,6 +1,7 @@
-"""The library of the toolchain's command rt, for scripts that need more than its words, and a way to take what it built to
-another folder. TOOLCHAIN names the toolchain that has it so."""
+"""The toolchain's command rt and its library, for scripts that need more than its words, and a way to take what it built to
+another folder. TOOLCHAIN names the toolchain that has them so."""
 
+import importlib.machinery
 import importlib.util
 import os
 import shutil
@@ -9,17 +10,26 @@ import sys
 from pathlib import Path
 
 
-def rtlib():
-    """Its library, or None where the toolchain has none."""
+def module(name, file):
+    """A Python file of the toolchain, or None where it has none."""
     page = subprocess.run(["rt", "doc"], stdout=subprocess.PIPE, text=True, check=False).stdout.strip()
-    file = Path(page).parent / "bin/rtlib.py"
+    file = Path(page).parent / "bin" / file
     if not page or not file.is_file():
         return None
     sys.dont_write_bytecode = True
-    spec = importlib.util.spec_from_file_location("rtlib", file)
-    sys.modules["rtlib"] = importlib.util.module_from_spec(spec)
-    spec.loader.exec_module(sys.modules["rtlib"])
-    return sys.modules["rtlib"]
+    loader = importlib.machinery.SourceFileLoader(name, str(file))
+    sys.modules[name] = importlib.util.module_from_spec(importlib.util.spec_from_loader(name, loader))
+    loader.exec_module(sys.modules[name])
+    return sys.modules[name]
+
+
+def rtlib():
+    return module("rtlib", "rtlib.py")
+
+
+def command():
+    """The command rt, which loads a library of its own."""
+    return module("rt_command", "rt")
 
 
 def link(source, target):
