@@ -104,6 +104,10 @@ else
 fi
 cd "$work/files" || exit
 
+: >"$work/in"
+refused 'a search' -x target -x .git '**/*.rs'
+refused 'a search by rules of a file' --ignore rules '*.o'
+
 program=$root/bin/glob_ignore binary=$root/crates/glob_ignore/out/glob_ignore
 pages -h '--help list'
 each_row ignore.txt try
@@ -151,6 +155,11 @@ done
 status=$? && : >"$work/err"
 check 'a fault that cannot be reported' 2 '' ''
 
+# Each request for memory refused in turn.
+printf 'a.o\nb.c\n' >"$work/in"
+printf 'a\n[\303\251]\n' >beyond
+refused 'a copy of paths' rules
+refused 'a refused line' beyond
 # Memory that lacks for the input, and for the rules.
 printf 'a.o\nb.c\n' >"$work/in"
 ends_within "$(needed "$binary" rules)" rules
@@ -194,6 +203,12 @@ done
 status=$?
 check 'explain by the launcher of glob_run' 0 'a\ta\n?\tb\n' ''
 : >"$work/in"
+for words in 'a? ab' 'a? b' '*.{c,h} a.c' 'a** a' a; do
+    set -f
+    # shellcheck disable=SC2086 # a word for each
+    refused "the words $words" $words
+    set +f
+done
 marks=$(printf '%2000s' '' | tr ' ' '?')
 ends_within "$(needed "$binary" a a)" "$marks" "$marks"
 check 'just too little memory to explain, and just enough' '' \

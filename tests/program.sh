@@ -201,6 +201,17 @@ ends_within "$little" escape "$marks"
 check 'just too little memory to escape, and just enough' '' \
     'not started\nstatus 0: [?][?][?][?][?][?][?\nstatus 2: out of memory\n' ''
 
+# Each request for memory refused in turn.
+printf 'a.rs\nb.c\nabc.rs\n' >"$work/in"
+refused match match '*.rs'
+refused 'a match of many tokens' match "$(printf '%64s' '' | sed 's/ /*/g; s/\*/*[a-z]/g')*.rs"
+refused 'a fault of a pattern' match 'abc[def'
+refused escape escape 'a*[b]'
+refused 'a page' --help
+refused 'a usage fault' match
+(cd "$root" && refused find find 'docs/**/A*.md' && refused 'find with a fault' find 'a**b' && echo "$passed $failed" >"$work/done")
+read -r passed failed <"$work/done"
+
 # A signal, while the program waits for more input.
 mkfifo "$work/input"
 exec 3<>"$work/input"

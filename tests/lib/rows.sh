@@ -159,3 +159,38 @@ try() {
     run "${words[@]}" <"$work/in"
     if [ $# = 1 ]; then check "$1" 2 '' "$usage"; else check "$1" "$3" "${4-}" "${5-}"; fi
 }
+
+# scarce NUMBER WORD..: runs the program as it is built on $work/in, and its request for memory of this number is refused, or
+# none at 0. In $work/counted is how many there were, and how many blocks are left
+scarce() {
+    REFUSED=$1 COUNTED=$work/counted LD_PRELOAD=$work/refusing.so "$binary" "${@:2}" \
+        <"$work/in" >"$work/out" 2>"$work/err"
+    status=$?
+}
+
+# refused NAME WORD..: each request for memory of the program on these words is refused in turn. It has to end as with ample
+# memory, or with status 2, a line that ends in `out of memory` and the first bytes of the output. No block is left
+refused() {
+    local name=$1 asked held number ample
+    shift
+    [ -f "$work/refusing.so" ] || gcc -shared -fPIC -O1 "$root/tests/lib/refusing.c" -o "$work/refusing.so" 2>/dev/null ||
+        { skip "$name" 'there is no gcc'; return; }
+    scarce 0 "$@"
+    read -r asked held <"$work/counted"
+    ample=$status
+    cp "$work/out" "$work/ample.out" && cp "$work/err" "$work/ample.err"
+    : >"$work/wrong"
+    for ((number = 1; number <= asked; number++)); do
+        scarce "$number" "$@"
+        read -r _ held <"$work/counted"
+        [ "$held" = 0 ] || echo "request $number: $held blocks are left" >>"$work/wrong"
+        [ "$status" != "$ample" ] || ! cmp -s "$work/out" "$work/ample.out" || ! cmp -s "$work/err" "$work/ample.err" ||
+            continue
+        [ "$status" = 2 ] && [ "$(grep -c 'out of memory$' "$work/err")" = 1 ] && [ "$(wc -l <"$work/err")" = 1 ] &&
+            cmp -s "$work/out" <(head -c "$(wc -c <"$work/out")" "$work/ample.out") ||
+            echo "request $number: status $status: $(head -c 100 "$work/err")" >>"$work/wrong"
+    done
+    [ "$asked" -gt 1 ] || echo "$asked requests" >>"$work/wrong"
+    mv "$work/wrong" "$work/out" && : >"$work/err" && status=
+    check "each request of $name is refused" '' '' ''
+}

@@ -1,5 +1,4 @@
 mod counted_tree;
-mod memory;
 mod order;
 mod runs;
 mod waiting;
