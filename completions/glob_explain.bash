@@ -1,8 +1,9 @@
 # Completions of glob_explain for bash.
 
 _glob_explain() {
-    local word=${COMP_WORDS[COMP_CWORD]} options='-i -s -d -- --help -h --version' i
+    local word=${COMP_WORDS[COMP_CWORD]} options='-i -s -d --' i
     COMPREPLY=()
+    [ "$COMP_CWORD" != 1 ] || options+=' --help -h --version'
     # After -- or the pattern no option stands.
     for ((i = 1; i < COMP_CWORD; i++)); do
         case ${COMP_WORDS[i]} in

@@ -105,8 +105,8 @@ fi
 cd "$work/files" || exit
 
 : >"$work/in"
-refused 'a search' -x target -x .git '**/*.rs'
-refused 'a search by rules of a file' --ignore rules '*.o'
+refuses_each 'a search' 0 -x target -x .git '**/*.rs'
+refuses_each 'a search by rules of a file' 0 --ignore rules '*.o'
 
 program=$root/bin/glob_ignore binary=$root/crates/glob_ignore/out/glob_ignore
 pages -h '--help list'
@@ -158,8 +158,8 @@ check 'a fault that cannot be reported' 2 '' ''
 # Each request for memory refused in turn.
 printf 'a.o\nb.c\n' >"$work/in"
 printf 'a\n[\303\251]\n' >beyond
-refused 'a copy of paths' rules
-refused 'a refused line' beyond
+refuses_each 'a copy of paths' 0 rules
+refuses_each 'a refused line' 2 beyond
 # Memory that lacks for the input, and for the rules.
 printf 'a.o\nb.c\n' >"$work/in"
 ends_within "$(needed "$binary" rules)" rules
@@ -190,6 +190,8 @@ advises() {
 each_row explain.txt try
 each_row advice.txt advises
 
+unfed 'a?' ab
+check 'no input is read' 0 'a\ta\n?\tb\n' ''
 row 'a text that is too large to explain' 2 '' "the pattern's tokens times the text's bytes are more than 67108864\n" \
     "$(printf '%8193s' '' | tr ' ' '?')" "$(printf '%8192s' '' | tr ' ' a)"
 run a $'\xff'
@@ -203,12 +205,11 @@ done
 status=$?
 check 'explain by the launcher of glob_run' 0 'a\ta\n?\tb\n' ''
 : >"$work/in"
-for words in 'a? ab' 'a? b' '*.{c,h} a.c' 'a** a' a; do
-    set -f
-    # shellcheck disable=SC2086 # a word for each
-    refused "the words $words" $words
-    set +f
-done
+refuses_each 'a text that matches' 0 'a?' ab
+refuses_each 'a text that does not match' 1 'a?' b
+refuses_each 'advice' 1 '*.{c,h}' a.c
+refuses_each 'a refused pattern' 2 'a**' a
+refuses_each 'a usage fault of explain' 2 a
 marks=$(printf '%2000s' '' | tr ' ' '?')
 ends_within "$(needed "$binary" a a)" "$marks" "$marks"
 check 'just too little memory to explain, and just enough' '' \

@@ -1,6 +1,6 @@
 #!/usr/bin/env python3
 """Runs each example of the man pages, and each call of glob_run that the README shows. Checks the man pages where `mandoc` or `groff` is installed, asks
-bash, fish and zsh what the completions of glob_run offer, installs all of it, and compares what the launcher answers before
+bash, fish and zsh what the completions offer, installs all of it, and compares what the launcher answers before
 anything is built. Prints what is wrong, and last how many checks passed and failed."""
 
 import contextlib
@@ -41,6 +41,10 @@ COMPLETIONS = [
     ("glob_run match fo", ""),
     ("glob_run escape -", "--"),
     ("glob_run --help ", ""),
+    ("glob_explain -", "-- --help --version -d -h -i -s"),
+    ("glob_explain -i -", "-- -d -i -s"),
+    ("glob_explain -- -", ""),
+    ("glob_explain a -", ""),
 ]
 
 FISH = {
@@ -53,6 +57,8 @@ FISH = {
     "glob_run find -n 5 fo": "folder/",
     "glob_run find -- fo": "folder/",
     "glob_run escape -": "",
+    "glob_explain -": "--help --version -d -h -i -s",
+    "glob_explain -i -": "-d -i -s",
 }
 
 ZSH = {
@@ -64,6 +70,8 @@ ZSH = {
     # It has no unquoted [ after a name.
     "glob_run find br[[]1": "",
     "glob_run escape -": "",
+    "glob_explain -": "--help --version -d -h -i -s",
+    "glob_explain -i -": "-d -i -s",
 }
 
 # What zsh reads at its start in a terminal: it completes each line of the file ASKED, and writes a line with all that it
@@ -148,10 +156,10 @@ def completion_faults(line, wanted, folder):
         read -r -a COMP_WORDS <<<"$2"
         [ "${2% }" = "$2" ] || COMP_WORDS+=('')
         COMP_CWORD=$((${#COMP_WORDS[@]} - 1))
-        _glob_run
+        "_${COMP_WORDS[0]}"
         printf '%s\\n' "${COMPREPLY[@]}"
     """
-    words = ["bash", "-c", script, "bash", ROOT / "completions/glob_run.bash", line]
+    words = ["bash", "-c", script, "bash", ROOT / f"completions/{line.split()[0]}.bash", line]
     ran = subprocess.run(words, cwd=folder, capture_output=True, text=True)
     offered = " ".join(sorted(ran.stdout.split()))
     return [] if (offered, ran.stderr) == (wanted, "") else [f"{line}: {offered} {ran.stderr}"]
@@ -169,7 +177,7 @@ def fish_faults(line, wanted, folder):
     if not shutil.which("fish"):
         return None
     script = "source $argv[1]; complete -C $argv[2]"
-    words = ["fish", "--no-config", "-c", script, "--", ROOT / "completions/glob_run.fish", line]
+    words = ["fish", "--no-config", "-c", script, "--", ROOT / f"completions/{line.split()[0]}.fish", line]
     ran = subprocess.run(words, cwd=folder, capture_output=True, text=True)
     offered = " ".join(sorted(it.split("\t")[0] for it in ran.stdout.splitlines()))
     return [] if (offered, ran.stderr) == (wanted, "") else [f"fish: {line}: {offered} {ran.stderr}"]

@@ -202,15 +202,18 @@ check 'just too little memory to escape, and just enough' '' \
     'not started\nstatus 0: [?][?][?][?][?][?][?\nstatus 2: out of memory\n' ''
 
 # Each request for memory refused in turn.
-printf 'a.rs\nb.c\nabc.rs\n' >"$work/in"
-refused match match '*.rs'
-refused 'a match of many tokens' match "$(printf '%64s' '' | sed 's/ /*/g; s/\*/*[a-z]/g')*.rs"
-refused 'a fault of a pattern' match 'abc[def'
-refused escape escape 'a*[b]'
-refused 'a page' --help
-refused 'a usage fault' match
-(cd "$root" && refused find find 'docs/**/A*.md' && refused 'find with a fault' find 'a**b' && echo "$passed $failed" >"$work/done")
-read -r passed failed <"$work/done"
+printf 'a.rs\nb.c\n%s.rs\n' "$(printf 'a%.0s' {1..70})" >"$work/in"
+refuses_each match 0 match '*.rs'
+refuses_each 'a match of many tokens' 0 match "$(printf '*[a-z]%.0s' {1..64}).rs"
+refuses_each 'a fault of a pattern' 2 match 'abc[def'
+refuses_each escape 0 escape 'a*[b]'
+refuses_each 'a page' 0 --help
+refuses_each 'a usage fault' 2 match
+cd "$root" || exit
+refuses_each find 0 find 'docs/**/A*.md'
+refuses_each 'find with a limit' 2 find -0 -n 9 '*'
+refuses_each 'find with a fault' 2 find 'a**b'
+cd "$OLDPWD" || exit
 
 # A signal, while the program waits for more input.
 mkfifo "$work/input"

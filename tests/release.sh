@@ -67,7 +67,9 @@ mkdir "$work/there"
 check 'it is unpacked' tar -C "$work/there" -xf "$work/made"/*.tar.gz
 check 'the program' alone program
 check 'the filter' alone bash -c '[ "$(printf "a.o\nb.c\n" | bin/glob_ignore <(echo "*.o"))" = b.c ]'
-check 'their man pages' alone bash -c '[ "$(ls share/man/man1 | wc -l)" = 4 ]'
+for name in $("$root/bin/lib/programs"); do
+    check "the man page of $name" alone test -s "share/man/man1/$name.1"
+done
 if_there pkg-config 'from C' alone from_c
 if_there cargo 'from Rust' alone from_rust
 check 'what it was made from' alone built

@@ -1,5 +1,5 @@
-// Loaded before a program (LD_PRELOAD), refuses its request for memory of the number REFUSED, counted from 1, or none at 0.
-// At its end it writes how many requests there were to the file COUNTED, and how many blocks it still holds.
+// Preloaded into a program: its request number REFUSED for memory, counted from 1, fails; 0 refuses none. At the end it
+// writes to the file COUNTED how many requests there were and how many blocks are still held.
 #include <stdio.h>
 #include <stdlib.h>
 

@@ -161,36 +161,38 @@ try() {
 }
 
 # scarce NUMBER WORD..: runs the program as it is built on $work/in, and its request for memory of this number is refused, or
-# none at 0. In $work/counted is how many there were, and how many blocks are left
+# none at 0. Sets $asked, how many there were, and $held, how many blocks are left
 scarce() {
+    rm -f "$work/counted"
     REFUSED=$1 COUNTED=$work/counted LD_PRELOAD=$work/refusing.so "$binary" "${@:2}" \
         <"$work/in" >"$work/out" 2>"$work/err"
     status=$?
-}
+    read -r asked held <"$work/counted" || asked=0 held='unknown'
+} 2>/dev/null
 
-# refused NAME WORD..: each request for memory of the program on these words is refused in turn. It has to end as with ample
-# memory, or with status 2, a line that ends in `out of memory` and the first bytes of the output. No block is left
-refused() {
-    local name=$1 asked held number ample
-    shift
-    [ -f "$work/refusing.so" ] || gcc -shared -fPIC -O1 "$root/tests/lib/refusing.c" -o "$work/refusing.so" 2>/dev/null ||
-        { skip "$name" 'there is no gcc'; return; }
+# refuses_each NAME STATUS WORD..: with ample memory the program ends on these words with the status. Then each of its
+# requests for memory is refused in turn: it ends in the same way, or with status 2, a line that ends in `out of memory` and
+# the first bytes of the output. No block is left
+refuses_each() {
+    local name=$1 wanted=$2 asked held number most
+    shift 2
+    has_gcc=${has_gcc-$(command -v gcc)}
+    [ -n "$has_gcc" ] || { skip "each request of $name" 'there is no gcc'; return; }
+    [ -f "$work/refusing.so" ] || gcc -shared -fPIC -O1 "$root/tests/lib/refusing.c" -o "$work/refusing.so"
     scarce 0 "$@"
-    read -r asked held <"$work/counted"
-    ample=$status
     cp "$work/out" "$work/ample.out" && cp "$work/err" "$work/ample.err"
-    : >"$work/wrong"
-    for ((number = 1; number <= asked; number++)); do
+    { [ "$status" = "$wanted" ] && [ "$asked" -gt 1 ]; } || echo "status $status, $asked requests" >"$work/wrong"
+    most=$asked
+    for ((number = 1; number <= most; number++)); do
         scarce "$number" "$@"
-        read -r _ held <"$work/counted"
-        [ "$held" = 0 ] || echo "request $number: $held blocks are left" >>"$work/wrong"
-        [ "$status" != "$ample" ] || ! cmp -s "$work/out" "$work/ample.out" || ! cmp -s "$work/err" "$work/ample.err" ||
+        [ "$held" = 0 ] || echo "request $number: blocks that are left: $held" >>"$work/wrong"
+        [ "$status" != "$wanted" ] || ! cmp -s "$work/out" "$work/ample.out" || ! cmp -s "$work/err" "$work/ample.err" ||
             continue
         [ "$status" = 2 ] && [ "$(grep -c 'out of memory$' "$work/err")" = 1 ] && [ "$(wc -l <"$work/err")" = 1 ] &&
             cmp -s "$work/out" <(head -c "$(wc -c <"$work/out")" "$work/ample.out") ||
             echo "request $number: status $status: $(head -c 100 "$work/err")" >>"$work/wrong"
     done
-    [ "$asked" -gt 1 ] || echo "$asked requests" >>"$work/wrong"
+    : >>"$work/wrong"
     mv "$work/wrong" "$work/out" && : >"$work/err" && status=
     check "each request of $name is refused" '' '' ''
 }
