@@ -241,7 +241,7 @@ module _ (o : MatchOptions) (tokens : List Token) (bytes : List ℕ) (start lead
       (λ taken. false≢true (sym (rw token_first at none) ∙ (sym (tables.takes start start (omega arith)) ∙ taken))) (omega arith) (Splits-from_TokensMatch o tokens text match)
 
 -- nothing is decided at first
-IsTrim-nothing : (o : MatchOptions) (tokens : List Token) (bytes : List ℕ) → IsTrim o tokens bytes 0 0
+pub IsTrim-nothing : (o : MatchOptions) (tokens : List Token) (bytes : List ℕ) → IsTrim o tokens bytes 0 0
 IsTrim-nothing o tokens bytes = record {
   ones = record { within = omega arith; first = λ j lt. absurd (omega arith); last = λ i lt. absurd (omega arith) };
   within = omega arith;
