@@ -14,3 +14,30 @@ loop-trail-preserved g c =
     let same : length (map shape_of tokens) - 1 - c.loop-trail.trail ≡ place = omega (arith, long) in
     HasOnes-last (map shape_of tokens) c.args.lead c.loop-trail.trail c.loop-trail.invariant (omega (arith, long))
     (rw same (mapped_at shape_of tokens place c.index-tokens-tokens.result One (omega arith) c.index-tokens-tokens.is ∙ sym c.shape.ensures ∙ one))
+
+pub loop-trail-init : goal.loop-trail-init
+loop-trail-init g c = c.requires
+
+pub overflow_add-lead : goal.overflow_add-lead
+overflow_add-lead g c = omega (arith, c.loop-trail.invariant.within, length-map c.args.tokens.now shape_of)
+
+pub overflow_sub-tokens : goal.overflow_sub-tokens
+overflow_sub-tokens g c = omega (arith, c.loop-trail.invariant.within, length-map c.args.tokens.now shape_of)
+
+pub overflow_sub-tokens-in-loop-trail : goal.overflow_sub-tokens-in-loop-trail
+overflow_sub-tokens-in-loop-trail g c = omega (arith, c.loop-trail.invariant.within, length-map c.args.tokens.now shape_of)
+
+pub overflow_add-trail : goal.overflow_add-trail
+overflow_add-trail g c = omega (arith, c.loop-trail.invariant.within, length-map c.args.tokens.now shape_of)
+
+pub offset_bounds-tokens-tokens : goal.offset_bounds-tokens-tokens
+offset_bounds-tokens-tokens g c = omega arith
+
+pub bounds-tokens-tokens : goal.bounds-tokens-tokens
+bounds-tokens-tokens g c = omega arith
+
+pub returns-else-eq : goal.returns-else-eq
+returns-else-eq g c = c.loop-trail.invariant
+
+pub returns-after-loop-trail : goal.returns-after-loop-trail
+returns-after-loop-trail g c = c.loop-trail.invariant
