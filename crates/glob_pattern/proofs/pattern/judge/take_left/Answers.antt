@@ -1,6 +1,7 @@
-use Rattle.std.proofs.Common.{◌≡◌, ℕ, ◌+◌, ◌*◌, ◌∙◌, get_or, ap, sym, arith}
+use Rattle.std.proofs.Common.{◌≡◌, ℕ, ◌+◌, ◌-◌, ◌*◌, ◌∙◌, get_or, refl, ap, sym, arith}
 use Rattle.std.specs.Int.{trailing_zeros, w64}
 use Rattle.std.proofs.lemmas.List.{get_or_default}
+use Rattle.std.proofs.lemmas.Nat.{and_le_r}
 use Rattle.glob_pattern.specs.Matching.Taking.{takes}
 use Rattle.glob_pattern.specs.declared.token.Token.TheVariants.{AnyChar}
 use Rattle.std.proofs.lemmas.Bool.{false≢true}
@@ -46,3 +47,29 @@ loop-rest-preserved g c =
             | else-takes w ↦ rw w.took-is (next-left P c.loop-rest.took _ (λ p. absurd (false≢true (sym w.if-takes.false ∙ value ∙ p))))
           ]);
     }
+
+pub loop-rest-init : goal.loop-rest-init
+loop-rest-init g c = record {
+  within = λ j s. s;
+  took = λ j lt. (λ s. absurd (s refl), λ h. absurd (h.1 h.0));
+}
+
+pub returns : goal.returns
+returns g c = λ j lt.
+    let took = c.loop-rest.invariant.took j lt in
+    (λ s. let t = took.0 s in (t.0, t.2), λ h. took.1 (h.0, (λ s. (rw c.loop-rest-test.false at s) refl), h.1))
+
+pub overflow_cast-bit : goal.overflow_cast-bit
+overflow_cast-bit g c = omega (arith, (lowest_set c.loop-rest.rest (omega arith) (omega arith)).0)
+
+pub overflow_cast-took : goal.overflow_cast-took
+overflow_cast-took g c = omega (arith, (lowest_set c.loop-rest.rest (omega arith) (omega arith)).0)
+
+pub overflow_shl-took : goal.overflow_shl-took
+overflow_shl-took g c = omega (arith, (lowest_set c.loop-rest.rest (omega arith) (omega arith)).0)
+
+pub overflow_sub-rest : goal.overflow_sub-rest
+overflow_sub-rest g c = omega arith
+
+pub loop-rest-smaller : goal.loop-rest-smaller
+loop-rest-smaller g c = omega (arith, and_le_r c.loop-rest.rest (c.loop-rest.rest - 1))
