@@ -22,7 +22,7 @@ pub enum Command<'a> {
 }
 
 /// Why a list of words asks nothing: the word that is wrong.
-#[derive(Clone, Copy, Debug, Drop)]
+#[derive(Clone, Copy, Drop)]
 pub enum UsageFault<'a> {
     /// A word that begins with `-`, and is no option.
     UnknownOption(&'a str),

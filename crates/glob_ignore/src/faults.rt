@@ -6,7 +6,7 @@ use std::fmt;
 use std::io::{self, ErrorKind};
 
 /// A fault of a run. It prints as one line, without the program's name.
-#[derive(Debug, Drop)]
+#[derive(Drop)]
 pub enum Fault<'a> {
     /// The words ask nothing.
     Usage(UsageFault<'a>),

@@ -4,7 +4,7 @@ ghost use Rattle.glob_rules.specs.Classes.{class_has, class_named, before_close}
 ghost use Rattle.glob_rules.specs.Private.ClassTables.{class_in};
 
 /// A class of characters, as git has it: all of them are ASCII.
-#[derive(Clone, Copy, Debug, PartialEq, Eq)]
+#[derive(Clone, Copy)]
 pub enum Class {
     /// Letters and digits.
     Alnum,

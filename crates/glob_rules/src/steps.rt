@@ -7,7 +7,7 @@ use crate::error::Reason;
 
 /// What the bytes so far end with. In a rule with a separator `plain` says that all of them are plain text, and
 /// `opening` that a component begins; in a rule without one, both are false.
-#[derive(Clone, Copy, Debug, PartialEq, Eq)]
+#[derive(Clone, Copy)]
 pub enum Mode {
     /// The end of a unit: `plain` and `opening`.
     Units(bool, bool),
@@ -40,7 +40,7 @@ pub enum Mode {
 }
 
 /// Characters of a bracket.
-#[derive(Clone, Copy, Debug, PartialEq, Eq)]
+#[derive(Clone, Copy)]
 pub enum Span {
     /// From the first to the last. If the last is before the first, there are none.
     Between(u8, u8),
@@ -49,7 +49,7 @@ pub enum Span {
 }
 
 /// What a byte does to the characters of the bracket that is read.
-#[derive(Clone, Copy, Debug, PartialEq, Eq)]
+#[derive(Clone, Copy)]
 pub enum Change {
     /// They stay.
     Keep,
@@ -60,7 +60,7 @@ pub enum Change {
 }
 
 /// What is written at the end of the pattern.
-#[derive(Clone, Copy, Debug, PartialEq, Eq)]
+#[derive(Clone, Copy)]
 pub enum Writing {
     /// Nothing.
     Nothing,
@@ -77,7 +77,7 @@ pub enum Writing {
 }
 
 /// What a byte does.
-#[derive(Clone, Copy, Debug, PartialEq, Eq)]
+#[derive(Clone, Copy)]
 pub struct Step {
     /// What the bytes then end with.
     pub mode: Mode,
