@@ -1,9 +1,47 @@
+use Rattle.std.proofs.Common.{◌≡◌, ℕ, List, [], ◌++◌, ◌∷◌, Option, Some, None, OnErr, sym, ap, subst, ◌∙◌, append-nil, append_assoc}
+use Rattle.std.specs.Io.KnownBytes.{Appends}
 use Rattle.std.proofs.KnownBytes.{Keeps-refl}
+use Rattle.std.proofs.lemmas.Result.{err_from_is_err_and, on_ok_weaker}
+use Rattle.glob_lines.specs.Lines.{AppendsFront, ended_record}
 use Rattle.glob_console.proofs.WritingLemmas.{AppendsFront-none, OnErr-from}
 use Rattle.glob_console.proofs.find.lines.Lines.add.Goals as goal
+
+-- nothing is written
+Appends-none : (known : Option (List ℕ)) → Appends known known []
+Appends-none None = tt
+Appends-none (Some xs) = sym (append-nil xs)
+
+-- what waits once a text and its end follow
+waits_more : (waiting text with_text all : List ℕ) (end : ℕ) → with_text ≡ waiting ++ text → all ≡ with_text ++ end ∷ []
+    → all ≡ waiting ++ ended_record end text
+waits_more waiting text with_text all end first second = second ∙ ap (λ l. l ++ end ∷ []) first ∙ append_assoc waiting text (end ∷ [])
+
+pub returns-in_err-extend_from_slice-clause-line : goal.returns-in_err-extend_from_slice-clause-line
+returns-in_err-extend_from_slice-clause-line g c = rw (err_from_is_err_and c.from_residual.result c.from_residual.ensures.1).1 tt
 
 pub returns-in_err-extend_from_slice-clause-some : goal.returns-in_err-extend_from_slice-clause-some
 returns-in_err-extend_from_slice-clause-some g c = OnErr-from _ (AppendsFront-none _ _ _ (Keeps-refl _))
 
+pub returns-in_err-push-clause-line : goal.returns-in_err-push-clause-line
+returns-in_err-push-clause-line g c = rw (err_from_is_err_and c.from_residual-in_err-push.result c.from_residual-in_err-push.ensures.1).1 tt
+
 pub returns-in_err-push-clause-some : goal.returns-in_err-push-clause-some
 returns-in_err-push-clause-some g c = OnErr-from _ (AppendsFront-none _ _ _ (Keeps-refl _))
+
+pub returns-then-len-lt-CAPACITY-clause-line : goal.returns-then-len-lt-CAPACITY-clause-line
+returns-then-len-lt-CAPACITY-clause-line g c =
+    let read = c.in_ok-extend_from_slice.ensures.items ∙ ap (λ bytes. c.args.self.now.waiting.items ++ bytes) c.as_bytes.ensures.value in
+    let more = waits_more c.args.self.now.waiting.items c.args.text.now c.extend_from_slice.new.self.items c.push.new.self.items c.args.end read c.in_ok-push.ensures.items in
+    ([], Appends-none (g.W.Write.contents c.args.output.now), sym more)
+
+pub returns-clause-line : goal.returns-clause-line
+returns-clause-line g c =
+    let read = c.in_ok-extend_from_slice.ensures.items ∙ ap (λ bytes. c.args.self.now.waiting.items ++ bytes) c.as_bytes.ensures.value in
+    let more = waits_more c.args.self.now.waiting.items c.args.text.now c.extend_from_slice.new.self.items c.push.new.self.items c.args.end read c.in_ok-push.ensures.items in
+    on_ok_weaker c.flush.result (λ q. (q.0, q.1, sym more ∙ sym (append-nil c.push.new.self.items) ∙ q.2)) c.flush.ensures.all
+
+pub returns-clause-some : goal.returns-clause-some
+returns-clause-some g c =
+    let read = c.in_ok-extend_from_slice.ensures.items ∙ ap (λ bytes. c.args.self.now.waiting.items ++ bytes) c.as_bytes.ensures.value in
+    let more = waits_more c.args.self.now.waiting.items c.args.text.now c.extend_from_slice.new.self.items c.push.new.self.items c.args.end read c.in_ok-push.ensures.items in
+    subst (λ bytes. OnErr c.flush.result (AppendsFront (g.W.Write.contents c.args.output.now) (g.W.Write.contents c.flush.new.output) bytes)) more c.flush.ensures.some
