@@ -1,8 +1,12 @@
-use Rattle.std.proofs.Common.{◌≡◌, ◌*◌, ◌++◌, ◌∷◌, [], get_or, ⊎_elim, sym, subst, arith, map}
+use Rattle.std.proofs.Common.{◌≡◌, ◌*◌, ◌++◌, ◌∷◌, [], length, get_or, ⊎_elim, ap, sym, subst, arith, map}
 use Rattle.std.proofs.lemmas.Bool.{cases_eq}
-use Rattle.std.proofs.lemmas.List.{length-append, get_or_append_left, get_or_push}
+use Rattle.std.proofs.lemmas.List.{length-append, length-map, get_or_append_left, get_or_push}
+use Rattle.std.proofs.lemmas.Result.{err_from_is_err_and}
 use Rattle.glob_pattern.specs.Private.Positions.{IsShapeWord}
 use Rattle.glob_pattern.proofs.matcher.shape_word.shape_words.Goals as goal
+
+pub loop-n-init : goal.loop-n-init
+loop-n-init g c = record { count = ap length c.in_ok-words.ensures.items; word = λ i d lt. absurd (omega (arith, lt)) }
 
 pub loop-n-preserved : goal.loop-n-preserved
 loop-n-preserved g c =
@@ -16,3 +20,29 @@ loop-n-preserved g c =
           (λ ne. let at : get_or (words ++ c.new.result ∷ []) m d ≡ get_or words m d = get_or_append_left words (c.new.result ∷ []) d m (omega (arith, ne, lt, i.count)) in rw at (i.word m d (omega arith)))
           (cases_eq m c.loop-n.n);
     })
+
+pub returns-in_err-words : goal.returns-in_err-words
+returns-in_err-words g c = rw (err_from_is_err_and c.from_residual.result c.from_residual.ensures.1).1 tt
+
+pub returns-in_err-push : goal.returns-in_err-push
+returns-in_err-push g c = rw (err_from_is_err_and c.from_residual-in_err-push.result c.from_residual-in_err-push.ensures.1).1 tt
+
+pub loop-n-smaller : goal.loop-n-smaller
+loop-n-smaller g c = omega arith
+
+pub overflow_mul-n : goal.overflow_mul-n
+overflow_mul-n g c = omega (arith, c.div_ceil.ensures, c.max-count.ensures)
+
+pub new-requires : goal.new-requires
+new-requires g c = omega (arith, c.div_ceil.ensures, c.max-count.ensures)
+
+pub returns : goal.returns
+returns g c =
+    let i = c.loop-n.invariant in
+    let long = length-map c.args.tokens.now g.T.Shaped.shape in
+    record {
+      some = omega (arith, i.count, c.max-count.ensures);
+      all = omega (arith, i.count, long, c.div_ceil.ensures, c.max-count.ensures);
+      few = omega (arith, i.count, long, c.div_ceil.ensures, c.max-count.ensures);
+      word = λ k d lt. i.word k d (omega (arith, lt, i.count));
+    }
