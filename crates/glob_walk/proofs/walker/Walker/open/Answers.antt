@@ -1,12 +1,14 @@
-use Rattle.std.proofs.Common.{cond, true, refl, rules, ◌≡◌, ◌+◌, ◌<◌, ◌++◌, length, drop, ap, sym, ◌∙◌, arith, subst}
+use Rattle.std.proofs.Common.{cond, true, refl, ◌≡◌, ℕ, ◌+◌, ◌<◌, ◌≤◌, List, ◌++◌, length, drop, ap, sym, ◌∙◌, arith, subst}
 use Rattle.std.specs.Prelude.{string_bytes, vec_len}
+use Rattle.std.specs.List.{sum_by}
 use Rattle.glob_tree.specs.Answers.{entries_of}
+use Rattle.glob_tree.specs.declared.tree.Entry.{Entry}
 use Rattle.glob_tree.proofs.ContentLemmas.Contents.{IsContent-from_test}
 use Rattle.glob_walk.specs.Walks.{StopsAt}
-use Rattle.glob_walk.specs.Private.Tasks.{enter_from, next_ready, IsNextSound}
-use Rattle.glob_walk.specs.Private.Frames.{frame_marks, cursor_marks}
-use Rattle.glob_walk.specs.Private.Stacks.{left, frames_marks}
-use Rattle.std.proofs.lemmas.Grind.{common_steps}
+use Rattle.glob_walk.specs.Private.Tasks.{enter_from, next_ready, question_of, IsNextSound}
+use Rattle.glob_walk.specs.Private.Frames.{frame_marks, cursor_marks, unmet}
+use Rattle.glob_walk.specs.Private.Stacks.{left, frames_marks, ready}
+use Rattle.std.proofs.lemmas.List.{length-map}
 use Rattle.glob_walk.specs.declared.frame.Cursor.TheVariants.{At, Parent}
 use Rattle.glob_walk.proofs.WalkLemmas.Kinds.{opened_answer}
 use Rattle.glob_walk.proofs.WalkLemmas.Listings.{held, is_cut}
@@ -15,15 +17,30 @@ use Rattle.glob_walk.proofs.WalkLemmas.Stacking.{left_none}
 use Rattle.glob_walk.proofs.walker.Walker.open.Goals.{then-is_dotted, else-is_dotted}
 use Rattle.glob_walk.proofs.walker.Walker.open.Goals as goal
 
+counted : (spent' spent n : ℕ) → spent' ≡ spent + n → spent' ≡ spent + n + 0
+counted spent' spent n e = omega arith
+
+entries_counted : {A : Type 0} (es : List (Entry A)) (spent' spent n m : ℕ) → spent' ≡ spent + n → m ≡ n → length es ≡ m → spent' ≡ spent + length (entries_of es)
+entries_counted es spent' spent n m e same long = simp length-map (omega arith)
+
+-- the entries that are still to be met are paid for
+ready_after : (r' r rest new n m spent spent' : ℕ) → r' ≤ r + rest + new → r ≡ 0 → new ≤ n → n ≡ m → spent' ≡ spent + m → r' + 0 + spent ≤ 1 + rest + spent'
+ready_after r' r rest new n m spent spent' more none few same e = omega arith
+
 pub returns-then-not-charge_entries : goal.returns-then-not-charge_entries
 returns-then-not-charge_entries g c =
-    let at : c.charge_entries.new.self.spent ≡ c.args.self.now.meter.limit = search rules in
-    let few : c.args.self.now.meter.limit < c.args.self.now.meter.spent + length c.args.entries.items = search rules in
+    let at : c.charge_entries.new.self.spent ≡ c.args.self.now.meter.limit = (c.charge_entries.ensures.refused c.if-not-charge_entries.true).0 in
+    let few : c.args.self.now.meter.limit < c.args.self.now.meter.spent + length c.args.entries.items =
+    omega (arith, (c.charge_entries.ensures.refused c.if-not-charge_entries.true).1, c.len.ensures, c.args.entries.ok.0) in
     record {
-      limit = search rules;
-      fits = search rules;
-      counts = search rules;
-      plan = search rules;
+      limit = c.charge_entries.ensures.limit;
+      fits = c.charge_entries.ensures.within;
+      counts = (
+        at ∙ sym c.charge_entries.ensures.limit,
+        omega (arith, few, c.charge_entries.ensures.limit, c.args.entries.ok.0),
+        omega (arith, at, c.requires.limit),
+      );
+      plan = refl;
       within = tt;
       asks = tt;
       ready = tt;
@@ -38,17 +55,18 @@ returns-then-not-charge_entries g c =
 pub returns-in-Ok : goal.returns-in-Ok
 returns-in-Ok g c =
     let cursor : c.if-is_dotted.cursor ≡ cond c.is_dotted.result Parent (At 0) = elim c.if-is_dotted.branch [ then-is_dotted w ↦ w.cursor-is ∙ sym (ap (λ b. cond b Parent (At 0)) w.if-is_dotted.true) | else-is_dotted w ↦ w.cursor-is ∙ sym (ap (λ b. cond b Parent (At 0)) w.if-is_dotted.false) ] in
-    let charged : c.charge_entries.new.self.spent ≡ c.args.self.now.meter.spent + vec_len c.args.entries = search rules in
+    let charged : c.charge_entries.new.self.spent ≡ c.args.self.now.meter.spent + vec_len c.args.entries =
+    c.charge_entries.ensures.charged c.if-not-charge_entries.false ∙ ap (λ n. c.args.self.now.meter.spent + n) c.len.ensures in
     record {
-      limit = search rules;
-      fits = search rules;
-      counts = search rules;
-      plan = search rules;
+      limit = c.charge_entries.ensures.limit;
+      fits = c.charge_entries.ensures.within;
+      counts = counted _ _ _ charged;
+      plan = c.open.ensures.plan;
       within = c.in-Ok.ensures.within;
-      asks = search rules;
-      ready = let r = c.in-Ok.ensures.ready in let f = first_unmet (vec_len c.sort_entries.new.entries) c.is_dotted.result c.if-is_dotted.cursor cursor in let l = c.sort_entries.ensures.len in
+      asks = ap question_of c.open.ensures.next;
+      ready = let r = c.in-Ok.ensures.ready in let f = first_unmet (length c.sort_entries.new.entries.items) c.is_dotted.result c.if-is_dotted.cursor cursor in let l = c.sort_entries.ensures.len in
           let none : next_ready c.args.self.now.stack.plan c.args.self.now.stack.next ≡ 0 = ap (next_ready c.args.self.now.stack.plan) c.requires.none in
-          grind (arith, common_steps, r, charged, f, l, none);
+          ready_after (ready c.open.new.self) (next_ready c.args.self.now.stack.plan c.args.self.now.stack.next) (sum_by unmet c.args.self.now.stack.frames.items) _ _ _ _ _ r none f (omega (arith, l, c.sort_entries.new.entries.ok.0)) charged;
       sound = λ c' w h. c.in-Ok.ensures.sound c' (record {
         entries = λ e in'. held_sound c' (IsContent-from_test c' w.0) c.args.self.now.stack.plan c.args.recursive c.args.component (string_bytes c.args.path) c.requires.listed.opens h.next e
             (held c' (string_bytes c.args.path) c.args.kinds c.args.entries.items c.sort_entries.new.entries.items w.1 c.sort_entries.ensures.permutation e in');
@@ -61,18 +79,19 @@ returns-in-Ok g c =
           c.if-is_dotted.cursor rest (left c' c.open.new.self) c.args.self.now.meter.spent c.charge_entries.new.self.spent
           (cursor ∙ ap (λ b. cond b Parent (At 0)) c.is_dotted.ensures)
           (c.in-Ok.ensures.left c' ∙ ap (λ ms. frame_marks c' c.args.self.now.stack.plan (record { path = c.args.path; component = c.args.component; recursive = c.args.recursive; entries = c.sort_entries.new.entries; cursor = c.if-is_dotted.cursor }) ++ ms) (sym (left_none c' c.args.self.now.stack c.requires.none)))
-          (let l : vec_len c.sort_entries.new.entries ≡ vec_len c.args.entries = c.sort_entries.ensures.len in grind (arith, common_steps, l, charged));
+          (entries_counted c.sort_entries.new.entries.items _ _ _ _ charged c.sort_entries.ensures.len (omega (arith, c.sort_entries.new.entries.ok.0)));
     }
 
 pub returns-in-Err : goal.returns-in-Err
 returns-in-Err g c =
     let cursor : c.if-is_dotted.cursor ≡ cond c.is_dotted.result Parent (At 0) = elim c.if-is_dotted.branch [ then-is_dotted w ↦ w.cursor-is ∙ sym (ap (λ b. cond b Parent (At 0)) w.if-is_dotted.true) | else-is_dotted w ↦ w.cursor-is ∙ sym (ap (λ b. cond b Parent (At 0)) w.if-is_dotted.false) ] in
-    let charged : c.charge_entries.new.self.spent ≡ c.args.self.now.meter.spent + vec_len c.args.entries = search rules in
+    let charged : c.charge_entries.new.self.spent ≡ c.args.self.now.meter.spent + vec_len c.args.entries =
+    c.charge_entries.ensures.charged c.if-not-charge_entries.false ∙ ap (λ n. c.args.self.now.meter.spent + n) c.len.ensures in
     record {
-      limit = search rules;
-      fits = search rules;
-      counts = search rules;
-      plan = search rules;
+      limit = c.charge_entries.ensures.limit;
+      fits = c.charge_entries.ensures.within;
+      counts = counted _ _ _ charged;
+      plan = c.open.ensures.plan;
       within = tt;
       asks = tt;
       ready = tt;
@@ -88,6 +107,6 @@ returns-in-Err g c =
                 c.if-is_dotted.cursor rest _ c.args.self.now.meter.spent c.charge_entries.new.self.spent
                 (cursor ∙ ap (λ b. cond b Parent (At 0)) c.is_dotted.ensures)
                 refl
-                (let l : vec_len c.sort_entries.new.entries ≡ vec_len c.args.entries = c.sort_entries.ensures.len in grind (arith, common_steps, l, charged));
+                (entries_counted c.sort_entries.new.entries.items _ _ _ _ charged c.sort_entries.ensures.len (omega (arith, c.sort_entries.new.entries.ok.0)));
           };
     }
