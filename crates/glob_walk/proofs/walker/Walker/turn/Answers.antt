@@ -1,19 +1,87 @@
-use Rattle.std.proofs.Common.{rules, refl, ◌≡◌, ◌++◌, None, ap, subst, sym, ◌∙◌}
+use Rattle.std.proofs.Common.{rules, refl, ◌≡◌, ◌++◌, None, Some, ap, subst, sym, ◌∙◌, arith}
+use Rattle.glob_walk.specs.Questions.{IsSomeContent}
+use Rattle.glob_walk.specs.declared.meter.Meter.{Meter}
+use Rattle.glob_walk.specs.declared.stack.Stack.{Stack}
+use Rattle.glob_walk.specs.declared.task.Sight.{Sight}
+use Rattle.glob_walk.specs.declared.task.Sight.TheVariants.{Seen, Unseen}
+use Rattle.glob_walk.specs.declared.task.Task.{Task}
+use Rattle.glob_walk.specs.declared.turn.Turn.{Turn}
 use Rattle.glob_walk.specs.Private.Tasks.{next_marks, IsNextSound}
-use Rattle.glob_walk.specs.Private.Stacks.{frames_marks}
+use Rattle.glob_walk.specs.Private.Stacks.{frames_marks, next_weight, sight_weight}
+use Rattle.glob_walk.specs.Private.Turns.{TurnsTo, with_task}
 use Rattle.glob_walk.proofs.WalkLemmas.Charging.{breaks_off, uncharged}
 use Rattle.glob_walk.proofs.walker.Walker.turn.Goals as goal
 
+-- the turn of a task that was taken off is one of the stack
+takes_task : {A : Type 0} (old new : Meter) (s s' : Stack A) (t : Task A) (x : Sight) (turn : Turn A) → s.next ≡ Some t → t.sight ≡ x
+    → TurnsTo IsSomeContent 0 old (with_task t.path t.component x s) turn new s' → TurnsTo IsSomeContent 0 old s turn new s'
+takes_task {A} old new s s' t x turn next is h =
+    let same : with_task t.path t.component x s ≡ s =
+    ap (λ y. with_task t.path t.component y s) (sym is) ∙ ap (λ n. record { plan = s.plan; next = n; frames = s.frames }) (sym next) in
+    subst (λ (z : Stack A). TurnsTo IsSomeContent 0 old z turn new s') same h
+
+pub go_on-requires-clause-none : goal.go_on-requires-clause-none
+go_on-requires-clause-none g c = c.take.ensures.after
+
+pub go_on-requires-clause-within : goal.go_on-requires-clause-within
+go_on-requires-clause-within g c = record { components = c.requires.within.components; going = c.requires.within.going }
+
+pub look-requires-clause-limit : goal.look-requires-clause-limit
+look-requires-clause-limit g c = c.requires.limit
+
+pub look-requires-clause-none : goal.look-requires-clause-none
+look-requires-clause-none g c = c.take.ensures.after
+
+pub look-requires-clause-within : goal.look-requires-clause-within
+look-requires-clause-within g c = record { components = c.requires.within.components; going = c.requires.within.going }
+
+pub enter-requires-clause-limit : goal.enter-requires-clause-limit
+enter-requires-clause-limit g c = c.requires.limit
+
+pub enter-requires-clause-none : goal.enter-requires-clause-none
+enter-requires-clause-none g c = c.take.ensures.after
+
+pub enter-requires-clause-within : goal.enter-requires-clause-within
+enter-requires-clause-within g c = record { components = c.requires.within.components; going = c.requires.within.going }
+
+pub returns-in-Ok-true-clause-falls : goal.returns-in-Ok-true-clause-falls
+returns-in-Ok-true-clause-falls g c = λ _. omega (arith, c.in-Ok-true.ensures.falls c.in-Ok-true.field-0-test, ap next_weight c.take.ensures.after)
+
+pub returns-in-Unseen-clause-falls : goal.returns-in-Unseen-clause-falls
+returns-in-Unseen-clause-falls g c = λ went. absurd (c.look.ensures.stops went)
+
+pub returns-in-Unseen-clause-idle : goal.returns-in-Unseen-clause-idle
+returns-in-Unseen-clause-idle g c = λ none _. let next : c.args.self.now.stack.next ≡ Some c.in-Some.task = sym c.take.ensures.value ∙ c.in-Some.is in cc
+
+pub returns-in-Unseen-clause-turn : goal.returns-in-Unseen-clause-turn
+returns-in-Unseen-clause-turn g c =
+    takes_task c.args.self.now.meter c.look.new.self.meter c.args.self.now.stack c.look.new.self.stack c.in-Some.task (Unseen c.in-Unseen.wanted)
+    c.look.result (sym c.take.ensures.value ∙ c.in-Some.is) c.in-Unseen.is c.look.ensures.turn
+
+pub returns-in-Seen-clause-falls : goal.returns-in-Seen-clause-falls
+returns-in-Seen-clause-falls g c = λ went.
+    let two : next_weight c.args.self.now.stack.next ≡ 2 =
+    ap next_weight (sym c.take.ensures.value ∙ c.in-Some.is) ∙ ap sight_weight c.in-Seen.is in
+    omega (arith, c.enter.ensures.falls went, ap next_weight c.take.ensures.after, two)
+
+pub returns-in-Seen-clause-idle : goal.returns-in-Seen-clause-idle
+returns-in-Seen-clause-idle g c = λ none _. let next : c.args.self.now.stack.next ≡ Some c.in-Some.task = sym c.take.ensures.value ∙ c.in-Some.is in cc
+
+pub returns-in-Seen-clause-turn : goal.returns-in-Seen-clause-turn
+returns-in-Seen-clause-turn g c =
+    takes_task c.args.self.now.meter c.enter.new.self.meter c.args.self.now.stack c.enter.new.self.stack c.in-Some.task (Seen c.in-Seen.is_dir)
+    c.enter.result (sym c.take.ensures.value ∙ c.in-Some.is) c.in-Seen.is c.enter.ensures.turn
+
 pub returns-in-Ok-true-clause-turn : goal.returns-in-Ok-true-clause-turn
 returns-in-Ok-true-clause-turn g c =
-    let none : c.args.self.now.stack.next ≡ None = search rules in
+    let none : c.args.self.now.stack.next ≡ None = sym c.take.ensures.value ∙ c.in_default.is in
     record {
       limit = refl;
-      fits = search rules;
-      counts = search rules;
-      plan = search rules;
+      fits = c.requires.limit;
+      counts = omega arith;
+      plan = c.go_on.ensures.plan;
       within = c.in-Ok-true.ensures.within;
-      asks = search rules;
+      asks = c.in-Ok-true.ensures.free;
       ready = search rules;
       sound = λ c' w h. c.in-Ok-true.ensures.sound c' (record { next = subst (IsNextSound c') (sym c.take.ensures.after) tt; frames = h.frames });
       takes = λ c' w h. uncharged _ _ _
@@ -23,33 +91,33 @@ returns-in-Ok-true-clause-turn g c =
 
 pub returns-in-Ok-false-clause-turn : goal.returns-in-Ok-false-clause-turn
 returns-in-Ok-false-clause-turn g c =
-    let none : c.args.self.now.stack.next ≡ None = search rules in
+    let none : c.args.self.now.stack.next ≡ None = sym c.take.ensures.value ∙ c.in_default.is in
     record {
       limit = refl;
-      fits = search rules;
-      counts = search rules;
-      plan = search rules;
+      fits = c.requires.limit;
+      counts = omega arith;
+      plan = c.go_on.ensures.plan;
       within = c.in-Ok-false.ensures.within;
-      asks = search rules;
+      asks = c.in-Ok-false.ensures.free;
       ready = search rules;
       sound = λ c' w h. c.in-Ok-false.ensures.sound c' (record { next = subst (IsNextSound c') (sym c.take.ensures.after) tt; frames = h.frames });
       takes = λ c' w h. (
         uncharged _ _ _
             (ap (λ n. next_marks c' c.args.self.now.stack.plan n ++ frames_marks c' c.args.self.now.stack.plan c.args.self.now.stack.frames.items) (none ∙ sym c.take.ensures.after)
             ∙ c.in-Ok-false.ensures.left c'),
-        sym (c.in-Ok-false.ensures.left c') ∙ c.in-Ok-false.ensures.over (search rules) c',
+        sym (c.in-Ok-false.ensures.left c') ∙ c.in-Ok-false.ensures.over c.in-Ok-false.field-0-test c',
       );
     }
 
 pub returns-in-Err-clause-turn : goal.returns-in-Err-clause-turn
 returns-in-Err-clause-turn g c = record {
-  limit = search rules;
-  fits = search rules;
-  counts = search rules;
-  plan = search rules;
+  limit = refl;
+  fits = c.requires.limit;
+  counts = omega arith;
+  plan = c.go_on.ensures.plan;
   within = tt;
   asks = tt;
   ready = tt;
   sound = tt;
-  takes = λ c' w h. breaks_off _ _ _ (search rules);
+  takes = λ c' w h. breaks_off _ _ _ refl;
 }
