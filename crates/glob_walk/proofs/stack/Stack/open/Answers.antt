@@ -1,6 +1,7 @@
-use Rattle.std.proofs.Common.{◌≡◌, ◌+◌, ◌<◌, ◌++◌, ◌∙◌, true, false, length, subst, sym, ap, arith, rules}
+use Rattle.std.proofs.Common.{refl, ◌≡◌, ◌+◌, ◌<◌, ◌++◌, ◌∙◌, true, false, length, subst, sym, ap, arith, rules}
 use Rattle.std.specs.List.{All, sum_by}
 use Rattle.std.proofs.lemmas.List.Elements.{All-push}
+use Rattle.std.proofs.lemmas.Result.{err_from_is_err_and}
 use Rattle.std.proofs.lemmas.List.Sums.{sum_by_push}
 use Rattle.glob_walk.specs.Private.Frames.{frame_marks, is_done, unmet, IsFrameSound}
 use Rattle.glob_walk.specs.Private.Stacks.{left, frames_marks}
@@ -43,3 +44,33 @@ returns-clause-within g c =
 
 pub returns-clause-sound : goal.returns-clause-sound
 returns-clause-sound g c = λ c' f h. record { next = h.next; frames = subst (All (IsFrameSound c')) (sym c.in_ok-push.ensures.items) (All-push (IsFrameSound c') c.args.self.now.frames.items c.args.frame h.frames f) }
+
+pub returns-then-is_done-clause-plan : goal.returns-then-is_done-clause-plan
+returns-then-is_done-clause-plan g c = refl
+
+pub returns-then-is_done-clause-next : goal.returns-then-is_done-clause-next
+returns-then-is_done-clause-next g c = c.requires.none
+
+pub returns-then-is_done-clause-within : goal.returns-then-is_done-clause-within
+returns-then-is_done-clause-within g c = record { components = c.requires.within.components; going = c.requires.within.going }
+
+pub returns-in_err-push-clause-plan : goal.returns-in_err-push-clause-plan
+returns-in_err-push-clause-plan g c = refl
+
+pub returns-in_err-push-clause-next : goal.returns-in_err-push-clause-next
+returns-in_err-push-clause-next g c = c.requires.none
+
+pub returns-in_err-push-clause-left : goal.returns-in_err-push-clause-left
+returns-in_err-push-clause-left g c = rw (err_from_is_err_and c.from_residual.result c.from_residual.ensures.1).1 tt
+
+pub returns-in_err-push-clause-ready : goal.returns-in_err-push-clause-ready
+returns-in_err-push-clause-ready g c = rw (err_from_is_err_and c.from_residual.result c.from_residual.ensures.1).1 tt
+
+pub returns-in_err-push-clause-sound : goal.returns-in_err-push-clause-sound
+returns-in_err-push-clause-sound g c = rw (err_from_is_err_and c.from_residual.result c.from_residual.ensures.1).1 tt
+
+pub returns-clause-plan : goal.returns-clause-plan
+returns-clause-plan g c = refl
+
+pub returns-clause-next : goal.returns-clause-next
+returns-clause-next g c = c.requires.none
