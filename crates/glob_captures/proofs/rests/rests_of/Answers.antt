@@ -1,5 +1,6 @@
 use Rattle.std.proofs.Common.{◌≡◌, ◌≢◌, ◌+◌, ◌-◌, ◌<◌, chars, [], ◌∷◌, ◌++◌, length, get_or, take, drop, IsTrue, sym, ap, ◌∙◌, subst, ⊎_elim, arith}
 use Rattle.std.proofs.lemmas.Bool.{cases_eq}
+use Rattle.std.proofs.lemmas.Result.{err_from_is_err_and}
 use Rattle.std.proofs.lemmas.List.{length_push, get_or_append_left, get_or_at}
 use Rattle.glob_pattern.specs.Computing.Tokens.{tokens_of}
 use Rattle.glob_captures.specs.Private.Rests.{AreRests, grows, shape_at}
@@ -50,3 +51,36 @@ returns g c =
       many = omega (arith, inv.many);
       row = λ i below more. inv.rows i (omega arith) more;
     }
+
+pub loop-done-init : goal.loop-done-init
+loop-done-init g c =
+    let first : c.args.span.last + 1 ≡ c.args.span.last + 1 - 0 = omega arith in
+    record {
+      row = subst (λ m. AreRests c.args.options (tokens_of (chars c.args.pattern.now)) c.args.text.now m 0 c.in_ok-row.row.items) first c.in_ok-row.ensures;
+      many = ap length c.in_ok-rows.ensures.items;
+      rows = λ i below. absurd (omega (arith, below));
+    }
+
+pub returns-in_err-rows : goal.returns-in_err-rows
+returns-in_err-rows g c = rw (err_from_is_err_and c.from_residual.result c.from_residual.ensures.1).1 tt
+
+pub returns-in_err-row : goal.returns-in_err-row
+returns-in_err-row g c = rw (err_from_is_err_and c.from_residual-in_err-row.result c.from_residual-in_err-row.ensures.1).1 tt
+
+pub returns-in_err-kept : goal.returns-in_err-kept
+returns-in_err-kept g c = rw (err_from_is_err_and c.from_residual-in_err-kept.result c.from_residual-in_err-kept.ensures.1).1 tt
+
+pub returns-in_err-push : goal.returns-in_err-push
+returns-in_err-push g c = rw (err_from_is_err_and c.from_residual-in_err-push.result c.from_residual-in_err-push.ensures.1).1 tt
+
+pub row_after-requires : goal.row_after-requires
+row_after-requires g c =
+    let tokens = tokens_of (chars c.args.pattern.now) in
+    let below : c.args.span.last < length tokens = c.requires.span.inside (omega (arith, c.requires.span.order, c.requires.span.within)) in
+    omega arith
+
+pub add_token-requires-clause-next : goal.add_token-requires-clause-next
+add_token-requires-clause-next g c =
+    let next : c.args.span.last + 1 - c.loop-done.done ≡ c.args.span.last - c.loop-done.done + 1 = omega arith in
+    rw c.as_mut_slice.ensures.value
+    (subst (λ m. AreRests c.args.options (tokens_of (chars c.args.pattern.now)) c.args.text.now m 0 c.loop-done.row.items) next c.loop-done.invariant.row)
