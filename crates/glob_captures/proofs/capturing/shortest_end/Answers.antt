@@ -85,3 +85,39 @@ returns-else-token-span-clause-end g c =
     shortest_first c.args.options tokens c.args.text.now c.args.token c.args.place c.form_of-form.result c.requires.token c.form_of-form.ensures
     c.as_slice-next.result.now c.first_end.result (is-true c.form_of-form.result.grows c.if-not-form.false)
     (subst (λ places. AreRests c.args.options tokens c.args.text.now (c.args.token + 1) 0 places) read row) c.first_end.ensures c.requires.taken
+
+pub first_end-requires-clause-within : goal.first_end-requires-clause-within
+first_end-requires-clause-within g c = c.requires.place
+
+pub returns-then-not-form-clause-low : goal.returns-then-not-form-clause-low
+returns-then-not-form-clause-low g c = omega arith
+
+pub returns-then-token-span-clause-high : goal.returns-then-token-span-clause-high
+returns-then-token-span-clause-high g c = omega arith
+
+pub returns-else-token-span-clause-low : goal.returns-else-token-span-clause-low
+returns-else-token-span-clause-low g c = c.first_end.ensures.low
+
+pub returns-else-token-span-clause-high : goal.returns-else-token-span-clause-high
+returns-else-token-span-clause-high g c = c.first_end.ensures.high
+
+pub overflow_sub-span : goal.overflow_sub-span
+overflow_sub-span g c =
+    let tokens = tokens_of (chars c.args.pattern.now) in
+    let more : grows (shape_at tokens c.args.token) ≡ true = sym c.form_of-form.ensures.many ∙ is-true c.form_of-form.result.grows c.if-not-form.false in
+    let other : c.args.token ≢ c.args.span.last = omega arith in
+    omega (arith, inner-index tokens c.args.span c.args.token c.requires.span c.requires.token more other)
+
+pub bounds-rests-span : goal.bounds-rests-span
+bounds-rests-span g c =
+    let tokens = tokens_of (chars c.args.pattern.now) in
+    let more : grows (shape_at tokens c.args.token) ≡ true = sym c.form_of-form.ensures.many ∙ is-true c.form_of-form.result.grows c.if-not-form.false in
+    let other : c.args.token ≢ c.args.span.last = omega arith in
+    omega (arith, inner-index tokens c.args.span c.args.token c.requires.span c.requires.token more other, c.requires.rests.many)
+
+pub offset_bounds-rests-span : goal.offset_bounds-rests-span
+offset_bounds-rests-span g c =
+    let tokens = tokens_of (chars c.args.pattern.now) in
+    let more : grows (shape_at tokens c.args.token) ≡ true = sym c.form_of-form.ensures.many ∙ is-true c.form_of-form.result.grows c.if-not-form.false in
+    let other : c.args.token ≢ c.args.span.last = omega arith in
+    omega (arith, inner-index tokens c.args.span c.args.token c.requires.span c.requires.token more other, c.requires.rests.many)
