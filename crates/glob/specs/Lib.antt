@@ -16,7 +16,7 @@ pub use Rattle.glob_text.specs.Text
 pub use Rattle.glob_tree.specs.Answers
 pub use Rattle.glob_tree.specs.Content
 pub use Rattle.glob_tree.specs.Looks
-pub use Rattle.glob_tree.specs.Memory
+pub use Rattle.glob_memory.specs.Memory
 pub use Rattle.glob_tree.specs.Paths
 pub use Rattle.glob_walk.specs.Components
 pub use Rattle.glob_walk.specs.Driven

@@ -5,7 +5,7 @@ pub use Rattle.glob_pattern.specs.declared.error.PatternRefusal.{PatternRefusal}
 pub use Rattle.glob_pattern.specs.declared.matcher.Shape.{Shape}
 pub use Rattle.glob_pattern.specs.declared.options.MatchOptions.{MatchOptions}
 pub use Rattle.glob_tree.specs.declared.kind.Kind.{Kind}
-pub use Rattle.glob_tree.specs.declared.memory.refusal.TreeRefusal.{TreeRefusal}
+pub use Rattle.glob_memory.specs.declared.refusal.TreeRefusal.{TreeRefusal}
 pub use Rattle.glob_tree.specs.declared.tree.Entry.{Entry}
 pub use Rattle.glob_tree.specs.declared.tree.ListError.{ListError}
 pub use Rattle.glob_tree.specs.declared.tree.Look.{Look}

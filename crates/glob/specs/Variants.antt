@@ -3,7 +3,7 @@ pub use Rattle.glob_lines.specs.declared.fault.LineFault.TheVariants as LineFaul
 pub use Rattle.glob_pattern.specs.declared.error.PatternRefusal.TheVariants as PatternRefusal
 pub use Rattle.glob_pattern.specs.declared.matcher.Shape.TheVariants as Shape
 pub use Rattle.glob_tree.specs.declared.kind.Kind.TheVariants as Kind
-pub use Rattle.glob_tree.specs.declared.memory.refusal.TreeRefusal.TheVariants as TreeRefusal
+pub use Rattle.glob_memory.specs.declared.refusal.TreeRefusal.TheVariants as TreeRefusal
 pub use Rattle.glob_tree.specs.declared.tree.ListError.TheVariants as ListError
 pub use Rattle.glob_tree.specs.declared.tree.Look.TheVariants as Look
 pub use Rattle.glob_walk.specs.declared.error.GlobCause.TheVariants as GlobCause

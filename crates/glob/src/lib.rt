@@ -28,11 +28,12 @@
 pub mod laws;
 
 pub use glob_lines::{LineFault, Watch, filter_lines, filter_records};
+pub use glob_memory::{MemTree, TreeRefusal};
 pub use glob_pattern::{
     Judge, MatchOptions, Pattern, PatternError, PatternRefusal, Shape, run_positions,
 };
-pub use glob_tree::{Asks, Entry, ListError, Look, MemTree, Name, Tree, TreeRefusal};
+pub use glob_tree::{Asks, Disk, Entry, ListError, Look, Name, Tree};
 pub use glob_walk::{
-    Disk, End, GlobCause, GlobError, GlobResult, Paths, Step, Walk, WalkMachine, glob, glob_in,
+    End, GlobCause, GlobError, GlobResult, Paths, Step, Walk, WalkMachine, glob, glob_in,
     glob_with, is_plain, walk_in,
 };

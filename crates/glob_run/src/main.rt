@@ -30,7 +30,7 @@ use glob_console::{ErrorLines, FOUND, UNFOUND, arguments, words_of, write_text};
 use glob_lines::{LineFault, Watch, filter_records};
 use glob_pattern::Pattern;
 use glob_tree::Tree;
-use glob_walk::Disk;
+use glob_tree::Disk;
 use std::alloc::{AllocError, Allocator};
 use std::io::{Read, Write};
 use std::process::ExitCode;

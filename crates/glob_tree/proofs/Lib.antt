@@ -1,2 +1,3 @@
 pub mod ContentLemmas
-pub mod MemoryLemmas
+pub mod DiskLemmas
+pub mod LoopLemmas

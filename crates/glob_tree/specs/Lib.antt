@@ -1,6 +1,4 @@
 pub mod Answers
 pub mod Content
 pub mod Looks
-pub mod Memory
 pub mod Paths
-pub mod Private

@@ -4,9 +4,9 @@ ghost use Rattle.glob_tree.specs.Content.{is_dir};
 
 use std::io;
 
-/// What is at a key of a tree.
+/// What is at a key of a tree: a path of proper names from its root.
 #[derive(Clone, Copy, PartialEq, Eq, Debug)]
-pub(crate) enum Kind {
+pub enum Kind {
     /// A directory.
     Dir,
     /// A directory that cannot be listed: a listing fails with an error of this kind.
@@ -17,7 +17,7 @@ pub(crate) enum Kind {
 
 impl Kind {
     /// Whether it is a directory, shut or not.
-    pub(crate) fn is_dir(self) -> bool
+    pub fn is_dir(self) -> bool
         ensures { result ≡ is_dir self }
     {
         matches!(self, Kind::Dir | Kind::Shut(_))

@@ -1,13 +1,16 @@
-//! Trees of files and directories: what a walk asks of one, and one in memory.
+//! Trees of files and directories: what a walk asks of one, the paths in it, and the file system as one.
 #![tactic(auto)]
 
 mod asks;
+mod disk;
 mod kind;
-mod memory;
 mod name;
+mod path_text;
 mod tree;
 
 pub use asks::Asks;
-pub use memory::{MemTree, TreeRefusal};
-pub use name::Name;
+pub use disk::Disk;
+pub use kind::Kind;
+pub use name::{Name, copy_name, is_proper, name_from_proper};
+pub use path_text::{begins_with_dot, child, join};
 pub use tree::{Entry, ListError, Look, Tree};

@@ -40,23 +40,6 @@ impl<A: Allocator> Name<A> {
         }
     }
 
-    /// A copy of the name. The error is an allocation failure.
-    pub(crate) fn copy(&self, alloc: A) -> Result<Self, AllocError>
-        ensures { IfOk result (λ name. name ≡ self.now) }
-    {
-        let text = String::from_str(alloc, self.text.as_str())?;
-        Ok(Name { text })
-    }
-
-    /// The name `text`, which is proper. The error is an allocation failure.
-    pub(crate) fn from_proper(alloc: A, text: &str) -> Result<Self, AllocError>
-        requires { is_proper_text text.now ≡ true }
-        ensures { IfOk result (λ name. name ≡ text.now) }
-    {
-        let text = String::from_str(alloc, text)?;
-        Ok(Name { text })
-    }
-
     /// The text of the name, as `a.rs`.
     pub fn as_str(&self) -> &str
         ensures { result.now ≡ self.now }
@@ -65,8 +48,25 @@ impl<A: Allocator> Name<A> {
     }
 }
 
-/// Whether the text is a proper name.
-pub(crate) fn is_proper(text: &str) -> bool
+/// A copy of the name. The error is an allocation failure.
+pub fn copy_name<A: Allocator>(alloc: A, name: &Name<A>) -> Result<Name<A>, AllocError>
+    ensures { IfOk result (λ copy. copy ≡ name.now) }
+{
+    let text = String::from_str(alloc, name.text.as_str())?;
+    Ok(Name { text })
+}
+
+/// The name `text`, which is proper: what [`Name::new`] returns, without its test. The error is an allocation failure.
+pub fn name_from_proper<A: Allocator>(alloc: A, text: &str) -> Result<Name<A>, AllocError>
+    requires { is_proper_text text.now ≡ true }
+    ensures { IfOk result (λ name. name ≡ text.now) }
+{
+    let text = String::from_str(alloc, text)?;
+    Ok(Name { text })
+}
+
+/// Whether the text is a proper name: `a.rs` is, and `..` is not.
+pub fn is_proper(text: &str) -> bool
     ensures { result ≡ is_proper_text text.now }
 {
     if text.is_empty() || text == "." || text == ".." {

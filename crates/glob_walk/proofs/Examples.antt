@@ -1,5 +1,4 @@
 pub mod Answers
-pub mod Changes
 pub mod Components
 pub mod Dotted
 pub mod Edges

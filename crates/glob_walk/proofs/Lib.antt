@@ -1,5 +1,4 @@
 pub mod CallerLemmas
-pub mod DiskLemmas
 pub mod Examples
 pub mod GoalLemmas
 pub mod ListingLemmas

@@ -2,13 +2,12 @@
 #![tactic(auto)]
 
 mod component;
-mod disk;
+mod disk_walk;
 mod error;
 mod frame;
 pub mod laws;
 mod machine;
 mod meter;
-mod path_text;
 mod paths;
 mod plain;
 mod plan;
@@ -18,7 +17,7 @@ mod turn;
 mod walk;
 mod walker;
 
-pub use disk::{Disk, glob, glob_with};
+pub use disk_walk::{glob, glob_with};
 pub use error::{GlobCause, GlobError, GlobResult};
 pub use machine::{Step, WalkMachine};
 pub use paths::{Paths, glob_in};

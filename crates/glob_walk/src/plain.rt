@@ -6,9 +6,9 @@ ghost use Rattle.glob_walk.specs.Goal.{are_plain, is_plain, is_plain_component};
 ghost use Rattle.glob_walk.specs.Walks.{RefusesWith};
 
 use crate::component::{is_current_or_parent, is_literal, is_recursive};
-use crate::path_text::begins_with_dot;
 use crate::plan::{Plan, past_root};
 use glob_pattern::{MatchOptions, PatternRefusal};
+use glob_tree::begins_with_dot;
 use std::alloc::Allocator;
 
 /// Whether the pattern is plain, so that a walk by it finds what the undivided pattern matches: no component is empty,

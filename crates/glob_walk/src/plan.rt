@@ -11,8 +11,8 @@ ghost use Rattle.glob_walk.specs.Private.Merging.{merged, are_merged};
 ghost use Rattle.glob_walk.specs.Walks.{RefusesWith};
 
 use crate::component::Component;
-use crate::path_text::begins_with_dot;
 use glob_pattern::{MatchOptions, PatternRefusal};
+use glob_tree::begins_with_dot;
 use std::alloc::Allocator;
 
 /// What a walk looks for: the components of a pattern, in order.

@@ -26,12 +26,11 @@ use crate::component::{Component, is_current_or_parent};
 use crate::frame::{Cursor, Frame};
 use crate::machine::Answer;
 use crate::meter::{Meter, sort_entries};
-use crate::path_text::child;
 use crate::plan::Plan;
 use crate::stack::Stack;
 use crate::task::{Sight, Task, Wanted, task_after_look};
 use crate::turn::Turn;
-use glob_tree::{Entry, ListError, Look};
+use glob_tree::{Entry, ListError, Look, child};
 use std::alloc::{AllocError, Allocator};
 
 /// A limit, and what a walk has still to do.

@@ -3,10 +3,11 @@
 use super::liars::LyingTree;
 use super::made::{check, made, sizes, text};
 use super::refusing::{Calls, both, refuse_each};
+use glob_memory::{MemTree, TreeRefusal};
 use glob_testing::rationing::Rationed;
 use glob_testing::sizes::CHARACTERS;
 use glob_testing::texts::all_over;
-use glob_tree::{Entry, ListError, Look, MemTree, Tree, TreeRefusal};
+use glob_tree::{Entry, ListError, Look, Tree};
 use std::alloc::{Allocator, Global};
 use std::io::ErrorKind;
 use std::process::Abort;

@@ -1,18 +1,21 @@
 -- Paths that lead to directories, and those of their entries.
-use Rattle.std.proofs.Common.{◌≡◌, ◌<◌, true, false, not, ◌&&◌, [], ◌∷◌, ◌++◌, length, Option, Some, None, refl, ap, ◌∙◌, arith}
+use Rattle.std.proofs.Common.{◌≡◌, ◌<◌, true, false, not, ◌&&◌, [], ◌∷◌, ◌++◌, length, Option, Some, None, refl, ap, sym, ◌∙◌, arith}
 use Rattle.std.specs.Prelude.{◌==◌, Contains, bytes_eq, option_map, option_and_then, unwrap_or}
-use Rattle.std.specs.List.{list_any}
+use Rattle.std.specs.List.{list_any, list_all}
+use Rattle.std.specs.Str.{is_utf8}
 use Rattle.std.specs.Path.{has_no_slash, parent_dir}
 use Rattle.std.proofs.lemmas.Bool.{and_parts, and_from, or_parts, not-true, not_from_false, both_ways}
+use Rattle.std.proofs.lemmas.List.{append_assoc, append-nil}
 use Rattle.glob_text.specs.Characters.{slash}
 use Rattle.glob_text.specs.Text.{Text}
 use Rattle.glob_tree.specs.Paths.{stays, child, is_barred, is_proper}
-use Rattle.glob_tree.specs.Content.{Content, Key, kind_at, is_dir, is_dir_at, step, resolve, look_result, look_of, DirEntry, children, list_result, list_found, list_of, Entries, Fails}
+use Rattle.glob_tree.specs.Content.{Content, Key, parent_key, kind_at, is_dir, is_dir_at, is_placed, step, resolve, look_result, look_of, DirEntry, children, list_result, list_found, list_of, Entries, Fails}
 use Rattle.glob_tree.specs.Looks.{is_directory}
 use Rattle.glob_tree.specs.declared.kind.Kind.{Kind}
 use Rattle.glob_tree.specs.declared.kind.Kind.TheVariants.{Dir, Shut, Other}
+use Rattle.glob_tree.proofs.ContentLemmas.Membership.{list_all-contains}
 use Rattle.glob_tree.proofs.ContentLemmas.Resolving.{resolve_child}
-use Rattle.glob_tree.proofs.ContentLemmas.Contents.{IsContent, IsChild-list_result}
+use Rattle.glob_tree.proofs.ContentLemmas.Contents.{IsContent, IsChild-list_result, contains_kind_at, parent_key-append}
 
 -- the path leads to the directory at k
 pub record LeadsTo (c : Content) (path : Text) (k : Key) : Type 0 where
@@ -111,3 +114,25 @@ ListsAs-from_leads c path k at = of_kind (kind_at c k) refl at.directory
     of_kind (Some Dir) e h = Read e (ap (list_found c) at.resolved ∙ ap (list_of c k) e)
     of_kind (Some (Shut kind)) e h = Unreadable kind e (ap (list_found c) at.resolved ∙ ap (list_of c k) e)
     of_kind (Some Other) e h = absurd (both_ways false refl h)
+
+-- what is above a directory is one
+pub above : (c : Content) → IsContent c → (k : Key) (name : Text) → is_dir_at c (k ++ name ∷ []) ≡ true → is_dir_at c k ≡ true
+above c w k name d = of_kind (kind_at c (k ++ name ∷ [])) refl d
+  where
+    of_kind : (o : Option Kind) → kind_at c (k ++ name ∷ []) ≡ o → unwrap_or (option_map is_dir o) false ≡ true → is_dir_at c k ≡ true
+    of_kind None is h = absurd (both_ways false refl h)
+    of_kind (Some kind) is h =
+        let placed = list_all-contains (is_placed c) c.kinds (k ++ name ∷ [], kind) w.placed (contains_kind_at c (k ++ name ∷ []) kind is) in
+        ap (is_dir_at c) (sym (parent_key-append k name)) ∙ (and_parts (list_all (λ n. is_utf8 n && is_proper n) (k ++ name ∷ [])) (is_dir_at c (parent_key (k ++ name ∷ []))) placed).1
+
+pub all_above : (c : Content) → IsContent c → (k names : Key) → is_dir_at c (k ++ names) ≡ true → is_dir_at c k ≡ true
+all_above c w k [] d = ap (is_dir_at c) (sym (append-nil k)) ∙ d
+all_above c w k (name ∷ names) d = above c w k name (all_above c w (k ++ name ∷ []) names (ap (is_dir_at c) (append_assoc k (name ∷ []) names) ∙ d))
+
+-- what is where a directory is
+pub directory_kind : (c : Content) (k : Key) → is_dir_at c k ≡ true → (kind : Kind) × (kind_at c k ≡ Some kind)
+directory_kind c k d = of_kind (kind_at c k) refl d
+  where
+    of_kind : (o : Option Kind) → kind_at c k ≡ o → unwrap_or (option_map is_dir o) false ≡ true → (kind : Kind) × (kind_at c k ≡ Some kind)
+    of_kind None is h = absurd (both_ways false refl h)
+    of_kind (Some kind) is h = (kind, is)

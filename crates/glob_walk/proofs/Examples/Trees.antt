@@ -10,7 +10,6 @@ use Rattle.glob_text.specs.Text.{Text}
 use Rattle.glob_text.specs.Pieces.{pieces}
 use Rattle.glob_tree.specs.Paths.{join, child}
 use Rattle.glob_tree.specs.Content.{Content, Key, is_content, kind_at, children, resolve, look_result, list_result}
-use Rattle.glob_tree.specs.Memory.{add_refusal, current_refusal, content_with, with_current, directory_key, list_fault}
 use Rattle.glob_walk.specs.Marks.{Item, Found, items, cost, front, Mark, Work, Give, paths}
 use Rattle.glob_walk.specs.Listing.{listing, descent, enter, meet}
 use Rattle.glob_walk.specs.Components.{walk_fault}
@@ -24,7 +23,7 @@ use Rattle.glob_pattern.specs.declared.options.MatchOptions.{MatchOptions}
 
 -- opens the definitions by which the rows compute
 unfoldable pub computed : Unit {0}
-unfolding chars is_utf8 encode units_from is_match tokens_match join child kind_at children resolve look_result list_result is_content add_refusal current_refusal content_with with_current directory_key list_fault descent enter meet listing walk_fault is_plain goal
+unfolding chars is_utf8 encode units_from is_match tokens_match join child kind_at children resolve look_result list_result is_content descent enter meet listing walk_fault is_plain goal
 computed = tt
 
 -- a key is written as its names joined by separators

@@ -8,8 +8,7 @@ use Rattle.std.proofs.lemmas.Bool.{and_parts, and_from}
 use Rattle.glob_text.specs.Text.{Text}
 use Rattle.glob_tree.specs.Content.{Content, Key, is_dir}
 use Rattle.glob_tree.proofs.ContentLemmas.Contents.{IsContent, IsContent-from_test}
-use Rattle.glob_tree.proofs.ContentLemmas.Directories.{is_directory-look_result}
-use Rattle.glob_tree.proofs.MemoryLemmas.Keys.{directory_kind}
+use Rattle.glob_tree.proofs.ContentLemmas.Directories.{is_directory-look_result, directory_kind}
 use Rattle.glob_walk.specs.Marks.{items}
 use Rattle.glob_walk.specs.Components.{start, components, wants_directories}
 use Rattle.glob_walk.specs.Listing.{enter, listing}

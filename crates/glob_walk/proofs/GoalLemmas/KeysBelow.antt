@@ -12,8 +12,7 @@ use Rattle.glob_tree.specs.Content.{Content, Key, DirEntry, kind_at, is_dir, is_
 use Rattle.glob_tree.specs.declared.kind.Kind.{Kind}
 use Rattle.glob_tree.proofs.ContentLemmas.Membership.{list_all-contains}
 use Rattle.glob_tree.proofs.ContentLemmas.Contents.{contains_kind_at, parent_key-append, IsContent, IsChild-list_result}
-use Rattle.glob_tree.proofs.ContentLemmas.Directories.{is_dir_at-kind}
-use Rattle.glob_tree.proofs.MemoryLemmas.Keys.{all_above, directory_kind}
+use Rattle.glob_tree.proofs.ContentLemmas.Directories.{is_dir_at-kind, all_above, directory_kind}
 use Rattle.glob_walk.specs.Laws.{are_names}
 
 -- what stands at a key stands in a directory

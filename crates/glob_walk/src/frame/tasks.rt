@@ -11,11 +11,10 @@ ghost use Rattle.glob_walk.specs.Private.Frames.{first_part, first_marks, second
 
 use crate::component::Component;
 use crate::frame::Frame;
-use crate::path_text::{begins_with_dot, child, join};
 use crate::plan::Plan;
 use crate::task::{Sight, Task, Wanted};
 use glob_pattern::MatchOptions;
-use glob_tree::Entry;
+use glob_tree::{Entry, begins_with_dot, child, join};
 use std::alloc::{AllocError, Allocator};
 
 impl<A: Allocator + Copy> Frame<A> {

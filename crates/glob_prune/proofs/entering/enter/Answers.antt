@@ -5,7 +5,7 @@ use Rattle.std.specs.Str.Pattern.{FindsChar}
 use Rattle.std.proofs.lemmas.Iterator.Splits.{YieldsList-from_str_split}
 use Rattle.glob_text.specs.Pieces.{pieces}
 use Rattle.glob_tree.specs.Paths.{stays}
-use Rattle.glob_tree.proofs.MemoryLemmas.Following.{left_after, none_left}
+use Rattle.glob_tree.proofs.LoopLemmas.{left_after, none_left}
 use Rattle.glob_prune.proofs.EnteringLemmas.{begins_way, stays_on_way, ends_way, goes_on, whole_way, whole_names}
 use Rattle.glob_prune.proofs.entering.enter.Goals as goal
 

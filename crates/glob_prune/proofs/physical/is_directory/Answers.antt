@@ -1,6 +1,6 @@
 use Rattle.std.proofs.Common.{rules, ◌≡◌, length}
 use Rattle.std.specs.String.{string_bytes}
-use Rattle.glob_walk.proofs.DiskLemmas.{split_at_seam}
+use Rattle.glob_tree.proofs.DiskLemmas.{split_at_seam}
 use Rattle.glob_prune.proofs.physical.is_directory.Goals as goal
 
 pub truncate-requires : goal.truncate-requires

@@ -1,0 +1,49 @@
+use Rattle.std.proofs.Common.{◌≡◌, [], sym, ap, subst, ◌∙◌, Some, None}
+use Rattle.std.specs.IoError.{error_kind}
+use Rattle.glob_tree.specs.Answers.{IsListFault, entries_of}
+use Rattle.glob_tree.specs.Content.{list_result, Entries}
+use Rattle.glob_memory.specs.Memory.{MemoryTree, list_fault}
+use Rattle.glob_memory.specs.Private.Nodes.{key_numbered}
+use Rattle.glob_tree.specs.declared.kind.Kind.TheVariants.{Dir, Shut, Other}
+use Rattle.glob_memory.proofs.MemoryLemmas.Answering.{nothing_there, kind_there, children_any}
+use Rattle.glob_memory.proofs.mem_tree.MemTree.entries.Goals as goal
+
+pub returns-in_default-clause-fails : goal.returns-in_default-clause-fails
+returns-in_default-clause-fails g c =
+    let answers = nothing_there c.self.inside.nodes c.self.inside.current c.args.path.now c.find.result c.find.ensures c.in_default.is in
+    let fault = subst (λ answer. IsListFault answer (error_kind c.from.result)) (sym answers.list) tt in
+    subst (λ (t : MemoryTree). IsListFault (list_result t.content c.args.path.now) (error_kind c.from.result)) c.self.view_is fault
+
+pub returns-in-Shut-clause-fails : goal.returns-in-Shut-clause-fails
+returns-in-Shut-clause-fails g c =
+    let answers = kind_there c.self.inside.nodes c.self.inside.current c.args.path.now c.find.result c.in-Some.number (Shut c.in-Shut.kind) c.find.ensures c.in-Some.is c.in-Shut.ensures.stands in
+    let fault = subst (λ answer. IsListFault answer (error_kind c.from-in-Shut.result)) (sym answers.list) c.from-in-Shut.ensures in
+    subst (λ (t : MemoryTree). IsListFault (list_result t.content c.args.path.now) (error_kind c.from-in-Shut.result)) c.self.view_is fault
+
+pub returns-in-Shut-clause-fault : goal.returns-in-Shut-clause-fault
+returns-in-Shut-clause-fault g c =
+    let answers = kind_there c.self.inside.nodes c.self.inside.current c.args.path.now c.find.result c.in-Some.number (Shut c.in-Shut.kind) c.find.ensures c.in-Some.is c.in-Shut.ensures.stands in
+    subst (λ (t : MemoryTree). list_fault t.content c.args.path.now ≡ Some (error_kind c.from-in-Shut.result)) c.self.view_is (answers.fault ∙ ap Some (sym c.from-in-Shut.ensures))
+
+pub returns-in-Other-clause-fails : goal.returns-in-Other-clause-fails
+returns-in-Other-clause-fails g c =
+    let answers = kind_there c.self.inside.nodes c.self.inside.current c.args.path.now c.find.result c.in-Some.number Other c.find.ensures c.in-Some.is c.in-Other.ensures.stands in
+    let fault = subst (λ answer. IsListFault answer (error_kind c.from-in-Other.result)) (sym answers.list) tt in
+    subst (λ (t : MemoryTree). IsListFault (list_result t.content c.args.path.now) (error_kind c.from-in-Other.result)) c.self.view_is fault
+
+pub returns-in-Other-clause-fault : goal.returns-in-Other-clause-fault
+returns-in-Other-clause-fault g c =
+    let answers = kind_there c.self.inside.nodes c.self.inside.current c.args.path.now c.find.result c.in-Some.number Other c.find.ensures c.in-Some.is c.in-Other.ensures.stands in
+    subst (λ (t : MemoryTree). list_fault t.content c.args.path.now ≡ Some (error_kind c.from-in-Other.result)) c.self.view_is (answers.fault ∙ ap Some (sym c.from-in-Other.ensures))
+
+pub returns-in-Ok-clause-entries : goal.returns-in-Ok-clause-entries
+returns-in-Ok-clause-entries g c =
+    let answers = kind_there c.self.inside.nodes c.self.inside.current c.args.path.now c.find.result c.in-Some.number Dir c.find.ensures c.in-Some.is c.in-Dir.ensures.stands in
+    let k = (key_numbered c.self.inside.nodes c.in-Some.number) in
+    let all = answers.list ∙ ap Entries (children_any c.self.inside.nodes (key_numbered c.self.inside.nodes c.self.inside.current) [] k ∙ sym c.in-Ok.ensures) in
+    subst (λ (t : MemoryTree). list_result t.content c.args.path.now ≡ Entries (entries_of c.in-Ok.entries.items)) c.self.view_is all
+
+pub returns-in-Err-clause-fault : goal.returns-in-Err-clause-fault
+returns-in-Err-clause-fault g c =
+    let answers = kind_there c.self.inside.nodes c.self.inside.current c.args.path.now c.find.result c.in-Some.number Dir c.find.ensures c.in-Some.is c.in-Dir.ensures.stands in
+    subst (λ (t : MemoryTree). list_fault t.content c.args.path.now ≡ None) c.self.view_is answers.fault

@@ -1,0 +1,71 @@
+//! The texts of paths.
+ghost use Rattle.std.specs.Prelude.{◌≡◌, ◌++◌, ◌∷◌, [], if◌then◌else◌, IfOk, string_bytes};
+ghost use Rattle.std.specs.List.{list_all};
+ghost use Rattle.std.specs.Path.{with_separator};
+ghost use Rattle.glob_text.specs.Characters.{dot, slash};
+ghost use Rattle.glob_text.specs.Pieces.{begins_with, pieces};
+ghost use Rattle.glob_tree.specs.Paths.{child as child_text, join as join_text, stays as stays_text, is_here as is_here_text};
+
+use std::alloc::{AllocError, Allocator};
+
+/// The path of a name in a directory: the name alone where the directory is `.`, and else the two joined.
+#[tactic(auto, unfolding(crate::specs::Paths::child))]
+pub fn child<A: Allocator>(alloc: A, dir: &str, name: &str) -> Result<String<A>, AllocError>
+    ensures { IfOk result (λ p. string_bytes p ≡ child_text dir.now name.now) }
+{
+    if is_here(dir) {
+        String::from_str(alloc, name)
+    } else {
+        join(alloc, dir, name)
+    }
+}
+
+/// The path, a separator unless the path is empty or ends in one, and the name.
+#[tactic(auto, unfolding(crate::specs::Paths::join))]
+pub fn join<A: Allocator>(alloc: A, dir: &str, name: &str) -> Result<String<A>, AllocError>
+    ensures { IfOk result (λ p. string_bytes p ≡ join_text dir.now name.now) }
+{
+    let room = dir.len().saturating_add(1).saturating_add(name.len());
+    let mut path = String::with_capacity(alloc, room)?;
+    path.push_str(dir)?;
+    if needs_separator(dir) {
+        path.push('/')?;
+    }
+    path.push_str(name)?;
+    Ok(path)
+}
+
+/// Whether a separator stands between the path and a name.
+fn needs_separator(dir: &str) -> bool
+    ensures { with_separator dir.now ≡ (if result then dir.now ++ slash ∷ [] else dir.now) }
+{
+    !dir.is_empty() && !dir.ends_with('/')
+}
+
+/// Whether the path is `.`, and further pieces that stay there.
+fn is_here(path: &str) -> bool
+    ensures { result ≡ is_here_text path.now }
+{
+    path.starts_with('.') && all_stay(path)
+}
+
+/// Whether no piece of the path leads elsewhere.
+fn all_stay(path: &str) -> bool
+    ensures { result ≡ list_all stays_text (pieces path.now) }
+{
+    path.split('/').all(stays)
+}
+
+/// Whether a piece of a path is empty or `.`.
+fn stays(piece: &str) -> bool
+    ensures { result ≡ stays_text piece.now }
+{
+    piece.is_empty() || piece == "."
+}
+
+/// Whether the name begins with a dot.
+pub fn begins_with_dot(name: &str) -> bool
+    ensures { result ≡ begins_with dot name.now }
+{
+    name.starts_with('.')
+}

@@ -1,0 +1,50 @@
+//! Walks over the real file system.
+ghost use Rattle.std.specs.Prelude.{◌≡◌, ◌-◌, ◌^◌, None, IfOk, IfErr};
+ghost use Rattle.glob_pattern.specs.Matching.Options.{new_options};
+ghost use Rattle.glob_tree.specs.Content.{Content};
+ghost use Rattle.glob_walk.specs.Aims.{listing_of};
+ghost use Rattle.glob_walk.specs.Components.{walk_fault};
+ghost use Rattle.glob_walk.specs.Listing.{listing};
+ghost use Rattle.glob_walk.specs.Walks.{IsFresh, RefusesWith};
+
+use crate::paths::{Paths, glob_in};
+use glob_pattern::{MatchOptions, PatternRefusal};
+use glob_tree::Disk;
+use std::alloc::Allocator;
+use std::fs::Files;
+
+/// Walks the file system that `rt` reaches after the components of a pattern, as [`glob_in`](crate::glob_in) does over
+/// a [`Disk`], with the options of `MatchOptions::new()` and the limit `u64::MAX`, which no walk reaches.
+///
+/// `glob(rt, alloc, "src/*.rs")` gives `src/lib.rs` and `src/walk.rs`, in this order, where these files are there.
+/// The errors are those of [`glob_in`](crate::glob_in).
+pub fn glob<R: Files + Drop, A: Allocator + Copy>(
+    rt: R,
+    alloc: A,
+    pattern: &str,
+) -> Result<Paths<Disk<R, A>>, PatternRefusal>
+    ensures accepted { IfOk result (λ _. walk_fault pattern.now ≡ None) }
+    ensures refused { IfErr result (RefusesWith (walk_fault pattern.now)) }
+    ensures fresh { IfOk result (IsFresh 0 (2 ^ 64 - 1)) }
+    ensures aim { IfOk result
+        (λ p. (c : Content) → listing_of c p.aim ≡ listing c new_options pattern.now) }
+{
+    glob_with(rt, alloc, pattern, MatchOptions::new())
+}
+
+/// As [`glob`], with these options. So with the dot rule `*` gives no dotted name. The errors are those of
+/// [`glob_in`](crate::glob_in).
+pub fn glob_with<R: Files + Drop, A: Allocator + Copy>(
+    rt: R,
+    alloc: A,
+    pattern: &str,
+    options: MatchOptions,
+) -> Result<Paths<Disk<R, A>>, PatternRefusal>
+    ensures accepted { IfOk result (λ _. walk_fault pattern.now ≡ None) }
+    ensures refused { IfErr result (RefusesWith (walk_fault pattern.now)) }
+    ensures fresh { IfOk result (IsFresh 0 (2 ^ 64 - 1)) }
+    ensures aim { IfOk result
+        (λ p. (c : Content) → listing_of c p.aim ≡ listing c options pattern.now) }
+{
+    glob_in(alloc, Disk::new(rt, alloc), pattern, options, u64::MAX)
+}
