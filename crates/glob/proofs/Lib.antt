@@ -1,3 +1,4 @@
+mod Beginning
 pub mod Computing
 pub mod EscapedFolders
 pub mod FoundPaths

@@ -12,5 +12,5 @@ pub use Rattle.glob_tree.specs.declared.tree.Look.{Look}
 pub use Rattle.glob_walk.specs.declared.error.GlobCause.{GlobCause}
 pub use Rattle.glob_walk.specs.declared.error.GlobError.{GlobError}
 pub use Rattle.glob_walk.specs.declared.machine.Step.{Step}
-pub use Rattle.glob_walk.specs.declared.walk.End.{End}
-pub use Rattle.glob_walk.specs.declared.walk.Walk.{Walk}
+pub use Rattle.glob_walk.specs.declared.ending.End.{End}
+pub use Rattle.glob.specs.declared.walk.Walk.{Walk}

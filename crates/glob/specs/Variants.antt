@@ -8,4 +8,4 @@ pub use Rattle.glob_tree.specs.declared.tree.ListError.TheVariants as ListError
 pub use Rattle.glob_tree.specs.declared.tree.Look.TheVariants as Look
 pub use Rattle.glob_walk.specs.declared.error.GlobCause.TheVariants as GlobCause
 pub use Rattle.glob_walk.specs.declared.machine.Step.TheVariants as Step
-pub use Rattle.glob_walk.specs.declared.walk.End.TheVariants as End
+pub use Rattle.glob_walk.specs.declared.ending.End.TheVariants as End

@@ -25,15 +25,18 @@
 //! A call that makes or grows something takes its allocator, and reports an allocation failure as an error.
 #![tactic(auto)]
 
+mod disk_walk;
 pub mod laws;
+mod paths;
+mod walk;
 
+pub use disk_walk::{glob, glob_with};
 pub use glob_lines::{LineFault, Watch, filter_lines, filter_records};
 pub use glob_memory::{MemTree, TreeRefusal};
 pub use glob_pattern::{
     Judge, MatchOptions, Pattern, PatternError, PatternRefusal, Shape, run_positions,
 };
 pub use glob_tree::{Asks, Disk, Entry, ListError, Look, Name, Tree};
-pub use glob_walk::{
-    End, GlobCause, GlobError, GlobResult, Paths, Step, Walk, WalkMachine, glob, glob_in,
-    glob_with, is_plain, walk_in,
-};
+pub use glob_walk::{End, GlobCause, GlobError, GlobResult, Step, WalkMachine, is_plain};
+pub use paths::{Paths, glob_in};
+pub use walk::{Walk, walk_in};

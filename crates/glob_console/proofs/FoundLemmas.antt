@@ -17,10 +17,10 @@ use Rattle.glob_walk.specs.Marks.{Mark, Item, Found, Unread, items, cost, front,
 use Rattle.glob_walk.specs.Questions.{IsSomeContent}
 use Rattle.glob_text.specs.Text.{Text}
 use Rattle.glob_walk.specs.Driven.{HasGiven, GivesNext}
-use Rattle.glob_walk.specs.declared.walk.End.{End}
+use Rattle.glob_walk.specs.declared.ending.End.{End}
 use Rattle.glob_walk.specs.declared.error.GlobCause.{GlobCause}
 use Rattle.glob_walk.specs.declared.error.GlobError.{GlobError}
-use Rattle.glob_walk.specs.declared.walk.End.TheVariants as last
+use Rattle.glob_walk.specs.declared.ending.End.TheVariants as last
 use Rattle.glob_walk.specs.declared.error.GlobCause.TheVariants as cause
 use Rattle.glob_walk.specs.Walks.{Outcome, Gives, LimitAt, NoMemory, outcome, error_outcome, item_number}
 use Rattle.glob_walk.proofs.ListingLemmas.Marks.{IsBeginning-append}

@@ -5,8 +5,8 @@ use Rattle.std.specs.Io.KnownBytes.{Appends}
 use Rattle.glob_lines.specs.Lines.{AppendsFront, with_ends}
 use Rattle.glob_walk.specs.Marks.{Mark, Item, Found, Unread, items, cost, front, paths}
 use Rattle.glob_text.specs.Text.{Text}
-use Rattle.glob_walk.specs.declared.walk.End.{End}
-use Rattle.glob_walk.specs.declared.walk.End.TheVariants as end
+use Rattle.glob_walk.specs.declared.ending.End.{End}
+use Rattle.glob_walk.specs.declared.ending.End.TheVariants as end
 use Rattle.glob_walk.specs.Walks.{IsCutShort, RefusesWith}
 use Rattle.glob_walk.specs.Components.{walk_fault}
 use Rattle.glob_console.specs.declared.find.fault.FindFault.{FindFault}

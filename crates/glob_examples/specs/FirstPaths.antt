@@ -6,8 +6,8 @@ use Rattle.glob.specs.Marks.{Mark, cost, front, items, paths}
 use Rattle.glob.specs.Text.{Text}
 use Rattle.glob_walk.specs.declared.error.GlobCause.{GlobCause}
 use Rattle.glob_walk.specs.declared.error.GlobCause.TheVariants as cause
-use Rattle.glob_walk.specs.declared.walk.End.{End}
-use Rattle.glob_walk.specs.declared.walk.End.TheVariants as end
+use Rattle.glob_walk.specs.declared.ending.End.{End}
+use Rattle.glob_walk.specs.declared.ending.End.TheVariants as end
 
 -- the found paths are a beginning of those that the marks give
 abbrev pub AreFirstPaths : {A : Type 0} → List Mark → List (PathBuf A) → Type 0

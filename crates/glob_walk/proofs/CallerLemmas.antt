@@ -11,8 +11,8 @@ use Rattle.glob_walk.specs.Order.{IsOrderly}
 use Rattle.glob_walk.specs.WalkGoals.{Answers, given_items, WalksPlainly, FindsGoal, FindsExactly, FindsInOrder}
 use Rattle.glob_walk.specs.Walks.{AreItems, IsCutShort, HasNoRefusal, IsWalk, IsWalkAsked}
 use Rattle.glob_walk.specs.declared.error.GlobError.{GlobError}
-use Rattle.glob_walk.specs.declared.walk.End.{End}
-use Rattle.glob_walk.specs.declared.walk.End.TheVariants.{Done, Limit, Memory}
+use Rattle.glob_walk.specs.declared.ending.End.{End}
+use Rattle.glob_walk.specs.declared.ending.End.TheVariants.{Done, Limit, Memory}
 
 -- A walk is plain if the content is known, the pattern is plain, and the options keep case.
 pub walks_plainly : (told : Option Content) (c : Content) (o : MatchOptions) (pattern : Text) → IsTold told c → IsTrue (is_plain pattern) → IsTrue o.case_sensitive → WalksPlainly told c o pattern

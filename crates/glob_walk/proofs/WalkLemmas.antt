@@ -1,4 +1,3 @@
-pub mod Beginning
 pub mod Charging
 pub mod Driving
 pub mod Entering

@@ -10,8 +10,8 @@ use Rattle.glob_walk.specs.Marks.{Item, paths}
 use Rattle.glob_walk.specs.Order.{IsOrderly}
 use Rattle.glob_walk.specs.Walks.{Outcome, Gives, LimitAt, NoMemory, outcome}
 use Rattle.glob_walk.specs.declared.error.GlobError.{GlobError}
-use Rattle.glob_walk.specs.declared.walk.End.{End}
-use Rattle.glob_walk.specs.declared.walk.End.TheVariants.{Done}
+use Rattle.glob_walk.specs.declared.ending.End.{End}
+use Rattle.glob_walk.specs.declared.ending.End.TheVariants.{Done}
 
 -- what `walk_in` puts into `items`
 abbrev pub Answers : (A : Type 0) → Type 0

@@ -15,8 +15,8 @@ use Rattle.glob_walk.specs.Marks.{Mark, Work, Give, Item, Found, Unread, items, 
 use Rattle.glob_walk.specs.declared.error.GlobCause.{GlobCause}
 use Rattle.glob_walk.specs.declared.error.GlobCause.TheVariants as cause
 use Rattle.glob_walk.specs.declared.error.GlobError.{GlobError}
-use Rattle.glob_walk.specs.declared.walk.End.{End}
-use Rattle.glob_walk.specs.declared.walk.End.TheVariants as end
+use Rattle.glob_walk.specs.declared.ending.End.{End}
+use Rattle.glob_walk.specs.declared.ending.End.TheVariants as end
 
 -- a pattern with this fault, or with none, may be refused so
 abbrev pub RefusesWith : Option Fault → PatternRefusal → Type 0

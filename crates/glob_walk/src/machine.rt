@@ -53,7 +53,7 @@ pub(crate) enum Answer<A: Allocator> {
 }
 
 /// A walk without a tree: it asks its questions one by one, and whoever drives it answers them from a file system, an
-/// archive or a network, at once or later. [`Paths`](crate::Paths) is a loop that answers them from a
+/// archive or a network, at once or later. `Paths` of the crate `glob` is a loop that answers them from a
 /// [`Tree`](glob_tree::Tree).
 ///
 /// ```text
@@ -100,8 +100,11 @@ impl<A: Allocator> Model for WalkMachine<A> {
 }
 
 impl<A: Allocator + Copy> WalkMachine<A> {
-    /// A walk after the components of a pattern, with at most `limit` units of work, as [`glob_in`](crate::glob_in) has it,
-    /// and refused as there. It has asked nothing.
+    /// A walk after the components of a pattern, with at most `limit` units of work: one for each look, one for each
+    /// listing, and one for each entry of a listing. It has asked nothing.
+    ///
+    /// A pattern with a fault is refused with `Syntax`: the fault of the whole text, or else that of the first component
+    /// that has one. Any pattern may be refused with `Memory`.
     pub fn new(
         alloc: A,
         pattern: &str,

@@ -13,8 +13,8 @@ use std::alloc::Allocator;
 
 /// Whether the pattern is plain, so that a walk by it finds what the undivided pattern matches: no component is empty,
 /// `.` or `..`, and each that has a wildcard and begins with a dot is right after a `**`. A `/` at the start or at the
-/// end makes no component; `/` alone, as the empty pattern, has an empty one. A pattern that
-/// [`glob_in`](crate::glob_in) would refuse is refused as it does.
+/// end makes no component; `/` alone, as the empty pattern, has an empty one. What
+/// [`WalkMachine::new`](crate::WalkMachine::new) refuses is refused as there.
 ///
 /// So `src/**/*.rs` is plain, and `src/./*.rs` and `.*` are not; `a**` is refused.
 #[tactic(auto, unfolding(crate::specs::Goal::is_plain))]

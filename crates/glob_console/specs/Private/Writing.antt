@@ -8,7 +8,7 @@ use Rattle.glob_text.specs.Text.{Text}
 use Rattle.glob_walk.specs.Marks.{Found, Unread}
 use Rattle.glob_walk.specs.Walks.{Outcome, Gives, LimitAt, NoMemory}
 use Rattle.glob_walk.specs.declared.error.GlobError.{GlobError}
-use Rattle.glob_walk.specs.declared.walk.End.TheVariants as end
+use Rattle.glob_walk.specs.declared.ending.End.TheVariants as end
 use Rattle.glob_console.specs.declared.find.findings.Findings.{Findings}
 
 -- These bytes follow those that waited, and of all of these the first were written, and the others wait.

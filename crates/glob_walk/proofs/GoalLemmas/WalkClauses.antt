@@ -11,8 +11,8 @@ use Rattle.glob_walk.specs.Order.{IsOrderly}
 use Rattle.glob_walk.specs.Walks.{Gives, AreItems, IsWalk}
 use Rattle.glob_walk.specs.WalkGoals.{item_of, given_items}
 use Rattle.glob_walk.specs.declared.error.GlobError.{GlobError}
-use Rattle.glob_walk.specs.declared.walk.End.{End}
-use Rattle.glob_walk.specs.declared.walk.End.TheVariants.{Done, Limit, Memory}
+use Rattle.glob_walk.specs.declared.ending.End.{End}
+use Rattle.glob_walk.specs.declared.ending.End.TheVariants.{Done, Limit, Memory}
 use Rattle.glob_walk.proofs.GoalLemmas.Clauses.{IsBeginning-whole, IsBeginning-within, reaches_goal, gives_goal, comes_in_order}
 
 -- the items of answers that say them

@@ -9,9 +9,9 @@ use Rattle.glob_tree.specs.Content.{Content}
 use Rattle.glob_tree.specs.Answers.{IsTold}
 use Rattle.glob_walk.specs.Private.Walking.{refusal_end}
 use Rattle.glob_walk.specs.Walks.{Outcome, Gives, LimitAt, NoMemory, outcome, AreItems, Charges, StopsAt, BreaksOff, IsUpTo, works, IsWalk, IsWalkAsked, HasNoRefusal, Walking, IsFresh, Goes, TakesFront}
-use Rattle.glob_walk.specs.declared.walk.End.{End}
+use Rattle.glob_walk.specs.declared.ending.End.{End}
 use Rattle.glob_walk.specs.declared.error.GlobError.{GlobError}
-use Rattle.glob_walk.specs.declared.walk.End.TheVariants as end
+use Rattle.glob_walk.specs.declared.ending.End.TheVariants as end
 use Rattle.glob_walk.proofs.ListingLemmas.Marks.{items-append, cost-append, front-append}
 use Rattle.glob_walk.proofs.WalkLemmas.Stepping.{append_none}
 

@@ -12,8 +12,8 @@ use Rattle.glob_walk.specs.declared.meter.Meter.{Meter}
 use Rattle.glob_walk.specs.declared.stack.Stack.{Stack}
 use Rattle.glob_walk.specs.declared.turn.Turn.{Turn}
 use Rattle.glob_walk.specs.declared.turn.Turn.TheVariants as turn
-use Rattle.glob_walk.specs.declared.walk.End.{End}
-use Rattle.glob_walk.specs.declared.walk.End.TheVariants as end
+use Rattle.glob_walk.specs.declared.ending.End.{End}
+use Rattle.glob_walk.specs.declared.ending.End.TheVariants as end
 use Rattle.glob_walk.specs.Private.Tasks.{question_of, IsNextOpened}
 use Rattle.glob_walk.specs.Private.Stacks.{ready, IsWithin}
 use Rattle.glob_walk.specs.declared.machine.Step.{Step}

@@ -8,10 +8,9 @@ ghost use Rattle.glob_walk.specs.Listing.{listing};
 ghost use Rattle.glob_walk.specs.Machines.{IsFreshMachine, left_of};
 ghost use Rattle.glob_walk.specs.Walks.{IsFresh, RefusesWith};
 
-use crate::error::GlobResult;
-use crate::machine::{Step, WalkMachine};
 use glob_pattern::{MatchOptions, PatternRefusal};
 use glob_tree::Tree;
+use glob_walk::{GlobResult, Step, WalkMachine};
 use std::marker::Model;
 
 /// The items of a walk: the paths that a pattern leads to in a tree, in order, and an error for each directory that

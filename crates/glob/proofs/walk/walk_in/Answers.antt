@@ -2,8 +2,8 @@ use Rattle.glob_walk.specs.Listing.{listing}
 use Rattle.glob_walk.specs.WalkGoals.{WalksPlainly, FindsGoal, FindsExactly, FindsInOrder}
 use Rattle.glob_walk.proofs.GoalLemmas.Clauses.{plain_walk}
 use Rattle.glob_walk.proofs.GoalLemmas.WalkClauses.{walk_reaches_goal, walk_gives_goal, walk_is_orderly}
-use Rattle.glob_walk.proofs.WalkLemmas.Beginning.{if_ok, if_err, of_ok, of_err, begun_within, begun_asked, begun_told, begun_walk}
-use Rattle.glob_walk.proofs.walk.walk_in.Goals as goal
+use Rattle.glob.proofs.Beginning.{if_ok, if_err, of_ok, of_err, begun_within, begun_asked, begun_told, begun_walk}
+use Rattle.glob.proofs.walk.walk_in.Goals as goal
 
 pub returns-clause-accepted : goal.returns-clause-accepted
 returns-clause-accepted g c = if_ok _ _ c.walked.result (λ w b. of_ok _ c.glob_in.result b.0 b.1 c.glob_in.ensures.accepted) c.walked.ensures.whole

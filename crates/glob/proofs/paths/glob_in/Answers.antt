@@ -1,6 +1,6 @@
 use Rattle.std.proofs.Common.{Some, ap, ◌∙◌}
 use Rattle.glob_walk.specs.Aims.{listing_of}
-use Rattle.glob_walk.proofs.paths.glob_in.Goals as goal
+use Rattle.glob.proofs.paths.glob_in.Goals as goal
 
 pub returns-clause-aim : goal.returns-clause-aim
 returns-clause-aim g c = λ x. ap (listing_of x) c.new-2.ensures.aim ∙ c.in_ok-machine.ensures.aim x

@@ -8,22 +8,11 @@ ghost use Rattle.glob_walk.specs.Private.Walking.{EndsAs, refusal_end};
 ghost use Rattle.glob_walk.specs.WalkGoals.{FindsGoal, FindsExactly, FindsInOrder};
 ghost use Rattle.glob_walk.specs.Walks.{outcome, HasNoRefusal, IsFresh, IsWalk, IsWalkAsked, RefusesWith, Walking};
 
-use crate::error::{GlobCause, GlobResult};
 use crate::paths::{Paths, glob_in};
 use glob_pattern::{MatchOptions, PatternRefusal};
 use glob_tree::Tree;
+use glob_walk::{End, GlobCause, GlobResult};
 use std::alloc::Allocator;
-
-/// How a walk ended. Over a file `x`, `*` needs 3 units: with the limit 3 it ends with `Done`, and with 2 with `Limit`.
-#[derive(Clone, Copy, Debug, PartialEq, Eq)]
-pub enum End {
-    /// All of it was done.
-    Done,
-    /// Out of memory: an allocation failed.
-    Memory,
-    /// A further unit of work did not fit the limit.
-    Limit,
-}
 
 /// A whole walk. That of `*` over a file `x` has the item `x`, the end `Done`, and 3 units spent: for the lookup of the
 /// start, its listing, and the entry.

@@ -8,7 +8,7 @@ use Rattle.glob_walk.specs.Marks.{Mark}
 use Rattle.glob_walk.specs.Private.Walking.{EndsAs}
 use Rattle.glob_walk.specs.Walks.{Walking, IsFresh, IsWalk, IsWalkAsked}
 use Rattle.glob_walk.specs.declared.error.GlobError.{GlobError}
-use Rattle.glob_walk.specs.declared.walk.End.{End}
+use Rattle.glob_walk.specs.declared.ending.End.{End}
 
 -- what holds of a value holds of it in another way
 pub if_ok : {X E : Type 0} (P Q : X → Type 0) (r : Result X E) → ((x : X) → P x → Q x) → IfOk r P → IfOk r Q

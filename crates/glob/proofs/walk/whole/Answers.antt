@@ -1,6 +1,6 @@
 use Rattle.std.proofs.Common.{sym, subst}
 use Rattle.glob_walk.specs.Private.Walking.{EndsAs}
-use Rattle.glob_walk.proofs.walk.whole.Goals as goal
+use Rattle.glob.proofs.walk.whole.Goals as goal
 
 pub returns : goal.returns
 returns g c =

@@ -4,7 +4,7 @@ use Rattle.glob_walk.specs.Machines.{IsAskedAfter, Says, Ends, saying, step_unit
 use Rattle.glob_walk.specs.Questions.{IsSeenIn, IsListWith, IsListedIn}
 use Rattle.glob_walk.specs.Walks.{outcome}
 use Rattle.glob_walk.proofs.WalkLemmas.Driving.{Drives, Drives-first, Drives-after, Drives-last, IsDriven-last, seen_fits, listed_fits}
-use Rattle.glob_walk.proofs.paths.PathsIterator.next.Goals as goal
+use Rattle.glob.proofs.paths.PathsIterator.next.Goals as goal
 
 pub loop-step-init : goal.loop-step-init
 loop-step-init g c =

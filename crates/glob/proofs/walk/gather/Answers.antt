@@ -2,9 +2,9 @@ use Rattle.std.proofs.Common.{rules, ◌≡◌, ◌∙◌, ◌++◌, ◌∷◌, 
 use Rattle.std.specs.Prelude.{option_map}
 use Rattle.glob_walk.specs.Private.Walking.{refusal_end}
 use Rattle.glob_walk.specs.Walks.{Goes, outcome}
-use Rattle.glob_walk.specs.declared.walk.End.TheVariants as end
+use Rattle.glob_walk.specs.declared.ending.End.TheVariants as end
 use Rattle.glob_walk.proofs.WalkLemmas.Gathering.{Gathers, Ends, Gathers-none, Gathers-item, Ends-done, Ends-refusal, Ends-memory, item_from_no_end}
-use Rattle.glob_walk.proofs.walk.gather.Goals as goal
+use Rattle.glob.proofs.walk.gather.Goals as goal
 
 pub loop-item-init : goal.loop-item-init
 loop-item-init g c = subst (λ xs. Gathers g.T.Tree.asks g.T.Tree.tells c.args.paths.now xs c.args.paths.now) (sym c.requires.empty) (Gathers-none g.T.Tree.asks g.T.Tree.tells c.args.paths.now c.requires.fresh)

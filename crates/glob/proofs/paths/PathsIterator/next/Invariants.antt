@@ -1,7 +1,7 @@
 use Rattle.std.proofs.Common.{◌+◌, ◌-◌, ◌*◌}
 use Rattle.glob_walk.specs.Machines.{saying, step_units}
 use Rattle.glob_walk.proofs.WalkLemmas.Driving.{Drives}
-use Rattle.glob_walk.proofs.paths.PathsIterator.next.Given as goal
+use Rattle.glob.proofs.paths.PathsIterator.next.Given as goal
 
 abbrev pub invariant-loop-step : goal.invariant-loop-step
 invariant-loop-step g l = Drives g.T.Tree.asks g.T.Tree.tells l.fn.self l.self-inside.tree l.self-inside.machine (saying l.step)
