@@ -15,7 +15,7 @@ ROOT = Path(__file__).resolve().parent.parent
 CALLING = ROOT / "crates/glob/CALLING.md"
 PAGE = ROOT / "docs/reference/contracts.md"
 WORDS = ROOT / "docs/reference/words.md"
-CRATES = ["glob_pattern", "glob_lines", "glob_tree", "glob_walk"]
+CRATES = ["glob_pattern", "glob_lines", "glob_tree", "glob_memory", "glob_walk", "glob"]
 OTHERS = {
     "glob_set": {"PatternSet"},
     "glob_prune": {"Pruned", "PhysicalDisk", "Exclusion"},
@@ -31,12 +31,14 @@ OTHERS = {
 
 
 def public_names(crate):
-    """What the crate glob re-exports of a crate. What is quoted of another crate, of one for C the exported functions."""
+    """What the crate glob exports of a crate, or of its own modules. What is quoted of another crate, of one for C the
+    exported functions."""
     if crate in OTHERS:
         sources = [path.read_text(encoding="utf-8") for path in (ROOT / "crates" / crate / "src").rglob("*.rt")]
         return OTHERS[crate] or set(re.findall(r'pub extern "C" fn (\w+)', "\n".join(sources)))
     text = (ROOT / "crates/glob/src/lib.rt").read_text(encoding="utf-8")
-    return set(re.findall(r"\w+", " ".join(re.findall(rf"pub use {crate}::([^;]*);", text))))
+    begins = r"(?!glob_)\w+" if crate == "glob" else crate
+    return set(re.findall(r"\w+", " ".join(re.findall(rf"pub use {begins}::([^;]*);", text))))
 
 
 def owners(lines):

@@ -5,8 +5,9 @@ ghost use Rattle.glob_page.specs.Answers.{fault, yes};
 use crate::buffer::{FAULT, NO_PATH, NOT_UTF8, OUT_OF_MEMORY, TOO_LARGE, YES, write};
 use crate::matching::options_of;
 use crate::story::Story;
+use glob_memory::{MemTree, TreeRefusal};
 use glob_pattern::{PatternError, PatternRefusal};
-use glob_tree::{Entry, ListError, Look, MemTree, Tree, TreeRefusal};
+use glob_tree::{Entry, ListError, Look, Tree};
 use glob_walk::{GlobResult, Step, WalkMachine};
 use std::alloc::{AllocError, Global};
 
