@@ -1,9 +1,9 @@
 //! Errors among the paths of a walk, over trees in memory.
 use super::runs::{Job, run};
 use super::writers::Digit;
+use glob::{MemTree, TreeRefusal};
 use glob_console::{ErrorLines, Every, WalkSettings, find_in};
 use glob_pattern::MatchOptions;
-use glob_tree::{MemTree, TreeRefusal};
 use glob_walk::End;
 use std::cell::Cell;
 use std::io::ErrorKind;
