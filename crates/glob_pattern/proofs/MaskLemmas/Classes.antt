@@ -106,6 +106,19 @@ module _ (o : MatchOptions) (opening : Bool) where
       → class_of o opening c ≡ (if not a then 258 else if s then 256 else if d then 257 else ascii_class o.case_sensitive c)
   class-at c a s d is_a is_s is_d = rw (← is_a, ← is_s, ← is_d) refl
 
+  -- there are 259 classes
+  pub class-below : (c : ℕ) → class_of o opening c < 259
+  class-below c =
+      ⊎_elim
+      (λ low. let ascii = ascii_class-below o.case_sensitive c low in rw (lt-ltb c 128 low) (cases-below (is_excluded_separator o c) (is_excluded_dot o opening c) ascii))
+      (λ high. rw (le-ltb c 128 high) (omega arith))
+      (cases_lt c 128)
+    where
+      cases-below : (s d : Bool) → ascii_class o.case_sensitive c < 256 → (if s then 256 else if d then 257 else ascii_class o.case_sensitive c) < 259
+      cases-below true d ascii = omega arith
+      cases-below false true ascii = omega arith
+      cases-below false false ascii = omega (arith, ascii)
+
   -- a token takes a character as it takes those of its class
   pub class-cases : (c : ℕ) (t : Token) → (c < 128) ⊎ (is_undecided t ≡ false)
       → ((class_of o opening c ≡ 258) × (takes o opening c t ≡ takes_beyond t))

@@ -1,7 +1,9 @@
-use Rattle.std.proofs.Common.{◌*◌, bit_and, get_or, inl, inr, ⊎_elim, sym, subst, ◌∙◌}
+use Rattle.std.proofs.Common.{◌*◌, ◌<◌, ◌==◌, bit_and, get_or, refl, inl, inr, ⊎_elim, sym, subst, ◌∙◌, arith}
+use Rattle.glob_text.specs.Characters.{slash}
 use Rattle.glob_pattern.specs.Private.CharMasks.{IsCharMasks}
 use Rattle.glob_pattern.specs.Private.TextTable.{table_of}
 use Rattle.glob_pattern.proofs.BitLemmas.SetBits.{IsBitSet-zero, IsBitSet-and, IsBitSet-or}
+use Rattle.glob_pattern.proofs.MaskLemmas.Classes.{class-below}
 use Rattle.glob_pattern.proofs.MaskLemmas.Known.{known-taken, taken-known}
 use Rattle.glob_pattern.proofs.pattern.judge.TextJudgeJudge.takes_each.Goals as goal
 
@@ -71,3 +73,53 @@ returns-clause-took g c = λ j lt.
           (λ (beyond, l). inr (left.1 (l, t)))
           (taken-known judge.options _ judge.current c.args.asked judge.tokens.now _ j c.in-Some.masks.now here at.0 at.2 a t)),
     )
+
+pub overflow_add-self : goal.overflow_add-self
+overflow_add-self g c = omega (arith, c.from.ensures, c.requires.room)
+
+pub invariant_of-self : goal.invariant_of-self
+invariant_of-self g c = record { masked = c.args.self.now.masked; stepped = c.args.self.now.stepped }
+
+pub returns-in_default-clause-same : goal.returns-in_default-clause-same
+returns-in_default-clause-same g c = refl
+
+pub returns-in_default-clause-place : goal.returns-in_default-clause-place
+returns-in_default-clause-place g c = refl
+
+pub returns-in_default-clause-count : goal.returns-in_default-clause-count
+returns-in_default-clause-count g c = rw c.from.ensures refl
+
+pub returns-then-class-ne-BEYOND-clause-same : goal.returns-then-class-ne-BEYOND-clause-same
+returns-then-class-ne-BEYOND-clause-same g c = refl
+
+pub returns-then-class-ne-BEYOND-clause-place : goal.returns-then-class-ne-BEYOND-clause-place
+returns-then-class-ne-BEYOND-clause-place g c = refl
+
+pub returns-then-class-ne-BEYOND-clause-count : goal.returns-then-class-ne-BEYOND-clause-count
+returns-then-class-ne-BEYOND-clause-count g c = rw c.from.ensures refl
+
+pub returns-then-left-eq0-clause-same : goal.returns-then-left-eq0-clause-same
+returns-then-left-eq0-clause-same g c = refl
+
+pub returns-then-left-eq0-clause-place : goal.returns-then-left-eq0-clause-place
+returns-then-left-eq0-clause-place g c = refl
+
+pub returns-then-left-eq0-clause-count : goal.returns-then-left-eq0-clause-count
+returns-then-left-eq0-clause-count g c = rw c.from.ensures refl
+
+pub returns-clause-same : goal.returns-clause-same
+returns-clause-same g c = refl
+
+pub returns-clause-place : goal.returns-clause-place
+returns-clause-place g c = refl
+
+pub returns-clause-count : goal.returns-clause-count
+returns-clause-count g c = rw c.from.ensures refl
+
+pub offset_bounds-masks-class : goal.offset_bounds-masks-class
+offset_bounds-masks-class g c =
+    let below : c.class_of-class.result < 259 = rw c.class_of-class.ensures (class-below c.args.self.now.options (c.args.self.now.before == slash) c.args.self.now.current) in
+    omega (arith, below)
+
+pub bounds-masks-class : goal.bounds-masks-class
+bounds-masks-class g c = rw c.class_of-class.ensures (class-below c.args.self.now.options (c.args.self.now.before == slash) c.args.self.now.current)
