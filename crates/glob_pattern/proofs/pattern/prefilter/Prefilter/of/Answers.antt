@@ -27,3 +27,9 @@ returns g c = record {
   begins = c.folded_first.ensures;
   inside = IsNeedle-within c.args.tokens.now c.of-needle.result _ _ c.of-needle.ensures;
 }
+
+pub slice_bounds-of-start : goal.slice_bounds-of-start
+slice_bounds-of-start g c = omega (arith, ends_within g c)
+
+pub slice_bounds-of-end : goal.slice_bounds-of-end
+slice_bounds-of-end g c = omega arith
