@@ -1,4 +1,5 @@
 use Rattle.std.proofs.Common.{sym, ◌∙◌, arith}
+use Rattle.std.proofs.lemmas.Result.{IfOk-from_err}
 use Rattle.glob_pattern.proofs.GrammarLemmas.Units.{UnitAt-within, IsClear-after, UnitAt-Some}
 use Rattle.glob_pattern.proofs.GrammarLemmas.Reading.{HasRead-more, IsFault-HasRead}
 use Rattle.glob_pattern.proofs.grammar.read_text.Goals as goal
@@ -27,3 +28,12 @@ pub returns-in-None-clause-refused : goal.returns-in-None-clause-refused
 returns-in-None-clause-refused g c =
     IsFault-HasRead c.args.text.now c.loop-place.tokens.items c.loop-place.place c.fault_at.result.pos c.fault_at.result.msg.now
     c.loop-place.invariant.read c.loop-place-test.true (sym c.in_ok-token.ensures ∙ c.in-None.is) c.fault_at.ensures.place c.fault_at.ensures.message
+
+pub returns-in_err-tokens-clause-accepted : goal.returns-in_err-tokens-clause-accepted
+returns-in_err-tokens-clause-accepted g c = IfOk-from_err _ _ c.from_residual.ensures.0
+
+pub returns-in_err-token-clause-accepted : goal.returns-in_err-token-clause-accepted
+returns-in_err-token-clause-accepted g c = IfOk-from_err _ _ c.from_residual-in_err-token.ensures.0
+
+pub returns-in_err-push_unit-in-Some-clause-accepted : goal.returns-in_err-push_unit-in-Some-clause-accepted
+returns-in_err-push_unit-in-Some-clause-accepted g c = IfOk-from_err _ _ c.from_residual-in_err-push_unit-in-Some.ensures.0
