@@ -9,7 +9,7 @@ use bracket::Bracket;
 use std::alloc::Allocator;
 
 /// A token: what a unit of a pattern means. `C` is the content of a bracket.
-#[derive(Clone, Debug, Drop)]
+#[derive(Clone, Drop)]
 pub enum Token<C> {
     /// A character.
     Literal(char),

@@ -9,7 +9,7 @@ use std::slice;
 const FEW: usize = 16;
 
 /// An entry of a bracket.
-#[derive(Clone, Copy, Debug)]
+#[derive(Clone, Copy)]
 pub enum Entry {
     /// One character.
     Single(char),
@@ -32,13 +32,13 @@ impl Entry {
 }
 
 /// The content of a bracket: its entries, in the order of the pattern.
-#[derive(Debug, Drop)]
+#[derive(Drop)]
 pub struct Bracket<A: Allocator = Global> {
     entries: Entries<A>,
 }
 
 /// The entries of a bracket. Most have one, as `[0-9]`, and take no memory for it.
-#[derive(Debug, Drop)]
+#[derive(Drop)]
 enum Entries<A: Allocator> {
     One(Entry),
     Many(Vec<Entry, A>),
