@@ -1,4 +1,5 @@
-use Rattle.std.proofs.Common.{ℕ, ◌+◌, ◌-◌, ◌*◌, ◌∙◌, IsTrue, sym, arith}
+use Rattle.std.proofs.Common.{ℕ, ◌+◌, ◌-◌, ◌*◌, ◌∙◌, IsTrue, refl, sym, arith}
+use Rattle.std.proofs.lemmas.Nat.{and_le_r}
 use Rattle.std.proofs.lemmas.Bool.{false≢true}
 use Rattle.glob_pattern.proofs.BitLemmas.LowestBits.{lowest_set, IsBitSet-cleared, ones-cleared, took-more, next-taken, next-left}
 use Rattle.glob_pattern.proofs.matcher.Judge.takes_each.Goals as goal
@@ -44,3 +45,32 @@ loop-left-preserved g c =
       place = cc;
       same = cc;
     }
+
+pub loop-left-init : goal.loop-left-init
+loop-left-init g c = record {
+  within = λ j s. s;
+  took = λ j lt. (λ s. absurd (s refl), λ h. absurd (h.1 h.0));
+  count = refl;
+  place = refl;
+  same = refl;
+}
+
+pub overflow_cast-bit : goal.overflow_cast-bit
+overflow_cast-bit g c = omega (arith, (lowest_set c.loop-left.left (omega arith) (omega arith)).0)
+
+pub overflow_cast-took : goal.overflow_cast-took
+overflow_cast-took g c = omega (arith, (lowest_set c.loop-left.left (omega arith) (omega arith)).0)
+
+pub overflow_shl-took : goal.overflow_shl-took
+overflow_shl-took g c = omega (arith, (lowest_set c.loop-left.left (omega arith) (omega arith)).0)
+
+pub takes-requires-clause-stepped : goal.takes-requires-clause-stepped
+takes-requires-clause-stepped g c = rw c.loop-left.invariant.place c.requires.stepped
+
+pub loop-left-smaller : goal.loop-left-smaller
+loop-left-smaller g c = omega (arith, and_le_r c.loop-left.left (c.loop-left.left - 1))
+
+pub returns-clause-took : goal.returns-clause-took
+returns-clause-took g c = λ j lt.
+    let took = c.loop-left.invariant.took j lt in
+    (λ s. let t = took.0 s in (t.0, t.2), λ h. took.1 (h.0, (λ s. (rw c.loop-left-test.false at s) refl), h.1))
