@@ -1,6 +1,8 @@
-use Rattle.std.proofs.Common.{◌≡◌, ◌∙◌, map, get_or, sym, arith}
+use Rattle.std.proofs.Common.{◌≡◌, ◌∙◌, map, get_or, sym, subst, arith}
 use Rattle.std.proofs.lemmas.Bool.{ltb-true, lt-ltb}
 use Rattle.std.proofs.lemmas.List.{length-map}
+use Rattle.glob_pattern.specs.Private.Positions.{word_end, HasShapes}
+use Rattle.glob_pattern.proofs.BitLemmas.SetBits.{IsBitSet-zero}
 use Rattle.glob_pattern.specs.declared.matcher.Shape.TheVariants.{One}
 use Rattle.glob_pattern.proofs.PositionLemmas.Mapped.{mapped_at, HasShapes-next}
 use Rattle.glob_pattern.proofs.matcher.shape_word.ShapeWord.new.Goals as goal
@@ -15,3 +17,16 @@ loop-n-preserved g c =
     HasShapes-next shapes c.args.start n c.shape.result c.loop-n.word c.with-word.result _ (omega arith) at
     (λ t. omega (arith, long, ltb-true _ _ t), λ more. lt-ltb _ _ (omega (arith, long, more)))
     c.loop-n.invariant c.with-word.ensures.tokens c.with-word.ensures.wildcards c.with-word.ensures.recursive
+
+pub loop-n-init : goal.loop-n-init
+loop-n-init g c = record {
+  tokens = λ j lt. (λ set. absurd (IsBitSet-zero j set), λ below. absurd (omega (arith, below)));
+  wildcards = λ j lt. (λ set. absurd (IsBitSet-zero j set), λ here. absurd (omega (arith, here.0)));
+  recursive = λ j lt. (λ set. absurd (IsBitSet-zero j set), λ here. absurd (omega (arith, here.0)));
+}
+
+pub returns : goal.returns
+returns g c =
+    let shapes = map g.T.Shaped.shape c.args.tokens.now in
+    let end : c.loop-n.n ≡ word_end shapes c.args.start = omega (arith, length-map c.args.tokens.now g.T.Shaped.shape) in
+    subst (λ e. HasShapes shapes c.args.start e c.loop-n.word) end c.loop-n.invariant
