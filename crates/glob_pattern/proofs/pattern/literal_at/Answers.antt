@@ -1,4 +1,4 @@
-use Rattle.std.proofs.Common.{◌≡◌, ℕ, Option, None, Some, IfSome, chars, subst, get_or}
+use Rattle.std.proofs.Common.{◌≡◌, Option, None, Some, IfSome, chars, subst, get_or}
 use Rattle.glob_pattern.specs.Matching.Literals.{HasLiteral}
 use Rattle.glob_pattern.specs.declared.token.Token.TheVariants.{Literal, AnyChar}
 use Rattle.glob_pattern.proofs.GrammarLemmas.Accepted.{one_reading}
