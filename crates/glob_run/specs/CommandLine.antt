@@ -1,5 +1,5 @@
 -- What the words of a command line ask for. No request is a usage fault.
-use Rattle.std.specs.Prelude.{ℕ, ◌^◌, ◌-◌, ◌||◌, Bool, List, [], ◌∷◌, Option, None, Some, if◌then◌else◌, codes, bytes_eq, true, false, option_map, option_and_then}
+use Rattle.std.specs.Prelude.{ℕ, ◌^◌, ◌-◌, ◌||◌, Bool, List, [], ◌∷◌, Option, None, Some, if◌then◌else◌, codes, bytes_eq, false, option_map, option_and_then}
 use Rattle.glob_console.specs.Words.{is_match_option, is_option, limit_of, with_option}
 use Rattle.glob_pattern.specs.Matching.Options.{new_options}
 use Rattle.glob_lines.specs.Lines.{line_feed}

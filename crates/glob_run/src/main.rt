@@ -3,7 +3,7 @@
 //! of the disk that the pattern matches.
 #![tactic(auto)]
 
-ghost use Rattle.std.specs.Prelude.{◌≡◌, ◌≢◌, ◌≤◌, List, ℕ, Some, None, IfOk, OnErr, chars, map, string_bytes};
+ghost use Rattle.std.specs.Prelude.{◌≡◌, ◌≢◌, ◌≤◌, List, ℕ, Some, None, IfOk, OnErr, chars, map, option_map, string_bytes};
 ghost use Rattle.glob_tree.specs.Answers.{IsTold};
 ghost use Rattle.glob_walk.specs.Components.{walk_fault};
 ghost use Rattle.glob_tree.specs.Content.{Content};
@@ -13,8 +13,8 @@ ghost use Rattle.glob_walk.specs.Listing.{listing};
 ghost use Rattle.glob_run.specs.CommandLine.{request_asked};
 ghost use Rattle.glob_console.specs.FoundPaths.{IsFindStatus, WritesFound, every};
 ghost use Rattle.glob_console.specs.Outcomes.{IsRefused, WritesText};
-ghost use Rattle.glob_run.specs.Outcomes.{CopiesRecords, IsEscapedLine, WritesEscaped};
-ghost use Rattle.glob_run.specs.Requests.{Escaped, Lines, Page, Paths, VersionLine};
+ghost use Rattle.glob_run.specs.Outcomes.{CopiesRecords, IsEscapedLine, Meets, WritesEscaped};
+ghost use Rattle.glob_run.specs.Requests.{Escaped, Lines, Page, Paths, VersionLine, request_of};
 ghost use Rattle.glob_run.specs.declared.command.Settings.{Settings};
 ghost use Rattle.glob_run.specs.declared.help.TheConstants.{HELP, VERSION};
 
@@ -85,7 +85,24 @@ pub fn run_words<T: Tree, R: Read + Drop, W: Write, E: Write>(
         → WritesText VERSION.now (W.contents output.old) (W.contents output.new) result }
 {
     let errors = &mut ErrorLines::new(alloc, "", errors);
-    let Some(command) = Command::parse(words) else {
+    run_command(alloc, tree, Command::parse(words), input, output, errors)
+}
+
+/// Does what the command asks, and returns the status. No command is a usage fault.
+#[tactic(auto, unfolding(crate::specs::Outcomes::Meets))]
+fn run_command<T: Tree, R: Read + Drop, W: Write, E: Write>(
+    alloc: T::Alloc,
+    tree: T,
+    command: Option<Command<'_>>,
+    input: R,
+    output: &mut W,
+    errors: &mut ErrorLines<'_, T::Alloc, E>,
+) -> u8
+    ensures most { result ≤ 2 }
+    ensures request { Meets W.contents (T.tells tree) (R.remaining input)
+        (option_map request_of command.entry) output.old output.new result }
+{
+    let Some(command) = command else {
         return errors.fault(USAGE);
     };
     match command {
