@@ -1,5 +1,5 @@
 -- A walk whose items are written as they come.
-use Rattle.std.proofs.Common.{◌≡◌, ℕ, ◌+◌, ◌-◌, ◌*◌, ◌<◌, ◌≤◌, ◌⊎◌, inl, inr, true, false, Option, List, [], ◌∷◌, ◌++◌, Bool, Result, Ok, Err, refl, ap, sym, subst, ◌∙◌, append-nil, arith}
+use Rattle.std.proofs.Common.{◌≡◌, ℕ, ◌+◌, ◌<◌, ◌≤◌, ◌⊎◌, inl, inr, true, false, Option, List, [], ◌∷◌, ◌++◌, Bool, Result, Ok, Err, refl, ap, sym, subst, ◌∙◌, append-nil, arith}
 use Rattle.std.specs.Prelude.{⊤}
 use Rattle.std.specs.Io.KnownBytes.{Appends}
 use Rattle.std.specs.Path.{path_buf_bytes}
@@ -11,7 +11,7 @@ use Rattle.std.proofs.lemmas.List.Concat.{flat_map-append}
 use Rattle.std.proofs.lemmas.List.Elements.{filter-append}
 use Rattle.glob_tree.specs.Answers.{IsTold}
 use Rattle.glob_tree.specs.Content.{Content}
-use Rattle.glob_walk.specs.Machines.{MachineState, Saying, AsksLook, AsksList, Says, Ends, IsAskedAfter, IsCharged, StepCounts, StepGoes, is_last_step, left_of, step_outcome, step_units}
+use Rattle.glob_walk.specs.Machines.{MachineState, Saying, AsksLook, AsksList, Says, Ends, IsAskedAfter, StepCounts, StepGoes, is_last_step, left_of, step_units}
 use Rattle.glob_lines.specs.Lines.{AppendsFront, ended_record, with_ends}
 use Rattle.glob_walk.specs.Marks.{Mark, Item, Found, Unread, items, cost, front, paths, IsBeginning}
 use Rattle.glob_walk.specs.Questions.{IsSomeContent}
@@ -22,7 +22,7 @@ use Rattle.glob_walk.specs.declared.error.GlobCause.{GlobCause}
 use Rattle.glob_walk.specs.declared.error.GlobError.{GlobError}
 use Rattle.glob_walk.specs.declared.ending.End.TheVariants as last
 use Rattle.glob_walk.specs.declared.error.GlobCause.TheVariants as cause
-use Rattle.glob_walk.specs.Walks.{Outcome, Gives, LimitAt, NoMemory, outcome, error_outcome, item_number}
+use Rattle.glob_walk.specs.Walks.{Outcome, Gives, LimitAt, NoMemory, outcome, error_outcome}
 use Rattle.glob_walk.proofs.ListingLemmas.Marks.{IsBeginning-append}
 use Rattle.glob_console.specs.FoundPaths.{FindsPaths, FindsSomeBytes, GaveItems, has_any, has_unread, wanted_paths}
 use Rattle.glob_console.specs.Private.Writing.{IsPath, Queues, is_item_wanted, item_record, noting}
@@ -146,19 +146,19 @@ no_path cause.Limit e = tt
 module _ {X A : Type 0} (end : ℕ) (f : Content → Text → Bool) (tells : X → Option Content) (of : X) (first : MachineState A) (old : Option (List ℕ)) (tree : X) (walk : MachineState A) (findings : Findings) (held : Option (List ℕ)) (waiting : List ℕ) where
   -- the tree answered a question
   pub Written-answer : (s s' : Saying) → step_units s ≡ 1 → Written end f tells of first old tree s walk findings held waiting
-      → (tree' : X) (walk' : MachineState A) (held' : Option (List ℕ)) (waiting' : List ℕ) (n : ℕ) (Fits : Content → Type 0) → tells tree' ≡ tells tree → Queues held waiting held' waiting' []
-      → ((x : Content) → IsTold (tells tree) x → Fits x) → StepGoes Fits n walk s' walk' → TellsStep Fits walk s' walk'
+      → (tree' : X) (walk' : MachineState A) (held' : Option (List ℕ)) (waiting' : List ℕ) (n : ℕ) → tells tree' ≡ tells tree → Queues held waiting held' waiting' []
+      → StepCounts n walk s' walk' → TellsStep (IsTold (tells tree)) walk s' walk'
       → Written end f tells of first old tree' s' walk' findings held' waiting'
-  Written-answer s s' question w tree' walk' held' waiting' n Fits same queued fits goes next = record {
+  Written-answer s s' question w tree' walk' held' waiting' n same queued counts next = record {
     given = w.given;
     texts = w.texts;
     kept = w.kept;
     same = same ∙ w.same;
-    limit = goes.counts.limit ∙ w.limit;
-    within = goes.counts.within;
-    few = goes.counts.few;
-    asks = goes.counts.asks;
-    ends = goes.counts.ends;
+    limit = counts.limit ∙ w.limit;
+    within = counts.within;
+    few = counts.few;
+    asks = counts.asks;
+    ends = counts.ends;
     queued = subst (Queues old [] held' waiting') (append-nil (with_ends end w.texts))
         (Queues-trans old held held' [] waiting waiting' (with_ends end w.texts) [] w.queued queued);
     path = w.path;
@@ -174,7 +174,7 @@ module _ {X A : Type 0} (end : ℕ) (f : Content → Text → Bool) (tells : X �
       kept Ends c ms q h = absurd (omega (arith, q))
 
       still : GoesOn tells of first w.given s walk findings.end → GoesOn tells of first w.given s' walk' findings.end
-      still (inl (done, said)) = inl (done, λ c told ms begun. next c ms w.given (fits c (w.same ∙ told.0, told.1)) (kept s c ms question (said c told ms begun)))
+      still (inl (done, said)) = inl (done, λ c told ms begun. next c ms w.given (w.same ∙ told.0, told.1) (kept s c ms question (said c told ms begun)))
       still (inr (is, gave)) = let z : step_units s ≡ 0 = ap step_units is in absurd (omega (arith, z, question))
 
   -- some of the lines that wait were written
@@ -377,22 +377,3 @@ module _ {X A : Type 0} (end : ℕ) (f : Content → Text → Bool) (tells : X �
       → (held' : Option (List ℕ)) → AppendsFront held held' (waiting ++ item_record end item) → Over tells of first (λ ms c. FindsSomeBytes end (f c) ms old held')
   Written-fault (Ok path) w sure held' some = path_fault _ w (path_buf_bytes path) refl sure held' some
   Written-fault (Err e) w sure held' some = Written-before _ w held' (subst (AppendsFront held held') (append-nil waiting) some)
-
--- whether a step follows
-abbrev pub step_number : Saying → ℕ
-step_number AsksLook = 1
-step_number (AsksList kinds) = 1
-step_number (Says o) = 1
-step_number Ends = 0
-
--- each step leaves fewer
-pub fewer_steps : {A : Type 0} (n : ℕ) (c c' : MachineState A) (s s' : Saying) → step_number s ≡ 1 → StepCounts n c s' c'
-    → 2 * (c'.limit - c'.spent) + 2 * (c'.limit + 1 - c'.given) + step_number s' < 2 * (c.limit - c.spent) + 2 * (c.limit + 1 - c.given) + step_number s
-fewer_steps {A} n c c' s s' one h = by_saying s' h.charged h.given
-  where
-    by_saying : (x : Saying) → IsCharged n c x c' → c'.given ≡ c.given + item_number (step_outcome x)
-        → 2 * (c'.limit - c'.spent) + 2 * (c'.limit + 1 - c'.given) + step_number x < 2 * (c.limit - c.spent) + 2 * (c.limit + 1 - c.given) + step_number s
-    by_saying AsksLook e g = omega (arith, one, h.limit, h.within, e, g)
-    by_saying (AsksList kinds) e g = omega (arith, one, h.limit, h.within, e, g)
-    by_saying (Says o) e g = omega (arith, one, h.limit, h.within, h.grows, h.few, g)
-    by_saying Ends e g = omega (arith, one, h.limit, h.within, h.grows, g)

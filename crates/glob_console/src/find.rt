@@ -1,12 +1,13 @@
 //! What a walk of a tree finds and a choice wants, a record for each path.
-ghost use Rattle.std.specs.Prelude.{◌≡◌, ◌≢◌, ◌++◌, [], List, None, false, IfOk, IfErr, IsErrAnd, OnErr, OnOk};
+ghost use Rattle.std.specs.Prelude.{◌≡◌, ◌≢◌, ◌++◌, [], ℕ, List, None, false, IfOk, IfErr, IsErrAnd, OnErr, OnOk};
 ghost use Rattle.glob_tree.specs.Answers.{IsTold};
 ghost use Rattle.glob_tree.specs.Content.{Content};
 ghost use Rattle.glob_lines.specs.Lines.{AppendsFront};
 ghost use Rattle.glob_walk.specs.Components.{walk_fault};
 ghost use Rattle.glob_walk.specs.Listing.{listing};
-ghost use Rattle.glob_walk.specs.Marks.{Mark};
-ghost use Rattle.glob_walk.specs.Driven.{HasGiven};
+ghost use Rattle.glob_walk.specs.Machines.{IsAskedAfter, StepCounts, saying, step_units};
+ghost use Rattle.glob_walk.specs.Marks.{Item, Mark};
+ghost use Rattle.glob_walk.specs.Driven.{GivesNext, HasGiven};
 ghost use Rattle.glob_console.specs.FoundPaths.{FindsPaths, FindsSomeBytes, IsFindFault, IsRefusal};
 ghost use Rattle.glob_console.specs.Private.Writing.{IsPath, Queues, is_item_wanted, item_record};
 
@@ -125,21 +126,6 @@ fn write_by<T: Tree, C: Choice, W: Write, E: Write>(
     let mut step = walk.next();
     loop {
         step = match step {
-            Step::Look => {
-                lines.before_ask(walk.spent(), output)?;
-                let seen = tree.look(walk.path());
-                walk.looked(seen)
-            }
-            Step::List => {
-                lines.before_ask(walk.spent(), output)?;
-                let listed = tree.list(walk.path());
-                walk.listed(listed)
-            }
-            Step::ListNames => {
-                lines.before_ask(walk.spent(), output)?;
-                let named = tree.list_names(walk.path());
-                walk.listed(named)
-            }
             Step::Item(item) => {
                 if wants_item(choice, tree, &item)? {
                     findings.note(&item);
@@ -153,7 +139,41 @@ fn write_by<T: Tree, C: Choice, W: Write, E: Write>(
                 lines.flush(output)?;
                 return Ok(findings);
             }
+            question => {
+                lines.before_ask(walk.spent(), output)?;
+                answer(&question, tree, walk)
+            }
         };
+    }
+}
+
+/// Answers the question of a walk by the tree, and returns the next step.
+fn answer<T: Tree>(
+    question: &Step<T::Alloc>,
+    tree: &mut T,
+    walk: &mut WalkMachine<T::Alloc>,
+) -> Step<T::Alloc>
+    requires question { step_units (saying question.now) ≡ 1 }
+    requires asked { IsAskedAfter (saying question.now) walk.old.asked }
+    ensures content { T.tells tree.new ≡ T.tells tree.old }
+    ensures counts { (n : ℕ) × StepCounts n walk.old (saying result) walk.new }
+    ensures driven { (c : Content) → (all : List Mark) → (given : List Item) → IsTold (T.tells tree.old) c
+        → HasGiven all c given walk.old → GivesNext all c given (saying result) walk.new }
+{
+    match question {
+        Step::Look => {
+            let seen = tree.look(walk.path());
+            walk.looked(seen)
+        }
+        Step::List => {
+            let listed = tree.list(walk.path());
+            walk.listed(listed)
+        }
+        Step::ListNames => {
+            let named = tree.list_names(walk.path());
+            walk.listed(named)
+        }
+        Step::Item(_) | Step::Done => unreachable!(),
     }
 }
 

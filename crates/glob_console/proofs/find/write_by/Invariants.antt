@@ -1,7 +1,8 @@
 -- The wanted items before the step were written, or wait.
 use Rattle.std.proofs.Common.{◌+◌, ◌-◌, ◌*◌}
 use Rattle.glob_walk.specs.Machines.{saying}
-use Rattle.glob_console.proofs.FoundLemmas.{Written, step_number}
+use Rattle.glob_console.proofs.FoundLemmas.{Written}
+use Rattle.glob_console.proofs.StepLemmas.{step_number}
 use Rattle.glob_console.proofs.find.write_by.Given as goal
 
 abbrev pub invariant-loop-step : goal.invariant-loop-step
