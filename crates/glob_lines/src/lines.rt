@@ -11,7 +11,7 @@ use crate::record_ends::first_end;
 use crate::selection::Selection;
 use crate::watch::Watch;
 use glob_pattern::{MatchOptions, Pattern};
-use std::alloc::Allocator;
+use std::alloc::{AllocError, Allocator};
 use std::io::{self, Read, Write};
 
 /// How many bytes one read may return.
@@ -167,9 +167,14 @@ fn read_piece<A: Allocator, R: Read>(
 {
     let end = filled + READ_LEN;
     if input.len() < end {
-        input.resize(end, 0).map_err(|_| LineFault::Memory)?;
+        let Ok(()) = input.resize(end, 0) else {
+            return Err(LineFault::Memory);
+        };
     }
-    reader.read(&mut input[filled..]).map_err(LineFault::Read)
+    match reader.read(&mut input[filled..]) {
+        Ok(len) => Ok(len),
+        Err(error) => Err(LineFault::Read(error)),
+    }
 }
 
 /// Writes the selected records of the input, each with its end, and returns their number.
@@ -197,14 +202,19 @@ fn write_records<A: Allocator + Copy, S: Selection, W: Write>(
     let mut rest = input;
     while !rest.is_empty() {
         let (first, after) = split_record(rest, end);
-        if selection.selects(first).map_err(|_| LineFault::Memory)? {
+        let Ok(is_selected) = selection.selects(first) else {
+            return Err(LineFault::Memory);
+        };
+        if is_selected {
             keep_record(first, end, &mut output, writer)?;
             count = count.saturating_add(1);
         }
         rest = after;
     }
-    write_all(writer, &output).map_err(LineFault::Write)?;
-    Ok(count)
+    match write_all(writer, &output) {
+        Ok(()) => Ok(count),
+        Err(error) => Err(LineFault::Write(error)),
+    }
 }
 
 /// The first record of `bytes`, and the bytes after its end.
@@ -237,14 +247,28 @@ fn keep_record<A: Allocator, W: Write>(
     ensures failed { IsTrue writer.new.failed ↔ IsErrAnd result IsWrite }
     ensures no_read { ¬ (IsErrAnd result IsRead) }
 {
-    output
-        .extend_from_slice(bytes)
-        .map_err(|_| LineFault::Memory)?;
-    output.push(end).map_err(|_| LineFault::Memory)?;
+    let Ok(()) = push_record(bytes, end, output) else {
+        return Err(LineFault::Memory);
+    };
     if output.len() >= WRITE_LEN {
-        write_all(writer, output).map_err(LineFault::Write)?;
+        if let Err(error) = write_all(writer, output) {
+            return Err(LineFault::Write(error));
+        }
         output.clear();
     }
+    Ok(())
+}
+
+/// Appends the record and its end.
+fn push_record<A: Allocator>(
+    bytes: &[u8],
+    end: u8,
+    output: &mut Vec<u8, A>,
+) -> Result<(), AllocError>
+    ensures { OnOk result (output.new.items ≡ output.old.items ++ ended_record end bytes.now) }
+{
+    output.extend_from_slice(bytes)?;
+    output.push(end)?;
     Ok(())
 }
 
