@@ -1,5 +1,5 @@
 -- Bytes of which the first were written.
-use Rattle.std.proofs.Common.{◌≡◌, ℕ, ◌-◌, Option, None, Some, List, [], ◌++◌, inr, take, drop, length, Result, Ok, Err, OnErr, sym, ap, subst, ◌∙◌, append-nil, append_assoc}
+use Rattle.std.proofs.Common.{◌≡◌, ℕ, ◌-◌, Option, None, Some, List, [], ◌++◌, inr, take, drop, length, Result, Ok, Err, OnErr, OnOk, sym, ap, subst, ◌∙◌, append-nil, append_assoc}
 use Rattle.std.proofs.lemmas.List.{take-append-drop, take_rest}
 use lib.Seq.{take-append_seam}
 use Rattle.std.specs.Io.KnownBytes.{Appends, Keeps}
@@ -48,6 +48,11 @@ text_at_fault text known status is = inr (is, AppendsFront-none known known text
 pub OnErr-from : {T E : Type 0} (r : Result T E) {P : Type 0} → P → OnErr r P
 OnErr-from (Ok x) p = tt
 OnErr-from (Err e) p = p
+
+-- a fact holds where there is no fault too
+pub OnOk-from : {T E : Type 0} (r : Result T E) {P : Type 0} → P → OnOk r P
+OnOk-from (Ok x) p = p
+OnOk-from (Err e) p = tt
 
 -- more bytes follow those that wait
 pub Queues-trans : (a b c : Option (List ℕ)) (first mid last bs cs : List ℕ) → Queues a first b mid bs → Queues b mid c last cs → Queues a first c last (bs ++ cs)
