@@ -1,5 +1,5 @@
 -- What the words after `find` ask for, once their first one or two are read.
-use Rattle.std.proofs.Common.{◌≡◌, ℕ, ◌-◌, ◌≤◌, ◌&&◌, ◌||◌, Bool, true, false, List, [], ◌∷◌, Some, length, get_or, take, drop, map, refl, sym, subst, Bor, arith}
+use Rattle.std.proofs.Common.{◌≡◌, ℕ, ◌-◌, ◌<◌, ◌≤◌, ◌&&◌, ◌||◌, Bool, true, false, List, [], ◌∷◌, None, Some, length, get_or, take, drop, map, refl, sym, subst, Bor, arith}
 use Rattle.std.specs.Prelude.{codes, bytes_eq}
 use Rattle.std.proofs.lemmas.List.{take_rest}
 use Rattle.glob_run.specs.declared.command.Settings.{Settings}
@@ -52,3 +52,18 @@ paths_request-limit o limit most none other (word ∷ words) long more is gives 
     let gives' : limit_of (get_or words 0 other).now ≡ Some most = subst (λ l. limit_of (get_or l 0 other).now ≡ Some most) rest gives in
     subst (λ l. paths_request o limit (map (λ w. w.now) (word ∷ words)) ≡ paths_request o most (map (λ w. w.now) (take (length l - 1) (drop 1 l)))) (sym rest)
     (limit_next o limit most word other words more' is gives')
+
+-- after `-n` and no limit
+pub paths_request-no_limit : (o : Settings) (limit : ℕ) (none other : Bor (List ℕ)) (words : List (Bor (List ℕ))) → 1 ≤ length words → 1 ≤ length (take (length words - 1) (drop 1 words))
+    → bytes_eq (get_or words 0 none).now (codes "-n") ≡ true → limit_of (get_or (take (length words - 1) (drop 1 words)) 0 other).now ≡ None
+    → None ≡ paths_request o limit (map (λ w. w.now) words)
+paths_request-no_limit o limit none other [] long more is gives = absurd (omega (arith, long))
+paths_request-no_limit o limit none other (word ∷ []) long more is gives = absurd (omega (arith, more))
+paths_request-no_limit o limit none other (word ∷ next ∷ words) long more is gives =
+    let gives' : limit_of next.now ≡ None = subst (λ l. limit_of (get_or l 0 other).now ≡ None) (take_rest (word ∷ next ∷ words) 1) gives in
+    rw is (rw gives' refl)
+
+-- where no word is left
+pub paths_request-none : (o : Settings) (limit : ℕ) (words : List (Bor (List ℕ))) → length words < 1 → None ≡ paths_request o limit (map (λ w. w.now) words)
+paths_request-none o limit [] short = refl
+paths_request-none o limit (word ∷ words) short = absurd (omega (arith, short))

@@ -184,7 +184,6 @@ fn filter_input<A: Allocator + Copy, R: Read + Drop, W: Write>(
 }
 
 /// Writes the pattern that stands for the text alone, and returns the status.
-#[tactic(auto, unfolding(crate::specs::Outcomes::WritesEscaped))]
 fn run_escape<A: Allocator + Copy, W: Write, E: Write>(
     alloc: A,
     text: &str,
