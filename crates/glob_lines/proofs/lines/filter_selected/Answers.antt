@@ -1,8 +1,15 @@
 use Rattle.std.proofs.Common.{subst}
+use Rattle.std.proofs.lemmas.Result.{err_from_is_err_and}
 use Rattle.glob_lines.specs.Lines.{Selected, WritesSomeKept, WritesKeptBytes, CopiesSomeSelected, CopiesSelectedBytes}
 use Rattle.glob_lines.proofs.LineLemmas.KnownMoves.{IfSome-all_read}
 use Rattle.glob_lines.proofs.LineLemmas.MatchingLines.{selected_decided, some_records-from_front, some_bytes-from_front, some_records-none, IfSome-each}
 use Rattle.glob_lines.proofs.lines.filter_selected.Goals as goal
+
+pub returns-in_err-input-clause-records : goal.returns-in_err-input-clause-records
+returns-in_err-input-clause-records g c = rw (err_from_is_err_and c.from_residual.result c.from_residual.ensures.1).1 tt
+
+pub returns-in_err-input-clause-end : goal.returns-in_err-input-clause-end
+returns-in_err-input-clause-end g c = rw (err_from_is_err_and c.from_residual.result c.from_residual.ensures.1).1 tt
 
 pub returns-in_err-input-clause-memory : goal.returns-in_err-input-clause-memory
 unfolding CopiesSomeSelected
