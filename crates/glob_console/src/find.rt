@@ -148,6 +148,7 @@ fn write_by<T: Tree, C: Choice, W: Write, E: Write>(
 }
 
 /// Answers the question of a walk by the tree, and returns the next step.
+#[inline]
 fn answer<T: Tree>(
     question: &Step<T::Alloc>,
     tree: &mut T,
