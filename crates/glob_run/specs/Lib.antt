@@ -1,3 +1,4 @@
 pub mod CommandLine
 pub mod Outcomes
+pub mod Private
 pub mod Requests

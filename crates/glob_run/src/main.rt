@@ -13,7 +13,8 @@ ghost use Rattle.glob_walk.specs.Listing.{listing};
 ghost use Rattle.glob_run.specs.CommandLine.{request_asked};
 ghost use Rattle.glob_console.specs.FoundPaths.{IsFindStatus, WritesFound, every};
 ghost use Rattle.glob_console.specs.Outcomes.{IsRefused, WritesText};
-ghost use Rattle.glob_run.specs.Outcomes.{CopiesRecords, IsEscapedLine, Meets, WritesEscaped};
+ghost use Rattle.glob_run.specs.Outcomes.{CopiesRecords, IsEscapedLine, WritesEscaped};
+ghost use Rattle.glob_run.specs.Private.Meeting.{Meets};
 ghost use Rattle.glob_run.specs.Requests.{Escaped, Lines, Page, Paths, VersionLine, request_of};
 ghost use Rattle.glob_run.specs.declared.command.Settings.{Settings};
 ghost use Rattle.glob_run.specs.declared.help.TheConstants.{HELP, VERSION};
@@ -89,7 +90,7 @@ pub fn run_words<T: Tree, R: Read + Drop, W: Write, E: Write>(
 }
 
 /// Does what the command asks, and returns the status. No command is a usage fault.
-#[tactic(auto, unfolding(crate::specs::Outcomes::Meets))]
+#[tactic(auto, unfolding(crate::specs::Private::Meeting::Meets))]
 fn run_command<T: Tree, R: Read + Drop, W: Write, E: Write>(
     alloc: T::Alloc,
     tree: T,

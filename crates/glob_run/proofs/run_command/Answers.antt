@@ -1,4 +1,4 @@
-use Rattle.glob_run.specs.Outcomes.{Meets}
+use Rattle.glob_run.specs.Private.Meeting.{Meets}
 use Rattle.glob_run.proofs.run_command.Goals as goal
 
 pub returns-in-Match-clause-request : goal.returns-in-Match-clause-request

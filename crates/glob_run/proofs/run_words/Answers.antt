@@ -1,5 +1,5 @@
 use Rattle.std.proofs.Common.{◌∙◌}
-use Rattle.glob_run.specs.Outcomes.{Meets}
+use Rattle.glob_run.specs.Private.Meeting.{Meets}
 use Rattle.glob_run.proofs.run_words.Goals as goal
 
 pub returns : goal.returns
