@@ -1,10 +1,28 @@
-use Rattle.std.proofs.Common.{cond, ◌+◌, rules, ap, ◌∙◌, sym}
-use Rattle.std.specs.Prelude.{string_bytes}
+use Rattle.std.proofs.Common.{cond, ◌+◌, ◌≤◌, Bool, true, false, Option, Some, None, length, arith, rules, ap, ◌∙◌, sym}
+use Rattle.std.specs.Prelude.{nat_le, string_bytes}
+use Rattle.std.proofs.lemmas.Bool.{leb-false}
+use Rattle.glob_walk.specs.declared.plan.Plan.{Plan}
+use Rattle.glob_walk.specs.declared.task.Task.{Task}
+use Rattle.glob_walk.specs.declared.task.Sight.{Sight}
+use Rattle.glob_walk.specs.declared.task.Sight.TheVariants as sight
 use Rattle.glob_walk.specs.declared.frame.Cursor.TheVariants.{At, Inside}
-use Rattle.glob_walk.specs.Private.Tasks.{next_marks}
+use Rattle.glob_walk.specs.Private.Tasks.{next_marks, next_ready, sight_ready}
+use Rattle.glob_walk.specs.Private.Frames.{cursor_steps, cursor_unmet, is_done_at}
 use Rattle.glob_walk.proofs.WalkLemmas.Stepping.{contained_at, at_step, inside_step}
 use Rattle.glob_walk.proofs.frame.Frame.step.Goals.{then-self, else-self}
 use Rattle.glob_walk.proofs.frame.Frame.step.Goals as goal
+
+-- a task is at most one item before the next unit
+one_ready : (last : Bool) (s : Sight) → sight_ready last s ≤ 1
+one_ready last (sight.Unseen w) = omega arith
+one_ready true (sight.Seen d) = omega arith
+one_ready false (sight.Seen d) = omega arith
+one_ready last (sight.Looking w) = omega arith
+one_ready last (sight.Listing recursive kinds) = omega arith
+
+ready_one : {A : Type 0} (plan : Plan A) (next : Option (Task A)) → next_ready plan next ≤ 1
+ready_one plan None = omega arith
+ready_one plan (Some t) = one_ready (nat_le (length plan.components.items) t.component) t.sight
 
 pub returns-in_ok-task-in-Parent-clause-sound : goal.returns-in_ok-task-in-Parent-clause-sound
 returns-in_ok-task-in-Parent-clause-sound g c = λ c' h. c.in_ok-task-in-Parent.ensures.sound c'
@@ -33,3 +51,46 @@ pub returns-in_ok-task-in-Inside-clause-sound : goal.returns-in_ok-task-in-Insid
 returns-in_ok-task-in-Inside-clause-sound g c = λ c' h.
     c.in_ok-task-in-Inside.ensures.sound c' (h.entries (c.index-in-Inside.result.now.name, c.index-in-Inside.result.now.is_dir)
     (contained_at c.args.self.now.entries.items c.in-Inside.i c.index-in-Inside.result.now (search rules) c.index-in-Inside.ensures))
+
+pub index-requires : goal.index-requires
+index-requires g c =
+    let n = length c.args.self.now.entries.items in
+    omega (arith, leb-false n c.in-At.i (sym (ap (is_done_at n) c.in-At.is) ∙ c.requires.going), c.args.self.now.entries.ok.0)
+
+pub index-requires-in-Inside : goal.index-requires-in-Inside
+index-requires-in-Inside g c =
+    let n = length c.args.self.now.entries.items in
+    omega (arith, leb-false n c.in-Inside.i (sym (ap (is_done_at n) c.in-Inside.is) ∙ c.requires.going), c.args.self.now.entries.ok.0)
+
+pub returns-in_ok-task-in-Parent-clause-falls : goal.returns-in_ok-task-in-Parent-clause-falls
+returns-in_ok-task-in-Parent-clause-falls g c = omega (arith, ap (cursor_steps (length c.args.self.now.entries.items)) c.in-Parent.is)
+
+pub returns-in_ok-task-in-Parent-clause-ready : goal.returns-in_ok-task-in-Parent-clause-ready
+returns-in_ok-task-in-Parent-clause-ready g c = omega (arith, ap (cursor_unmet (length c.args.self.now.entries.items)) c.in-Parent.is, c.in_ok-task-in-Parent.ensures.ready)
+
+pub returns-in_ok-task-in-Current-clause-falls : goal.returns-in_ok-task-in-Current-clause-falls
+returns-in_ok-task-in-Current-clause-falls g c = omega (arith, ap (cursor_steps (length c.args.self.now.entries.items)) c.in-Current.is)
+
+pub returns-in_ok-task-in-Current-clause-ready : goal.returns-in_ok-task-in-Current-clause-ready
+returns-in_ok-task-in-Current-clause-ready g c = omega (arith, ap (cursor_unmet (length c.args.self.now.entries.items)) c.in-Current.is, c.in_ok-task-in-Current.ensures.ready)
+
+pub returns-in_ok-task-in-Inside-clause-falls : goal.returns-in_ok-task-in-Inside-clause-falls
+returns-in_ok-task-in-Inside-clause-falls g c =
+    let n = length c.args.self.now.entries.items in
+    omega (arith, leb-false n c.in-Inside.i (sym (ap (is_done_at n) c.in-Inside.is) ∙ c.requires.going), ap (cursor_steps n) c.in-Inside.is)
+
+pub returns-in_ok-task-in-Inside-clause-ready : goal.returns-in_ok-task-in-Inside-clause-ready
+returns-in_ok-task-in-Inside-clause-ready g c = omega (arith, ap (cursor_unmet (length c.args.self.now.entries.items)) c.in-Inside.is, c.in_ok-task-in-Inside.ensures.ready)
+
+pub returns-after-self-clause-falls : goal.returns-after-self-clause-falls
+returns-after-self-clause-falls g c =
+    let n = length c.args.self.now.entries.items in
+    let below = leb-false n c.in-At.i (sym (ap (is_done_at n) c.in-At.is) ∙ c.requires.going) in
+    elim c.if-self.branch [ then-self w ↦ omega (arith, below, ap (cursor_steps n) c.in-At.is, ap (cursor_steps n) w.self-is) | else-self w ↦ omega (arith, below, ap (cursor_steps n) c.in-At.is, ap (cursor_steps n) w.self-is) ]
+
+pub returns-after-self-clause-ready : goal.returns-after-self-clause-ready
+returns-after-self-clause-ready g c =
+    let n = length c.args.self.now.entries.items in
+    let below = leb-false n c.in-At.i (sym (ap (is_done_at n) c.in-At.is) ∙ c.requires.going) in
+    let one = ready_one c.args.plan.now c.in_ok-task-in-At.task in
+    elim c.if-self.branch [ then-self w ↦ omega (arith, below, one, ap (cursor_unmet n) c.in-At.is, ap (cursor_unmet n) w.self-is) | else-self w ↦ omega (arith, below, one, ap (cursor_unmet n) c.in-At.is, ap (cursor_unmet n) w.self-is) ]
