@@ -1,8 +1,8 @@
-use Rattle.std.proofs.Common.{Bool, cond, rules, ◌≡◌, ◌∷◌, [], ◌++◌, true, false, drop, refl, ap, sym, subst, ◌∙◌}
+use Rattle.std.proofs.Common.{Bool, cond, rules, ◌≡◌, ◌∷◌, [], ◌++◌, ℕ, ◌+◌, ◌≤◌, true, false, drop, refl, ap, sym, subst, ◌∙◌, arith}
 use Rattle.std.specs.Prelude.{string_bytes, not, ◌||◌}
 use Rattle.glob_walk.specs.Marks.{Give, Found}
 use Rattle.glob_walk.specs.Components.{is_literal, is_recursive}
-use Rattle.glob_walk.specs.Private.Tasks.{enter_from, IsOpened, IsNextSound}
+use Rattle.glob_walk.specs.Private.Tasks.{enter_from, next_ready, question_of, IsOpened, IsNextSound}
 use Rattle.glob_walk.specs.Private.Stacks.{frames_marks}
 use Rattle.glob_walk.proofs.WalkLemmas.Charging.{breaks_off, uncharged, if_given, if_not_given}
 use Rattle.glob_walk.proofs.WalkLemmas.Naming.{ended, opened_none}
@@ -24,12 +24,19 @@ gives-none : (directories d : Bool) → directories ≡ true → d ≡ false →
 gives-none true d h k = k
 gives-none false d h k = absurd (cc)
 
+unchanged : (spent : ℕ) → spent ≡ spent + 0 + 0
+unchanged spent = omega arith
+
+-- no task makes no item ready
+ready_none : (r before rest spent : ℕ) → r ≡ 0 → r + rest + 0 + spent ≤ before + rest + spent
+ready_none r before rest spent none = omega arith
+
 pub returns-then-is_literal-clause-turn : goal.returns-then-is_literal-clause-turn
 returns-then-is_literal-clause-turn g c = record {
-  limit = search rules;
-  fits = search rules;
-  counts = search rules;
-  plan = search rules;
+  limit = refl;
+  fits = c.requires.limit;
+  counts = unchanged c.args.self.now.meter.spent;
+  plan = refl;
   within = record { components = c.requires.within.components; going = c.requires.within.going };
   asks = search rules;
   ready = search rules;
@@ -52,13 +59,13 @@ returns-then-not-is_dir-clause-turn g c =
     let opens : IsOpened (is_recursive c.in-Some.component.now) (drop c.args.number plan.components.items) =
     opened_for plan.components.items c.args.number c.in-Some.component.now plan.merged c.in-Some.ensures.rest other (is_recursive c.in-Some.component.now) refl in
     record {
-      limit = search rules;
-      fits = search rules;
-      counts = search rules;
-      plan = search rules;
+      limit = refl;
+      fits = c.requires.limit;
+      counts = unchanged c.args.self.now.meter.spent;
+      plan = refl;
       within = record { components = c.requires.within.components; going = c.requires.within.going };
-      asks = search rules;
-      ready = search rules;
+      asks = ap question_of c.requires.none;
+      ready = ready_none _ _ _ _ (ap (next_ready c.args.self.now.stack.plan) c.requires.none);
       sound = λ c' w h. record { next = subst (IsNextSound c') (sym c.requires.none) tt; frames = h.frames };
       takes = λ c' w h. uncharged _ _ _ (ap (λ ms. ms ++ frames_marks c' plan c.args.self.now.stack.frames.items) (ap (λ d. enter_from c' plan c.args.number (string_bytes c.args.path) d) no
           ∙ opened_none c' plan.options plan.directories (is_recursive c.in-Some.component.now) (drop c.args.number plan.components.items) (string_bytes c.args.path) opens) ∙ left_none c' c.args.self.now.stack c.requires.none);
@@ -69,12 +76,12 @@ returns-then-is_dir-clause-turn g c =
     let given : (not c.args.self.now.stack.plan.directories || c.args.is_dir) ≡ true =
     elim c.then-is_dir.branch [ then-is_dir-via-then-is_dir w ↦ gives-directory c.args.self.now.stack.plan.directories c.args.is_dir (search rules) | then-is_dir-via-else-is_dir+then-not-self w ↦ gives-any c.args.self.now.stack.plan.directories c.args.is_dir (search rules) ] in
     record {
-      limit = search rules;
-      fits = search rules;
-      counts = search rules;
-      plan = search rules;
+      limit = refl;
+      fits = c.requires.limit;
+      counts = unchanged c.args.self.now.meter.spent;
+      plan = refl;
       within = record { components = c.requires.within.components; going = c.requires.within.going };
-      asks = search rules;
+      asks = ap question_of c.requires.none;
       ready = search rules;
       sound = λ c' w h. record { next = subst (IsNextSound c') (sym c.requires.none) tt; frames = h.frames };
       takes = λ c' w h. uncharged _ _ _
@@ -87,13 +94,13 @@ pub returns-in_default-clause-turn : goal.returns-in_default-clause-turn
 returns-in_default-clause-turn g c =
     let kept : (not c.args.self.now.stack.plan.directories || c.args.is_dir) ≡ false = gives-none c.args.self.now.stack.plan.directories c.args.is_dir (search rules) (search rules) in
     record {
-      limit = search rules;
-      fits = search rules;
-      counts = search rules;
-      plan = search rules;
+      limit = refl;
+      fits = c.requires.limit;
+      counts = unchanged c.args.self.now.meter.spent;
+      plan = refl;
       within = record { components = c.requires.within.components; going = c.requires.within.going };
-      asks = search rules;
-      ready = search rules;
+      asks = ap question_of c.requires.none;
+      ready = ready_none _ _ _ _ (ap (next_ready c.args.self.now.stack.plan) c.requires.none);
       sound = λ c' w h. record { next = subst (IsNextSound c') (sym c.requires.none) tt; frames = h.frames };
       takes = λ c' w h. uncharged _ _ _
           (if_not_given (not c.args.self.now.stack.plan.directories || c.args.is_dir) (enter_from c' c.args.self.now.stack.plan c.args.number (string_bytes c.args.path) c.args.is_dir) (frames_marks c' c.args.self.now.stack.plan c.args.self.now.stack.frames.items) (Give (Found (string_bytes c.args.path)))
@@ -103,10 +110,10 @@ returns-in_default-clause-turn g c =
 
 pub returns-in_default-literal_task-clause-turn : goal.returns-in_default-literal_task-clause-turn
 returns-in_default-literal_task-clause-turn g c = record {
-  limit = search rules;
-  fits = search rules;
-  counts = search rules;
-  plan = search rules;
+  limit = refl;
+  fits = c.requires.limit;
+  counts = unchanged c.args.self.now.meter.spent;
+  plan = refl;
   within = tt;
   asks = tt;
   ready = tt;
