@@ -108,14 +108,14 @@ returns-in-Err-Read-clause-turn g c =
     let s = c.args.self.now.stack in
     let t = c.in-Some.task in
     let said : c.args.answer ≡ Err (Read c.in-Err-Read.e) = search rules in
-    let next : c.args.self.now.stack.next ≡ Some c.in-Some.task = search rules in
+    let next = sym c.take.ensures.value ∙ c.in-Some.is in
     record {
-      limit = search rules;
-      fits = search rules;
+      limit = refl;
+      fits = c.requires.limit;
       counts = search rules;
-      plan = search rules;
+      plan = refl;
       within = record { components = c.requires.within.components; going = c.requires.within.going };
-      asks = search rules;
+      asks = ap question_of c.take.ensures.after;
       ready = search rules;
       sound = λ c' w h. record { next = subst (IsNextSound c') (sym c.take.ensures.after) tt; frames = h.frames };
       takes = λ c' w h.
@@ -128,10 +128,10 @@ returns-in-Err-Read-clause-turn g c =
 
 pub returns-in-Err-Memory-clause-turn : goal.returns-in-Err-Memory-clause-turn
 returns-in-Err-Memory-clause-turn g c = record {
-  limit = search rules;
-  fits = search rules;
+  limit = refl;
+  fits = c.requires.limit;
   counts = search rules;
-  plan = search rules;
+  plan = refl;
   within = tt;
   asks = tt;
   ready = tt;

@@ -1,13 +1,13 @@
-use Rattle.std.proofs.Common.{rules}
+use Rattle.std.proofs.Common.{rules, refl}
 use Rattle.glob_walk.proofs.WalkLemmas.Charging.{breaks_off}
 use Rattle.glob_walk.proofs.walker.Walker.see.Goals as goal
 
 pub returns-in_default-clause-turn : goal.returns-in_default-clause-turn
 returns-in_default-clause-turn g c = record {
-  limit = search rules;
-  fits = search rules;
+  limit = refl;
+  fits = c.requires.limit;
   counts = search rules;
-  plan = search rules;
+  plan = refl;
   within = tt;
   asks = tt;
   ready = tt;
