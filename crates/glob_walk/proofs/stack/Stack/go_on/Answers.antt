@@ -1,4 +1,4 @@
-use Rattle.std.proofs.Common.{rules, ◌≡◌, ℕ, ◌+◌, ◌-◌, ◌<◌, ◌≤◌, true, false, List, length, get_or, set, take, Option, None, Some, refl, sym, ap, ◌∙◌, ◌++◌, subst, arith}
+use Rattle.std.proofs.Common.{◌≡◌, ℕ, ◌+◌, ◌-◌, ◌<◌, ◌≤◌, true, false, List, length, get_or, set, take, Option, None, Some, refl, sym, ap, ◌∙◌, ◌++◌, subst, arith}
 use Rattle.std.specs.Prelude.{vec_len, sum_by}
 use Rattle.std.specs.List.{All}
 use Rattle.std.proofs.lemmas.List.Elements.{All-get_or, All-set}
@@ -44,22 +44,23 @@ returns-then-is_done-clause-left g c = λ c'.
     let done : is_done c.step.new.self ≡ true = sym c.is_done.ensures ∙ c.if-is_done.true in
     ap (λ n. next_marks c' c.args.self.now.plan n ++ frames_marks c' c.args.self.now.plan c.args.self.now.frames.items) c.requires.none
     ∙ last_step_left c' c.args.self.now.plan c.args.self.now.frames.items c.pop.new.self.items (vec_len c.args.self.now.frames - 1) c.in-Some.frame.now c.step.new.self (next_marks c' c.args.self.now.plan c.in_ok-self.field-0)
-    (omega (arith, c.in-Some.ensures.variant.0 refl, c.args.self.now.frames.ok.0)) c.in-Some.ensures.value (c.in_ok-self.ensures.marks c') done (search rules)
+    (omega (arith, c.in-Some.ensures.variant.0 refl, c.args.self.now.frames.ok.0)) c.in-Some.ensures.value (c.in_ok-self.ensures.marks c') done c.pop.ensures.rest
 
 pub returns-then-is_done-clause-within : goal.returns-then-is_done-clause-within
 returns-then-is_done-clause-within g c =
     let n = vec_len c.args.self.now.frames - 1 in
     record {
-      components = All-front (λ f. f.component < length c.args.self.now.plan.components.items) c.args.self.now.frames.items c.pop.new.self.items n c.step.new.self (omega (arith, c.in-Some.ensures.variant.0 refl, c.args.self.now.frames.ok.0)) (search rules) c.requires.within.components;
-      going = All-front (λ f. is_done f ≡ false) c.args.self.now.frames.items c.pop.new.self.items n c.step.new.self (omega (arith, c.in-Some.ensures.variant.0 refl, c.args.self.now.frames.ok.0)) (search rules) c.requires.within.going;
+      components = All-front (λ f. f.component < length c.args.self.now.plan.components.items) c.args.self.now.frames.items c.pop.new.self.items n c.step.new.self (omega (arith, c.in-Some.ensures.variant.0 refl, c.args.self.now.frames.ok.0)) c.pop.ensures.rest c.requires.within.components;
+      going = All-front (λ f. is_done f ≡ false) c.args.self.now.frames.items c.pop.new.self.items n c.step.new.self (omega (arith, c.in-Some.ensures.variant.0 refl, c.args.self.now.frames.ok.0)) c.pop.ensures.rest c.requires.within.going;
     }
 
 pub returns-then-is_done-clause-sound : goal.returns-then-is_done-clause-sound
 returns-then-is_done-clause-sound g c = λ c' h.
-    let frame : IsFrameSound c' c.in-Some.frame.now = search rules in
+    let frame : IsFrameSound c' c.in-Some.frame.now =
+    last-holds (IsFrameSound c') c.args.self.now.frames.items (vec_len c.args.self.now.frames - 1) c.in-Some.frame.now (omega (arith, c.in-Some.ensures.variant.0 refl, c.args.self.now.frames.ok.0)) c.in-Some.ensures.value h.frames in
     record {
       next = c.in_ok-self.ensures.sound c' frame;
-      frames = All-front (IsFrameSound c') c.args.self.now.frames.items c.pop.new.self.items (vec_len c.args.self.now.frames - 1) c.step.new.self (omega (arith, c.in-Some.ensures.variant.0 refl, c.args.self.now.frames.ok.0)) (search rules) h.frames;
+      frames = All-front (IsFrameSound c') c.args.self.now.frames.items c.pop.new.self.items (vec_len c.args.self.now.frames - 1) c.step.new.self (omega (arith, c.in-Some.ensures.variant.0 refl, c.args.self.now.frames.ok.0)) c.pop.ensures.rest h.frames;
     }
 
 pub returns-else-is_done-clause-falls : goal.returns-else-is_done-clause-falls
@@ -77,13 +78,13 @@ returns-else-is_done-clause-ready g c =
 pub returns-then-is_done-clause-falls : goal.returns-then-is_done-clause-falls
 returns-then-is_done-clause-falls g c = λ _.
     let n = vec_len c.args.self.now.frames - 1 in
-    let sums = sum-front frame_weight c.args.self.now.frames.items c.pop.new.self.items n c.in-Some.frame.now c.step.new.self (omega (arith, c.in-Some.ensures.variant.0 refl, c.args.self.now.frames.ok.0)) c.in-Some.ensures.value (search rules) in
+    let sums = sum-front frame_weight c.args.self.now.frames.items c.pop.new.self.items n c.in-Some.frame.now c.step.new.self (omega (arith, c.in-Some.ensures.variant.0 refl, c.args.self.now.frames.ok.0)) c.in-Some.ensures.value c.pop.ensures.rest in
     omega (arith, sums, next-light c.in_ok-self.field-0, c.in_ok-self.ensures.falls)
 
 pub returns-then-is_done-clause-ready : goal.returns-then-is_done-clause-ready
 returns-then-is_done-clause-ready g c =
     let n = vec_len c.args.self.now.frames - 1 in
-    let sums = sum-front unmet c.args.self.now.frames.items c.pop.new.self.items n c.in-Some.frame.now c.step.new.self (omega (arith, c.in-Some.ensures.variant.0 refl, c.args.self.now.frames.ok.0)) c.in-Some.ensures.value (search rules) in
+    let sums = sum-front unmet c.args.self.now.frames.items c.pop.new.self.items n c.in-Some.frame.now c.step.new.self (omega (arith, c.in-Some.ensures.variant.0 refl, c.args.self.now.frames.ok.0)) c.in-Some.ensures.value c.pop.ensures.rest in
     omega (arith, sums, c.in_ok-self.ensures.ready)
 
 pub step-requires-clause-going : goal.step-requires-clause-going
