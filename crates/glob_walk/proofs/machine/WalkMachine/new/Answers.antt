@@ -15,3 +15,6 @@ returns-clause-listing g c = λ x. c.from_plan.ensures.fresh.whole x ∙ returns
 
 pub returns-clause-begun : goal.returns-clause-begun
 returns-clause-begun g c = λ x. given_fresh c.args.limit (listing x c.args.options c.args.pattern.now) x c.from_plan.result c.from_plan.ensures.fresh (returns-clause-listing g c x)
+
+pub from_plan-requires : goal.from_plan-requires
+from_plan-requires g c = record { start = c.in_ok-start.ensures.ok ∙ c.start.ensures }
