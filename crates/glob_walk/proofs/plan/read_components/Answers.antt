@@ -1,4 +1,5 @@
 use Rattle.std.proofs.Common.{rules, ◌≡◌, true, false, ◌&&◌, ◌∙◌, [], ◌∷◌, ◌++◌, map, sym, ap, subst, lit<}
+use Rattle.std.specs.Str.Iter.{split_text, split_has_more, split_pattern}
 use Rattle.std.proofs.lemmas.Iterator.Consumers.{YieldsList-end}
 use Rattle.std.proofs.lemmas.Iterator.Splits.{YieldsList-from_str_split}
 use Rattle.std.proofs.lemmas.List.{map-append, append-nil}
@@ -46,7 +47,9 @@ loop-piece-preserved-in_ok-push g c =
 
 pub returns-in_err-component-clause-refused : goal.returns-in_err-component-clause-refused
 returns-in_err-component-clause-refused g c =
-    let split = YieldsList-from_str_split slash c.args.text.now (lit< tt) (cc) (cc) (cc) in
+    let parts = c.split-piece-items.ensures in
+    let same = c.into_iter-piece-iterator.ensures.into_iter_gives in
+    let split = YieldsList-from_str_split slash c.args.text.now (lit< tt) (ap split_text same ∙ parts.text) (ap split_has_more same ∙ parts.has_more) (ap split_pattern same ∙ parts.pattern) in
     let i = c.loop-piece.invariant in
     let (others, whole) = split_at_turn split c.loop-piece.yielded _ c.loop-piece.yielded_by _ _ c.in-Some.piece c.in-Some.is c.next.ensures.steps in
     IfErr-from_known _ _ _
@@ -56,12 +59,16 @@ returns-in_err-component-clause-refused g c =
 
 pub returns-clause-components : goal.returns-clause-components
 returns-clause-components g c =
-    let split = YieldsList-from_str_split slash c.args.text.now (lit< tt) (cc) (cc) (cc) in
+    let parts = c.split-piece-items.ensures in
+    let same = c.into_iter-piece-iterator.ensures.into_iter_gives in
+    let split = YieldsList-from_str_split slash c.args.text.now (lit< tt) (ap split_text same ∙ parts.text) (ap split_has_more same ∙ parts.has_more) (ap split_pattern same ∙ parts.pattern) in
     let all = YieldsList-end split c.loop-piece.yielded _ c.loop-piece.yielded_by _ _ c.in-None.is c.next.ensures.steps in
     sym (append-nil c.loop-piece.components.items) ∙ sym (c.loop-piece.invariant.read []) ∙ ap merged (append-nil (map (λ x. x.now) c.loop-piece.yielded) ∙ all.0)
 
 pub returns-clause-accepted : goal.returns-clause-accepted
 returns-clause-accepted g c =
-    let split = YieldsList-from_str_split slash c.args.text.now (lit< tt) (cc) (cc) (cc) in
+    let parts = c.split-piece-items.ensures in
+    let same = c.into_iter-piece-iterator.ensures.into_iter_gives in
+    let split = YieldsList-from_str_split slash c.args.text.now (lit< tt) (ap split_text same ∙ parts.text) (ap split_has_more same ∙ parts.has_more) (ap split_pattern same ∙ parts.pattern) in
     let all = YieldsList-end split c.loop-piece.yielded _ c.loop-piece.yielded_by _ _ c.in-None.is c.next.ensures.steps in
     ap first_fault (sym all.0) ∙ c.loop-piece.invariant.accepted
