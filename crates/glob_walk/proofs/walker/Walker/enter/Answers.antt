@@ -48,13 +48,13 @@ returns-then-is_literal-clause-turn g c = record {
 pub list-requires-clause-opens : goal.list-requires-clause-opens
 list-requires-clause-opens g c =
     let plan = c.args.self.now.stack.plan in
-    let other : is_literal c.in-Some.component.now ≡ false = search rules in
+    let other : is_literal c.in-Some.component.now ≡ false = sym c.is_literal.ensures ∙ c.if-is_literal.false in
     opened_for plan.components.items c.args.number c.in-Some.component.now plan.merged c.in-Some.ensures.rest other c.is_recursive-recursive.result c.is_recursive-recursive.ensures
 
 pub returns-then-not-is_dir-clause-turn : goal.returns-then-not-is_dir-clause-turn
 returns-then-not-is_dir-clause-turn g c =
-    let no : c.args.is_dir ≡ false = search rules in
-    let other : is_literal c.in-Some.component.now ≡ false = search rules in
+    let no : c.args.is_dir ≡ false = c.if-not-is_dir.true in
+    let other : is_literal c.in-Some.component.now ≡ false = sym c.is_literal.ensures ∙ c.if-is_literal.false in
     let plan = c.args.self.now.stack.plan in
     let opens : IsOpened (is_recursive c.in-Some.component.now) (drop c.args.number plan.components.items) =
     opened_for plan.components.items c.args.number c.in-Some.component.now plan.merged c.in-Some.ensures.rest other (is_recursive c.in-Some.component.now) refl in
