@@ -1,4 +1,4 @@
-use Rattle.std.proofs.Common.{Bool, cond, rules, ◌≡◌, ◌∷◌, [], ◌++◌, ℕ, ◌+◌, ◌≤◌, true, false, drop, refl, ap, sym, subst, ◌∙◌, arith}
+use Rattle.std.proofs.Common.{Bool, rules, ◌≡◌, ◌∷◌, ◌++◌, ℕ, ◌+◌, ◌≤◌, true, false, drop, refl, ap, sym, subst, ◌∙◌, arith}
 use Rattle.std.specs.Prelude.{string_bytes, not, ◌||◌}
 use Rattle.glob_walk.specs.Marks.{Give, Found}
 use Rattle.glob_walk.specs.Components.{is_literal, is_recursive}
