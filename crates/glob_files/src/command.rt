@@ -51,7 +51,6 @@ impl<'a, A: Allocator + Copy> Command<'a, A> {
 
 impl<'a, A: Allocator + Copy> Search<'a, A> {
     /// Reads the options, and the patterns behind them.
-    #[tactic(auto, using(crate::proofs::RequestLemmas::reading_patterns, crate::proofs::RequestLemmas::reading_option))]
     fn parse(alloc: A, words: &'a [&'a str]) -> Result<Self, UsageFault<'a>>
         ensures asked { IfOk result (λ search.
             reading None new_options (map (λ w. w.now) words.now) ≡ search_reading search) }
