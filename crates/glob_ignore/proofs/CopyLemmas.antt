@@ -1,5 +1,5 @@
 -- A fault before the copy, and which records are selected.
-use Rattle.std.proofs.Common.{◌≡◌, ℕ, Bool, true, false, ◌&&◌, ◌||◌, not, List, Option, refl, sym, ap, ◌∙◌}
+use Rattle.std.proofs.Common.{◌≡◌, ◌≢◌, ℕ, Bool, true, false, ◌&&◌, ◌||◌, not, List, Option, refl, sym, ap, ◌∙◌, arith}
 use Rattle.std.specs.Str.{is_utf8, IsUtf8}
 use Rattle.std.proofs.lemmas.Str.{IsUtf8-from_is_utf8, is_utf8-from_IsUtf8}
 use Rattle.std.proofs.KnownBytes.{Keeps-refl}
@@ -7,18 +7,29 @@ use Rattle.std.proofs.lemmas.Bool.{false≢true}
 use Rattle.glob_text.specs.Text.{Text}
 use Rattle.glob_rules.specs.Lists.{Ignores}
 use Rattle.glob_rules.specs.Deciding.{is_ignored}
+use Rattle.glob_lines.specs.Lines.{CopiesSelected, CopiesSelectedBytes}
 use Rattle.glob_lines.proofs.CallerLemmas.{selected_bytes_by_keeping}
 use Rattle.glob_ignore.specs.Outcomes.{CopiesUnignored}
 use Rattle.glob_ignore.specs.Paths.{is_directory, is_here, is_selected, path_of}
 
+-- where some records were written
+pub copies_some : (end : ℕ) (list : Ignores) (input old new : Option (List ℕ)) (n : ℕ) → n ≢ 0
+    → CopiesSelected end (is_selected list) input old new n → CopiesUnignored end list input old new 0
+unfolding CopiesUnignored
+copies_some end list input old new n any copied =
+    (λ _. (n, omega (arith, any), copied), λ one. absurd (omega (arith, one)), λ two. absurd (omega (arith, two)))
+
+-- where the status is 2
+pub copies_bytes : (end : ℕ) (list : Ignores) (input old new : Option (List ℕ)) (status : ℕ) → status ≡ 2
+    → CopiesSelectedBytes end (is_selected list) input old new → CopiesUnignored end list input old new status
+unfolding CopiesUnignored
+copies_bytes end list input old new status is some =
+    (λ none. absurd (omega (arith, is, none)), λ one. absurd (omega (arith, is, one)), λ _. some)
+
 -- where nothing was written and the status is 2
 pub copies_at_fault : (end : ℕ) (list : Ignores) (input known : Option (List ℕ)) (status : ℕ) → status ≡ 2 → CopiesUnignored end list input known known status
-unfolding CopiesUnignored
-copies_at_fault end list input known status is = (
-  λ none. let clash : 2 ≡ 0 = sym is ∙ none in absurd (cc),
-  λ none. let clash : 2 ≡ 1 = sym is ∙ none in absurd (cc),
-  λ _. selected_bytes_by_keeping end (is_selected list) input known known (Keeps-refl known),
-)
+copies_at_fault end list input known status is =
+    copies_bytes end list input known known status is (selected_bytes_by_keeping end (is_selected list) input known known (Keeps-refl known))
 
 here_picked : (u h i : Bool) → u ≡ true → h ≡ true → true ≡ (u && (h || i))
 here_picked true true i text here = refl
