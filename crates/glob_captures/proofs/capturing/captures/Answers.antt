@@ -4,6 +4,7 @@ use Rattle.std.proofs.lemmas.Str.{encodes-chars}
 use Rattle.glob_pattern.specs.Computing.Tokens.{tokens_of}
 use Rattle.glob_captures.specs.Private.Ends.{HasShortestEnds}
 use Rattle.glob_captures.proofs.RestLemmas.Pieces.{AreCaptures-from_ends, TakesRest-from_Matches}
+use Rattle.glob_captures.proofs.StepLemmas.{large_at_memory, large_at_value}
 use Rattle.glob_captures.proofs.capturing.captures.Goals as goal
 
 pub shortest_pieces-requires-clause-bytes : goal.shortest_pieces-requires-clause-bytes
@@ -27,3 +28,21 @@ returns-clause-pieces g c =
     let is : c.as_slice-2.result.now ≡ chars c.args.text.now = c.as_slice-2.ensures.value ∙ c.in_ok-characters.ensures in
     AreCaptures-from_ends c.args.options (tokens_of (chars c.args.pattern.now)) (chars c.args.text.now) c.in_ok-pieces.pieces.items
     (subst (λ text. HasShortestEnds c.args.options (tokens_of (chars c.args.pattern.now)) text c.in_ok-pieces.pieces.items) is c.in_ok-pieces.ensures)
+
+pub returns-in_err-matches_with-clause-large : goal.returns-in_err-matches_with-clause-large
+returns-in_err-matches_with-clause-large g c = large_at_memory _ c.if-is_too_large.ensures _ c.from_residual.ensures.1
+
+pub returns-in_err-characters-clause-large : goal.returns-in_err-characters-clause-large
+returns-in_err-characters-clause-large g c = large_at_memory _ c.if-is_too_large.ensures _ c.from_residual-in_err-characters.ensures.1
+
+pub returns-in_err-rests-clause-large : goal.returns-in_err-rests-clause-large
+returns-in_err-rests-clause-large g c = large_at_memory _ c.if-is_too_large.ensures _ c.from_residual-in_err-rests.ensures.1
+
+pub returns-in_err-pieces-clause-large : goal.returns-in_err-pieces-clause-large
+returns-in_err-pieces-clause-large g c = large_at_memory _ c.if-is_too_large.ensures _ c.from_residual-in_err-pieces.ensures.1
+
+pub returns-then-not-branch-clause-large : goal.returns-then-not-branch-clause-large
+returns-then-not-branch-clause-large g c = large_at_value _ c.if-is_too_large.ensures _
+
+pub returns-clause-large : goal.returns-clause-large
+returns-clause-large g c = large_at_value _ c.if-is_too_large.ensures _

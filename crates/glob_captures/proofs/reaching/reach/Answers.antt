@@ -4,6 +4,7 @@ use Rattle.std.proofs.lemmas.Str.{encodes-chars}
 use Rattle.glob_pattern.specs.Computing.Tokens.{tokens_of}
 use Rattle.glob_captures.specs.Reaching.{IsFarthest, AreWaiting, IsReached}
 use Rattle.glob_captures.proofs.ByteLemmas.{length-encodes_take}
+use Rattle.glob_captures.proofs.StepLemmas.{large_at_memory, large_at_value}
 use Rattle.glob_captures.proofs.reaching.reach.Goals as goal
 
 pub bytes_of-requires : goal.bytes_of-requires
@@ -26,3 +27,15 @@ returns-clause-reached g c =
       c.bytes_of.ensures ∙ ap (λ text. length (encode_utf8_all (take k text))) is,
       subst (λ text. AreWaiting o tokens text k c.in_ok-waiting.waiting.items) second c.in_ok-waiting.ensures.waiting,
     )
+
+pub returns-in_err-characters-clause-large : goal.returns-in_err-characters-clause-large
+returns-in_err-characters-clause-large g c = large_at_memory _ c.if-is_too_large.ensures _ c.from_residual.ensures.1
+
+pub returns-in_err-place-clause-large : goal.returns-in_err-place-clause-large
+returns-in_err-place-clause-large g c = large_at_memory _ c.if-is_too_large.ensures _ c.from_residual-in_err-place.ensures.1
+
+pub returns-in_err-waiting-clause-large : goal.returns-in_err-waiting-clause-large
+returns-in_err-waiting-clause-large g c = large_at_memory _ c.if-is_too_large.ensures _ c.from_residual-in_err-waiting.ensures.1
+
+pub returns-clause-large : goal.returns-clause-large
+returns-clause-large g c = large_at_value _ c.if-is_too_large.ensures _
