@@ -6,6 +6,7 @@ use Rattle.glob_rules.specs.Lists.{Ignores}
 use Rattle.glob_rules.specs.Deciding.{names}
 use Rattle.glob_rules.specs.declared.rule.Rule.{Rule}
 use Rattle.glob_rules.proofs.DecidingLemmas.{names-not_directory, names-answer}
+use Rattle.glob_rules.proofs.list.IgnoreList.names.Given.{Over}
 use Rattle.glob_rules.proofs.list.IgnoreList.names.Goals as goal
 use Rattle.glob_rules.proofs.list.IgnoreList.names.Goals.{else-index-via-then-index+else-not-is_directory, else-index-via-else-index}
 
@@ -57,3 +58,19 @@ returns-clause-short g c =
     let is = c.index-patterns-number.is ∙ ap (λ ps. get_or ps k c.index-patterns-number.result) c.patterns.ensures in
     c.matches_with.ensures.short (AreShort-at inside.set.patterns k c.index-patterns-number.result few is short))
     c.requires
+
+pub index-requires : goal.index-requires
+index-requires g c =
+    omega (arith, subst (λ (l : Ignores). c.args.number < length l.rules) (sym c.self.view_is) c.requires, c.self.inside.rules.ok.0)
+
+-- each rule has a pattern
+has_pattern : (g : Over) (c : goal.After-patterns g) → c.args.number < length c.patterns.result.now
+has_pattern g c =
+    let below = subst (λ (l : Ignores). c.args.number < length l.rules) (sym c.self.view_is) c.requires in
+    rw c.patterns.ensures (subst (λ n. c.args.number < n) c.self.invariant.0 below)
+
+pub offset_bounds-patterns-number : goal.offset_bounds-patterns-number
+offset_bounds-patterns-number g c = omega (arith, has_pattern g c)
+
+pub bounds-patterns-number : goal.bounds-patterns-number
+bounds-patterns-number g c = has_pattern g c
