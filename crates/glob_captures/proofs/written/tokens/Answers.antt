@@ -1,5 +1,5 @@
 use Rattle.std.proofs.Common.{chars, ◌≡◌, ◌<◌, ◌∷◌, ◌++◌, List, [], length, map, take, get_or, refl, sym, ap, ◌∙◌, arith}
-use Rattle.std.proofs.lemmas.List.{take_more, map-append, get_or-map, length-map}
+use Rattle.std.proofs.lemmas.List.{take_all, take_more, map-append, get_or-map, length-map}
 use Rattle.glob_pattern.specs.declared.pattern.tokens.TokenKind.{TokenKind}
 use Rattle.glob_pattern.specs.declared.token.Token.TheVariants.{AnyChar}
 use Rattle.glob_pattern.specs.Computing.Tokens.{tokens_of, kind_of}
@@ -31,3 +31,13 @@ loop-token-preserved g c =
           ∙ sym (take_more kinds n c.token_kind-kind.result (omega (arith, many)));
       adjacent = rw items (AreAdjacent-push c.loop-token.list.items 0 c.loop-token.start token inv.adjacent refl (omega (arith, c.saturating_add-end.ensures, inv.fits)));
     }
+
+pub returns-clause-many : goal.returns-clause-many
+returns-clause-many g c =
+    omega (arith, c.loop-token.invariant.many, c.loop-token.auto.token-end, c.loop-token-test.false, c.tokens_len-token-end.ensures.count)
+
+pub returns-clause-kinds : goal.returns-clause-kinds
+returns-clause-kinds g c =
+    let tokens = tokens_of (chars c.args.pattern.now) in
+    c.loop-token.invariant.kinds
+    ∙ take_all c.loop-token.token (map kind_of tokens) (omega (arith, length-map tokens kind_of, c.loop-token-test.false, c.tokens_len-token-end.ensures.count))
