@@ -1,22 +1,41 @@
 use Rattle.std.proofs.Common.{◌∙◌, inl, map, refl, subst, sym}
 use Rattle.std.proofs.lemmas.Bool.{false≢true}
+use Rattle.glob_text.specs.Text.{Text}
+use Rattle.glob_pattern.specs.declared.options.MatchOptions.{MatchOptions}
+use Rattle.glob_set.specs.Sets.{Set}
 use Rattle.glob_walk.specs.Listing.{listing}
 use Rattle.glob_console.specs.FoundPaths.{IsFindStatus, WritesFound}
 use Rattle.glob_files.specs.Filtering.{is_wanted}
 use Rattle.glob_files.specs.Planning.{walk_options, walk_text}
+use Rattle.glob_files.specs.Searching.{set_of}
+use Rattle.glob_files.specs.declared.options.Kind.{Kind}
+use Rattle.glob_files.proofs.search.run_patterns.Given.{Over}
 use Rattle.glob_files.proofs.search.run_patterns.Goals as goal
+
+-- what is so for the plan and the filter is so for the patterns
+of_patterns : (g : Over) (c : goal.After-drop-plan g) (P : Set → Kind → MatchOptions → Text → Type 0)
+    → P c.in-Ok.filter.patterns c.in-Ok.filter.kind c.in-Ok.plan.options c.as_str.result.now
+    → let o = c.args.settings.options in let texts = map (λ p. p.now) c.args.patterns.now in
+    P (set_of o texts) c.args.settings.kind (walk_options o texts) (walk_text o texts)
+of_patterns g c P so =
+    let o = c.args.settings.options in
+    let texts = map (λ p. p.now) c.args.patterns.now in
+    let of = c.in-Ok.ensures in
+    subst (λ s. P s c.args.settings.kind (walk_options o texts) (walk_text o texts)) of.set
+    (subst (λ k. P c.in-Ok.filter.patterns k (walk_options o texts) (walk_text o texts)) of.kind
+    (subst (λ m. P c.in-Ok.filter.patterns c.in-Ok.filter.kind m (walk_text o texts)) of.options
+    (subst (λ t. P c.in-Ok.filter.patterns c.in-Ok.filter.kind c.in-Ok.plan.options t) (c.as_str.ensures.value ∙ of.text) so)))
+
+pub returns-in-Ok-clause-status : goal.returns-in-Ok-clause-status
+returns-in-Ok-clause-status g c c' told =
+    of_patterns g c (λ s k m t. IsFindStatus (is_wanted s k c') (listing c' m t) c.args.settings.limit c.run_find.result) (c.run_find.ensures.status c' told)
 
 pub returns-in-Ok-clause-written : goal.returns-in-Ok-clause-written
 returns-in-Ok-clause-written g c c' told =
     let held = g.W.Write.contents in
-    let o = c.args.settings.options in
-    let texts = map (λ p. p.now) c.args.patterns.now in
-    let of = c.in-Ok.ensures in
-    subst (λ s. WritesFound c.args.settings.end (is_wanted s c.args.settings.kind c') (listing c' (walk_options o texts) (walk_text o texts)) c.args.settings.limit (held c.args.output.now) (held c.run_find.new.output) c.run_find.result) of.set
-    (subst (λ k. WritesFound c.args.settings.end (is_wanted c.in-Ok.filter.patterns k c') (listing c' (walk_options o texts) (walk_text o texts)) c.args.settings.limit (held c.args.output.now) (held c.run_find.new.output) c.run_find.result) of.kind
-    (subst (λ m. WritesFound c.args.settings.end (is_wanted c.in-Ok.filter.patterns c.in-Ok.filter.kind c') (listing c' m (walk_text o texts)) c.args.settings.limit (held c.args.output.now) (held c.run_find.new.output) c.run_find.result) of.options
-    (subst (λ t. WritesFound c.args.settings.end (is_wanted c.in-Ok.filter.patterns c.in-Ok.filter.kind c') (listing c' c.in-Ok.plan.options t) c.args.settings.limit (held c.args.output.now) (held c.run_find.new.output) c.run_find.result) (c.as_str.ensures.value ∙ of.text)
-    (c.run_find.ensures.written c' told))))
+    of_patterns g c
+      (λ s k m t. WritesFound c.args.settings.end (is_wanted s k c') (listing c' m t) c.args.settings.limit (held c.args.output.now) (held c.run_find.new.output) c.run_find.result)
+      (c.run_find.ensures.written c' told)
 
 pub returns-in-Ok-clause-refused : goal.returns-in-Ok-clause-refused
 returns-in-Ok-clause-refused g c astray = absurd (false≢true (sym astray ∙ c.in-Ok.ensures.below))
