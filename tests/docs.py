@@ -40,7 +40,7 @@ EXAMPLES = {
         "crates/glob_disk_tests/src/tests/disks/calls.rt",
         "crates/glob_examples/src/sources.rt",
         "crates/glob_examples/specs/Sources.antt",
-        "crates/glob_console/src/find.rt",
+        "crates/glob/src/paths.rt",
         "crates/glob_tests/src/tests/liars.rt",
         "crates/glob_examples/src/one_file.rt",
         "crates/glob_examples/src/one_file.rt",

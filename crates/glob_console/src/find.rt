@@ -158,8 +158,9 @@ fn answer<T: Tree>(
     requires asked { IsAskedAfter (saying question.now) walk.old.asked }
     ensures content { T.tells tree.new ≡ T.tells tree.old }
     ensures counts { (n : ℕ) × StepCounts n walk.old (saying result) walk.new }
-    ensures driven { (c : Content) → (all : List Mark) → (given : List Item) → IsTold (T.tells tree.old) c
-        → HasGiven all c given walk.old → GivesNext all c given (saying result) walk.new }
+    ensures driven { (c : Content) → (all : List Mark) → (given : List Item)
+        → IsTold (T.tells tree.old) c → HasGiven all c given walk.old
+        → GivesNext all c given (saying result) walk.new }
 {
     match question {
         Step::Look => {

@@ -17,7 +17,7 @@ pub loop-rest-preserved : goal.loop-rest-preserved
 unfolding encode
 loop-rest-preserved g c =
     rw c.in_ok-push.ensures.bytes (rw c.in_ok-push_str.ensures.bytes (rw c.as_str.ensures.value
-      (first_added _ _ _ c.in-len1-up.len_at_least c.source-item.is ∙ c.loop-rest.invariant)))
+    (first_added _ _ _ c.in-len1-up.len_at_least c.source-item.is ∙ c.loop-rest.invariant)))
 
 pub returns-in_err-push : goal.returns-in_err-push
 returns-in_err-push g c = IfOk-from_err _ _ c.from_residual-in_err-push.ensures.0

@@ -34,8 +34,8 @@ pub returns-in-Ok-clause-written : goal.returns-in-Ok-clause-written
 returns-in-Ok-clause-written g c c' told =
     let held = g.W.Write.contents in
     of_patterns g c
-      (λ s k m t. WritesFound c.args.settings.end (is_wanted s k c') (listing c' m t) c.args.settings.limit (held c.args.output.now) (held c.run_find.new.output) c.run_find.result)
-      (c.run_find.ensures.written c' told)
+    (λ s k m t. WritesFound c.args.settings.end (is_wanted s k c') (listing c' m t) c.args.settings.limit (held c.args.output.now) (held c.run_find.new.output) c.run_find.result)
+    (c.run_find.ensures.written c' told)
 
 pub returns-in-Ok-clause-refused : goal.returns-in-Ok-clause-refused
 returns-in-Ok-clause-refused g c astray = absurd (false≢true (sym astray ∙ c.in-Ok.ensures.below))

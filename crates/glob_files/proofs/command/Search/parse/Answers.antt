@@ -8,7 +8,7 @@ at_patterns : (g : Over) (c : goal.After-with_patterns g)
     → reading None new_options (map (λ w. w.now) c.args.words.now) ≡ patterns_asked c.set.new.self (map (λ w. w.now) c.loop-rest.rest.now)
 at_patterns g c =
     rw (sym c.loop-rest.invariant) (rw c.in_default-awaiting.is (rw (c.if-not-set.ensures.kept refl)
-      (reading_patterns _ _ _ c.in-len1-up.len_at_least (sym c.if-not-set.ensures.named) (sym c.named.ensures ∙ c.in-None.is))))
+    (reading_patterns _ _ _ c.in-len1-up.len_at_least (sym c.if-not-set.ensures.named) (sym c.named.ensures ∙ c.in-None.is))))
 
 pub returns-in-None-clause-asked : goal.returns-in-None-clause-asked
 returns-in-None-clause-asked g c = rw (at_patterns g c) c.with_patterns.ensures.asked
@@ -29,4 +29,4 @@ loop-rest-preserved-in-Some-named g c =
 pub loop-rest-preserved : goal.loop-rest-preserved
 loop-rest-preserved g c =
     rw (c.if-not-set.ensures.set refl) (rw c.in_default-awaiting.is
-      (sym (reading_flag _ _ _ c.in-len1-up.len_at_least (sym c.if-not-set.ensures.named)) ∙ (rw c.in_default-awaiting.is at c.loop-rest.invariant)))
+    (sym (reading_flag _ _ _ c.in-len1-up.len_at_least (sym c.if-not-set.ensures.named)) ∙ (rw c.in_default-awaiting.is at c.loop-rest.invariant)))

@@ -13,9 +13,9 @@ alone none (word ∷ next ∷ words) long short = absurd (omega (arith, short))
 pub returns-in-len1-clause-text : goal.returns-in-len1-clause-text
 returns-in-len1-clause-text g c =
     subst (λ texts. IfOk c.of_one.result (λ plan. string_bytes plan.text ≡ walk_text c.args.options texts))
-      (sym (alone _ c.args.patterns.now c.in-len1.len_at_least c.in-len1.len_below)) c.of_one.ensures.text
+    (sym (alone _ c.args.patterns.now c.in-len1.len_at_least c.in-len1.len_below)) c.of_one.ensures.text
 
 pub returns-in-len1-clause-options : goal.returns-in-len1-clause-options
 returns-in-len1-clause-options g c =
     subst (λ texts. IfOk c.of_one.result (λ plan. plan.options ≡ walk_options c.args.options texts))
-      (sym (alone _ c.args.patterns.now c.in-len1.len_at_least c.in-len1.len_below)) c.of_one.ensures.options
+    (sym (alone _ c.args.patterns.now c.in-len1.len_at_least c.in-len1.len_below)) c.of_one.ensures.options
