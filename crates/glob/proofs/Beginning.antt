@@ -5,7 +5,7 @@ use Rattle.std.specs.declared.path.buf.PathBuf.{PathBuf}
 use Rattle.glob_tree.specs.Answers.{IsTold}
 use Rattle.glob_tree.specs.Content.{Content}
 use Rattle.glob_walk.specs.Marks.{Mark}
-use Rattle.glob_walk.specs.Private.Walking.{EndsAs}
+use Rattle.glob.specs.Private.Walking.{EndsAs}
 use Rattle.glob_walk.specs.Walks.{Walking, IsFresh, IsWalk, IsWalkAsked}
 use Rattle.glob_walk.specs.declared.error.GlobError.{GlobError}
 use Rattle.glob_walk.specs.declared.ending.End.{End}

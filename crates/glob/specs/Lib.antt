@@ -1,4 +1,5 @@
 pub mod PathOptions
+pub mod Private
 pub mod Types
 pub mod Variants
 pub use Rattle.glob_lines.specs.LineFaults

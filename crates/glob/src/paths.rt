@@ -27,7 +27,7 @@ pub struct Paths<T: Tree> {
 impl<T: Tree> Model for Paths<T> {
     ghost use Rattle.std.specs.Prelude.{option_map};
     ghost use Rattle.glob_walk.specs.Machines.{left_of};
-    ghost use Rattle.glob_walk.specs.Private.Walking.{IsDriven};
+    ghost use Rattle.glob.specs.Private.Walking.{IsDriven};
     ghost use Rattle.glob_walk.specs.Walks.{Walking};
 
     ghost Value = { Walking T };

@@ -1,4 +1,4 @@
--- That a call is refused as too large exactly where it is too large, where it was found not to be.
+-- A call that is not too large is not refused as too large.
 use Rattle.std.proofs.Common.{◌≡◌, ℕ, ◌<◌, ◌↔◌, false, Result, Ok, Err, IsTrue}
 use Rattle.std.specs.Result.{IsErrAnd}
 use Rattle.std.proofs.lemmas.Bool.{false≢true}

@@ -15,7 +15,7 @@ use Rattle.glob_walk.specs.declared.error.GlobCause.{GlobCause}
 use Rattle.glob_walk.specs.declared.error.GlobCause.TheVariants as cause
 use Rattle.glob_walk.specs.declared.error.GlobError.{GlobError}
 use Rattle.glob_walk.proofs.ListingLemmas.Marks.{items-append, cost-append, front-append}
-use Rattle.glob_walk.proofs.WalkLemmas.Gathering.{items-works, cost-works}
+use Rattle.glob_walk.proofs.WalkLemmas.Works.{items-works, cost-works}
 use Rattle.glob_walk.proofs.WalkLemmas.Stepping.{append_none}
 use Rattle.glob_examples.specs.FirstPaths.{EndsWith, end_after}
 

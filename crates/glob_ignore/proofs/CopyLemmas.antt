@@ -12,14 +12,14 @@ use Rattle.glob_lines.proofs.CallerLemmas.{selected_bytes_by_keeping}
 use Rattle.glob_ignore.specs.Outcomes.{CopiesUnignored}
 use Rattle.glob_ignore.specs.Paths.{is_directory, is_here, is_selected, path_of}
 
--- where some records were written
+-- a copy of some records has the status 0
 pub copies_some : (end : ℕ) (list : Ignores) (input old new : Option (List ℕ)) (n : ℕ) → n ≢ 0
     → CopiesSelected end (is_selected list) input old new n → CopiesUnignored end list input old new 0
 unfolding CopiesUnignored
 copies_some end list input old new n any copied =
     (λ _. (n, omega (arith, any), copied), λ one. absurd (omega (arith, one)), λ two. absurd (omega (arith, two)))
 
--- where the status is 2
+-- at the status 2 a beginning was written
 pub copies_bytes : (end : ℕ) (list : Ignores) (input old new : Option (List ℕ)) (status : ℕ) → status ≡ 2
     → CopiesSelectedBytes end (is_selected list) input old new → CopiesUnignored end list input old new status
 unfolding CopiesUnignored

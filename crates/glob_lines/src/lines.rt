@@ -260,6 +260,7 @@ fn keep_record<A: Allocator, W: Write>(
 }
 
 /// Appends the record and its end.
+#[inline]
 fn push_record<A: Allocator>(
     bytes: &[u8],
     end: u8,

@@ -25,6 +25,7 @@ pub(crate) fn proper_names(path: &str) -> Option<&str>
 fn are_proper(names: &str) -> bool
     ensures { result ≡ list_all is_proper_text (pieces names.now) }
 {
+    // By its name alone a proof would look for it in a module that is private to its crate.
     names.split('/').all(|name| is_proper(name))
 }
 

@@ -14,7 +14,7 @@ ghost use Rattle.glob_run.specs.CommandLine.{request_asked};
 ghost use Rattle.glob_console.specs.FoundPaths.{IsFindStatus, WritesFound, every};
 ghost use Rattle.glob_console.specs.Outcomes.{IsRefused, WritesText};
 ghost use Rattle.glob_run.specs.Outcomes.{CopiesRecords, IsEscapedLine, WritesEscaped};
-ghost use Rattle.glob_run.specs.Private.Meeting.{Meets};
+ghost use Rattle.glob_run.specs.Private.Fulfilling.{Fulfils};
 ghost use Rattle.glob_run.specs.Requests.{Escaped, Lines, Page, Paths, VersionLine, request_of};
 ghost use Rattle.glob_run.specs.declared.command.Settings.{Settings};
 ghost use Rattle.glob_run.specs.declared.help.TheConstants.{HELP, VERSION};
@@ -89,8 +89,8 @@ pub fn run_words<T: Tree, R: Read + Drop, W: Write, E: Write>(
     run_command(alloc, tree, Command::parse(words), input, output, errors)
 }
 
-/// Does what the command asks, and returns the status. No command is a usage fault.
-#[tactic(auto, unfolding(crate::specs::Private::Meeting::Meets))]
+/// Does what the command asks, and returns the status. `None` is a usage fault.
+#[tactic(auto, unfolding(crate::specs::Private::Fulfilling::Fulfils))]
 fn run_command<T: Tree, R: Read + Drop, W: Write, E: Write>(
     alloc: T::Alloc,
     tree: T,
@@ -100,7 +100,7 @@ fn run_command<T: Tree, R: Read + Drop, W: Write, E: Write>(
     errors: &mut ErrorLines<'_, T::Alloc, E>,
 ) -> u8
     ensures most { result ≤ 2 }
-    ensures request { Meets W.contents (T.tells tree) (R.remaining input)
+    ensures request { Fulfils W.contents (T.tells tree) (R.remaining input)
         (option_map request_of command.entry) output.old output.new result }
 {
     let Some(command) = command else {

@@ -4,7 +4,7 @@ ghost use Rattle.glob_tree.specs.Content.{is_dir};
 
 use std::io;
 
-/// What is at a key of a tree: a path of proper names from its root.
+/// What a tree has at a key, the list of names that leads there from its root: at that of a file `Other`.
 #[derive(Clone, Copy, PartialEq, Eq, Debug)]
 pub enum Kind {
     /// A directory.
@@ -16,7 +16,7 @@ pub enum Kind {
 }
 
 impl Kind {
-    /// Whether it is a directory, shut or not.
+    /// Whether it is a directory, also one that cannot be listed: `Shut(NotFound)` is, `Other` is not.
     pub fn is_dir(self) -> bool
         ensures { result ≡ is_dir self }
     {

@@ -48,7 +48,7 @@ impl<A: Allocator> Name<A> {
     }
 }
 
-/// A copy of the name. The error is an allocation failure.
+/// A copy of the name, as `a.rs` of `a.rs`. The error is an allocation failure.
 pub fn copy_name<A: Allocator>(alloc: A, name: &Name<A>) -> Result<Name<A>, AllocError>
     ensures { IfOk result (λ copy. copy ≡ name.now) }
 {
@@ -56,7 +56,8 @@ pub fn copy_name<A: Allocator>(alloc: A, name: &Name<A>) -> Result<Name<A>, Allo
     Ok(Name { text })
 }
 
-/// The name `text`, which is proper: what [`Name::new`] returns, without its test. The error is an allocation failure.
+/// The name `text`, which has to be proper, as `a.rs` is: what [`Name::new`] returns, without its test. The error is an
+/// allocation failure.
 pub fn name_from_proper<A: Allocator>(alloc: A, text: &str) -> Result<Name<A>, AllocError>
     requires { is_proper_text text.now ≡ true }
     ensures { IfOk result (λ name. name ≡ text.now) }

@@ -8,7 +8,8 @@ ghost use Rattle.glob_tree.specs.Paths.{child as child_text, join as join_text, 
 
 use std::alloc::{AllocError, Allocator};
 
-/// The path of a name in a directory: the name alone where the directory is `.`, and else the two joined.
+/// The path of a name in a directory: the name alone where the directory is `.`, and else the two joined, as `a/b` of
+/// `a` and `b`. The error is an allocation failure.
 #[tactic(auto, unfolding(crate::specs::Paths::child))]
 pub fn child<A: Allocator>(alloc: A, dir: &str, name: &str) -> Result<String<A>, AllocError>
     ensures { IfOk result (λ p. string_bytes p ≡ child_text dir.now name.now) }
@@ -20,7 +21,8 @@ pub fn child<A: Allocator>(alloc: A, dir: &str, name: &str) -> Result<String<A>,
     }
 }
 
-/// The path, a separator unless the path is empty or ends in one, and the name.
+/// The path, a separator unless the path is empty or ends in one, and the name: `a/b` of `a` and `b`, and of `a/` and
+/// `b`. The error is an allocation failure.
 #[tactic(auto, unfolding(crate::specs::Paths::join))]
 pub fn join<A: Allocator>(alloc: A, dir: &str, name: &str) -> Result<String<A>, AllocError>
     ensures { IfOk result (λ p. string_bytes p ≡ join_text dir.now name.now) }
@@ -63,7 +65,7 @@ fn stays(piece: &str) -> bool
     piece.is_empty() || piece == "."
 }
 
-/// Whether the name begins with a dot.
+/// Whether the name begins with a dot, as `.a` does.
 pub fn begins_with_dot(name: &str) -> bool
     ensures { result ≡ begins_with dot name.now }
 {

@@ -18,4 +18,3 @@ pub mod ReachedGoals
 pub mod FoundInOrder
 pub mod OnceInOrder
 pub mod Clauses
-pub mod WalkClauses

@@ -1,7 +1,6 @@
 pub mod Charging
 pub mod Driving
 pub mod Entering
-pub mod Gathering
 pub mod Giving
 pub mod Kinds
 pub mod Listings
@@ -14,3 +13,4 @@ pub mod Reading
 pub mod SameTexts
 pub mod Stacking
 pub mod Stepping
+pub mod Works

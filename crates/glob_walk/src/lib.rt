@@ -1,4 +1,4 @@
-//! A walk over a tree, after the components of a pattern, that asks its caller.
+//! The walk of a pattern over a tree, as a machine whose questions its caller answers.
 #![tactic(auto)]
 
 mod component;

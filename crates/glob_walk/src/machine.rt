@@ -1,5 +1,5 @@
 //! A walk that asks its caller, and reads nothing itself.
-ghost use Rattle.std.specs.Prelude.{◌≡◌, ◌≤◌, ◌+◌, true, List, [], None, IfOk, IfErr, string_bytes, if◌then◌else◌};
+ghost use Rattle.std.specs.Prelude.{◌≡◌, ◌≤◌, ◌+◌, List, [], None, IfOk, IfErr, string_bytes, if◌then◌else◌};
 ghost use Rattle.std.specs.Path.{root_dir, cur_dir};
 ghost use Rattle.glob_tree.specs.Answers.{entry_count};
 ghost use Rattle.glob_tree.specs.Content.{Content};
@@ -100,7 +100,7 @@ impl<A: Allocator> Model for WalkMachine<A> {
 }
 
 impl<A: Allocator + Copy> WalkMachine<A> {
-    /// A walk after the components of a pattern, with at most `limit` units of work: one for each look, one for each
+    /// A walk after the components of a pattern, with at most `limit` units of work: one for each lookup, one for each
     /// listing, and one for each entry of a listing. It has asked nothing.
     ///
     /// A pattern with a fault is refused with `Syntax`: the fault of the whole text, or else that of the first component

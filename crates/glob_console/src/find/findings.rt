@@ -1,5 +1,5 @@
 //! What a search came to.
-ghost use Rattle.std.specs.Prelude.{◌≡◌, ◌≤◌, false};
+ghost use Rattle.std.specs.Prelude.{◌≡◌, false};
 ghost use Rattle.glob_walk.specs.declared.ending.End.TheVariants as end;
 ghost use Rattle.glob_walk.specs.Walks.{outcome};
 ghost use Rattle.glob_console.specs.FoundPaths.{status_of};

@@ -1,6 +1,5 @@
 -- A loop over the pieces of a path.
 use Rattle.std.proofs.Common.{◌≡◌, ◌<◌, List, [], ◌∷◌, length, Option, Some, None, refl, sym, ap, subst, ◌∙◌, ℕ}
-use Rattle.std.specs.Iterator.{AlwaysYields}
 use Rattle.glob_text.specs.Text.{Text}
 use Rattle.glob_text.specs.Pieces.{pieces}
 use Rattle.glob_tree.specs.Content.{Content, Key, kind_at, step, steps, origin, resolve}

@@ -1,6 +1,6 @@
 -- Paths that name keys, and the directories of those keys.
 use Rattle.std.proofs.Common.{◌≡◌, ◌≢◌, ℕ, suc, ◌<◌, Bool, true, false, cond, not, ◌&&◌, List, [], ◌∷◌, ◌++◌, length, take, drop, Option, Some, None, refl, ap, sym, subst, ◌∙◌, arith, lit<}
-use Rattle.std.specs.Prelude.{slice_index, ◌==◌, option_map, unwrap_or, is_some}
+use Rattle.std.specs.Prelude.{slice_index, ◌==◌, is_some}
 use Rattle.std.specs.List.{list_all}
 use Rattle.std.specs.Str.{is_utf8, IsUtf8, IsCharBoundary, NoCharPasses}
 use Rattle.std.proofs.lemmas.Str.{is_utf8-from_IsUtf8, IsUtf8-drop}
@@ -14,13 +14,12 @@ use Rattle.glob_text.specs.Characters.{slash}
 use Rattle.glob_text.specs.Text.{Text}
 use Rattle.glob_tree.specs.Paths.{is_proper}
 use Rattle.glob_text.specs.Pieces.{pieces, begins_with}
-use Rattle.glob_tree.specs.Content.{Content, Key, parent_key, kind_at, is_dir, is_dir_at, is_placed, is_content, step, steps, resolve}
+use Rattle.glob_tree.specs.Content.{Content, Key, kind_at, is_dir_at, is_content, step, steps, resolve}
 use Rattle.glob_memory.specs.Memory.{key_of}
 use Rattle.glob_memory.specs.Private.Nodes.{root_entry, entry_numbered, key_numbered, entries_of_nodes, rooted_content, content_at}
 use Rattle.glob_memory.specs.Private.Numbers.{Leads, IsFoundAt}
 use Rattle.glob_tree.specs.declared.kind.Kind.{Kind}
-use Rattle.glob_tree.proofs.ContentLemmas.Membership.{list_all-contains}
-use Rattle.glob_tree.proofs.ContentLemmas.Contents.{IsContent, IsContent-from_test, contains_kind_at, parent_key-append}
+use Rattle.glob_tree.proofs.ContentLemmas.Contents.{IsContent, IsContent-from_test}
 use Rattle.glob_tree.proofs.ContentLemmas.Directories.{IsName-from_proper, step_name, all_above, directory_kind}
 use Rattle.glob_tree.proofs.ContentLemmas.Resolving.{steps_none, step_down, step_none, resolve_steps, pieces-append, pieces_one}
 use Rattle.glob_memory.proofs.MemoryLemmas.Following.{steps_any}

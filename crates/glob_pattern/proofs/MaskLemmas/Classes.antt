@@ -106,7 +106,7 @@ module _ (o : MatchOptions) (opening : Bool) where
       → class_of o opening c ≡ (if not a then 258 else if s then 256 else if d then 257 else ascii_class o.case_sensitive c)
   class-at c a s d is_a is_s is_d = rw (← is_a, ← is_s, ← is_d) refl
 
-  -- there are 259 classes
+  -- each class is below 259
   pub class-below : (c : ℕ) → class_of o opening c < 259
   class-below c =
       ⊎_elim

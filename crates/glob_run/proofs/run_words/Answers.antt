@@ -1,9 +1,9 @@
 use Rattle.std.proofs.Common.{◌∙◌}
-use Rattle.glob_run.specs.Private.Meeting.{Meets}
+use Rattle.glob_run.specs.Private.Fulfilling.{Fulfils}
 use Rattle.glob_run.proofs.run_words.Goals as goal
 
 pub returns : goal.returns
-unfolding Meets
+unfolding Fulfils
 returns g c =
     let met = c.run_command.ensures.request in
     record {

@@ -9,7 +9,7 @@ use Rattle.glob_walk.specs.Driven.{HasGiven, GivesNext}
 use Rattle.glob_walk.specs.Walks.{Gives, LimitAt, NoMemory, Charges, works}
 use Rattle.glob_walk.proofs.ListingLemmas.Marks.{items-append, cost-append, front-append}
 use Rattle.glob_walk.proofs.WalkLemmas.Charging.{Charges-asked}
-use Rattle.glob_walk.proofs.WalkLemmas.Gathering.{items-works, cost-works}
+use Rattle.glob_walk.proofs.WalkLemmas.Works.{items-works, cost-works}
 use Rattle.glob_walk.proofs.WalkLemmas.Stepping.{append_none}
 
 pub given_fresh : {A : Type 0} (limit : ℕ) (listing : List Mark) (c : Content) (walk : MachineState A) → IsFreshMachine limit walk → left_of c walk ≡ listing → HasGiven listing c [] walk

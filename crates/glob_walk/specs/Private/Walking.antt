@@ -1,23 +1,16 @@
 -- What is true of a walk between two items.
-use Rattle.std.specs.Prelude.{◌≡◌, ℕ, ◌+◌, ◌≤◌, ◌<◌, ◌^◌, Bool, true, false, List, length, Option, Some, None, Result, string_bytes}
+use Rattle.std.specs.Prelude.{◌≡◌, ℕ, ◌+◌, ◌≤◌, ◌<◌, ◌^◌, Bool, true, false, List, Option, Some, None, string_bytes}
 use Rattle.std.specs.IoError.{error_kind}
-use Rattle.std.specs.declared.path.buf.PathBuf.{PathBuf}
-use Rattle.glob_tree.specs.Content.{Content}
-use Rattle.glob_tree.specs.Answers.{IsTold}
-use Rattle.glob_walk.specs.Aims.{listing_of}
-use Rattle.glob_walk.specs.Marks.{Mark, Found, Unread}
-use Rattle.glob_walk.specs.Walks.{Outcome, Gives, LimitAt, NoMemory, IsUpTo, Walking, HasNoRefusal, IsWalk, IsWalkAsked}
-use Rattle.glob_walk.specs.declared.error.GlobError.{GlobError}
+use Rattle.glob_walk.specs.Marks.{Found, Unread}
+use Rattle.glob_walk.specs.Walks.{Outcome, Gives, LimitAt, NoMemory}
 use Rattle.glob_walk.specs.declared.meter.Meter.{Meter}
 use Rattle.glob_walk.specs.declared.stack.Stack.{Stack}
 use Rattle.glob_walk.specs.declared.turn.Turn.{Turn}
 use Rattle.glob_walk.specs.declared.turn.Turn.TheVariants as turn
-use Rattle.glob_walk.specs.declared.ending.End.{End}
-use Rattle.glob_walk.specs.declared.ending.End.TheVariants as end
 use Rattle.glob_walk.specs.Private.Tasks.{question_of, IsNextOpened}
 use Rattle.glob_walk.specs.Private.Stacks.{ready, IsWithin}
 use Rattle.glob_walk.specs.declared.machine.Step.{Step}
-use Rattle.glob_walk.specs.Machines.{MachineState, Agrees, left_of, Saying, AsksLook, AsksList, Says, Ends, saying}
+use Rattle.glob_walk.specs.Machines.{Saying, AsksLook, AsksList, Says, Ends, saying}
 
 -- what is true of a walk that is not over
 pub record IsUnderWay {A : Type 0} (meter : Meter) (stack : Stack A) (given : ℕ) : Type 0 where
@@ -64,28 +57,3 @@ is_last_turn _ = false
 -- the step of a turn
 abbrev pub IsStepOf : {A : Type 0} → Turn A → Step A → Type 0
 IsStepOf t s = saying s ≡ turn_saying t
-
--- What is true of a walk over a tree between two items: no question is open, and each answer so far was that of the tree's
--- content.
-pub record IsDriven {X A : Type 0} (tells : X → Option Content) (tree : X) (machine : MachineState A) : Type 0 where
-  pub free : machine.asked ≡ None
-  pub agrees : (c : Content) → IsTold (tells tree) c → machine.over ≡ false → Agrees c machine
-  pub upto : (c : Content) → IsTold (tells tree) c → machine.over ≡ false
-      → IsUpTo (listing_of c machine.aim) machine.spent (left_of c machine)
-
--- the end of a walk that gave a refusal
-abbrev pub refusal_end : Outcome → Option End
-refusal_end (Gives item) = None
-refusal_end (LimitAt path) = Some end.Limit
-refusal_end NoMemory = Some end.Memory
-
--- A walk that has done nothing yet, from its beginning to its end: its items, its units and its questions, and the tree.
-pub record EndsAs {X A : Type 0} (asks : X → ℕ) (tells : X → Option Content) (first : Walking X) (e : End) (spent : ℕ)
-    (answers : List (Result (PathBuf A) (GlobError A))) (tree : X) : Type 0 where
-  pub within : spent ≤ first.limit
-  pub asked : IsWalkAsked first.limit (asks first.tree) e spent (asks tree)
-  pub told : tells tree ≡ tells first.tree
-  pub items : HasNoRefusal answers
-  pub few : length answers ≤ spent + 1
-  pub walk : (c : Content) → IsTold (tells first.tree) c → (ms : List Mark) → first.left ≡ Some ms
-      → IsWalk ms first.limit e spent answers

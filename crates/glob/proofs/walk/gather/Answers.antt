@@ -1,9 +1,9 @@
 use Rattle.std.proofs.Common.{rules, ◌≡◌, ◌∙◌, ◌++◌, ◌∷◌, [], Some, None, sym, subst}
 use Rattle.std.specs.Prelude.{option_map}
-use Rattle.glob_walk.specs.Private.Walking.{refusal_end}
+use Rattle.glob.specs.Private.Walking.{refusal_end}
 use Rattle.glob_walk.specs.Walks.{Goes, outcome}
 use Rattle.glob_walk.specs.declared.ending.End.TheVariants as end
-use Rattle.glob_walk.proofs.WalkLemmas.Gathering.{Gathers, Ends, Gathers-none, Gathers-item, Ends-done, Ends-refusal, Ends-memory, item_from_no_end}
+use Rattle.glob.proofs.Gathering.{Gathers, Ends, Gathers-none, Gathers-item, Ends-done, Ends-refusal, Ends-memory, item_from_no_end}
 use Rattle.glob.proofs.walk.gather.Goals as goal
 
 pub loop-item-init : goal.loop-item-init

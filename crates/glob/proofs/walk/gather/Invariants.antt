@@ -1,4 +1,4 @@
-use Rattle.glob_walk.proofs.WalkLemmas.Gathering.{Gathers}
+use Rattle.glob.proofs.Gathering.{Gathers}
 use Rattle.glob.proofs.walk.gather.Given as goal
 
 abbrev pub invariant-loop-item : goal.invariant-loop-item

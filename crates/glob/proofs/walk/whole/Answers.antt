@@ -1,5 +1,5 @@
 use Rattle.std.proofs.Common.{sym, subst}
-use Rattle.glob_walk.specs.Private.Walking.{EndsAs}
+use Rattle.glob.specs.Private.Walking.{EndsAs}
 use Rattle.glob.proofs.walk.whole.Goals as goal
 
 pub returns : goal.returns

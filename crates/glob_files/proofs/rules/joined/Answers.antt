@@ -25,10 +25,10 @@ returns-in_err-push g c = IfOk-from_err _ _ c.from_residual-in_err-push.ensures.
 pub returns-in_err-push_str : goal.returns-in_err-push_str
 returns-in_err-push_str g c = IfOk-from_err _ _ c.from_residual.ensures.0
 
-none_left : {A : Type 0} (text : List ℕ) (rest : List (Source A)) → length rest < 1
+no_source_left : {A : Type 0} (text : List ℕ) (rest : List (Source A)) → length rest < 1
     → text ≡ text ++ with_ends line_feed (map (λ s. string_bytes s.text) rest)
-none_left text [] short = sym (append-nil text)
-none_left text (source ∷ rest) short = absurd (omega (arith, short))
+no_source_left text [] short = sym (append-nil text)
+no_source_left text (source ∷ rest) short = absurd (omega (arith, short))
 
 pub returns : goal.returns
-returns g c = none_left _ c.loop-rest.rest.now c.in_default.len_below ∙ c.loop-rest.invariant
+returns g c = no_source_left _ c.loop-rest.rest.now c.in_default.len_below ∙ c.loop-rest.invariant

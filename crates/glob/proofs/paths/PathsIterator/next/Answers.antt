@@ -3,7 +3,8 @@ use Rattle.glob_tree.specs.Answers.{entry_count}
 use Rattle.glob_walk.specs.Machines.{IsAskedAfter, Says, Ends, saying, step_units}
 use Rattle.glob_walk.specs.Questions.{IsSeenIn, IsListWith, IsListedIn}
 use Rattle.glob_walk.specs.Walks.{outcome}
-use Rattle.glob_walk.proofs.WalkLemmas.Driving.{Drives, Drives-first, Drives-after, Drives-last, IsDriven-last, seen_fits, listed_fits}
+use Rattle.glob_walk.proofs.WalkLemmas.Driving.{seen_fits, listed_fits}
+use Rattle.glob.proofs.Driving.{Drives, Drives-first, Drives-after, Drives-last, IsDriven-last}
 use Rattle.glob.proofs.paths.PathsIterator.next.Goals as goal
 
 pub loop-step-init : goal.loop-step-init

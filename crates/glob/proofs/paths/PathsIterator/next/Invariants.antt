@@ -1,6 +1,6 @@
 use Rattle.std.proofs.Common.{◌+◌, ◌-◌, ◌*◌}
 use Rattle.glob_walk.specs.Machines.{saying, step_units}
-use Rattle.glob_walk.proofs.WalkLemmas.Driving.{Drives}
+use Rattle.glob.proofs.Driving.{Drives}
 use Rattle.glob.proofs.paths.PathsIterator.next.Given as goal
 
 abbrev pub invariant-loop-step : goal.invariant-loop-step

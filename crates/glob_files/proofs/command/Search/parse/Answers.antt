@@ -4,6 +4,7 @@ use Rattle.glob_files.proofs.RequestLemmas.{reading_flag, reading_option, readin
 use Rattle.glob_files.proofs.command.Search.parse.Given.{Over}
 use Rattle.glob_files.proofs.command.Search.parse.Goals as goal
 
+-- the patterns are read
 at_patterns : (g : Over) (c : goal.After-with_patterns g)
     → reading None new_options (map (λ w. w.now) c.args.words.now) ≡ patterns_asked c.set.new.self (map (λ w. w.now) c.loop-rest.rest.now)
 at_patterns g c =

@@ -11,6 +11,7 @@ use Rattle.glob_pattern.proofs.PositionLemmas.Words.{whole-later, AreAlive-set, 
 use Rattle.glob_pattern.proofs.PositionLemmas.Running.{HasRun-kept, HasRun-stepped, alive-by_rest}
 use Rattle.glob_pattern.proofs.matcher.positions.run.Goals as goal
 
+-- no number is below 0
 none-below : (n : ℕ) → 0 ≤ n
 none-below n = omega arith
 

@@ -6,9 +6,11 @@ use Rattle.glob_rules.specs.Readings.{Read, next_reading, reading_from}
 use Rattle.glob_rules.proofs.reading.Reading.of.Goals as goal
 use Rattle.glob_rules.proofs.reading.Reading.of.Goals.{in-empty, in-len1-up-ahead}
 
+-- what was taken, but for its first byte
 tail_taken : (n c : ℕ) (cs : List ℕ) → drop 1 (take (1 + n) (c ∷ cs)) ≡ take n cs
 tail_taken n c cs = let e : 1 + n ≡ suc n = omega arith in rw e refl
 
+-- what is before the bracket that closes, after one byte
 behind : (closes : Bool) (c : ℕ) (cs ahead : List ℕ) → (c == close_bracket) ≡ closes → 1 ≤ length ahead → ahead ≡ before_close (c ∷ cs) → drop 1 ahead ≡ before_close cs
 behind true c cs ahead closes some is = absurd (omega (arith, some, ap length (rw closes at is)))
 behind false c cs ahead closes some is = ap (drop 1) (rw closes at is) ∙ tail_taken _ c cs
@@ -19,6 +21,7 @@ ahead_more : (ahead rest : List ℕ) → 1 ≤ length rest → 1 ≤ length ahea
 ahead_more ahead [] long some is = absurd (omega (arith, long))
 ahead_more ahead (c ∷ cs) long some is = rw (take_rest (c ∷ cs) 1) (take_rest ahead 1 ∙ behind (c == close_bracket) c cs ahead refl some is)
 
+-- one byte more is read
 one_read : (r next : Read) (ahead rest : List ℕ) → 1 ≤ length rest → ahead ≡ before_close (take (length rest - 1) (drop 1 rest))
     → next ≡ next_reading r (get_or rest 0 0) ahead → reading_from next (take (length rest - 1) (drop 1 rest)) ≡ reading_from r rest
 one_read r next ahead [] long is step = absurd (omega (arith, long))

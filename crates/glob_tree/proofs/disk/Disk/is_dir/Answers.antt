@@ -3,7 +3,6 @@ use Rattle.std.specs.String.{string_bytes}
 use Rattle.glob_tree.proofs.DiskLemmas.{split_at_seam}
 use Rattle.glob_tree.proofs.disk.Disk.is_dir.Goals as goal
 
--- src/disk.rt:141:9
 pub truncate-requires : goal.truncate-requires
 truncate-requires g c within =
     let at : c.len-length.result ≡ length (string_bytes c.args.directory.now) = search rules in

@@ -24,6 +24,7 @@ gives-none : (directories d : Bool) → directories ≡ true → d ≡ false →
 gives-none true d h k = k
 gives-none false d h k = absurd (cc)
 
+-- nothing is charged, and no item is given
 unchanged : (spent : ℕ) → spent ≡ spent + 0 + 0
 unchanged spent = omega arith
 

@@ -11,19 +11,18 @@ use Rattle.glob_tree.specs.Content.{Content}
 use Rattle.glob_walk.specs.Components.{walk_fault}
 use Rattle.glob_walk.specs.Listing.{listing}
 
--- What a run that was asked this does with an output, over a tree and an input: a fault where nothing was asked, and else
--- what `run_words` says of the request.
-unfoldable pub Meets : {W : Type 0} → (contents : W → Option (List ℕ)) → (tells : Option Content) → (input : Option (List ℕ))
+-- What a run does for one request: the clauses of `run_words`, as one definition. Without a request it is a usage fault.
+unfoldable pub Fulfils : {W : Type 0} → (contents : W → Option (List ℕ)) → (tells : Option Content) → (input : Option (List ℕ))
     → Option Request → (old new : W) → (status : ℕ) → Type 0
-Meets contents tells input None old new status = IsRefused old new status
-Meets contents tells input (Some (Lines settings pattern)) old new status =
+Fulfils contents tells input None old new status = IsRefused old new status
+Fulfils contents tells input (Some (Lines settings pattern)) old new status =
     ((¬ (IsAccepted (chars pattern))) → IsRefused old new status)
     × CopiesRecords settings.end settings.options pattern input (contents old) (contents new) status
-Meets contents tells input (Some (Escaped text)) old new status = WritesEscaped text (contents old) (contents new) status
-Meets contents tells input (Some (Paths settings limit pattern)) old new status =
+Fulfils contents tells input (Some (Escaped text)) old new status = WritesEscaped text (contents old) (contents new) status
+Fulfils contents tells input (Some (Paths settings limit pattern)) old new status =
     (walk_fault pattern ≢ None → IsRefused old new status)
     × ((c : Content) → IsTold tells c → IsFindStatus every (listing c settings.options pattern) limit status)
     × ((c : Content) → IsTold tells c
     → WritesFound settings.end every (listing c settings.options pattern) limit (contents old) (contents new) status)
-Meets contents tells input (Some Page) old new status = WritesText HELP.now (contents old) (contents new) status
-Meets contents tells input (Some VersionLine) old new status = WritesText VERSION.now (contents old) (contents new) status
+Fulfils contents tells input (Some Page) old new status = WritesText HELP.now (contents old) (contents new) status
+Fulfils contents tells input (Some VersionLine) old new status = WritesText VERSION.now (contents old) (contents new) status

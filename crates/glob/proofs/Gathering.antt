@@ -7,31 +7,14 @@ use Rattle.glob_walk.specs.Marks.{Mark, Work, Give, Item, items, cost, front, Is
 use Rattle.std.proofs.lemmas.Option.{same_Some}
 use Rattle.glob_tree.specs.Content.{Content}
 use Rattle.glob_tree.specs.Answers.{IsTold}
-use Rattle.glob_walk.specs.Private.Walking.{refusal_end}
-use Rattle.glob_walk.specs.Walks.{Outcome, Gives, LimitAt, NoMemory, outcome, AreItems, Charges, StopsAt, BreaksOff, IsUpTo, works, IsWalk, IsWalkAsked, HasNoRefusal, Walking, IsFresh, Goes, TakesFront}
+use Rattle.glob.specs.Private.Walking.{refusal_end}
+use Rattle.glob_walk.specs.Walks.{Outcome, Gives, LimitAt, NoMemory, outcome, AreItems, Charges, StopsAt, BreaksOff, works, IsWalk, IsWalkAsked, HasNoRefusal, Walking, IsFresh, Goes, TakesFront}
 use Rattle.glob_walk.specs.declared.ending.End.{End}
 use Rattle.glob_walk.specs.declared.error.GlobError.{GlobError}
 use Rattle.glob_walk.specs.declared.ending.End.TheVariants as end
 use Rattle.glob_walk.proofs.ListingLemmas.Marks.{items-append, cost-append, front-append}
 use Rattle.glob_walk.proofs.WalkLemmas.Stepping.{append_none}
-
-pub items-works : (ps : List Text) → items (works ps) ≡ []
-items-works [] = refl
-items-works (p ∷ ps) = items-works ps
-
-pub cost-works : (ps : List Text) → cost (works ps) ≡ length ps
-cost-works [] = refl
-cost-works (p ∷ ps) = ap suc (cost-works ps)
-
--- an item more
-pub IsUpTo-item : (listing old new : List Mark) (spent spent' : ℕ) (item : Item) → IsUpTo listing spent old → Charges old spent (Give item ∷ new) spent' → IsUpTo listing spent' new
-IsUpTo-item listing old new spent spent' item u c =
-    let done : List Mark = u.done ++ works c.paths in
-    record {
-      done = done ++ Give item ∷ [];
-      whole = u.whole ∙ ap (λ xs. u.done ++ xs) c.front ∙ sym (append_assoc u.done (works c.paths) (Give item ∷ new)) ∙ sym (append_assoc done (Give item ∷ []) new);
-      units = omega (arith, u.units, c.units, cost-append u.done (works c.paths), cost-works c.paths, cost-append done (Give item ∷ []));
-    }
+use Rattle.glob_walk.proofs.WalkLemmas.Works.{items-works, cost-works}
 
 -- what was gathered, and what is left
 pub record Gathered {A : Type 0} (ms : List Mark) (spent : ℕ) (answers : List (Result (PathBuf A) (GlobError A))) (rest : List Mark) : Type 0 where
