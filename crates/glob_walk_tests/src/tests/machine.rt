@@ -1,17 +1,18 @@
 //! Walks that a test drives, with the answers of a tree.
 ghost use Rattle.std.specs.Prelude.{◌≡◌, None};
 
-use super::fake_tree::{Behaviour, FakeTree};
-use super::made::{Memory, check, check_text};
+use super::fake_tree::Behaviour;
+use super::made::{check, check_text};
 use super::walks::{Job, Walked, agreed, refused};
 use glob::{GlobResult, Step, Tree, WalkMachine};
+use std::alloc::Allocator;
 use std::process::Abort;
 
 /// Drives a walk that has asked nothing, for at most so many steps. Where it ends, it stays so.
-fn drive<'a>(
+fn drive<T: Tree>(
     rt: &(impl Abort + AllocGlobal),
-    machine: &mut WalkMachine<Memory<'a>>,
-    tree: &mut FakeTree<'a>,
+    machine: &mut WalkMachine<T::Alloc>,
+    tree: &mut T,
     most: u64,
 ) -> Walked
     requires { machine.old.asked ≡ None }
@@ -46,20 +47,20 @@ fn drive<'a>(
 }
 
 /// Adds an item, and lets it go.
-fn add_item(rt: &impl Abort, walked: &mut Walked, item: GlobResult<Memory<'_>>) {
+fn add_item<A: Allocator>(rt: &impl Abort, walked: &mut Walked, item: GlobResult<A>) {
     walked.add(rt, &item);
 }
 
 /// No step is left.
-fn check_done(rt: &impl Abort, step: Step<Memory<'_>>) {
+fn check_done<A: Allocator>(rt: &impl Abort, step: Step<A>) {
     assert!(rt; matches!(step, Step::Done));
 }
 
 /// Walks by a machine, for at most so many steps.
-pub(super) fn driven<'a>(
+pub(super) fn driven<T: Tree>(
     rt: &(impl Abort + AllocGlobal),
-    alloc: Memory<'a>,
-    mut tree: FakeTree<'a>,
+    alloc: T::Alloc,
+    mut tree: T,
     job: Job<'_>,
     most: u64,
 ) -> Walked {

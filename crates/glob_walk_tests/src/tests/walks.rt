@@ -4,7 +4,7 @@ mod costs;
 mod printing;
 mod sizes;
 
-use super::fake_tree::{Asked, Behaviour, FakeTree, LIES, Notes, tree_of};
+use super::fake_tree::{Asked, Behaviour, LIES, Notes, tree_of};
 use super::machine::driven;
 use super::made::{Memory, add, check, check_beginning, check_text, made};
 use glob::{
@@ -137,16 +137,12 @@ pub(super) fn refused(rt: &(impl Abort + AllocGlobal), refusal: PatternRefusal) 
 
 /// A walk that has given nothing yet. As of the next two calls, no contract is handed on, since each caller's proof
 /// would carry it.
-fn start<'a>(
-    alloc: Memory<'a>,
-    tree: FakeTree<'a>,
-    job: Job<'_>,
-) -> Result<Paths<FakeTree<'a>>, PatternRefusal> {
+fn start<T: Tree>(alloc: T::Alloc, tree: T, job: Job<'_>) -> Result<Paths<T>, PatternRefusal> {
     glob_in(alloc, tree, job.pattern, job.options, job.limit)
 }
 
 /// The next item of a walk.
-fn next_of<'a>(paths: &mut Paths<FakeTree<'a>>) -> Option<GlobResult<Memory<'a>>> {
+fn next_of<T: Tree>(paths: &mut Paths<T>) -> Option<GlobResult<T::Alloc>> {
     paths.next()
 }
 
@@ -180,10 +176,10 @@ pub(super) fn gathered<T: Tree>(
 }
 
 /// Takes the items of a walk one by one.
-fn taken(
+fn taken<T: Tree>(
     rt: &(impl Abort + AllocGlobal),
     ration: &Ration,
-    paths: &mut Paths<FakeTree<'_>>,
+    paths: &mut Paths<T>,
 ) -> Walked {
     let mut walked = Walked::new(rt);
     for _ in 0..u64::MAX {
@@ -200,7 +196,7 @@ fn taken(
 }
 
 /// A walk that has ended stays so, and has counted its items. Gives what it has spent.
-fn ended(rt: &impl Abort, paths: &mut Paths<FakeTree<'_>>, count: u64) -> u64 {
+fn ended<T: Tree>(rt: &impl Abort, paths: &mut Paths<T>, count: u64) -> u64 {
     for _ in 0..3 {
         assert!(rt; next_of(paths).is_none());
     }
@@ -210,23 +206,23 @@ fn ended(rt: &impl Abort, paths: &mut Paths<FakeTree<'_>>, count: u64) -> u64 {
 
 /// Walks by `next`. Nothing is asked before the first item is wanted. Once the walk is over it holds less than before
 /// its first item: its tree and its pattern, without the path at which it starts. To ask it further takes no memory.
-fn stepped<'a>(
+fn stepped<T: Tree>(
     rt: &(impl Abort + AllocGlobal),
-    alloc: Memory<'a>,
-    tree: FakeTree<'a>,
-    notes: &Notes,
+    alloc: T::Alloc,
+    tree: T,
+    (ration, notes): (&Ration, &Notes),
     job: Job<'_>,
 ) -> Walked {
     match start(alloc, tree, job) {
         Err(refusal) => refused(rt, refusal),
         Ok(mut paths) => {
             check(rt, notes.asked.get().questions == 0, 0, job.pattern);
-            let held = alloc.ration.held();
-            let mut walked = taken(rt, &alloc.ration, &mut paths);
-            let requests = alloc.ration.asked();
+            let held = ration.held();
+            let mut walked = taken(rt, ration, &mut paths);
+            let requests = ration.asked();
             walked.spent = ended(rt, &mut paths, walked.count);
-            check(rt, alloc.ration.asked() == requests, requests, job.pattern);
-            check(rt, alloc.ration.held() < held, held, job.pattern);
+            check(rt, ration.asked() == requests, requests, job.pattern);
+            check(rt, ration.held() < held, held, job.pattern);
             walked
         }
     }
@@ -247,7 +243,7 @@ pub(super) fn walk(
     };
     let (requests, bytes) = (alloc.ration.asked(), alloc.ration.bytes());
     let mut walked = match way {
-        Way::Steps => stepped(rt, alloc, tree, &notes, job),
+        Way::Steps => stepped(rt, alloc, tree, (&alloc.ration, &notes), job),
         Way::Whole => gathered(rt, alloc, tree, job),
         Way::Driven(most) => driven(rt, alloc, tree, job, most),
     };

@@ -2,7 +2,7 @@
 use super::{Job, next_of, start};
 use crate::tests::fake_tree::{Behaviour, Notes, tree_of};
 use crate::tests::made::{Memory, check, made, text_of};
-use glob::GlobError;
+use glob::{GlobError, Tree};
 use glob_testing::rationing::Rationed;
 use glob_testing::texts::{are_same, prints_as};
 use std::io::{self, ErrorKind};
@@ -16,6 +16,16 @@ fn error_of<'a>(
     job: Job<'a>,
 ) -> GlobError<Memory<'a>> {
     let tree = made(rt, tree_of(alloc, job.behaviour, job.words, notes));
+    first_error(rt, alloc, tree, job)
+}
+
+/// The same over this tree.
+fn first_error<T: Tree>(
+    rt: &impl Abort,
+    alloc: T::Alloc,
+    tree: T,
+    job: Job<'_>,
+) -> GlobError<T::Alloc> {
     let mut paths = made(rt, start(alloc, tree, job));
     match next_of(&mut paths) {
         Some(Err(error)) => error,
