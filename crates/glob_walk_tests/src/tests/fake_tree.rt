@@ -4,7 +4,7 @@ ghost use Rattle.std.specs.Prelude.{None};
 
 use super::made::Memory;
 use glob::{Asks, Entry, ListError, Look, MemTree, Tree, TreeRefusal};
-use std::alloc::AllocError;
+use std::alloc::{AllocError, Allocator};
 use std::cell::Cell;
 use std::io::{self, ErrorKind};
 use std::mem;
@@ -151,12 +151,18 @@ fn planted<'a>(alloc: Memory<'a>, words: &str) -> Result<Files<'a>, TreeRefusal>
 }
 
 /// The entries at a path.
-fn entries<'a>(files: &mut Files<'a>, path: &str) -> Result<Entries<'a>, ListError> {
+fn entries<A: Allocator + Copy>(
+    files: &mut MemTree<A>,
+    path: &str,
+) -> Result<Vec<Entry<A>, A>, ListError> {
     files.list(path)
 }
 
 /// The entries at a path, each of them twice.
-fn twice<'a>(files: &mut Files<'a>, path: &str) -> Result<Entries<'a>, ListError> {
+fn twice<A: Allocator + Copy>(
+    files: &mut MemTree<A>,
+    path: &str,
+) -> Result<Vec<Entry<A>, A>, ListError> {
     let mut found = entries(files, path)?;
     let mut again = entries(files, path)?;
     match found.append(&mut again) {
