@@ -111,19 +111,26 @@ fn is_shut<A: Allocator + Copy>(tree: &mut MemTree<A>, path: &str) -> bool {
     }
 }
 
-/// A tree that is changed, listed, and once more where that is refused.
+/// Changes a tree and lists it, and once more where that is refused.
+fn change_and_list<A: Allocator + Copy>(tree: &mut MemTree<A>) -> Option<bool> {
+    let changed = change_all(tree);
+    let is_seen = tree.look("x") == Ok(Look::Dir) && is_shut(tree, ".");
+    let listed = match lists(tree) {
+        None if lists(tree) != Some(true) => Some(false),
+        listed => listed,
+    };
+    both(both(changed, Some(is_seen)), listed)
+}
+
+/// A tree that is changed and listed.
 struct Changing;
 
 impl Calls for Changing {
     fn answer(&self, alloc: &Rationed<Global>) -> Option<bool> {
-        let mut tree = MemTree::new(alloc).ok()?;
-        let changed = change_all(&mut tree);
-        let is_seen = tree.look("x") == Ok(Look::Dir) && is_shut(&mut tree, ".");
-        let listed = match lists(&mut tree) {
-            None if lists(&mut tree) != Some(true) => Some(false),
-            listed => listed,
-        };
-        both(both(changed, Some(is_seen)), listed)
+        match MemTree::new(alloc) {
+            Ok(mut tree) => change_and_list(&mut tree),
+            Err(_) => None,
+        }
     }
 }
 
