@@ -3,7 +3,7 @@ ghost use Rattle.std.specs.Prelude.{◌≡◌, ◌+◌, None};
 ghost use Rattle.glob_tree.specs.Answers.{entry_count};
 
 use crate::asks::Asks;
-use crate::name::Name;
+use crate::name::{is_proper, name_from_proper};
 use crate::path_text::join;
 use crate::tree::{Entry, ListError, Look, Tree};
 use std::alloc::{AllocError, Allocator, Global};
@@ -79,10 +79,9 @@ impl<R: Files + Drop, A: Allocator + Copy> Tree for Disk<R, A> {
         ensures asks { self.new ≡ self.old + 1 }
     {
         self.asks = self.asks.after(1);
-        match metadata_of(self.rt.symlink_metadata(path))? {
-            Some(metadata) if metadata.is_symlink() => self.followed(path),
-            Some(metadata) => Ok(look_of(&metadata)),
-            None => Ok(Look::Missing),
+        match self.rt.symlink_metadata(path) {
+            Ok(metadata) if metadata.is_symlink() => look_of(self.rt.metadata(path), Look::Other),
+            found => look_of(found, Look::Missing),
         }
     }
 
@@ -105,85 +104,74 @@ impl<R: Files + Drop, A: Allocator + Copy> Tree for Disk<R, A> {
 }
 
 impl<R: Files, A: Allocator + Copy> Disk<R, A> {
-    /// What a link leads to, and `Other` where it cannot be followed to its end.
-    fn followed(&self, path: &str) -> Result<Look, AllocError> {
-        match metadata_of(self.rt.metadata(path))? {
-            Some(metadata) => Ok(look_of(&metadata)),
-            None => Ok(Look::Other),
-        }
-    }
-
     /// Lists a directory, and counts that.
     fn listing(&mut self, path: &str, kinds: Kinds) -> Result<Vec<Entry<A>, A>, ListError>
         ensures asks { self.new ≡ self.old + 1 + entry_count result }
     {
         self.asks = self.asks.after(1);
-        match self.entries(path, kinds) {
-            Ok(entries) => {
+        let mut entries = Vec::new(self.alloc);
+        match self.add_directory(&mut entries, path, kinds) {
+            Ok(_) => {
                 self.asks = self.asks.after(entries.len());
                 Ok(entries)
             }
-            Err(error) if error.kind() == ErrorKind::OutOfMemory => Err(ListError::Memory),
-            Err(error) => Err(ListError::Read(error)),
+            Err(error) => Err(error),
         }
     }
 
-    /// The entries of a directory.
-    fn entries(&self, path: &str, kinds: Kinds) -> io::Result<Vec<Entry<A>, A>> {
+    /// Adds the entries of the directory at a path, and returns whether it has ended.
+    fn add_directory(
+        &self,
+        entries: &mut Vec<Entry<A>, A>,
+        path: &str,
+        kinds: Kinds,
+    ) -> Result<bool, ListError> {
         // The separator at its end, so that a link there is followed.
-        let mut directory = join(self.alloc, path, "")?;
-        let mut names = self.rt.open_dir(directory.as_str())?;
-        let mut entries = Vec::new(self.alloc);
-        self.read_all_entries(&mut names, &mut directory, kinds, &mut entries)?;
-        Ok(entries)
-    }
-
-    /// Adds the entries of a directory. Most directories end within two reads of a small block: one of all names, and one
-    /// of none.
-    fn read_all_entries(
-        &self,
-        names: &mut R::Dir,
-        directory: &mut String<A>,
-        kinds: Kinds,
-        entries: &mut Vec<Entry<A>, A>,
-    ) -> io::Result<()> {
-        let mut block = [0; BLOCK];
-        if !self.read_entries(names, &mut block, 2, directory, kinds, entries)? {
-            self.read_further_entries(names, directory, kinds, entries)?;
+        let Ok(mut directory) = join(self.alloc, path, "") else {
+            return Err(ListError::Memory);
+        };
+        match self.rt.open_dir(directory.as_str()) {
+            Ok(mut names) => self.add_all_entries(entries, &mut directory, kinds, &mut names),
+            Err(error) => Err(list_error(error)),
         }
-        Ok(())
     }
 
-    /// Adds the entries that two reads of a large directory have left.
-    fn read_further_entries(
+    /// Adds the entries of a directory, and returns whether it has ended. Most end within two reads of a small block: one of
+    /// all names, and one of none.
+    fn add_all_entries(
         &self,
-        names: &mut R::Dir,
+        entries: &mut Vec<Entry<A>, A>,
         directory: &mut String<A>,
         kinds: Kinds,
-        entries: &mut Vec<Entry<A>, A>,
-    ) -> io::Result<()> {
-        let mut block = [0; LARGE_BLOCK];
-        self.read_entries(names, &mut block, u64::MAX, directory, kinds, entries)?;
-        Ok(())
+        names: &mut R::Dir,
+    ) -> Result<bool, ListError> {
+        let mut block = [0; BLOCK];
+        match self.read_entries(entries, directory, kinds, names, &mut block, 2) {
+            Ok(false) => {
+                let mut block = [0; LARGE_BLOCK];
+                self.read_entries(entries, directory, kinds, names, &mut block, u64::MAX)
+            }
+            ended => ended,
+        }
     }
 
     /// Adds the entries of at most so many reads of a directory. Returns whether the directory has ended, which it has at
     /// the first empty read. There is a bound because nothing says that a reader has an end.
     fn read_entries(
         &self,
+        entries: &mut Vec<Entry<A>, A>,
+        directory: &mut String<A>,
+        kinds: Kinds,
         names: &mut R::Dir,
         block: &mut [u8],
         reads: u64,
-        directory: &mut String<A>,
-        kinds: Kinds,
-        entries: &mut Vec<Entry<A>, A>,
-    ) -> io::Result<bool> {
+    ) -> Result<bool, ListError> {
         for _ in 0..reads {
-            let count = names.read(block)?;
-            if count == 0 {
-                return Ok(true);
+            match names.read(block) {
+                Ok(0) => return Ok(true),
+                Ok(count) => self.add_entries(entries, directory, kinds, &block[..count])?,
+                Err(error) => return Err(list_error(error)),
             }
-            self.add_entries(entries, directory, kinds, &block[..count])?;
         }
         Ok(false)
     }
@@ -195,58 +183,71 @@ impl<R: Files, A: Allocator + Copy> Disk<R, A> {
         directory: &mut String<A>,
         kinds: Kinds,
         names: &[u8],
-    ) -> io::Result<()> {
+    ) -> Result<(), ListError> {
         for name in names.split(|&byte| byte == 0) {
             if is_listed(name) {
-                entries.push(self.entry(directory, kinds, name)?)?;
+                self.add_entry(entries, directory, kinds, name)?;
             }
         }
         Ok(())
     }
 
-    /// The entry of a name in a directory.
-    fn entry(&self, directory: &mut String<A>, kinds: Kinds, name: &[u8]) -> io::Result<Entry<A>> {
-        let Ok(name) = std::str::from_utf8(name) else {
-            return Err(io::Error::from(ErrorKind::InvalidFilename));
+    /// Adds the entry of a name in a directory.
+    fn add_entry(
+        &self,
+        entries: &mut Vec<Entry<A>, A>,
+        directory: &mut String<A>,
+        kinds: Kinds,
+        name: &[u8],
+    ) -> Result<(), ListError> {
+        let name = match std::str::from_utf8(name) {
+            Ok(name) if is_proper(name) => name,
+            _ => return Err(ListError::Read(io::Error::from(ErrorKind::InvalidFilename))),
         };
         let is_dir = match kinds {
-            Kinds::LookedUp => self.is_dir(directory, name)?,
+            Kinds::LookedUp => match self.look_in(directory, name) {
+                Ok(look) => matches!(look, Look::Dir),
+                Err(_) => return Err(ListError::Memory),
+            },
             Kinds::LeftOut => false,
         };
-        match Name::new(String::from_str(self.alloc, name)?) {
-            Ok(name) => Ok(Entry { name, is_dir }),
-            Err(_) => Err(io::Error::from(ErrorKind::InvalidFilename)),
+        let Ok(name) = name_from_proper(self.alloc, name) else {
+            return Err(ListError::Memory);
+        };
+        match entries.push(Entry { name, is_dir }) {
+            Ok(()) => Ok(()),
+            Err(_) => Err(ListError::Memory),
         }
     }
 
-    /// Whether a name leads from a directory to another one.
-    fn is_dir(&self, directory: &mut String<A>, name: &str) -> Result<bool, AllocError> {
+    /// What a name in a directory leads to, and `Missing` where that cannot be learned.
+    fn look_in(&self, directory: &mut String<A>, name: &str) -> Result<Look, AllocError> {
         let length = directory.len();
-        directory.push_str(name)?;
+        let Ok(()) = directory.push_str(name) else {
+            return Err(AllocError);
+        };
         let found = self.rt.metadata(directory.as_str());
         directory.truncate(length);
-        match metadata_of(found)? {
-            Some(metadata) => Ok(metadata.is_dir()),
-            None => Ok(false),
-        }
+        look_of(found, Look::Missing)
     }
 }
 
-/// The metadata, or `None` where there is none to be had.
-fn metadata_of(answer: io::Result<Metadata>) -> Result<Option<Metadata>, AllocError> {
+/// What has the metadata that the system answers with, where it is no link, and `missing` where it has none.
+fn look_of(answer: io::Result<Metadata>, missing: Look) -> Result<Look, AllocError> {
     match answer {
-        Ok(metadata) => Ok(Some(metadata)),
+        Ok(metadata) if metadata.is_dir() => Ok(Look::Dir),
+        Ok(_) => Ok(Look::Other),
         Err(error) if error.kind() == ErrorKind::OutOfMemory => Err(AllocError),
-        Err(_) => Ok(None),
+        Err(_) => Ok(missing),
     }
 }
 
-/// What has this metadata, where it is no link.
-fn look_of(metadata: &Metadata) -> Look {
-    if metadata.is_dir() {
-        Look::Dir
+/// Why a listing fails where the system answers with this error.
+fn list_error(error: io::Error) -> ListError {
+    if error.kind() == ErrorKind::OutOfMemory {
+        ListError::Memory
     } else {
-        Look::Other
+        ListError::Read(error)
     }
 }
 
