@@ -77,28 +77,24 @@ impl<A: Allocator + Copy> Frame<A> {
     {
         match self.cursor {
             Cursor::Parent => {
-                let task = self.special_task(plan, "..")?;
                 self.cursor = Cursor::Current;
-                Ok(task)
+                self.special_task(plan, "..")
             }
             Cursor::Current => {
-                let task = self.special_task(plan, ".")?;
                 self.cursor = Cursor::At(0);
-                Ok(task)
+                self.special_task(plan, ".")
             }
             Cursor::At(i) => {
-                let task = self.met_task(plan, &self.entries[i])?;
                 self.cursor = if self.recursive {
                     Cursor::Inside(i)
                 } else {
                     Cursor::At(i + 1)
                 };
-                Ok(task)
+                self.met_task(plan, &self.entries[i])
             }
             Cursor::Inside(i) => {
-                let task = self.entered_task(plan, &self.entries[i])?;
                 self.cursor = Cursor::At(i + 1);
-                Ok(task)
+                self.entered_task(plan, &self.entries[i])
             }
         }
     }

@@ -10,7 +10,7 @@ ghost use Rattle.glob_walk.specs.Components.{components, first_fault, has_root, 
 ghost use Rattle.glob_walk.specs.Private.Merging.{merged, are_merged};
 ghost use Rattle.glob_walk.specs.Walks.{RefusesWith};
 
-use crate::component::Component;
+use crate::component::{Component, is_recursive};
 use glob_pattern::{MatchOptions, PatternRefusal};
 use glob_tree::begins_with_dot;
 use std::alloc::Allocator;
@@ -46,14 +46,16 @@ impl<A: Allocator + Copy> Plan<A> {
     {
         // The whole first, so that a fault's place counts from the start of the pattern where the whole has one.
         Component::check(alloc, pattern)?;
-        let components = read_components(alloc, past_root(pattern))?;
-        Ok(Plan {
-            components,
-            options,
-            rooted: begins_with_separator(pattern),
-            directories: ends_in_separator(pattern),
-            alloc,
-        })
+        match read_components(alloc, past_root(pattern)) {
+            Ok(components) => Ok(Plan {
+                components,
+                options,
+                rooted: begins_with_separator(pattern),
+                directories: ends_in_separator(pattern),
+                alloc,
+            }),
+            Err(refusal) => Err(refusal),
+        }
     }
 }
 
@@ -110,12 +112,15 @@ fn read_components<A: Allocator + Copy>(
     let mut components = Vec::new(alloc);
     let mut after_recursive = false;
     for piece in text.split('/') {
-        let component = Component::read(alloc, piece)?;
-        let recursive = component.is_recursive();
-        if !(after_recursive && recursive) {
-            components.push(component)?;
+        if after_recursive && is_recursive(piece) {
+            continue;
         }
-        after_recursive = recursive;
+        let component = match Component::read(alloc, piece) {
+            Ok(component) => component,
+            Err(refusal) => return Err(refusal),
+        };
+        after_recursive = component.is_recursive();
+        components.push(component)?;
     }
     Ok(components)
 }

@@ -48,7 +48,10 @@ impl<A: Allocator + Copy> Stack<A> {
         let Some(frame) = self.frames.last_mut() else {
             return Ok(false);
         };
-        self.next = frame.step(&self.plan)?;
+        let Ok(task) = frame.step(&self.plan) else {
+            return Err(AllocError);
+        };
+        self.next = task;
         if frame.is_done() {
             self.frames.pop();
         }
