@@ -121,8 +121,13 @@ impl<A: Allocator + Copy> WalkMachine<A> {
         ensures begun { IfOk result
             (λ walk. (c : Content) → HasGiven (listing c options pattern.now) c [] walk) }
     {
-        let plan = Plan::read(alloc, pattern, options)?;
-        let start = String::from_str(alloc, plan.start())?;
+        let plan = match Plan::read(alloc, pattern, options) {
+            Ok(plan) => plan,
+            Err(refusal) => return Err(refusal),
+        };
+        let Ok(start) = String::from_str(alloc, plan.start()) else {
+            return Err(PatternRefusal::Memory);
+        };
         Ok(WalkMachine::from_plan(plan, start, limit))
     }
 

@@ -366,8 +366,11 @@ fn literal_task<A: Allocator + Copy>(
 {
     let name = component.as_str();
     let wanted = Wanted::of_literal(is_current_or_parent(name), is_dir);
+    let Ok(path) = child(plan.alloc, path, name) else {
+        return Err(AllocError);
+    };
     Ok(Task {
-        path: child(plan.alloc, path, name)?,
+        path,
         component: number + 1,
         sight: Sight::Unseen(wanted),
     })
