@@ -1,4 +1,4 @@
-use Rattle.std.proofs.Common.{rules, ◌≡◌, true, false, ◌&&◌, ◌∙◌, [], ◌∷◌, ◌++◌, map, sym, ap, subst, lit<}
+use Rattle.std.proofs.Common.{rules, ◌≡◌, true, false, ◌&&◌, ◌∙◌, [], ◌∷◌, ◌++◌, map, sym, ap, lit<}
 use Rattle.std.specs.Str.Iter.{split_text, split_has_more, split_pattern}
 use Rattle.std.proofs.lemmas.Iterator.Consumers.{YieldsList-end}
 use Rattle.std.proofs.lemmas.Iterator.Splits.{YieldsList-from_str_split}
@@ -7,8 +7,6 @@ use Rattle.glob_text.specs.Characters.{slash}
 use Rattle.glob_text.specs.Pieces.{pieces}
 use Rattle.glob_walk.specs.Components.{first_fault, is_recursive}
 use Rattle.glob_walk.specs.Private.Merging.{merged, merged_after}
-use Rattle.glob_walk.specs.Private.Forms.{text_fault}
-use Rattle.glob_walk.specs.Walks.{RefusesWith}
 use Rattle.glob_walk.proofs.WalkLemmas.Merging.{merged-skip, merged-push}
 use Rattle.glob_walk.proofs.WalkLemmas.Literals.{text_fault-recursive}
 use Rattle.glob_walk.proofs.WalkLemmas.Reading.{split_at_turn, first_fault-push, RefusesWith-first}
