@@ -119,8 +119,10 @@ pub fn filter_selected<A: Allocator + Copy, S: Selection, R: Read, W: Write>(
     ensures write_fault { IsErrAnd result IsWrite → CopiesSelectedBytes end (S.selects selection.now)
         (R.remaining reader.old.inner) (W.contents writer.old.inner) (W.contents writer.new.inner) }
 {
-    let input = read_all(alloc, reader)?;
-    write_records(alloc, selection, end, &input, writer)
+    match read_all(alloc, reader) {
+        Ok(input) => write_records(alloc, selection, end, &input, writer),
+        Err(fault) => Err(fault),
+    }
 }
 
 /// All bytes that are left in the reader.

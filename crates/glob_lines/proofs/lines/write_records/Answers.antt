@@ -61,7 +61,7 @@ pub returns-in_err-keep_record-clause-records : goal.returns-in_err-keep_record-
 returns-in_err-keep_record-clause-records g c = rw (err_from_is_err_and c.from_residual.result c.from_residual.ensures.1).1 tt
 
 pub returns-in_err-keep_record-clause-failed : goal.returns-in_err-keep_record-clause-failed
-returns-in_err-keep_record-clause-failed g c = 
+returns-in_err-keep_record-clause-failed g c =
     (λ yes. IsErrAnd-made _ _ IsWrite c.from_residual.ensures.1 (c.in_err-keep_record.ensures.failed.0 yes), λ is. c.in_err-keep_record.ensures.failed.1 (IsErrAnd-passed _ _ IsWrite c.from_residual.ensures.1 is))
 
 pub returns-in_err-keep_record-clause-no_read : goal.returns-in_err-keep_record-clause-no_read
