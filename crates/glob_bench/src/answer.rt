@@ -10,9 +10,11 @@
 //! - A pattern with a fault is answered by `fault`, its place and its message in place of `ok` and what follows.
 
 use crate::words::{number_of, options_of, pattern_of, unfit};
-use glob::{Disk, GlobCause, GlobResult, MatchOptions, Paths, Pattern, PatternRefusal, glob_in};
+use glob::{
+    Disk, GlobCause, GlobResult, MatchOptions, Paths, Pattern, PatternRefusal, Tree, glob_in,
+};
 use glob_captures::{TokenKind, captures, reach, tokens};
-use std::alloc::{AllocError, Global};
+use std::alloc::{AllocError, Allocator, Global};
 use std::io::{self, Write};
 use std::path::Path;
 
@@ -168,7 +170,7 @@ fn add_walk(
 ) -> io::Result<()> {
     let disk = Disk::new(rt, rt.alloc());
     match glob_in(rt.alloc(), disk, pattern, options, limit) {
-        Ok(paths) => add_items(rt.alloc(), answer, paths),
+        Ok(mut paths) => add_items(rt.alloc(), answer, &mut paths),
         Err(refusal) => {
             answer.push_str("fault\t")?;
             add_fault(answer, refusal)
@@ -177,21 +179,16 @@ fn add_walk(
 }
 
 /// Adds the units of work of a walk, and its items.
-fn add_items(
-    alloc: Global,
-    answer: &mut String,
-    mut paths: Paths<Disk<HostRuntime>>,
-) -> io::Result<()> {
+fn add_items<T: Tree>(alloc: Global, answer: &mut String, paths: &mut Paths<T>) -> io::Result<()> {
     let mut items = String::new(alloc);
-    for item in &mut paths {
+    while let Some(item) = paths.next() {
         add_item(&mut items, &item)?;
     }
-    write!(answer, "ok\t{}{}", paths.spent(), items.as_str())?;
-    Ok(())
+    Ok(write!(answer, "ok\t{}{}", paths.spent(), items.as_str())?)
 }
 
 /// Adds an item of a walk.
-fn add_item(items: &mut String, item: &GlobResult) -> io::Result<()> {
+fn add_item<A: Allocator>(items: &mut String, item: &GlobResult<A>) -> io::Result<()> {
     match item {
         Ok(path) => Ok(add_path(items, '=', path.as_path())?),
         Err(error) => match error.cause() {
