@@ -201,20 +201,26 @@ fn add_hindering<A: Allocator + Copy>(
     text: &str,
     options: MatchOptions,
 ) -> Result<(), AllocError> {
-    let mut looser = options;
-    looser.case_sensitive = false;
-    if pattern.matches_with(text, looser)? {
-        lines.push_str("it matches with -i\n")?;
-    }
-    let mut looser = options;
-    looser.require_literal_separator = false;
-    if pattern.matches_with(text, looser)? {
-        lines.push_str("it matches without -s\n")?;
-    }
-    let mut looser = options;
-    looser.require_literal_leading_dot = false;
-    if pattern.matches_with(text, looser)? {
-        lines.push_str("it matches without -d\n")?;
+    let without_case = MatchOptions {
+        case_sensitive: false,
+        ..options
+    };
+    let without_separator = MatchOptions {
+        require_literal_separator: false,
+        ..options
+    };
+    let without_dot = MatchOptions {
+        require_literal_leading_dot: false,
+        ..options
+    };
+    for (looser, line) in [
+        (without_case, "it matches with -i\n"),
+        (without_separator, "it matches without -s\n"),
+        (without_dot, "it matches without -d\n"),
+    ] {
+        if pattern.matches_with(text, looser)? {
+            lines.push_str(line)?;
+        }
     }
     Ok(())
 }
