@@ -54,44 +54,24 @@ impl<'a, A: Allocator> TextJudge<'a, A> {
         ensures count { result.count ≡ 0 }
         ensures start { place_before (chars text.now) (chars (chars_rest result.rest)) ≡ start }
     {
-        let mut judge = TextJudge {
+        let bytes = text.as_bytes();
+        let (current, before) = if start == 0 {
+            ('/', '/')
+        } else if start == 1 {
+            (bytes[0] as char, '/')
+        } else {
+            (bytes[start - 1] as char, bytes[start - 2] as char)
+        };
+        TextJudge {
             tokens,
             masks,
             options,
             text,
-            rest: text.chars(),
-            current: '/',
-            before: '/',
+            rest: text[start..].chars(),
+            current,
+            before,
             count: 0,
-        };
-        judge.pass(start);
-        judge
-    }
-
-    /// Steps over the next `len` bytes, which are ASCII characters.
-    #[inline(always)]
-    fn pass(&mut self, len: usize)
-        requires within { len ≤ length (chars_rest self.old.rest) }
-        requires ascii { IsAscii (take len (chars_rest self.old.rest)) }
-        ensures place { place_before (chars self.new.text.now) (chars (chars_rest self.new.rest))
-            ≡ place_before (chars self.old.text.now) (chars (chars_rest self.old.rest)) + len }
-        ensures tokens { self.new.tokens.now ≡ self.old.tokens.now }
-        ensures text { self.new.text.now ≡ self.old.text.now }
-        ensures options { self.new.options ≡ self.old.options }
-        ensures count { self.new.count ≡ self.old.count }
-    {
-        if len == 0 {
-            return;
         }
-        let left = self.rest.as_str();
-        let bytes = left.as_bytes();
-        self.before = if len == 1 {
-            self.current
-        } else {
-            bytes[len - 2] as char
-        };
-        self.current = bytes[len - 1] as char;
-        self.rest = left[len..].chars();
     }
 }
 

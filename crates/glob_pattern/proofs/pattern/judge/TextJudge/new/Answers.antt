@@ -1,47 +1,50 @@
-use Rattle.std.proofs.Common.{◌≡◌, ◌∙◌, true, take, chars, refl, ap, sym, subst, arith}
-use Rattle.std.specs.Str.{IsAscii}
-use Rattle.glob_text.specs.Text.{Text}
-use Rattle.glob_pattern.specs.Private.Stepping.{place_before, IsSteppedTo}
+use Rattle.std.proofs.Common.{◌≡◌, ℕ, ◌-◌, ◌<◌, ◌≢◌, drop, get_or, ap, ◌∙◌, arith}
+use Rattle.std.specs.Str.Iter.{chars_rest}
+use Rattle.glob_text.specs.Characters.{slash}
+use Rattle.glob_pattern.proofs.MatchingLemmas.Passing.{IsSteppedTo-leading, place_before-leading, boundary-after_ascii}
 use Rattle.glob_pattern.proofs.pattern.judge.TextJudge.new.Goals as goal
+use Rattle.glob_pattern.proofs.pattern.judge.TextJudge.new.Goals.{then-start-eq0, else-start-eq0+then-start-eq1, else-start-eq0+else-start-eq1}
 
--- at the start of a text
-before_start : (text : Text) → place_before text text ≡ 0
-before_start text = omega arith
+pub range_from-requires : goal.range_from-requires
+range_from-requires g c positive = boundary-after_ascii c.args.text.now c.args.start c.utf8.text positive c.requires.within c.requires.ascii
 
-IsSteppedTo-start : (text : Text) → IsSteppedTo text text 47 true true
-IsSteppedTo-start text = record {
-  left = rw (before_start text) refl;
-  here = rw (before_start text) refl;
-  last = λ lt. absurd (omega (arith, lt));
-  before = λ lt. absurd (omega (arith, lt));
-}
+abbrev current_of : ℕ × ℕ → ℕ
+current_of pair = pair.0
 
-pub invariant_of-judge : goal.invariant_of-judge
-invariant_of-judge g c = record {
-  masked = c.requires.masks;
-  stepped = rw c.chars.ensures.rest (IsSteppedTo-start (chars c.args.text.now));
-}
+abbrev before_of : ℕ × ℕ → ℕ
+before_of pair = pair.1
 
-pub pass-requires-clause-within : goal.pass-requires-clause-within
-pass-requires-clause-within g c = rw c.chars.ensures.rest c.requires.within
-
-pub pass-requires-clause-ascii : goal.pass-requires-clause-ascii
-pass-requires-clause-ascii g c = subst (λ bytes. IsAscii (take c.args.start bytes)) (sym c.chars.ensures.rest) c.requires.ascii
-
-pub returns-clause-tokens : goal.returns-clause-tokens
-returns-clause-tokens g c = c.pass.ensures.tokens
-
-pub returns-clause-text : goal.returns-clause-text
-returns-clause-text g c = c.pass.ensures.text
-
-pub returns-clause-options : goal.returns-clause-options
-returns-clause-options g c = c.pass.ensures.options
-
-pub returns-clause-count : goal.returns-clause-count
-returns-clause-count g c = c.pass.ensures.count
+pub invariant_of-result : goal.invariant_of-result
+invariant_of-result g c =
+    let bytes = c.args.text.now in
+    let start = c.args.start in
+    let same = c.as_bytes-bytes.ensures.value in
+    let none : start ≡ 0 → current_of c.if-start-eq0.current ≡ slash = elim c.if-start-eq0.branch [
+      | then-start-eq0 w ↦ λ e. ap current_of w.current-is
+      | else-start-eq0+then-start-eq1 w ↦ λ e. absurd (w.if-start-eq0.false e)
+      | else-start-eq0+else-start-eq1 w ↦ λ e. absurd (w.if-start-eq0.false e)
+    ] in
+    let last : start ≢ 0 → current_of c.if-start-eq0.current ≡ get_or bytes (start - 1) 0 = elim c.if-start-eq0.branch [
+      | then-start-eq0 w ↦ λ ne. absurd (ne w.if-start-eq0.true)
+      | else-start-eq0+then-start-eq1 w ↦ λ ne. let at : start - 1 ≡ 0 = omega (arith, w.if-start-eq1.true) in rw at (rw same at (ap current_of w.current-is))
+      | else-start-eq0+else-start-eq1 w ↦ λ ne. rw same at (ap current_of w.current-is)
+    ] in
+    let few : start < 2 → before_of c.if-start-eq0.current ≡ slash = elim c.if-start-eq0.branch [
+      | then-start-eq0 w ↦ λ lt. ap before_of w.current-is
+      | else-start-eq0+then-start-eq1 w ↦ λ lt. ap before_of w.current-is
+      | else-start-eq0+else-start-eq1 w ↦ λ lt. absurd (omega (arith, lt, w.if-start-eq0.false, w.if-start-eq1.false))
+    ] in
+    let more : 1 < start → before_of c.if-start-eq0.current ≡ get_or bytes (start - 2) 0 = elim c.if-start-eq0.branch [
+      | then-start-eq0 w ↦ λ lt. absurd (omega (arith, lt, w.if-start-eq0.true))
+      | else-start-eq0+then-start-eq1 w ↦ λ lt. absurd (omega (arith, lt, w.if-start-eq1.true))
+      | else-start-eq0+else-start-eq1 w ↦ λ lt. rw same at (ap before_of w.current-is)
+    ] in
+    let left : chars_rest c.chars.result ≡ drop start bytes = c.chars.ensures.rest ∙ c.range_from.ensures.value in
+    record {
+      masked = c.requires.masks;
+      stepped = IsSteppedTo-leading bytes _ start _ _ c.requires.within c.requires.ascii left none last few more;
+    }
 
 pub returns-clause-start : goal.returns-clause-start
 returns-clause-start g c =
-    let text = chars c.args.text.now in
-    let start = ap (λ rest. place_before text (chars rest)) c.chars.ensures.rest ∙ before_start text in
-    omega (arith, start, rw c.pass.ensures.text at c.pass.ensures.place)
+    place_before-leading c.args.text.now _ c.args.start c.requires.within c.requires.ascii (c.chars.ensures.rest ∙ c.range_from.ensures.value)
