@@ -11,9 +11,10 @@ mod pattern;
 mod token;
 
 pub use error::{PatternError, PatternRefusal};
+pub use grammar::characters_of;
 pub use matcher::{Judge, Shape, run_positions};
 pub use options::MatchOptions;
 pub use pattern::{
-    Pattern, TokenKind, Trimmed, characters_of, literal_at, match_trimmed, token_kind, token_takes,
-    tokens_len, trim,
+    Pattern, TokenKind, Trimmed, literal_at, match_trimmed, token_kind, token_takes, tokens_len,
+    trim,
 };

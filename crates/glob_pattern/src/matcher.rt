@@ -148,22 +148,13 @@ pub fn run_positions<A: Allocator + Copy, J: Judge>(
     // With at most 63 shapes it succeeds.
     ensures small { length shapes.now < 64 → IsOk result }
 {
+    let span = Span::all(shapes.len());
     if shapes.len() <= WORD {
-        decide(
-            alloc,
-            shapes,
-            &[ShapeWord::new(shapes, 0)],
-            Span::all(shapes.len()),
-            judge,
-        )
+        decide(alloc, shapes, &[ShapeWord::new(shapes, 0)], span, judge)
     } else {
-        let words = shape_words(alloc, shapes)?;
-        decide(
-            alloc,
-            shapes,
-            words.as_slice(),
-            Span::all(shapes.len()),
-            judge,
-        )
+        let Ok(words) = shape_words(alloc, shapes) else {
+            return Err(AllocError);
+        };
+        decide(alloc, shapes, words.as_slice(), span, judge)
     }
 }

@@ -26,7 +26,7 @@ pub use prefilter::Trimmed;
 use std::alloc::{AllocError, Allocator, Global};
 use std::marker::Model;
 use std::path::Path;
-pub use tokens::{TokenKind, characters_of, token_kind, token_takes, tokens_len};
+pub use tokens::{TokenKind, token_kind, token_takes, tokens_len};
 
 /// A parsed pattern, which matches texts.
 ///
@@ -107,10 +107,13 @@ impl<A: Allocator + Copy> Pattern<A> {
     pub fn clone(&self) -> Result<Self, AllocError>
         ensures { IfOk result (λ p. p ≡ self.now) }
     {
-        Ok(Pattern {
-            text: self.text.clone()?,
-            compiled: self.compiled.clone()?,
-        })
+        let Ok(text) = self.text.clone() else {
+            return Err(AllocError);
+        };
+        let Ok(compiled) = self.compiled.clone() else {
+            return Err(AllocError);
+        };
+        Ok(Pattern { text, compiled })
     }
 
     /// Whether the pattern matches the whole text, case-sensitive, without the separator rule and the dot rule:

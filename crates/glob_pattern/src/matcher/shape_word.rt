@@ -25,9 +25,13 @@ pub fn shape_words<A: Allocator + Copy, T: Shaped>(
     ensures { IfOk result (λ words. AreShapeWords (map T.shape tokens.now) words.items) }
 {
     let count = tokens.len().div_ceil(WORD).max(1);
-    let mut words = Vec::with_capacity(alloc, count)?;
+    let Ok(mut words) = Vec::with_capacity(alloc, count) else {
+        return Err(AllocError);
+    };
     for n in 0..count {
-        words.push(ShapeWord::new(tokens, WORD * n))?;
+        let Ok(()) = words.push(ShapeWord::new(tokens, WORD * n)) else {
+            return Err(AllocError);
+        };
     }
     Ok(words)
 }

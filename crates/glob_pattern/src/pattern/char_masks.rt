@@ -79,9 +79,13 @@ pub fn masks_of<A: Allocator + Copy>(
     ensures { IfOk result (λ masks. AreCharMasks tokens.now masks.items) }
 {
     let count = if used { tokens.len().div_ceil(WORD) } else { 0 };
-    let mut masks = Vec::with_capacity(alloc, count)?;
+    let Ok(mut masks) = Vec::with_capacity(alloc, count) else {
+        return Err(AllocError);
+    };
     for n in 0..count {
-        masks.push(CharMasks::NONE)?;
+        let Ok(()) = masks.push(CharMasks::NONE) else {
+            return Err(AllocError);
+        };
         masks[n].fill(tokens, WORD * n);
     }
     Ok(masks)

@@ -83,15 +83,21 @@ impl<A: Allocator + Copy> Compiled<A> {
     pub fn new(alloc: A, tokens: Vec<Token<Bracket<A>>, A>) -> Result<Self, AllocError>
         ensures { IfOk result (λ compiled. compiled ≡ tokens.items) }
     {
-        let prefilter = Prefilter::of(tokens.as_slice());
-        let words = if tokens.len() <= WORD {
+        let list = tokens.as_slice();
+        let prefilter = Prefilter::of(list);
+        let words = if list.len() <= WORD {
             Vec::new(alloc)
         } else {
-            shape_words(alloc, tokens.as_slice())?
+            match shape_words(alloc, list) {
+                Ok(words) => words,
+                Err(error) => return Err(error),
+            }
         };
-        let masks = masks_of(alloc, tokens.as_slice(), prefilter.lead < tokens.len())?;
+        let Ok(masks) = masks_of(alloc, list, prefilter.lead < list.len()) else {
+            return Err(AllocError);
+        };
         Ok(Compiled {
-            first: ShapeWord::new(tokens.as_slice(), 0),
+            first: ShapeWord::new(list, 0),
             tokens,
             words,
             masks,
@@ -116,11 +122,20 @@ impl<A: Allocator + Copy> Compiled<A> {
     pub fn clone(&self) -> Result<Self, AllocError>
         ensures { IfOk result (λ compiled. compiled ≡ self.now) }
     {
+        let Ok(tokens) = clone_tokens(&self.tokens) else {
+            return Err(AllocError);
+        };
+        let Ok(words) = self.words.clone() else {
+            return Err(AllocError);
+        };
+        let Ok(masks) = self.masks.clone() else {
+            return Err(AllocError);
+        };
         Ok(Compiled {
-            tokens: clone_tokens(&self.tokens)?,
+            tokens,
             first: self.first,
-            words: self.words.clone()?,
-            masks: self.masks.clone()?,
+            words,
+            masks,
             prefilter: self.prefilter,
         })
     }

@@ -17,15 +17,23 @@ impl<A: Allocator> Pattern<A> {
             return String::from_str(alloc, s);
         }
         let length = specials.saturating_mul(2).saturating_add(s.len());
-        let mut pattern = String::with_capacity(alloc, length)?;
+        let Ok(mut pattern) = String::with_capacity(alloc, length) else {
+            return Err(AllocError);
+        };
         let mut rest = s;
         while let Some((plain, bracket, others)) = split_at_special(rest) {
-            pattern.push_str(plain)?;
-            pattern.push_str(bracket)?;
+            let Ok(()) = pattern.push_str(plain) else {
+                return Err(AllocError);
+            };
+            let Ok(()) = pattern.push_str(bracket) else {
+                return Err(AllocError);
+            };
             rest = others;
         }
-        pattern.push_str(rest)?;
-        Ok(pattern)
+        match pattern.push_str(rest) {
+            Ok(()) => Ok(pattern),
+            Err(error) => Err(error),
+        }
     }
 }
 
@@ -43,7 +51,9 @@ fn split_at_special(text: &str) -> Option<(&str, &'static str, &str)>
         (λ p. escaped_text text.now ≡ p.0.now ++ (p.1.now ++ escaped_text p.2.now)) }
     ensures shorter { IfSome result (λ p. length p.2.now < length text.now) }
 {
-    let place = first_special(text)?;
+    let Some(place) = first_special(text) else {
+        return None;
+    };
     let bracket = bracketed(text.as_bytes()[place]);
     Some((&text[..place], bracket, &text[place + 1..]))
 }

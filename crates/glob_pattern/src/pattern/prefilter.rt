@@ -78,8 +78,12 @@ impl Prefilter {
         if self.excludes(bytes) {
             return None;
         }
-        let start = trim_start(tokens, self.lead, bytes, options)?;
-        let end = trim_end(tokens, self.trail, bytes, options, start)?;
+        let Some(start) = trim_start(tokens, self.lead, bytes, options) else {
+            return None;
+        };
+        let Some(end) = trim_end(tokens, self.trail, bytes, options, start) else {
+            return None;
+        };
         if self.needle.may_be_in(bytes) {
             Some(Trimmed { start, end })
         } else {
@@ -186,14 +190,12 @@ fn trim_end<A: Allocator>(
             break;
         }
         let token = &tokens[tokens.len() - 1 - end];
-        if !takes(token, options, true, byte as char) {
-            if !is_excluded_dot(options, true, byte as char) {
-                return None;
+        let c = byte as char;
+        if !takes(token, options, true, c) {
+            if is_excluded_dot(options, true, c) && takes(token, options, false, c) {
+                break;
             }
-            if !takes(token, options, false, byte as char) {
-                return None;
-            }
-            break;
+            return None;
         }
         end += 1;
     }

@@ -1,18 +1,17 @@
 //! The tokens of a pattern, one by one: how many there are, of which kind, and what each takes.
-ghost use Rattle.std.specs.Prelude.{◌≡◌, ◌<◌, length, slice_index_or, IfOk, chars};
+ghost use Rattle.std.specs.Prelude.{◌≡◌, ◌<◌, length, slice_index_or, chars};
 ghost use Rattle.glob_pattern.specs.Grammar.Units.{HasTokens};
 ghost use Rattle.glob_pattern.specs.Matching.Literals.{HasCount};
 ghost use Rattle.glob_pattern.specs.Matching.Taking as taking;
 ghost use Rattle.glob_pattern.specs.Computing.Tokens.{tokens_of, kind_of};
 ghost use Rattle.glob_pattern.specs.declared.token.Token.TheVariants.{AnyChar as Wildcard};
 
-use crate::grammar;
 use crate::options::MatchOptions;
 use crate::pattern::Pattern;
 use crate::token::Token;
 use crate::token::bracket::Bracket;
 use crate::token::taking::takes;
-use std::alloc::{AllocError, Allocator};
+use std::alloc::Allocator;
 
 /// What kind of token it is. That of the pattern `?` is `AnyChar`.
 #[derive(Clone, Copy, Debug, PartialEq, Eq)]
@@ -81,11 +80,4 @@ pub fn token_takes<A: Allocator>(
         ≡ taking.takes options opening c (slice_index_or (tokens_of (chars pattern.now)) token Wildcard) }
 {
     takes(&tokens_in(pattern)[token], options, opening, c)
-}
-
-/// The characters of a text. Fails only if allocation fails.
-pub fn characters_of<A: Allocator>(alloc: A, text: &str) -> Result<Vec<char, A>, AllocError>
-    ensures { IfOk result (λ characters. characters.items ≡ chars text.now) }
-{
-    grammar::characters_of(alloc, text)
 }

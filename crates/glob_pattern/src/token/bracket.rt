@@ -95,7 +95,10 @@ impl<A: Allocator + Copy> Clone for Bracket<A> {
         let entries = match &self.entries {
             Entries::One(entry) => Entries::One(*entry),
             Entries::Many(entries) => {
-                Entries::Many(Vec::from_slice(*entries.allocator(), entries.as_slice())?)
+                match Vec::from_slice(*entries.allocator(), entries.as_slice()) {
+                    Ok(entries) => Entries::Many(entries),
+                    Err(error) => return Err(error),
+                }
             }
         };
         Ok(Bracket { entries })

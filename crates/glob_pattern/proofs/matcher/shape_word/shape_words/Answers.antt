@@ -1,18 +1,17 @@
 use Rattle.std.proofs.Common.{◌≡◌, ◌*◌, ◌++◌, ◌∷◌, [], length, get_or, ⊎_elim, ap, sym, subst, arith, map}
 use Rattle.std.proofs.lemmas.Bool.{cases_eq}
 use Rattle.std.proofs.lemmas.List.{length-append, length-map, get_or_append_left, get_or_push}
-use Rattle.std.proofs.lemmas.Result.{err_from_is_err_and}
 use Rattle.glob_pattern.specs.Private.Positions.{IsShapeWord}
 use Rattle.glob_pattern.proofs.matcher.shape_word.shape_words.Goals as goal
 
 pub loop-n-init : goal.loop-n-init
-loop-n-init g c = record { count = ap length c.in_ok-words.ensures.items; word = λ i d lt. absurd (omega (arith, lt)) }
+loop-n-init g c = record { count = ap length c.in-Ok.ensures.items; word = λ i d lt. absurd (omega (arith, lt)) }
 
 pub loop-n-preserved : goal.loop-n-preserved
 loop-n-preserved g c =
     let i = c.loop-n.invariant in
     let words = c.loop-n.words.items in
-    rw c.in_ok-push.ensures.items (record {
+    rw c.in-Ok-push.ensures.items (record {
       count = omega (arith, length-append words (c.new.result ∷ []), i.count);
       word = λ m d lt.
           ⊎_elim
@@ -20,12 +19,6 @@ loop-n-preserved g c =
           (λ ne. let at : get_or (words ++ c.new.result ∷ []) m d ≡ get_or words m d = get_or_append_left words (c.new.result ∷ []) d m (omega (arith, ne, lt, i.count)) in rw at (i.word m d (omega arith)))
           (cases_eq m c.loop-n.n);
     })
-
-pub returns-in_err-words : goal.returns-in_err-words
-returns-in_err-words g c = rw (err_from_is_err_and c.from_residual.result c.from_residual.ensures.1).1 tt
-
-pub returns-in_err-push : goal.returns-in_err-push
-returns-in_err-push g c = rw (err_from_is_err_and c.from_residual-in_err-push.result c.from_residual-in_err-push.ensures.1).1 tt
 
 pub loop-n-smaller : goal.loop-n-smaller
 loop-n-smaller g c = omega arith

@@ -1,7 +1,7 @@
 use Rattle.std.proofs.Common.{arith}
 use Rattle.std.proofs.Common.{◌≡◌, ◌∙◌, sym, string_bytes}
 use Rattle.std.proofs.lemmas.Str.{IsUtf8-string_bytes}
-use Rattle.std.proofs.lemmas.Result.{IfOk-from_err, IfOk-weaker}
+use Rattle.std.proofs.lemmas.Result.{IfOk-weaker}
 use Rattle.std.proofs.lemmas.Grind.{common_steps}
 use Rattle.glob_pattern.specs.Escaping.{escaped_text}
 use Rattle.glob_pattern.proofs.EscapingLemmas.Bytes.{chars-escaped_text, escaped_text-uncounted}
@@ -15,23 +15,11 @@ returns-then-specials-eq0 g c =
     (λ t is. chars-escaped_text c.args.s.now _ c.utf8.s (IsUtf8-string_bytes t) (is ∙ sym plain))
     c.from_str.ensures.ok
 
-pub returns : goal.returns
-returns g c =
+pub returns-in-Ok-push_str-3 : goal.returns-in-Ok-push_str-3
+returns-in-Ok-push_str-3 g c =
     let written : string_bytes c.push_str-2.new.self ≡ escaped_text c.args.s.now =
-    cc (c.in_ok-push_str-3.ensures.bytes, c.in_default.ensures.plain) in
+    cc (c.in-Ok-push_str-3.ensures.bytes, c.in_default-split_at_special.ensures.plain) in
     chars-escaped_text c.args.s.now _ c.utf8.s (IsUtf8-string_bytes c.push_str-2.new.self) written
-
-pub returns-in_err-pattern : goal.returns-in_err-pattern
-returns-in_err-pattern g c = IfOk-from_err _ _ c.from_residual.ensures.0
-
-pub returns-in_err-push_str : goal.returns-in_err-push_str
-returns-in_err-push_str g c = IfOk-from_err _ _ c.from_residual-in_err-push_str.ensures.0
-
-pub returns-in_err-push_str-2 : goal.returns-in_err-push_str-2
-returns-in_err-push_str-2 g c = IfOk-from_err _ _ c.from_residual-in_err-push_str-2.ensures.0
-
-pub returns-in_err-push_str-3 : goal.returns-in_err-push_str-3
-returns-in_err-push_str-3 g c = IfOk-from_err _ _ c.from_residual-in_err-push_str-3.ensures.0
 
 pub loop-plain-preserved : goal.loop-plain-preserved
 loop-plain-preserved g c = grind (arith, common_steps)

@@ -5,6 +5,7 @@ use Rattle.std.proofs.lemmas.Str.{IsUtf8-from_is_utf8}
 use Rattle.glob_pattern.specs.Grammar.Tokens.{shape_of}
 use Rattle.glob_pattern.proofs.MatchingLemmas.Trims.{IsTrim-last, reject_last, takes_alike}
 use Rattle.glob_pattern.proofs.pattern.prefilter.trim_end.Goals as goal
+use Rattle.glob_pattern.proofs.pattern.prefilter.trim_end.Goals.{else-is_excluded_dot-via-then-is_excluded_dot+else-takes, else-is_excluded_dot-via-else-is_excluded_dot}
 
 pub loop-end-init : goal.loop-end-init
 loop-end-init g c = record { within = omega arith; taken = c.requires.trimmed }
@@ -12,20 +13,18 @@ loop-end-init g c = record { within = omega arith; taken = c.requires.trimmed }
 pub overflow_sub-bytes : goal.overflow_sub-bytes
 overflow_sub-bytes g c = omega (arith, c.loop-end.invariant.taken.within)
 
--- where no rule depends on whether a component starts, the token takes the character nowhere
-pub returns-then-not-is_excluded_dot : goal.returns-then-not-is_excluded_dot
-returns-then-not-is_excluded_dot g c = λ utf8.
-    let free = sym c.is_excluded_dot.ensures ∙ c.if-not-is_excluded_dot.true in
-    let nowhere = sym (takes_alike c.args.options true _ _ free) ∙ (sym c.takes.ensures ∙ c.if-not-takes.true) in
+-- Where no rule depends on whether a component starts, the token takes the character nowhere. Nor does it, of course,
+-- where it does not take it within a component.
+pub returns-then-not-takes : goal.returns-then-not-takes
+returns-then-not-takes g c = λ utf8.
     reject_last c.args.options c.args.tokens.now c.args.bytes.now c.args.start c.loop-end.end c.args.trail c.index-tokens-tokens.result c.loop-end.invariant.taken c.requires.ones
     (omega arith) (omega arith) (ltb-true _ 128 (sym c.is_ascii.ensures ∙ c.if-not-is_ascii.false))
-    c.index-tokens-tokens.is (IsUtf8-from_is_utf8 c.args.bytes.now utf8) nowhere
-
-pub returns-then-not-takes-2 : goal.returns-then-not-takes-2
-returns-then-not-takes-2 g c = λ utf8.
-    reject_last c.args.options c.args.tokens.now c.args.bytes.now c.args.start c.loop-end.end c.args.trail c.index-tokens-tokens.result c.loop-end.invariant.taken c.requires.ones
-    (omega arith) (omega arith) (ltb-true _ 128 (sym c.is_ascii.ensures ∙ c.if-not-is_ascii.false))
-    c.index-tokens-tokens.is (IsUtf8-from_is_utf8 c.args.bytes.now utf8) (sym c.takes-then-not-takes.ensures ∙ c.if-not-takes-2.true)
+    c.index-tokens-tokens.is (IsUtf8-from_is_utf8 c.args.bytes.now utf8)
+    (elim c.else-is_excluded_dot.branch [
+      | else-is_excluded_dot-via-then-is_excluded_dot+else-takes w ↦ sym w.takes-then-is_excluded_dot.ensures ∙ w.if-takes.false
+      | else-is_excluded_dot-via-else-is_excluded_dot w ↦
+          sym (takes_alike c.args.options true _ _ (sym c.is_excluded_dot.ensures ∙ w.if-is_excluded_dot.false)) ∙ (sym c.takes.ensures ∙ c.if-not-takes.true)
+    ])
 
 pub loop-end-preserved : goal.loop-end-preserved
 loop-end-preserved g c = record {
@@ -71,5 +70,5 @@ returns-after-loop-end g c = c.loop-end.invariant.taken
 pub returns-then-not-is_ascii : goal.returns-then-not-is_ascii
 returns-then-not-is_ascii g c = c.loop-end.invariant.taken
 
-pub returns-else-not-takes-2 : goal.returns-else-not-takes-2
-returns-else-not-takes-2 g c = c.loop-end.invariant.taken
+pub returns-then-takes : goal.returns-then-takes
+returns-then-takes g c = c.loop-end.invariant.taken
