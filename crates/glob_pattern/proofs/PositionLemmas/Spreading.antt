@@ -50,13 +50,8 @@ spread-next zero word mask carry le =
     let low = spread-low word mask carry le in
     let next = spread-low (word / 2) (mask / 2) (carry_more word mask carry) (omega arith) in
     let w : bit_at word 1 ≡ word / 2 % 2 = bit_at-suc word 0 ∙ bit_at_lowest (word / 2) in
-    let m = bit_at_lowest mask in
-    omega arith
+    rw (w, bit_at_lowest mask, low) (up ∙ next)
 spread-next (suc i) word mask carry le =
     let up : (j : ℕ) → bit_at (spread word mask carry) (suc j) ≡ bit_at (spread (word / 2) (mask / 2) (carry_more word mask carry)) j = λ j. bit_at-suc (spread word mask carry) j ∙ ap (λ x. bit_at x j) (spread-half word mask carry le) in
     let ih = spread-next i (word / 2) (mask / 2) (carry_more word mask carry) (omega arith) in
-    let here = up (suc i) in
-    let below = up i in
-    let w = bit_at-suc word (suc i) in
-    let m = bit_at-suc mask i in
-    omega arith
+    rw (up i, bit_at-suc word (suc i), bit_at-suc mask i) (up (suc i) ∙ ih)

@@ -1,7 +1,7 @@
-use Rattle.std.proofs.Common.{sym, ◌∙◌, arith}
+use Rattle.std.proofs.Common.{◌≡◌, [], length, refl, sym, ◌∙◌, arith}
 use Rattle.std.proofs.lemmas.Result.{IfOk-from_err}
 use Rattle.glob_pattern.proofs.GrammarLemmas.Units.{UnitAt-within, IsClear-after, UnitAt-Some}
-use Rattle.glob_pattern.proofs.GrammarLemmas.Reading.{HasRead-more, IsFault-HasRead}
+use Rattle.glob_pattern.proofs.GrammarLemmas.Reading.{IsClear-start, HasRead-more, IsFault-HasRead}
 use Rattle.glob_pattern.proofs.grammar.read_text.Goals as goal
 
 pub loop-place-smaller : goal.loop-place-smaller
@@ -37,3 +37,11 @@ returns-in_err-token-clause-accepted g c = IfOk-from_err _ _ c.from_residual-in_
 
 pub returns-in_err-push_unit-in-Some-clause-accepted : goal.returns-in_err-push_unit-in-Some-clause-accepted
 returns-in_err-push_unit-in-Some-clause-accepted g c = IfOk-from_err _ _ c.from_residual-in_err-push_unit-in-Some.ensures.0
+
+pub loop-place-init : goal.loop-place-init
+loop-place-init g c = record { within = omega arith; clear = IsClear-start c.args.text.now; read = ([], refl, c.in_ok-tokens.ensures.items) }
+
+pub returns-clause-accepted : goal.returns-clause-accepted
+returns-clause-accepted g c =
+    let done : c.loop-place.place ≡ length c.args.text.now = omega (arith, c.loop-place.invariant.within, c.loop-place-test.false) in
+    rw done at c.loop-place.invariant.read

@@ -1,4 +1,5 @@
-use Rattle.std.proofs.Common.{◌≡◌, ◌+◌, ◌-◌, ◌*◌, ◌<◌, ◌≤◌, ◌≢◌, ◌∙◌, length, count_ones, bit_and, get_or, set, ⊎_elim, arith, length-set, get_or-set_other, get_or-set_same, map}
+use Rattle.std.proofs.Common.{◌≡◌, ◌+◌, ◌-◌, ◌*◌, ◌<◌, ◌≤◌, ◌≢◌, ◌∙◌, min, refl, length, count_ones, bit_and, get_or, set, ⊎_elim, arith, length-set, get_or-set_other, get_or-set_same, map}
+use Rattle.std.proofs.Math.Nat.{le_refl}
 use Rattle.std.proofs.lemmas.Bool.{cases_eq, cases_lt}
 use Rattle.std.proofs.lemmas.Nat.{le_or_l, le_or_r}
 use Rattle.glob_pattern.proofs.PositionLemmas.Words.{asked-in_word, ones-in_word, IsTakenWord-asked, none-taken_unasked, AreAlive-set, AreAlive-left, carry-whole}
@@ -65,4 +66,34 @@ loop-n-preserved g c =
       };
       place = h.place;
       same = h.same;
+    }
+
+pub loop-n-init : goal.loop-n-init
+loop-n-init g c = record {
+  count = refl;
+  head = refl;
+  done = c.requires.first;
+  rest = c.requires.rest;
+  last = refl;
+  none = λ e m lt. let at : m ≡ 0 = omega (arith, lt) in rw at e;
+  asked = record { monotone = le_refl _; most = omega arith; least = λ m from lt took. absurd (omega (arith, from, lt)) };
+  place = refl;
+  same = refl;
+}
+
+pub takes_each-took-requires-clause-stepped : goal.takes_each-took-requires-clause-stepped
+takes_each-took-requires-clause-stepped g c = rw c.loop-n.invariant.place c.requires.stepped
+
+pub returns-clause-rest : goal.returns-clause-rest
+returns-clause-rest g c =
+    let i = c.loop-n.invariant in
+    let end : c.loop-n.n ≡ length c.loop-n.alive = omega (arith, i.count, c.requires.many, c.requires.words.some) in
+    let all : min (63 * c.loop-n.n) (length (map g.T.Shaped.shape c.args.tokens.now)) ≡ length (map g.T.Shaped.shape c.args.tokens.now) =
+    omega (arith, i.count, c.requires.many, c.requires.words.all) in
+    record {
+      alive = rw end at i.done;
+      many = i.count;
+      head = i.head;
+      none = λ e m lt. i.none e m (omega (arith, lt, end));
+      asked = rw all at i.asked;
     }

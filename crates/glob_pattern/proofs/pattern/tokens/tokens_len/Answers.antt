@@ -10,3 +10,9 @@ unfolding HasCount
 returns-clause-only g c = λ tokens has.
     let pattern = chars c.args.pattern.now in
     ap length (one_reading pattern tokens (tokens_of pattern) has c.tokens_in.ensures.read) ∙ ap length (sym c.tokens_in.ensures.tokens)
+
+pub returns-clause-count : goal.returns-clause-count
+returns-clause-count g c = ap length c.tokens_in.ensures.tokens
+
+pub returns-clause-read : goal.returns-clause-read
+returns-clause-read g c = c.tokens_in.ensures.read
