@@ -1,6 +1,6 @@
 -- A walk whose items are written as they come.
 use Rattle.std.proofs.Common.{◌≡◌, ℕ, ◌+◌, ◌<◌, ◌≤◌, ◌⊎◌, inl, inr, true, false, Option, List, [], ◌∷◌, ◌++◌, Bool, Result, Ok, Err, refl, ap, sym, subst, ◌∙◌, append-nil, arith}
-use Rattle.std.specs.Prelude.{⊤}
+use Rattle.std.specs.Prelude.{⊤, if◌then◌else◌}
 use Rattle.std.specs.Io.KnownBytes.{Appends}
 use Rattle.std.specs.Path.{path_buf_bytes}
 use Rattle.std.specs.declared.io.ErrorKind.{ErrorKind}
@@ -11,7 +11,7 @@ use Rattle.std.proofs.lemmas.List.Concat.{flat_map-append}
 use Rattle.std.proofs.lemmas.List.Elements.{filter-append}
 use Rattle.glob_tree.specs.Answers.{IsTold}
 use Rattle.glob_tree.specs.Content.{Content}
-use Rattle.glob_walk.specs.Machines.{MachineState, Saying, AsksLook, AsksList, Says, Ends, IsAskedAfter, StepCounts, StepGoes, is_last_step, left_of, step_units}
+use Rattle.glob_walk.specs.Machines.{MachineState, Saying, AsksLook, AsksList, Says, Ends, IsAskedAfter, StepCounts, StepGoes, is_last_step, left_of, saying, step_units}
 use Rattle.glob_lines.specs.Lines.{AppendsFront, ended_record, with_ends}
 use Rattle.glob_walk.specs.Marks.{Mark, Item, Found, Unread, items, cost, front, paths, IsBeginning}
 use Rattle.glob_walk.specs.Questions.{IsSomeContent}
@@ -20,12 +20,14 @@ use Rattle.glob_walk.specs.Driven.{HasGiven, GivesNext}
 use Rattle.glob_walk.specs.declared.ending.End.{End}
 use Rattle.glob_walk.specs.declared.error.GlobCause.{GlobCause}
 use Rattle.glob_walk.specs.declared.error.GlobError.{GlobError}
+use Rattle.glob_walk.specs.declared.machine.Step.{Step}
+use Rattle.glob_walk.specs.declared.machine.Step.TheVariants as step
 use Rattle.glob_walk.specs.declared.ending.End.TheVariants as last
 use Rattle.glob_walk.specs.declared.error.GlobCause.TheVariants as cause
 use Rattle.glob_walk.specs.Walks.{Outcome, Gives, LimitAt, NoMemory, outcome, error_outcome}
 use Rattle.glob_walk.proofs.ListingLemmas.Marks.{IsBeginning-append}
 use Rattle.glob_console.specs.FoundPaths.{FindsPaths, FindsSomeBytes, GaveItems, has_any, has_unread, wanted_paths}
-use Rattle.glob_console.specs.Private.Writing.{IsPath, Queues, is_item_wanted, item_record, noting}
+use Rattle.glob_console.specs.Private.Writing.{Queues, StepWrites, is_item_wanted, noting, step_record}
 use Rattle.glob_console.proofs.WritingLemmas.{Queues-all, Queues-some, Queues-more, Queues-trans}
 use Rattle.glob_console.specs.declared.find.findings.Findings.{Findings}
 
@@ -145,7 +147,7 @@ no_path cause.Limit e = tt
 
 module _ {X A : Type 0} (end : ℕ) (f : Content → Text → Bool) (tells : X → Option Content) (of : X) (first : MachineState A) (old : Option (List ℕ)) (tree : X) (walk : MachineState A) (findings : Findings) (held : Option (List ℕ)) (waiting : List ℕ) where
   -- the tree answered a question
-  pub Written-answer : (s s' : Saying) → step_units s ≡ 1 → Written end f tells of first old tree s walk findings held waiting
+  Written-answer : (s s' : Saying) → step_units s ≡ 1 → Written end f tells of first old tree s walk findings held waiting
       → (tree' : X) (walk' : MachineState A) (held' : Option (List ℕ)) (waiting' : List ℕ) (n : ℕ) → tells tree' ≡ tells tree → Queues held waiting held' waiting' []
       → StepCounts n walk s' walk' → TellsStep (IsTold (tells tree)) walk s' walk'
       → Written end f tells of first old tree' s' walk' findings held' waiting'
@@ -178,7 +180,7 @@ module _ {X A : Type 0} (end : ℕ) (f : Content → Text → Bool) (tells : X �
       still (inr (is, gave)) = let z : step_units s ≡ 0 = ap step_units is in absurd (omega (arith, z, question))
 
   -- some of the lines that wait were written
-  pub Written-before : (s : Saying) → Written end f tells of first old tree s walk findings held waiting → (held' : Option (List ℕ)) → AppendsFront held held' waiting
+  Written-before : (s : Saying) → Written end f tells of first old tree s walk findings held waiting → (held' : Option (List ℕ)) → AppendsFront held held' waiting
       → Over tells of first (λ ms c. FindsSomeBytes end (f c) ms old held')
   Written-before s w held' some c told ms begun =
       let (rest, split) = w.begins c told ms begun in
@@ -186,7 +188,7 @@ module _ {X A : Type 0} (end : ℕ) (f : Content → Text → Bool) (tells : X �
       (records_begin end (f c) w.texts w.given rest (items ms) (w.kept c told ms begun) split) w.queued some
 
   -- all lines were written, and nothing is left of the walk
-  pub Written-end : (s : Saying) → s ≡ Ends → Written end f tells of first old tree s walk findings held waiting → (held' : Option (List ℕ)) (waiting' : List ℕ) → Queues held waiting held' waiting' [] → waiting' ≡ []
+  Written-end : (s : Saying) → s ≡ Ends → Written end f tells of first old tree s walk findings held waiting → (held' : Option (List ℕ)) (waiting' : List ℕ) → Queues held waiting held' waiting' [] → waiting' ≡ []
       → Over tells of first (λ ms c. FindsPaths end (f c) ms first.limit old held' findings)
   Written-end s is w held' waiting' queued none c told ms begun =
       (w.given, gave w.going, subst (λ ts. Appends old held' (with_ends end ts)) kept all, w.path ∙ ap has_any kept, w.error)
@@ -221,109 +223,110 @@ module _ {X A : Type 0} (end : ℕ) (f : Content → Text → Bool) (tells : X �
     told_here : (c : Content) → IsTold (tells of) c → IsTold (tells tree) c
     told_here c told = (w.same ∙ told.0, told.1)
 
-    kept_with : (text : Text) → IsSo true text → Over tells of first (λ ms c. w.texts ++ text ∷ [] ≡ wanted_paths (f c) (w.given ++ Found text ∷ []))
-    kept_with text sure c told ms begun =
-        wanted_push (f c) w.texts (text ∷ []) w.given (Found text) (w.kept c told ms begun) (wanted_one (f c) text (sure c (told_here c told)))
+    kept_with : (text : Text) (c : Content) → IsTold (tells of) c → true ≡ f c text → (ms : List Mark) → HasGiven ms c [] first → w.texts ++ text ∷ [] ≡ wanted_paths (f c) (w.given ++ Found text ∷ [])
+    kept_with text c told sure ms begun =
+        wanted_push (f c) w.texts (text ∷ []) w.given (Found text) (w.kept c told ms begun) (wanted_one (f c) text sure)
 
     -- a path could not be written
-    path_fault : (text : Text) → o ≡ Gives (Found text) → IsSo true text → (held' : Option (List ℕ)) → AppendsFront held held' (waiting ++ ended_record end text) → Over tells of first (λ ms c. FindsSomeBytes end (f c) ms old held')
-    path_fault text is sure held' some c told ms begun =
+    path_fault : (text : Text) → o ≡ Gives (Found text) → (c : Content) → IsTold (tells of) c → true ≡ f c text → (held' : Option (List ℕ)) → AppendsFront held held' (waiting ++ ended_record end text)
+        → (ms : List Mark) → HasGiven ms c [] first → FindsSomeBytes end (f c) ms old held'
+    path_fault text is c told sure held' some ms begun =
         let (rest, split) = begins_from c ms (w.given ++ Found text ∷ []) walk (more (Found text) is c told ms begun) in
         let after : List ℕ = with_ends end (wanted_paths (f c) rest) in
         Queues-more old held held' _ waiting (with_ends end w.texts) (ended_record end text) after
-        (records_begin end (f c) (w.texts ++ text ∷ []) (w.given ++ Found text ∷ []) rest (items ms) (kept_with text sure c told ms begun) split
+        (records_begin end (f c) (w.texts ++ text ∷ []) (w.given ++ Found text ∷ []) rest (items ms) (kept_with text c told sure ms begun) split
         ∙ ap (λ l. l ++ after) (records_push end w.texts text)) w.queued some
 
-    module _ (s' : Saying) (walk' : MachineState A) (held' : Option (List ℕ)) (waiting' : List ℕ) (goes : StepGoes IsSomeContent 0 walk s' walk') (next : TellsStep IsSomeContent walk s' walk') where
+    module _ (tree' : X) (same : tells tree' ≡ tells tree) (s' : Saying) (walk' : MachineState A) (held' : Option (List ℕ)) (waiting' : List ℕ) (n : ℕ) (counts : StepCounts n walk s' walk') (next : TellsStep (IsTold (tells tree)) walk s' walk') where
       still : Queues held waiting held' waiting' [] → Queues old [] held' waiting' (with_ends end w.texts)
       still queued = subst (Queues old [] held' waiting') (append-nil (with_ends end w.texts))
           (Queues-trans old held held' [] waiting waiting' (with_ends end w.texts) [] w.queued queued)
 
       -- a path was added
       Written-path : (text : Text) → o ≡ Gives (Found text) → IsSo true text → Queues held waiting held' waiting' (ended_record end text)
-          → Written end f tells of first old tree s' walk' (record findings { has_path = true }) held' waiting'
+          → Written end f tells of first old tree' s' walk' (record findings { has_path = true }) held' waiting'
       Written-path text is sure queued = record {
         given = w.given ++ Found text ∷ [];
         texts = w.texts ++ text ∷ [];
-        kept = kept_with text sure;
-        same = w.same;
-        limit = goes.counts.limit ∙ w.limit;
-        within = goes.counts.within;
-        few = goes.counts.few;
-        asks = goes.counts.asks;
-        ends = goes.counts.ends;
+        kept = λ c told. kept_with text c told (sure c (told_here c told));
+        same = same ∙ w.same;
+        limit = counts.limit ∙ w.limit;
+        within = counts.within;
+        few = counts.few;
+        asks = counts.asks;
+        ends = counts.ends;
         queued = subst (Queues old [] held' waiting') (sym (records_push end w.texts text))
             (Queues-trans old held held' [] waiting waiting' (with_ends end w.texts) (ended_record end text) w.queued queued);
         path = sym (has_any-push w.texts text);
         error = w.error ∙ sym (has_unread-found w.given text);
         begins = λ c told ms begun. begins_from c ms (w.given ++ Found text ∷ []) walk (more (Found text) is c told ms begun);
-        going = inl ((going_on w.going).0, λ c told ms begun. next c ms (w.given ++ Found text ∷ []) told.1 (more (Found text) is c told ms begun));
+        going = inl ((going_on w.going).0, λ c told ms begun. next c ms (w.given ++ Found text ∷ []) (told_here c told) (more (Found text) is c told ms begun));
       }
 
       -- a path was passed over
       Written-passed : (text : Text) → o ≡ Gives (Found text) → IsSo false text → Queues held waiting held' waiting' []
-          → Written end f tells of first old tree s' walk' findings held' waiting'
+          → Written end f tells of first old tree' s' walk' findings held' waiting'
       Written-passed text is never queued = record {
         given = w.given ++ Found text ∷ [];
         texts = w.texts;
         kept = λ c told ms begun. sym (append-nil w.texts)
             ∙ wanted_push (f c) w.texts [] w.given (Found text) (w.kept c told ms begun) (unwanted_one (f c) text (never c (told_here c told)));
-        same = w.same;
-        limit = goes.counts.limit ∙ w.limit;
-        within = goes.counts.within;
-        few = goes.counts.few;
-        asks = goes.counts.asks;
-        ends = goes.counts.ends;
+        same = same ∙ w.same;
+        limit = counts.limit ∙ w.limit;
+        within = counts.within;
+        few = counts.few;
+        asks = counts.asks;
+        ends = counts.ends;
         queued = still queued;
         path = w.path;
         error = w.error ∙ sym (has_unread-found w.given text);
         begins = λ c told ms begun. begins_from c ms (w.given ++ Found text ∷ []) walk (more (Found text) is c told ms begun);
-        going = inl ((going_on w.going).0, λ c told ms begun. next c ms (w.given ++ Found text ∷ []) told.1 (more (Found text) is c told ms begun));
+        going = inl ((going_on w.going).0, λ c told ms begun. next c ms (w.given ++ Found text ∷ []) (told_here c told) (more (Found text) is c told ms begun));
       }
 
       -- a directory could not be listed
       Written-unread : (p : Text) (k : ErrorKind) → o ≡ Gives (Unread p k) → Queues held waiting held' waiting' []
-          → Written end f tells of first old tree s' walk' (record findings { has_error = true }) held' waiting'
+          → Written end f tells of first old tree' s' walk' (record findings { has_error = true }) held' waiting'
       Written-unread p k is queued =
           record {
             given = w.given ++ Unread p k ∷ [];
             texts = w.texts;
             kept = λ c told ms begun. sym (append-nil w.texts) ∙ wanted_push (f c) w.texts [] w.given (Unread p k) (w.kept c told ms begun) refl;
-            same = w.same;
-            limit = goes.counts.limit ∙ w.limit;
-            within = goes.counts.within;
-            few = goes.counts.few;
-            asks = goes.counts.asks;
-            ends = goes.counts.ends;
+            same = same ∙ w.same;
+            limit = counts.limit ∙ w.limit;
+            within = counts.within;
+            few = counts.few;
+            asks = counts.asks;
+            ends = counts.ends;
             queued = still queued;
             path = w.path;
             error = sym (has_unread-push w.given p k);
             begins = λ c told ms begun. begins_from c ms (w.given ++ Unread p k ∷ []) walk (more (Unread p k) is c told ms begun);
-            going = inl ((going_on w.going).0, λ c told ms begun. next c ms (w.given ++ Unread p k ∷ []) told.1 (more (Unread p k) is c told ms begun));
+            going = inl ((going_on w.going).0, λ c told ms begun. next c ms (w.given ++ Unread p k ∷ []) (told_here c told) (more (Unread p k) is c told ms begun));
           }
 
       -- a refusal ended the walk
       Written-refusal : (e : End) → is_last_step (Says o) ≡ true → Queues held waiting held' waiting' [] → Over tells of first (λ ms c. GaveItems ms first.limit e w.given)
-          → Written end f tells of first old tree s' walk' (record findings { end = e }) held' waiting'
+          → Written end f tells of first old tree' s' walk' (record findings { end = e }) held' waiting'
       Written-refusal e last queued gave = record {
         given = w.given;
         texts = w.texts;
         kept = w.kept;
-        same = w.same;
-        limit = goes.counts.limit ∙ w.limit;
-        within = goes.counts.within;
-        few = goes.counts.few;
-        asks = goes.counts.asks;
-        ends = goes.counts.ends;
+        same = same ∙ w.same;
+        limit = counts.limit ∙ w.limit;
+        within = counts.within;
+        few = counts.few;
+        asks = counts.asks;
+        ends = counts.ends;
         queued = still queued;
         path = w.path;
         error = w.error;
         begins = w.begins;
-        going = inr ((goes.counts.stays (w.ends ∙ last)).0, gave);
+        going = inr ((counts.stays (w.ends ∙ last)).0, gave);
       }
 
       -- an error was reported
-      Written-error : (r : Outcome) → o ≡ r → IsNoPath r → Queues held waiting held' waiting' [] → Written end f tells of first old tree s' walk' (noting findings r) held' waiting'
+      Written-error : (r : Outcome) → o ≡ r → IsNoPath r → Queues held waiting held' waiting' [] → Written end f tells of first old tree' s' walk' (noting findings r) held' waiting'
       Written-error (Gives (Found p)) is plain queued = absurd plain
       Written-error (Gives (Unread p k)) is plain queued = Written-unread p k is queued
       Written-error (LimitAt p) is plain queued = Written-refusal last.Limit (ap (λ r. is_last_step (Says r)) is) queued (λ c told ms begun.
@@ -337,43 +340,73 @@ module _ {X A : Type 0} (end : ℕ) (f : Content → Text → Bool) (tells : X �
   abbrev pub IsAnswered : Bool → Result (PathBuf A) (GlobError A) → Type 0
   IsAnswered sure item = (c : Content) → IsTold (tells tree) c → sure ≡ is_item_wanted (f c) item
 
-  -- a choice asked the tree
-  pub Written-tree : (s : Saying) → Written end f tells of first old tree s walk findings held waiting → (tree' : X) → tells tree' ≡ tells tree
-      → Written end f tells of first old tree' s walk findings held waiting
-  Written-tree s w tree' same = record {
-    given = w.given;
-    texts = w.texts;
-    kept = w.kept;
-    same = same ∙ w.same;
-    limit = w.limit;
-    within = w.within;
-    few = w.few;
-    asks = w.asks;
-    ends = w.ends;
-    queued = w.queued;
-    path = w.path;
-    error = w.error;
-    begins = w.begins;
-    going = w.going;
-  }
+  -- an item was written, or waits, where it is wanted
+  Written-item : (item : Result (PathBuf A) (GlobError A)) → Written end f tells of first old tree (Says (outcome item)) walk findings held waiting
+      → (findings' : Findings) (held' : Option (List ℕ)) (waiting' : List ℕ)
+      → StepWrites end IsAnswered (step.Item item) findings findings' (Queues held waiting held' waiting') waiting'
+      → (tree' : X) → tells tree' ≡ tells tree → (s' : Saying) (walk' : MachineState A) (n : ℕ) → StepCounts n walk s' walk' → TellsStep (IsTold (tells tree)) walk s' walk'
+      → Written end f tells of first old tree' s' walk' findings' held' waiting'
+  Written-item (Ok path) w findings' held' waiting' (inl (sure, noted, queued)) tree' same s' walk' n counts next =
+      subst (λ x. Written end f tells of first old tree' s' walk' x held' waiting') (sym noted)
+      (Written-path _ w tree' same s' walk' held' waiting' n counts next (path_buf_bytes path) refl sure queued)
+  Written-item (Err e) w findings' held' waiting' (inl (sure, noted, queued)) tree' same s' walk' n counts next =
+      subst (λ x. Written end f tells of first old tree' s' walk' x held' waiting') (sym noted)
+      (Written-error _ w tree' same s' walk' held' waiting' n counts next (error_outcome e.cause e) refl (no_path e.cause e) queued)
+  Written-item (Ok path) w findings' held' waiting' (inr (never, is, noted, queued)) tree' same s' walk' n counts next =
+      subst (λ x. Written end f tells of first old tree' s' walk' x held' waiting') (sym noted)
+      (Written-passed _ w tree' same s' walk' held' waiting' n counts next (path_buf_bytes path) refl never queued)
+  Written-item (Err e) w findings' held' waiting' (inr (never, is, noted, queued)) tree' same s' walk' n counts next = absurd is
 
-  -- an item was written, or waits
-  pub Written-item : (item : Result (PathBuf A) (GlobError A)) → Written end f tells of first old tree (Says (outcome item)) walk findings held waiting → IsAnswered true item
-      → (s' : Saying) (walk' : MachineState A) (held' : Option (List ℕ)) (waiting' : List ℕ) → Queues held waiting held' waiting' (item_record end item)
-      → StepGoes IsSomeContent 0 walk s' walk' → TellsStep IsSomeContent walk s' walk'
-      → Written end f tells of first old tree s' walk' (noting findings (outcome item)) held' waiting'
-  Written-item (Ok path) w sure s' walk' held' waiting' queued goes next = Written-path _ w s' walk' held' waiting' goes next (path_buf_bytes path) refl sure queued
-  Written-item (Err e) w sure s' walk' held' waiting' queued goes next = Written-error _ w s' walk' held' waiting' goes next (error_outcome e.cause e) refl (no_path e.cause e) queued
+  -- a step was written, and the walk went on
+  pub Written-next : (s : Step A) → (s ≡ step.Done → ⊥) → Written end f tells of first old tree (saying s) walk findings held waiting
+      → (findings' : Findings) (held' : Option (List ℕ)) (waiting' : List ℕ) → StepWrites end IsAnswered s findings findings' (Queues held waiting held' waiting') waiting'
+      → (asked tree' : X) → tells asked ≡ tells tree → tells tree' ≡ tells asked
+      → (s' : Saying) (walk' : MachineState A) (n : ℕ) → StepCounts n walk s' walk' → TellsStep (IsTold (tells asked)) walk s' walk'
+      → Written end f tells of first old tree' s' walk' findings' held' waiting'
+  Written-next s going w findings' held' waiting' wrote asked tree' same same' s' walk' n counts next = by_step s going w wrote
+    where
+      here : TellsStep (IsTold (tells tree)) walk s' walk'
+      here c all given told = next c all given (same ∙ told.0, told.1)
 
-  -- a path was not wanted
-  pub Written-unwanted : (item : Result (PathBuf A) (GlobError A)) → Written end f tells of first old tree (Says (outcome item)) walk findings held waiting → IsAnswered false item → IsPath item
-      → (s' : Saying) (walk' : MachineState A) → StepGoes IsSomeContent 0 walk s' walk' → TellsStep IsSomeContent walk s' walk'
-      → Written end f tells of first old tree s' walk' findings held waiting
-  Written-unwanted (Ok path) w never is s' walk' goes next = Written-passed _ w s' walk' held waiting goes next (path_buf_bytes path) refl never ([], Appends-nil held, append-nil waiting)
-  Written-unwanted (Err e) w never is s' walk' goes next = absurd is
+      answered : (t : Saying) → step_units t ≡ 1 → Written end f tells of first old tree t walk findings held waiting → (findings' ≡ findings) × Queues held waiting held' waiting' []
+          → Written end f tells of first old tree' s' walk' findings' held' waiting'
+      answered t question v (noted, queued) = subst (λ x. Written end f tells of first old tree' s' walk' x held' waiting') (sym noted)
+          (Written-answer t s' question v tree' walk' held' waiting' n (same' ∙ same) queued counts here)
 
-  -- an item could not be written
-  pub Written-fault : (item : Result (PathBuf A) (GlobError A)) → Written end f tells of first old tree (Says (outcome item)) walk findings held waiting → IsAnswered true item
-      → (held' : Option (List ℕ)) → AppendsFront held held' (waiting ++ item_record end item) → Over tells of first (λ ms c. FindsSomeBytes end (f c) ms old held')
-  Written-fault (Ok path) w sure held' some = path_fault _ w (path_buf_bytes path) refl sure held' some
-  Written-fault (Err e) w sure held' some = Written-before _ w held' (subst (AppendsFront held held') (append-nil waiting) some)
+      by_step : (t : Step A) → (t ≡ step.Done → ⊥) → Written end f tells of first old tree (saying t) walk findings held waiting
+          → StepWrites end IsAnswered t findings findings' (Queues held waiting held' waiting') waiting'
+          → Written end f tells of first old tree' s' walk' findings' held' waiting'
+      by_step (step.Item item) going v wrote = Written-item item v findings' held' waiting' wrote tree' (same' ∙ same) s' walk' n counts here
+      by_step step.Done going v wrote = absurd (going refl)
+      by_step step.Look going v wrote = answered AsksLook refl v wrote
+      by_step step.List going v wrote = answered _ refl v wrote
+      by_step step.ListNames going v wrote = answered _ refl v wrote
+
+  -- a step could not be written
+  pub Written-fault : (s : Step A) → Written end f tells of first old tree (saying s) walk findings held waiting
+      → (held' : Option (List ℕ)) → ((c : Content) → IsTold (tells tree) c → AppendsFront held held' (waiting ++ step_record end (f c) s)) → Over tells of first (λ ms c. FindsSomeBytes end (f c) ms old held')
+  Written-fault s w held' some c told ms begun = by_step s w (some c (w.same ∙ told.0, told.1))
+    where
+      none : (t : Saying) → Written end f tells of first old tree t walk findings held waiting → AppendsFront held held' (waiting ++ []) → FindsSomeBytes end (f c) ms old held'
+      none t v wrote = Written-before t v held' (subst (AppendsFront held held') (append-nil waiting) wrote) c told ms begun
+
+      by_path : (path : PathBuf A) (yes : Bool) → yes ≡ f c (path_buf_bytes path) → Written end f tells of first old tree (Says (Gives (Found (path_buf_bytes path)))) walk findings held waiting
+          → AppendsFront held held' (waiting ++ (if yes then ended_record end (path_buf_bytes path) else [])) → FindsSomeBytes end (f c) ms old held'
+      by_path path true sure v wrote = path_fault _ v (path_buf_bytes path) refl c told sure held' wrote ms begun
+      by_path path false never v wrote = none _ v wrote
+
+      by_step : (t : Step A) → Written end f tells of first old tree (saying t) walk findings held waiting → AppendsFront held held' (waiting ++ step_record end (f c) t) → FindsSomeBytes end (f c) ms old held'
+      by_step (step.Item (Ok path)) v wrote = by_path path (f c (path_buf_bytes path)) refl v wrote
+      by_step (step.Item (Err e)) v wrote = none _ v wrote
+      by_step step.Done v wrote = none _ v wrote
+      by_step step.Look v wrote = none _ v wrote
+      by_step step.List v wrote = none _ v wrote
+      by_step step.ListNames v wrote = none _ v wrote
+
+  -- after the last step all lines were written, and nothing is left of the walk
+  pub Written-done : (s : Step A) → s ≡ step.Done → Written end f tells of first old tree (saying s) walk findings held waiting
+      → (findings' : Findings) (held' : Option (List ℕ)) (waiting' : List ℕ) → StepWrites end IsAnswered s findings findings' (Queues held waiting held' waiting') waiting'
+      → Over tells of first (λ ms c. FindsPaths end (f c) ms first.limit old held' findings')
+  Written-done s is w findings' held' waiting' wrote c told ms begun =
+      let (noted, queued, none) = subst (λ t. StepWrites end IsAnswered t findings findings' (Queues held waiting held' waiting') waiting') is wrote in
+      subst (FindsPaths end (f c) ms first.limit old held') (sym noted) (Written-end (saying s) (ap (λ t. saying t) is) w held' waiting' queued none c told ms begun)

@@ -1,9 +1,7 @@
--- The steps of a walk: which are questions, and that each leaves fewer.
-use Rattle.std.proofs.Common.{◌≡◌, ℕ, ◌+◌, ◌-◌, ◌*◌, ◌<◌, Result, refl, arith}
-use Rattle.std.specs.declared.path.buf.PathBuf.{PathBuf}
-use Rattle.glob_walk.specs.Machines.{MachineState, Saying, AsksLook, AsksList, Says, Ends, IsCharged, StepCounts, saying, step_outcome, step_units}
+-- The steps of a walk: each but the last leaves fewer.
+use Rattle.std.proofs.Common.{◌≡◌, ℕ, ◌+◌, ◌-◌, ◌*◌, ◌<◌, ap, refl, arith}
+use Rattle.glob_walk.specs.Machines.{MachineState, Saying, AsksLook, AsksList, Says, Ends, IsCharged, StepCounts, saying, step_outcome}
 use Rattle.glob_walk.specs.Walks.{item_number}
-use Rattle.glob_walk.specs.declared.error.GlobError.{GlobError}
 use Rattle.glob_walk.specs.declared.machine.Step.{Step}
 use Rattle.glob_walk.specs.declared.machine.Step.TheVariants as step
 
@@ -14,19 +12,16 @@ step_number (AsksList kinds) = 1
 step_number (Says o) = 1
 step_number Ends = 0
 
--- a step that is no item and not the last is a question
-pub asks-other : {A : Type 0} (s : Step A) → ((item : Result (PathBuf A) (GlobError A)) → s ≡ step.Item item → ⊥) → (s ≡ step.Done → ⊥) → step_units (saying s) ≡ 1
-asks-other step.Look no_item more = refl
-asks-other step.List no_item more = refl
-asks-other step.ListNames no_item more = refl
-asks-other (step.Item item) no_item more = absurd (no_item item refl)
-asks-other step.Done no_item more = absurd (more refl)
+-- a step follows each but the last
+pub step_number-more : {A : Type 0} (s : Step A) → (s ≡ step.Done → ⊥) → step_number (saying s) ≡ 1
+step_number-more step.Look more = refl
+step_number-more step.List more = refl
+step_number-more step.ListNames more = refl
+step_number-more (step.Item item) more = refl
+step_number-more step.Done more = absurd (more refl)
 
-pub step_number-question : (s : Saying) → step_units s ≡ 1 → step_number s ≡ 1
-step_number-question AsksLook is = refl
-step_number-question (AsksList kinds) is = refl
-step_number-question (Says o) is = refl
-step_number-question Ends is = is
+pub says_more : {A : Type 0} (s : Step A) → (s ≡ step.Done → ⊥) → saying s ≡ Ends → ⊥
+says_more s more is = absurd (omega (arith, step_number-more s more, ap step_number is))
 
 -- each step leaves fewer
 pub fewer_steps : {A : Type 0} (n : ℕ) (c c' : MachineState A) (s s' : Saying) → step_number s ≡ 1 → StepCounts n c s' c'

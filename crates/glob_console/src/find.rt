@@ -1,15 +1,15 @@
 //! What a walk of a tree finds and a choice wants, a record for each path.
-ghost use Rattle.std.specs.Prelude.{◌≡◌, ◌≢◌, ◌++◌, [], ℕ, List, None, false, IfOk, IfErr, IsErrAnd, OnErr, OnOk};
+ghost use Rattle.std.specs.Prelude.{◌≡◌, ◌≢◌, ◌++◌, [], ℕ, List, None, IfOk, IfErr, IsErrAnd, OnErr, OnOk};
 ghost use Rattle.glob_tree.specs.Answers.{IsTold};
 ghost use Rattle.glob_tree.specs.Content.{Content};
 ghost use Rattle.glob_lines.specs.Lines.{AppendsFront};
 ghost use Rattle.glob_walk.specs.Components.{walk_fault};
 ghost use Rattle.glob_walk.specs.Listing.{listing};
-ghost use Rattle.glob_walk.specs.Machines.{IsAskedAfter, StepCounts, saying, step_units};
+ghost use Rattle.glob_walk.specs.Machines.{Ends, IsAskedAfter, StepCounts, saying};
 ghost use Rattle.glob_walk.specs.Marks.{Item, Mark};
 ghost use Rattle.glob_walk.specs.Driven.{GivesNext, HasGiven};
 ghost use Rattle.glob_console.specs.FoundPaths.{FindsPaths, FindsSomeBytes, IsFindFault, IsRefusal};
-ghost use Rattle.glob_console.specs.Private.Writing.{IsPath, Queues, is_item_wanted, item_record};
+ghost use Rattle.glob_console.specs.Private.Writing.{IsWriteFault, Queues, StepWrites, is_item_wanted, step_record};
 
 pub mod fault;
 pub mod findings;
@@ -21,9 +21,8 @@ use fault::FindFault;
 use findings::Findings;
 use glob_pattern::MatchOptions;
 use glob_tree::Tree;
-use glob_walk::{GlobResult, Step, WalkMachine};
+use glob_walk::{Step, WalkMachine};
 use lines::Lines;
-use std::alloc::{AllocError, Allocator};
 use std::io::{self, Write};
 
 /// What is walked, how far, and what ends each record that is written.
@@ -66,11 +65,17 @@ pub fn find_in<T: Tree, C: Choice, W: Write, E: Write>(
         (listing c walk.entry.options walk.entry.pattern.now)
         (W.contents output.old) (W.contents output.new)) }
 {
+    let mut tree = tree;
     match WalkMachine::new(alloc, walk.pattern, walk.options, walk.limit) {
-        Ok(machine) => match write_items(alloc, tree, machine, choice, walk.end, output, errors) {
-            Ok(findings) => Ok(findings),
-            Err(error) => Err(FindFault::Write(error)),
-        },
+        Ok(mut machine) => write_items(
+            alloc,
+            &mut tree,
+            &mut machine,
+            choice,
+            walk.end,
+            output,
+            errors,
+        ),
         Err(refusal) => Err(FindFault::Pattern(refusal)),
     }
 }
@@ -78,41 +83,15 @@ pub fn find_in<T: Tree, C: Choice, W: Write, E: Write>(
 /// Writes the wanted items of a walk up to its end, whose questions the tree answers.
 fn write_items<T: Tree, C: Choice, W: Write, E: Write>(
     alloc: T::Alloc,
-    mut tree: T,
-    mut walk: WalkMachine<T::Alloc>,
-    choice: &C,
-    end: u8,
-    output: &mut W,
-    errors: &mut ErrorLines<'_, T::Alloc, E>,
-) -> io::Result<Findings>
-    requires free { walk.asked ≡ None }
-    ensures paths { (c : Content) → IsTold (T.tells tree) c → (ms : List Mark)
-        → HasGiven ms c [] walk → IfOk result (FindsPaths
-        end (C.wanted choice.now c) ms walk.limit
-        (W.contents output.old) (W.contents output.new)) }
-    ensures some { (c : Content) → IsTold (T.tells tree) c → (ms : List Mark)
-        → HasGiven ms c [] walk → OnErr result (FindsSomeBytes
-        end (C.wanted choice.now c) ms
-        (W.contents output.old) (W.contents output.new)) }
-{
-    let mut lines = Lines::new(alloc)?;
-    write_by(
-        &mut lines, &mut tree, &mut walk, choice, end, output, errors,
-    )
-}
-
-/// Writes them by way of lines, of which none waits yet. Before each question, those that have waited long are written.
-fn write_by<T: Tree, C: Choice, W: Write, E: Write>(
-    lines: &mut Lines<T::Alloc>,
     tree: &mut T,
     walk: &mut WalkMachine<T::Alloc>,
     choice: &C,
     end: u8,
     output: &mut W,
     errors: &mut ErrorLines<'_, T::Alloc, E>,
-) -> io::Result<Findings>
-    requires none { lines.old.waiting.items ≡ [] }
+) -> Result<Findings, FindFault>
     requires free { walk.old.asked ≡ None }
+    ensures fault { IfErr result IsWriteFault }
     ensures paths { (c : Content) → IsTold (T.tells tree.old) c → (ms : List Mark)
         → HasGiven ms c [] walk.old → IfOk result (FindsPaths
         end (C.wanted choice.now c) ms walk.old.limit
@@ -122,47 +101,101 @@ fn write_by<T: Tree, C: Choice, W: Write, E: Write>(
         end (C.wanted choice.now c) ms
         (W.contents output.old) (W.contents output.new)) }
 {
+    let mut lines = match Lines::new(alloc) {
+        Ok(lines) => lines,
+        Err(error) => return Err(FindFault::Write(io::Error::from(error))),
+    };
     let mut findings = Findings::new();
     let mut step = walk.next();
     loop {
-        step = match step {
-            Step::Item(item) => {
-                if wants_item(choice, tree, &item)? {
-                    findings.note(&item);
-                    write_item(item, end, lines, output, errors)?;
-                    walk.next()
-                } else {
-                    walk.next()
-                }
-            }
-            Step::Done => {
-                lines.flush(output)?;
-                return Ok(findings);
-            }
-            question => {
-                lines.before_ask(walk.spent(), output)?;
-                answer(&question, tree, walk)
-            }
-        };
+        if let Err(error) = write_step(
+            &step,
+            walk.spent(),
+            choice,
+            tree,
+            end,
+            &mut lines,
+            &mut findings,
+            output,
+            errors,
+        ) {
+            break Err(FindFault::Write(error));
+        }
+        if let Step::Done = step {
+            break Ok(findings);
+        }
+        step = go_on(&step, tree, walk);
     }
 }
 
-/// Answers the question of a walk by the tree, and returns the next step.
+/// Writes what a step of a walk asks for, and notes it: an item that is wanted, a path or an error; after the last step all
+/// lines that wait, and before a question those that have waited long.
+fn write_step<T: Tree, C: Choice, W: Write, E: Write>(
+    step: &Step<T::Alloc>,
+    spent: u64,
+    choice: &C,
+    tree: &mut T,
+    end: u8,
+    lines: &mut Lines<T::Alloc>,
+    findings: &mut Findings,
+    output: &mut W,
+    errors: &mut ErrorLines<'_, T::Alloc, E>,
+) -> io::Result<()>
+    ensures content { T.tells tree.new ≡ T.tells tree.old }
+    ensures written { OnOk result (StepWrites
+        end (λ yes item. (c : Content) → IsTold (T.tells tree.old) c
+        → yes ≡ is_item_wanted (C.wanted choice.now c) item) step.now
+        findings.old findings.new
+        (Queues (W.contents output.old) lines.old.waiting.items
+        (W.contents output.new) lines.new.waiting.items)
+        lines.new.waiting.items) }
+    ensures some { (c : Content) → IsTold (T.tells tree.old) c → OnErr result
+        (AppendsFront (W.contents output.old) (W.contents output.new)
+        (lines.old.waiting.items ++ step_record end (C.wanted choice.now c) step.now)) }
+{
+    match step {
+        Step::Item(item) => match item {
+            Ok(path) => match choice.wants(tree, path.as_str()) {
+                Ok(true) => {
+                    findings.note(item);
+                    lines.add(path.as_str(), end, output)
+                }
+                Ok(false) => Ok(()),
+                Err(error) => Err(io::Error::from(error)),
+            },
+            Err(error) => {
+                findings.note(item);
+                match lines.flush(output) {
+                    Ok(()) => {
+                        errors.write(error);
+                        Ok(())
+                    }
+                    Err(fault) => Err(fault),
+                }
+            }
+        },
+        Step::Done => lines.flush(output),
+        _ => lines.before_ask(spent, output),
+    }
+}
+
+/// Goes on with a walk after a step that is not its last, and returns the next one. The tree answers a question.
 #[inline]
-fn answer<T: Tree>(
-    question: &Step<T::Alloc>,
+fn go_on<T: Tree>(
+    step: &Step<T::Alloc>,
     tree: &mut T,
     walk: &mut WalkMachine<T::Alloc>,
 ) -> Step<T::Alloc>
-    requires question { step_units (saying question.now) ≡ 1 }
-    requires asked { IsAskedAfter (saying question.now) walk.old.asked }
+    requires more { saying step.now ≢ Ends }
+    requires asked { IsAskedAfter (saying step.now) walk.old.asked }
     ensures content { T.tells tree.new ≡ T.tells tree.old }
     ensures counts { (n : ℕ) × StepCounts n walk.old (saying result) walk.new }
     ensures driven { (c : Content) → (all : List Mark) → (given : List Item)
         → IsTold (T.tells tree.old) c → HasGiven all c given walk.old
         → GivesNext all c given (saying result) walk.new }
 {
-    match question {
+    match step {
+        Step::Item(_) => walk.next(),
         Step::Look => {
             let seen = tree.look(walk.path());
             walk.looked(seen)
@@ -175,47 +208,6 @@ fn answer<T: Tree>(
             let named = tree.list_names(walk.path());
             walk.listed(named)
         }
-        Step::Item(_) | Step::Done => unreachable!(),
-    }
-}
-
-/// Whether an item of a walk is written: a path that is wanted, or an error.
-fn wants_item<T: Tree, C: Choice>(
-    choice: &C,
-    tree: &mut T,
-    item: &GlobResult<T::Alloc>,
-) -> Result<bool, AllocError>
-    ensures content { T.tells tree.new ≡ T.tells tree.old }
-    ensures wanted { (c : Content) → IsTold (T.tells tree.old) c
-        → IfOk result (λ yes. yes ≡ is_item_wanted (C.wanted choice.now c) item.now) }
-    ensures paths { IfOk result (λ yes. yes ≡ false → IsPath item.now) }
-{
-    match item {
-        Ok(path) => choice.wants(tree, path.as_str()),
-        Err(_) => Ok(true),
-    }
-}
-
-/// Writes an item of a walk.
-fn write_item<A: Allocator + Copy, W: Write, E: Write>(
-    item: GlobResult<A>,
-    end: u8,
-    lines: &mut Lines<A>,
-    output: &mut W,
-    errors: &mut ErrorLines<'_, A, E>,
-) -> io::Result<()>
-    ensures line { OnOk result (Queues (W.contents output.old) lines.old.waiting.items
-        (W.contents output.new) lines.new.waiting.items (item_record end item)) }
-    ensures some { OnErr result
-        (AppendsFront (W.contents output.old) (W.contents output.new)
-        (lines.old.waiting.items ++ item_record end item)) }
-{
-    match item {
-        Ok(path) => lines.add(path.as_str(), end, output),
-        Err(error) => {
-            lines.flush(output)?;
-            errors.write(&error);
-            Ok(())
-        }
+        Step::Done => unreachable!(),
     }
 }

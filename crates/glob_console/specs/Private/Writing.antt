@@ -1,14 +1,18 @@
 -- What one item of a walk adds to what is written, and to what was found.
-use Rattle.std.specs.Prelude.{◌≡◌, ℕ, Bool, true, List, [], ◌++◌, Option, Result, Ok, Err, ⊤}
+use Rattle.std.specs.Prelude.{◌≡◌, ◌⊎◌, ℕ, Bool, true, false, if◌then◌else◌, List, [], ◌++◌, Option, Result, Ok, Err, ⊤}
 use Rattle.std.specs.Io.KnownBytes.{Appends}
 use Rattle.std.specs.Path.{path_buf_bytes}
 use Rattle.std.specs.declared.path.buf.PathBuf.{PathBuf}
 use Rattle.glob_lines.specs.Lines.{ended_record}
 use Rattle.glob_text.specs.Text.{Text}
 use Rattle.glob_walk.specs.Marks.{Found, Unread}
-use Rattle.glob_walk.specs.Walks.{Outcome, Gives, LimitAt, NoMemory}
+use Rattle.glob_walk.specs.Walks.{Outcome, Gives, LimitAt, NoMemory, outcome}
 use Rattle.glob_walk.specs.declared.error.GlobError.{GlobError}
+use Rattle.glob_walk.specs.declared.machine.Step.{Step}
+use Rattle.glob_walk.specs.declared.machine.Step.TheVariants as step
 use Rattle.glob_walk.specs.declared.ending.End.TheVariants as end
+use Rattle.glob_console.specs.declared.find.fault.FindFault.{FindFault}
+use Rattle.glob_console.specs.declared.find.fault.FindFault.TheVariants.{Pattern, Write}
 use Rattle.glob_console.specs.declared.find.findings.Findings.{Findings}
 
 -- These bytes follow those that waited, and of all of these the first were written, and the others wait.
@@ -38,3 +42,27 @@ noting findings (Gives (Found path)) = record findings { has_path = true }
 noting findings (Gives (Unread path kind)) = record findings { has_error = true }
 noting findings (LimitAt path) = record findings { end = end.Limit }
 noting findings NoMemory = record findings { end = end.Memory }
+
+-- What is written at a step of a walk, and noted: an item that is wanted; after the last step nothing waits.
+abbrev pub StepWrites : {A : Type 0} → (end : ℕ) → (IsAnswer : Bool → Result (PathBuf A) (GlobError A) → Type 0) → Step A
+    → (old new : Findings) → (Adds : List ℕ → Type 0) → (waiting : List ℕ) → Type 0
+StepWrites end IsAnswer (step.Item item) old new Adds waiting =
+    (IsAnswer true item × (new ≡ noting old (outcome item)) × Adds (item_record end item))
+    ⊎ (IsAnswer false item × IsPath item × (new ≡ old) × Adds [])
+StepWrites end IsAnswer step.Done old new Adds waiting = (new ≡ old) × Adds [] × (waiting ≡ [])
+StepWrites end IsAnswer step.Look old new Adds waiting = (new ≡ old) × Adds []
+StepWrites end IsAnswer step.List old new Adds waiting = (new ≡ old) × Adds []
+StepWrites end IsAnswer step.ListNames old new Adds waiting = (new ≡ old) × Adds []
+
+-- the bytes that a step of a walk adds
+abbrev pub step_record : {A : Type 0} → (end : ℕ) → (wanted : Text → Bool) → Step A → List ℕ
+step_record end wanted (step.Item item) = if is_item_wanted wanted item then item_record end item else []
+step_record end wanted step.Done = []
+step_record end wanted step.Look = []
+step_record end wanted step.List = []
+step_record end wanted step.ListNames = []
+
+-- the fault is a line that could not be written
+abbrev pub IsWriteFault : FindFault → Type 0
+IsWriteFault (Pattern refusal) = ⊥
+IsWriteFault (Write error) = ⊤

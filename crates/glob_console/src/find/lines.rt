@@ -58,13 +58,14 @@ impl<A: Allocator> Lines<A> {
         ensures some { OnErr result (AppendsFront (W.contents output.old) (W.contents output.new)
             self.old.waiting.items) }
     {
-        if spent.saturating_sub(self.spent) >= PATIENCE {
-            self.spent = spent;
-            if !self.waiting.is_empty() {
-                self.flush(output)?;
-            }
+        if spent.saturating_sub(self.spent) < PATIENCE {
+            return Ok(());
         }
-        Ok(())
+        self.spent = spent;
+        if self.waiting.is_empty() {
+            return Ok(());
+        }
+        self.flush(output)
     }
 
     /// Writes the lines that wait. Where it fails, the first bytes of them may have been written.

@@ -1,7 +1,7 @@
 use Rattle.std.proofs.Common.{true, false, subst}
 use Rattle.glob_walk.specs.Machines.{IsAskedAfter, saying}
 use Rattle.glob_walk.proofs.WalkLemmas.Driving.{listed_fits}
-use Rattle.glob_console.proofs.find.answer.Goals as goal
+use Rattle.glob_console.proofs.find.go_on.Goals as goal
 
 pub returns-in-List-clause-driven : goal.returns-in-List-clause-driven
 returns-in-List-clause-driven g c x all given told =
