@@ -1,5 +1,6 @@
 pub mod CallerLemmas
 pub mod FoundLemmas
+pub mod ItemLemmas
 pub mod NumberLemmas
 pub mod StepLemmas
 pub mod WritingLemmas

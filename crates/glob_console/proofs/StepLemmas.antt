@@ -12,7 +12,7 @@ step_number (AsksList kinds) = 1
 step_number (Says o) = 1
 step_number Ends = 0
 
--- a step follows each but the last
+-- the number of each step but the last is 1
 pub step_number-more : {A : Type 0} (s : Step A) → (s ≡ step.Done → ⊥) → step_number (saying s) ≡ 1
 step_number-more step.Look more = refl
 step_number-more step.List more = refl
@@ -20,6 +20,7 @@ step_number-more step.ListNames more = refl
 step_number-more (step.Item item) more = refl
 step_number-more step.Done more = absurd (more refl)
 
+-- so a step that is not the last does not say that the walk ends
 pub says_more : {A : Type 0} (s : Step A) → (s ≡ step.Done → ⊥) → saying s ≡ Ends → ⊥
 says_more s more is = absurd (omega (arith, step_number-more s more, ap step_number is))
 

@@ -128,8 +128,8 @@ fn write_items<T: Tree, C: Choice, W: Write, E: Write>(
     }
 }
 
-/// Writes what a step of a walk asks for, and notes it: an item that is wanted, a path or an error; after the last step all
-/// lines that wait, and before a question those that have waited long.
+/// Writes and notes the item of a step, if it is wanted: a path, or an error. After the last step it writes all lines that
+/// wait, and before a question those that have waited long.
 fn write_step<T: Tree, C: Choice, W: Write, E: Write>(
     step: &Step<T::Alloc>,
     spent: u64,

@@ -1,4 +1,4 @@
--- What one item of a walk adds to what is written, and to what was found.
+-- What a step of a walk adds to what is written, and to what was found.
 use Rattle.std.specs.Prelude.{◌≡◌, ◌⊎◌, ℕ, Bool, true, false, if◌then◌else◌, List, [], ◌++◌, Option, Result, Ok, Err, ⊤}
 use Rattle.std.specs.Io.KnownBytes.{Appends}
 use Rattle.std.specs.Path.{path_buf_bytes}
@@ -43,7 +43,8 @@ noting findings (Gives (Unread path kind)) = record findings { has_error = true 
 noting findings (LimitAt path) = record findings { end = end.Limit }
 noting findings NoMemory = record findings { end = end.Memory }
 
--- What is written at a step of a walk, and noted: an item that is wanted; after the last step nothing waits.
+-- A wanted item adds its record and is noted, and other steps add nothing. After the last one nothing waits. `IsAnswer`
+-- says what the choice may say of an item.
 abbrev pub StepWrites : {A : Type 0} → (end : ℕ) → (IsAnswer : Bool → Result (PathBuf A) (GlobError A) → Type 0) → Step A
     → (old new : Findings) → (Adds : List ℕ → Type 0) → (waiting : List ℕ) → Type 0
 StepWrites end IsAnswer (step.Item item) old new Adds waiting =
@@ -62,7 +63,7 @@ step_record end wanted step.Look = []
 step_record end wanted step.List = []
 step_record end wanted step.ListNames = []
 
--- the fault is a line that could not be written
+-- a line could not be written, or there was no memory
 abbrev pub IsWriteFault : FindFault → Type 0
 IsWriteFault (Pattern refusal) = ⊥
 IsWriteFault (Write error) = ⊤

@@ -7,7 +7,7 @@ pub IsErrAnd-passed : {T E : Type 0} (r : Result T E) (e : E) (P : E → Type 0)
 IsErrAnd-passed (Ok x) e P same holds = absurd holds
 IsErrAnd-passed (Err d) e P same holds = subst P same holds
 
--- what the fault is that an answer was made of, the answer's is
+-- what holds of the fault that an answer is made of holds of the answer's
 pub IsErrAnd-made : {T E : Type 0} (r : Result T E) (e : E) (P : E → Type 0) → IsErrAnd r (λ d. d ≡ e) → P e → IsErrAnd r P
 IsErrAnd-made (Ok x) e P same holds = absurd same
 IsErrAnd-made (Err d) e P same holds = subst P (sym same) holds
