@@ -124,7 +124,7 @@ fn write_items<T: Tree, C: Choice, W: Write, E: Write>(
         if let Step::Done = step {
             break Ok(findings);
         }
-        step = go_on(&step, tree, walk);
+        step = go_on(step, tree, walk);
     }
 }
 
@@ -182,12 +182,12 @@ fn write_step<T: Tree, C: Choice, W: Write, E: Write>(
 /// Goes on with a walk after a step that is not its last, and returns the next one. The tree answers a question.
 #[inline]
 fn go_on<T: Tree>(
-    step: &Step<T::Alloc>,
+    step: Step<T::Alloc>,
     tree: &mut T,
     walk: &mut WalkMachine<T::Alloc>,
 ) -> Step<T::Alloc>
-    requires more { saying step.now ≢ Ends }
-    requires asked { IsAskedAfter (saying step.now) walk.old.asked }
+    requires more { saying step ≢ Ends }
+    requires asked { IsAskedAfter (saying step) walk.old.asked }
     ensures content { T.tells tree.new ≡ T.tells tree.old }
     ensures counts { (n : ℕ) × StepCounts n walk.old (saying result) walk.new }
     ensures driven { (c : Content) → (all : List Mark) → (given : List Item)
@@ -195,7 +195,11 @@ fn go_on<T: Tree>(
         → GivesNext all c given (saying result) walk.new }
 {
     match step {
-        Step::Item(_) => walk.next(),
+        Step::Item(item) => {
+            // It is freed before the next one is made.
+            drop(item);
+            walk.next()
+        }
         Step::Look => {
             let seen = tree.look(walk.path());
             walk.looked(seen)
