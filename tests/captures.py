@@ -29,6 +29,9 @@ MIXED = [("é", "literal", "é"), ("€", "literal", "€"), ("/", "literal", "/
     ("*", "*", ""), ("*", "*", ""), ("**/", "**", ""), ("**", "**", ""), ("[!é]", "[!]", "é"), ("[\U0010fffeb]", "[]", "\U0010fffeb")]
 MIXED_TEXT = "b/.é€\U0010fffe"
 
+# The longest text, of 16,777,216 bytes, that four tokens are compared with.
+LONGEST = "\U0010fffe" * 4_194_304
+
 # Options, a pattern, a text, and where the pieces end, in bytes.
 PIECES = [
     ("", "", "", ""),
@@ -51,6 +54,7 @@ PIECES = [
     ("", "*.rs", "a.rc", "no"),
     ("", "**/a", "ba", "no"),
     ("", "?", "éé", "no"),
+    ("", "*?*?", LONGEST, "0 4 16777212 16777216"),
 ]
 # A pattern, a text, how far it is taken, and the tokens that wait there.
 REACHED = [
@@ -62,6 +66,7 @@ REACHED = [
     ("a/**/b", "a/xx/c", "5 2 3"),
     ("a", "ab", "1"),
     ("", "ab", "0"),
+    ("*?*?", LONGEST, "16777216 0 1 2 3"),
 ]
 # A pattern, and of each token its kind and where it ends, in bytes.
 WRITTEN = [
@@ -237,7 +242,7 @@ def report(cases, found, wanted):
     """Prints the first answers that are not what is wanted, and counts all."""
     wrong = [row for row in zip(cases, found, wanted) if [field.strip() for field in row[1]] != row[2]]
     for case, answer, fields in wrong[:10]:
-        print(f"options, pattern, text {case}: {answer} in place of {fields}")
+        print(f"options, pattern, text {str(case)[:300]}: {answer} in place of {fields}")
     return len(wrong)
 
 

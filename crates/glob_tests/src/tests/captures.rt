@@ -1,12 +1,11 @@
 //! Captures, how far a text is taken, and the tokens of a pattern, with ample memory and with each request refused.
-use super::made::{check, pattern_of, text};
+use super::made::{check, text};
 use super::refusing::{Calls, both, refuse_each};
 use glob_captures::{CapturesError, MOST_STEPS, captures, reach, tokens};
 use glob_pattern::{MatchOptions, Pattern};
 use glob_testing::rationing::Rationed;
 use glob_testing::texts::Parts;
 use std::alloc::{Allocator, Global};
-use std::process::Abort;
 
 /// How many pieces the text splits into, one for each token; `None` if it does not match.
 fn pieces<A: Allocator + Copy, B: Allocator + Copy>(
@@ -33,23 +32,10 @@ fn place<A: Allocator + Copy, B: Allocator + Copy>(
     }
 }
 
-/// Whether the text, of so many bytes, most of whose characters have four, has captures, and is taken to its end.
-fn is_taken(rt: &(impl Abort + AllocGlobal), source: &str, tokens: usize, bytes: usize) -> bool {
-    let text = text(rt, &[("\u{10fffe}", bytes / 4), ("a", bytes % 4)]);
-    let pattern = pattern_of(rt, rt.alloc(), source);
-    let split = pieces(rt.alloc(), &pattern, text.as_str());
-    let reached = place(rt.alloc(), &pattern, text.as_str());
-    both(
-        is_wanted(split, Some(tokens)),
-        is_wanted(reached, Some(bytes)),
-    ) == Some(true)
-}
-
-/// Four tokens, and as many bytes as are just the bound for them.
+/// Texts at the bound are rows of `tests/captures.py`.
 #[test]
-fn a_text_at_the_bound_has_captures(rt: HostRuntime) {
+fn the_bound(rt: HostRuntime) {
     check(&rt, MOST_STEPS == 67_108_864, "the bound");
-    check(&rt, is_taken(&rt, "*?*?", 4, 16_777_216), "a text");
 }
 
 /// A pattern, a text, the number of tokens if it is matched, and the place up to which it is taken.
