@@ -15,9 +15,9 @@ use Rattle.glob.specs.PathOptions.{path_options}
 use Rattle.glob_pattern.specs.declared.token.bracket.Entry.TheVariants.{Single}
 use Rattle.glob_pattern.specs.declared.token.Token.TheVariants.{Literal, AnySequence, Recursive, OneOf}
 use Rattle.glob_pattern.proofs.Places.{get_or-from_drop, length-at_drop, drop-after_piece, length-after_piece}
-use Rattle.glob_pattern.proofs.ComponentLemmas.Fits.{fits, one_then, many_then, closed_then}
-use Rattle.glob_pattern.proofs.ComponentLemmas.JoinedComponents.{is_match-units}
-use Rattle.glob_pattern.proofs.EscapingLemmas.Matching.{escaped_token, escaped_text-writes, escaped_text-literal}
+use Rattle.glob_laws.proofs.ComponentLemmas.Fits.{fits, one_then, many_then, closed_then}
+use Rattle.glob_laws.proofs.ComponentLemmas.JoinedComponents.{is_match-units}
+use Rattle.glob_laws.proofs.MatchLemmas.Escaping.{escaped_token, escaped_text-writes, escaped_text-literal}
 use Rattle.glob_pattern.proofs.GrammarLemmas.Accepted.{reading_of-Ok}
 use Rattle.glob_pattern.proofs.GrammarLemmas.WrittenUnits.{UnitAt-plain}
 use Rattle.glob_pattern.proofs.MatchingLemmas.Deciding.{Decides-Matches}

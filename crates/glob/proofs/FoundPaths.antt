@@ -14,11 +14,11 @@ use Rattle.glob_pattern.specs.declared.options.MatchOptions.{MatchOptions}
 use Rattle.glob_walk.specs.declared.error.GlobError.{GlobError}
 use Rattle.glob_walk.specs.Goal.{goal, IsPlainWalk, ReachesGoal}
 use Rattle.glob_walk.specs.Listing.{listing}
-use Rattle.glob_walk.specs.Order.{IsOrderly}
+use Rattle.glob_laws.specs.Order.{IsOrderly}
 use Rattle.glob_walk.specs.Marks.{Item, Found, Unread, Mark, Give, items, cost, paths, Work}
-use Rattle.glob_walk.specs.WalkGoals.{Answers, item_of, given_items}
+use Rattle.glob_laws.specs.WalkGoals.{Answers, item_of, given_items}
 use Rattle.glob_walk.specs.Walks.{Gives, LimitAt, NoMemory, outcome, works, AreItems, Charges, StopsAt, Goes, IsFresh, Walking}
-use Rattle.glob_walk.proofs.GoalLemmas.Clauses.{reaches_goal, comes_in_order, IsBeginning-whole}
+use Rattle.glob_laws.proofs.GoalLemmas.Clauses.{reaches_goal, comes_in_order, IsBeginning-whole}
 
 -- the items of a walk that has no error among them
 abbrev pub found_items : List Text → List Item

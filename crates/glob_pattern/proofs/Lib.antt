@@ -1,9 +1,7 @@
 pub mod BitLemmas
 pub mod CallerLemmas
-pub mod ComponentLemmas
 pub mod Counts
 pub mod EscapingLemmas
-pub mod Examples
 pub mod GrammarLemmas
 pub mod MaskLemmas
 pub mod MatchingLemmas

@@ -1,10 +1,8 @@
 pub mod Case
 pub mod Computed
 pub mod Deciding
-pub mod Folded
 pub mod Freely
 pub mod Literals
-pub mod Loosening
 pub mod Matched
 pub mod Needles
 pub mod Passing

@@ -4,7 +4,6 @@
 
 mod error;
 mod grammar;
-pub mod laws;
 mod matcher;
 mod options;
 mod pattern;

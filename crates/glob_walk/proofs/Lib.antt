@@ -1,5 +1,2 @@
-pub mod CallerLemmas
-pub mod Examples
-pub mod GoalLemmas
 pub mod ListingLemmas
 pub mod WalkLemmas

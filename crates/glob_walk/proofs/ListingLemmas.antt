@@ -1,3 +1,2 @@
-pub mod Ascending
 pub mod Descending
 pub mod Marks

@@ -5,7 +5,6 @@ mod component;
 mod ending;
 mod error;
 mod frame;
-pub mod laws;
 mod machine;
 mod meter;
 mod plain;

@@ -1,5 +1,0 @@
-use Rattle.glob_pattern.proofs.ComponentLemmas.SeparatorRule.{separator_rule_free}
-use Rattle.glob_pattern.proofs.laws.separator_rule_spares_names.Goals as goal
-
-pub returns : goal.returns
-returns c = separator_rule_free
