@@ -21,7 +21,7 @@ functions  160 glob_pattern
 '
 
 # pages that a program writes, and the note beside the data of the original crate
-uncounted='docs/reference/*|crates/glob_bench/data/README.md'
+uncounted='docs/reference/*|crates/glob_answers/data/README.md'
 
 # how many words the pages have that are there. The bars of tables are none
 words() {

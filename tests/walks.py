@@ -6,7 +6,7 @@ them within each limit. What a walk by a plain pattern finds is compared with wh
     tests/walks.py [--seed N] [--trees N]
 
 Prints each difference, then how many walks of each kind there were, and last 'N passed, M failed'. A kind that is rare
-is a failure. The program is glob_bench, as it was last built, or is built now."""
+is a failure. The program is glob_answers, as it was last built, or is built now."""
 
 import argparse
 import collections
@@ -20,7 +20,7 @@ from dataclasses import dataclass, replace
 from pathlib import Path
 
 ROOT = Path(__file__).resolve().parent.parent
-CRATE = ROOT / "crates/glob_bench"
+CRATE = ROOT / "crates/glob_answers"
 TABLES = ROOT / "tests/walks"
 sys.dont_write_bytecode = True
 sys.path[:0] = [str(TABLES), str(ROOT / "bench/random_input")]
@@ -261,9 +261,10 @@ class Comparer:
 
 def built_program():
     """The program, built if it is not there, or None where that fails."""
-    program = CRATE / "out/glob_bench"
+    program = CRATE / "out/glob_answers"
     if not program.exists() and shutil.which("rt"):
-        subprocess.run(["rt", "run", "--", "compile", "*", "1"], cwd=CRATE, stdout=subprocess.DEVNULL, check=False)
+        nothing = {"stdin": subprocess.DEVNULL, "stdout": subprocess.DEVNULL}
+        subprocess.run(["rt", "run", "--", "answer"], cwd=CRATE, check=False, **nothing)
     return program if program.exists() else None
 
 
@@ -295,7 +296,7 @@ def main():
     os.umask(0o022)
     program = built_program()
     if not program:
-        sys.exit("glob_bench could not be built\n0 passed, 1 failed")
+        sys.exit("glob_answers could not be built\n0 passed, 1 failed")
     # The user by whom it is run may not reach the repository.
     with tempfile.TemporaryDirectory() as folder:
         os.chmod(folder, 0o755)

@@ -5,14 +5,13 @@ first disagreement, cut down to a small one, and last how many of matches, sets,
 
 usage: main.py FOLDER VERSION SECONDS SEED
 
-FOLDER has ours/library and original/answer, which is over this VERSION of the crate. Rounds are made for as
+FOLDER has ours/answers and original/answer, which is over this VERSION of the crate. Rounds are made for as
 many SECONDS, the first of them from SEED, and each further one from the next seed.
 """
 
 import collections
 import os
 import random
-import subprocess
 import sys
 import time
 from dataclasses import dataclass, replace
@@ -34,8 +33,8 @@ UNANSWERED = f"docs/DIFFERENCES.md: the crate backtracks, and ended or took more
 CASES_FOR_ONE_UNANSWERED = 1000
 
 
-# What a set is asked about a text, as a sum of the numbers of the patterns that match it.
-QUESTIONS = {"any": lambda numbers: 1, "first": min, "last": max, "all": sum}
+# What a set is asked about a text: whether any pattern matches it, which is the first, the last, and all that do.
+QUESTIONS = 4
 
 
 class Disagreement(Exception):
@@ -76,8 +75,7 @@ class Comparer:
 
     def __init__(self, folder, version):
         self.version = version
-        self.programs = [[folder / "ours/library", "answer"], [folder / "original/answer"]]
-        self.set_program = folder / "ours/library"
+        self.programs = [[folder / "ours/answers", "answer"], [folder / "original/answer"]]
         self.place = Place(self.programs)
         self.base, self.above, self.walkers = self.place.base, self.place.above, self.place.walkers
         self.matchers = [Side(words, self.base) for words in self.programs]
@@ -160,24 +158,21 @@ class Comparer:
                 self.ask_set(rows, texts)
 
     def ask_set(self, rows, texts):
-        """Asks a set about texts, for the sum of its answers. A row is a pattern and, for each text, a letter for each
-        setting. A disagreement has the set and the texts whole."""
-        files = [self.base / name for name in ("patterns", "texts")]
-        for file, lines in zip(files, ([pattern for pattern, _ in rows], texts)):
-            file.write_bytes("".join(f"{line}\n" for line in lines).encode())
-        for at, letters in enumerate(make.SETTINGS):
+        """Asks a set about texts. A row is a pattern and, for each text, a letter for each setting. A disagreement has the
+        set and the texts whole."""
+        patterns = [pattern for pattern, _ in rows]
+        lines = ["\t".join(["set", letters, str(len(rows)), *patterns, *texts]) for letters in make.SETTINGS]
+        for at, answer in enumerate(self.matchers[0].ask(lines)):
             matched = [
-                [number for number, (_, row) in enumerate(rows, 1) if row[len(make.SETTINGS) * text + at] == "y"]
+                [number for number, (_, row) in enumerate(rows) if row[len(make.SETTINGS) * text + at] == "y"]
                 for text in range(len(texts))
             ]
-            for question, sum_of in QUESTIONS.items():
-                words = [self.set_program, "set", letters, files[0], question, files[1], "1"]
-                found = answer_of(words)
-                expected = sum(sum_of(numbers) for numbers in matched if numbers)
-                if found != str(expected):
-                    what = f"the set {[pattern for pattern, _ in rows]} and the texts {texts}: {question} is {found!r}"
-                    raise Disagreement(f"{what}, and by the crate's answers {expected}", f"with the options {letters!r}")
-                self.counts["questions"] += len(texts)
+            expected = "".join(map(field_of, matched))
+            if answer != expected:
+                what = f"the set {patterns} and the texts {texts}: {spoken(answer)}"
+                words = f"with the options {make.SETTINGS[at]!r}"
+                raise Disagreement(f"{what}, and by the crate's answers: {spoken(expected)}", words)
+            self.counts["questions"] += QUESTIONS * len(texts)
         self.counts["sets"] += 1
 
     # Walks
@@ -259,13 +254,9 @@ class Comparer:
                 self.report_walk(case, self.limit_differs)
 
 
-def answer_of(words):
-    """What a program prints, or how it fails."""
-    try:
-        ended = subprocess.run(words, capture_output=True, text=True, check=False, timeout=SECONDS_A_CASE)
-    except subprocess.TimeoutExpired:
-        return f"nothing in {SECONDS_A_CASE} s"
-    return ended.stdout.strip() if ended.returncode == 0 else f"status {ended.returncode}: {ended.stderr.strip()}"
+def field_of(numbers):
+    """What a set is to say of a text that the patterns of these numbers match."""
+    return "\t" + " ".join(map(str, ["yes", numbers[0], numbers[-1], *numbers] if numbers else ["no", "no", "no"]))
 
 
 def spent(answer):

@@ -24,24 +24,43 @@ pub fn compare_captures(rt: &HostRuntime, words: &[&str]) -> io::Result<()> {
     let rounds = number_of(rounds)?;
     let pattern = read_pattern(rt, pattern)?;
     let text = fs::read_to_string(rt, file)?;
-    write_times(rt, &pattern, options_of(letters), text.as_str(), rounds)
+    compare_lines(rt, &pattern, options_of(letters), text.as_str(), rounds)
 }
 
-/// Writes the count and the times for all lines of a text, and the times for those that the pattern matches.
-fn write_times(
+/// Asks a pattern about the lines of a text, and about those that it matches, and writes the count and the times.
+fn compare_lines(
     rt: &HostRuntime,
     pattern: &Pattern,
     options: MatchOptions,
     text: &str,
     rounds: u64,
 ) -> io::Result<()> {
-    let lines = lines_of(rt.alloc(), text)?;
-    let all = time_captures(rt, pattern, options, lines.as_slice(), rounds)?;
-    let found = lines_that_match(rt.alloc(), pattern, options, lines.as_slice())?;
-    let some = time_captures(rt, pattern, options, found.as_slice(), rounds)?;
+    let all = lines_of(rt.alloc(), text)?;
+    let found = lines_that_match(rt.alloc(), pattern, options, all.as_slice())?;
+    write_times(
+        rt,
+        pattern,
+        options,
+        all.as_slice(),
+        found.as_slice(),
+        rounds,
+    )
+}
+
+/// Writes the count and the times for all lines, and the times for those that were found.
+fn write_times(
+    rt: &HostRuntime,
+    pattern: &Pattern,
+    options: MatchOptions,
+    all: &[&str],
+    found: &[&str],
+    rounds: u64,
+) -> io::Result<()> {
+    let all = time_captures(rt, pattern, options, all, rounds)?;
+    let found = time_captures(rt, pattern, options, found, rounds)?;
     println!(rt;
         "{} {} {} {} {}",
-        all.count, all.matching, all.capturing, some.matching, some.capturing
+        all.count, all.matching, all.capturing, found.matching, found.capturing
     )
 }
 

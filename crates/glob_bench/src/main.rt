@@ -1,4 +1,4 @@
-//! Times the crate `glob` and what stands on it, answers the cases of tests, and compares `glob` with tables.
+//! Times the crate `glob` and what stands on it.
 //!
 //! These print a count, and on standard error the time in nanoseconds. Reading files is not timed.
 //!
@@ -10,32 +10,23 @@
 //!   numbers of those patterns, counted from 1. Making the set is not timed.
 //! - `make OPTIONS PATTERNS TIMES` makes such a set over and over, and counts its patterns.
 //!
-//! These write nothing on standard error.
+//! This writes nothing on standard error:
 //!
 //! - `captures OPTIONS PATTERN FILE ROUNDS` prints how many lines of a file the pattern matches, and the least times of
 //!   all rounds, of a match and of captures in turn: of both for all lines, and of both for those that match.
-//! - `answer` answers the cases of `bench/run --random`, `tests/walks.py` and `tests/captures.py`, line by line.
-//! - `rules` asks ignore lists about paths, for `tests/ignore.py`.
-//! - `replay` compares `glob` with the tables of `data`, which lie in the folder that it runs in.
 //!
 //! OPTIONS is a word that has `i` for no case, `s` for the separator rule and `d` for the dot rule, as `sd` or `-`. A
 //! PATTERN `@FILE` is the text of a file, since a word of a command line cannot be long.
 #![tactic(auto)]
 
-mod answer;
 mod captures;
 mod chain;
-mod replay;
-mod rules;
 mod sets;
 mod timing;
 mod words;
 
-use answer::answer_lines;
 use captures::compare_captures;
 use glob_console::{arguments, words_of};
-use replay::replay_tables;
-use rules::ask_lists;
 use sets::{ask_set, make_sets};
 use std::io;
 use timing::{compile_pattern, match_file, walk_levels};
@@ -50,9 +41,6 @@ fn run(rt: HostRuntime, command: &str, words: &[&str]) -> io::Result<()> {
         "set" => ask_set(&rt, words),
         "make" => make_sets(&rt, words),
         "captures" => compare_captures(&rt, words),
-        "answer" => answer_lines(rt),
-        "rules" => ask_lists(&rt),
-        "replay" => replay_tables(&rt),
         _ => Err(unfit()),
     }
 }

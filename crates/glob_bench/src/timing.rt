@@ -2,7 +2,7 @@
 
 use crate::chain::Chain;
 use crate::words::{
-    lines_of, number_of, options_of, pattern_of, pattern_text, read_pattern, unfit, write_count,
+    lines_of, number_of, options_of, pattern_text, read_pattern, unfit, write_count,
 };
 use glob::{MatchOptions, Pattern, glob_in};
 use std::alloc::{AllocError, Global};
@@ -69,7 +69,9 @@ pub fn compile_pattern(rt: &HostRuntime, words: &[&str]) -> io::Result<()> {
 fn count_bytes(alloc: Global, text: &str, times: u64) -> io::Result<u64> {
     let mut count = 0u64;
     for _ in 0..times {
-        let pattern = pattern_of(alloc, text)?;
+        let Ok(pattern) = Pattern::new(alloc, text) else {
+            return Err(unfit());
+        };
         count = count.saturating_add(pattern.as_str().len() as u64);
     }
     Ok(count)

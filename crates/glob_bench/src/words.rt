@@ -35,18 +35,13 @@ pub fn pattern_text(rt: &HostRuntime, word: &str) -> io::Result<String> {
     }
 }
 
-/// The pattern of a text.
-pub fn pattern_of(alloc: Global, text: &str) -> io::Result<Pattern> {
-    match Pattern::new(alloc, text) {
-        Ok(pattern) => Ok(pattern),
-        Err(_) => Err(unfit()),
-    }
-}
-
 /// The pattern that a word stands for.
 pub fn read_pattern(rt: &HostRuntime, word: &str) -> io::Result<Pattern> {
     let text = pattern_text(rt, word)?;
-    pattern_of(rt.alloc(), text.as_str())
+    match Pattern::new(rt.alloc(), text.as_str()) {
+        Ok(pattern) => Ok(pattern),
+        Err(_) => Err(unfit()),
+    }
 }
 
 /// The lines of a text.

@@ -7,9 +7,12 @@
 //!   written up to; where each piece ends, or `no`; and the place that is reached, with the tokens that wait there.
 //! - `walk OPTIONS LIMIT PATTERN` is answered by `ok`, the units of work that were charged, and the items: `=` and a
 //!   path, `!` and the path of a directory that could not be listed, or `?` and the path of the limit's refusal.
+//! - `set OPTIONS NUMBER PATTERN .. TEXT ..`, with so many patterns, is answered by a tab and a field for each text:
+//!   `yes` or `no` for whether any matches, the numbers of the first and the last that do, or `no`, and those of all.
 //! - A pattern with a fault is answered by `fault`, its place and its message in place of `ok` and what follows.
 
-use crate::words::{number_of, options_of, pattern_of, unfit};
+use crate::sets::add_set;
+use crate::words::{options_of, pattern_of, unfit};
 use glob::{
     Disk, GlobCause, GlobResult, MatchOptions, Paths, Pattern, PatternRefusal, Tree, glob_in,
 };
@@ -39,35 +42,43 @@ fn answer(rt: HostRuntime, line: &str) -> io::Result<String> {
 
 /// Adds the answer to the fields of a line.
 fn add_answer(rt: HostRuntime, answer: &mut String, fields: &[&str]) -> io::Result<()> {
-    match fields {
-        ["match", pattern, texts @ ..] => add_matches(rt.alloc(), answer, pattern, texts),
-        ["captures", letters, pattern, text] => {
-            let pattern = pattern_of(rt.alloc(), pattern)?;
-            add_captures(rt.alloc(), answer, &pattern, text, options_of(letters))
-        }
-        ["walk", letters, limit, pattern] => {
-            add_walk(rt, answer, pattern, options_of(letters), number_of(limit)?)
-        }
+    let [case, fields @ ..] = fields else {
+        return Err(unfit());
+    };
+    match *case {
+        "match" => add_matches(rt.alloc(), answer, fields),
+        "captures" => add_captures(rt.alloc(), answer, fields),
+        "walk" => add_walk(rt, answer, fields),
+        "set" => add_set(rt.alloc(), answer, fields),
         _ => Err(unfit()),
     }
 }
 
 /// Adds the answer to `match`.
-fn add_matches(alloc: Global, answer: &mut String, text: &str, texts: &[&str]) -> io::Result<()> {
-    answer.push_str(Pattern::escape(alloc, text)?.as_str())?;
+fn add_matches(alloc: Global, answer: &mut String, fields: &[&str]) -> io::Result<()> {
+    let [text, texts @ ..] = fields else {
+        return Err(unfit());
+    };
+    add_escaped(alloc, answer, text)?;
     match Pattern::new(alloc, text) {
-        Ok(pattern) => {
-            answer.push_str("\tok\t")?;
-            for text in texts {
-                add_settings(answer, &pattern, text)?;
-            }
-            Ok(())
-        }
-        Err(refusal) => {
-            answer.push_str("\tfault\t")?;
-            add_fault(answer, refusal)
-        }
+        Ok(pattern) => add_texts(answer, &pattern, texts),
+        Err(refusal) => add_refusal(answer, refusal),
     }
+}
+
+/// Adds a text as it is escaped, and a tab.
+fn add_escaped(alloc: Global, answer: &mut String, text: &str) -> io::Result<()> {
+    let escaped = Pattern::escape(alloc, text)?;
+    Ok(write!(answer, "{}\t", escaped.as_str())?)
+}
+
+/// Adds that a pattern has no fault, and which texts it matches.
+fn add_texts(answer: &mut String, pattern: &Pattern, texts: &[&str]) -> io::Result<()> {
+    answer.push_str("ok\t")?;
+    for text in texts {
+        add_settings(answer, pattern, text)?;
+    }
+    Ok(())
 }
 
 /// Adds whether a pattern matches a text, under each of the eight settings of the options.
@@ -89,7 +100,16 @@ fn setting_of(number: u8) -> MatchOptions {
 }
 
 /// Adds the answer to `captures`.
-fn add_captures(
+fn add_captures(alloc: Global, answer: &mut String, fields: &[&str]) -> io::Result<()> {
+    let [letters, pattern, text] = fields else {
+        return Err(unfit());
+    };
+    let pattern = pattern_of(alloc, pattern)?;
+    add_fields(alloc, answer, &pattern, text, options_of(letters))
+}
+
+/// Adds the three fields of `captures`.
+fn add_fields(
     alloc: Global,
     answer: &mut String,
     pattern: &Pattern,
@@ -97,17 +117,16 @@ fn add_captures(
     options: MatchOptions,
 ) -> io::Result<()> {
     add_tokens(alloc, answer, pattern)?;
-    answer.push('\t')?;
     add_pieces(alloc, answer, pattern, text, options)?;
     add_reach(alloc, answer, pattern, text, options)
 }
 
-/// Adds the kinds of a pattern's tokens, and where each is written up to.
+/// Adds the kind of each token of a pattern and where it is written up to, and at last a tab.
 fn add_tokens(alloc: Global, answer: &mut String, pattern: &Pattern) -> Result<(), AllocError> {
     for token in tokens(alloc, pattern)?.as_slice() {
         write!(answer, " {} {}", sign_of(token.kind), token.piece.end)?;
     }
-    Ok(())
+    answer.push('\t')
 }
 
 /// A sign for a kind of token.
@@ -161,20 +180,17 @@ fn add_reach(
 }
 
 /// Adds the answer to `walk`.
-fn add_walk(
-    rt: HostRuntime,
-    answer: &mut String,
-    pattern: &str,
-    options: MatchOptions,
-    limit: u64,
-) -> io::Result<()> {
+fn add_walk(rt: HostRuntime, answer: &mut String, fields: &[&str]) -> io::Result<()> {
+    let [letters, limit, pattern] = fields else {
+        return Err(unfit());
+    };
+    let Ok(limit) = limit.parse::<u64>() else {
+        return Err(unfit());
+    };
     let disk = Disk::new(rt, rt.alloc());
-    match glob_in(rt.alloc(), disk, pattern, options, limit) {
+    match glob_in(rt.alloc(), disk, pattern, options_of(letters), limit) {
         Ok(mut paths) => add_items(rt.alloc(), answer, &mut paths),
-        Err(refusal) => {
-            answer.push_str("fault\t")?;
-            add_fault(answer, refusal)
-        }
+        Err(refusal) => add_refusal(answer, refusal),
     }
 }
 
@@ -202,6 +218,12 @@ fn add_item<A: Allocator>(items: &mut String, item: &GlobResult<A>) -> io::Resul
 /// Adds a path after a sign.
 fn add_path(items: &mut String, sign: char, path: Path<'_>) -> Result<(), AllocError> {
     write!(items, "\t{sign}{}", path.as_str())
+}
+
+/// Adds that a pattern has a fault, and which.
+fn add_refusal(answer: &mut String, refusal: PatternRefusal) -> io::Result<()> {
+    answer.push_str("fault\t")?;
+    add_fault(answer, refusal)
 }
 
 /// Adds the place and the message of a pattern's fault.

@@ -8,9 +8,9 @@
 //! - how a text is escaped: the text, and the pattern that is written for it and matches it.
 
 use crate::answer::add_fault;
-use crate::words::{number_of, pattern_of};
-use glob::{MatchOptions, Pattern};
-use std::alloc::{AllocError, Global};
+use crate::words::pattern_of;
+use glob::{MatchOptions, Pattern, PatternRefusal};
+use std::alloc::Global;
 use std::{fs, io};
 
 /// What the rows of a table say.
@@ -51,14 +51,25 @@ fn replay(rt: &HostRuntime, name: &str, table: Rows, text: &str) -> io::Result<(
         rows = rows.saturating_add(1);
         if !is_alike(rt.alloc(), table, row)? {
             disagree = disagree.saturating_add(1);
-            println!(rt; "{name}, line {rows}: {row}")?;
+            print_row(rt, name, rows, row)?;
         }
     }
+    print_counts(rt, name, rows, disagree)
+}
+
+/// Prints a row that disagrees.
+fn print_row(rt: &HostRuntime, name: &str, number: u64, row: &str) -> io::Result<()> {
+    println!(rt; "{name}, line {number}: {row}")
+}
+
+/// Prints how many rows there are, and how many that disagree. The error is that there is one.
+fn print_counts(rt: &HostRuntime, name: &str, rows: u64, disagree: u64) -> io::Result<()> {
     println!(rt; "{name}: {rows} rows, {disagree} disagree")?;
-    if disagree != 0 {
-        return Err(io::Error::other("rows disagree"));
+    if disagree == 0 {
+        Ok(())
+    } else {
+        Err(io::Error::other("rows disagree"))
     }
-    Ok(())
 }
 
 /// Whether `glob` answers as the row says.
@@ -77,31 +88,54 @@ fn is_alike(alloc: Global, table: Rows, row: &str) -> io::Result<bool> {
 fn parses_alike(alloc: Global, text: &str, answer: &str) -> io::Result<bool> {
     match Pattern::new(alloc, text) {
         Ok(pattern) => Ok(matches!(answer, "ok") && pattern.as_str() == text),
-        Err(refusal) => {
-            let mut found = String::new(alloc);
-            add_fault(&mut found, refusal)?;
-            Ok(found.as_str() == answer)
-        }
+        Err(refusal) => is_fault(alloc, refusal, answer),
     }
+}
+
+/// Whether the answer is the place and the message of a pattern's fault.
+fn is_fault(alloc: Global, refusal: PatternRefusal, answer: &str) -> io::Result<bool> {
+    let mut found = String::new(alloc);
+    add_fault(&mut found, refusal)?;
+    Ok(found.as_str() == answer)
 }
 
 /// Whether a text is escaped as the row says, by a pattern that matches it.
 fn escapes_alike(alloc: Global, text: &str, answer: &str) -> io::Result<bool> {
     let escaped = Pattern::escape(alloc, text)?;
-    Ok(escaped.as_str() == answer && pattern_of(alloc, answer)?.matches(text)?)
+    if escaped.as_str() == answer {
+        is_matched(alloc, answer, text)
+    } else {
+        Ok(false)
+    }
+}
+
+/// Whether a pattern matches a text.
+fn is_matched(alloc: Global, pattern: &str, text: &str) -> io::Result<bool> {
+    let pattern = pattern_of(alloc, pattern)?;
+    Ok(pattern.matches(text)?)
 }
 
 /// Whether a pattern matches a text, or does not, as the fields say after the letters of the options.
 fn matches_alike(alloc: Global, letters: &str, rest: &str) -> io::Result<bool> {
-    let Some(options) = options_of_row(letters) else {
-        return Ok(false);
-    };
-    let fields = rest.split('\t').collect::<Vec<&str>>(alloc)?;
-    let [pattern, text, answer, most @ ..] = fields.as_slice() else {
+    let Some((pattern, rest)) = rest.split_once('\t') else {
         return Ok(false);
     };
     let pattern = pattern_of(alloc, pattern)?;
-    Ok(is_answer(&pattern, options, text, answer, most)?)
+    is_alike_to_fields(&pattern, letters, rest)
+}
+
+/// The same, as the letters say and the fields after the pattern.
+fn is_alike_to_fields(pattern: &Pattern, letters: &str, rest: &str) -> io::Result<bool> {
+    let Some(options) = options_of_row(letters) else {
+        return Ok(false);
+    };
+    let Some((text, rest)) = rest.split_once('\t') else {
+        return Ok(false);
+    };
+    match rest.split_once('\t') {
+        Some((answer, most)) => is_answer(pattern, options, text, answer, Some(most)),
+        None => is_answer(pattern, options, text, rest, None),
+    }
 }
 
 /// The options of three letters.
@@ -122,23 +156,24 @@ fn is_answer(
     options: MatchOptions,
     text: &str,
     answer: &str,
-    most: &[&str],
-) -> Result<bool, AllocError> {
+    most: Option<&str>,
+) -> io::Result<bool> {
     let found = pattern.matches_with(text, options)?;
+    if !matches!((found, answer), (true, "y") | (false, "n")) {
+        return Ok(false);
+    }
     let (counted, questions) = pattern.matches_counted(text, options)?;
-    let is_answer = matches!((found, answer), (true, "y") | (false, "n"));
-    Ok(is_answer && counted == found && are_within(questions, most, pattern.as_str(), text))
+    Ok(counted == found && are_within(questions, most, pattern.as_str(), text))
 }
 
 /// Whether questions are as many as the row says at most, or the pattern's characters times those of the text.
-fn are_within(questions: u128, most: &[&str], pattern: &str, text: &str) -> bool {
-    let (tokens, characters) = (pattern.chars().count(), text.chars().count());
-    match most {
-        [] => questions <= tokens.saturating_mul(characters) as u128,
-        [most] => match number_of(most) {
-            Ok(most) => questions <= u128::from(most),
-            Err(_) => false,
-        },
-        _ => false,
+fn are_within(questions: u128, most: Option<&str>, pattern: &str, text: &str) -> bool {
+    let Some(most) = most else {
+        let (tokens, characters) = (pattern.chars().count(), text.chars().count());
+        return questions <= tokens.saturating_mul(characters) as u128;
+    };
+    match most.parse::<u128>() {
+        Ok(most) => questions <= most,
+        Err(_) => false,
     }
 }
