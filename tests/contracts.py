@@ -15,7 +15,7 @@ ROOT = Path(__file__).resolve().parent.parent
 CALLING = ROOT / "crates/glob/CALLING.md"
 PAGE = ROOT / "docs/reference/contracts.md"
 WORDS = ROOT / "docs/reference/words.md"
-CRATES = ["glob_pattern", "glob_lines", "glob_tree", "glob_memory", "glob_walk", "glob"]
+CRATES = ["glob_pattern", "glob_lines", "glob_tree", "glob_memory", "glob_walk", "glob_laws", "glob"]
 OTHERS = {
     "glob_set": {"PatternSet"},
     "glob_prune": {"Pruned", "PhysicalDisk", "Exclusion"},

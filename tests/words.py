@@ -15,7 +15,7 @@ ROOT = Path(__file__).resolve().parent.parent
 REFERENCE = ROOT / "docs/reference"
 
 # Crates with definitions that contracts cite. Those of the library are cited by the crate `glob`.
-LIBRARY = ["glob_text", "glob_pattern", "glob_lines", "glob_tree", "glob_memory", "glob_walk", "glob"]
+LIBRARY = ["glob_text", "glob_pattern", "glob_lines", "glob_tree", "glob_memory", "glob_walk", "glob_laws", "glob"]
 OTHERS = ["glob_set", "glob_rules", "glob_captures", "glob_prune", "glob_console", "glob_run", "glob_files", "glob_ignore",
           "glob_explain", "glob_c", "glob_examples"]
 
