@@ -8,8 +8,13 @@ use std::io;
 /// Answers the records of standard input.
 pub fn ask_lists(rt: &HostRuntime) -> io::Result<()> {
     let text = io::read_to_string(rt.alloc(), rt.reader())?;
+    take_records(rt, text.as_str())
+}
+
+/// Answers the records of a text.
+fn take_records(rt: &HostRuntime, text: &str) -> io::Result<()> {
     let mut list = None;
-    for record in text.as_str().split('\0') {
+    for record in text.split('\0') {
         take_record(rt, &mut list, record)?;
     }
     Ok(())
@@ -19,12 +24,14 @@ pub fn ask_lists(rt: &HostRuntime) -> io::Result<()> {
 fn take_record(rt: &HostRuntime, list: &mut Option<IgnoreList>, record: &str) -> io::Result<()> {
     if let Some(rules) = record.strip_prefix('L') {
         *list = read_list(rt, rules)?;
+        Ok(())
     } else if let Some(path) = record.strip_prefix('f') {
-        ask(rt, list, path, false)?;
+        ask(rt, list, path, false)
     } else if let Some(path) = record.strip_prefix('d') {
-        ask(rt, list, path, true)?;
+        ask(rt, list, path, true)
+    } else {
+        Ok(())
     }
-    Ok(())
 }
 
 /// The list of these rules. One that is refused is said so, and answers nothing.
