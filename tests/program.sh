@@ -489,27 +489,6 @@ ends INT find 'cycle/**'
 beginning "$work/first"
 check 'find ended by SIGINT' 130 'a beginning\n' ''
 
-# counts WORDS COUNT: compares what a command counts that times something, of the benchmark's program, if that is built
-counts() {
-    local program=$root/crates/glob_bench/out/glob_bench
-    [ -x "$program" ] || { skip "glob_bench $1" 'it is not built'; return; }
-    set -f
-    # shellcheck disable=SC2086 # a word for each
-    run $1
-    set +f
-    sed -i 's/ .*//' "$work/out" && : >"$work/err"
-    check "what glob_bench $1 counts" 0 "$2\n" ''
-}
-printf 'a.rs\nb.c\nc.rs\n' >"$work/lines"
-printf '*.rs\nb*\n' >"$work/patterns"
-counts "match - *.rs $work/lines 3" 6
-counts 'compile a* 3' 6
-counts 'walk ** 5 3' 15
-counts "set - $work/patterns any $work/lines 2" 6
-counts "set - $work/patterns all $work/lines 2" 8
-counts "make - $work/patterns 3" 6
-counts "captures - *.rs $work/lines 2" 2
-
 cd "$root" || exit 1
 run find 'docs/A*.md'
 check 'the example of the README, from A on' 0 'docs/ARCHITECTURE.md\ndocs/ARGUMENT.md\n' ''

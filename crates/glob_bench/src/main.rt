@@ -16,7 +16,8 @@
 //!   all rounds, of a match and of captures in turn: of both for all lines, and of both for those that match.
 //!
 //! OPTIONS is a word that has `i` for no case, `s` for the separator rule and `d` for the dot rule, as `sd` or `-`. A
-//! PATTERN `@FILE` is the text of a file, since a word of a command line cannot be long.
+//! PATTERN `@FILE` is the text of a file, since a word of a command line cannot be long. `@FILE` alone stands for the words
+//! that are the lines of a file.
 #![tactic(auto)]
 
 mod captures;
@@ -30,17 +31,17 @@ use glob_console::{arguments, words_of};
 use sets::{ask_set, make_sets};
 use std::io;
 use timing::{compile_pattern, match_file, walk_levels};
-use words::unfit;
+use words::{lines_of, pattern_text, unfit};
 
 /// Does what the command says with the words after it.
-fn run(rt: HostRuntime, command: &str, words: &[&str]) -> io::Result<()> {
-    match command {
-        "match" => match_file(&rt, words),
-        "compile" => compile_pattern(&rt, words),
-        "walk" => walk_levels(&rt, words),
-        "set" => ask_set(&rt, words),
-        "make" => make_sets(&rt, words),
-        "captures" => compare_captures(&rt, words),
+fn run(rt: &HostRuntime, words: &[&str]) -> io::Result<()> {
+    match words {
+        ["match", words @ ..] => match_file(rt, words),
+        ["compile", words @ ..] => compile_pattern(rt, words),
+        ["walk", words @ ..] => walk_levels(rt, words),
+        ["set", words @ ..] => ask_set(rt, words),
+        ["make", words @ ..] => make_sets(rt, words),
+        ["captures", words @ ..] => compare_captures(rt, words),
         _ => Err(unfit()),
     }
 }
@@ -49,7 +50,10 @@ fn main(rt: HostRuntime) -> io::Result<()> {
     let arguments = arguments(&rt)?;
     let words = words_of(rt.alloc(), arguments.as_slice())?;
     match words.as_slice() {
-        [command, words @ ..] => run(rt, command, words),
-        [] => Err(unfit()),
+        [file] => {
+            let text = pattern_text(&rt, file)?;
+            run(&rt, lines_of(rt.alloc(), text.as_str())?.as_slice())
+        }
+        words => run(&rt, words),
     }
 }
