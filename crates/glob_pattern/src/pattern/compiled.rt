@@ -1,14 +1,16 @@
 //! What a match reads of a pattern, and how a match goes: the ends of the text are compared, a needle is searched for,
 //! and what is left goes through the position sets.
-ghost use Rattle.std.specs.Prelude.{◌≡◌, ℕ, suc, ◌+◌, ◌-◌, ◌*◌, ◌<◌, ◌≤◌, ◌↔◌, [], length, map, IsTrue, IsOk, IfOk, IfSome, MatchOption, chars, slice_index_or};
-ghost use Rattle.std.specs.Str.{is_utf8};
+ghost use Rattle.std.specs.Prelude.{◌≡◌, ℕ, suc, ◌+◌, ◌-◌, ◌*◌, ◌<◌, ◌≤◌, ◌↔◌, List, [], length, map, take, IsTrue, IsOk, IfOk, IfSome, MatchOption, chars, slice_index_or};
+ghost use Rattle.std.specs.Str.{is_utf8, IsAscii};
 ghost use Rattle.std.specs.Int.{IsBitSet};
 ghost use Rattle.glob_pattern.specs.Grammar.Tokens.{shape_of};
 ghost use Rattle.glob_pattern.specs.Matching.Texts.{TokensMatch};
-ghost use Rattle.glob_pattern.specs.Private.Positions.{AreShapeWords, TakesRest};
+ghost use Rattle.glob_pattern.specs.Private.Positions.{AreShapeWords, TakesRest, CanRun};
+ghost use Rattle.glob_pattern.specs.Private.Prefixes.{IsAlive};
 ghost use Rattle.glob_pattern.specs.Private.TextTable.{table_of};
 ghost use Rattle.glob_pattern.specs.Matching.Trims.{IsTrim};
 ghost use Rattle.glob_text.specs.Text.{Text};
+ghost use Rattle.glob_pattern.specs.declared.matcher.shape_word.ShapeWord.{ShapeWord};
 ghost use Rattle.glob_pattern.specs.declared.token.Token.TheVariants.{Literal, AnyChar};
 
 use crate::matcher::{Judge, ShapeWord, Span, WORD, decide, shape_words};
@@ -155,27 +157,16 @@ impl<A: Allocator + Copy> Compiled<A> {
         ensures short { length self.now < 64 → IsOk result }
     {
         let front = &text[..text.len() - trimmed.end];
-        let tokens = self.tokens.as_slice();
-        let end = tokens.len() - trimmed.end;
+        let end = self.tokens.len() - trimmed.end;
         let span = Span {
             start: trimmed.start,
             end,
             enough: self.enough(end, options),
         };
-        let mut judge = TextJudge::new(
-            tokens,
-            self.masks.as_slice(),
-            front,
-            trimmed.start,
-            options,
-        );
-        decide(
-            *self.tokens.allocator(),
-            tokens,
-            self.words(),
-            span,
-            &mut judge,
-        )
+        match self.run(front, span, options) {
+            Ok((answer, _)) => Ok(answer),
+            Err(error) => Err(error),
+        }
     }
 
     /// Whether the tokens match the text, and how many questions it took. With at most 63 tokens the call succeeds.
@@ -193,16 +184,35 @@ impl<A: Allocator + Copy> Compiled<A> {
             (λ counted. IsTrue counted.0 → length (chars text.now) ≤ counted.1) }
         ensures short { length self.now < 64 → IsOk result }
     {
+        self.run(text, Span::all(self.tokens.len()), options)
+    }
+
+    /// Whether the tokens before the span's end split the text, whose characters before its start have a token each, and
+    /// how many questions it took. With at most 63 tokens the call succeeds.
+    #[inline(always)]
+    fn run(&self, text: &str, span: Span, options: MatchOptions) -> Result<(bool, u128), AllocError>
+        requires within { span.start ≤ length text.now }
+        requires ascii { IsAscii (take span.start text.now) }
+        requires ready { (words : List ShapeWord) → AreShapeWords (map shape_of self.now) words
+            → CanRun (table_of options self.now (chars text.now)) (map shape_of self.now) words
+            span span.start 0 }
+        ensures answer { IfOk result (λ counted. IsTrue counted.0
+            ↔ IsAlive (table_of options self.now (chars text.now)) (map shape_of self.now)
+            span.end (length (chars text.now))) }
+        ensures most { IfOk result (λ counted. counted.1
+            ≤ length self.now * (length (chars text.now) - span.start)) }
+        ensures least { IfOk result (λ counted. IsTrue counted.0 → span.enough ≡ 0
+            → length (chars text.now) ≤ counted.1 + span.start) }
+        ensures short { length self.now < 64 → IsOk result }
+    {
         let tokens = self.tokens.as_slice();
-        let mut judge = TextJudge::new(tokens, self.masks.as_slice(), text, 0, options);
-        let answer = decide(
-            *self.tokens.allocator(),
-            tokens,
-            self.words(),
-            Span::all(tokens.len()),
-            &mut judge,
-        )?;
-        Ok((answer, judge.asked()))
+        let masks = self.masks.as_slice();
+        let mut judge = TextJudge::new(tokens, masks, text, span.start, options);
+        let alloc = *self.tokens.allocator();
+        match decide(alloc, tokens, self.words(), span, &mut judge) {
+            Ok(answer) => Ok((answer, judge.asked())),
+            Err(error) => Err(error),
+        }
     }
 
     /// The shapes as bits.
