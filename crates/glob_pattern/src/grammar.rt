@@ -23,21 +23,27 @@ pub fn read_tokens<A: Allocator + Copy>(
         (λ tokens. HasTokens (chars pattern.now) tokens.items) }
     ensures refused { IfErr result (Refuses (chars pattern.now)) }
 {
-    let text = characters_of(alloc, pattern)?;
-    read_text(alloc, text.as_slice())
+    match characters_of(alloc, pattern) {
+        Ok(text) => read_text(alloc, text.as_slice()),
+        Err(AllocError) => Err(PatternRefusal::Memory),
+    }
 }
 
 /// The characters of a text. Fails only if allocation fails.
 pub fn characters_of<A: Allocator>(alloc: A, text: &str) -> Result<Vec<char, A>, AllocError>
     ensures { IfOk result (λ characters. characters.items ≡ chars text.now) }
 {
-    let mut characters = vec![in alloc; '\0'; text.len()]?;
+    let Ok(mut characters) = vec![in alloc; '\0'; text.len()] else {
+        return Err(AllocError);
+    };
     if widen(text.as_bytes(), characters.as_mut_slice()) {
         return Ok(characters);
     }
     characters.clear();
-    characters.extend(text.chars())?;
-    Ok(characters)
+    match characters.extend(text.chars()) {
+        Ok(()) => Ok(characters),
+        Err(_) => Err(AllocError),
+    }
 }
 
 /// Writes each byte as a character. Returns whether all are of ASCII: only then are they the text's characters. The
@@ -63,16 +69,21 @@ fn read_text<A: Allocator + Copy>(
     ensures accepted { IfOk result (λ tokens. HasTokens text.now tokens.items) }
     ensures refused { IfErr result (Refuses text.now) }
 {
-    let mut tokens = Vec::with_capacity(alloc, text.len().min(FEW))?;
+    let Ok(mut tokens) = Vec::with_capacity(alloc, text.len().min(FEW)) else {
+        return Err(PatternRefusal::Memory);
+    };
     let mut place = 0;
     while place < text.len() {
-        match unit_at(alloc, text, place)? {
-            Some((token, end)) => {
-                push_unit(&mut tokens, token)?;
-                place = end;
-            }
-            None => return Err(PatternRefusal::Syntax(fault_at(text, place))),
-        }
+        let Ok(unit) = unit_at(alloc, text, place) else {
+            return Err(PatternRefusal::Memory);
+        };
+        let Some((token, end)) = unit else {
+            return Err(PatternRefusal::Syntax(fault_at(text, place)));
+        };
+        let Ok(()) = push_unit(&mut tokens, token) else {
+            return Err(PatternRefusal::Memory);
+        };
+        place = end;
     }
     Ok(tokens)
 }
@@ -151,12 +162,13 @@ fn bracket_at<A: Allocator + Copy>(
     requires { place < length text.now }
     ensures { IfOk result (λ unit. unit ≡ bracket_at text.now place) }
 {
-    if has(text, place + 1, '!') {
-        let found = content_from(alloc, text, place + 2)?;
-        Ok(found.map(|(bracket, end)| (Token::NoneOf(bracket), end)))
-    } else {
-        let found = content_from(alloc, text, place + 1)?;
-        Ok(found.map(|(bracket, end)| (Token::OneOf(bracket), end)))
+    let negated = has(text, place + 1, '!');
+    let start = if negated { place + 2 } else { place + 1 };
+    match content_from(alloc, text, start) {
+        Ok(Some((bracket, end))) if negated => Ok(Some((Token::NoneOf(bracket), end))),
+        Ok(Some((bracket, end))) => Ok(Some((Token::OneOf(bracket), end))),
+        Ok(None) => Ok(None),
+        Err(error) => Err(error),
     }
 }
 
@@ -169,9 +181,12 @@ fn content_from<A: Allocator>(
     requires { start ≤ length text.now + 1 }
     ensures { IfOk result (λ found. found ≡ content_from text.now start) }
 {
-    match close_from(text, start + 1) {
-        Some(close) => Ok(Some((Bracket::read(alloc, &text[start..close])?, close + 1))),
-        None => Ok(None),
+    let Some(close) = close_from(text, start + 1) else {
+        return Ok(None);
+    };
+    match Bracket::read(alloc, &text[start..close]) {
+        Ok(bracket) => Ok(Some((bracket, close + 1))),
+        Err(error) => Err(error),
     }
 }
 

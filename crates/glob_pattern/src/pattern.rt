@@ -77,8 +77,16 @@ impl<A: Allocator + Copy> Pattern<A> {
         ensures text { IfOk result (λ p. p ≡ pattern.now) }
         ensures refused { IfErr result (Refuses (chars pattern.now)) }
     {
-        let compiled = Compiled::new(alloc, grammar::read_tokens(alloc, pattern)?)?;
-        let text = String::from_str(alloc, pattern)?;
+        let tokens = match grammar::read_tokens(alloc, pattern) {
+            Ok(tokens) => tokens,
+            Err(refusal) => return Err(refusal),
+        };
+        let Ok(compiled) = Compiled::new(alloc, tokens) else {
+            return Err(PatternRefusal::Memory);
+        };
+        let Ok(text) = String::from_str(alloc, pattern) else {
+            return Err(PatternRefusal::Memory);
+        };
         Ok(Pattern { text, compiled })
     }
 

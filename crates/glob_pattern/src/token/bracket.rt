@@ -62,7 +62,10 @@ impl<A: Allocator> Bracket<A> {
         let entries = match content {
             [only] => Entries::One(Entry::Single(*only)),
             [first, '-', last] => Entries::One(Entry::Range(*first, *last)),
-            _ => Entries::Many(read_entries(alloc, content)?),
+            _ => match read_entries(alloc, content) {
+                Ok(entries) => Entries::Many(entries),
+                Err(error) => return Err(error),
+            },
         };
         Ok(Bracket { entries })
     }
@@ -109,18 +112,19 @@ impl<A: Allocator + Copy> Clone for Bracket<A> {
 fn read_entries<A: Allocator>(alloc: A, content: &[char]) -> Result<Vec<Entry, A>, AllocError>
     ensures { IfOk result (λ entries. entries.items ≡ entries_of content.now) }
 {
-    let mut entries = Vec::with_capacity(alloc, content.len().min(FEW))?;
+    let Ok(mut entries) = Vec::with_capacity(alloc, content.len().min(FEW)) else {
+        return Err(AllocError);
+    };
     let mut rest = content;
     while let [first, others @ ..] = rest {
-        if let [hyphen, last, after @ ..] = others
-            && *hyphen == '-'
-        {
-            entries.push(Entry::Range(*first, *last))?;
-            rest = after;
-        } else {
-            entries.push(Entry::Single(*first))?;
-            rest = others;
-        }
+        let (entry, after) = match others {
+            [hyphen, last, after @ ..] if *hyphen == '-' => (Entry::Range(*first, *last), after),
+            _ => (Entry::Single(*first), others),
+        };
+        let Ok(()) = entries.push(entry) else {
+            return Err(AllocError);
+        };
+        rest = after;
     }
     Ok(entries)
 }

@@ -1,14 +1,10 @@
 use Rattle.std.proofs.Common.{◌∙◌, refl, sym, arith}
 use Rattle.std.proofs.lemmas.Grind.{common_steps}
 use Rattle.std.proofs.lemmas.List.{append-nil, nil_from_length}
-use Rattle.std.proofs.lemmas.Result.{IfOk-from_err}
 use Rattle.glob_pattern.proofs.token.bracket.read_entries.Goals as goal
 
-pub returns-in_err-entries : goal.returns-in_err-entries
-returns-in_err-entries g c = IfOk-from_err _ _ c.from_residual.ensures.0
-
 pub loop-rest-init : goal.loop-rest-init
-loop-rest-init g c = rw c.in_ok-entries.ensures.items refl
+loop-rest-init g c = rw c.in-Ok.ensures.items refl
 
 pub slice_bounds-others-count : goal.slice_bounds-others-count
 slice_bounds-others-count g c = c.in-len1-up.len_at_least
@@ -28,19 +24,10 @@ bounds-others-1 g c = c.in-len2-up.len_at_least
 pub slice_bounds-after-start : goal.slice_bounds-after-start
 slice_bounds-after-start g c = c.in-len2-up.len_at_least
 
-pub returns-in_err-push : goal.returns-in_err-push
-returns-in_err-push g c = IfOk-from_err _ _ c.from_residual-in_err-push.ensures.0
-
-pub returns-in_err-push-2 : goal.returns-in_err-push-2
-returns-in_err-push-2 g c = IfOk-from_err _ _ c.from_residual-in_err-push-2.ensures.0
-
 pub returns : goal.returns
 returns g c =
-    let none = nil_from_length c.loop-rest.rest.now (omega (arith, c.in_default.len_below)) in
+    let none = nil_from_length c.loop-rest.rest.now (omega (arith, c.in_default-rest.len_below)) in
     sym (append-nil c.loop-rest.entries.items) ∙ rw none at c.loop-rest.invariant
 
 pub loop-rest-preserved : goal.loop-rest-preserved
 loop-rest-preserved g c = grind (arith, common_steps)
-
-pub loop-rest-preserved-in-len1-up : goal.loop-rest-preserved-in-len1-up
-loop-rest-preserved-in-len1-up g c = grind (arith, common_steps)
