@@ -5,4 +5,3 @@ pub mod KeptLines
 pub mod KnownMoves
 pub mod LineSplits
 pub mod MatchingLines
-pub mod Passing

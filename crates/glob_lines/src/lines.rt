@@ -140,12 +140,14 @@ fn read_all<A: Allocator + Copy, R: Read>(
     let mut input = Vec::new(alloc);
     let mut filled = 0;
     loop {
-        let len = read_piece(&mut input, filled, reader)?;
-        if len == 0 {
-            input.truncate(filled);
-            return Ok(input);
+        match read_piece(&mut input, filled, reader) {
+            Ok(0) => {
+                input.truncate(filled);
+                return Ok(input);
+            }
+            Ok(len) => filled += len,
+            Err(fault) => return Err(fault),
         }
-        filled += len;
     }
 }
 
@@ -208,8 +210,10 @@ fn write_records<A: Allocator + Copy, S: Selection, W: Write>(
             return Err(LineFault::Memory);
         };
         if is_selected {
-            keep_record(first, end, &mut output, writer)?;
-            count = count.saturating_add(1);
+            match keep_record(first, end, &mut output, writer) {
+                Ok(()) => count = count.saturating_add(1),
+                Err(fault) => return Err(fault),
+            }
         }
         rest = after;
     }
@@ -270,8 +274,12 @@ fn push_record<A: Allocator>(
 ) -> Result<(), AllocError>
     ensures { OnOk result (output.new.items ≡ output.old.items ++ ended_record end bytes.now) }
 {
-    output.extend_from_slice(bytes)?;
-    output.push(end)?;
+    let Ok(()) = output.extend_from_slice(bytes) else {
+        return Err(AllocError);
+    };
+    let Ok(()) = output.push(end) else {
+        return Err(AllocError);
+    };
     Ok(())
 }
 
@@ -287,8 +295,10 @@ pub fn write_all<W: Write>(writer: &mut Watch<W>, bytes: &[u8]) -> io::Result<()
 {
     let mut rest = bytes;
     while !rest.is_empty() {
-        let len = writer.write(rest)?;
-        rest = &rest[len..];
+        match writer.write(rest) {
+            Ok(len) => rest = &rest[len..],
+            Err(error) => return Err(error),
+        }
     }
     Ok(())
 }
