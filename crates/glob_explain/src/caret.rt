@@ -1,4 +1,5 @@
 //! A text with a caret under one of its characters.
+use crate::rows::add_texts;
 use std::alloc::{AllocError, Allocator};
 
 /// Adds the text and, below it, a caret under the character of this number, counted from 0. A character is a column,
@@ -8,8 +9,7 @@ pub fn add_caret<A: Allocator>(
     text: &str,
     column: usize,
 ) -> Result<(), AllocError> {
-    lines.push_str(text)?;
-    lines.push('\n')?;
+    add_texts(lines, &[text, "\n"])?;
     for _ in 0..column {
         lines.push(' ')?;
     }

@@ -4,7 +4,7 @@ ghost use Rattle.glob_pattern.specs.Computing.Tokens.{tokens_of};
 ghost use Rattle.glob_pattern.specs.Matching.Texts.{Matches};
 
 use crate::rows::{add_row, part_of};
-use crate::stop::stop_lines;
+use crate::stop::add_stop;
 use glob_captures::{CapturesError, MOST_STEPS, Piece, captures, tokens};
 use glob_pattern::{MatchOptions, Pattern};
 use std::alloc::{AllocError, Allocator};
@@ -36,30 +36,37 @@ pub fn explain<A: Allocator + Copy>(
     ensures large { (result ≡ Err CapturesError.TooLarge)
         ↔ (MOST_STEPS < length (tokens_of (chars pattern.now)) * length text.now) }
 {
+    let mut lines = String::new(alloc);
     match captures(alloc, pattern, text, options)? {
-        Some(pieces) => Ok(Explanation {
-            is_match: true,
-            lines: piece_lines(alloc, pattern, text, pieces.as_slice())?,
-        }),
-        None => Ok(Explanation {
-            is_match: false,
-            lines: stop_lines(alloc, pattern, text, options)?,
-        }),
+        Some(pieces) => {
+            add_pieces(alloc, &mut lines, pattern, text, pieces.as_slice())?;
+            Ok(Explanation {
+                is_match: true,
+                lines,
+            })
+        }
+        None => {
+            add_stop(alloc, &mut lines, pattern, text, options)?;
+            Ok(Explanation {
+                is_match: false,
+                lines,
+            })
+        }
     }
 }
 
-/// A line for each token: how it is written, a tab, and its piece.
-fn piece_lines<A: Allocator + Copy>(
+/// Adds a line for each token: how it is written, a tab, and its piece.
+fn add_pieces<A: Allocator + Copy>(
     alloc: A,
+    lines: &mut String<A>,
     pattern: &Pattern<A>,
     text: &str,
     pieces: &[Piece],
-) -> Result<String<A>, AllocError> {
+) -> Result<(), AllocError> {
     let list = tokens(alloc, pattern)?;
-    let mut lines = String::new(alloc);
     for (token, piece) in list.iter().zip(pieces) {
         let written = part_of(pattern.as_str(), token.piece);
-        add_row(&mut lines, written, part_of(text, *piece))?;
+        add_row(lines, written, part_of(text, *piece))?;
     }
-    Ok(lines)
+    Ok(())
 }

@@ -15,6 +15,9 @@ const MOST_WAYS: usize = 8;
 /// the rules for `/` and a leading `.` are those of brackets alone.
 static UNLIKE_IN_BRACKETS: &[char] = &['*', '?', '!', '^', '-', ']', '/', '.'];
 
+/// The characters that have a meaning here, and what stands for each where it is escaped.
+static ESCAPED: &[(&str, &str)] = &[("*", "[*]"), ("?", "[?]"), ("[", "[[]"), ("]", "[]]")];
+
 /// What stands for a pattern with forms of other tools: one pattern, or one for each alternative. There is none where the
 /// pattern has no such form, where its meaning is not certain, and where it would take more than [`MOST_WAYS`].
 ///
@@ -44,8 +47,9 @@ fn are_accepted<A: Allocator + Copy>(alloc: A, texts: &[String<A>]) -> Result<bo
         → All (λ text. IsAccepted (chars (string_bytes text))) texts.now) }
 {
     for text in texts {
-        if !is_accepted(alloc, text.as_str())? {
-            return Ok(false);
+        match is_accepted(alloc, text.as_str()) {
+            Ok(true) => {}
+            other => return other,
         }
     }
     Ok(true)
@@ -79,13 +83,20 @@ fn add_form<'a, A: Allocator + Copy>(
         Some((inner, after)) if !are_characters(inner) => {
             add_alternatives(alloc, ways, inner, after)
         }
-        _ => {
-            let mut form = String::new(alloc);
-            let after = add_native(&mut form, text)?;
-            add_to_each(ways, form.as_str())?;
-            Ok(after)
-        }
+        _ => add_to_each(ways, text),
     }
+}
+
+/// Adds what stands for the first form of a text to each way, if that is no choice of longer texts, as `add_form`.
+fn add_to_each<'a, A: Allocator>(
+    ways: &mut [String<A>],
+    text: &'a str,
+) -> Result<Option<&'a str>, AllocError> {
+    let mut after = None;
+    for way in ways.iter_mut() {
+        after = add_native(way, text)?;
+    }
+    Ok(after)
 }
 
 /// Adds what stands for the first form of a text, if that is no choice of longer texts, as `add_form`.
@@ -104,25 +115,30 @@ fn add_native<'a, A: Allocator>(
             add_characters(made, inner)?;
             Ok(Some(after))
         }
-        None => Ok(Some(add_first(made, text)?)),
+        None => add_first(made, text),
     }
 }
 
-/// Adds a text to each way.
-fn add_to_each<A: Allocator>(ways: &mut [String<A>], text: &str) -> Result<(), AllocError> {
-    for way in ways.iter_mut() {
-        way.push_str(text)?;
-    }
-    Ok(())
-}
-
-/// Adds the first character.
-fn add_first<'a, A: Allocator>(made: &mut String<A>, text: &'a str) -> Result<&'a str, AllocError> {
+/// Adds the first character, if there is one, and returns what follows it.
+fn add_first<'a, A: Allocator>(
+    made: &mut String<A>,
+    text: &'a str,
+) -> Result<Option<&'a str>, AllocError> {
     let mut characters = text.chars();
     if let Some(c) = characters.next() {
         made.push(c)?;
     }
-    Ok(characters.as_str())
+    Ok(Some(characters.as_str()))
+}
+
+/// What stands for the first text of a table that a text begins with, and what follows it there.
+fn listed<'a>(table: &[(&str, &'static str)], text: &'a str) -> Option<(&'static str, &'a str)> {
+    for (form, native) in table {
+        if let Some(after) = text.strip_prefix(*form) {
+            return Some((native, after));
+        }
+    }
+    None
 }
 
 /// Adds the character that another tool escapes by a backslash: in a bracket if it has a meaning here. `None` before a
@@ -131,16 +147,13 @@ fn add_escaped<'a, A: Allocator>(
     made: &mut String<A>,
     text: &'a str,
 ) -> Result<Option<&'a str>, AllocError> {
+    if let Some((native, after)) = listed(ESCAPED, text) {
+        made.push_str(native)?;
+        return Ok(Some(after));
+    }
     match text.chars().next() {
-        None => Ok(None),
-        Some(c) if c.is_ascii_alphanumeric() => Ok(None),
-        Some('*' | '?' | '[' | ']') => {
-            made.push('[')?;
-            let after = add_first(made, text)?;
-            made.push(']')?;
-            Ok(Some(after))
-        }
-        Some(_) => Ok(Some(add_first(made, text)?)),
+        Some(c) if !c.is_ascii_alphanumeric() => add_first(made, text),
+        _ => Ok(None),
     }
 }
 

@@ -6,7 +6,7 @@ mod wanted;
 
 use crate::caret::add_caret;
 use crate::foreign::foreign_instead;
-use crate::rows::{add_row, part_of};
+use crate::rows::{add_row, add_texts, part_of};
 use glob_captures::{CapturesError, MOST_STEPS, Piece, Reached, Written, reach, tokens};
 use glob_pattern::{MatchOptions, Pattern, PatternRefusal};
 use std::alloc::{AllocError, Allocator};
@@ -28,29 +28,31 @@ struct Stop<'a> {
     options: MatchOptions,
 }
 
-/// The text with a caret where it stops, and below it what is wanted there, which option alone hinders a match, and what to
-/// write instead of a form of another tool.
-pub fn stop_lines<A: Allocator + Copy>(
+/// Adds the text with a caret where it stops, and below it what is wanted there, which option alone hinders a match, and what
+/// to write instead of a form of another tool.
+pub fn add_stop<A: Allocator + Copy>(
     alloc: A,
+    lines: &mut String<A>,
     pattern: &Pattern<A>,
     text: &str,
     options: MatchOptions,
-) -> Result<String<A>, CapturesError>
+) -> Result<(), CapturesError>
     ensures large { (result ≡ Err CapturesError.TooLarge)
         ↔ (MOST_STEPS < length (tokens_of (chars pattern.now)) * length text.now) }
 {
     let reached = reach(alloc, pattern, text, options)?;
-    Ok(lines_at(alloc, pattern, text, options, &reached)?)
+    Ok(add_reached(alloc, lines, pattern, text, options, &reached)?)
 }
 
-/// The lines of a text that is taken up to this place.
-fn lines_at<A: Allocator + Copy>(
+/// Adds the lines of a text that is taken up to this place.
+fn add_reached<A: Allocator + Copy>(
     alloc: A,
+    lines: &mut String<A>,
     pattern: &Pattern<A>,
     text: &str,
     options: MatchOptions,
     reached: &Reached<A>,
-) -> Result<String<A>, AllocError> {
+) -> Result<(), AllocError> {
     let list = tokens(alloc, pattern)?;
     let stop = Stop {
         pattern: pattern.as_str(),
@@ -60,14 +62,11 @@ fn lines_at<A: Allocator + Copy>(
         rest: text.get(reached.place..).unwrap_or(""),
         options,
     };
-    let mut lines = String::new(alloc);
-    add_stop(alloc, &mut lines, pattern, text, &stop)?;
-    add_advice(alloc, &mut lines, pattern)?;
-    Ok(lines)
+    add_lines(alloc, lines, pattern, text, &stop)
 }
 
-/// Adds the text with a caret, what is wanted there, and which option hinders.
-fn add_stop<A: Allocator + Copy>(
+/// Adds the text with a caret, what is wanted there, which option hinders, and what to write instead.
+fn add_lines<A: Allocator + Copy>(
     alloc: A,
     lines: &mut String<A>,
     pattern: &Pattern<A>,
@@ -75,40 +74,46 @@ fn add_stop<A: Allocator + Copy>(
     stop: &Stop<'_>,
 ) -> Result<(), AllocError> {
     add_caret(lines, text, stop.before.chars().count())?;
-    if !add_ending(alloc, lines, stop)? {
-        add_waiting(lines, stop)?;
-        add_end(lines, pattern, stop)?;
-    }
-    add_hindering(lines, pattern, text, stop.options)
+    add_reason(alloc, lines, pattern, stop)?;
+    add_hindering(lines, pattern, text, stop.options)?;
+    add_advice(alloc, lines, pattern)
 }
 
-/// Adds a line for the tokens after the last wildcard, where that took the whole text and the text does not end as they
-/// say. So of `*.rs` and `a.c` it is about `.rs`. False where there is no such line.
-fn add_ending<A: Allocator + Copy>(
+/// Adds what is wanted where the text stops.
+fn add_reason<A: Allocator + Copy>(
     alloc: A,
     lines: &mut String<A>,
+    pattern: &Pattern<A>,
     stop: &Stop<'_>,
-) -> Result<bool, AllocError> {
-    let Some(number) = first_of_ending(stop.tokens) else {
-        return Ok(false);
-    };
-    let Some(token) = stop.tokens.get(number) else {
-        return Ok(false);
-    };
-    if !stop.rest.is_empty() || !stop.waiting.contains(&number) {
-        return Ok(false);
+) -> Result<(), AllocError> {
+    match missing_ending(alloc, stop)? {
+        Some(ending) => add_row(lines, ending, "is wanted at the end of the text"),
+        None => {
+            add_waiting(lines, stop)?;
+            add_end(lines, pattern, stop)
+        }
     }
-    let ending = stop.pattern.get(token.piece.start..).unwrap_or("");
-    if ends_in(alloc, stop.before, ending, stop.options.case_sensitive)? {
-        return Ok(false);
-    }
-    add_row(lines, ending, "is wanted at the end of the text")?;
-    Ok(true)
 }
 
-/// The number of the first token after the last one that takes any number of characters. `None` where there is no such
+/// The tokens after the last wildcard, where that took the whole text and the text does not end as they say. So of `*.rs` and
+/// `a.c` this is `.rs`.
+fn missing_ending<'a, A: Allocator + Copy>(
+    alloc: A,
+    stop: &Stop<'a>,
+) -> Result<Option<&'a str>, AllocError> {
+    match first_of_ending(stop.tokens) {
+        Some((number, token)) if stop.rest.is_empty() && stop.waiting.contains(&number) => {
+            let ending = stop.pattern.get(token.piece.start..).unwrap_or("");
+            let ends = ends_in(alloc, stop.before, ending, stop.options.case_sensitive)?;
+            Ok(if ends { None } else { Some(ending) })
+        }
+        _ => Ok(None),
+    }
+}
+
+/// The first token after the last one that takes any number of characters, and its number. `None` where there is no such
 /// token, or none after it.
-fn first_of_ending(tokens: &[Written]) -> Option<usize> {
+fn first_of_ending(tokens: &[Written]) -> Option<(usize, Written)> {
     let mut first = None;
     let mut was_wildcard = false;
     for (number, token) in tokens.iter().enumerate() {
@@ -116,7 +121,7 @@ fn first_of_ending(tokens: &[Written]) -> Option<usize> {
             first = None;
             was_wildcard = true;
         } else if was_wildcard {
-            first = Some(number);
+            first = Some((number, *token));
             was_wildcard = false;
         }
     }
@@ -156,14 +161,12 @@ fn add_waiting<A: Allocator>(lines: &mut String<A>, stop: &Stop<'_>) -> Result<(
                 start: token.piece.start,
                 end,
             };
-            lines.push_str(part_of(stop.pattern, piece))?;
-            lines.push('\t')?;
-            let is_last = after.is_empty();
+            let written = part_of(stop.pattern, piece);
             add_want(
                 lines,
                 token.kind,
-                part_of(stop.pattern, piece),
-                is_last,
+                written,
+                after.is_empty(),
                 stop.rest,
                 stop.options,
             )?;
@@ -174,10 +177,14 @@ fn add_waiting<A: Allocator>(lines: &mut String<A>, stop: &Stop<'_>) -> Result<(
 
 /// Whether a token waits that takes one character alone.
 fn waits_for_one(stop: &Stop<'_>) -> bool {
-    stop.waiting.iter().any(|number| match stop.tokens.get(*number) {
-        Some(token) => !grows(token.kind),
-        None => false,
-    })
+    for number in stop.waiting {
+        if let Some(token) = stop.tokens.get(*number)
+            && !grows(token.kind)
+        {
+            return true;
+        }
+    }
+    false
 }
 
 /// Adds a line if the pattern may end where the text stops.
@@ -187,11 +194,12 @@ fn add_end<A: Allocator + Copy>(
     stop: &Stop<'_>,
 ) -> Result<(), AllocError> {
     if stop.waiting.is_empty() {
-        lines.push_str("the pattern ends here\n")?;
+        lines.push_str("the pattern ends here\n")
     } else if pattern.matches_with(stop.before, stop.options)? {
-        lines.push_str("the pattern may end here\n")?;
+        lines.push_str("the pattern may end here\n")
+    } else {
+        Ok(())
     }
-    Ok(())
 }
 
 /// Adds a line for each option that, changed alone, makes the text match.
@@ -240,18 +248,14 @@ fn add_patterns<A: Allocator>(
     lines: &mut String<A>,
     patterns: &[String<A>],
 ) -> Result<(), AllocError> {
-    let Some((first, others)) = patterns.split_first() else {
-        return Ok(());
+    let mut before = match patterns {
+        [] => return Ok(()),
+        [_] => "write instead: ",
+        [_, _, ..] => "write one pattern for each: ",
     };
-    lines.push_str(if others.is_empty() {
-        "write instead: "
-    } else {
-        "write one pattern for each: "
-    })?;
-    lines.push_str(first.as_str())?;
-    for other in others {
-        lines.push_str(", ")?;
-        lines.push_str(other.as_str())?;
+    for pattern in patterns {
+        add_texts(lines, &[before, pattern.as_str()])?;
+        before = ", ";
     }
     lines.push('\n')
 }

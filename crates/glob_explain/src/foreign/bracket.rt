@@ -1,4 +1,5 @@
 //! Brackets of other tools.
+use super::{add_first, listed};
 use std::alloc::{AllocError, Allocator};
 
 /// Classes of characters, as other tools write them in a bracket, and the ranges that stand for each.
@@ -17,21 +18,19 @@ pub fn add_bracket<'a, A: Allocator>(
     made: &mut String<A>,
     text: &'a str,
 ) -> Result<Option<&'a str>, AllocError> {
-    made.push('[')?;
-    let mut rest = text;
-    if let Some(after) = text.strip_prefix(['!', '^'].as_slice()) {
-        made.push('!')?;
-        rest = after;
-    }
+    let (start, mut rest) = match text.strip_prefix(['!', '^'].as_slice()) {
+        Some(after) => ("[!", after),
+        None => ("[", text),
+    };
+    made.push_str(start)?;
     for number in 0..text.len() {
         if number > 0 && rest.starts_with(']') {
-            made.push(']')?;
-            return Ok(rest.strip_prefix(']'));
+            return add_first(made, rest);
         }
-        let Some(after) = add_member(made, rest)? else {
-            return Ok(None);
-        };
-        rest = after;
+        match add_member(made, rest) {
+            Ok(Some(after)) => rest = after,
+            other => return other,
+        }
     }
     Ok(None)
 }
@@ -44,8 +43,9 @@ fn add_member<'a, A: Allocator>(
     if text.starts_with("[:") {
         return add_class(made, text);
     }
-    let Some(after) = add_end(made, text)? else {
-        return Ok(None);
+    let after = match add_end(made, text) {
+        Ok(Some(after)) => after,
+        other => return other,
     };
     match after.strip_prefix('-') {
         Some(last) if !last.is_empty() && !last.starts_with(']') => {
@@ -61,14 +61,13 @@ fn add_class<'a, A: Allocator>(
     made: &mut String<A>,
     text: &'a str,
 ) -> Result<Option<&'a str>, AllocError> {
-    for (class, ranges) in CLASSES {
-        if let Some(after) = text.strip_prefix(*class) {
+    match listed(CLASSES, text) {
+        Some((ranges, after)) if !after.starts_with('-') || after.starts_with("-]") => {
             made.push_str(ranges)?;
-            let is_end = after.starts_with('-') && !after.starts_with("-]");
-            return Ok(if is_end { None } else { Some(after) });
+            Ok(Some(after))
         }
+        _ => Ok(None),
     }
-    Ok(None)
 }
 
 /// Adds the character that a text begins with, or that is the end of a range.
@@ -76,12 +75,9 @@ fn add_end<'a, A: Allocator>(
     made: &mut String<A>,
     text: &'a str,
 ) -> Result<Option<&'a str>, AllocError> {
-    let mut characters = text.chars();
-    match characters.next() {
-        Some(c) if c != '\\' && !text.starts_with("[:") => {
-            made.push(c)?;
-            Ok(Some(characters.as_str()))
-        }
-        _ => Ok(None),
+    if text.is_empty() || text.starts_with('\\') || text.starts_with("[:") {
+        Ok(None)
+    } else {
+        add_first(made, text)
     }
 }

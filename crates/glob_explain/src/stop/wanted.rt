@@ -1,4 +1,5 @@
 //! What a token wants, in words.
+use crate::rows::add_texts;
 use glob_captures::{TokenKind, Written};
 use glob_pattern::MatchOptions;
 use std::alloc::{AllocError, Allocator};
@@ -22,8 +23,8 @@ pub fn run_end(token: Written, after: &[Written]) -> usize {
     end
 }
 
-/// Adds what a token of this kind wants where a text stops, under the options, and a line feed. `written` is the token, and
-/// the characters beside it, and `rest` what follows in the text.
+/// Adds a line for a token of this kind: how it is written, with the characters beside it, a tab, and what it wants where a
+/// text stops, under the options. `rest` is what follows in the text.
 pub fn add_want<A: Allocator>(
     lines: &mut String<A>,
     kind: TokenKind,
@@ -32,20 +33,22 @@ pub fn add_want<A: Allocator>(
     rest: &str,
     options: MatchOptions,
 ) -> Result<(), AllocError> {
-    lines.push_str(wish_of(kind, written))?;
-    if !options.case_sensitive && has_case(kind, written) {
-        lines.push_str(", in either case")?;
-    }
-    if kind == TokenKind::Recursive && !is_last && !rest.contains('/') {
-        lines.push_str(", but no / follows")?;
+    let case = if !options.case_sensitive && has_case(kind, written) {
+        ", in either case"
     } else {
-        lines.push_str(rules_of(kind, options))?;
-    }
-    lines.push('\n')
+        ""
+    };
+    let rules = if kind == TokenKind::Recursive && !is_last && !rest.contains('/') {
+        ", but no / follows"
+    } else {
+        rules_of(kind, options)
+    };
+    let wish = wish_of(kind, written);
+    add_texts(lines, &[written, "\t", wish, case, rules, "\n"])
 }
 
 /// What a token of this kind wants under no rule.
-fn wish_of(kind: TokenKind, written: &str) -> &'static str {
+fn wish_of<'a>(kind: TokenKind, written: &str) -> &'a str {
     match kind {
         TokenKind::Literal if written.chars().count() > 1 => "wants these characters",
         TokenKind::Literal => "wants this character",
@@ -68,7 +71,7 @@ fn has_case(kind: TokenKind, written: &str) -> bool {
 }
 
 /// What the rules of the options forbid a token of this kind.
-fn rules_of(kind: TokenKind, options: MatchOptions) -> &'static str {
+fn rules_of<'a>(kind: TokenKind, options: MatchOptions) -> &'a str {
     if kind == TokenKind::Literal {
         return "";
     }
