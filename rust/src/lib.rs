@@ -1,27 +1,50 @@
-//! Unix shell patterns, with the API of the crate `glob` 0.3, matched by a library whose every function is proved.
+//! Shell patterns such as `src/**/*.rs` that match texts and find files, with the API of the crate `glob` 0.3.
 //!
-//! A program that uses `glob` changes its `use` line, or its line of `Cargo.toml` to
-//! `glob = { package = "cadmiumdove", .. }`:
+//! A program that uses `glob` stays as it is, with one line of `Cargo.toml` changed to
+//! `glob = { package = "cadmiumdove", version = "0.3" }`:
 //!
 //! ```
-//! use cadmiumdove::{MatchOptions, Pattern};
+//! use cadmiumdove::{glob, Pattern};
 //!
 //! let sources = Pattern::new("src/**/*.rs").unwrap();
 //! assert!(sources.matches("src/walk/lines.rs"));
 //! assert!(!sources.matches("src/walk/lines.c"));
 //!
-//! for path in cadmiumdove::glob("src/*.rs").unwrap().flatten() {
+//! for path in glob("src/*.rs").unwrap().flatten() {
 //!     assert!(path.starts_with("src"));
 //! }
 //! ```
+//!
+//! Beside it, each in a module of its own: walks with a limit, over any tree, or that ask their caller ([`walk`]), sets
+//! of patterns ([`set`]), the rules of ignore files ([`ignore`]), walks that leave out what such say ([`prune`]), and the
+//! pieces of a text that a pattern's wildcards take ([`captures`](mod@captures)). [`recipes`] has examples.
+//!
+//! What matches and what goes from path to path is made from sources in which every function is proved to do what its
+//! contract says; README says what that means for this crate. A match takes at most as many steps as the pattern has
+//! characters, times those of the text, whatever the pattern; and nothing here calls itself.
 
-mod border;
-mod error;
-mod options;
+#![forbid(unsafe_code)]
+#![warn(missing_docs)]
+
+#[cfg(windows)]
+compile_error!("paths of Windows have prefixes and `\\`, which no pattern of this crate knows");
+
+mod debug;
+mod disk;
+mod lanes;
 mod pattern;
-mod walk;
+mod proved;
 
-pub use error::PatternError;
-pub use options::MatchOptions;
-pub use pattern::Pattern;
-pub use walk::{glob, glob_with, GlobError, GlobResult, Paths};
+pub mod captures;
+pub mod ignore;
+pub mod prune;
+pub mod set;
+pub mod walk;
+
+#[doc = include_str!("../RECIPES.md")]
+pub mod recipes {}
+
+pub use disk::{glob, glob_with};
+pub use proved::glob_pattern::{MatchOptions, Pattern, PatternError};
+pub use proved::glob_walk::{GlobError, GlobResult};
+pub use walk::Paths;

@@ -1,4 +1,4 @@
-//! Where `glob` answers otherwise: names that are not UTF-8, links that lead nowhere, kinds that come with a listing; and
+//! Where releases of `glob` differ: names that are not UTF-8, links that lead nowhere, kinds that come with a listing; and
 //! what it has no test for.
 
 use std::error::Error;
@@ -10,7 +10,8 @@ use std::os::unix::fs::{symlink, PermissionsExt};
 use std::path::PathBuf;
 use std::{env, process};
 
-use cadmiumdove::{glob, GlobError, GlobResult};
+use cadmiumdove::walk::GlobCause;
+use cadmiumdove::{glob, GlobResult};
 
 /// A directory of its own.
 fn folder(name: &str) -> PathBuf {
@@ -21,22 +22,29 @@ fn folder(name: &str) -> PathBuf {
 }
 
 #[test]
-fn a_name_that_is_not_utf8_is_an_error_of_its_directory() {
+fn a_name_that_is_not_utf8_is_left_out_alone() {
     let root = folder("bytes");
     File::create(root.join("a")).unwrap();
     File::create(root.join(OsStr::from_bytes(b"\xff"))).unwrap();
-    let mut items: Vec<GlobResult> = glob(&format!("{}/*", root.display())).unwrap().collect();
-    // a literal lists nothing
-    let named = glob(&format!("{}/a", root.display())).unwrap().filter(Result::is_ok).count();
+    fs::create_dir(root.join(OsStr::from_bytes(b"d\xff"))).unwrap();
+    File::create(root.join(OsStr::from_bytes(b"d\xff/a"))).unwrap();
+    let found = ["*", "**/*", "a", "*/a"].map(|rest| {
+        let items = glob(&format!("{}/{rest}", root.display())).unwrap();
+        items.map(Result::unwrap).collect::<Vec<PathBuf>>()
+    });
     fs::remove_dir_all(&root).unwrap();
-    assert_eq!((items.len(), named), (1, 1));
-    let error: GlobError = items.remove(0).unwrap_err();
-    assert_eq!(error.path(), root);
-    assert_eq!(error.error().kind(), ErrorKind::InvalidData);
-    let text = format!("attempting to read `{}` resulted in an error: a name is not UTF-8", root.display());
-    assert_eq!(error.to_string(), text);
-    assert_eq!(error.source().map(ToString::to_string), Some("a name is not UTF-8".to_owned()));
-    assert_eq!(error.into_error().kind(), ErrorKind::InvalidData);
+    let alone = vec![root.join("a")];
+    assert_eq!(found, [alone.clone(), alone.clone(), alone, vec![]]);
+}
+
+#[test]
+fn a_path_that_is_too_long_leads_nowhere() {
+    let root = folder("long_path");
+    let long = "x".repeat(300);
+    let counts = [long.clone(), format!("{long}/*"), format!("**/{long}")]
+        .map(|rest| glob(&format!("{}/{rest}", root.display())).unwrap().map(Result::unwrap).count());
+    fs::remove_dir_all(&root).unwrap();
+    assert_eq!(counts, [0; 3]);
 }
 
 #[test]
@@ -89,6 +97,9 @@ fn a_directory_that_vanishes_after_it_was_listed_is_an_error() {
     fs::remove_dir_all(root.join("b")).unwrap();
     let error = paths.next().unwrap().unwrap_err();
     assert_eq!((error.path(), error.error().kind()), (&*root.join("b"), ErrorKind::NotFound));
+    assert_eq!(error.reason(), GlobCause::Read);
+    let cause = error.source().and_then(|cause| cause.downcast_ref::<io::Error>()).unwrap();
+    assert_eq!(cause.kind(), ErrorKind::NotFound);
     assert_eq!(io::Error::from(error).kind(), ErrorKind::NotFound);
     assert!(paths.next().is_none());
     fs::remove_dir_all(&root).unwrap();

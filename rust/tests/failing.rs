@@ -1,6 +1,8 @@
 //! A listing that fails between two entries. No directory does so when it is wanted, so this program has a `readdir64` of
 //! its own.
 
+#![cfg(target_os = "linux")]
+
 use std::ffi::{c_char, c_int, c_void};
 use std::fs::{self, File};
 use std::sync::atomic::{AtomicUsize, Ordering};
@@ -25,7 +27,7 @@ unsafe extern "C" fn readdir64(directory: *mut c_void) -> *mut c_void {
         *__errno_location() = EIO;
         return std::ptr::null_mut();
     }
-    let next = dlsym(RTLD_NEXT, b"readdir64\0".as_ptr().cast());
+    let next = dlsym(RTLD_NEXT, c"readdir64".as_ptr());
     std::mem::transmute::<*mut c_void, extern "C" fn(*mut c_void) -> *mut c_void>(next)(directory)
 }
 

@@ -1,4 +1,4 @@
-//! What a program that uses patterns of `glob` asks. `tests/border.sh` runs it over `glob`, too: but for the `use` line
+//! What a program that uses patterns of `glob` asks. `tests/rust.sh` runs it over `glob`, too: but for the `use` line
 //! it is the same program.
 
 use std::collections::hash_map::DefaultHasher;

@@ -1,4 +1,4 @@
-//! What a program that walks by `glob` asks. `tests/border.sh` runs it over `glob`, too.
+//! What a program that walks by `glob` asks. `tests/rust.sh` runs it over `glob`, too.
 
 use std::error::Error;
 use std::fs::{self, File};
@@ -48,7 +48,8 @@ impl Drop for Folder {
 
 #[test]
 fn names_and_wildcards() {
-    let folder = Folder::new("names", &["a", "ab", "b/a", "b/c/a", "c/a", "c/d", "é", "x\ny", "[", "d/", "b/c/..e", "b/c/e~"]);
+    let folder =
+        Folder::new("names", &["a", "ab", "b/a", "b/c/a", "c/a", "c/d", "é", "x\ny", "[", "d/", "b/c/..e", "b/c/e~"]);
     folder.finds("a", &["a"]);
     folder.finds("nothing", &[]);
     folder.finds("a/b", &[]);
@@ -64,6 +65,15 @@ fn names_and_wildcards() {
     folder.finds("b/c/a/", &[]);
     folder.finds("b/c/", &["b/c"]);
     folder.finds("b/c/*", &["b/c/..e", "b/c/a", "b/c/e~"]);
+}
+
+#[test]
+fn blanks() {
+    let folder = Folder::new("blanks", &["x", "x ", " y/z ", " y/z"]);
+    folder.finds("x ", &["x "]);
+    folder.finds("* ", &["x "]);
+    folder.finds(" y/z ", &[" y/z "]);
+    folder.finds("**/z ", &[" y/z "]);
 }
 
 #[test]
@@ -136,6 +146,9 @@ fn links() {
     folder.finds("*/x", &["d/x", "to_d/x"]);
     folder.finds("to*", &["to_d", "to_f", "to_nowhere"]);
     folder.finds("to*/", &["to_d"]);
+    folder.finds("to_d/*", &["to_d/x"]);
+    folder.finds("to_f/*", &[]);
+    folder.finds("to_nowhere/", &[]);
     folder.finds("**/x", &["d/x", "to_d/x"]);
 }
 

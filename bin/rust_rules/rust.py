@@ -1,0 +1,64 @@
+"""What Rust says otherwise."""
+import re
+
+from .scan import closing, mask, owner
+
+# Functions that Rust has in a trait.
+TRAITS = {"clone": "Clone", "default": "Default", "from_str": "std::str::FromStr"}
+# What Rust says otherwise, by a pattern each.
+REWRITES = [
+    (r"\bfmt<W: fmt::Write>\(&self, f: &mut fmt::Formatter<W>\)", "fmt(&self, f: &mut fmt::Formatter<'_>)"),
+    (r"\bf\.write_str\(self\.as_str\(\)\)", "f.pad(self.as_str())"),  # Rust's obeys width and precision
+    (r'\.field\("text", (&self\.as_str\(\))\)\s*\.finish\(\)', r'.field("original", \1).finish_non_exhaustive()'),
+    (r"\bstd::simd::prelude::\*", "crate::lanes::u8x16"),
+    (r"-> Path<'_>", "-> &Path"),
+    (r"\*self\.error\(\)", "self.error"),  # an I/O error is no Copy
+    (r"\bpub fn cause\(&self\)", "pub fn reason(&self)"),  # `cause` is a method of Rust's trait Error
+    (r"\bVec::from_slice\(", "Vec::from("),
+    (r"\bString::from_str\(", "String::from("),
+    (r"(pub trait \w+): Drop \{", r"\1 {"),
+    (r"'(sets|kept): ", ""),  # labels that proofs name
+    (r"const (\w+): &'static str", r"const \1: &str"),
+    (r"\bis refused with `Syntax`: ", "is refused: "),
+]
+
+
+def with_traits(text):
+    """With functions that Rust has in a trait in an `impl` of that."""
+    for name, trait in TRAITS.items():
+        found = re.search(rf"(?m)(^    ///.*\n|^    #\[.*\n)*^    pub fn {name}\b", text)
+        if not found or (name == "clone" and "fn clone(&self) -> Self" not in text):
+            continue
+        start = text.index("{", found.end())
+        end = closing(mask(text), start) + 1
+        kind = owner(text, found.start())
+        item = text[found.start():end].replace(f"pub fn {name}", f"fn {name}")
+        answer = re.search(r"Result<Self, (\w+)>", item)
+        item = (f"    type Err = {answer[1]};\n\n" if answer else "") + item
+        params = re.search(rf"(?m)^impl(<.*?>)? {kind}(<.*?>)? \{{", text)
+        parted = f"}}\n\nimpl {trait} for {kind} {{\n{item}\n}}\n\nimpl{params[1] or ''} {kind}{params[2] or ''} {{"
+        text = text[:found.start()] + parted + text[end:]
+    return re.sub(r"(?m)^impl(<.*?>)? \w+(<.*?>)? \{\s*\}\n*", "", text)
+
+
+def without_unused(text, gone, traits):
+    """Without what is gone, or never named, in `use` lines, and without modules that are gone. Traits are imported for
+    their methods."""
+    code = re.sub(r"(?m)^(pub )?use [^;]*;", "", mask(text))
+    seen = set()
+
+    def names_in(public, front, names):
+        kept = [name.strip() for name in names.split(",") if name.strip()]
+        kept = [name for name in dict.fromkeys(kept) if name not in gone and (front, name) not in seen]
+        if not public:
+            kept = [name for name in kept if name in traits or name == "*"
+                    or re.search(rf"\b{front.split('::')[-2] if name == 'self' else name}\b", code)]
+        seen.update((front, name) for name in kept)
+        if not kept or front.split("::")[0] in gone:
+            return ""
+        return f"{public}use {front}{{{', '.join(kept)}}};\n"
+
+    for names in (r"\{([^{}]*)\}", r"(\w+|\*)"):
+        line = rf"(?m)^(pub )?use ((?:\w+::)+){names};\n"
+        text = re.sub(line, lambda use: names_in(use[1] or "", use[2], use[3]), text)
+    return re.sub(r"(?m)^((?:pub )?mod (\w+);)\n", lambda mod: "" if mod[2] in gone else mod[0], text)

@@ -1,0 +1,37 @@
+//! `Debug` of types whose fields would fill the screen.
+
+use std::fmt;
+
+use crate::ignore::IgnoreList;
+use crate::set::PatternSet;
+use crate::walk::{Step, WalkMachine};
+
+impl fmt::Debug for WalkMachine {
+    fn fmt(&self, f: &mut fmt::Formatter<'_>) -> fmt::Result {
+        f.debug_struct("WalkMachine").field("path", &self.path()).field("spent", &self.spent()).finish_non_exhaustive()
+    }
+}
+
+impl fmt::Debug for Step {
+    fn fmt(&self, f: &mut fmt::Formatter<'_>) -> fmt::Result {
+        match self {
+            Step::Look => f.write_str("Look"),
+            Step::List => f.write_str("List"),
+            Step::ListNames => f.write_str("ListNames"),
+            Step::Item(item) => f.debug_tuple("Item").field(item).finish(),
+            Step::Done => f.write_str("Done"),
+        }
+    }
+}
+
+impl fmt::Debug for PatternSet {
+    fn fmt(&self, f: &mut fmt::Formatter<'_>) -> fmt::Result {
+        f.debug_list().entries(self.patterns().iter().map(|pattern| pattern.as_str())).finish()
+    }
+}
+
+impl fmt::Debug for IgnoreList {
+    fn fmt(&self, f: &mut fmt::Formatter<'_>) -> fmt::Result {
+        f.debug_struct("IgnoreList").finish_non_exhaustive()
+    }
+}

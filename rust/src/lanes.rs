@@ -1,0 +1,50 @@
+//! Sixteen bytes at once, in two words: what the search for a needle uses of `std::simd`, which stable Rust lacks.
+
+use std::ops::BitOr;
+
+/// Sixteen bytes.
+#[allow(non_camel_case_types)]
+#[derive(Clone, Copy)]
+pub struct u8x16([u64; 2]);
+
+/// A word with this byte eight times is the byte times this.
+const EACH: u64 = 0x0101_0101_0101_0101;
+
+impl u8x16 {
+    #[inline(always)]
+    pub fn from_slice(bytes: &[u8]) -> Self {
+        let word = |at: usize| u64::from_le_bytes(std::array::from_fn(|lane| bytes[at + lane]));
+        u8x16([word(0), word(8)])
+    }
+
+    #[inline(always)]
+    pub fn splat(byte: u8) -> Self {
+        u8x16([u64::from(byte) * EACH; 2])
+    }
+
+    /// The last bit of each byte that is the same.
+    #[inline(always)]
+    pub fn simd_eq(self, other: Self) -> Self {
+        u8x16(std::array::from_fn(|n| {
+            let differs = self.0[n] ^ other.0[n];
+            let sums = (differs & (0x7f * EACH)) + 0x7f * EACH;
+            (!(sums | differs) >> 7) & EACH
+        }))
+    }
+
+    /// The last bits of the bytes.
+    #[inline(always)]
+    pub fn to_bitmask(self) -> u64 {
+        let bits = |word: u64| word.wrapping_mul(0x0102_0408_1020_4080) >> 56;
+        bits(self.0[0]) | (bits(self.0[1]) << 8)
+    }
+}
+
+impl BitOr for u8x16 {
+    type Output = Self;
+
+    #[inline(always)]
+    fn bitor(self, other: Self) -> Self {
+        u8x16(std::array::from_fn(|n| self.0[n] | other.0[n]))
+    }
+}

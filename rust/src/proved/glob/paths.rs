@@ -1,0 +1,93 @@
+//! Made by `bin/rust_crate` from `crates/glob/src/paths.rt`.
+//! Contracts are there, and their proofs in `crates/glob/proofs`; it is changed there alone.
+//!
+//! A walk over a tree, item by item.
+
+use crate::proved::glob_pattern::{MatchOptions, PatternError};
+use crate::proved::glob_tree::Tree;
+use crate::proved::glob_walk::{GlobResult, Step, WalkMachine};
+use std::fmt;
+
+/// The items of a walk: the paths that a pattern leads to in a tree, in order, and an error for each directory that
+/// could not be listed. Over files `x` and `y`, `*` gives `x` and then `y`.
+///
+/// An item may also be a refusal, which is the last one: the limit was reached, and the item's path is where. After a
+/// refusal, and after the first `None`, only `None` follows.
+pub struct Paths<T: Tree> {
+    tree: T,
+    machine: WalkMachine,
+}
+
+/// How many units were charged, and how many items given.
+impl<T: Tree> fmt::Debug for Paths<T> {
+    fn fmt(&self, f: &mut fmt::Formatter<'_>) -> fmt::Result {
+        f.debug_struct("Paths").field("spent", &self.spent()).field("given", &self.given()).finish()
+    }
+}
+
+impl<T: Tree> Paths<T> {
+    /// The tree answers a walk that has done nothing yet.
+    pub(crate) fn new(tree: T, machine: WalkMachine) -> Self {
+        Paths { tree, machine }
+    }
+
+    /// How many units of work were charged: never more than the limit. It is 0 before the first call of `next`.
+    pub fn spent(&self) -> u64 {
+        self.machine.spent()
+    }
+
+    /// How many items `next` gave, a refusal too: at most one more than `spent`. After two paths it is 2.
+    pub fn given(&self) -> u128 {
+        self.machine.given()
+    }
+
+    /// The tree, as the walk leaves it.
+    pub(crate) fn into_tree(self) -> T {
+        self.tree
+    }
+}
+
+impl<T: Tree> Iterator for Paths<T> {
+    type Item = GlobResult;
+
+    /// The next item, or `None` where none is left. So a walk by `*` over a file `x` gives `Ok` of `x`, and then
+    /// `None`.
+    ///
+    /// An error's cause is `Read` where a directory could not be listed, and the walk goes on; `Limit` where the next
+    /// unit of work does not fit the limit. After the last two only `None` follows.
+    fn next(&mut self) -> Option<GlobResult> {
+        let mut step = self.machine.next();
+        loop {
+            step = match step {
+                Step::Look => {
+                    let seen = self.tree.look(self.machine.path());
+                    self.machine.looked(seen)
+                }
+                Step::List => {
+                    let listed = self.tree.list(self.machine.path());
+                    self.machine.listed(listed)
+                }
+                Step::ListNames => {
+                    let named = self.tree.list_names(self.machine.path());
+                    self.machine.listed(named)
+                }
+                Step::Item(item) => return Some(item),
+                Step::Done => return None,
+            };
+        }
+    }
+}
+
+/// Walks `tree` after the components of a pattern, with at most `limit` units of work: one for each lookup, one for
+/// each listing, and one for each entry of a listing. Nothing is looked up before the first call of `next`.
+///
+/// So `a/*` gives `a/b` if `b` is the only entry of `a`, for 4 units: the lookup of the start, that of `a`, the listing
+/// of `a`, and its entry.
+///
+/// A pattern with a fault is refused: the fault of the whole text, or else that of the first component that has one, as
+/// where a bracket holds `/`. Its place counts characters, from the start of the text or of that component: for
+/// `x/a[/]b` it is 1. The tree is then dropped.
+pub fn glob_in<T: Tree>(tree: T, pattern: &str, options: MatchOptions, limit: u64) -> Result<Paths<T>, PatternError> {
+    let machine = WalkMachine::new(pattern, options, limit)?;
+    Ok(Paths::new(tree, machine))
+}

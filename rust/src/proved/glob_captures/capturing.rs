@@ -1,0 +1,87 @@
+//! Made by `bin/rust_crate` from `crates/glob_captures/src/capturing.rt`.
+//! Contracts are there, and their proofs in `crates/glob_captures/proofs`; it is changed there alone.
+
+use crate::proved::glob_captures::error::CapturesError;
+use crate::proved::glob_captures::piece::Piece;
+use crate::proved::glob_captures::rests::{rests_of, Rests};
+use crate::proved::glob_captures::span::{span_of, Span};
+use crate::proved::glob_captures::steps::{bytes_of, form_of, is_too_large, opens};
+use crate::proved::glob_pattern::{characters_of, tokens_len, MatchOptions, Pattern};
+
+/// The piece of the text that each token of the pattern takes, as places in bytes, one after another; `None` exactly if
+/// the pattern does not match the text. Where the text can be split in several ways, the first piece is as short as any
+/// split allows, then the second, and so on.
+///
+/// So `*.*` takes `a.b.rs` by the pieces `a`, `.` and `b.rs`: from 0 up to 1, up to 2, and up to 6.
+///
+/// A call takes time and memory at most proportional to one more than the tokens, times one more than the bytes of the
+/// text. The errors are:
+///
+/// - [`CapturesError::TooLarge`]: the tokens times the bytes are more than [`MOST_STEPS`](crate::proved::glob_captures::MOST_STEPS). Nothing was
+///   done.
+pub fn captures(pattern: &Pattern, text: &str, options: MatchOptions) -> Result<Option<Vec<Piece>>, CapturesError> {
+    if is_too_large(pattern, text) {
+        return Err(CapturesError::TooLarge);
+    }
+    if !pattern.matches_with(text, options) {
+        return Ok(None);
+    }
+    let characters = characters_of(text);
+    let span = span_of(pattern);
+    let rests = rests_of(pattern, options, characters.as_slice(), span);
+    let pieces = shortest_pieces(pattern, options, characters.as_slice(), span, rests.as_slice());
+    Ok(Some(pieces))
+}
+
+/// The places of the pieces, each as short as those after it allow.
+fn shortest_pieces(pattern: &Pattern, options: MatchOptions, text: &[char], span: Span, rests: &[Rests]) -> Vec<Piece> {
+    let tokens = tokens_len(pattern);
+    let mut pieces = Vec::with_capacity(tokens);
+    let mut place = 0;
+    let mut start = 0;
+    for token in 0..tokens {
+        let after = shortest_end(pattern, token, options, text, place, span, rests);
+        let end = start + bytes_of(&text[place..after]);
+        pieces.push(Piece { start, end });
+        place = after;
+        start = end;
+    }
+    pieces
+}
+
+/// Where the shortest piece of a token from a place on ends. The options are those that `rests` was made with.
+fn shortest_end(
+    pattern: &Pattern,
+    token: usize,
+    options: MatchOptions,
+    text: &[char],
+    place: usize,
+    span: Span,
+    rests: &[Rests],
+) -> usize {
+    let _options = options;
+    let form = form_of(pattern, token);
+    if !form.grows {
+        place + 1
+    } else if token == span.last {
+        text.len() - (tokens_len(pattern) - 1 - token)
+    } else {
+        let next = rests[span.last - 1 - token].as_slice();
+        first_end(form.closes, text, place, next)
+    }
+}
+
+/// The first place where a piece from a place on may end, or the end of the text.
+fn first_end(closes: bool, text: &[char], place: usize, next: &[bool]) -> usize {
+    let mut end = place;
+    while end < text.len() && !may_end(closes, text, next, place, end) {
+        end += 1;
+    }
+    end
+}
+
+/// Whether a piece between two places may end there, where `next` says from where on the tokens after it take the rest.
+#[inline(always)]
+fn may_end(closes: bool, text: &[char], next: &[bool], place: usize, end: usize) -> bool {
+    next[end] && (end == place || !closes || opens(text, end))
+}

@@ -1,0 +1,23 @@
+//! Made by `bin/rust_crate` from `crates/glob_captures/src/error.rt`.
+//! Contracts are there, and their proofs in `crates/glob_captures/proofs`; it is changed there alone.
+
+use std::error::Error;
+use std::fmt;
+
+/// Why [`captures`](crate::proved::glob_captures::captures) or [`reach`](crate::proved::glob_captures::reach) has no
+/// answer.
+#[derive(Debug)]
+pub enum CapturesError {
+    /// The pattern's tokens times the text's bytes are more than [`MOST_STEPS`](crate::proved::glob_captures::MOST_STEPS). Nothing was done.
+    TooLarge,
+}
+
+impl fmt::Display for CapturesError {
+    fn fmt(&self, f: &mut fmt::Formatter<'_>) -> fmt::Result {
+        f.write_str(match self {
+            CapturesError::TooLarge => "the pattern's tokens times the text's bytes are more than 67108864",
+        })
+    }
+}
+
+impl Error for CapturesError {}

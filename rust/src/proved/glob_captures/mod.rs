@@ -1,0 +1,21 @@
+//! Made by `bin/rust_crate` from `crates/glob_captures/src/lib.rt`.
+//! Contracts are there, and their proofs in `crates/glob_captures/proofs`; it is changed there alone.
+//!
+//! Which piece of a text each token of a pattern takes, and how far a text that does not match could be taken.
+
+mod capturing;
+mod error;
+mod piece;
+mod reaching;
+mod rests;
+mod span;
+mod steps;
+mod written;
+
+pub use crate::proved::glob_pattern::TokenKind;
+pub use capturing::captures;
+pub use error::CapturesError;
+pub use piece::Piece;
+pub use reaching::{reach, Reached};
+pub use steps::MOST_STEPS;
+pub use written::{tokens, Written};

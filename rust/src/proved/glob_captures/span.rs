@@ -1,0 +1,32 @@
+//! Made by `bin/rust_crate` from `crates/glob_captures/src/span.rt`.
+//! Contracts are there, and their proofs in `crates/glob_captures/proofs`; it is changed there alone.
+//!
+//! The wildcards `*` and `**` of a pattern: between them pieces have to be searched.
+
+use crate::proved::glob_captures::steps::form_of;
+use crate::proved::glob_pattern::{tokens_len, Pattern};
+
+/// The numbers of the first and the last token that is `*` or `**`. With none, both are the number of all tokens.
+#[derive(Clone, Copy)]
+pub struct Span {
+    /// That of the first.
+    pub first: usize,
+    /// That of the last.
+    pub last: usize,
+}
+
+/// Where the wildcards are.
+pub fn span_of(pattern: &Pattern) -> Span {
+    let tokens = tokens_len(pattern);
+    let mut first = tokens;
+    let mut last = tokens;
+    for token in 0..tokens {
+        if form_of(pattern, token).grows {
+            last = token;
+            if first == tokens {
+                first = token;
+            }
+        }
+    }
+    Span { first, last }
+}

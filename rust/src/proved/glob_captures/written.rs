@@ -1,0 +1,76 @@
+//! Made by `bin/rust_crate` from `crates/glob_captures/src/written.rt`.
+//! Contracts are there, and their proofs in `crates/glob_captures/proofs`; it is changed there alone.
+//!
+//! How the tokens of a pattern are written.
+
+use crate::proved::glob_captures::piece::Piece;
+use crate::proved::glob_pattern::{characters_of, token_kind, tokens_len, Pattern, TokenKind};
+
+/// A token of a pattern: what kind it is, and where it is written, as places in bytes of the pattern's text.
+#[derive(Clone, Copy, Debug, PartialEq, Eq)]
+pub struct Written {
+    /// What kind of token it is.
+    pub kind: TokenKind,
+    /// Where it is written.
+    pub piece: Piece,
+}
+
+/// The tokens of a pattern, in order. Those of `a[bc]*` are a `Literal` from 0 up to 1, a `OneOf` up to 5, and an
+/// `AnySequence` up to 6: each is written from where the one before it ends. Neighbouring `**/` are one token, and are
+/// written as one.
+pub fn tokens(pattern: &Pattern) -> Vec<Written> {
+    let text = characters_of(pattern.as_str());
+    let mut list = Vec::new();
+    let mut place = 0;
+    let mut start = 0usize;
+    for token in 0..tokens_len(pattern) {
+        let kind = token_kind(pattern, token);
+        let after = token_end(text.as_slice(), place, kind);
+        let end = start.saturating_add(bytes_between(text.as_slice(), place, after));
+        list.push(Written { kind, piece: Piece { start, end } });
+        place = after;
+        start = end;
+    }
+    list
+}
+
+/// How many bytes the characters between two places have.
+fn bytes_between(text: &[char], start: usize, end: usize) -> usize {
+    let mut bytes = 0usize;
+    for c in &text[start..end] {
+        bytes = bytes.saturating_add(c.len_utf8());
+    }
+    bytes
+}
+
+/// The place after the token of this kind that is written from a place on.
+fn token_end(text: &[char], place: usize, kind: TokenKind) -> usize {
+    match kind {
+        TokenKind::Literal | TokenKind::AnyChar | TokenKind::AnySequence => text.len().min(place + 1),
+        TokenKind::Recursive => recursive_end(text, place),
+        TokenKind::OneOf => bracket_end(text, place, 2),
+        TokenKind::NoneOf => bracket_end(text, place, 3),
+    }
+}
+
+/// The place after the `**` from a place on, each with the `/` after it.
+fn recursive_end(text: &[char], place: usize) -> usize {
+    let mut end = place;
+    while end + 2 <= text.len() && text[end] == '*' && text[end + 1] == '*' {
+        end += 2;
+        if end < text.len() && text[end] == '/' {
+            end += 1;
+        }
+    }
+    end
+}
+
+/// The place after the `]` that ends the bracket at a place, of which the first characters end none.
+fn bracket_end(text: &[char], place: usize, skipped: usize) -> usize {
+    for end in place..text.len() {
+        if place + skipped <= end && text[end] == ']' {
+            return end + 1;
+        }
+    }
+    text.len()
+}

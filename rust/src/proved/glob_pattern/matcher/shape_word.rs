@@ -1,0 +1,101 @@
+//! Made by `bin/rust_crate` from `crates/glob_pattern/src/matcher/shape_word.rt`.
+//! Contracts are there, and their proofs in `crates/glob_pattern/proofs`; it is changed there alone.
+//!
+//! The shapes of neighbouring tokens as bits, and one step of a position set over them.
+
+use super::{Shape, Shaped, WORD};
+
+/// The shapes of 63 neighbouring tokens, or fewer at the end: bit n is of the nth of them.
+#[derive(Clone, Copy)]
+pub struct ShapeWord {
+    /// The tokens that there are.
+    pub tokens: u64,
+    /// The wildcards, whose pieces may have any length.
+    pub wildcards: u64,
+    /// Recursive wildcards that other tokens follow: a piece that is not empty ends at a component start.
+    pub recursive: u64,
+}
+
+/// The words of all tokens, at least one.
+pub fn shape_words<T: Shaped>(tokens: &[T]) -> Vec<ShapeWord> {
+    let count = tokens.len().div_ceil(WORD).max(1);
+    let mut words = Vec::with_capacity(count);
+    for n in 0..count {
+        words.push(ShapeWord::new(tokens, WORD * n));
+    }
+    words
+}
+
+impl ShapeWord {
+    /// The shapes of no tokens.
+    pub const NONE: ShapeWord = ShapeWord { tokens: 0, wildcards: 0, recursive: 0 };
+
+    /// The shapes of the tokens from number `start` on.
+    pub fn new<T: Shaped>(tokens: &[T], start: usize) -> Self {
+        let mut word = ShapeWord::NONE;
+        for n in start..tokens.len().min(start.saturating_add(WORD)) {
+            word = word.with(n - start, tokens[n].shape(), n + 1 < tokens.len());
+        }
+        word
+    }
+
+    /// These shapes and one more, which has others after it or not.
+    fn with(self, bit: usize, shape: Shape, followed: bool) -> Self {
+        let mut word = self;
+        word.tokens = with_bit(self.tokens, bit);
+        match shape {
+            Shape::One => {}
+            Shape::Run => word.wildcards = with_bit(self.wildcards, bit),
+            Shape::Deep => {
+                word.wildcards = with_bit(self.wildcards, bit);
+                if followed {
+                    word.recursive = with_bit(self.recursive, bit);
+                }
+            }
+        }
+        word
+    }
+
+    /// The positions that are alive after a character, from the tokens that took it. `opens`: a component starts after
+    /// the character. `whole`: the shapes before the first of these split the characters up to there.
+    #[inline(always)]
+    pub fn step(self, took: u64, opens: bool, whole: bool) -> u64 {
+        // A piece that ends lets the next token begin. A wildcard that begins may be empty, so that the one after it
+        // begins, too: adding the mask of wildcards carries a bit through each run of them.
+        let ending = self.ending(took, opens);
+        let begun = (ending << 1) | u64::from(whole);
+        let sum = (begun & self.wildcards).wrapping_add(self.wildcards);
+        let closed = begun | (sum ^ self.wildcards);
+        (took & self.wildcards) | closed
+    }
+
+    /// The bit of the last token before number `end`, if its pieces may have any length and end anywhere.
+    #[inline(always)]
+    pub fn free_before(self, end: usize) -> u64 {
+        last_before(end, 0) & self.wildcards & !self.recursive
+    }
+
+    /// Of the tokens that took a character, those whose pieces may end after it.
+    #[inline(always)]
+    fn ending(self, took: u64, opens: bool) -> u64 {
+        if opens {
+            took
+        } else {
+            took & !self.recursive
+        }
+    }
+}
+
+/// The word with one more bit set.
+fn with_bit(word: u64, bit: usize) -> u64 {
+    word | (1 << bit)
+}
+
+/// The bit of the last token before number `end`, in a word whose bit 0 is of token `start`.
+pub fn last_before(end: usize, start: usize) -> u64 {
+    if start < end && end - start <= 64 {
+        1 << (end - start - 1)
+    } else {
+        0
+    }
+}

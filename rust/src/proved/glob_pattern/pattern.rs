@@ -1,0 +1,124 @@
+//! Made by `bin/rust_crate` from `crates/glob_pattern/src/pattern.rt`.
+//! Contracts are there, and their proofs in `crates/glob_pattern/proofs`; it is changed there alone.
+
+mod char_masks;
+mod compare;
+mod compiled;
+mod escape;
+mod judge;
+mod needle;
+mod prefilter;
+mod tokens;
+
+use crate::proved::glob_pattern::error::PatternError;
+use crate::proved::glob_pattern::grammar;
+use crate::proved::glob_pattern::options::MatchOptions;
+use compiled::Compiled;
+pub use prefilter::Trimmed;
+pub use tokens::{token_kind, token_takes, tokens_len, TokenKind};
+
+/// A parsed pattern, which matches texts.
+///
+/// | In a pattern | Matches |
+/// |---|---|
+/// | `?` | any one character |
+/// | `*` | any number of characters |
+/// | `**` | any number of whole components; it is a component of its own |
+/// | `[abc]`, `[a-z]` | one character that is listed or in a range |
+/// | `[!abc]` | one character that is not |
+/// | any other character | itself |
+pub struct Pattern {
+    text: String,
+    compiled: Compiled,
+}
+
+impl Pattern {
+    /// The text that the pattern was parsed from, as `a/*.rs`. It is accepted: parsed again it gives an equal pattern.
+    pub fn as_str(&self) -> &str {
+        self.text.as_str()
+    }
+}
+
+impl Pattern {
+    /// Parses a pattern. So `src/**/*.rs` is accepted, and `src/**.rs` is not.
+    ///
+    /// The error is [`PatternError`] if the text is not accepted, with its first fault from the left, whose place
+    /// counts characters.
+    pub fn new(pattern: &str) -> Result<Self, PatternError> {
+        let tokens = grammar::read_tokens(pattern)?;
+        let compiled = Compiled::new(tokens);
+        let text = String::from(pattern);
+        Ok(Pattern { text, compiled })
+    }
+}
+
+impl std::str::FromStr for Pattern {
+    type Err = PatternError;
+
+    /// [`new`](Self::new), under the name of the trait `FromStr`, with its errors. So `from_str("*.rs")` is the
+    /// pattern of `new("*.rs")`.
+    fn from_str(s: &str) -> Result<Self, PatternError> {
+        Self::new(s)
+    }
+}
+
+impl Default for Pattern {
+    /// The empty pattern, which matches the empty text alone: `""` and not `"a"`.
+    fn default() -> Self {
+        Pattern { text: String::new(), compiled: Compiled::empty() }
+    }
+}
+
+impl Clone for Pattern {
+    fn clone(&self) -> Self {
+        Pattern { text: self.text.clone(), compiled: self.compiled.clone() }
+    }
+}
+
+impl Pattern {
+    /// Whether the pattern matches the whole text, case-sensitive, without the separator rule and the dot rule:
+    /// [`matches_with`](Self::matches_with) under `MatchOptions::new()`. So `*.rs` matches `main.rs` and `src/main.rs`.
+    #[inline(always)]
+    pub fn matches(&self, str: &str) -> bool {
+        self.matches_with(str, MatchOptions::new())
+    }
+
+    /// Whether the pattern matches the whole text: whether the text splits into one allowed piece for each token. So
+    /// `*.rs` matches `src/main.rs`, and with the separator rule it does not.
+    #[inline(always)]
+    pub fn matches_with(&self, str: &str, options: MatchOptions) -> bool {
+        match trim(self, str.as_bytes(), options) {
+            Some(trimmed) => match_trimmed(self, str, options, trimmed),
+            None => false,
+        }
+    }
+
+    /// The answer of [`matches_with`](Self::matches_with), and how many questions it takes without the prefilter: how
+    /// often it is asked whether a token takes a character. Their number is at most the pattern's characters times the
+    /// text's, and for a match at least the text's characters. So `a` and the text `a` take one question, and the
+    /// answer is `(true, 1)`.
+    #[inline(always)]
+    pub fn matches_counted(&self, str: &str, options: MatchOptions) -> (bool, u128) {
+        self.compiled.matches_counted(str, options)
+    }
+}
+
+/// Whether a text of these bytes may be one that the pattern matches, by its ends and a search for a needle: `None` says
+/// that it is not, so for `*.rs` and the bytes of `main.c`. Otherwise it says how much of the ends is decided, for
+/// [`match_trimmed`]. The bytes need not be UTF-8.
+#[inline(always)]
+pub fn trim(pattern: &Pattern, bytes: &[u8], options: MatchOptions) -> Option<Trimmed> {
+    pattern.compiled.trim(bytes, options)
+}
+
+/// The answer of [`matches_with`](Pattern::matches_with), for a text whose ends [`trim`] has decided.
+#[inline(always)]
+pub fn match_trimmed(pattern: &Pattern, str: &str, options: MatchOptions, trimmed: Trimmed) -> bool {
+    pattern.compiled.matches(str, options, trimmed)
+}
+
+/// The character that the token of this number is, counted from 0, or `None` if it is a wildcard or a bracket, or there
+/// is none: of `a*.rs` it is `.` at 2.
+pub fn literal_at(pattern: &Pattern, number: usize) -> Option<char> {
+    pattern.compiled.literal_at(number)
+}

@@ -1,0 +1,131 @@
+//! Made by `bin/rust_crate` from `crates/glob_pattern/src/pattern/compiled.rt`.
+//! Contracts are there, and their proofs in `crates/glob_pattern/proofs`; it is changed there alone.
+//!
+//! What a match reads of a pattern, and how a match goes: the ends of the text are compared, a needle is searched for,
+//! and what is left goes through the position sets.
+
+use crate::proved::glob_pattern::matcher::{decide, shape_words, Judge, ShapeWord, Span, WORD};
+use crate::proved::glob_pattern::options::MatchOptions;
+use crate::proved::glob_pattern::pattern::char_masks::{masks_of, CharMasks};
+use crate::proved::glob_pattern::pattern::judge::TextJudge;
+use crate::proved::glob_pattern::pattern::prefilter::{Prefilter, Trimmed};
+use crate::proved::glob_pattern::token::bracket::Bracket;
+use crate::proved::glob_pattern::token::Token;
+use std::slice;
+
+/// What a match reads of a pattern's tokens, made once when it is parsed.
+pub struct Compiled {
+    tokens: Vec<Token<Bracket>>,
+    // their shapes as bits: those of the first 63 tokens, and if there are more tokens, those of all
+    first: ShapeWord,
+    words: Vec<ShapeWord>,
+    // none in a pattern without `*` and `**`
+    masks: Vec<CharMasks>,
+    prefilter: Prefilter,
+}
+
+impl Compiled {
+    /// The tokens, in the order of the pattern.
+    #[inline(always)]
+    pub fn tokens(&self) -> &[Token<Bracket>] {
+        self.tokens.as_slice()
+    }
+
+    /// How many characters at the ends of the text are taken by tokens of one character each. `None`: the text does not
+    /// match. The bytes need not be UTF-8.
+    #[inline(always)]
+    pub fn trim(&self, bytes: &[u8], options: MatchOptions) -> Option<Trimmed> {
+        self.prefilter.trim(self.tokens.as_slice(), bytes, options)
+    }
+
+    /// The character of the token of this number, if there is one and it is a literal.
+    pub fn literal_at(&self, number: usize) -> Option<char> {
+        match self.tokens.get(number) {
+            Some(Token::Literal(c)) => Some(*c),
+            _ => None,
+        }
+    }
+}
+
+impl Compiled {
+    /// Compiles the tokens.
+    pub fn new(tokens: Vec<Token<Bracket>>) -> Self {
+        let list = tokens.as_slice();
+        let prefilter = Prefilter::of(list);
+        let words = if list.len() <= WORD { Vec::new() } else { shape_words(list) };
+        let masks = masks_of(list, prefilter.lead < list.len());
+        Compiled { first: ShapeWord::new(list, 0), tokens, words, masks, prefilter }
+    }
+
+    /// No tokens.
+    pub fn empty() -> Self {
+        Compiled {
+            tokens: Vec::new(),
+            first: ShapeWord::NONE,
+            words: Vec::new(),
+            masks: Vec::new(),
+            prefilter: Prefilter::NONE,
+        }
+    }
+}
+
+impl Clone for Compiled {
+    fn clone(&self) -> Self {
+        Compiled {
+            tokens: self.tokens.clone(),
+            first: self.first,
+            words: self.words.clone(),
+            masks: self.masks.clone(),
+            prefilter: self.prefilter,
+        }
+    }
+}
+
+impl Compiled {
+    /// Whether the tokens match the text, of which [`trim`](Self::trim) has decided the ends.
+    #[inline(never)]
+    pub fn matches(&self, text: &str, options: MatchOptions, trimmed: Trimmed) -> bool {
+        let front = &text[..text.len() - trimmed.end];
+        let end = self.tokens.len() - trimmed.end;
+        let span = Span { start: trimmed.start, end, enough: self.enough(end, options) };
+        let (answer, _) = self.run(front, span, options);
+        answer
+    }
+
+    /// Whether the tokens match the text, and how many questions it took.
+    #[inline(never)]
+    pub fn matches_counted(&self, text: &str, options: MatchOptions) -> (bool, u128) {
+        self.run(text, Span::all(self.tokens.len()), options)
+    }
+
+    /// Whether the tokens before the span's end split the text, whose characters before its start have a token each,
+    /// and how many questions it took.
+    #[inline(always)]
+    fn run(&self, text: &str, span: Span, options: MatchOptions) -> (bool, u128) {
+        let tokens = self.tokens.as_slice();
+        let masks = self.masks.as_slice();
+        let mut judge = TextJudge::new(tokens, masks, text, span.start, options);
+        let answer = decide(tokens, self.words(), span, &mut judge);
+        (answer, judge.asked())
+    }
+
+    /// The shapes as bits.
+    #[inline(always)]
+    fn words(&self) -> &[ShapeWord] {
+        if self.tokens.len() <= WORD {
+            slice::from_ref(&self.first)
+        } else {
+            self.words.as_slice()
+        }
+    }
+
+    /// The bit of the last token before number `end`, if it is a wildcard that takes all that is left of any text: once it
+    /// is alive, these tokens match.
+    #[inline(always)]
+    fn enough(&self, end: usize, options: MatchOptions) -> u64 {
+        if options.require_literal_separator || options.require_literal_leading_dot || self.tokens.len() > WORD {
+            return 0;
+        }
+        self.first.free_before(end)
+    }
+}

@@ -1,0 +1,117 @@
+//! Made by `bin/rust_crate` from `crates/glob_pattern/src/pattern/needle.rt`.
+//! Contracts are there, and their proofs in `crates/glob_pattern/proofs`; it is changed there alone.
+//!
+//! Bytes of a pattern that each text it matches contains, searched for sixteen offsets at a time.
+
+use crate::lanes::u8x16;
+use crate::proved::glob_pattern::token::bracket::Bracket;
+use crate::proved::glob_pattern::token::Token;
+
+/// How many offsets are searched at once, and how many bytes a needle has at most.
+const LANES: usize = 16;
+
+/// In this bit alone an ASCII letter in upper case differs from lower case.
+pub const CASE: u8 = 0x20;
+
+/// Bytes that each matching text contains, in either case.
+#[derive(Clone, Copy)]
+pub struct Needle {
+    bytes: [u8; LANES],
+    len: usize,
+}
+
+impl Needle {
+    /// No bytes.
+    pub const NONE: Needle = Needle { bytes: [0; LANES], len: 0 };
+
+    /// The UTF-8 of the longest stretch of neighbouring literals, of which one past 16 bytes is cut into pieces. If
+    /// none has two bytes or more, it is of no use, and is not searched for.
+    pub fn of(tokens: &[Token<Bracket>]) -> Needle {
+        let mut longest = Needle::NONE;
+        let mut needle = Needle::NONE;
+        for token in tokens {
+            match token {
+                Token::Literal(c) => needle.add(*c),
+                _ => needle.len = 0,
+            }
+            if needle.len > longest.len {
+                longest = needle;
+            }
+        }
+        longest
+    }
+
+    /// Adds a character, or leaves it alone if these are more than 16 bytes. In place: what was written by bytes and is
+    /// then copied as a whole is slow.
+    fn add(&mut self, c: char) {
+        if c.is_ascii() {
+            let at = if self.len < LANES { self.len } else { 0 };
+            self.bytes[at] = c as u8;
+            self.len = at + 1;
+            return;
+        }
+        let mut buffer = [0; 4];
+        let char = c.encode_utf8(&mut buffer).as_bytes();
+        let start = if self.len + char.len() > LANES { 0 } else { self.len };
+        let len = start + char.len();
+        self.bytes[start..len].copy_from_slice(char);
+        self.len = len;
+    }
+
+    /// Whether the bytes may contain the needle. A needle of one byte, which most texts contain, is not searched for,
+    /// nor are texts of fewer than 16 bytes searched.
+    #[inline(always)]
+    pub fn may_be_in(&self, bytes: &[u8]) -> bool {
+        let Some(needle) = self.bytes.get(..self.len) else {
+            return true;
+        };
+        needle.len() < 2 || bytes.len() < LANES || may_hold(bytes, needle)
+    }
+}
+
+/// Whether the needle is in the bytes: only offsets are compared at which its first and its last byte are.
+#[inline(never)]
+fn may_hold(bytes: &[u8], needle: &[u8]) -> bool {
+    let gap = needle.len() - 1;
+    let mut start = 0;
+    while start < bytes.len() - gap {
+        let first = same_lanes(bytes, start, needle[0]);
+        let found = first & same_lanes(bytes, start + gap, needle[gap]);
+        if is_at_any(bytes, needle, start, found) {
+            return true;
+        }
+        start += LANES;
+    }
+    false
+}
+
+/// Whether the needle is at an offset of which `found` has the bit, in either case: bit k is of the kth from `start` on.
+#[inline(always)]
+fn is_at_any(bytes: &[u8], needle: &[u8], start: usize, found: u64) -> bool {
+    let mut left = found;
+    while left != 0 {
+        if is_at(bytes, needle, start + left.trailing_zeros() as usize) {
+            return true;
+        }
+        left &= left - 1;
+    }
+    false
+}
+
+/// Which of the sixteen bytes from an offset on are `x`, in either case for a letter: bit k is of the kth of them. Some
+/// others count too, as `[` does for `{`.
+#[inline(always)]
+fn same_lanes(bytes: &[u8], from: usize, x: u8) -> u64 {
+    let start = from.min(bytes.len() - LANES);
+    let lanes = u8x16::from_slice(&bytes[start..]) | u8x16::splat(CASE);
+    lanes.simd_eq(u8x16::splat(x | CASE)).to_bitmask() >> (from - start)
+}
+
+/// Whether the needle is at the offset, in either case.
+#[inline(always)]
+fn is_at(bytes: &[u8], needle: &[u8], offset: usize) -> bool {
+    let Some(rest) = bytes.get(offset..) else {
+        return false;
+    };
+    rest.len() >= needle.len() && rest[..needle.len()].eq_ignore_ascii_case(needle)
+}

@@ -1,0 +1,42 @@
+//! Made by `bin/rust_crate` from `crates/glob_pattern/src/token.rt`.
+//! Contracts are there, and their proofs in `crates/glob_pattern/proofs`; it is changed there alone.
+
+pub mod bracket;
+pub mod taking;
+
+use crate::proved::glob_pattern::matcher::{Shape, Shaped};
+use bracket::Bracket;
+
+/// A token: what a unit of a pattern means. `C` is the content of a bracket.
+#[derive(Clone)]
+pub enum Token<C> {
+    /// A character.
+    Literal(char),
+    /// `?`, any one character.
+    AnyChar,
+    /// `*`, any number of characters.
+    AnySequence,
+    /// `**`, the recursive wildcard: any number of whole path components.
+    Recursive,
+    /// `[..]`, a character that the bracket holds.
+    OneOf(C),
+    /// `[!..]`, a character that the bracket does not hold.
+    NoneOf(C),
+}
+
+impl Token<Bracket> {
+    /// Whether it is `**`.
+    pub fn is_recursive(&self) -> bool {
+        matches!(self, Token::Recursive)
+    }
+}
+
+impl Shaped for Token<Bracket> {
+    fn shape(&self) -> Shape {
+        match self {
+            Token::Literal(_) | Token::AnyChar | Token::OneOf(_) | Token::NoneOf(_) => Shape::One,
+            Token::AnySequence => Shape::Run,
+            Token::Recursive => Shape::Deep,
+        }
+    }
+}

@@ -1,0 +1,45 @@
+//! Made by `bin/rust_crate` from `crates/glob_pattern/src/token/taking.rt`.
+//! Contracts are there, and their proofs in `crates/glob_pattern/proofs`; it is changed there alone.
+
+use crate::proved::glob_pattern::options::MatchOptions;
+use crate::proved::glob_pattern::token::bracket::{self, Bracket};
+use crate::proved::glob_pattern::token::Token;
+
+/// Whether the token takes the character. `opening`: a component starts at its place.
+#[inline(always)]
+pub fn takes(token: &Token<Bracket>, options: MatchOptions, opening: bool, c: char) -> bool {
+    if let Token::Literal(x) = token {
+        return bracket::is_same(options.case_sensitive, c, *x);
+    }
+    // The call needs the options in memory. With a copy, which is made on this path alone, those of the caller stay in
+    // registers.
+    let copy = MatchOptions {
+        case_sensitive: options.case_sensitive,
+        require_literal_separator: options.require_literal_separator,
+        require_literal_leading_dot: options.require_literal_leading_dot,
+    };
+    takes_nonliteral(token, copy, opening, c)
+}
+
+/// [`takes`], out of line, for a token that is no literal.
+#[inline(never)]
+fn takes_nonliteral(token: &Token<Bracket>, options: MatchOptions, opening: bool, c: char) -> bool {
+    match token {
+        Token::Literal(x) => bracket::is_same(options.case_sensitive, c, *x),
+        Token::AnyChar | Token::AnySequence => is_free(options, opening, c),
+        Token::Recursive => !is_excluded_dot(options, opening, c),
+        Token::OneOf(bracket) => is_free(options, opening, c) && bracket.holds(c, options.case_sensitive),
+        Token::NoneOf(bracket) => is_free(options, opening, c) && !bracket.holds(c, options.case_sensitive),
+    }
+}
+
+/// Whether no rule excludes the character from wildcards.
+fn is_free(options: MatchOptions, opening: bool, c: char) -> bool {
+    !(options.require_literal_separator && c == '/') && !is_excluded_dot(options, opening, c)
+}
+
+/// Whether the dot rule excludes the character from wildcards: it is a leading dot at a component start.
+#[inline(always)]
+pub fn is_excluded_dot(options: MatchOptions, opening: bool, c: char) -> bool {
+    options.require_literal_leading_dot && opening && c == '.'
+}

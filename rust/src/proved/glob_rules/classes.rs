@@ -1,0 +1,93 @@
+//! Made by `bin/rust_crate` from `crates/glob_rules/src/classes.rt`.
+//! Contracts are there, and their proofs in `crates/glob_rules/proofs`; it is changed there alone.
+//!
+//! The classes of characters that a bracket may name.
+
+/// A class of characters, as git has it: all of them are ASCII.
+#[derive(Clone, Copy)]
+pub enum Class {
+    /// Letters and digits.
+    Alnum,
+    /// Letters.
+    Alpha,
+    /// The blank and the tab.
+    Blank,
+    /// What does not print.
+    Cntrl,
+    /// Digits.
+    Digit,
+    /// What prints, but for the blank.
+    Graph,
+    /// Lower case letters.
+    Lower,
+    /// What prints.
+    Print,
+    /// What prints, but for the blank, letters and digits.
+    Punct,
+    /// The blank, the tab, LF and CR. To C, VT and FF are of this class, too.
+    Space,
+    /// Upper case letters.
+    Upper,
+    /// Hexadecimal digits, in either case.
+    Xdigit,
+}
+
+/// The classes by name.
+const CLASSES: [(&[u8], Class); 12] = [
+    (b"alnum", Class::Alnum),
+    (b"alpha", Class::Alpha),
+    (b"blank", Class::Blank),
+    (b"cntrl", Class::Cntrl),
+    (b"digit", Class::Digit),
+    (b"graph", Class::Graph),
+    (b"lower", Class::Lower),
+    (b"print", Class::Print),
+    (b"punct", Class::Punct),
+    (b"space", Class::Space),
+    (b"upper", Class::Upper),
+    (b"xdigit", Class::Xdigit),
+];
+
+impl Class {
+    /// The class of a name.
+    pub fn named(name: &[u8]) -> Option<Class> {
+        class_in(&CLASSES, name)
+    }
+
+    /// Whether it has a character.
+    pub fn has(self, c: u8) -> bool {
+        match self {
+            Class::Alnum => c.is_ascii_alphanumeric(),
+            Class::Alpha => c.is_ascii_alphabetic(),
+            Class::Blank => c == b'\t' || c == b' ',
+            Class::Cntrl => c.is_ascii_control(),
+            Class::Digit => c.is_ascii_digit(),
+            Class::Graph => c.is_ascii_graphic(),
+            Class::Lower => c.is_ascii_lowercase(),
+            Class::Print => c == b' ' || c.is_ascii_graphic(),
+            Class::Punct => c.is_ascii_punctuation(),
+            Class::Space => c == b'\t' || c == b'\n' || c == b'\r' || c == b' ',
+            Class::Upper => c.is_ascii_uppercase(),
+            Class::Xdigit => c.is_ascii_hexdigit(),
+        }
+    }
+}
+
+/// The class of a name in a table.
+fn class_in(mut classes: &[(&[u8], Class)], name: &[u8]) -> Option<Class> {
+    while let [class, rest @ ..] = classes {
+        if name == class.0 {
+            return Some(class.1);
+        }
+        classes = rest;
+    }
+    None
+}
+
+/// What is before the first `]`, or all of it where there is none.
+pub fn before_close(text: &[u8]) -> &[u8] {
+    match text.iter().position(|c| *c == b']') {
+        Some(end) => &text[..end],
+        None => text,
+    }
+}

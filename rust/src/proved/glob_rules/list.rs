@@ -1,0 +1,109 @@
+//! Made by `bin/rust_crate` from `crates/glob_rules/src/list.rt`.
+//! Contracts are there, and their proofs in `crates/glob_rules/proofs`; it is changed there alone.
+
+use crate::proved::glob_pattern::MatchOptions;
+use crate::proved::glob_rules::error::RuleRefusal;
+use crate::proved::glob_rules::rule::Rule;
+use crate::proved::glob_rules::rules::Rules;
+use crate::proved::glob_set::PatternSet;
+
+/// The rules of one ignore file, as gitignore(5) has them, for the paths below its directory.
+///
+/// ```text
+/// let list = IgnoreList::new("*.o\ntarget/\n!keep.o\n")?;
+/// list.is_ignored("src/a.o", false)         // true
+/// list.is_ignored("src/keep.o", false)      // false
+/// list.is_ignored("target", false)          // false
+/// list.is_ignored("target/keep.o", false)   // true
+/// ```
+///
+/// A path is the names from the list's directory on, with `/` between them and none at its start or its end.
+pub struct IgnoreList {
+    lines: usize,
+    rules: Vec<Rule>,
+    // the patterns of the rules, in their order
+    set: PatternSet,
+}
+
+impl IgnoreList {
+    /// The rules of a text, a line each. Comments, blank lines and lines that can name nothing have none.
+    ///
+    /// The error is [`Line`](RuleRefusal::Line) for the first line that is refused.
+    pub fn new(text: &str) -> Result<Self, RuleRefusal> {
+        let (lines, rules, patterns) = Rules::read(text)?.into_parts();
+        let set = PatternSet::new(patterns, rule_options());
+        Ok(IgnoreList { lines, rules, set })
+    }
+
+    /// Whether the list ignores a path, where `is_directory` says that it is a directory. A symbolic link is none. Of
+    /// the directories above the path, each of which is taken for one, the outermost that is ignored decides; else it
+    /// is the last rule that names the path. So by `a/` and `!a/b` the path `a/b` is ignored.
+    pub fn is_ignored(&self, path: &str, is_directory: bool) -> bool {
+        let decides = self.deciding(path, is_directory);
+        self.ignores(decides)
+    }
+
+    /// The rule that decides whether the list ignores a path, or `None` if no rule names it: by `a/` and `!a/b` it is
+    /// that of line 1 for `a/b`.
+    pub fn deciding_rule(&self, path: &str, is_directory: bool) -> Option<Rule> {
+        match self.deciding(path, is_directory) {
+            Some(number) => Some(self.rules[number]),
+            None => None,
+        }
+    }
+
+    /// The number of the rule that decides, counted from 0.
+    fn deciding(&self, path: &str, is_directory: bool) -> Option<usize> {
+        let bytes = path.as_bytes();
+        for place in 0..bytes.len() {
+            if bytes[place] == b'/' {
+                let above = self.last_naming(&path[..place], true);
+                if self.ignores(above) {
+                    return above;
+                }
+            }
+        }
+        self.last_naming(path, is_directory)
+    }
+
+    /// Whether a rule, if there is one, ignores what it names.
+    fn ignores(&self, number: Option<usize>) -> bool {
+        match number {
+            Some(number) => !self.rules[number].negative,
+            None => false,
+        }
+    }
+
+    /// The number of the last rule that names a path.
+    fn last_naming(&self, path: &str, is_directory: bool) -> Option<usize> {
+        match self.set.last_match(path) {
+            Some(number) => self.last_naming_below(path, is_directory, number + 1),
+            None => None,
+        }
+    }
+
+    /// The number of the last rule below `end` that names a path.
+    fn last_naming_below(&self, path: &str, is_directory: bool, end: usize) -> Option<usize> {
+        let mut left = end;
+        while left > 0 {
+            left -= 1;
+            if self.names(left, path, is_directory) {
+                return Some(left);
+            }
+        }
+        None
+    }
+
+    /// Whether the rule of a number names a path.
+    fn names(&self, number: usize, path: &str, is_directory: bool) -> bool {
+        if self.rules[number].directories && !is_directory {
+            return false;
+        }
+        self.set.patterns()[number].matches_with(path, rule_options())
+    }
+}
+
+/// The options by which a rule's pattern matches: case-sensitive, with the separator rule, and without the dot rule.
+fn rule_options() -> MatchOptions {
+    MatchOptions { case_sensitive: true, require_literal_separator: true, require_literal_leading_dot: false }
+}

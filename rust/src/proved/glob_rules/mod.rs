@@ -1,0 +1,21 @@
+//! Made by `bin/rust_crate` from `crates/glob_rules/src/lib.rt`.
+//! Contracts are there, and their proofs in `crates/glob_rules/proofs`; it is changed there alone.
+//!
+//! Ignore lists: which paths the rules of gitignore(5) leave out.
+//!
+//! An [`IgnoreList`] of the lines `*.o`, `target/` and `!keep.o` ignores `a.o` and all below `src/target`, and not
+//! `keep.o`.
+
+mod classes;
+mod error;
+mod lines;
+mod list;
+mod listing;
+mod reading;
+mod rule;
+mod rules;
+mod steps;
+
+pub use error::{Reason, RuleRefusal};
+pub use list::IgnoreList;
+pub use rule::Rule;

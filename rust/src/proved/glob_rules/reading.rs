@@ -1,0 +1,90 @@
+//! Made by `bin/rust_crate` from `crates/glob_rules/src/reading.rt`.
+//! Contracts are there, and their proofs in `crates/glob_rules/proofs`; it is changed there alone.
+//!
+//! Rules read a byte at a time.
+
+use crate::proved::glob_rules::classes::before_close;
+use crate::proved::glob_rules::error::Reason;
+use crate::proved::glob_rules::listing::write;
+use crate::proved::glob_rules::steps::{step_from, Change, Mode, Span};
+
+/// What a rule is, once all of it is read.
+#[derive(Clone, Copy)]
+pub enum Outcome {
+    /// It names nothing.
+    Nothing,
+    /// It has a pattern.
+    Named,
+    /// It is refused.
+    Refused(Reason),
+}
+
+/// A rule that is read: what the bytes so far end with, the characters of the last bracket, and the pattern so far.
+pub struct Reading {
+    mode: Mode,
+    spans: Vec<Span>,
+    glob: Vec<u8>,
+}
+
+impl Reading {
+    /// The rule of these bytes, where `path` says that it is taken from the list's own directory.
+    pub fn of(text: &[u8], path: bool) -> Self {
+        let mut reading = Self::start(path);
+        let mut rest = text;
+        // it is looked for once a `]`, and not once a byte
+        let mut ahead = before_close(text);
+        while let [c, after @ ..] = rest {
+            ahead = match ahead {
+                [_, others @ ..] => others,
+                [] => before_close(after),
+            };
+            reading.advance(*c, ahead);
+            rest = after;
+        }
+        reading
+    }
+
+    /// A rule of which nothing is read.
+    fn start(path: bool) -> Self {
+        let front: &[u8] = if path { &[] } else { &[b'*', b'*', b'/'] };
+        Reading { mode: Mode::Units(path, path), spans: Vec::new(), glob: Vec::from(front) }
+    }
+}
+
+impl Reading {
+    /// Reads one byte, where `ahead` is what follows it, up to the next `]` or the end.
+    fn advance(&mut self, c: u8, ahead: &[u8]) {
+        let step = step_from(self.mode, c, ahead);
+        change(&mut self.spans, step.change);
+        write(&mut self.glob, self.spans.as_slice(), step.writing);
+        self.mode = step.mode;
+    }
+
+    /// What the rule is.
+    pub fn outcome(&self) -> Outcome {
+        match self.mode {
+            Mode::Units(_, _) | Mode::Star(_, _) | Mode::Stars(_, true) => Outcome::Named,
+            Mode::Stars(_, false) => Outcome::Refused(Reason::StarsBehindText),
+            Mode::Refused(reason) => Outcome::Refused(reason),
+            _ => Outcome::Nothing,
+        }
+    }
+
+    /// The rule's pattern.
+    pub fn into_glob(self) -> Vec<u8> {
+        let mut glob = self.glob;
+        if matches!(self.mode, Mode::Stars(_, _)) {
+            glob.push(b'*');
+        }
+        glob
+    }
+}
+
+/// Makes the change of a step.
+fn change(spans: &mut Vec<Span>, change: Change) {
+    match change {
+        Change::Keep => {}
+        Change::Clear => spans.clear(),
+        Change::Add(span) => spans.push(span),
+    }
+}

@@ -1,0 +1,52 @@
+//! Made by `bin/rust_crate` from `crates/glob_set/src/buckets.rt`.
+//! Contracts are there, and their proofs in `crates/glob_set/proofs`; it is changed there alone.
+//!
+//! Lists of the patterns that may match a text, by the class of its last two bytes.
+
+use crate::proved::glob_pattern::Pattern;
+use crate::proved::glob_set::pairs::Need;
+
+/// How many classes there are.
+pub const CLASSES: u8 = 128;
+
+/// Numbers of patterns, in ascending order.
+pub struct Bucket {
+    numbers: Vec<usize>,
+}
+
+impl Bucket {
+    /// The numbers, as 1 and 4.
+    #[inline(always)]
+    pub fn numbers(&self) -> &[usize] {
+        self.numbers.as_slice()
+    }
+}
+
+/// For each class the numbers of the patterns that may match a text of it.
+pub fn buckets_of(patterns: &[Pattern], needs: &[Need]) -> Vec<Bucket> {
+    let mut buckets = Vec::new();
+    for class in 0..CLASSES {
+        buckets.push(bucket_of(patterns, needs, class));
+    }
+    buckets
+}
+
+/// The numbers of the patterns that may match a text of the class.
+fn bucket_of(patterns: &[Pattern], needs: &[Need], class: u8) -> Bucket {
+    let _ = patterns;
+    let mut numbers = Vec::new();
+    for number in 0..needs.len() {
+        if may_be_of(&needs[number], class) {
+            numbers.push(number);
+        }
+    }
+    Bucket { numbers }
+}
+
+/// Whether a text of the class may have what is needed.
+fn may_be_of(need: &Need, class: u8) -> bool {
+    match need.class {
+        Some(known) => known == class,
+        None => true,
+    }
+}

@@ -1,0 +1,28 @@
+//! Made by `bin/rust_crate` from `crates/glob_set/src/error.rt`.
+//! Contracts are there, and their proofs in `crates/glob_set/proofs`; it is changed there alone.
+
+use crate::proved::glob_pattern::PatternError;
+use std::error::Error;
+use std::fmt;
+
+/// Why texts were refused as the patterns of a set, by [`PatternSet::from_texts`](crate::proved::glob_set::PatternSet::from_texts). So
+/// `*.o` and `[a` are refused with `Syntax`, the number 1 and the place 0, and that prints as
+/// `pattern 1: Pattern syntax error near position 0: invalid range pattern`.
+#[derive(Debug)]
+pub enum SetRefusal {
+    /// The first text that is not accepted: its number, counted from 0, and its first fault from the left.
+    Syntax(usize, PatternError),
+}
+
+impl fmt::Display for SetRefusal {
+    fn fmt(&self, f: &mut fmt::Formatter<'_>) -> fmt::Result {
+        match self {
+            SetRefusal::Syntax(number, error) => {
+                write!(f, "pattern {number}: ")?;
+                error.fmt(f)
+            }
+        }
+    }
+}
+
+impl Error for SetRefusal {}

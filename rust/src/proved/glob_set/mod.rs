@@ -1,0 +1,16 @@
+//! Made by `bin/rust_crate` from `crates/glob_set/src/lib.rt`.
+//! Contracts are there, and their proofs in `crates/glob_set/proofs`; it is changed there alone.
+//!
+//! Sets of patterns: which of many patterns match a text, where few of them are asked about it.
+//!
+//! A [`PatternSet`] of `*.o`, `target/**` and `!*` says of `a.o` that number 0 is the first pattern that matches it.
+
+mod buckets;
+mod error;
+mod needs;
+mod pairs;
+mod reading;
+mod set;
+
+pub use error::SetRefusal;
+pub use set::PatternSet;

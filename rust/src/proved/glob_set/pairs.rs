@@ -1,0 +1,47 @@
+//! Made by `bin/rust_crate` from `crates/glob_set/src/pairs.rt`.
+//! Contracts are there, and their proofs in `crates/glob_set/proofs`; it is changed there alone.
+//!
+//! Neighbouring bytes as bits of one word.
+
+/// What each text has that a pattern matches.
+#[derive(Clone, Copy)]
+pub struct Need {
+    /// Bits of neighbouring bytes.
+    pub bits: u128,
+    /// The class of the last two bytes, if the pattern ends in literals.
+    pub class: Option<u8>,
+}
+
+/// The class of two neighbouring bytes, below 128: that of `.o` is that of `.O`.
+#[inline(always)]
+pub fn pair_class(a: u8, b: u8) -> u8 {
+    ((u32::from(a % 32) * 13 + u32::from(b % 32) * 3) % 128) as u8
+}
+
+/// The bit of a class.
+#[inline(always)]
+pub fn class_bit(class: u8) -> u128 {
+    1 << class
+}
+
+/// The class of a text, by its last two bytes. A byte 0 is before the first.
+#[inline(always)]
+pub fn text_class(bytes: &[u8]) -> u8 {
+    match bytes {
+        [] => 0,
+        [last] => pair_class(0, *last),
+        [.., before, last] => pair_class(*before, *last),
+    }
+}
+
+/// The bits of a text. A byte 0 is before the first.
+#[inline(always)]
+pub fn text_bits(bytes: &[u8]) -> u128 {
+    let mut bits = 0;
+    let mut last = 0;
+    for byte in bytes {
+        bits |= class_bit(pair_class(last, *byte));
+        last = *byte;
+    }
+    bits
+}

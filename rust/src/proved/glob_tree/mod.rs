@@ -1,0 +1,14 @@
+//! Made by `bin/rust_crate` from `crates/glob_tree/src/lib.rt`.
+//! Contracts are there, and their proofs in `crates/glob_tree/proofs`; it is changed there alone.
+//!
+//! Trees of files and directories: what a walk asks of one, the paths in it, and the file system as one.
+
+mod kind;
+mod name;
+mod path_text;
+mod tree;
+
+pub use kind::Kind;
+pub use name::{copy_name, is_proper, name_from_proper, Name};
+pub use path_text::{begins_with_dot, child, join};
+pub use tree::{Entry, Look, Tree};

@@ -1,0 +1,13 @@
+//! Made by `bin/rust_crate` from `crates/glob_walk/src/ending.rt`.
+//! Contracts are there, and their proofs in `crates/glob_walk/proofs`; it is changed there alone.
+//!
+//! How a walk ended.
+
+/// How a walk ended. Over a file `x`, `*` needs 3 units: with the limit 3 it ends with `Done`, and with 2 with `Limit`.
+#[derive(Clone, Copy, Debug, PartialEq, Eq)]
+pub enum End {
+    /// All of it was done.
+    Done,
+    /// A further unit of work did not fit the limit.
+    Limit,
+}

@@ -1,0 +1,74 @@
+//! Made by `bin/rust_crate` from `crates/glob_walk/src/frame/tasks.rt`.
+//! Contracts are there, and their proofs in `crates/glob_walk/proofs`; it is changed there alone.
+//!
+//! The tasks that come of a directory's entries, and of `.` and `..` in it.
+//!
+//! Each step leaves at most one task, and a child's path is made only with its task.
+
+use crate::proved::glob_pattern::MatchOptions;
+use crate::proved::glob_tree::{begins_with_dot, child, join, Entry};
+use crate::proved::glob_walk::component::Component;
+use crate::proved::glob_walk::frame::Frame;
+use crate::proved::glob_walk::plan::Plan;
+use crate::proved::glob_walk::task::{Sight, Task, Wanted};
+
+impl Frame {
+    /// The look at `..` or `.` in the directory (joined also to `.`: `./..`), if the component matches that name.
+    pub(super) fn special_task(&self, plan: &Plan, name: &str) -> Option<Task> {
+        let Some(component) = plan.component(self.component) else {
+            return None;
+        };
+        if !component.matches(name, plan.options) {
+            return None;
+        }
+        Some(Task {
+            path: join(self.path.as_str(), name),
+            component: self.component + 1,
+            sight: Sight::Unseen(Wanted::Any),
+        })
+    }
+
+    /// The task to go on at an entry, if its name is met. It makes the child's path only then.
+    pub(super) fn met_task(&self, plan: &Plan, entry: &Entry) -> Option<Task> {
+        let name = entry.name.as_str();
+        let met = meet(plan, self.recursive, self.component, name, entry.is_dir);
+        let Some(component) = met else {
+            return None;
+        };
+        Some(Task { path: child(self.path.as_str(), name), component, sight: Sight::Seen(entry.is_dir) })
+    }
+
+    /// The task to go on with the same `**` in an entry, if it enters it.
+    pub(super) fn entered_task(&self, plan: &Plan, entry: &Entry) -> Option<Task> {
+        let name = entry.name.as_str();
+        if !self.recursive || !is_entered(plan.options, name, entry.is_dir) {
+            return None;
+        }
+        Some(Task { path: child(self.path.as_str(), name), component: self.component, sight: Sight::Seen(true) })
+    }
+}
+
+/// The number of the component from which the walk goes on at an entry, if the entry is met: by the component with the
+/// number, or under `**` by the one after it. A `**` at the pattern's end meets each entry that it enters.
+fn meet(plan: &Plan, recursive: bool, number: usize, name: &str, is_dir: bool) -> Option<usize> {
+    let next = if recursive { number + 1 } else { number };
+    match plan.component(next) {
+        Some(component) => match_at(plan, component, next + 1, name),
+        None if is_entered(plan.options, name, is_dir) => Some(next),
+        None => None,
+    }
+}
+
+/// The number `next`, if the component matches the name.
+fn match_at(plan: &Plan, component: &Component, next: usize, name: &str) -> Option<usize> {
+    if component.matches(name, plan.options) {
+        Some(next)
+    } else {
+        None
+    }
+}
+
+/// Whether `**` enters an entry: a directory, and under the dot rule no dotted one.
+fn is_entered(options: MatchOptions, name: &str, is_dir: bool) -> bool {
+    is_dir && !(options.require_literal_leading_dot && begins_with_dot(name))
+}

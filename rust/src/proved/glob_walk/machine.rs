@@ -1,0 +1,136 @@
+//! Made by `bin/rust_crate` from `crates/glob_walk/src/machine.rt`.
+//! Contracts are there, and their proofs in `crates/glob_walk/proofs`; it is changed there alone.
+//!
+//! A walk that asks its caller, and reads nothing itself.
+
+use std::io;
+
+use crate::proved::glob_pattern::{MatchOptions, PatternError};
+use crate::proved::glob_tree::{Entry, Look};
+use crate::proved::glob_walk::error::GlobResult;
+use crate::proved::glob_walk::meter::Meter;
+use crate::proved::glob_walk::plan::Plan;
+use crate::proved::glob_walk::stack::Stack;
+use crate::proved::glob_walk::task::{Sight, Task, Wanted};
+use crate::proved::glob_walk::walker::Walker;
+
+/// What a walk does next.
+pub enum Step {
+    /// It asks what [`path`](WalkMachine::path) leads to, and [`looked`](WalkMachine::looked) answers.
+    Look,
+    /// It asks for the entries of the directory at [`path`](WalkMachine::path), and [`listed`](WalkMachine::listed) answers.
+    List,
+    /// It asks for the same, where the names alone matter: `is_dir` may be `false` at any entry.
+    /// [`listed`](WalkMachine::listed) answers.
+    ListNames,
+    /// It gives an item: a path, or an error. After an error with the cause `Limit` only `Done` follows.
+    Item(GlobResult),
+    /// Nothing is left: each further call of [`next`](WalkMachine::next) returns it again.
+    Done,
+}
+
+/// What the caller says between two steps.
+pub(crate) enum Answer {
+    /// No question was open.
+    Nothing,
+    /// The answer to a look.
+    Look(Look),
+    /// The answer to a listing.
+    List(Result<Vec<Entry>, io::Error>),
+}
+
+/// A walk without a tree: it asks its questions one by one, and whoever drives it answers them from a file system, an
+/// archive or a network, at once or later.
+///
+/// ```text
+/// let mut machine = WalkMachine::new("*", MatchOptions::new(), 100)?;
+/// machine.next()                  // Step::Look, where machine.path() is "."
+/// machine.looked(Look::Dir)   // Step::List, where machine.path() is "."
+/// machine.listed(Ok(entries))     // of files `y` and `x`: Step::Item(Ok("x"))
+/// machine.next()                  // Step::Item(Ok("y"))
+/// machine.next()                  // Step::Done; machine.spent() is 4
+/// ```
+///
+/// As long as each answer is that of one content, its questions and items are those of the written listing, one after
+/// another: the items so far are a beginning of all of them, and at `Done` all. Whatever is answered, it charges a unit for
+/// each question before it asks it, and one for each entry that is answered, gives at most one item more than it charged
+/// units, never charges more than its limit, and so comes to an end.
+pub struct WalkMachine {
+    walker: Walker,
+    /// How many items were given: up to one more than the limit, so it may be 2^64.
+    given: u128,
+    over: bool,
+}
+
+impl WalkMachine {
+    /// A walk after the components of a pattern, with at most `limit` units of work: one for each lookup, one for each
+    /// listing, and one for each entry of a listing. It has asked nothing.
+    ///
+    /// A pattern with a fault is refused: the fault of the whole text, or else that of the first component that has
+    /// one.
+    pub fn new(pattern: &str, options: MatchOptions, limit: u64) -> Result<Self, PatternError> {
+        let plan = Plan::read(pattern, options)?;
+        let start = String::from(plan.start());
+        Ok(WalkMachine::from_plan(plan, start, limit))
+    }
+
+    /// A walk after a plan from its start, which is looked up first.
+    fn from_plan(plan: Plan, start: String, limit: u64) -> Self {
+        let frames = Vec::new();
+        let next = Some(Task { path: start, component: 0, sight: Sight::Unseen(Wanted::Any) });
+        let stack = Stack { plan, next, frames };
+        let meter = Meter { limit, spent: 0 };
+        WalkMachine { walker: Walker { meter, stack }, given: 0, over: false }
+    }
+
+    /// The next step, where no question is open: at first, and after an item.
+    pub fn next(&mut self) -> Step {
+        self.resume(Answer::Nothing)
+    }
+
+    /// Answers the look that is asked for, and returns the next step.
+    pub fn looked(&mut self, seen: Look) -> Step {
+        self.resume(Answer::Look(seen))
+    }
+
+    /// Answers the listing that is asked for, of entries or of names alone, with its entries in any order, and returns
+    /// the next step. After `Err(e)` that is an error with the path, the kind of `e` and the cause `Read`, and the walk
+    /// goes on.
+    pub fn listed(&mut self, listed: Result<Vec<Entry>, io::Error>) -> Step {
+        self.resume(Answer::List(listed))
+    }
+
+    /// Takes an answer, and goes on to the next step.
+    fn resume(&mut self, answer: Answer) -> Step {
+        if self.over {
+            return Step::Done;
+        }
+        let turn = self.walker.resume(answer);
+        self.given += turn.item_count();
+        self.over = turn.is_last();
+        turn.into_step()
+    }
+}
+
+impl WalkMachine {
+    /// The path that is asked for, and the empty text where no question is open.
+    pub fn path(&self) -> &str {
+        match &self.walker.stack.next {
+            Some(task) => match task.sight {
+                Sight::Looking(_) | Sight::Listing { .. } => task.path.as_str(),
+                Sight::Unseen(_) | Sight::Seen(_) => "",
+            },
+            None => "",
+        }
+    }
+
+    /// How many units of work were charged, that of an open question too: never more than the limit.
+    pub fn spent(&self) -> u64 {
+        self.walker.meter.spent
+    }
+
+    /// How many items were given, a refusal too: at most one more than `spent`.
+    pub fn given(&self) -> u128 {
+        self.given
+    }
+}

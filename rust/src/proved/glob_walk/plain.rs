@@ -1,0 +1,39 @@
+//! Made by `bin/rust_crate` from `crates/glob_walk/src/plain.rt`.
+//! Contracts are there, and their proofs in `crates/glob_walk/proofs`; it is changed there alone.
+//!
+//! Which patterns are plain.
+
+use crate::proved::glob_pattern::{MatchOptions, PatternError};
+use crate::proved::glob_tree::begins_with_dot;
+use crate::proved::glob_walk::component::{is_current_or_parent, is_literal, is_recursive};
+use crate::proved::glob_walk::plan::{past_root, Plan};
+
+/// Whether the pattern is plain, so that a walk by it finds what the undivided pattern matches: no component is empty,
+/// `.` or `..`, and each that has a wildcard and begins with a dot is right after a `**`. A `/` at the start or at the
+/// end makes no component; `/` alone, as the empty pattern, has an empty one. What
+/// [`WalkMachine::new`](crate::proved::glob_walk::WalkMachine::new) refuses is refused as there.
+///
+/// So `src/**/*.rs` is plain, and `src/./*.rs` and `.*` are not; `a**` is refused.
+pub fn is_plain(pattern: &str) -> Result<bool, PatternError> {
+    Plan::read(pattern, MatchOptions::new())?;
+    Ok(are_plain(past_root(pattern)))
+}
+
+/// Whether the components of a text are plain, which stand between separators.
+fn are_plain(text: &str) -> bool {
+    let mut after_recursive = false;
+    for component in text.split('/') {
+        if !is_plain_component(after_recursive, component) {
+            return false;
+        }
+        after_recursive = is_recursive(component);
+    }
+    true
+}
+
+/// Whether the component is plain, where `**` is right before it or not.
+fn is_plain_component(after_recursive: bool, component: &str) -> bool {
+    !component.is_empty()
+        && !is_current_or_parent(component)
+        && (is_literal(component) || !begins_with_dot(component) || after_recursive)
+}

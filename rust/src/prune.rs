@@ -1,0 +1,103 @@
+//! Walks that leave out what an ignore list, a set of patterns or a function says, and all below it.
+//!
+//! ```
+//! use cadmiumdove::ignore::IgnoreList;
+//! use cadmiumdove::prune::Pruned;
+//! use cadmiumdove::walk::{glob_in, Disk};
+//! use cadmiumdove::MatchOptions;
+//!
+//! let list = IgnoreList::new("proved/\n").unwrap();
+//! let tree = Pruned::new(Disk::new().follow_links(false), list);
+//! let found: Vec<_> = glob_in(tree, "src/**/*.rs", MatchOptions::new(), u64::MAX)?.flatten().collect();
+//! assert!(found.contains(&"src/lib.rs".into()));
+//! assert!(!found.contains(&"src/proved/mod.rs".into()));
+//! # Ok::<(), cadmiumdove::PatternError>(())
+//! ```
+
+use std::io;
+
+pub use crate::proved::glob_prune::exclusion::Exclusion;
+use crate::walk::{Entry, Look, Tree};
+
+/// So `|path: &str, _is_dir: bool| path == "target"` excludes the directory `target`.
+impl<F: Fn(&str, bool) -> bool> Exclusion for F {
+    fn excludes(&self, path: &str, is_dir: bool) -> bool {
+        self(path, is_dir)
+    }
+}
+
+/// A tree without what is excluded and all below it: it is not there, so it is neither looked into nor listed. The
+/// exclusion is asked about paths below the current directory.
+///
+/// Of a path that begins with `/` or has a piece `..` nobody can tell what is above it: it is not there, either.
+#[derive(Clone, Debug)]
+pub struct Pruned<T, X> {
+    tree: T,
+    exclusion: X,
+}
+
+impl<T: Tree, X: Exclusion> Pruned<T, X> {
+    /// The tree without what the exclusion names.
+    pub fn new(tree: T, exclusion: X) -> Self {
+        Pruned { tree, exclusion }
+    }
+
+    /// The names of a path, joined by `/`, unless it goes up or a directory above it is excluded.
+    fn enter(&self, path: &str) -> Option<String> {
+        if path.starts_with('/') {
+            return None;
+        }
+        let mut names = String::new();
+        for piece in path.split('/').filter(|piece| !piece.is_empty() && *piece != ".") {
+            if piece == ".." || self.is_excluded(&names, true) {
+                return None;
+            }
+            push_name(&mut names, piece);
+        }
+        Some(names)
+    }
+
+    fn is_excluded(&self, names: &str, is_dir: bool) -> bool {
+        !names.is_empty() && self.exclusion.excludes(names, is_dir)
+    }
+
+    /// The entries that are kept of those that the tree lists.
+    fn kept(&mut self, path: &str, list: impl Fn(&mut T) -> io::Result<Vec<Entry>>) -> io::Result<Vec<Entry>> {
+        let Some(mut names) = self.enter(path).filter(|names| !self.is_excluded(names, true)) else {
+            return Err(io::ErrorKind::NotFound.into());
+        };
+        let mut entries = list(&mut self.tree)?;
+        let above = names.len();
+        entries.retain(|entry| {
+            names.truncate(above);
+            push_name(&mut names, entry.name.as_str());
+            !self.exclusion.excludes(&names, entry.is_dir)
+        });
+        Ok(entries)
+    }
+}
+
+impl<T: Tree, X: Exclusion> Tree for Pruned<T, X> {
+    fn look(&mut self, path: &str) -> Look {
+        match self.enter(path) {
+            Some(names) => match self.tree.look(path) {
+                seen if self.is_excluded(&names, seen == Look::Dir) => Look::Missing,
+                seen => seen,
+            },
+            None => Look::Missing,
+        }
+    }
+
+    /// The kinds of entries are always asked for, since the exclusion is.
+    fn list(&mut self, path: &str) -> io::Result<Vec<Entry>> {
+        self.kept(path, |tree| tree.list(path))
+    }
+}
+
+/// Adds a name to a path of names.
+fn push_name(names: &mut String, name: &str) {
+    if !names.is_empty() {
+        names.push('/');
+    }
+    names.push_str(name);
+}

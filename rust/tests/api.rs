@@ -1,0 +1,103 @@
+//! Every public name of `glob` 0.3.4, with its traits. Release 0.3.0 lacks some.
+
+use std::collections::HashSet;
+use std::error::Error;
+use std::fmt::{Debug, Display};
+use std::hash::Hash;
+use std::io;
+use std::panic::{RefUnwindSafe, UnwindSafe};
+use std::path::{Path, PathBuf};
+use std::str::FromStr;
+
+use cadmiumdove::{glob, glob_with, GlobError, GlobResult, MatchOptions, Paths, Pattern, PatternError};
+
+fn is_value<
+    T: Clone + Debug + Default + Eq + Ord + Hash + Send + Sync + UnwindSafe + RefUnwindSafe + Unpin + 'static,
+>() {
+}
+
+fn is_error<T: Error + Debug + Display + Send + Sync + Unpin + 'static>() {}
+
+fn is_copy<T: Copy>() {}
+
+fn is_iterator<T: Iterator<Item = GlobResult> + Debug + Send + Sync + Unpin + 'static>() {}
+
+#[test]
+fn traits() {
+    is_value::<Pattern>();
+    is_value::<MatchOptions>();
+    is_copy::<MatchOptions>();
+    is_error::<PatternError>();
+    is_error::<GlobError>();
+    is_iterator::<Paths>();
+    fn crosses<T: UnwindSafe + RefUnwindSafe>() {}
+    crosses::<PatternError>();
+}
+
+#[test]
+fn patterns() {
+    let pattern: Pattern = "a*".parse().unwrap();
+    assert_eq!(Pattern::from_str("a*").unwrap(), pattern);
+    assert_eq!(format!("{pattern}|{pattern:>4}|{pattern:<4}|{pattern:^4}|{pattern:.1}"), "a*|  a*|a*  | a* |a");
+    assert_eq!(pattern.as_str(), "a*");
+    assert!(format!("{pattern:?}").starts_with("Pattern"));
+    assert!(Pattern::default() < pattern && Pattern::default().matches("") && !Pattern::default().matches("a"));
+    assert_eq!(HashSet::from([pattern.clone(), pattern.clone(), Pattern::default()]).len(), 2);
+    assert!(pattern.clone().matches("ab"));
+    assert!(pattern.matches_path(Path::new("ab")) && !pattern.matches_path(Path::new("ba")));
+    let any_case = MatchOptions { case_sensitive: false, ..MatchOptions::new() };
+    assert!(pattern.matches_with("Ab", any_case) && pattern.matches_path_with(Path::new("Ab"), any_case));
+    assert!(!pattern.matches_with("Ab", MatchOptions::new()));
+    assert_eq!(Pattern::escape("a?"), "a[?]");
+}
+
+#[test]
+fn texts_are_kept() {
+    for text in ["", " ", " a ", "a\t", "a\n", "é*\u{a0}", "**/ "] {
+        let pattern = Pattern::new(text).unwrap();
+        assert_eq!((pattern.as_str(), pattern.clone().as_str(), pattern.to_string().as_str()), (text, text, text));
+        assert!(pattern.matches(&text.replace('*', "")));
+    }
+    assert_eq!(Pattern::escape(" [a] "), " [[]a[]] ");
+}
+
+#[test]
+#[allow(deprecated)]
+fn errors() {
+    let error: PatternError = Pattern::new("a**").unwrap_err();
+    assert_eq!((error.pos, error.msg), (0, "recursive wildcards must form a single path component"));
+    assert_eq!(error.to_string(), format!("Pattern syntax error near position 0: {}", error.msg));
+    assert_eq!(error.description(), error.msg);
+    assert!(error.source().is_none());
+    assert!(format!("{error:?}").starts_with("PatternError { pos: 0"));
+    let _: fn(GlobError) -> (PathBuf, String, io::Error) = |error| {
+        let path = error.path().to_owned();
+        match error.cause() {
+            Some(cause) => (path, cause.to_string(), error.into()),
+            None => (path, error.error().to_string(), error.into_error()),
+        }
+    };
+}
+
+#[test]
+fn options() {
+    const NEW: MatchOptions = MatchOptions::new();
+    assert_eq!(
+        [NEW.case_sensitive, NEW.require_literal_separator, NEW.require_literal_leading_dot],
+        [true, false, false]
+    );
+    let default = MatchOptions { case_sensitive: true, ..MatchOptions::default() };
+    assert_eq!(default, NEW);
+    assert!(MatchOptions::default() < NEW);
+    let text =
+        "MatchOptions { case_sensitive: true, require_literal_separator: false, require_literal_leading_dot: false }";
+    assert_eq!(format!("{NEW:?}"), text);
+}
+
+#[test]
+fn walks() {
+    let found: Result<Vec<PathBuf>, GlobError> = glob("Cargo.tom?").unwrap().collect();
+    assert_eq!(found.unwrap(), [Path::new("Cargo.toml")]);
+    let found: GlobResult = glob_with("*.TOML", MatchOptions::default()).unwrap().next().unwrap();
+    assert_eq!(found.unwrap(), Path::new("Cargo.toml"));
+}

@@ -1,0 +1,240 @@
+//! What this crate has beside `glob`: limits, trees, walks that ask, sets, ignore lists, captures and pruned walks.
+
+use std::io::{self, ErrorKind};
+use std::path::{Path, PathBuf};
+
+use cadmiumdove::captures::{captures, tokens, CapturesError, TokenKind, MOST_STEPS};
+use cadmiumdove::ignore::{IgnoreList, Reason, Rule, RuleRefusal};
+use cadmiumdove::prune::{Exclusion, Pruned};
+use cadmiumdove::set::{PatternSet, SetRefusal};
+use cadmiumdove::walk::{glob_in, is_plain, Disk, Entry, GlobCause, Look, Name, Step, Tree, WalkMachine};
+use cadmiumdove::{MatchOptions, Pattern};
+
+const NEW: MatchOptions = MatchOptions::new();
+
+/// Files by their paths, and the directories above them.
+struct Files(&'static [&'static str]);
+
+fn entry(name: &str, is_dir: bool) -> Entry {
+    Entry { name: Name::new(name.to_owned()).unwrap(), is_dir }
+}
+
+impl Tree for Files {
+    fn look(&mut self, path: &str) -> Look {
+        match self.0.iter().find_map(|file| Path::new(file).strip_prefix(path.strip_prefix("./").unwrap_or(path)).ok())
+        {
+            _ if path == "." => Look::Dir,
+            Some(rest) if rest == Path::new("") => Look::Other,
+            Some(_) => Look::Dir,
+            None => Look::Missing,
+        }
+    }
+
+    fn list(&mut self, path: &str) -> io::Result<Vec<Entry>> {
+        if path.ends_with("shut") {
+            return Err(ErrorKind::PermissionDenied.into());
+        }
+        let path = if path == "." { "" } else { path };
+        let mut entries: Vec<Entry> = Vec::new();
+        for file in self.0 {
+            let Ok(rest) = Path::new(file).strip_prefix(path) else { continue };
+            let name = rest.components().next().unwrap().as_os_str().to_str().unwrap();
+            if entries.iter().all(|entry| entry.name.as_str() != name) {
+                entries.insert(0, entry(name, rest.components().count() > 1));
+            }
+        }
+        Ok(entries)
+    }
+}
+
+const FILES: &[&str] = &["a.rs", "b.c", "shut/x.rs", "src/.x/y.rs", "src/a.rs", "src/b.rs", "target/c.rs"];
+
+/// The paths and the paths of errors of a walk.
+fn walked<T: Tree>(tree: T, pattern: &str, options: MatchOptions) -> (Vec<PathBuf>, Vec<PathBuf>) {
+    let (paths, errors): (Vec<_>, Vec<_>) = glob_in(tree, pattern, options, u64::MAX).unwrap().partition(Result::is_ok);
+    (
+        paths.into_iter().flatten().collect(),
+        errors.into_iter().map(|item| item.unwrap_err().path().to_owned()).collect(),
+    )
+}
+
+fn paths(texts: &[&str]) -> Vec<PathBuf> {
+    texts.iter().map(PathBuf::from).collect()
+}
+
+#[test]
+fn trees() {
+    let all = ["a.rs", "src/.x/y.rs", "src/a.rs", "src/b.rs", "target/c.rs"];
+    assert_eq!(walked(Files(FILES), "**/*.rs", NEW), (paths(&all), paths(&["shut"])));
+    let dots = MatchOptions { require_literal_leading_dot: true, ..NEW };
+    assert_eq!(walked(Files(FILES), "src/**/*.rs", dots).0, paths(&["src/a.rs", "src/b.rs"]));
+    assert_eq!(walked(Files(FILES), "src/.x*/*", dots).0, paths(&["src/.x/y.rs"]));
+    assert_eq!(walked(Files(FILES), "*/", NEW).0, paths(&["shut", "src", "target"]));
+    assert_eq!(walked(Files(FILES), "src/b.rs", NEW).0, paths(&["src/b.rs"]));
+    assert_eq!(walked(Files(FILES), "src/c.rs", NEW).0, paths(&[]));
+}
+
+#[test]
+fn limits() {
+    let mut needed = 0;
+    for limit in 0.. {
+        let mut walk = glob_in(Files(&["x", "y"]), "*", NEW, limit).unwrap();
+        let items: Vec<_> = walk.by_ref().collect();
+        assert!(walk.spent() <= limit && walk.given() as usize == items.len());
+        match items.last().unwrap() {
+            Ok(path) => {
+                assert_eq!((path.as_path(), items.len(), walk.spent()), (Path::new("y"), 2, limit));
+                needed = limit;
+                break;
+            }
+            Err(error) => {
+                assert_eq!((error.reason(), error.path()), (GlobCause::Limit, Path::new(".")));
+                assert_eq!(error.to_string(), "attempting to read `.` resulted in an error: walk limit reached");
+            }
+        }
+    }
+    assert_eq!(needed, 4);
+}
+
+#[test]
+fn a_machine_asks() {
+    let mut machine = WalkMachine::new("*/x", NEW, 100).unwrap();
+    assert!(matches!(machine.next(), Step::Look));
+    assert_eq!(machine.path(), ".");
+    assert!(matches!(machine.looked(Look::Dir), Step::List));
+    assert!(matches!(machine.listed(Ok(vec![entry("b", true), entry("f", false), entry("a", true)])), Step::Look));
+    assert_eq!(machine.path(), "a/x");
+    assert!(matches!(machine.looked(Look::Other), Step::Item(Ok(path)) if path == Path::new("a/x")));
+    assert!(matches!(machine.next(), Step::Look));
+    assert_eq!(machine.path(), "b/x");
+    assert!(matches!(machine.looked(Look::Missing), Step::Look));
+    assert_eq!(machine.path(), "f/x");
+    assert!(matches!(machine.looked(Look::Missing), Step::Done));
+    assert!(matches!(machine.next(), Step::Done));
+    assert_eq!((machine.spent(), machine.given()), (8, 1));
+    let error = WalkMachine::new("x/a[/]b", NEW, 1).unwrap_err();
+    assert_eq!((error.pos, error.msg), (1, "invalid range pattern"));
+}
+
+#[test]
+fn names_and_plain_patterns() {
+    assert_eq!(
+        ["", ".", "..", "a/b", "\0"].map(|text| Name::new(text.to_owned()).unwrap_err()),
+        ["", ".", "..", "a/b", "\0"]
+    );
+    assert_eq!(Name::new("...".to_owned()).unwrap().as_str(), "...");
+    assert_eq!(["src/**/*.rs", "src/./*.rs", ".*"].map(|text| is_plain(text).unwrap()), [true, false, false]);
+    assert_eq!(is_plain("a**").unwrap_err().pos, 0);
+}
+
+#[test]
+fn sets() {
+    let set = PatternSet::from_texts(&["a*", "*b", "**/*.O"], NEW).unwrap();
+    let mut numbers = vec![7];
+    for (text, expected) in [("ab", &[0, 1][..]), ("a", &[0]), ("b", &[1]), ("c", &[]), ("x/y.O", &[2]), ("", &[])] {
+        set.matches_into(text, &mut numbers);
+        assert_eq!(numbers, expected, "{text}");
+        assert_eq!(
+            (set.first_match(text), set.last_match(text)),
+            (expected.first().copied(), expected.last().copied())
+        );
+        assert_eq!(set.is_match(text), !expected.is_empty());
+        let path = Path::new(text);
+        set.matches_path_into(path, &mut numbers);
+        assert_eq!((numbers.as_slice(), set.is_match_path(path)), (expected, !expected.is_empty()));
+        let ends = (set.first_match_path(path), set.last_match_path(path));
+        assert_eq!(ends, (expected.first().copied(), expected.last().copied()));
+    }
+    assert_eq!((set.len(), set.is_empty(), set.options()), (3, false, NEW));
+    let SetRefusal::Syntax(number, error) = PatternSet::from_texts(&["*.o", "[a"], NEW).unwrap_err();
+    assert_eq!((number, error.pos), (1, 0));
+    let set = PatternSet::new(vec![Pattern::new("A").unwrap()], MatchOptions::default());
+    assert!(set.is_match("a") && format!("{set:?}") == r#"["A"]"#);
+}
+
+#[test]
+fn ignore_lists() {
+    let list = IgnoreList::new("# comment\n*.o\n/target/\n!keep.o\ndoc/**/*.txt\na\\*b\n[[:digit:]]x\n").unwrap();
+    for (path, is_directory, ignored) in [
+        ("a.o", false, true),
+        ("src/a.o", false, true),
+        ("src/keep.o", false, false),
+        ("target", false, false),
+        ("target", true, true),
+        ("target/keep.o", false, true),
+        ("src/target", true, false),
+        ("doc/a/b/c.txt", false, true),
+        ("doc/c.txt", false, true),
+        ("c.txt", false, false),
+        ("a*b", false, true),
+        ("axb", false, false),
+        ("7x", false, true),
+        ("ax", false, false),
+    ] {
+        assert_eq!(list.is_ignored(path, is_directory), ignored, "{path}");
+    }
+    assert_eq!(list.deciding_rule("keep.o", false), Some(Rule { line: 4, negative: true, directories: false }));
+    assert_eq!(list.deciding_rule("b.c", false), None);
+    let RuleRefusal::Line(line, reason) = IgnoreList::new("a\n[é]\n").unwrap_err();
+    assert_eq!((line, reason), (2, Reason::BeyondAscii));
+}
+
+#[test]
+fn pieces() {
+    let pattern = Pattern::new("**/*.[ch]").unwrap();
+    let text = "é/b/c.d.h";
+    let pieces = captures(&pattern, text, NEW).unwrap().unwrap();
+    assert_eq!(pieces.iter().map(|piece| &text[piece.start..piece.end]).collect::<Vec<_>>(), ["", "é/b/c.d", ".", "h"]);
+    let literal = MatchOptions { require_literal_separator: true, ..NEW };
+    let pieces = captures(&pattern, text, literal).unwrap().unwrap();
+    assert_eq!(pieces.iter().map(|piece| &text[piece.start..piece.end]).collect::<Vec<_>>(), ["é/b/", "c.d", ".", "h"]);
+    assert_eq!(captures(&pattern, "a.rs", NEW).unwrap(), None);
+    let long = "a".repeat(MOST_STEPS / 4 + 1);
+    assert_eq!(captures(&pattern, &long, NEW).map(drop).map_err(|CapturesError::TooLarge| ()), Err(()));
+    let kinds: Vec<_> = tokens(&pattern).iter().map(|token| (token.kind, token.piece.end)).collect();
+    assert_eq!(
+        kinds,
+        [(TokenKind::Recursive, 3), (TokenKind::AnySequence, 4), (TokenKind::Literal, 5), (TokenKind::OneOf, 9)]
+    );
+}
+
+#[test]
+fn pruned_walks() {
+    let list = || IgnoreList::new("target/\nb.rs\n.x/\n").unwrap();
+    let found = walked(Pruned::new(Files(FILES), list()), "**/*.rs", NEW);
+    assert_eq!(found, (paths(&["a.rs", "src/a.rs"]), paths(&["shut"])));
+    let found = walked(Pruned::new(Files(FILES), list()), "target/c.rs", NEW);
+    assert_eq!(found, (paths(&[]), paths(&[])));
+    assert_eq!(walked(Pruned::new(Files(FILES), list()), "src/b.rs", NEW).0, paths(&[]));
+    assert_eq!(walked(Pruned::new(Files(FILES), list()), "./src/*", NEW).0, paths(&["src/a.rs"]));
+    let set = PatternSet::from_texts(&["src", "shut"], NEW).unwrap();
+    assert_eq!(walked(Pruned::new(Files(FILES), set), "**/*.rs", NEW).0, paths(&["a.rs", "target/c.rs"]));
+    let mut tree = Pruned::new(Files(FILES), list());
+    assert_eq!(
+        ["target/c.rs", "src/a.rs", "src/../a.rs", "/a.rs"].map(|path| tree.look(path) == Look::Missing),
+        [true, false, true, true]
+    );
+    assert_eq!(tree.list("src/.x").unwrap_err().kind(), ErrorKind::NotFound);
+    assert_eq!(tree.list("src").unwrap().len(), 1);
+    let mut tree = Pruned::new(Files(FILES), |path: &str, _is_dir: bool| path == "target");
+    assert_eq!((tree.look("target/c.rs"), tree.look("src/a.rs")), (Look::Missing, Look::Other));
+    let function = |path: &str, is_dir: bool| is_dir && path.starts_with('s');
+    assert!(Exclusion::excludes(&function, "src", true));
+    assert_eq!(walked(Pruned::new(Files(FILES), function), "*", NEW).0, paths(&["a.rs", "b.c", "target"]));
+}
+
+#[test]
+fn links_may_be_left_alone() {
+    let root = std::env::temp_dir().join(format!("cadmiumdove-{}-kept", std::process::id()));
+    let _ = std::fs::remove_dir_all(&root);
+    std::fs::create_dir_all(root.join("d")).unwrap();
+    std::fs::write(root.join("d/x"), "").unwrap();
+    #[cfg(unix)]
+    std::os::unix::fs::symlink(".", root.join("again")).unwrap();
+    let pattern = format!("{}/**/x", root.display());
+    let found = walked(Disk::new().follow_links(false), &pattern, NEW).0;
+    let through = walked(Disk::new().follow_links(false), &format!("{}/again/d/x", root.display()), NEW).0;
+    std::fs::remove_dir_all(&root).unwrap();
+    assert_eq!(found, [root.join("d/x")]);
+    assert_eq!(through.len(), cfg!(unix) as usize);
+}
