@@ -48,37 +48,14 @@ impl<'a> Command<'a> {
     pub fn parse(words: &[&'a str]) -> Option<Self>
         ensures { option_map request_of result ≡ request_asked (map (λ w. w.now) words.now) }
     {
-        let Some((&name, words)) = words.split_first() else {
-            return None;
-        };
+        let (&name, words) = words.split_first()?;
         match name {
-            "match" => {
-                if asks_for_help(words) {
-                    Some(Command::Help)
-                } else {
-                    Self::parse_match(words)
-                }
-            }
-            "escape" => {
-                if asks_for_help(words) {
-                    Some(Command::Help)
-                } else {
-                    match only_operand(words) {
-                        Some(text) => Some(Command::Escape { text }),
-                        None => None,
-                    }
-                }
-            }
-            "find" => {
-                if asks_for_help(words) {
-                    Some(Command::Help)
-                } else {
-                    match Search::parse(words) {
-                        Some(search) => Some(Command::Find(search)),
-                        None => None,
-                    }
-                }
-            }
+            "match" | "escape" | "find" if asks_for_help(words) => Some(Command::Help),
+            "match" => Self::parse_match(words),
+            "escape" => Some(Command::Escape {
+                text: only_operand(words)?,
+            }),
+            "find" => Some(Command::Find(Search::parse(words)?)),
             "-h" | "--help" => Some(Command::Help),
             "--version" => Some(Command::Version),
             _ => None,
@@ -94,10 +71,8 @@ impl<'a> Command<'a> {
         let mut rest = words;
         while let [word, after @ ..] = rest {
             if !settings.set(word) {
-                return match only_operand(rest) {
-                    Some(pattern) => Some(Command::Match { settings, pattern }),
-                    None => None,
-                };
+                let pattern = only_operand(rest)?;
+                return Some(Command::Match { settings, pattern });
             }
             rest = after;
         }
@@ -144,22 +119,16 @@ impl<'a> Search<'a> {
                 let [digits, after @ ..] = after else {
                     return None;
                 };
-                limit = match parse_limit(digits) {
-                    Some(number) => number,
-                    None => return None,
-                };
+                limit = parse_limit(digits)?;
                 rest = after;
             } else if settings.set(word) {
                 rest = after;
             } else {
-                return match only_operand(rest) {
-                    Some(pattern) => Some(Search {
-                        pattern,
-                        settings,
-                        limit,
-                    }),
-                    None => None,
-                };
+                return Some(Search {
+                    pattern: only_operand(rest)?,
+                    settings,
+                    limit,
+                });
             }
         }
         None

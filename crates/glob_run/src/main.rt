@@ -23,6 +23,8 @@ mod borrowed;
 mod command;
 mod find;
 mod help;
+#[cfg(test)]
+mod tests;
 
 use borrowed::Borrowed;
 use command::{Command, Settings};

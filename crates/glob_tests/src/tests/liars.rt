@@ -8,14 +8,14 @@ use std::alloc::{AllocError, Global};
 ///
 /// No content answers like this, so the tree tells none. Its asks are counted like those of any other tree.
 #[derive(Drop)]
-pub(super) struct LyingTree {
+pub struct LyingTree {
     alloc: Global,
     asks: Asks,
 }
 
 impl LyingTree {
     /// A tree of which nothing was asked yet.
-    pub(super) fn new(alloc: Global) -> Self
+    pub fn new(alloc: Global) -> Self
         ensures { result.asks ≡ 0 }
     {
         LyingTree {

@@ -1,23 +1,20 @@
-//! What is printed of each public type, whole.
-use super::made::{check, made, pattern_of, text};
+//! What is printed of each public error and pattern, whole, and what the calls of an error of a walk give.
+use super::fake_tree::{Behaviour, Counts, FakeTree};
+use super::rationing::{Memory, Rationed};
+use super::support::{are_same, check, check_printed, made, repeated};
+use super::walks::{next_of, start};
+use glob::{GlobCause, GlobError};
 use glob_captures::CapturesError;
 use glob_lines::LineFault;
-use glob_pattern::{PatternError, PatternRefusal};
+use glob_pattern::{Pattern, PatternError, PatternRefusal};
 use glob_set::SetRefusal;
-use glob_testing::texts::prints_as;
-use std::fmt::Display;
 use std::io::{self, ErrorKind};
 use std::process::Abort;
-
-/// The value is printed as this text.
-fn check_printed<T: Display>(rt: &(impl Abort + AllocGlobal), value: &T, text: &str) {
-    check(rt, prints_as(rt, value, text) == Ok(true), text);
-}
 
 /// Places with their digits, and messages.
 static FAULTS: [(usize, &str, &str); 4] = [
     (0, "0", ""),
-    (10, "10", "\u{e9}\u{20ac}\u{10fffe}"),
+    (3, "3", "invalid range pattern"),
     (
         65_536,
         "65536",
@@ -26,63 +23,149 @@ static FAULTS: [(usize, &str, &str); 4] = [
     (
         usize::MAX,
         "18446744073709551615",
-        "a long message: ..............................................................................................\
-         .............................................................................................................\
-         ..............................................................................................",
+        "\u{e9}\u{20ac}\u{10fffe}",
     ),
 ];
 
 /// A fault at a place is printed with its digits, and in a set after the number of the text.
-fn check_fault(rt: &(impl Abort + AllocGlobal), pos: usize, msg: &'static str, line: &str) {
-    check_printed(rt, &PatternError { pos, msg }, line);
-    let refusal = PatternRefusal::Syntax(PatternError { pos, msg });
-    check_printed(rt, &refusal, line);
-    let numbered = text(rt, &[("pattern 12: ", 1), (line, 1)]);
-    let refusal = SetRefusal::Syntax(12, PatternError { pos, msg });
-    check_printed(rt, &refusal, numbered.as_str());
-}
-
 #[test]
-fn faults_of_patterns(rt: HostRuntime) {
+fn faults_are_printed(rt: HostRuntime) {
     for &(pos, digits, msg) in &FAULTS {
-        let before = "Pattern syntax error near position ";
-        let line = text(&rt, &[(before, 1), (digits, 1), (": ", 1), (msg, 1)]);
-        check_fault(&rt, pos, msg, line.as_str());
+        let line = made(
+            &rt,
+            format!(in rt.alloc(); "Pattern syntax error near position {digits}: {msg}"),
+        );
+        check_printed(&rt, &PatternError { pos, msg }, line.as_str());
+        check_printed(
+            &rt,
+            &PatternRefusal::Syntax(PatternError { pos, msg }),
+            line.as_str(),
+        );
+        let numbered = made(&rt, format!(in rt.alloc(); "pattern 12: {line}"));
+        let refusal = SetRefusal::Syntax(12, PatternError { pos, msg });
+        check_printed(&rt, &refusal, numbered.as_str());
     }
-}
-
-#[test]
-fn other_faults(rt: HostRuntime) {
-    let memory = "out of memory";
-    check_printed(&rt, &PatternRefusal::Memory, memory);
-    check_printed(&rt, &SetRefusal::Memory, memory);
-    check_printed(&rt, &CapturesError::Memory, memory);
-    check_printed(&rt, &LineFault::Memory, memory);
+    check_printed(&rt, &PatternRefusal::Memory, "out of memory");
+    check_printed(&rt, &SetRefusal::Memory, "out of memory");
+    check_printed(&rt, &CapturesError::Memory, "out of memory");
+    check_printed(&rt, &LineFault::Memory, "out of memory");
     let large = "the pattern's tokens times the text's bytes are more than 67108864";
     check_printed(&rt, &CapturesError::TooLarge, large);
-    for error in [
-        io::Error::new(ErrorKind::Interrupted, "words"),
-        io::Error::from_raw_os_error(28),
-    ] {
-        check_printed(&rt, &LineFault::Read(error), "reading failed");
-        check_printed(&rt, &LineFault::Write(error), "writing failed");
-    }
+    let error = io::Error::new(ErrorKind::Interrupted, "words");
+    check_printed(&rt, &LineFault::Read(error), "reading failed");
+    check_printed(&rt, &LineFault::Write(error), "writing failed");
 }
 
 /// A pattern is printed as its text, and for the eyes of a programmer with its text in quotes.
-fn check_pattern(rt: &(impl Abort + AllocGlobal), source: &str) {
-    let pattern = pattern_of(rt, rt.alloc(), source);
-    check_printed(rt, &pattern, source);
-    let line = made(rt, format!(in rt.alloc(); "{pattern:?}"));
-    let quoted = text(rt, &[("\"", 1), (source, 1), ("\"", 1)]);
-    check(rt, line.contains(quoted.as_str()), source);
+#[test]
+fn patterns_are_printed(rt: HostRuntime) {
+    for (unit, times) in [
+        ("a", 0),
+        ("[!\u{e9}-\u{20ac}]", 1),
+        ("src/**/[!a-c]?*.rs/", 1_000),
+    ] {
+        let source = repeated(&rt, unit, times);
+        let pattern = Pattern::new(rt.alloc(), source.as_str()).expect(&rt, "a pattern");
+        check_printed(&rt, &pattern, source.as_str());
+        let line = made(&rt, format!(in rt.alloc(); "{pattern:?}"));
+        let quoted = made(&rt, format!(in rt.alloc(); "\"{source}\""));
+        check(&rt, line.contains(quoted.as_str()), unit);
+    }
+}
+
+/// The error that is the first item of a walk.
+fn error_of<'a>(
+    rt: &impl Abort,
+    alloc: Memory<'a>,
+    (behaviour, pattern, limit): (Behaviour, &str, u64),
+    counts: &'a Counts,
+) -> GlobError<Memory<'a>> {
+    let tree = made(rt, FakeTree::new(alloc, behaviour, counts));
+    let mut paths = made(rt, start(alloc, tree, pattern, limit));
+    match next_of(&mut paths) {
+        Some(Err(error)) => error,
+        _ => panic!(rt; "no error"),
+    }
+}
+
+/// The first item of the walk is an error at the path, if that is known, with this one in it, which it keeps and prints.
+/// Its calls take no memory.
+fn check_error(
+    rt: &(impl AllocGlobal + Abort),
+    walk: (Behaviour, &str, u64),
+    (path, cause): (Option<&str>, GlobCause),
+    known: io::Error,
+) {
+    let (ample, counts) = (Rationed::refusing(0, rt.alloc()), Counts::new());
+    let error = error_of(rt, &ample, walk, &counts);
+    let requests = ample.ration.asked();
+    let at = error.path();
+    check(
+        rt,
+        path.unwrap_or(at.as_str()) == at.as_str() && error.cause() == cause,
+        walk.1,
+    );
+    let begin = "attempting to read `";
+    let line = made(
+        rt,
+        format!(in rt.alloc(); "{begin}{}` resulted in an error: {known}", at.as_str()),
+    );
+    check_printed(rt, &error, line.as_str());
+    let again = error_of(rt, &ample, walk, &counts).into_error();
+    check(rt, are_same(rt, *error.error(), known) == Ok(true), walk.1);
+    check(rt, are_same(rt, again, known) == Ok(true), walk.1);
+    check(
+        rt,
+        are_same(rt, io::Error::from(error), known) == Ok(true),
+        walk.1,
+    );
+    check(
+        rt,
+        ample.ration.asked() == requests.saturating_mul(2),
+        walk.1,
+    );
 }
 
 #[test]
-fn patterns(rt: HostRuntime) {
-    for unit in ["a", "[!\u{e9}-\u{20ac}]", "src/**/[!a-c]?*.rs/"] {
-        for times in [0, 1, 10_000] {
-            check_pattern(&rt, text(&rt, &[(unit, times)]).as_str());
-        }
+fn errors_of_walks(rt: HostRuntime) {
+    let long = repeated(&rt, "\u{e9}", 9_000);
+    let below = made(&rt, format!(in rt.alloc(); "{long}/*"));
+    for reason in [
+        io::Error::from(ErrorKind::NotFound),
+        io::Error::from(ErrorKind::Interrupted),
+        io::Error::new(ErrorKind::InvalidData, "words of its own"),
+        io::Error::other("\u{e9}\u{20ac}\u{10fffe}"),
+        io::Error::from_raw_os_error(13),
+    ] {
+        let tree = Behaviour::Unreadable(reason);
+        check_error(&rt, (tree, "a/*", 9), (Some("a"), GlobCause::Read), reason);
+        check_error(
+            &rt,
+            (tree, below.as_str(), 9),
+            (Some(long.as_str()), GlobCause::Read),
+            reason,
+        );
     }
+    let limited = io::Error::other("walk limit reached");
+    let tree = Behaviour::Chain(9);
+    check_error(&rt, (tree, "a", 0), (Some("."), GlobCause::Limit), limited);
+    check_error(
+        &rt,
+        (tree, "a/b/*", 2),
+        (Some("a/b"), GlobCause::Limit),
+        limited,
+    );
+    check_error(
+        &rt,
+        (tree, long.as_str(), 1),
+        (Some(long.as_str()), GlobCause::Limit),
+        limited,
+    );
+    let memory = io::Error::from(ErrorKind::OutOfMemory);
+    check_error(
+        &rt,
+        (Behaviour::NoMemory, "a", 9),
+        (None, GlobCause::Memory),
+        memory,
+    );
 }

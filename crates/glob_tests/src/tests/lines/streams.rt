@@ -1,16 +1,100 @@
-//! A reader and a writer over memory that move few bytes a call, count their calls, and fail at a call that is picked.
+//! A stream over memory that moves few bytes a call, counts its calls, and fails at a call that is picked.
 ghost use Rattle.std.specs.Prelude.{◌≤◌, IfOk, None, length};
 
 use std::alloc::Global;
 use std::io::{self, ErrorKind, Read, Write};
 
-/// Counts a call, and gives whether it is the one of this number.
-fn is_due(number: Option<u64>, calls: &mut u64) -> bool {
-    let call = *calls;
-    *calls = call.saturating_add(1);
-    match number {
-        Some(number) => number == call,
-        None => false,
+/// What goes wrong with a stream, at the call of this number, from 0 on.
+#[derive(Clone, Copy)]
+pub enum Trouble {
+    Never,
+    /// It answers an error of this kind.
+    Fails(u64, ErrorKind),
+    /// It answers this error.
+    Errs(u64, io::Error),
+    /// It moves no byte, and answers 0.
+    Idles(u64),
+}
+
+impl Trouble {
+    /// How many calls there are up to the trouble.
+    pub fn calls(self) -> u64 {
+        match self {
+            Trouble::Never => 0,
+            Trouble::Fails(call, _) | Trouble::Errs(call, _) | Trouble::Idles(call) =>
+                call.saturating_add(1),
+        }
+    }
+
+    /// The fault that it is: that of a writer that takes nothing has the kind `WriteZero`.
+    pub fn error(self) -> Option<io::Error> {
+        match self {
+            Trouble::Never => None,
+            Trouble::Fails(_, kind) => Some(io::Error::from(kind)),
+            Trouble::Errs(_, error) => Some(error),
+            Trouble::Idles(_) => Some(io::Error::from(ErrorKind::WriteZero)),
+        }
+    }
+}
+
+/// A reader of some bytes, or a writer into memory.
+#[derive(Drop)]
+pub struct Stream<'a> {
+    rest: &'a [u8],
+    /// What was written.
+    pub written: Vec<u8>,
+    /// How many bytes it moves a call at most.
+    most: usize,
+    trouble: Trouble,
+    /// Whether it gives the same bytes again and again.
+    is_endless: bool,
+    /// How many calls there were.
+    pub calls: u64,
+}
+
+impl<'a> Stream<'a> {
+    pub fn new(alloc: Global, rest: &'a [u8], most: usize, trouble: Trouble) -> Self {
+        Stream {
+            rest,
+            written: Vec::new(alloc),
+            most,
+            trouble,
+            is_endless: false,
+            calls: 0,
+        }
+    }
+
+    pub fn endless(alloc: Global, rest: &'a [u8]) -> Self {
+        let mut stream = Stream::new(alloc, rest, usize::MAX, Trouble::Never);
+        stream.is_endless = true;
+        stream
+    }
+
+    /// Counts a call, and gives how many of so many bytes it moves.
+    fn count(&mut self, len: usize) -> io::Result<usize>
+        ensures { IfOk result (λ moved. moved ≤ len) }
+    {
+        self.calls = self.calls.saturating_add(1);
+        match self.trouble.error() {
+            Some(_) if self.calls != self.trouble.calls() => Ok(len.min(self.most)),
+            Some(_) if matches!(self.trouble, Trouble::Idles(_)) => Ok(0),
+            Some(error) => Err(error),
+            None => Ok(len.min(self.most)),
+        }
+    }
+}
+
+impl Read for Stream<'_> {
+    ghost remaining = { λ _. None };
+
+    fn read(&mut self, buf: &mut [u8]) -> io::Result<usize> {
+        let rest = self.rest;
+        let len = self.count(rest.len().min(buf.len()))?;
+        buf[..len].copy_from_slice(&rest[..len]);
+        if !self.is_endless {
+            self.rest = &rest[len..];
+        }
+        Ok(len)
     }
 }
 
@@ -24,95 +108,11 @@ fn append(list: &mut Vec<u8>, bytes: &[u8]) -> io::Result<usize>
     }
 }
 
-/// A reader of some bytes.
-#[derive(Drop)]
-pub(super) struct Source<'a> {
-    pub(super) rest: &'a [u8],
-    /// How many bytes it gives a call at most.
-    pub(super) most: usize,
-    /// The number of the call that fails, and its error.
-    pub(super) upset: Option<u64>,
-    pub(super) error: io::Error,
-    /// Whether it gives the same bytes again and again.
-    is_endless: bool,
-    /// How many calls there were.
-    pub(super) calls: u64,
-}
-
-impl<'a> Source<'a> {
-    pub(super) fn new(bytes: &'a [u8], most: usize) -> Self {
-        Source {
-            rest: bytes,
-            most,
-            upset: None,
-            error: io::Error::from(ErrorKind::Other),
-            is_endless: false,
-            calls: 0,
-        }
-    }
-
-    pub(super) fn endless(bytes: &'a [u8]) -> Self {
-        Source {
-            is_endless: true,
-            ..Source::new(bytes, usize::MAX)
-        }
-    }
-}
-
-impl Read for Source<'_> {
-    ghost remaining = { λ _. None };
-
-    fn read(&mut self, buf: &mut [u8]) -> io::Result<usize> {
-        if is_due(self.upset, &mut self.calls) {
-            return Err(self.error);
-        }
-        let rest = self.rest;
-        let len = rest.len().min(buf.len()).min(self.most);
-        buf[..len].copy_from_slice(&rest[..len]);
-        if !self.is_endless {
-            self.rest = &rest[len..];
-        }
-        Ok(len)
-    }
-}
-
-/// A writer into memory.
-#[derive(Drop)]
-pub(super) struct Sink {
-    /// What was written.
-    pub(super) written: Vec<u8>,
-    /// How many bytes it takes a call at most.
-    pub(super) most: usize,
-    /// The number of the call that fails, and its error. Where there is none, that call takes no byte and answers 0.
-    pub(super) upset: Option<u64>,
-    pub(super) error: Option<io::Error>,
-    /// How many calls there were.
-    pub(super) calls: u64,
-}
-
-impl Sink {
-    pub(super) fn new(alloc: Global, most: usize) -> Self {
-        Sink {
-            written: Vec::new(alloc),
-            most,
-            upset: None,
-            error: None,
-            calls: 0,
-        }
-    }
-}
-
-impl Write for Sink {
+impl Write for Stream<'_> {
     ghost contents = { λ _. None };
 
     fn write(&mut self, buf: &[u8]) -> io::Result<usize> {
-        if is_due(self.upset, &mut self.calls) {
-            return match self.error {
-                Some(error) => Err(error),
-                None => Ok(0),
-            };
-        }
-        let len = buf.len().min(self.most);
+        let len = self.count(buf.len())?;
         append(&mut self.written, &buf[..len])
     }
 

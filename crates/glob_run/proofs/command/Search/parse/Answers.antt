@@ -4,7 +4,7 @@ use Rattle.glob_run.proofs.command.Search.parse.Goals as goal
 
 pub loop-rest-preserved-then-eq : goal.loop-rest-preserved-then-eq
 loop-rest-preserved-then-eq c =
-    sym (paths_request-limit _ _ _ _ _ _ c.in-len1-up.len_at_least c.in-len1-up-after.len_at_least (sym c.eq.ensures ∙ c.if-eq.true) (sym c.parse_limit.ensures ∙ c.in-Some.is))
+    sym (paths_request-limit _ _ _ _ _ _ c.in-len1-up.len_at_least c.in-len1-up-after.len_at_least (sym c.eq.ensures ∙ c.if-eq.true) (sym c.parse_limit.ensures ∙ c.in_ok-limit.was))
     ∙ c.loop-rest.invariant
 
 pub loop-rest-preserved : goal.loop-rest-preserved
@@ -12,10 +12,10 @@ loop-rest-preserved c =
     rw (c.set.ensures.set c.if-set.true) (sym (paths_request-option _ _ _ _ c.in-len1-up.len_at_least (sym c.eq.ensures ∙ c.if-eq.false) (sym c.set.ensures.named ∙ c.if-set.true))
     ∙ c.loop-rest.invariant)
 
-pub returns-in-None : goal.returns-in-None
-returns-in-None c =
-    paths_request-no_limit _ _ _ _ _ c.in-len1-up.len_at_least c.in-len1-up-after.len_at_least (sym c.eq.ensures ∙ c.if-eq.true) (sym c.parse_limit.ensures ∙ c.in-None.is)
-    ∙ c.loop-rest.invariant
+pub returns-in_err-limit : goal.returns-in_err-limit
+returns-in_err-limit c =
+    rw c.from_residual.ensures (paths_request-no_limit _ _ _ _ _ c.in-len1-up.len_at_least c.in-len1-up-after.len_at_least (sym c.eq.ensures ∙ c.if-eq.true) (sym c.parse_limit.ensures ∙ c.in_err-limit.was)
+    ∙ c.loop-rest.invariant)
 
 pub returns : goal.returns
 returns c = paths_request-none _ _ _ c.in_default.len_below ∙ c.loop-rest.invariant

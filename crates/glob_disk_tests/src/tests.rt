@@ -1,4 +1,0 @@
-mod disks;
-mod lists;
-mod made;
-mod memory;

@@ -1,3 +1,0 @@
-mod callers;
-mod console;
-mod readme;

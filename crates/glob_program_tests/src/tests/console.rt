@@ -1,6 +1,0 @@
-mod counted_tree;
-mod order;
-mod runs;
-mod waiting;
-mod writers;
-mod writing;

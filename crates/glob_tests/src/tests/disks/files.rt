@@ -1,0 +1,192 @@
+//! A scripted file system, which counts its calls.
+use glob_prune::Strays;
+use std::cell::Cell;
+use std::fs::{File, Files, Metadata, OpenOptions};
+use std::io::{self, ErrorKind, Read};
+
+/// What stands at a path.
+#[derive(Clone, Copy)]
+pub enum Kind<'a> {
+    File,
+    /// A directory. These blocks are its names, with a NUL after each. A read gives one block.
+    Dir(&'a [&'a [u8]]),
+    /// A directory of which these blocks are read, and then a read fails, and why.
+    Torn(&'a [&'a [u8]], ErrorKind),
+    /// A directory that fails so where it is opened, or else where it is read.
+    Failing(io::Error, bool),
+    /// A link to a file, and one to a directory.
+    LinkToFile,
+    LinkToDir,
+    /// A link that cannot be followed, and why.
+    Link(ErrorKind),
+    /// What cannot be looked at or opened, and why.
+    Lost(ErrorKind),
+}
+
+/// How many system calls were made, and for how much.
+#[derive(Drop)]
+pub struct Calls {
+    /// How often metadata was asked for.
+    pub lookups: Cell<u64>,
+    /// How often a directory was opened.
+    pub opens: Cell<u64>,
+    /// How many bytes the reads of directories had room for, in total.
+    pub room: Cell<u64>,
+    /// How often a name that is not UTF-8 was reported.
+    pub strays: Cell<u64>,
+}
+
+/// Adds to a count.
+fn raise(count: &Cell<u64>, more: usize) {
+    count.set(count.get().saturating_add(more as u64));
+}
+
+impl Calls {
+    /// No calls.
+    pub fn new() -> Self {
+        Calls {
+            lookups: Cell::new(0),
+            opens: Cell::new(0),
+            room: Cell::new(0),
+            strays: Cell::new(0),
+        }
+    }
+}
+
+/// Counts the names that it receives, each of which has to be this one.
+#[derive(Drop)]
+pub struct Noted<'a>(pub &'a Calls);
+
+impl Strays for Noted<'_> {
+    fn stray(&mut self, directory: &str, name: &[u8]) {
+        let is_known = directory == "latin/" && name == b"y\xffz".as_slice();
+        raise(&self.0.strays, if is_known { 1 } else { 9 });
+    }
+}
+
+/// A file system of some paths. All others are missing. A directory's path ends in a separator where it is opened.
+#[derive(Drop)]
+pub struct Written<'a> {
+    paths: &'a [(&'a str, Kind<'a>)],
+    pub calls: &'a Calls,
+}
+
+/// The names of a directory that are not yet read, and why no more can be read after them, if so.
+#[derive(Drop)]
+pub struct Names<'a> {
+    blocks: &'a [&'a [u8]],
+    failure: Option<io::Error>,
+    calls: &'a Calls,
+}
+
+impl Read for Names<'_> {
+    fn read(&mut self, buf: &mut [u8]) -> io::Result<usize> {
+        raise(&self.calls.room, buf.len());
+        let blocks = self.blocks;
+        if blocks.is_empty() {
+            return self.failure.map_or(Ok(0), Err);
+        }
+        let block = blocks[0];
+        self.blocks = &blocks[1..];
+        let count = block.len().min(buf.len());
+        buf[..count].copy_from_slice(&block[..count]);
+        Ok(count)
+    }
+}
+
+impl<'a> Written<'a> {
+    pub fn new(paths: &'a [(&'a str, Kind<'a>)], calls: &'a Calls) -> Self {
+        Written { paths, calls }
+    }
+
+    /// What stands at a path.
+    fn kind(&self, path: &str) -> Kind<'a> {
+        for (key, kind) in self.paths {
+            if *key == path {
+                return *kind;
+            }
+        }
+        Kind::Lost(ErrorKind::NotFound)
+    }
+
+    /// The directory of these blocks, opened.
+    fn opened(&self, blocks: &'a [&'a [u8]], failure: Option<io::Error>) -> io::Result<Names<'a>> {
+        let calls = self.calls;
+        Ok(Names {
+            blocks,
+            failure,
+            calls,
+        })
+    }
+}
+
+impl<'a> Files for Written<'a> {
+    type File = File;
+
+    type Dir = Names<'a>;
+
+    fn open_file(&self, _how: &OpenOptions, _path: &str) -> io::Result<File> {
+        Err(unsupported())
+    }
+
+    fn open_dir(&self, path: &str) -> io::Result<Names<'a>> {
+        raise(&self.calls.opens, 1);
+        match self.kind(path) {
+            Kind::Dir(blocks) => self.opened(blocks, None),
+            Kind::Torn(blocks, kind) => self.opened(blocks, Some(io::Error::from(kind))),
+            Kind::Failing(error, true) => Err(error),
+            Kind::Failing(error, false) => self.opened(&[], Some(error)),
+            Kind::Link(kind) | Kind::Lost(kind) => Err(io::Error::from(kind)),
+            Kind::File | Kind::LinkToFile | Kind::LinkToDir => Err(unsupported()),
+        }
+    }
+
+    fn metadata(&self, path: &str) -> io::Result<Metadata> {
+        raise(&self.calls.lookups, 1);
+        match self.kind(path) {
+            Kind::File | Kind::LinkToFile => Ok(Metadata::of_file(0)),
+            Kind::Dir(_) | Kind::Torn(..) | Kind::Failing(..) | Kind::LinkToDir => Ok(
+                Metadata::of_dir(),
+            ),
+            Kind::Link(kind) | Kind::Lost(kind) => Err(io::Error::from(kind)),
+        }
+    }
+
+    fn symlink_metadata(&self, path: &str) -> io::Result<Metadata> {
+        match self.kind(path) {
+            Kind::LinkToFile | Kind::LinkToDir | Kind::Link(_) => {
+                raise(&self.calls.lookups, 1);
+                Ok(Metadata::of_symlink(0))
+            }
+            _ => self.metadata(path),
+        }
+    }
+
+    fn copy(&self, _from: &str, _to: &str) -> io::Result<u64> {
+        Err(unsupported())
+    }
+
+    fn rename(&self, _from: &str, _to: &str) -> io::Result<()> {
+        Err(unsupported())
+    }
+
+    fn remove_file(&self, _path: &str) -> io::Result<()> {
+        Err(unsupported())
+    }
+
+    fn create_dir(&self, _path: &str) -> io::Result<()> {
+        Err(unsupported())
+    }
+
+    fn remove_dir(&self, _path: &str) -> io::Result<()> {
+        Err(unsupported())
+    }
+
+    fn remove_dir_all<B: std::alloc::Allocator>(&self, _alloc: B, _path: &str) -> io::Result<()> {
+        Err(unsupported())
+    }
+}
+
+fn unsupported() -> io::Error {
+    io::Error::from(ErrorKind::Unsupported)
+}

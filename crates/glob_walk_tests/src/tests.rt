@@ -1,5 +1,0 @@
-mod fake_tree;
-mod machine;
-mod made;
-mod memory;
-mod walks;
