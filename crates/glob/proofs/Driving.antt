@@ -1,5 +1,5 @@
 -- A walk over a tree, which answers the questions.
-use Rattle.std.proofs.Common.{◌≡◌, ℕ, ◌+◌, ◌-◌, ◌≤◌, Bool, true, false, List, [], ◌∷◌, Option, Some, None, refl, ap, sym, subst, ◌∙◌, arith}
+use Rattle.std.proofs.Common.{◌≡◌, ℕ, ◌+◌, ◌≤◌, Bool, true, false, List, [], ◌∷◌, Option, Some, None, refl, ap, sym, subst, ◌∙◌, arith}
 use Rattle.std.specs.Prelude.{option_map}
 use Rattle.std.proofs.lemmas.Bool.{both_ways}
 use Rattle.glob_tree.specs.Content.{Content}
@@ -11,8 +11,8 @@ use Rattle.glob_walk.specs.Machines.{MachineState, Agrees, Saying, AsksLook, Ask
 use Rattle.glob_walk.specs.Walks.{Gives, LimitAt, NoMemory, Walking, Charges, IsUpTo, TakesFront, IsAsked, Takes, Goes, is_last, item_number}
 use Rattle.glob.specs.Private.Walking.{IsDriven}
 use Rattle.glob_walk.proofs.WalkLemmas.Charging.{Charges-trans, Charges-asked, AsksNext-after}
-use Rattle.std.proofs.Common.{◌≡◌, ℕ, ◌+◌, ◌-◌, ◌≤◌, false, Option, Some, None, List, [], ◌∷◌, ◌++◌, refl, ap, sym, subst, ◌∙◌, arith, append_assoc}
-use Rattle.glob_walk.specs.Marks.{Mark, Work, Give, Item, front}
+use Rattle.std.proofs.Common.{◌≡◌, ℕ, ◌+◌, ◌≤◌, false, Option, Some, None, List, [], ◌∷◌, ◌++◌, refl, ap, sym, subst, ◌∙◌, arith, append_assoc}
+use Rattle.glob_walk.specs.Marks.{Mark, Work, Give, Item}
 use Rattle.glob_tree.specs.Content.{Content}
 use Rattle.glob_tree.specs.Answers.{IsTold}
 use Rattle.glob_walk.specs.Walks.{Gives, LimitAt, NoMemory, Charges, IsUpTo, works, Walking, Goes, TakesFront}

@@ -1,4 +1,5 @@
 //! Laws of the definitions that the contracts name: of patterns and the texts that they match, and of walks.
+pub use glob_laws::calls::{path_matches_as_its_text, text_is_an_equal_pattern};
 pub use glob_laws::patterns::{
     accepted_has_no_fault, components_match_level_by_level, deep_tokens_match_as_one,
     escaped_text_matches_itself, looser_rules_keep_a_match, matching_is_decided,

@@ -11,6 +11,7 @@ ghost use Rattle.glob_walk.specs.Walks.{IsFresh, RefusesWith};
 use glob_pattern::{MatchOptions, PatternRefusal};
 use glob_tree::Tree;
 use glob_walk::{GlobResult, Step, WalkMachine};
+use std::fmt;
 use std::marker::Model;
 
 /// The items of a walk: the paths that a pattern leads to in a tree, in order, and an error for each directory that
@@ -43,6 +44,16 @@ impl<T: Tree> Model for Paths<T> {
     } };
 
     ghost invariant = { λ p. IsDriven T.tells p.tree p.machine };
+}
+
+/// How many units were charged, and how many items given.
+impl<T: Tree> fmt::Debug for Paths<T> {
+    fn fmt<W: fmt::Write>(&self, f: &mut fmt::Formatter<W>) -> fmt::Result {
+        f.debug_struct("Paths")
+            .field("spent", &self.spent())
+            .field("given", &self.given())
+            .finish()
+    }
 }
 
 impl<T: Tree> Paths<T> {

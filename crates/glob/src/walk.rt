@@ -16,7 +16,7 @@ use std::alloc::Allocator;
 
 /// A whole walk. That of `*` over a file `x` has the item `x`, the end `Done`, and 3 units spent: for the lookup of the
 /// start, its listing, and the entry.
-#[derive(Drop)]
+#[derive(Debug, Drop)]
 pub struct Walk<T: Tree> {
     /// Its items, in order: a beginning of them where it did not end with `Done`.
     pub items: Vec<GlobResult<T::Alloc>, T::Alloc>,
@@ -85,10 +85,8 @@ fn walked<T: Tree>(
         (λ walk. (p : Walking T) × (begun ≡ Ok p)
         × EndsAs T.asks T.tells p walk.end walk.spent walk.items.items walk.tree) }
 {
-    match begun {
-        Ok(paths) => Ok(whole(alloc, paths)),
-        Err(e) => Err(e),
-    }
+    let paths = begun?;
+    Ok(whole(alloc, paths))
 }
 
 /// The whole of a walk that has done nothing yet. It cannot fail.

@@ -101,9 +101,7 @@ fn count_captures(
 ) -> io::Result<u64> {
     let mut count = 0u64;
     for line in lines {
-        let Ok(found) = captures(alloc, pattern, line, options) else {
-            return Err(unfit());
-        };
+        let found = captures(alloc, pattern, line, options).map_err(|_| unfit())?;
         if found.is_some() {
             count = count.saturating_add(1);
         }

@@ -69,9 +69,7 @@ pub fn compile_pattern(rt: &HostRuntime, words: &[&str]) -> io::Result<()> {
 fn count_bytes(alloc: Global, text: &str, times: u64) -> io::Result<u64> {
     let mut count = 0u64;
     for _ in 0..times {
-        let Ok(pattern) = Pattern::new(alloc, text) else {
-            return Err(unfit());
-        };
+        let pattern = Pattern::new(alloc, text).map_err(|_| unfit())?;
         count = count.saturating_add(pattern.as_str().len() as u64);
     }
     Ok(count)
@@ -103,9 +101,7 @@ fn count_items(alloc: Global, pattern: &str, levels: u64, times: u64) -> io::Res
 /// How many items a walk over so many levels gives.
 fn count_walk(alloc: Global, pattern: &str, levels: u64) -> io::Result<u64> {
     let tree = Chain::new(alloc, levels as usize);
-    let Ok(paths) = glob_in(alloc, tree, pattern, MatchOptions::new(), u64::MAX) else {
-        return Err(unfit());
-    };
+    let paths = glob_in(alloc, tree, pattern, MatchOptions::new(), u64::MAX).map_err(|_| unfit())?;
     let mut count = 0u64;
     for _ in paths {
         count = count.saturating_add(1);

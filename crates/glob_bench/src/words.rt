@@ -21,10 +21,7 @@ pub fn options_of(letters: &str) -> MatchOptions {
 
 /// The number that a word stands for.
 pub fn number_of(word: &str) -> io::Result<u64> {
-    match word.parse::<u64>() {
-        Ok(number) => Ok(number),
-        Err(_) => Err(unfit()),
-    }
+    word.parse::<u64>().map_err(|_| unfit())
 }
 
 /// The text of a pattern that a word stands for: its own, or that of a file.
@@ -38,10 +35,7 @@ pub fn pattern_text(rt: &HostRuntime, word: &str) -> io::Result<String> {
 /// The pattern that a word stands for.
 pub fn read_pattern(rt: &HostRuntime, word: &str) -> io::Result<Pattern> {
     let text = pattern_text(rt, word)?;
-    match Pattern::new(rt.alloc(), text.as_str()) {
-        Ok(pattern) => Ok(pattern),
-        Err(_) => Err(unfit()),
-    }
+    Pattern::new(rt.alloc(), text.as_str()).map_err(|_| unfit())
 }
 
 /// The lines of a text.

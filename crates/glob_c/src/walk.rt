@@ -80,7 +80,7 @@ pub extern "C" fn cadmiumdove_walk_new(
             let PatternError { pos, msg } = error;
             *fault = Fault {
                 place: pos,
-                message: fault::code_of(msg),
+                message: fault::number_of(msg),
             };
             SYNTAX_FAULT
         }

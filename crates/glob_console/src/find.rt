@@ -9,7 +9,7 @@ ghost use Rattle.glob_walk.specs.Machines.{Ends, IsAskedAfter, StepCounts, sayin
 ghost use Rattle.glob_walk.specs.Marks.{Item, Mark};
 ghost use Rattle.glob_walk.specs.Driven.{GivesNext, HasGiven};
 ghost use Rattle.glob_console.specs.FoundPaths.{FindsPaths, FindsSomeBytes, IsFindFault, IsRefusal};
-ghost use Rattle.glob_console.specs.Private.Writing.{IsWriteFault, Queues, StepWrites, is_item_wanted, step_record};
+ghost use Rattle.glob_console.specs.Private.Writing.{Queues, StepWrites, is_item_wanted, step_record};
 
 pub mod fault;
 pub mod findings;
@@ -66,18 +66,17 @@ pub fn find_in<T: Tree, C: Choice, W: Write, E: Write>(
         (W.contents output.old) (W.contents output.new)) }
 {
     let mut tree = tree;
-    match WalkMachine::new(alloc, walk.pattern, walk.options, walk.limit) {
-        Ok(mut machine) => write_items(
-            alloc,
-            &mut tree,
-            &mut machine,
-            choice,
-            walk.end,
-            output,
-            errors,
-        ),
-        Err(refusal) => Err(FindFault::Pattern(refusal)),
-    }
+    let mut machine = WalkMachine::new(alloc, walk.pattern, walk.options, walk.limit)?;
+    let findings = write_items(
+        alloc,
+        &mut tree,
+        &mut machine,
+        choice,
+        walk.end,
+        output,
+        errors,
+    )?;
+    Ok(findings)
 }
 
 /// Writes the wanted items of a walk up to its end, whose questions the tree answers.
@@ -89,9 +88,8 @@ fn write_items<T: Tree, C: Choice, W: Write, E: Write>(
     end: u8,
     output: &mut W,
     errors: &mut ErrorLines<'_, T::Alloc, E>,
-) -> Result<Findings, FindFault>
+) -> io::Result<Findings>
     requires free { walk.old.asked ≡ None }
-    ensures fault { IfErr result IsWriteFault }
     ensures paths { (c : Content) → IsTold (T.tells tree.old) c → (ms : List Mark)
         → HasGiven ms c [] walk.old → IfOk result (FindsPaths
         end (C.wanted choice.now c) ms walk.old.limit
@@ -101,14 +99,11 @@ fn write_items<T: Tree, C: Choice, W: Write, E: Write>(
         end (C.wanted choice.now c) ms
         (W.contents output.old) (W.contents output.new)) }
 {
-    let mut lines = match Lines::new(alloc) {
-        Ok(lines) => lines,
-        Err(error) => return Err(FindFault::Write(io::Error::from(error))),
-    };
+    let mut lines = Lines::new(alloc)?;
     let mut findings = Findings::new();
     let mut step = walk.next();
     loop {
-        if let Err(error) = write_step(
+        write_step(
             &step,
             walk.spent(),
             choice,
@@ -118,11 +113,9 @@ fn write_items<T: Tree, C: Choice, W: Write, E: Write>(
             &mut findings,
             output,
             errors,
-        ) {
-            break Err(FindFault::Write(error));
-        }
+        )?;
         if let Step::Done = step {
-            break Ok(findings);
+            return Ok(findings);
         }
         step = go_on(step, tree, walk);
     }
@@ -155,23 +148,18 @@ fn write_step<T: Tree, C: Choice, W: Write, E: Write>(
 {
     match step {
         Step::Item(item) => match item {
-            Ok(path) => match choice.wants(tree, path.as_str()) {
-                Ok(true) => {
-                    findings.note(item);
-                    lines.add(path.as_str(), end, output)
+            Ok(path) => {
+                if !choice.wants(tree, path.as_str())? {
+                    return Ok(());
                 }
-                Ok(false) => Ok(()),
-                Err(error) => Err(io::Error::from(error)),
-            },
+                findings.note(item);
+                lines.add(path.as_str(), end, output)
+            }
             Err(error) => {
                 findings.note(item);
-                match lines.flush(output) {
-                    Ok(()) => {
-                        errors.write(error);
-                        Ok(())
-                    }
-                    Err(fault) => Err(fault),
-                }
+                lines.flush(output)?;
+                errors.write(error);
+                Ok(())
             }
         },
         Step::Done => lines.flush(output),

@@ -22,10 +22,8 @@ pub fn words_of<A: Allocator + Copy>(
         map (λ w. w.now) words.items ≡ map string_bytes arguments.now) }
 {
     let mut words = Vec::new(alloc);
-    let mut rest = arguments;
-    while let [argument, after @ ..] = rest {
+    for argument in arguments {
         words.push(argument.as_str())?;
-        rest = after;
     }
     Ok(words)
 }

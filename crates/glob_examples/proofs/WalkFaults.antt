@@ -1,5 +1,5 @@
 -- Why the paths of a walk are not all known.
-use Rattle.std.proofs.Common.{◌≡◌, inl, inr, ℕ, true, List, Contains, Option, Some, Result, Ok, Err, refl, sym, ap, subst, ◌∙◌, arith}
+use Rattle.std.proofs.Common.{◌≡◌, inl, inr, ℕ, true, List, Contains, Option, Some, Result, Err, refl, sym, ap, subst, ◌∙◌, arith}
 use Rattle.std.specs.Prelude.{option_map}
 use Rattle.std.specs.declared.path.buf.PathBuf.{PathBuf}
 use Rattle.std.specs.IoError.{error_kind}

@@ -55,9 +55,7 @@ impl Tree for OneFile<'_> {
             Look::Other => return Err(ListError::Read(no_directory())),
             Look::Missing => return Err(ListError::Read(no_directory())),
         }
-        let Ok(entries) = entries(self.alloc, self.name) else {
-            return Err(ListError::Memory);
-        };
+        let entries = entries(self.alloc, self.name).map_err(|_| ListError::Memory)?;
         self.asks = self.asks.after(entries.len());
         Ok(entries)
     }

@@ -1,5 +1,4 @@
 //! A text with a caret under one of its characters.
-use crate::rows::add_texts;
 use std::alloc::{AllocError, Allocator};
 
 /// Adds the text and, below it, a caret under the character of this number, counted from 0. A character is a column,
@@ -9,7 +8,8 @@ pub fn add_caret<A: Allocator>(
     text: &str,
     column: usize,
 ) -> Result<(), AllocError> {
-    add_texts(lines, &[text, "\n"])?;
+    lines.push_str(text)?;
+    lines.push('\n')?;
     for _ in 0..column {
         lines.push(' ')?;
     }

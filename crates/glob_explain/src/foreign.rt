@@ -47,9 +47,8 @@ fn are_accepted<A: Allocator + Copy>(alloc: A, texts: &[String<A>]) -> Result<bo
         → All (λ text. IsAccepted (chars (string_bytes text))) texts.now) }
 {
     for text in texts {
-        match is_accepted(alloc, text.as_str()) {
-            Ok(true) => {}
-            other => return other,
+        if !is_accepted(alloc, text.as_str())? {
+            return Ok(false);
         }
     }
     Ok(true)

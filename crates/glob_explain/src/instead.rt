@@ -2,7 +2,6 @@
 ghost use Rattle.std.specs.Prelude.{◌≡◌, true, IfOk, IfSome, chars, string_bytes};
 ghost use Rattle.glob_pattern.specs.Grammar.Units.{IsAccepted};
 
-use crate::rows::add_texts;
 use glob_pattern::{Pattern, PatternRefusal};
 use std::alloc::{AllocError, Allocator};
 
@@ -59,17 +58,14 @@ fn add_component<A: Allocator>(
     rest: &str,
 ) -> Result<(), AllocError> {
     made.push_str(before)?;
-    let start = if made.is_empty() || made.as_str().ends_with('/') {
-        ""
-    } else {
-        "*/"
-    };
-    let end = if rest.is_empty() || rest.starts_with('/') {
-        ""
-    } else {
-        "/*"
-    };
-    add_texts(made, &[start, "**", end])
+    if !made.is_empty() && !made.as_str().ends_with('/') {
+        made.push_str("*/")?;
+    }
+    made.push_str("**")?;
+    if !rest.is_empty() && !rest.starts_with('/') {
+        made.push_str("/*")?;
+    }
+    Ok(())
 }
 
 /// The pattern, where the character at the place stands for itself: `a[b` becomes `a[[]b`.

@@ -7,19 +7,11 @@ pub fn part_of(text: &str, piece: Piece) -> &str {
     text.get(piece.start..piece.end).unwrap_or("")
 }
 
-/// Adds texts one after another.
-pub fn add_texts<A: Allocator>(lines: &mut String<A>, texts: &[&str]) -> Result<(), AllocError> {
-    for text in texts {
-        lines.push_str(text)?;
-    }
-    Ok(())
-}
-
 /// Adds how a token is written, a tab, words and a line feed.
 pub fn add_row<A: Allocator>(
     lines: &mut String<A>,
     token: &str,
     words: &str,
 ) -> Result<(), AllocError> {
-    add_texts(lines, &[token, "\t", words, "\n"])
+    writeln!(lines, "{token}\t{words}")
 }

@@ -6,7 +6,7 @@ mod wanted;
 
 use crate::caret::add_caret;
 use crate::foreign::foreign_instead;
-use crate::rows::{add_row, add_texts, part_of};
+use crate::rows::{add_row, part_of};
 use glob_captures::{CapturesError, MOST_STEPS, Piece, Reached, Written, reach, tokens};
 use glob_pattern::{MatchOptions, Pattern, PatternRefusal};
 use std::alloc::{AllocError, Allocator};
@@ -177,14 +177,12 @@ fn add_waiting<A: Allocator>(lines: &mut String<A>, stop: &Stop<'_>) -> Result<(
 
 /// Whether a token waits that takes one character alone.
 fn waits_for_one(stop: &Stop<'_>) -> bool {
-    for number in stop.waiting {
-        if let Some(token) = stop.tokens.get(*number)
-            && !grows(token.kind)
-        {
-            return true;
-        }
-    }
-    false
+    let takes_one = |number: &usize| {
+        stop.tokens
+            .get(*number)
+            .is_some_and(|token| !grows(token.kind))
+    };
+    stop.waiting.iter().any(takes_one)
 }
 
 /// Adds a line if the pattern may end where the text stops.
@@ -254,7 +252,7 @@ fn add_patterns<A: Allocator>(
         [_, _, ..] => "write one pattern for each: ",
     };
     for pattern in patterns {
-        add_texts(lines, &[before, pattern.as_str()])?;
+        write!(lines, "{before}{pattern}")?;
         before = ", ";
     }
     lines.push('\n')

@@ -40,10 +40,7 @@ impl<'a, A: Allocator + Copy> Command<'a, A> {
             [word, ..] => match *word {
                 "-h" | "--help" => Ok(Command::Help),
                 "--version" => Ok(Command::Version),
-                _ => match Search::parse(alloc, words) {
-                    Ok(search) => Ok(Command::Find(search)),
-                    Err(fault) => Err(fault),
-                },
+                _ => Ok(Command::Find(Search::parse(alloc, words)?)),
             },
         }
     }
@@ -85,10 +82,8 @@ impl<'a, A: Allocator + Copy> Search<'a, A> {
         ensures wrong { IfErr result
             (IsWrong (patterns_asked options.entry (map (λ w. w.now) words.now))) }
     {
-        match patterns_of(words) {
-            Ok(patterns) => Ok(Search { options, patterns }),
-            Err(fault) => Err(fault),
-        }
+        let patterns = patterns_of(words)?;
+        Ok(Search { options, patterns })
     }
 }
 
@@ -118,12 +113,10 @@ fn patterns_of<'a>(words: &'a [&'a str]) -> Result<&'a [&'a str], UsageFault<'a>
 fn first_option<'a>(words: &[&'a str]) -> Option<&'a str>
     ensures { option_map (λ w. w.now) result ≡ first_option (map (λ w. w.now) words.now) }
 {
-    let mut rest = words;
-    while let [word, after @ ..] = rest {
+    for word in words {
         if word.starts_with('-') {
-            return Some(word);
+            return Some(*word);
         }
-        rest = after;
     }
     None
 }

@@ -153,14 +153,12 @@ impl<'a, A: Allocator + Copy> Options<'a, A> {
         ensures wrong { IfErr result (IsValueFault option word.now self.old) }
     {
         match option {
-            Valued::Limit => match parse_limit(word) {
-                Some(limit) => self.settings.limit = limit,
-                None => return Err(UsageFault::Word(Why::Limit, word)),
-            },
-            Valued::Kind => match parse_kind(word) {
-                Some(kind) => self.settings.kind = kind,
-                None => return Err(UsageFault::Word(Why::Kind, word)),
-            },
+            Valued::Limit => {
+                self.settings.limit = parse_limit(word).ok_or(UsageFault::Word(Why::Limit, word))?;
+            }
+            Valued::Kind => {
+                self.settings.kind = parse_kind(word).ok_or(UsageFault::Word(Why::Kind, word))?;
+            }
             Valued::Rule => self.rules.push(word)?,
             Valued::Ignore => self.files.push(word)?,
         }

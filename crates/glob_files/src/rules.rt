@@ -27,6 +27,16 @@ pub enum RulesFault<'a> {
     Memory,
 }
 
+impl<'a> RulesFault<'a> {
+    /// The file cannot be read: out of memory, or another reason.
+    fn unread(file: &'a str, error: io::Error) -> Self {
+        match error.kind() {
+            ErrorKind::OutOfMemory => RulesFault::Memory,
+            _ => RulesFault::Unread(file, error),
+        }
+    }
+}
+
 impl From<AllocError> for RulesFault<'_> {
     fn from(_error: AllocError) -> Self {
         RulesFault::Memory
@@ -75,11 +85,10 @@ pub fn read_list<'a, R: Files + AllocGlobal>(
         let text = String::from_str(rt.alloc(), rule)?;
         sources.push(Source { name: "-x", text })?;
     }
-    match list_of(rt.alloc(), sources.as_slice()) {
-        Ok(list) => Ok(list),
-        Err(RuleRefusal::Memory) => Err(RulesFault::Memory),
-        Err(RuleRefusal::Line(line, reason)) => Err(refusal_of(sources.as_slice(), line, reason)),
-    }
+    list_of(rt.alloc(), sources.as_slice()).map_err(|refusal| match refusal {
+        RuleRefusal::Memory => RulesFault::Memory,
+        RuleRefusal::Line(line, reason) => refusal_of(sources.as_slice(), line, reason),
+    })
 }
 
 /// The text of an ignore file, without a byte order mark.
@@ -87,13 +96,10 @@ fn text_of_file<'a, R: Files + AllocGlobal>(
     rt: &R,
     file: &'a str,
 ) -> Result<String, RulesFault<'a>> {
-    match fs::read_to_string(rt, file) {
-        Ok(text) => match text.as_str().strip_prefix('\u{feff}') {
-            Some(text) => Ok(String::from_str(rt.alloc(), text)?),
-            None => Ok(text),
-        },
-        Err(error) if error.kind() == ErrorKind::OutOfMemory => Err(RulesFault::Memory),
-        Err(error) => Err(RulesFault::Unread(file, error)),
+    let text = fs::read_to_string(rt, file).map_err(|error| RulesFault::unread(file, error))?;
+    match text.as_str().strip_prefix('\u{feff}') {
+        Some(text) => Ok(String::from_str(rt.alloc(), text)?),
+        None => Ok(text),
     }
 }
 
@@ -109,10 +115,8 @@ pub fn list_of<A: Allocator + Copy>(
     ensures refused { IfErr result
         (RefusesText (with_ends line_feed (map (λ s. string_bytes s.text) sources.now))) }
 {
-    match joined(alloc, sources) {
-        Ok(text) => IgnoreList::new(alloc, text.as_str()),
-        Err(_) => Err(RuleRefusal::Memory),
-    }
+    let text = joined(alloc, sources)?;
+    IgnoreList::new(alloc, text.as_str())
 }
 
 /// The texts of the sources, each with a line feed at its end.
@@ -121,11 +125,9 @@ fn joined<A: Allocator + Copy>(alloc: A, sources: &[Source<'_, A>]) -> Result<St
         ≡ with_ends line_feed (map (λ s. string_bytes s.text) sources.now)) }
 {
     let mut text = String::new(alloc);
-    let mut rest = sources;
-    while let [source, after @ ..] = rest {
+    for source in sources {
         text.push_str(source.text.as_str())?;
         text.push('\n')?;
-        rest = after;
     }
     Ok(text)
 }

@@ -33,6 +33,13 @@ pub enum PatternFault<'a> {
     Memory,
 }
 
+/// A walk that is refused.
+impl From<PatternRefusal> for PatternFault<'_> {
+    fn from(refusal: PatternRefusal) -> Self {
+        PatternFault::Walk(refusal)
+    }
+}
+
 impl Display for PatternFault<'_> {
     fn fmt<W: fmt::Write>(&self, f: &mut fmt::Formatter<W>) -> fmt::Result {
         match self {
@@ -112,30 +119,25 @@ fn read_patterns<'a, A: Allocator + Copy>(
     if let Some(pattern) = first_astray(patterns) {
         return Err(PatternFault::Astray(pattern));
     }
-    let set = match PatternSet::from_texts(alloc, patterns, settings.options) {
-        Ok(set) => set,
-        Err(refusal) => return Err(fault_of(patterns, refusal)),
-    };
+    let set = PatternSet::from_texts(alloc, patterns, settings.options).map_err(|refusal| fault_of(
+        patterns, refusal,
+    ))?;
     let filter = Filter {
         patterns: set,
         kind: settings.kind,
     };
-    match Plan::new(alloc, patterns, settings.options) {
-        Ok(plan) => Ok((plan, filter)),
-        Err(refusal) => Err(PatternFault::Walk(refusal)),
-    }
+    let plan = Plan::new(alloc, patterns, settings.options)?;
+    Ok((plan, filter))
 }
 
 /// The first pattern that does not lead below the current directory.
 fn first_astray<'a>(patterns: &[&'a str]) -> Option<&'a str>
     ensures { is_none result ≡ are_below (map (λ p. p.now) patterns.now) }
 {
-    let mut rest = patterns;
-    while let [pattern, after @ ..] = rest {
+    for pattern in patterns {
         if !is_below(pattern) {
-            return Some(pattern);
+            return Some(*pattern);
         }
-        rest = after;
     }
     None
 }

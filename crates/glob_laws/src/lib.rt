@@ -2,5 +2,6 @@
 //! function that does nothing. No program needs them.
 #![tactic(auto)]
 
+pub mod calls;
 pub mod patterns;
 pub mod walks;

@@ -5,3 +5,4 @@ pub mod KeptLines
 pub mod KnownMoves
 pub mod LineSplits
 pub mod MatchingLines
+pub mod Passing

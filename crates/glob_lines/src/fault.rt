@@ -1,6 +1,7 @@
 ghost use Rattle.std.specs.Prelude.{Some};
 ghost use Rattle.glob_lines.specs.LineFaults.{words_of_line_fault};
 
+use std::alloc::AllocError;
 use std::error::Error;
 use std::{fmt, io};
 
@@ -30,3 +31,15 @@ impl fmt::Display for LineFault {
 }
 
 impl Error for LineFault {}
+
+/// A failed allocation.
+impl From<AllocError> for LineFault {
+    ghost use Rattle.std.specs.Prelude.{◌≡◌};
+    ghost use Rattle.glob_lines.specs.declared.fault.LineFault.TheVariants.{Memory};
+
+    ghost from_gives = { λ _ fault. fault ≡ Memory };
+
+    fn from(_error: AllocError) -> LineFault {
+        LineFault::Memory
+    }
+}

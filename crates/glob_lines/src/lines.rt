@@ -119,10 +119,8 @@ pub fn filter_selected<A: Allocator + Copy, S: Selection, R: Read, W: Write>(
     ensures write_fault { IsErrAnd result IsWrite → CopiesSelectedBytes end (S.selects selection.now)
         (R.remaining reader.old.inner) (W.contents writer.old.inner) (W.contents writer.new.inner) }
 {
-    match read_all(alloc, reader) {
-        Ok(input) => write_records(alloc, selection, end, &input, writer),
-        Err(fault) => Err(fault),
-    }
+    let input = read_all(alloc, reader)?;
+    write_records(alloc, selection, end, &input, writer)
 }
 
 /// All bytes that are left in the reader.
@@ -140,14 +138,12 @@ fn read_all<A: Allocator + Copy, R: Read>(
     let mut input = Vec::new(alloc);
     let mut filled = 0;
     loop {
-        match read_piece(&mut input, filled, reader) {
-            Ok(0) => {
-                input.truncate(filled);
-                return Ok(input);
-            }
-            Ok(len) => filled += len,
-            Err(fault) => return Err(fault),
+        let len = read_piece(&mut input, filled, reader)?;
+        if len == 0 {
+            input.truncate(filled);
+            return Ok(input);
         }
+        filled += len;
     }
 }
 
@@ -171,14 +167,9 @@ fn read_piece<A: Allocator, R: Read>(
 {
     let end = filled + READ_LEN;
     if input.len() < end {
-        let Ok(()) = input.resize(end, 0) else {
-            return Err(LineFault::Memory);
-        };
+        input.resize(end, 0)?;
     }
-    match reader.read(&mut input[filled..]) {
-        Ok(len) => Ok(len),
-        Err(error) => Err(LineFault::Read(error)),
-    }
+    reader.read(&mut input[filled..]).map_err(LineFault::Read)
 }
 
 /// Writes the selected records of the input, each with its end, and returns their number.
@@ -206,21 +197,14 @@ fn write_records<A: Allocator + Copy, S: Selection, W: Write>(
     let mut rest = input;
     while !rest.is_empty() {
         let (first, after) = split_record(rest, end);
-        let Ok(is_selected) = selection.selects(first) else {
-            return Err(LineFault::Memory);
-        };
-        if is_selected {
-            match keep_record(first, end, &mut output, writer) {
-                Ok(()) => count = count.saturating_add(1),
-                Err(fault) => return Err(fault),
-            }
+        if selection.selects(first)? {
+            keep_record(first, end, &mut output, writer)?;
+            count = count.saturating_add(1);
         }
         rest = after;
     }
-    match write_all(writer, &output) {
-        Ok(()) => Ok(count),
-        Err(error) => Err(LineFault::Write(error)),
-    }
+    write_all(writer, &output).map_err(LineFault::Write)?;
+    Ok(count)
 }
 
 /// The first record of `bytes`, and the bytes after its end.
@@ -253,13 +237,9 @@ fn keep_record<A: Allocator, W: Write>(
     ensures failed { IsTrue writer.new.failed ↔ IsErrAnd result IsWrite }
     ensures no_read { ¬ (IsErrAnd result IsRead) }
 {
-    let Ok(()) = push_record(bytes, end, output) else {
-        return Err(LineFault::Memory);
-    };
+    push_record(bytes, end, output)?;
     if output.len() >= WRITE_LEN {
-        if let Err(error) = write_all(writer, output) {
-            return Err(LineFault::Write(error));
-        }
+        write_all(writer, output).map_err(LineFault::Write)?;
         output.clear();
     }
     Ok(())
@@ -274,12 +254,8 @@ fn push_record<A: Allocator>(
 ) -> Result<(), AllocError>
     ensures { OnOk result (output.new.items ≡ output.old.items ++ ended_record end bytes.now) }
 {
-    let Ok(()) = output.extend_from_slice(bytes) else {
-        return Err(AllocError);
-    };
-    let Ok(()) = output.push(end) else {
-        return Err(AllocError);
-    };
+    output.extend_from_slice(bytes)?;
+    output.push(end)?;
     Ok(())
 }
 
@@ -295,10 +271,8 @@ pub fn write_all<W: Write>(writer: &mut Watch<W>, bytes: &[u8]) -> io::Result<()
 {
     let mut rest = bytes;
     while !rest.is_empty() {
-        match writer.write(rest) {
-            Ok(len) => rest = &rest[len..],
-            Err(error) => return Err(error),
-        }
+        let len = writer.write(rest)?;
+        rest = &rest[len..];
     }
     Ok(())
 }

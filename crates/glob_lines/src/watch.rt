@@ -17,7 +17,7 @@ use std::marker::Model;
 /// reader.failed()        // true
 /// let stdin = reader.into_inner();
 /// ```
-#[derive(Drop)]
+#[derive(Debug, Drop)]
 pub struct Watch<S> {
     inner: S,
     failed: bool,

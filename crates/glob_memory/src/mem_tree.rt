@@ -24,7 +24,7 @@ use std::marker::Model;
 /// tree.list("a")?            // one entry: b, no directory
 /// tree.add_dir("/x/y")       // Err(TreeRefusal::NoParent)
 /// ```
-#[derive(Drop)]
+#[derive(Debug, Drop)]
 pub struct MemTree<A: Allocator = Global> {
     nodes: Nodes<A>,
     current: usize,
@@ -143,12 +143,8 @@ impl<A: Allocator + Copy> MemTree<A> {
         ensures asks { self.new.asks ≡ self.old.asks }
     {
         let (directory, name) = self.place(path)?;
-        let Ok(name) = name_from_proper(self.alloc, name) else {
-            return Err(TreeRefusal::Memory);
-        };
-        if self.nodes.add(directory, name, kind).is_err() {
-            return Err(TreeRefusal::Memory);
-        }
+        let name = name_from_proper(self.alloc, name)?;
+        self.nodes.add(directory, name, kind)?;
         Ok(())
     }
 }
@@ -205,10 +201,7 @@ impl<A: Allocator + Copy> MemTree<A> {
         match self.nodes.kind(number) {
             Kind::Shut(kind) => Err(ListError::Read(io::Error::from(kind))),
             Kind::Other => Err(ListError::Read(io::Error::from(io::ErrorKind::NotADirectory))),
-            Kind::Dir => match self.nodes.entries(self.alloc, number) {
-                Ok(entries) => Ok(entries),
-                Err(_) => Err(ListError::Memory),
-            },
+            Kind::Dir => Ok(self.nodes.entries(self.alloc, number)?),
         }
     }
 }

@@ -15,6 +15,7 @@ use std::marker::Model;
 
 /// An entry of the tree, below the root.
 #[derive(Drop)]
+#[derive_where(Debug)]
 pub(crate) struct Node<A: Allocator = Global> {
     /// The number of the directory it is in.
     parent: usize,
@@ -27,6 +28,7 @@ pub(crate) struct Node<A: Allocator = Global> {
 /// The nodes of a tree, each after its parent. Numbers count from the root, which is a directory, has number 0 and no
 /// node: node 0 of the list has number 1.
 #[derive(Drop)]
+#[derive_where(Debug)]
 pub(crate) struct Nodes<A: Allocator = Global> {
     nodes: Vec<Node<A>, A>,
 }

@@ -1,3 +1,5 @@
+use std::alloc::AllocError;
+
 /// Why a tree in memory refused a change. Where several reasons hold, the first of them is reported. So in an empty
 /// tree `add_dir("/a/..")` is `Improper`, and `add_dir("/a/b")` is `NoParent`.
 #[derive(Clone, Copy, PartialEq, Eq, Debug)]
@@ -12,4 +14,16 @@ pub enum TreeRefusal {
     NoDirectory,
     /// The memory for the change could not be allocated.
     Memory,
+}
+
+/// A failed allocation.
+impl From<AllocError> for TreeRefusal {
+    ghost use Rattle.std.specs.Prelude.{◌≡◌};
+    ghost use Rattle.glob_memory.specs.declared.refusal.TreeRefusal.TheVariants.{Memory};
+
+    ghost from_gives = { λ _ refusal. refusal ≡ Memory };
+
+    fn from(_error: AllocError) -> TreeRefusal {
+        TreeRefusal::Memory
+    }
 }

@@ -5,27 +5,18 @@ use std::alloc::{AllocError, Global};
 #[derive(Drop)]
 pub(crate) struct Story {
     text: String<Global>,
-    alloc: Global,
 }
 
 impl Story {
     pub(crate) fn new(alloc: Global) -> Story {
         Story {
             text: String::new(alloc),
-            alloc,
         }
     }
 
     /// Adds a line.
     pub(crate) fn line(&mut self, word: &str, spent: u64, text: &str) -> Result<(), AllocError> {
-        let spent = format!(in self.alloc; "{spent}")?;
-        self.text.push_str(word)?;
-        self.text.push_str(" ")?;
-        self.text.push_str(spent.as_str())?;
-        self.text.push_str(" ")?;
-        self.text.push_str(text)?;
-        self.text.push_str("\n")?;
-        Ok(())
+        writeln!(self.text, "{word} {spent} {text}")
     }
 
     /// The lines.

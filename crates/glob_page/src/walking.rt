@@ -75,22 +75,26 @@ enum Refusal {
     Path(usize),
 }
 
+/// A failed allocation.
+impl From<AllocError> for Refusal {
+    fn from(_error: AllocError) -> Refusal {
+        Refusal::Memory
+    }
+}
+
 /// The tree of the paths.
 fn tree_of(alloc: Global, paths: &str) -> Result<MemTree<Global>, Refusal> {
-    let Ok(mut tree) = MemTree::new(alloc) else {
-        return Err(Refusal::Memory);
-    };
+    let mut tree = MemTree::new(alloc)?;
     for (number, path) in paths.split('\n').enumerate() {
         let added = match path.strip_suffix("/") {
             Some(directory) => tree.add_dir(directory),
             None if path.is_empty() => Ok(()),
             None => tree.add_other(path),
         };
-        match added {
-            Ok(()) => {}
-            Err(TreeRefusal::Memory) => return Err(Refusal::Memory),
-            Err(_) => return Err(Refusal::Path(number)),
-        }
+        added.map_err(|refusal| match refusal {
+            TreeRefusal::Memory => Refusal::Memory,
+            _ => Refusal::Path(number),
+        })?;
     }
     Ok(tree)
 }

@@ -23,27 +23,21 @@ pub fn read_tokens<A: Allocator + Copy>(
         (λ tokens. HasTokens (chars pattern.now) tokens.items) }
     ensures refused { IfErr result (Refuses (chars pattern.now)) }
 {
-    match characters_of(alloc, pattern) {
-        Ok(text) => read_text(alloc, text.as_slice()),
-        Err(AllocError) => Err(PatternRefusal::Memory),
-    }
+    let text = characters_of(alloc, pattern)?;
+    read_text(alloc, text.as_slice())
 }
 
 /// The characters of a text. Fails only if allocation fails.
 pub fn characters_of<A: Allocator>(alloc: A, text: &str) -> Result<Vec<char, A>, AllocError>
     ensures { IfOk result (λ characters. characters.items ≡ chars text.now) }
 {
-    let Ok(mut characters) = vec![in alloc; '\0'; text.len()] else {
-        return Err(AllocError);
-    };
+    let mut characters = vec![in alloc; '\0'; text.len()]?;
     if widen(text.as_bytes(), characters.as_mut_slice()) {
         return Ok(characters);
     }
     characters.clear();
-    match characters.extend(text.chars()) {
-        Ok(()) => Ok(characters),
-        Err(_) => Err(AllocError),
-    }
+    characters.extend(text.chars())?;
+    Ok(characters)
 }
 
 /// Writes each byte as a character. Returns whether all are of ASCII: only then are they the text's characters. The
@@ -69,20 +63,13 @@ fn read_text<A: Allocator + Copy>(
     ensures accepted { IfOk result (λ tokens. HasTokens text.now tokens.items) }
     ensures refused { IfErr result (Refuses text.now) }
 {
-    let Ok(mut tokens) = Vec::with_capacity(alloc, text.len().min(FEW)) else {
-        return Err(PatternRefusal::Memory);
-    };
+    let mut tokens = Vec::with_capacity(alloc, text.len().min(FEW))?;
     let mut place = 0;
     while place < text.len() {
-        let Ok(unit) = unit_at(alloc, text, place) else {
-            return Err(PatternRefusal::Memory);
-        };
-        let Some((token, end)) = unit else {
+        let Some((token, end)) = unit_at(alloc, text, place)? else {
             return Err(PatternRefusal::Syntax(fault_at(text, place)));
         };
-        let Ok(()) = push_unit(&mut tokens, token) else {
-            return Err(PatternRefusal::Memory);
-        };
+        push_unit(&mut tokens, token)?;
         place = end;
     }
     Ok(tokens)
@@ -123,15 +110,11 @@ fn unit_at<A: Allocator + Copy>(
     requires { place < length text.now }
     ensures { IfOk result (λ unit. unit ≡ unit_at text.now place) }
 {
-    let c = text[place];
-    if c == '?' {
-        Ok(Some((Token::AnyChar, place + 1)))
-    } else if c == '*' {
-        Ok(stars_at(text, place))
-    } else if c == '[' {
-        bracket_at(alloc, text, place)
-    } else {
-        Ok(Some((Token::Literal(c), place + 1)))
+    match text[place] {
+        '?' => Ok(Some((Token::AnyChar, place + 1))),
+        '*' => Ok(stars_at(text, place)),
+        '[' => bracket_at(alloc, text, place),
+        c => Ok(Some((Token::Literal(c), place + 1))),
     }
 }
 
@@ -162,13 +145,12 @@ fn bracket_at<A: Allocator + Copy>(
     requires { place < length text.now }
     ensures { IfOk result (λ unit. unit ≡ bracket_at text.now place) }
 {
-    let negated = has(text, place + 1, '!');
-    let start = if negated { place + 2 } else { place + 1 };
-    match content_from(alloc, text, start) {
-        Ok(Some((bracket, end))) if negated => Ok(Some((Token::NoneOf(bracket), end))),
-        Ok(Some((bracket, end))) => Ok(Some((Token::OneOf(bracket), end))),
-        Ok(None) => Ok(None),
-        Err(error) => Err(error),
+    if has(text, place + 1, '!') {
+        let found = content_from(alloc, text, place + 2)?;
+        Ok(found.map(|(bracket, end)| (Token::NoneOf(bracket), end)))
+    } else {
+        let found = content_from(alloc, text, place + 1)?;
+        Ok(found.map(|(bracket, end)| (Token::OneOf(bracket), end)))
     }
 }
 
@@ -184,10 +166,8 @@ fn content_from<A: Allocator>(
     let Some(close) = close_from(text, start + 1) else {
         return Ok(None);
     };
-    match Bracket::read(alloc, &text[start..close]) {
-        Ok(bracket) => Ok(Some((bracket, close + 1))),
-        Err(error) => Err(error),
-    }
+    let bracket = Bracket::read(alloc, &text[start..close])?;
+    Ok(Some((bracket, close + 1)))
 }
 
 /// The place of the first `]` from a place on.

@@ -152,9 +152,7 @@ pub fn run_positions<A: Allocator + Copy, J: Judge>(
     if shapes.len() <= WORD {
         decide(alloc, shapes, &[ShapeWord::new(shapes, 0)], span, judge)
     } else {
-        let Ok(words) = shape_words(alloc, shapes) else {
-            return Err(AllocError);
-        };
+        let words = shape_words(alloc, shapes)?;
         decide(alloc, shapes, words.as_slice(), span, judge)
     }
 }

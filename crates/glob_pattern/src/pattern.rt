@@ -77,16 +77,9 @@ impl<A: Allocator + Copy> Pattern<A> {
         ensures text { IfOk result (λ p. p ≡ pattern.now) }
         ensures refused { IfErr result (Refuses (chars pattern.now)) }
     {
-        let tokens = match grammar::read_tokens(alloc, pattern) {
-            Ok(tokens) => tokens,
-            Err(refusal) => return Err(refusal),
-        };
-        let Ok(compiled) = Compiled::new(alloc, tokens) else {
-            return Err(PatternRefusal::Memory);
-        };
-        let Ok(text) = String::from_str(alloc, pattern) else {
-            return Err(PatternRefusal::Memory);
-        };
+        let tokens = grammar::read_tokens(alloc, pattern)?;
+        let compiled = Compiled::new(alloc, tokens)?;
+        let text = String::from_str(alloc, pattern)?;
         Ok(Pattern { text, compiled })
     }
 
@@ -115,13 +108,10 @@ impl<A: Allocator + Copy> Pattern<A> {
     pub fn clone(&self) -> Result<Self, AllocError>
         ensures { IfOk result (λ p. p ≡ self.now) }
     {
-        let Ok(text) = self.text.clone() else {
-            return Err(AllocError);
-        };
-        let Ok(compiled) = self.compiled.clone() else {
-            return Err(AllocError);
-        };
-        Ok(Pattern { text, compiled })
+        Ok(Pattern {
+            text: self.text.clone()?,
+            compiled: self.compiled.clone()?,
+        })
     }
 
     /// Whether the pattern matches the whole text, case-sensitive, without the separator rule and the dot rule:

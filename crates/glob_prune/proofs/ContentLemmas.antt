@@ -1,19 +1,17 @@
 -- What is left of a content is one.
-use Rattle.std.proofs.Common.{◌≡◌, Bool, true, false, cond, not, ◌&&◌, ◌||◌, List, [], ◌∷◌, ◌++◌, Option, Some, None, refl, sym, ap, subst, ◌∙◌}
-use Rattle.std.specs.Prelude.{Contains, option_map, option_and_then, unwrap_or}
+use Rattle.std.proofs.Common.{◌≡◌, Bool, true, false, cond, not, ◌&&◌, List, [], ◌∷◌, ◌++◌, Option, Some, None, refl, sym, ap, ◌∙◌}
+use Rattle.std.specs.Prelude.{option_map, option_and_then, unwrap_or}
 use Rattle.std.specs.List.{filter, list_any, list_all}
 use Rattle.std.specs.Str.{is_utf8}
-use Rattle.std.proofs.lemmas.Bool.{and_parts, and_from, not-true, not_from_false, both_ways, cond-true, cond-false, or_from, or_parts}
+use Rattle.std.proofs.lemmas.Bool.{and_parts, and_from, not-true, not_from_false, both_ways, cond-true, or_from, or_parts}
 use Rattle.std.proofs.lemmas.List.{append_assoc, append-nil}
-use Rattle.std.proofs.lemmas.Option.{none-some, same_Some}
-use Rattle.glob_text.specs.Text.{Text}
 use Rattle.glob_tree.specs.Paths.{is_proper}
 use Rattle.glob_tree.specs.Content.{Content, Key, same_key, parent_key, names_past, kind_at, is_dir, is_dir_at, is_placed, are_distinct, is_content}
 use Rattle.glob_tree.specs.declared.kind.Kind.{Kind}
-use Rattle.glob_tree.proofs.ContentLemmas.Contents.{IsContent, IsContent-from_test, names_past_is, names_past-append, parent_key-append}
+use Rattle.glob_tree.proofs.ContentLemmas.Contents.{IsContent, names_past_is, names_past-append, parent_key-append}
 use Rattle.glob_prune.specs.Pruning.{Exclusion, is_excluded, is_kept, pruned}
 use Rattle.glob_prune.proofs.ExclusionLemmas.{is_excluded-append, is_excluded-nil, EndsIn, Nothing, Last, ends_in}
-use Rattle.glob_prune.proofs.PruningLemmas.{kind_at-pruned, kind_below}
+use Rattle.glob_prune.proofs.PruningLemmas.{kind_at-pruned}
 
 module _ {X : Type 0} (keep p : X → Bool) where
   pub list_all-filter : (es : List X) → list_all p es ≡ true → list_all p (filter keep es) ≡ true

@@ -1,8 +1,8 @@
 -- What a plain walk over a pruned content finds.
-use Rattle.std.proofs.Common.{◌≡◌, Bool, true, false, cond, not, List, [], ◌++◌, Option, Some, None, refl, sym, ap, subst, ◌∙◌}
-use Rattle.std.specs.Prelude.{Contains, option_map, option_and_then, unwrap_or, filter_map, ◌↔◌, IsTrue}
-use Rattle.std.proofs.lemmas.Bool.{cond-false, not-true, both_ways}
-use Rattle.std.proofs.lemmas.Option.{none-some, same_Some, option_and_then_some}
+use Rattle.std.proofs.Common.{◌≡◌, Bool, true, false, cond, [], ◌++◌, Option, Some, None, refl, sym, ap, ◌∙◌}
+use Rattle.std.specs.Prelude.{Contains, option_and_then, ◌↔◌, IsTrue}
+use Rattle.std.proofs.lemmas.Bool.{cond-false}
+use Rattle.std.proofs.lemmas.Option.{none-some, same_Some}
 use Rattle.glob_text.specs.Text.{Text}
 use Rattle.glob_tree.specs.Content.{Content, Key, kind_at, is_dir, names_past}
 use Rattle.glob_tree.specs.declared.kind.Kind.{Kind}

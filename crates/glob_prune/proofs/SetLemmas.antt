@@ -1,5 +1,5 @@
 -- One of a set's patterns matches a path exactly where that is computed.
-use Rattle.std.proofs.Common.{◌≡◌, ◌↔◌, Bool, true, List, [], IsTrue, Result, IfOk, length, get_or, sym, ap, ◌∙◌}
+use Rattle.std.proofs.Common.{◌≡◌, ◌↔◌, Bool, true, List, [], IsTrue, Result, IfOk, get_or, sym, ap, ◌∙◌}
 use Rattle.std.proofs.lemmas.Bool.Decides.{same_from_decides}
 use Rattle.std.proofs.lemmas.List.{get_or_default}
 use Rattle.std.proofs.lemmas.List.Folds.{Any-from_list_any, list_any_at}

@@ -1,10 +1,10 @@
 -- Laws of pruned contents, as statements.
-use Rattle.std.specs.Prelude.{◌≡◌, Bool, true, false, ◌++◌, Contains, Some, IsTrue, ◌↔◌}
+use Rattle.std.specs.Prelude.{◌≡◌, true, false, ◌++◌, Contains, Some, IsTrue, ◌↔◌}
 use Rattle.glob_text.specs.Text.{Text}
 use Rattle.glob_tree.specs.Content.{Content, Key, is_content, is_dir, kind_at}
 use Rattle.glob_tree.specs.declared.kind.Kind.{Kind}
 use Rattle.glob_pattern.specs.declared.options.MatchOptions.{MatchOptions}
-use Rattle.glob_walk.specs.Goal.{start_key, goal_text, is_readable, IsPlainWalk}
+use Rattle.glob_walk.specs.Goal.{goal_text, is_readable, IsPlainWalk}
 use Rattle.glob_walk.specs.Components.{has_root}
 use Rattle.glob_walk.specs.Listing.{listing}
 use Rattle.glob_walk.specs.Marks.{items, paths}

@@ -115,14 +115,19 @@ impl<R: Files + Drop, S: Strays, A: Allocator + Copy> Tree for PhysicalDisk<R, S
         ensures asks { self.new ≡ self.old + 1 + entry_count result }
     {
         self.asks = self.asks.after(1);
-        match entries_of(&self.rt, self.links, &mut self.strays, self.alloc, path) {
-            Ok(entries) => {
-                self.asks = self.asks.after(entries.len());
-                Ok(entries)
-            }
-            Err(error) if error.kind() == ErrorKind::OutOfMemory => Err(ListError::Memory),
-            Err(error) => Err(ListError::Read(error)),
-        }
+        let entries = entries_of(&self.rt, self.links, &mut self.strays, self.alloc, path).map_err(
+            list_error,
+        )?;
+        self.asks = self.asks.after(entries.len());
+        Ok(entries)
+    }
+}
+
+/// The error of a listing: out of memory, or another error of the system.
+fn list_error(error: io::Error) -> ListError {
+    match error.kind() {
+        ErrorKind::OutOfMemory => ListError::Memory,
+        _ => ListError::Read(error),
     }
 }
 
@@ -207,10 +212,10 @@ fn entry<R: Files, A: Allocator + Copy>(
     name: &str,
 ) -> io::Result<Entry<A>> {
     let is_dir = is_directory(rt, links, directory, name)?;
-    match Name::new(String::from_str(alloc, name)?) {
-        Ok(name) => Ok(Entry { name, is_dir }),
-        Err(_) => Err(io::Error::from(ErrorKind::InvalidFilename)),
-    }
+    let name = Name::new(String::from_str(alloc, name)?).map_err(|_| io::Error::from(
+        ErrorKind::InvalidFilename,
+    ))?;
+    Ok(Entry { name, is_dir })
 }
 
 /// Whether a name in a directory is that of one, and not of a symbolic link unless those are followed.

@@ -114,18 +114,13 @@ impl<T: Tree, X: Exclusion> Tree for Pruned<T, X> {
             → IfErr result (λ e. IsListError (list_result c path.now) e) }
     {
         self.asks = self.asks.after(1);
-        match is_entered(&self.exclusion, &mut self.names, path) {
-            Ok(true) => {}
-            Ok(false) => return Err(ListError::Read(io::Error::from(ErrorKind::NotFound))),
-            Err(_) => return Err(ListError::Memory),
+        if !is_entered(&self.exclusion, &mut self.names, path).map_err(|_| ListError::Memory)? {
+            return Err(ListError::Read(io::Error::from(ErrorKind::NotFound)));
         }
-        let entries = match self.tree.list(path) {
-            Ok(entries) => entries,
-            Err(error) => return Err(error),
-        };
-        let Ok(kept) = kept_entries(&self.exclusion, &mut self.names, entries) else {
-            return Err(ListError::Memory);
-        };
+        let entries = self.tree.list(path)?;
+        let kept = kept_entries(&self.exclusion, &mut self.names, entries).map_err(
+            |_| ListError::Memory,
+        )?;
         self.asks = self.asks.after(kept.len());
         Ok(kept)
     }

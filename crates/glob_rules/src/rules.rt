@@ -105,14 +105,11 @@ fn pattern_of<A: Allocator + Copy>(
     ensures accepted { IfOk result (λ _. ¬ (IsNoPattern glob.now)) }
     ensures refused { IfErr result (RefusesPattern line glob.now) }
 {
-    match str::from_utf8(glob) {
-        Ok(text) => match Pattern::new(alloc, text) {
-            Ok(pattern) => Ok(pattern),
-            Err(PatternRefusal::Syntax(_)) => Err(RuleRefusal::Line(line, Reason::Pattern)),
-            Err(PatternRefusal::Memory) => Err(RuleRefusal::Memory),
-        },
-        Err(_) => Err(RuleRefusal::Line(line, Reason::Pattern)),
-    }
+    let text = str::from_utf8(glob).map_err(|_| RuleRefusal::Line(line, Reason::Pattern))?;
+    Pattern::new(alloc, text).map_err(|refusal| match refusal {
+        PatternRefusal::Syntax(_) => RuleRefusal::Line(line, Reason::Pattern),
+        PatternRefusal::Memory => RuleRefusal::Memory,
+    })
 }
 
 /// The text without a byte order mark at its start.

@@ -1,5 +1,6 @@
 pub mod BucketLemmas
 pub mod ListReading
+pub mod MappedErrors
 pub mod NeedLists
 pub mod PairLemmas
 pub mod ReadLemmas

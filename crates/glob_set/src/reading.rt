@@ -16,10 +16,8 @@ pub fn read_patterns<A: Allocator + Copy>(
 {
     let mut patterns = Vec::new(alloc);
     for (number, text) in texts.iter().enumerate() {
-        match Pattern::new(alloc, text) {
-            Ok(pattern) => patterns.push(pattern)?,
-            Err(refusal) => return Err(refusal_of(number, refusal)),
-        }
+        let pattern = Pattern::new(alloc, text).map_err(|refusal| refusal_of(number, refusal))?;
+        patterns.push(pattern)?;
     }
     Ok(patterns)
 }

@@ -30,7 +30,7 @@ use std::marker::Model;
 ///     ..
 /// }
 /// ```
-#[derive(Drop)]
+#[derive(Debug, Drop)]
 pub struct Asks {
     count: Count,
 }
@@ -64,7 +64,7 @@ impl Asks {
 }
 
 /// A number without bytes. What its functions return is proved by hand, since no code makes the number.
-#[derive(Drop)]
+#[derive(Debug, Drop)]
 struct Count {
     ghost number: { ℕ },
 }

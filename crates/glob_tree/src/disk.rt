@@ -35,7 +35,7 @@ enum Kinds {
 ///
 /// In a directory with a file `a` and a link `b` to `a`, a look at `b` finds `Other`, and a listing of `.` the entries
 /// `a` and `b`, neither of them a directory.
-#[derive(Drop)]
+#[derive(Debug, Drop)]
 pub struct Disk<R: Files, A: Allocator = Global> {
     rt: R,
     alloc: A,
@@ -109,50 +109,35 @@ impl<R: Files, A: Allocator + Copy> Disk<R, A> {
         ensures asks { self.new ≡ self.old + 1 + entry_count result }
     {
         self.asks = self.asks.after(1);
-        let mut entries = Vec::new(self.alloc);
-        match self.add_directory(&mut entries, path, kinds) {
-            Ok(_) => {
-                self.asks = self.asks.after(entries.len());
-                Ok(entries)
-            }
-            Err(error) => Err(error),
-        }
+        let entries = self.entries(path, kinds)?;
+        self.asks = self.asks.after(entries.len());
+        Ok(entries)
     }
 
-    /// Adds the entries of the directory at a path, and returns whether it has ended.
-    fn add_directory(
-        &self,
-        entries: &mut Vec<Entry<A>, A>,
-        path: &str,
-        kinds: Kinds,
-    ) -> Result<bool, ListError> {
+    /// The entries of the directory at a path.
+    fn entries(&self, path: &str, kinds: Kinds) -> Result<Vec<Entry<A>, A>, ListError> {
         // The separator at its end, so that a link there is followed.
-        let Ok(mut directory) = join(self.alloc, path, "") else {
-            return Err(ListError::Memory);
-        };
-        match self.rt.open_dir(directory.as_str()) {
-            Ok(mut names) => self.add_all_entries(entries, &mut directory, kinds, &mut names),
-            Err(error) => Err(list_error(error)),
-        }
+        let mut directory = join(self.alloc, path, "")?;
+        let mut names = self.rt.open_dir(directory.as_str()).map_err(list_error)?;
+        let mut entries = Vec::new(self.alloc);
+        self.add_all_entries(&mut entries, &mut directory, kinds, &mut names)?;
+        Ok(entries)
     }
 
-    /// Adds the entries of a directory, and returns whether it has ended. Most end within two reads of a small block: one of
-    /// all names, and one of none.
+    /// Adds the entries of a directory. Most end within two reads of a small block: one of all names, and one of none.
     fn add_all_entries(
         &self,
         entries: &mut Vec<Entry<A>, A>,
         directory: &mut String<A>,
         kinds: Kinds,
         names: &mut R::Dir,
-    ) -> Result<bool, ListError> {
+    ) -> Result<(), ListError> {
         let mut block = [0; BLOCK];
-        match self.read_entries(entries, directory, kinds, names, &mut block, 2) {
-            Ok(false) => {
-                let mut block = [0; LARGE_BLOCK];
-                self.read_entries(entries, directory, kinds, names, &mut block, u64::MAX)
-            }
-            ended => ended,
+        if !self.read_entries(entries, directory, kinds, names, &mut block, 2)? {
+            let mut block = [0; LARGE_BLOCK];
+            self.read_entries(entries, directory, kinds, names, &mut block, u64::MAX)?;
         }
+        Ok(())
     }
 
     /// Adds the entries of at most so many reads of a directory. Returns whether the directory has ended, which it has at
@@ -167,11 +152,11 @@ impl<R: Files, A: Allocator + Copy> Disk<R, A> {
         reads: u64,
     ) -> Result<bool, ListError> {
         for _ in 0..reads {
-            match names.read(block) {
-                Ok(0) => return Ok(true),
-                Ok(count) => self.add_entries(entries, directory, kinds, &block[..count])?,
-                Err(error) => return Err(list_error(error)),
+            let count = names.read(block).map_err(list_error)?;
+            if count == 0 {
+                return Ok(true);
             }
+            self.add_entries(entries, directory, kinds, &block[..count])?;
         }
         Ok(false)
     }
@@ -205,27 +190,18 @@ impl<R: Files, A: Allocator + Copy> Disk<R, A> {
             _ => return Err(ListError::Read(io::Error::from(ErrorKind::InvalidFilename))),
         };
         let is_dir = match kinds {
-            Kinds::LookedUp => match self.look_in(directory, name) {
-                Ok(look) => matches!(look, Look::Dir),
-                Err(_) => return Err(ListError::Memory),
-            },
+            Kinds::LookedUp => matches!(self.look_in(directory, name)?, Look::Dir),
             Kinds::LeftOut => false,
         };
-        let Ok(name) = name_from_proper(self.alloc, name) else {
-            return Err(ListError::Memory);
-        };
-        match entries.push(Entry { name, is_dir }) {
-            Ok(()) => Ok(()),
-            Err(_) => Err(ListError::Memory),
-        }
+        let name = name_from_proper(self.alloc, name)?;
+        entries.push(Entry { name, is_dir })?;
+        Ok(())
     }
 
     /// What a name in a directory leads to, and `Missing` where that cannot be learned.
     fn look_in(&self, directory: &mut String<A>, name: &str) -> Result<Look, AllocError> {
         let length = directory.len();
-        let Ok(()) = directory.push_str(name) else {
-            return Err(AllocError);
-        };
+        directory.push_str(name)?;
         let found = self.rt.metadata(directory.as_str());
         directory.truncate(length);
         look_of(found, Look::Missing)

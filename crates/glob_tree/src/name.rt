@@ -9,6 +9,7 @@ use std::marker::Model;
 ///
 /// `a.rs` and `...` are names; `a/b` is none.
 #[derive(Drop)]
+#[derive_where(Debug)]
 pub struct Name<A: Allocator = Global> {
     text: String<A>,
 }

@@ -28,21 +28,13 @@ pub fn join<A: Allocator>(alloc: A, dir: &str, name: &str) -> Result<String<A>, 
     ensures { IfOk result (λ p. string_bytes p ≡ join_text dir.now name.now) }
 {
     let room = dir.len().saturating_add(1).saturating_add(name.len());
-    let Ok(mut path) = String::with_capacity(alloc, room) else {
-        return Err(AllocError);
-    };
-    let Ok(()) = path.push_str(dir) else {
-        return Err(AllocError);
-    };
+    let mut path = String::with_capacity(alloc, room)?;
+    path.push_str(dir)?;
     if needs_separator(dir) {
-        let Ok(()) = path.push('/') else {
-            return Err(AllocError);
-        };
+        path.push('/')?;
     }
-    match path.push_str(name) {
-        Ok(()) => Ok(path),
-        Err(error) => Err(error),
-    }
+    path.push_str(name)?;
+    Ok(path)
 }
 
 /// Whether a separator stands between the path and a name.

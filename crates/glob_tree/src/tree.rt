@@ -3,7 +3,7 @@ ghost use Rattle.glob_tree.specs.Content.{Content, look_result, list_result};
 ghost use Rattle.glob_tree.specs.Answers.{IsTold, IsListAnswer, IsListError, IsNamesAnswer, entries_of, entry_count};
 
 use crate::name::Name;
-use std::alloc::{AllocError, Allocator, Global};
+use std::alloc::{AllocError, AllocFailed, Allocator, Global};
 use std::io;
 
 /// What a path leads to. Where `a` is a directory with the file `b`, `a` leads to `Dir`, `a/b` to `Other`, and `a/c` to
@@ -20,6 +20,7 @@ pub enum Look {
 
 /// An entry of a directory, as a listing returns it. The file `b` in it has the name `b`, and is no directory.
 #[derive(Drop)]
+#[derive_where(Debug)]
 pub struct Entry<A: Allocator = Global> {
     /// Its name in the directory.
     pub name: Name<A>,
@@ -35,6 +36,30 @@ pub enum ListError {
     Read(io::Error),
     /// Out of memory: the entries could not be allocated.
     Memory,
+}
+
+/// A failed allocation.
+impl From<AllocError> for ListError {
+    ghost use Rattle.std.specs.Prelude.{◌≡◌};
+    ghost use Rattle.glob_tree.specs.declared.tree.ListError.TheVariants.{Memory};
+
+    ghost from_gives = { λ _ error. error ≡ Memory };
+
+    fn from(_error: AllocError) -> ListError {
+        ListError::Memory
+    }
+}
+
+/// A failed allocation.
+impl<T: Drop> From<AllocFailed<T>> for ListError {
+    ghost use Rattle.std.specs.Prelude.{◌≡◌};
+    ghost use Rattle.glob_tree.specs.declared.tree.ListError.TheVariants.{Memory};
+
+    ghost from_gives = { λ _ error. error ≡ Memory };
+
+    fn from(_error: AllocFailed<T>) -> ListError {
+        ListError::Memory
+    }
 }
 
 /// A tree of files and directories: what a walk asks of it.

@@ -77,17 +77,11 @@ impl<A: Allocator + Copy> Component<A> {
         ensures refused { IfErr result (RefusesWith (text_fault text.now)) }
     {
         let form = if is_literal(text) {
-            let Ok(text) = String::from_str(alloc, text) else {
-                return Err(PatternRefusal::Memory);
-            };
-            Form::Literal(text)
+            Form::Literal(String::from_str(alloc, text)?)
         } else if is_recursive(text) {
             Form::Recursive
         } else {
-            match compile(alloc, text) {
-                Ok(pattern) => Form::Wild(pattern),
-                Err(refusal) => return Err(refusal),
-            }
+            Form::Wild(compile(alloc, text)?)
         };
         Ok(Component { form })
     }

@@ -121,13 +121,8 @@ impl<A: Allocator + Copy> WalkMachine<A> {
         ensures begun { IfOk result
             (λ walk. (c : Content) → HasGiven (listing c options pattern.now) c [] walk) }
     {
-        let plan = match Plan::read(alloc, pattern, options) {
-            Ok(plan) => plan,
-            Err(refusal) => return Err(refusal),
-        };
-        let Ok(start) = String::from_str(alloc, plan.start()) else {
-            return Err(PatternRefusal::Memory);
-        };
+        let plan = Plan::read(alloc, pattern, options)?;
+        let start = String::from_str(alloc, plan.start())?;
         Ok(WalkMachine::from_plan(plan, start, limit))
     }
 

@@ -46,16 +46,14 @@ impl<A: Allocator + Copy> Plan<A> {
     {
         // The whole first, so that a fault's place counts from the start of the pattern where the whole has one.
         Component::check(alloc, pattern)?;
-        match read_components(alloc, past_root(pattern)) {
-            Ok(components) => Ok(Plan {
-                components,
-                options,
-                rooted: begins_with_separator(pattern),
-                directories: ends_in_separator(pattern),
-                alloc,
-            }),
-            Err(refusal) => Err(refusal),
-        }
+        let components = read_components(alloc, past_root(pattern))?;
+        Ok(Plan {
+            components,
+            options,
+            rooted: begins_with_separator(pattern),
+            directories: ends_in_separator(pattern),
+            alloc,
+        })
     }
 }
 
@@ -115,10 +113,7 @@ fn read_components<A: Allocator + Copy>(
         if after_recursive && is_recursive(piece) {
             continue;
         }
-        let component = match Component::read(alloc, piece) {
-            Ok(component) => component,
-            Err(refusal) => return Err(refusal),
-        };
+        let component = Component::read(alloc, piece)?;
         after_recursive = component.is_recursive();
         components.push(component)?;
     }
@@ -129,10 +124,7 @@ fn read_components<A: Allocator + Copy>(
 pub fn past_root(pattern: &str) -> &str
     ensures { result.now ≡ without_end_separator (without_root pattern.now) }
 {
-    match pattern.strip_prefix('/') {
-        Some(rest) => without_end(rest),
-        None => without_end(pattern),
-    }
+    without_end(pattern.strip_prefix('/').unwrap_or(pattern))
 }
 
 /// Whether the first character is a separator.
@@ -153,8 +145,5 @@ fn ends_in_separator(text: &str) -> bool
 fn without_end(text: &str) -> &str
     ensures { result.now ≡ without_end_separator text.now }
 {
-    match text.strip_suffix('/') {
-        Some(front) => front,
-        None => text,
-    }
+    text.strip_suffix('/').unwrap_or(text)
 }

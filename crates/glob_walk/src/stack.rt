@@ -48,10 +48,7 @@ impl<A: Allocator + Copy> Stack<A> {
         let Some(frame) = self.frames.last_mut() else {
             return Ok(false);
         };
-        let Ok(task) = frame.step(&self.plan) else {
-            return Err(AllocError);
-        };
-        self.next = task;
+        self.next = frame.step(&self.plan)?;
         if frame.is_done() {
             self.frames.pop();
         }

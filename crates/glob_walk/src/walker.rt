@@ -366,11 +366,8 @@ fn literal_task<A: Allocator + Copy>(
 {
     let name = component.as_str();
     let wanted = Wanted::of_literal(is_current_or_parent(name), is_dir);
-    let Ok(path) = child(plan.alloc, path, name) else {
-        return Err(AllocError);
-    };
     Ok(Task {
-        path,
+        path: child(plan.alloc, path, name)?,
         component: number + 1,
         sight: Sight::Unseen(wanted),
     })

@@ -11,8 +11,6 @@ use Rattle.glob_walk.specs.declared.error.GlobError.{GlobError}
 use Rattle.glob_walk.specs.declared.machine.Step.{Step}
 use Rattle.glob_walk.specs.declared.machine.Step.TheVariants as step
 use Rattle.glob_walk.specs.declared.ending.End.TheVariants as end
-use Rattle.glob_console.specs.declared.find.fault.FindFault.{FindFault}
-use Rattle.glob_console.specs.declared.find.fault.FindFault.TheVariants.{Pattern, Write}
 use Rattle.glob_console.specs.declared.find.findings.Findings.{Findings}
 
 -- These bytes follow those that waited, and of all of these the first were written, and the others wait.
@@ -62,8 +60,3 @@ step_record end wanted step.Done = []
 step_record end wanted step.Look = []
 step_record end wanted step.List = []
 step_record end wanted step.ListNames = []
-
--- a line could not be written, or there was no memory
-abbrev pub IsWriteFault : FindFault → Type 0
-IsWriteFault (Pattern refusal) = ⊥
-IsWriteFault (Write error) = ⊤

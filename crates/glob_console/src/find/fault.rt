@@ -12,6 +12,30 @@ pub enum FindFault {
     Write(io::Error),
 }
 
+/// A pattern that is refused.
+impl From<PatternRefusal> for FindFault {
+    ghost use Rattle.std.specs.Prelude.{◌≡◌};
+    ghost use Rattle.glob_console.specs.declared.find.fault.FindFault.TheVariants.{Pattern};
+
+    ghost from_gives = { λ refusal fault. fault ≡ Pattern refusal };
+
+    fn from(refusal: PatternRefusal) -> FindFault {
+        FindFault::Pattern(refusal)
+    }
+}
+
+/// A line that could not be written.
+impl From<io::Error> for FindFault {
+    ghost use Rattle.std.specs.Prelude.{◌≡◌};
+    ghost use Rattle.glob_console.specs.declared.find.fault.FindFault.TheVariants.{Write};
+
+    ghost from_gives = { λ error fault. fault ≡ Write error };
+
+    fn from(error: io::Error) -> FindFault {
+        FindFault::Write(error)
+    }
+}
+
 impl FindFault {
     /// Whether the reader of the output went away, of which no line is written.
     pub fn is_quiet(&self) -> bool {

@@ -27,10 +27,10 @@ pub fn add_bracket<'a, A: Allocator>(
         if number > 0 && rest.starts_with(']') {
             return add_first(made, rest);
         }
-        match add_member(made, rest) {
-            Ok(Some(after)) => rest = after,
-            other => return other,
-        }
+        let Some(after) = add_member(made, rest)? else {
+            return Ok(None);
+        };
+        rest = after;
     }
     Ok(None)
 }
@@ -43,9 +43,8 @@ fn add_member<'a, A: Allocator>(
     if text.starts_with("[:") {
         return add_class(made, text);
     }
-    let after = match add_end(made, text) {
-        Ok(Some(after)) => after,
-        other => return other,
+    let Some(after) = add_end(made, text)? else {
+        return Ok(None);
     };
     match after.strip_prefix('-') {
         Some(last) if !last.is_empty() && !last.starts_with(']') => {

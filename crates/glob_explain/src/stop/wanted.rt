@@ -1,5 +1,4 @@
 //! What a token wants, in words.
-use crate::rows::add_texts;
 use glob_captures::{TokenKind, Written};
 use glob_pattern::MatchOptions;
 use std::alloc::{AllocError, Allocator};
@@ -44,11 +43,11 @@ pub fn add_want<A: Allocator>(
         rules_of(kind, options)
     };
     let wish = wish_of(kind, written);
-    add_texts(lines, &[written, "\t", wish, case, rules, "\n"])
+    writeln!(lines, "{written}\t{wish}{case}{rules}")
 }
 
 /// What a token of this kind wants under no rule.
-fn wish_of<'a>(kind: TokenKind, written: &str) -> &'a str {
+fn wish_of(kind: TokenKind, written: &str) -> &'static str {
     match kind {
         TokenKind::Literal if written.chars().count() > 1 => "wants these characters",
         TokenKind::Literal => "wants this character",
@@ -71,7 +70,7 @@ fn has_case(kind: TokenKind, written: &str) -> bool {
 }
 
 /// What the rules of the options forbid a token of this kind.
-fn rules_of<'a>(kind: TokenKind, options: MatchOptions) -> &'a str {
+fn rules_of(kind: TokenKind, options: MatchOptions) -> &'static str {
     if kind == TokenKind::Literal {
         return "";
     }

@@ -4,7 +4,7 @@ use lib.Seq.{take-append_seam}
 use Rattle.std.specs.Io.KnownBytes.{Appends, Keeps}
 use Rattle.std.proofs.KnownBytes.{Appends-nil, Appends-trans, Appends-kept, Keeps-refl}
 use Rattle.std.proofs.lemmas.List.Concat.{flat_map-append}
-use Rattle.glob_lines.specs.Lines.{records_of, ended_record, with_ends, AreKept, WritesKept}
+use Rattle.glob_lines.specs.Lines.{records_of, ended_record, with_ends, AreKept}
 use Rattle.glob_lines.specs.Private.Gathering.{IsGathered}
 use Rattle.glob_lines.proofs.LineLemmas.KnownMoves.{Appends-cut}
 use Rattle.glob_lines.proofs.LineLemmas.KeptLines.{AreKept-push, AreKept-pass, AreKept-front}
@@ -112,19 +112,6 @@ module _ (end : ℕ) where
       let front : take (length done.written) kept ≡ done.written =
       ap (take (length done.written)) (split ∙ append_assoc done.written done.waiting others) ∙ take-append_seam done.written (done.waiting ++ others) in
       (length done.written, subst (λ l. Appends old new' (with_ends end l)) (sym front) (Appends-kept old new new' (with_ends end done.written) done.moved same))
-
-  -- All records were seen, and the output was written.
-  pub AreFiltered-all : (P : List ℕ → Type 0) (input rest output sent : List ℕ) (old new new' : Option (List ℕ)) (count : ℕ)
-      → AreFiltered P input rest output old new count → rest ≡ [] → sent ≡ output → Appends new new' sent → WritesKept end P input old new' count
-  AreFiltered-all P input rest output sent old new new' count done all same appended =
-      let split : records_of end input ≡ done.seen = done.split ∙ ap (λ l. done.seen ++ records_of end l) all ∙ append-nil done.seen in
-      let bytes : with_ends end (done.written ++ done.waiting) ≡ with_ends end done.written ++ sent =
-      flat_map-append (ended_record end) done.written done.waiting ∙ ap (λ l. with_ends end done.written ++ l) (sym (same ∙ done.held)) in (
-        done.written ++ done.waiting,
-        subst (λ l. AreKept P l (done.written ++ done.waiting)) (sym split) done.kept,
-        subst (Appends old new') (sym bytes) (Appends-trans old new new' (with_ends end done.written) sent done.moved appended),
-        done.counted,
-      )
 
   -- some of the bytes that come next were written
   cut_after : (old new new' : Option (List ℕ)) (all done next rest : List ℕ) (n : ℕ) → all ≡ done ++ (next ++ rest) → Appends old new done → Appends new new' (take n next)

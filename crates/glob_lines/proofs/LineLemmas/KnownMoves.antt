@@ -1,5 +1,5 @@
 -- What reads and writes in a row do to known bytes.
-use Rattle.std.proofs.Common.{◌≡◌, ℕ, ◌+◌, List, ◌++◌, Option, Some, None, length, take, drop, sym, ap, append-nil, ◌∙◌, subst, append_assoc, ◌-◌}
+use Rattle.std.proofs.Common.{◌≡◌, ℕ, ◌+◌, List, ◌++◌, Option, Some, None, length, take, drop, sym, ap, append-nil, ◌∙◌, subst, append_assoc, ◌-◌, Result, Ok, Err, OnErr}
 use Rattle.std.proofs.lemmas.List.{take-append-drop, take_rest}
 use lib.Seq.{take-add, take-append_seam}
 use Rattle.std.specs.Io.KnownBytes.{Appends, Keeps, Consumes, IsAtEnd}
@@ -31,3 +31,8 @@ pub IfSome-all_read : (left rest : Option (List ℕ)) (bytes : List ℕ) → Con
 IfSome-all_read None rest bytes read end P holds = tt
 IfSome-all_read (Some all) None bytes read end P holds = absurd read
 IfSome-all_read (Some all) (Some more) bytes read end P holds = subst P (sym (read ∙ ap (λ l. bytes ++ l) end ∙ append-nil bytes)) holds
+
+-- a fact holds at a fault too
+pub OnErr-from : {T E : Type 0} (r : Result T E) {P : Type 0} → P → OnErr r P
+OnErr-from (Ok x) p = tt
+OnErr-from (Err e) p = p

@@ -1,6 +1,6 @@
 -- What refuses a further key of a tree in memory, and where it is to be.
 use Rattle.std.proofs.Common.{◌≡◌, ℕ, ◌<◌, true, false, cond, not, ◌&&◌, List, [], ◌∷◌, ◌++◌, length, Option, Some, None, refl, ap, sym, ◌∙◌, arith}
-use Rattle.std.specs.Prelude.{bytes_eq, Bool, is_some, is_ok, OnOk, Result, Ok, Err}
+use Rattle.std.specs.Prelude.{bytes_eq, Bool, is_some}
 use Rattle.std.specs.List.{list_all}
 use Rattle.std.specs.Path.{root_dir}
 use Rattle.std.specs.Str.{is_utf8}
@@ -103,11 +103,6 @@ module _ (entries : List (Key × Kind)) (current : ℕ) (path : Text) (number : 
   pub content_with-more : content_at more current ≡ content_with (content_at entries current) path kind
   unfolding content_with
   content_with-more = ap (λ key. record { kinds = more; current = key }) current_stays ∙ ap (with_key (content_at entries current) kind) (sym place.key)
-
--- what a call ensures that succeeded
-pub on_ok_holds : {T E P : Type 0} (r : Result T E) → is_ok r ≡ true → OnOk r P → P
-on_ok_holds (Ok x) h p = p
-on_ok_holds (Err e) h p = absurd (both_ways false refl h)
 
 -- a path that names no key does not become the current directory
 pub current_improper : (c : Content) (path : Text) → bytes_eq path root_dir ≡ false → key_of path ≡ None → current_refusal c path ≡ Some Improper

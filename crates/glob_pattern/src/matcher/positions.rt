@@ -66,9 +66,7 @@ pub fn decide<A: Allocator + Copy, T: Shaped, J: Judge>(
     if words.len() == 1 {
         Ok(run(tokens, words, &mut [0], span, judge))
     } else {
-        let Ok(mut alive) = vec![in alloc; 0; words.len()] else {
-            return Err(AllocError);
-        };
+        let mut alive = vec![in alloc; 0; words.len()]?;
         Ok(run(tokens, words, alive.as_mut_slice(), span, judge))
     }
 }

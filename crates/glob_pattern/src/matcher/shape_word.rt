@@ -25,13 +25,9 @@ pub fn shape_words<A: Allocator + Copy, T: Shaped>(
     ensures { IfOk result (λ words. AreShapeWords (map T.shape tokens.now) words.items) }
 {
     let count = tokens.len().div_ceil(WORD).max(1);
-    let Ok(mut words) = Vec::with_capacity(alloc, count) else {
-        return Err(AllocError);
-    };
+    let mut words = Vec::with_capacity(alloc, count)?;
     for n in 0..count {
-        let Ok(()) = words.push(ShapeWord::new(tokens, WORD * n)) else {
-            return Err(AllocError);
-        };
+        words.push(ShapeWord::new(tokens, WORD * n))?;
     }
     Ok(words)
 }

@@ -79,13 +79,9 @@ pub fn masks_of<A: Allocator + Copy>(
     ensures { IfOk result (λ masks. AreCharMasks tokens.now masks.items) }
 {
     let count = if used { tokens.len().div_ceil(WORD) } else { 0 };
-    let Ok(mut masks) = Vec::with_capacity(alloc, count) else {
-        return Err(AllocError);
-    };
+    let mut masks = Vec::with_capacity(alloc, count)?;
     for n in 0..count {
-        let Ok(()) = masks.push(CharMasks::NONE) else {
-            return Err(AllocError);
-        };
+        masks.push(CharMasks::NONE)?;
         masks[n].fill(tokens, WORD * n);
     }
     Ok(masks)
@@ -210,8 +206,8 @@ fn list_all(masks: &mut [u64; 259], bit: usize, entries: &[Entry]) -> bool
     ensures beyond { result ≡ list_any is_beyond entries.now }
 {
     let mut beyond = false;
-    for n in 0..entries.len() {
-        beyond |= list(masks, bit, entries[n]);
+    for entry in entries {
+        beyond |= list(masks, bit, *entry);
     }
     beyond
 }

@@ -90,14 +90,9 @@ impl<A: Allocator + Copy> Compiled<A> {
         let words = if list.len() <= WORD {
             Vec::new(alloc)
         } else {
-            match shape_words(alloc, list) {
-                Ok(words) => words,
-                Err(error) => return Err(error),
-            }
+            shape_words(alloc, list)?
         };
-        let Ok(masks) = masks_of(alloc, list, prefilter.lead < list.len()) else {
-            return Err(AllocError);
-        };
+        let masks = masks_of(alloc, list, prefilter.lead < list.len())?;
         Ok(Compiled {
             first: ShapeWord::new(list, 0),
             tokens,
@@ -124,20 +119,11 @@ impl<A: Allocator + Copy> Compiled<A> {
     pub fn clone(&self) -> Result<Self, AllocError>
         ensures { IfOk result (λ compiled. compiled ≡ self.now) }
     {
-        let Ok(tokens) = clone_tokens(&self.tokens) else {
-            return Err(AllocError);
-        };
-        let Ok(words) = self.words.clone() else {
-            return Err(AllocError);
-        };
-        let Ok(masks) = self.masks.clone() else {
-            return Err(AllocError);
-        };
         Ok(Compiled {
-            tokens,
+            tokens: self.tokens.clone()?,
             first: self.first,
-            words,
-            masks,
+            words: self.words.clone()?,
+            masks: self.masks.clone()?,
             prefilter: self.prefilter,
         })
     }
@@ -163,10 +149,8 @@ impl<A: Allocator + Copy> Compiled<A> {
             end,
             enough: self.enough(end, options),
         };
-        match self.run(front, span, options) {
-            Ok((answer, _)) => Ok(answer),
-            Err(error) => Err(error),
-        }
+        let (answer, _) = self.run(front, span, options)?;
+        Ok(answer)
     }
 
     /// Whether the tokens match the text, and how many questions it took. With at most 63 tokens the call succeeds.
@@ -209,10 +193,8 @@ impl<A: Allocator + Copy> Compiled<A> {
         let masks = self.masks.as_slice();
         let mut judge = TextJudge::new(tokens, masks, text, span.start, options);
         let alloc = *self.tokens.allocator();
-        match decide(alloc, tokens, self.words(), span, &mut judge) {
-            Ok(answer) => Ok((answer, judge.asked())),
-            Err(error) => Err(error),
-        }
+        let answer = decide(alloc, tokens, self.words(), span, &mut judge)?;
+        Ok((answer, judge.asked()))
     }
 
     /// The shapes as bits.
@@ -243,13 +225,4 @@ impl<A: Allocator + Copy> Compiled<A> {
         }
         self.first.free_before(end)
     }
-}
-
-/// The same tokens on the same allocator. Fails only if allocation fails.
-fn clone_tokens<A: Allocator + Copy>(
-    tokens: &Vec<Token<Bracket<A>>, A>,
-) -> Result<Vec<Token<Bracket<A>>, A>, AllocError>
-    ensures { IfOk result (λ copies. copies.items ≡ tokens.now.items) }
-{
-    tokens.clone()
 }

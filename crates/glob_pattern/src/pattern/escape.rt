@@ -17,23 +17,15 @@ impl<A: Allocator> Pattern<A> {
             return String::from_str(alloc, s);
         }
         let length = specials.saturating_mul(2).saturating_add(s.len());
-        let Ok(mut pattern) = String::with_capacity(alloc, length) else {
-            return Err(AllocError);
-        };
+        let mut pattern = String::with_capacity(alloc, length)?;
         let mut rest = s;
         while let Some((plain, bracket, others)) = split_at_special(rest) {
-            let Ok(()) = pattern.push_str(plain) else {
-                return Err(AllocError);
-            };
-            let Ok(()) = pattern.push_str(bracket) else {
-                return Err(AllocError);
-            };
+            pattern.push_str(plain)?;
+            pattern.push_str(bracket)?;
             rest = others;
         }
-        match pattern.push_str(rest) {
-            Ok(()) => Ok(pattern),
-            Err(error) => Err(error),
-        }
+        pattern.push_str(rest)?;
+        Ok(pattern)
     }
 }
 
@@ -51,9 +43,7 @@ fn split_at_special(text: &str) -> Option<(&str, &'static str, &str)>
         (λ p. escaped_text text.now ≡ p.0.now ++ (p.1.now ++ escaped_text p.2.now)) }
     ensures shorter { IfSome result (λ p. length p.2.now < length text.now) }
 {
-    let Some(place) = first_special(text) else {
-        return None;
-    };
+    let place = first_special(text)?;
     let bracket = bracketed(text.as_bytes()[place]);
     Some((&text[..place], bracket, &text[place + 1..]))
 }

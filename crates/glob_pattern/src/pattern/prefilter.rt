@@ -78,12 +78,8 @@ impl Prefilter {
         if self.excludes(bytes) {
             return None;
         }
-        let Some(start) = trim_start(tokens, self.lead, bytes, options) else {
-            return None;
-        };
-        let Some(end) = trim_end(tokens, self.trail, bytes, options, start) else {
-            return None;
-        };
+        let start = trim_start(tokens, self.lead, bytes, options)?;
+        let end = trim_end(tokens, self.trail, bytes, options, start)?;
         if self.needle.may_be_in(bytes) {
             Some(Trimmed { start, end })
         } else {

@@ -62,10 +62,7 @@ impl<A: Allocator> Bracket<A> {
         let entries = match content {
             [only] => Entries::One(Entry::Single(*only)),
             [first, '-', last] => Entries::One(Entry::Range(*first, *last)),
-            _ => match read_entries(alloc, content) {
-                Ok(entries) => Entries::Many(entries),
-                Err(error) => return Err(error),
-            },
+            _ => Entries::Many(read_entries(alloc, content)?),
         };
         Ok(Bracket { entries })
     }
@@ -98,10 +95,7 @@ impl<A: Allocator + Copy> Clone for Bracket<A> {
         let entries = match &self.entries {
             Entries::One(entry) => Entries::One(*entry),
             Entries::Many(entries) => {
-                match Vec::from_slice(*entries.allocator(), entries.as_slice()) {
-                    Ok(entries) => Entries::Many(entries),
-                    Err(error) => return Err(error),
-                }
+                Entries::Many(Vec::from_slice(*entries.allocator(), entries.as_slice())?)
             }
         };
         Ok(Bracket { entries })
@@ -112,18 +106,14 @@ impl<A: Allocator + Copy> Clone for Bracket<A> {
 fn read_entries<A: Allocator>(alloc: A, content: &[char]) -> Result<Vec<Entry, A>, AllocError>
     ensures { IfOk result (λ entries. entries.items ≡ entries_of content.now) }
 {
-    let Ok(mut entries) = Vec::with_capacity(alloc, content.len().min(FEW)) else {
-        return Err(AllocError);
-    };
+    let mut entries = Vec::with_capacity(alloc, content.len().min(FEW))?;
     let mut rest = content;
     while let [first, others @ ..] = rest {
         let (entry, after) = match others {
             [hyphen, last, after @ ..] if *hyphen == '-' => (Entry::Range(*first, *last), after),
             _ => (Entry::Single(*first), others),
         };
-        let Ok(()) = entries.push(entry) else {
-            return Err(AllocError);
-        };
+        entries.push(entry)?;
         rest = after;
     }
     Ok(entries)

@@ -1,6 +1,6 @@
 -- Reading a pattern's components.
-use Rattle.std.proofs.Common.{◌≡◌, ◌≢◌, ℕ, ◌+◌, ◌-◌, ◌<◌, Bool, true, false, cond, not, ◌||◌, ◌==◌, List, [], ◌∷◌, ◌++◌, length, take, drop, drop-cons, add-one, suc, get_or, map, Option, Some, None, Result, Ok, Err, refl, ap, sym, ◌∙◌, arith, chars, rules}
-use Rattle.std.specs.Prelude.{IfOk, IfErr, IsErrAnd}
+use Rattle.std.proofs.Common.{◌≡◌, ◌≢◌, ℕ, ◌+◌, ◌-◌, ◌<◌, Bool, true, false, cond, not, ◌||◌, ◌==◌, List, [], ◌∷◌, ◌++◌, length, take, drop, drop-cons, add-one, suc, get_or, map, Option, Some, None, Result, Ok, Err, refl, ap, sym, ◌∙◌, arith, chars, rules, length-append, Bor}
+use Rattle.std.specs.Prelude.{IfOk, IfErr, IsErrAnd, MatchOption, slice_index}
 use Rattle.std.specs.Result.{result_err}
 use Rattle.std.specs.List.{list_any}
 use Rattle.std.specs.Str.{IsUtf8}
@@ -23,7 +23,8 @@ use Rattle.std.proofs.lemmas.Iterator.{YieldsList}
 use Rattle.std.proofs.lemmas.Iterator.Consumers.{YieldsList-turn, YieldsList-so_far}
 use Rattle.std.proofs.lemmas.List.{take-append-drop}
 use Rattle.std.specs.Iterator.{Yields}
-use Rattle.std.specs.Option.{option_or}
+use Rattle.std.specs.Option.{option_or, unwrap_or}
+use lib.Seq.{take-append_seam, get_or-append_seam}
 use Rattle.glob_walk.specs.Components.{components, first_fault, walk_fault, without_end_separator, without_root, is_literal}
 use Rattle.glob_walk.specs.Private.Forms.{text_fault}
 use Rattle.glob_walk.specs.Walks.{RefusesWith}
@@ -37,6 +38,20 @@ without_end-plain (b ∷ bs) h = by_test (ends_with slash (b ∷ bs)) refl
     by_test true e = absurd (h (take (length (b ∷ bs) - 1) (b ∷ bs)) (front_and_end slash (b ∷ bs) e (omega arith)))
     by_test false e = refl
 
+-- a text that ends in a separator loses it
+pub without_end-front : (front text : Text) → text ≡ front ++ slash ∷ [] → front ≡ without_end_separator text
+without_end-front front text e =
+    let n : length text - 1 ≡ length front = omega (arith, ap length e, length-append front (slash ∷ [])) in
+    let last : ends_with slash text ≡ true =
+    ap (λ i. slice_index text i == slash) n ∙ ap (λ l. slice_index l (length front) == slash) e ∙ ap (λ b. b == slash) (get_or-append_seam front slash [] 0) in
+    sym (ap (λ b. cond b (take (length text - 1) text) text) last ∙ ap (λ k. take k text) n ∙ ap (λ l. take (length front) l) e ∙ take-append_seam front (slash ∷ []))
+
+-- the text without a separator at its end, as it is stripped
+pub without_end-stripped : (text : Bor Text) (r : Option (Bor Text)) → MatchOption r ((front : List ℕ) → text.now ≢ front ++ slash ∷ []) (λ x. text.now ≡ x.now ++ slash ∷ [])
+    → (unwrap_or r text).now ≡ without_end_separator text.now
+without_end-stripped text None h = without_end-plain text.now h
+without_end-stripped text (Some x) h = without_end-front x.now text.now h
+
 -- a text that does not begin with a separator stays as it is
 pub without_root-plain : (text : Text) → ((rest : List ℕ) → text ≢ slash ∷ rest) → text ≡ without_root text
 without_root-plain [] h = refl
@@ -45,6 +60,12 @@ without_root-plain (b ∷ bs) h = by_test (b == slash) refl
     by_test : (e : Bool) → (b == slash) ≡ e → b ∷ bs ≡ cond e (drop 1 (b ∷ bs)) (b ∷ bs)
     by_test true e = absurd (h bs (ap (λ x. x ∷ bs) (eqb-true b slash e)))
     by_test false e = refl
+
+-- the text without a separator at its start, as it is stripped
+pub without_root-stripped : (text : Bor Text) (r : Option (Bor Text)) → MatchOption r ((rest : List ℕ) → text.now ≢ slash ∷ rest) (λ x. text.now ≡ slash ∷ x.now)
+    → (unwrap_or r text).now ≡ without_root text.now
+without_root-stripped text None h = without_root-plain text.now h
+without_root-stripped text (Some x) h = sym (ap without_root h)
 
 -- an accepted text has no fault
 pub text_fault-accepted : (text : Text) → IsAccepted (chars text) → text_fault text ≡ None

@@ -35,16 +35,11 @@ impl<A: Allocator + Copy> Frame<A> {
         let Some(component) = plan.component(self.component) else {
             return Ok(None);
         };
-        match component.matches(name, plan.options) {
-            Ok(true) => {}
-            Ok(false) => return Ok(None),
-            Err(error) => return Err(error),
+        if !component.matches(name, plan.options)? {
+            return Ok(None);
         }
-        let Ok(path) = join(plan.alloc, self.path.as_str(), name) else {
-            return Err(AllocError);
-        };
         Ok(Some(Task {
-            path,
+            path: join(plan.alloc, self.path.as_str(), name)?,
             component: self.component + 1,
             sight: Sight::Unseen(Wanted::Any),
         }))
@@ -72,11 +67,8 @@ impl<A: Allocator + Copy> Frame<A> {
         let Some(component) = met else {
             return Ok(None);
         };
-        let Ok(path) = child(plan.alloc, self.path.as_str(), name) else {
-            return Err(AllocError);
-        };
         Ok(Some(Task {
-            path,
+            path: child(plan.alloc, self.path.as_str(), name)?,
             component,
             sight: Sight::Seen(entry.is_dir),
         }))
@@ -104,11 +96,8 @@ impl<A: Allocator + Copy> Frame<A> {
         if !self.recursive || !is_entered(plan.options, name, entry.is_dir) {
             return Ok(None);
         }
-        let Ok(path) = child(plan.alloc, self.path.as_str(), name) else {
-            return Err(AllocError);
-        };
         Ok(Some(Task {
-            path,
+            path: child(plan.alloc, self.path.as_str(), name)?,
             component: self.component,
             sight: Sight::Seen(true),
         }))
@@ -149,10 +138,10 @@ fn match_at<A: Allocator + Copy>(
         (λ at. at
         ≡ (if takes_name plan.now.options component.now name.now then Some next else None)) }
 {
-    match component.matches(name, plan.options) {
-        Ok(true) => Ok(Some(next)),
-        Ok(false) => Ok(None),
-        Err(error) => Err(error),
+    if component.matches(name, plan.options)? {
+        Ok(Some(next))
+    } else {
+        Ok(None)
     }
 }
 

@@ -1,4 +1,4 @@
 use Rattle.glob.proofs.walk.walked.Goals as goal
 
-pub returns-in-Ok-clause-whole : goal.returns-in-Ok-clause-whole
-returns-in-Ok-clause-whole g c = (c.in-Ok.paths, c.in-Ok.is, c.whole.ensures)
+pub returns-clause-whole : goal.returns-clause-whole
+returns-clause-whole g c = (c.in_ok-paths.paths, c.in_ok-paths.was, c.whole.ensures)

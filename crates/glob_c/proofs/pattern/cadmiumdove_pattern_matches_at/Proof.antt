@@ -1,9 +1,9 @@
 -- `cadmiumdove_pattern_matches_at` follows the pointer to the pattern, which its caller lends.
-use Rattle.std.proofs.Common.{ℕ, ◌<◌, ◌^◌, List, [], ◌∷◌, ◌++◌, refl, sym, subst, w32, Bor}
+use Rattle.std.proofs.Common.{ℕ, List, [], ◌∷◌, ◌++◌, refl, sym, subst, w32, Bor}
 use mir.Syntax.{named}
-use mir.Val.{Val, vint, vptr}
+use mir.Val.{Val, vptr}
 use base.Logic.{SProp, ent, emp, never, id⊢, fst∗, snd∗, ex_e}
-use base.Fml.{Lft, Share, ftrue, fsep, flft}
+use base.Fml.{ftrue, fsep, flft}
 use prog.Wp.{WpFn}
 use types.Logic.{sem}
 use types.Kit.{at_ret, ‵, raw, ◌⊛◌, some, later, ◌$◌, ◌∵◌, !, qed, by, move, keep, drop, use0, use1, split, join, fsplit, fjoin, feq_i, pick, suffices, await}
@@ -17,10 +17,10 @@ use denote.Laws.{Is, shows}
 use denote.Memory.{shared_of}
 use denote.Opens.{hide}
 use denote.Plain.{uint_vals, uint_Tells, uint_Lawful}
-use denote.RattleType.{RattleType, owns}
+use denote.RattleType.{owns}
 use denote.RawPtr.{Ptr, RawPtr, block_ptr, rawptr_vals, rawptr_Tells, in_a_block}
 use denote.Signature.{types_at, plain, shr_slice_of}
-use denote.Slice.{ShrSlice, shr_slice_vals, shr_slice_Tells}
+use denote.Slice.{shr_slice_vals, shr_slice_Tells}
 use denote.Steps.{nothing, heard, peeks}
 use denote.Struct.Lending.{lent_at}
 use denote.Triple.Call.{calls_at}

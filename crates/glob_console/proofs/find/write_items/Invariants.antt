@@ -5,9 +5,9 @@ use Rattle.glob_console.proofs.FoundLemmas.{Written}
 use Rattle.glob_console.proofs.StepLemmas.{step_number}
 use Rattle.glob_console.proofs.find.write_items.Given as goal
 
-abbrev pub invariant-loop-error : goal.invariant-loop-error
-invariant-loop-error g l =
+abbrev pub invariant-loop-step : goal.invariant-loop-step
+invariant-loop-step g l =
     Written l.end (g.C.Choice.wanted l.choice) g.T.Tree.tells l.fn.tree l.fn.walk (g.W.Write.contents l.initial.output) l.tree (saying l.step) l.walk l.findings (g.W.Write.contents l.output) l.lines.waiting.items
 
-abbrev pub decreases-loop-error : goal.decreases-loop-error
-decreases-loop-error g l = 2 * (l.walk.limit - l.walk.spent) + 2 * (l.walk.limit + 1 - l.walk.given) + step_number (saying l.step)
+abbrev pub decreases-loop-step : goal.decreases-loop-step
+decreases-loop-step g l = 2 * (l.walk.limit - l.walk.spent) + 2 * (l.walk.limit + 1 - l.walk.given) + step_number (saying l.step)

@@ -12,7 +12,7 @@ loop-text-preserved g c =
     let texts = c.args.texts.now in
     let text = c.text-item.result in
     let next : suc i ≡ i + 1 = omega arith in
-    let accepted = subst (λ bytes. IsAccepted (chars bytes)) c.as_str.ensures.value (c.in-Ok-true.ensures c.in-Ok-true.field-0-test) in
+    let accepted = subst (λ bytes. IsAccepted (chars bytes)) c.as_str.ensures.value (c.in_ok-is_accepted.ensures c.if-not-branch.false) in
     subst (λ n. All (λ t. IsAccepted (chars (string_bytes t))) (take n texts)) next
     (subst (All (λ t. IsAccepted (chars (string_bytes t)))) (sym (take-suc texts i text (omega (arith, c.loop-text-test.true))))
     (All-push (λ t. IsAccepted (chars (string_bytes t))) (take i texts) _ c.loop-text.invariant

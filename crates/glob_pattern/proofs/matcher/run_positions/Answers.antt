@@ -1,4 +1,4 @@
-use Rattle.std.proofs.Common.{◌≡◌, ◌-◌, refl, arith}
+use Rattle.std.proofs.Common.{◌≡◌, ◌-◌, arith}
 use Rattle.std.proofs.lemmas.List.{map-id}
 use Rattle.std.proofs.lemmas.Result.{IfOk-weaker}
 use Rattle.glob_pattern.proofs.PositionLemmas.Alive.{Splits-iff_alive}
@@ -16,7 +16,7 @@ pub decide-requires-else-shapes-le-WORD : goal.decide-requires-else-shapes-le-WO
 decide-requires-else-shapes-le-WORD g c =
     let span = c.all-span.ensures in
     let same = map-id c.args.shapes.now in
-    rw same (CanRun-all (g.J.Judge.table c.args.judge.now) c.args.shapes.now _ c.all-span.result _ _ (rw c.as_slice.ensures.value (rw same at c.in-Ok.ensures))
+    rw same (CanRun-all (g.J.Judge.table c.args.judge.now) c.args.shapes.now _ c.all-span.result _ _ (rw c.as_slice.ensures.value (rw same at c.in_ok-words.ensures))
     span.start span.end span.enough (omega arith) c.requires.tokens c.requires.start c.requires.room)
 
 pub returns-then-shapes-le-WORD-clause-answer : goal.returns-then-shapes-le-WORD-clause-answer
@@ -25,8 +25,8 @@ returns-then-shapes-le-WORD-clause-answer g c =
     let answer = rw (map-id c.args.shapes.now, c.all-span.ensures.end) at c.decide.ensures.answer in
     IfOk-weaker c.decide.result _ _ (λ yes h. (λ t. split.1 (h.0 t), λ s. h.1 (split.0 s))) answer
 
-pub returns-in-Ok-clause-answer : goal.returns-in-Ok-clause-answer
-returns-in-Ok-clause-answer g c =
+pub returns-in_ok-words-clause-answer : goal.returns-in_ok-words-clause-answer
+returns-in_ok-words-clause-answer g c =
     let split = Splits-iff_alive (g.J.Judge.table c.args.judge.now) c.args.shapes.now in
     let answer = rw (map-id c.args.shapes.now, c.all-span.ensures.end) at c.decide-else-shapes-le-WORD.ensures.answer in
     IfOk-weaker c.decide-else-shapes-le-WORD.result _ _ (λ yes h. (λ t. split.1 (h.0 t), λ s. h.1 (split.0 s))) answer
@@ -41,31 +41,13 @@ pub returns-then-shapes-le-WORD-clause-least : goal.returns-then-shapes-le-WORD-
 returns-then-shapes-le-WORD-clause-least g c =
     IfOk-weaker c.decide.result _ _ (λ yes asks t. omega (arith, asks t c.all-span.ensures.enough, c.all-span.ensures.start)) c.decide.ensures.least
 
-pub returns-then-shapes-le-WORD-clause-monotone : goal.returns-then-shapes-le-WORD-clause-monotone
-returns-then-shapes-le-WORD-clause-monotone g c = c.decide.ensures.monotone
-
-pub returns-then-shapes-le-WORD-clause-same : goal.returns-then-shapes-le-WORD-clause-same
-returns-then-shapes-le-WORD-clause-same g c = c.decide.ensures.same
-
-pub returns-then-shapes-le-WORD-clause-small : goal.returns-then-shapes-le-WORD-clause-small
-returns-then-shapes-le-WORD-clause-small g c = λ few. c.decide.ensures.short refl
-
-pub returns-in-Ok-clause-most : goal.returns-in-Ok-clause-most
-returns-in-Ok-clause-most g c =
+pub returns-in_ok-words-clause-most : goal.returns-in_ok-words-clause-most
+returns-in_ok-words-clause-most g c =
     let characters = (g.J.Judge.table c.args.judge.now).characters in
     let all : characters - c.all-span.result.start ≡ characters = omega (arith, c.all-span.ensures.start) in
     rw (map-id c.args.shapes.now, all) at c.decide-else-shapes-le-WORD.ensures.most
 
-pub returns-in-Ok-clause-least : goal.returns-in-Ok-clause-least
-returns-in-Ok-clause-least g c =
+pub returns-in_ok-words-clause-least : goal.returns-in_ok-words-clause-least
+returns-in_ok-words-clause-least g c =
     let all = c.all-span.ensures in
     IfOk-weaker c.decide-else-shapes-le-WORD.result _ _ (λ yes asks t. omega (arith, asks t all.enough, all.start)) c.decide-else-shapes-le-WORD.ensures.least
-
-pub returns-in-Ok-clause-monotone : goal.returns-in-Ok-clause-monotone
-returns-in-Ok-clause-monotone g c = c.decide-else-shapes-le-WORD.ensures.monotone
-
-pub returns-in-Ok-clause-same : goal.returns-in-Ok-clause-same
-returns-in-Ok-clause-same g c = c.decide-else-shapes-le-WORD.ensures.same
-
-pub returns-in-Ok-clause-small : goal.returns-in-Ok-clause-small
-returns-in-Ok-clause-small g c = λ few. absurd (omega (arith, few, c.if-shapes-le-WORD.false))

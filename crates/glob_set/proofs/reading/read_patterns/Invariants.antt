@@ -5,6 +5,6 @@ use Rattle.glob_set.proofs.reading.read_patterns.Given as goal
 
 abbrev pub invariant-loop-number : goal.invariant-loop-number
 invariant-loop-number g l = record {
-  read : l.patterns.items ≡ map (λ t. t.now) (take l.number l.texts);
-  accepted : (k : ℕ) → k < l.number → IsAccepted (chars (get_or (map (λ t. t.now) l.texts) k []));
+  read : l.patterns.items ≡ map (λ t. t.now) (take l.number-counter l.texts);
+  accepted : (k : ℕ) → k < l.number-counter → IsAccepted (chars (get_or (map (λ t. t.now) l.texts) k []));
 }

@@ -1,5 +1,4 @@
 -- What a slot owns says the same to every thread.
-use Prim.Native.Nat.{ℕ}
 use mir.Raw.{raw}
 use base.Fraction.{full_share}
 use base.Shift.{Keyless}

@@ -1,5 +1,5 @@
 -- `into_loose` takes the box of a slot that has a walk.
-use Rattle.std.proofs.Common.{ℕ, IsSome, ◌≡◌, List, [], ◌∷◌, ◌++◌, refl, sym, ap, ◌∙◌, subst}
+use Rattle.std.proofs.Common.{IsSome, ◌≡◌, List, [], ◌∷◌, ◌++◌, refl, sym, ap, ◌∙◌, subst}
 use mir.Raw.{raw as bare}
 use mir.Val.{Val, vptr, vstruct, vcons, vnil}
 use base.Logic.{SProp, ent, emp, never, id⊢, fst∗}

@@ -1,12 +1,21 @@
-use Rattle.std.proofs.Common.{◌≡◌, [], sym, ap, subst, ◌∙◌, Some, None}
+use Rattle.std.proofs.Common.{◌≡◌, [], sym, ap, subst, ◌∙◌, Option, Some, None, Result, Ok, Err}
 use Rattle.std.specs.IoError.{error_kind}
+use Rattle.std.specs.Result.{IsErrAnd, IfErr}
+use Rattle.std.specs.declared.io.ErrorKind.{ErrorKind}
+use Rattle.glob_tree.specs.declared.tree.ListError.{ListError}
+use Rattle.glob_tree.specs.declared.tree.ListError.TheVariants.{Memory}
 use Rattle.glob_tree.specs.Answers.{IsListFault, entries_of}
 use Rattle.glob_tree.specs.Content.{list_result, Entries}
-use Rattle.glob_memory.specs.Memory.{MemoryTree, list_fault}
+use Rattle.glob_memory.specs.Memory.{MemoryTree, list_fault, IsFaultOf}
 use Rattle.glob_memory.specs.Private.Nodes.{key_numbered}
 use Rattle.glob_tree.specs.declared.kind.Kind.TheVariants.{Dir, Shut, Other}
 use Rattle.glob_memory.proofs.MemoryLemmas.Answering.{nothing_there, kind_there, children_any}
 use Rattle.glob_memory.proofs.mem_tree.MemTree.entries.Goals as goal
+
+-- an allocation failure is the fault of a listing that has none
+fault_of_memory : {T : Type 0} (fault : Option ErrorKind) (r : Result T ListError) → IsErrAnd r (λ e. e ≡ Memory) → fault ≡ None → IfErr r (IsFaultOf fault)
+fault_of_memory fault (Ok x) is none = tt
+fault_of_memory fault (Err e) is none = subst (IsFaultOf fault) (sym is) none
 
 pub returns-in_default-clause-fails : goal.returns-in_default-clause-fails
 returns-in_default-clause-fails g c =
@@ -36,14 +45,15 @@ returns-in-Other-clause-fault g c =
     let answers = kind_there c.self.inside.nodes c.self.inside.current c.args.path.now c.find.result c.in-Some.number Other c.find.ensures c.in-Some.is c.in-Other.ensures.stands in
     subst (λ (t : MemoryTree). list_fault t.content c.args.path.now ≡ Some (error_kind c.from-in-Other.result)) c.self.view_is (answers.fault ∙ ap Some (sym c.from-in-Other.ensures))
 
-pub returns-in-Ok-clause-entries : goal.returns-in-Ok-clause-entries
-returns-in-Ok-clause-entries g c =
+pub returns-in_ok-entries-in-Dir-clause-entries : goal.returns-in_ok-entries-in-Dir-clause-entries
+returns-in_ok-entries-in-Dir-clause-entries g c =
     let answers = kind_there c.self.inside.nodes c.self.inside.current c.args.path.now c.find.result c.in-Some.number Dir c.find.ensures c.in-Some.is c.in-Dir.ensures.stands in
     let k = (key_numbered c.self.inside.nodes c.in-Some.number) in
-    let all = answers.list ∙ ap Entries (children_any c.self.inside.nodes (key_numbered c.self.inside.nodes c.self.inside.current) [] k ∙ sym c.in-Ok.ensures) in
-    subst (λ (t : MemoryTree). list_result t.content c.args.path.now ≡ Entries (entries_of c.in-Ok.entries.items)) c.self.view_is all
+    let all = answers.list ∙ ap Entries (children_any c.self.inside.nodes (key_numbered c.self.inside.nodes c.self.inside.current) [] k ∙ sym c.in_ok-entries-in-Dir.ensures) in
+    subst (λ (t : MemoryTree). list_result t.content c.args.path.now ≡ Entries (entries_of c.in_ok-entries-in-Dir.field-0.items)) c.self.view_is all
 
-pub returns-in-Err-clause-fault : goal.returns-in-Err-clause-fault
-returns-in-Err-clause-fault g c =
+pub returns-in_err-entries-in-Dir-clause-fault : goal.returns-in_err-entries-in-Dir-clause-fault
+returns-in_err-entries-in-Dir-clause-fault g c =
     let answers = kind_there c.self.inside.nodes c.self.inside.current c.args.path.now c.find.result c.in-Some.number Dir c.find.ensures c.in-Some.is c.in-Dir.ensures.stands in
-    subst (λ (t : MemoryTree). list_fault t.content c.args.path.now ≡ None) c.self.view_is answers.fault
+    let none = subst (λ (t : MemoryTree). list_fault t.content c.args.path.now ≡ None) c.self.view_is answers.fault in
+    fault_of_memory _ c.from_residual.result c.from_residual.ensures.1 none

@@ -5,13 +5,13 @@ use Rattle.glob_pattern.specs.Private.Positions.{IsShapeWord}
 use Rattle.glob_pattern.proofs.matcher.shape_word.shape_words.Goals as goal
 
 pub loop-n-init : goal.loop-n-init
-loop-n-init g c = record { count = ap length c.in-Ok.ensures.items; word = λ i d lt. absurd (omega (arith, lt)) }
+loop-n-init g c = record { count = ap length c.in_ok-words.ensures.items; word = λ i d lt. absurd (omega (arith, lt)) }
 
 pub loop-n-preserved : goal.loop-n-preserved
 loop-n-preserved g c =
     let i = c.loop-n.invariant in
     let words = c.loop-n.words.items in
-    rw c.in-Ok-push.ensures.items (record {
+    rw c.in_ok-push.ensures.items (record {
       count = omega (arith, length-append words (c.new.result ∷ []), i.count);
       word = λ m d lt.
           ⊎_elim

@@ -15,10 +15,10 @@ returns-then-specials-eq0 g c =
     (λ t is. chars-escaped_text c.args.s.now _ c.utf8.s (IsUtf8-string_bytes t) (is ∙ sym plain))
     c.from_str.ensures.ok
 
-pub returns-in-Ok-push_str-3 : goal.returns-in-Ok-push_str-3
-returns-in-Ok-push_str-3 g c =
+pub returns : goal.returns
+returns g c =
     let written : string_bytes c.push_str-2.new.self ≡ escaped_text c.args.s.now =
-    cc (c.in-Ok-push_str-3.ensures.bytes, c.in_default-split_at_special.ensures.plain) in
+    cc (c.in_ok-push_str-3.ensures.bytes, c.in_default.ensures.plain) in
     chars-escaped_text c.args.s.now _ c.utf8.s (IsUtf8-string_bytes c.push_str-2.new.self) written
 
 pub loop-plain-preserved : goal.loop-plain-preserved

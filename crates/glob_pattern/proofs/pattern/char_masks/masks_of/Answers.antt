@@ -7,18 +7,18 @@ use Rattle.glob_pattern.proofs.pattern.char_masks.masks_of.Goals.{then-used, els
 
 pub loop-n-init : goal.loop-n-init
 loop-n-init g c =
-    let none = ap length c.in-Ok.ensures.items in
+    let none = ap length c.in_ok-masks.ensures.items in
     record { count = none; filled = record { each = λ i d lt. absurd (omega (arith, lt, none)) } }
 
 pub index_mut-requires : goal.index_mut-requires
 index_mut-requires g c =
-    omega (arith, c.loop-n.invariant.count, c.in-Ok-push.ensures.len, c.loop-n.masks.ok.0)
+    omega (arith, c.loop-n.invariant.count, c.in_ok-push.ensures.len, c.loop-n.masks.ok.0)
 
 pub loop-n-preserved : goal.loop-n-preserved
 loop-n-preserved g c =
     let i = c.loop-n.invariant in
     let masks = c.loop-n.masks.items in
-    rw (c.in-Ok-push.ensures.items, filled_last masks c.loop-n.n _ c.fill.new.self i.count) (record {
+    rw (c.in_ok-push.ensures.items, filled_last masks c.loop-n.n _ c.fill.new.self i.count) (record {
       count = omega (arith, length_push masks c.fill.new.self, i.count);
       filled = AreCharMasks-push c.args.tokens.now c.loop-n.n masks c.fill.new.self i.count i.filled c.fill.ensures;
     })
@@ -26,7 +26,7 @@ loop-n-preserved g c =
 pub fill-requires-clause-empty : goal.fill-requires-clause-empty
 fill-requires-clause-empty g c =
     let count = c.loop-n.invariant.count in
-    let is = rw (c.in-Ok-push.ensures.items, get_or_push) at c.index_mut.ensures.value in
+    let is = rw (c.in_ok-push.ensures.items, get_or_push) at c.index_mut.ensures.value in
     ap (λ (m : CharMasks). m.masks) is
 
 pub returns : goal.returns

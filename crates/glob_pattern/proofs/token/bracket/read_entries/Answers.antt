@@ -4,7 +4,7 @@ use Rattle.std.proofs.lemmas.List.{append-nil, nil_from_length}
 use Rattle.glob_pattern.proofs.token.bracket.read_entries.Goals as goal
 
 pub loop-rest-init : goal.loop-rest-init
-loop-rest-init g c = rw c.in-Ok.ensures.items refl
+loop-rest-init g c = rw c.in_ok-entries.ensures.items refl
 
 pub slice_bounds-others-count : goal.slice_bounds-others-count
 slice_bounds-others-count g c = c.in-len1-up.len_at_least
@@ -26,7 +26,7 @@ slice_bounds-after-start g c = c.in-len2-up.len_at_least
 
 pub returns : goal.returns
 returns g c =
-    let none = nil_from_length c.loop-rest.rest.now (omega (arith, c.in_default-rest.len_below)) in
+    let none = nil_from_length c.loop-rest.rest.now (omega (arith, c.in_default.len_below)) in
     sym (append-nil c.loop-rest.entries.items) ∙ rw none at c.loop-rest.invariant
 
 pub loop-rest-preserved : goal.loop-rest-preserved

@@ -46,12 +46,12 @@ run-requires-clause-ready g c = λ words shaped.
     (CanRun-trimmed c.args.options c.args.self.now text words _ c.args.trimmed.end 0 c.utf8.text c.requires shaped
     (ap (λ n. n - c.args.trimmed.end) many) (c.enough.ensures (chars (take m text))) refl (omega (arith, many)) (omega (arith, long)))
 
-pub returns-in-Ok-clause-answer : goal.returns-in-Ok-clause-answer
-returns-in-Ok-clause-answer g c =
+pub returns-clause-answer : goal.returns-clause-answer
+returns-clause-answer g c =
     let text = c.args.text.now in
     let m = length text - c.args.trimmed.end in
     let front : c.range-front.result.now ≡ take m text = c.range-front.ensures.value ∙ front-is text m in
     let match = trimmed c.args.options c.args.self.now text c.args.trimmed.start c.args.trimmed.end c.utf8.text c.requires in
     let many : c.len.result ≡ length c.args.self.now = omega (arith, c.len.ensures, ap length c.self.view_is) in
-    let (split, whole) = rw (front, many) at c.in-Ok.ensures.answer in
+    let (split, whole) = rw (front, many) at c.in_ok-answer.ensures.answer in
     (λ t. match.1 (split t), λ m. whole (match.0 m))

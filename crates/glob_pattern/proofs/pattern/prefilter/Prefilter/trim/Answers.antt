@@ -10,11 +10,11 @@ pub returns-then-excludes : goal.returns-then-excludes
 returns-then-excludes g c = λ utf8.
     reject_letter c.args.options c.args.tokens.now c.args.bytes.now c.args.self.now.first c.requires.begins (c.excludes.ensures c.if-excludes.true) (IsUtf8-from_is_utf8 c.args.bytes.now utf8)
 
-pub returns-in_default : goal.returns-in_default
-returns-in_default g c = c.in_default.ensures
+pub returns-in_err-start : goal.returns-in_err-start
+returns-in_err-start g c = rw c.from_residual.ensures c.in_err-start.ensures
 
-pub returns-in_default-trim_end : goal.returns-in_default-trim_end
-returns-in_default-trim_end g c = c.in_default-trim_end.ensures
+pub returns-in_err-end : goal.returns-in_err-end
+returns-in_err-end g c = rw c.from_residual-in_err-end.ensures c.in_err-end.ensures
 
 pub returns-else-may_be_in : goal.returns-else-may_be_in
 returns-else-may_be_in g c = λ utf8 match.
@@ -23,12 +23,12 @@ returns-else-may_be_in g c = λ utf8 match.
 
 pub trim_end-requires-clause-ones : goal.trim_end-requires-clause-ones
 trim_end-requires-clause-ones g c =
-    let (fewer, trim) = c.in-Some.ensures in
+    let (fewer, trim) = c.in_ok-start.ensures in
     let ends = c.requires.ends in
     record { within = omega (arith, fewer, ends.within); first = λ j lt. ends.first j (le_trans lt fewer); last = ends.last }
 
 pub trim_end-requires-clause-trimmed : goal.trim_end-requires-clause-trimmed
-trim_end-requires-clause-trimmed g c = c.in-Some.ensures.1
+trim_end-requires-clause-trimmed g c = c.in_ok-start.ensures.1
 
 pub returns-then-may_be_in : goal.returns-then-may_be_in
-returns-then-may_be_in g c = c.in-Some-trim_end.ensures
+returns-then-may_be_in g c = c.in_ok-end.ensures
