@@ -5,7 +5,7 @@ seed, under each of the options.
 
     tests/captures.py [PROGRAM]
 
-PROGRAM answers the cases as glob_answers does, which it is by default. Prints what differs. The last line counts cases:
+PROGRAM answers the cases as glob_vectors does, which it is by default. Prints what differs. The last line counts cases:
 'N passed, M failed'."""
 
 import functools
@@ -15,7 +15,7 @@ import subprocess
 import sys
 from pathlib import Path
 
-PROGRAM = Path(__file__).resolve().parent.parent / "crates/glob_answers/out/glob_answers"
+PROGRAM = Path(__file__).resolve().parent.parent / "crates/glob_vectors/out/glob_vectors"
 
 # i for no case, s for the separator rule, d for the dot rule.
 OPTIONS = ["", "i", "s", "is", "d", "id", "sd", "isd"]

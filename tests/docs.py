@@ -1,7 +1,6 @@
 #!/usr/bin/env python3
 """Checks what the pages say of the sources: links, names of files, definitions, clauses and tests, every other name in
-the sources, code that a page quotes, and that the pages of reference are those that the sources make. Prints what is
-wrong, and last how many checks passed and failed."""
+the sources, and code that a page quotes. Prints what is wrong, and last how many checks passed and failed."""
 
 import functools
 import re
@@ -17,27 +16,24 @@ PAGES = [name for name in FILES if name.endswith(".md")]
 # Names on the pages that no source has: those of the original crate, of std and of the toolchain.
 OUTSIDE = {"PathWrapper", "once_cell", "read_to_end"}
 
-# The scripts that write docs/reference, and the table of docs/PERFORMANCE.md.
-WRITERS = ["tests/contracts.py", "tests/words.py", "tests/edits.py", "bench/report.py"]
-
 # What the contracts of std's traits say of their answers.
 ANSWERS_OF_STD = ["eq", "cmp", "hash_input", "output", "is_default"]
 
 # The pages with examples: the file that has each block of Rust or of proofs word for word, in the order of the page.
 EXAMPLES = {
     "README.md": [
-        "crates/glob_program_tests/src/tests/readme.rt",
+        "crates/glob_tests/src/tests/readme.rt",
         "rust/tests/glob.rs",
     ],
     "crates/glob/CALLING.md": [
-        "crates/glob_program_tests/src/tests/readme.rt",
+        "crates/glob_tests/src/tests/readme.rt",
         "crates/glob_examples/src/literals.rt",
         "crates/glob_examples/proofs/literals/matches_main/Answers.antt",
         "crates/glob_examples/src/texts.rt",
         "crates/glob_examples/proofs/texts/reread/Answers.antt",
-        "crates/glob_tests/src/tests/lines/copies.rt",
-        "crates/glob_disk_tests/src/tests/disks/calls.rt",
-        "crates/glob_disk_tests/src/tests/disks/calls.rt",
+        "crates/glob_tests/src/tests/lines.rt",
+        "crates/glob_tests/src/tests/disk_walks.rt",
+        "crates/glob_tests/src/tests/disk_walks.rt",
         "crates/glob_examples/src/sources.rt",
         "crates/glob_examples/specs/Sources.antt",
         "crates/glob/src/paths.rt",
@@ -171,13 +167,15 @@ def unknown_tests():
     return found + [row for cell in cells for row in re.findall(r'"([^"]*)"', cell) if f" '{row}' " not in rows]
 
 
-def stale_pages():
-    """What the scripts say that write docs/reference, and whether README, or `rt` itself, has another toolchain."""
-    ran = [subprocess.run([ROOT / it, "--check"], capture_output=True, text=True) for it in WRITERS]
+def stale():
+    """Whether the table of docs/PERFORMANCE.md is not that of the data, and whether README, or `rt` itself, has another
+    toolchain."""
+    table = subprocess.run([ROOT / "bench/report.py", "--check"], capture_output=True, text=True)
     toolchain = (ROOT / "TOOLCHAIN").read_text(encoding="utf-8").strip()
     is_named = f"`{toolchain}`" in (ROOT / "README.md").read_text(encoding="utf-8")
     version = subprocess.run(["rt", "version"], capture_output=True, text=True).stdout.strip()
-    found = [it.stderr.strip() for it in ran if it.returncode != 0] + ([] if is_named else [f"README.md: not {toolchain}"])
+    found = [table.stderr.strip()] if table.returncode else []
+    found += [] if is_named else [f"README.md: not {toolchain}"]
     return found + ([] if version.endswith(toolchain) else [f"TOOLCHAIN: rt version is {version}"])
 
 
@@ -190,10 +188,10 @@ def main():
         faults += [f"{page}: no source has {name}" for name in unknown_names(page) if page != "CHANGELOG.md"]
     faults += [f"docs/DEFINITIONS.md: no clause {name}" for name in unknown_clauses()]
     faults += [f"docs/FAULTS.md: no test {name}" for name in unknown_tests()]
-    faults += stale_pages()
+    faults += stale()
     for fault in faults:
         print(f"failed: {fault}")
-    checks = sum(len(sources) for sources in EXAMPLES.values()) + len(PAGES) + 3 + len(WRITERS)
+    checks = sum(len(sources) for sources in EXAMPLES.values()) + len(PAGES) + 5
     failed = min(checks, len(faults))
     print(f"{checks - failed} passed, {failed} failed")
     sys.exit(bool(faults))

@@ -36,7 +36,7 @@ pages() {
 }
 
 pages -h '-h -q'
-each_row files.txt try
+each_row "$root/tests/rows/files.txt" try
 mkdir "$work/files" && cd "$work/files" || exit 2
 mkdir -p src/deep target .git
 touch Lib.rs a.o keep.o src/a.rs src/deep/b.rs src/deep/b.c target/x.rs .git/c.rs
@@ -110,7 +110,7 @@ refuses_each 'a search by rules of a file' 0 --ignore rules '*.o'
 
 program=$root/bin/glob_ignore binary=$root/crates/glob_ignore/out/glob_ignore
 pages -h '--help list'
-each_row ignore.txt try
+each_row "$root/tests/rows/ignore.txt" try
 
 # filtered NAME STATUS INPUT OUTPUT FAULTS WORD..: as a row, with an input, where ! is NUL in input and output
 filtered() {
@@ -187,8 +187,8 @@ advises() {
     check "what to write instead of $1" 1 "${2+$2\n}" ''
 }
 
-each_row explain.txt try
-each_row advice.txt advises
+each_row "$root/tests/rows/explain.txt" try
+each_row "$root/tests/rows/advice.txt" advises
 
 unfed 'a?' ab
 check 'no input is read' 0 'a\ta\n?\tb\n' ''
@@ -201,9 +201,6 @@ for text in ab b; do
     status=$? && : >"$work/out"
     check "an explanation of $text to a full standard output" 2 '' 'writing failed\n'
 done
-"$root/bin/glob_run" explain 'a?' ab >"$work/out" 2>"$work/err"
-status=$?
-check 'explain by the launcher of glob_run' 0 'a\ta\n?\tb\n' ''
 : >"$work/in"
 refuses_each 'a text that matches' 0 'a?' ab
 refuses_each 'a text that does not match' 1 'a?' b

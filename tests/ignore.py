@@ -1,5 +1,5 @@
 #!/usr/bin/env python3
-"""Compares ignore lists with git: questions whose answers tests/rows/git.answers keeps, as `glob_answers rules` reads and
+"""Compares ignore lists with git: questions whose answers tests/rows/git.answers keeps, as `glob_vectors rules` reads and
 writes them (of git 2.39, and at the end, each with an R, lists that docs/IGNORE.md says are refused); then random lists and
 trees, and which line decides about each path.
 
@@ -7,7 +7,7 @@ trees, and which line decides about each path.
 
 Goes on for so many seconds, or over so many lists (2,000). Says how many questions there were, which lists were refused,
 and each difference; docs/IGNORE.md has those that are let pass. The last line counts kept answers and lists: 'N passed, M
-failed'. Without git there are the kept answers alone. The program is glob_answers, as it was last built."""
+failed'. Without git there are the kept answers alone. The program is glob_vectors, as it was last built."""
 
 import argparse
 import os
@@ -20,7 +20,7 @@ import tempfile
 import time
 from pathlib import Path
 
-PROGRAM = Path(__file__).resolve().parent.parent / "crates/glob_answers/out/glob_answers"
+PROGRAM = Path(__file__).resolve().parent.parent / "crates/glob_vectors/out/glob_vectors"
 KEPT = Path(__file__).resolve().parent / "rows"
 
 # How many lists one process of git is asked about.
@@ -131,9 +131,13 @@ def ours(cases):
 REFUSED = re.compile(rf"\[:(?!({'|'.join(CLASSES)}):\])[^\]]*:|\[.*[^\x00-\x7f]|[^/]\*\*|\0")
 
 
+# what docs/IGNORE.md says that git takes for the name of a directory: a**//
+STARS_AT_END = re.compile(r"[^/]\*\*//\s*$", re.MULTILINE)
+
+
 def is_named(text, path):
-    """The difference that is let pass: git takes a byte where the list takes a character."""
-    return not path.isascii() and any(unit in text for unit in ["?", "[!", "[^"])
+    """The differences that are let pass: git takes a byte where the list takes a character, and `a**//` for `a/`."""
+    return STARS_AT_END.search(text) or not path.isascii() and any(unit in text for unit in ["?", "[!", "[^"])
 
 
 class Count:

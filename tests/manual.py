@@ -1,7 +1,7 @@
 #!/usr/bin/env python3
 """Runs each example of the man pages, and each call of glob_run that the README shows. Checks the man pages where `mandoc` or `groff` is installed, asks
-bash, fish and zsh what the completions offer, installs all of it, and compares what the launcher answers before
-anything is built. Prints what is wrong, and last how many checks passed and failed."""
+bash, fish and zsh what the completions offer, and installs all of it. Prints what is wrong, and last how many checks
+passed and failed."""
 
 import contextlib
 import os
@@ -146,7 +146,7 @@ def lint():
         if shutil.which(words[0]):
             ran = subprocess.run([*words, *ROOT.glob("man/*.1")], capture_output=True, text=True)
             return [ran.stdout + ran.stderr] if ran.returncode or ran.stdout or ran.stderr else []
-    print("skipped: neither mandoc nor groff is installed, so nothing checks the man pages")
+    print("left out: neither mandoc nor groff is installed, so nothing checks the man pages")
     return None
 
 
@@ -200,7 +200,7 @@ def run_in_terminal(words, **how):
 def zsh_faults(folder, home):
     """What zsh offers otherwise than it should, of each line. An empty list where it is not installed."""
     if not shutil.which("zsh"):
-        print("skipped: there is no zsh, so it is not asked what it offers")
+        print("left out: there is no zsh, so it is not asked what it offers")
         return []
     (home / ".zshrc").write_text(ZSHRC, encoding="utf-8")
     asked, offered = home / "asked", home / "offered"
@@ -219,7 +219,7 @@ def zsh_faults(folder, home):
 def syntax_faults(shell, file):
     """What a shell says of a file that it cannot read, and None where the shell is not installed."""
     if not shutil.which(shell):
-        print(f"skipped: there is no {shell}, so {file} is not read")
+        print(f"left out: there is no {shell}, so {file} is not read")
         return None
     ran = subprocess.run([shell, "-n", ROOT / file], capture_output=True, text=True)
     return [f"{file}: {ran.stderr}"] if ran.returncode or ran.stderr else []
@@ -246,27 +246,13 @@ def refusal_faults(words):
     return [] if is_told else [f"bin/install {words}: {ran.returncode} {ran.stderr}"]
 
 
-def launcher_faults(prefix, copy):
-    """Which words the launcher answers otherwise than the program does, where nothing is built."""
-    for name in PROGRAMS:
-        source = f"crates/{name}/src/help.rt"
-        (copy / source).parent.mkdir(parents=True)
-        shutil.copy(ROOT / source, copy / source)
-    shutil.copy(ROOT / "crates.txt", copy)
-    shutil.copytree(ROOT / "bin", copy / "bin")
-    said = lambda *words: subprocess.run(words, capture_output=True, text=True).stdout
-    calls = [[name, word] for name in PROGRAMS for word in ("--help", "-h", "--version")] + [["glob_run", "find", "--help"]]
-    differs = lambda name, *words: said(copy / "bin" / name, *words) != said(prefix / "bin" / name, *words)
-    return [it for it in calls if differs(*it)]
-
-
 def main():
     with tempfile.TemporaryDirectory() as work:
         prefix, folder = Path(work, "prefix"), Path(work, "here")
         for name in ("folder", "br[1]"):
             (folder / name).mkdir(parents=True)
         checks = [install_faults(prefix), lint(), refusal_faults([]), refusal_faults(["--help"])]
-        checks += [naming_faults(), launcher_faults(prefix, Path(work, "copy"))]
+        checks += [naming_faults()]
         checks += [completion_faults(*it, folder) for it in COMPLETIONS]
         checks += [fish_faults(line, FISH.get(line, wanted), folder) for line, wanted in COMPLETIONS]
         checks += zsh_faults(folder, Path(work))

@@ -132,7 +132,7 @@ def main():
     check("the page has an address of another host", not re.search(r'(src|href)="(https?:)?//', text))
     browser = shutil.which("chromium") or shutil.which("chromium-browser") or shutil.which("google-chrome")
     if not browser:
-        print("skipped: there is no Chromium, so the page's answers are not compared")
+        print("left out: there is no Chromium, so the page's answers are not compared")
     else:
         made = cases()
         found = shown(browser, made)

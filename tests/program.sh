@@ -1,5 +1,5 @@
 #!/usr/bin/env bash
-# Replays the tables of tests/rows for glob_run on the built program, and runs it against what no contract can speak of: the
+# Replays the rows of glob_run's own test on the built program, and runs it against what no contract can speak of: the
 # streams of the system. Prints a line for each row that fails, and last how many passed and failed.
 set -u
 umask 022
@@ -34,8 +34,12 @@ if ! "$program" match '' <<<'' >/dev/null; then
     exit 1
 fi
 
-each_row run.txt try
-each_row walks.txt finds
+# The rows of the test of glob_run, but for streams that fail, directories that cannot be listed, and absolute paths
+sed -e '1,/^pub static ROWS/d' -e '/^";$/,$d' -e 's/⏎/\\n/g; s/␀/\\0/g; s/␦/\\xff/g; s/^+ /+\n+/' \
+    "$root/crates/glob_run/src/tests/rows.rt" |
+    awk '/^\+/ { skip = /#/ } !skip && !/∅/ && !/✗/ && !/ \//' >"$work/rows"
+each_row "$work/rows" try
+each_row "$root/tests/rows/links.txt" finds
 
 # The patterns of the README and of the man page: options, a pattern, lines that match, and lines that do not.
 set -f

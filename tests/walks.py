@@ -1,12 +1,12 @@
 #!/usr/bin/env python3
-"""Compares walks of this repository over folders with tables of walks in tests/walks, whose values come from outside,
-and with the walk by recursion in bench/random_input/reference.py: items and units of work, of random walks too, some of
-them within each limit. What a walk by a plain pattern finds is compared with what the whole pattern matches.
+"""Compares random walks of this repository over folders with the walk by recursion in bench/random_input/reference.py:
+items and units of work, some of them within each limit. What a walk by a plain pattern finds is compared with what the
+whole pattern matches. glob_vectors replays tables of walks.
 
     tests/walks.py [--seed N] [--trees N]
 
 Prints each difference, then how many walks of each kind there were, and last 'N passed, M failed'. A kind that is rare
-is a failure. The program is glob_answers, as it was last built, or is built now."""
+is a failure. The program is glob_vectors, as it was last built, or is built now."""
 
 import argparse
 import collections
@@ -20,15 +20,13 @@ from dataclasses import dataclass, replace
 from pathlib import Path
 
 ROOT = Path(__file__).resolve().parent.parent
-CRATE = ROOT / "crates/glob_answers"
-TABLES = ROOT / "tests/walks"
+CRATE = ROOT / "crates/glob_vectors"
 sys.dont_write_bytecode = True
-sys.path[:0] = [str(TABLES), str(ROOT / "bench/random_input")]
+sys.path[:0] = [str(ROOT / "tests/lib"), str(ROOT / "bench/random_input")]
 
 import goals
 import make
 import reference
-import tables
 from cases import NO_LIMIT
 from make import ABOVE, Tree
 from place import Place
@@ -40,9 +38,9 @@ SHARE_WITH_LIMIT, HIGHEST_LIMIT = 0.3, 30
 # One walk in so many is repeated within each limit, if it charges at most so many units.
 EACH_LIMIT_IN, MOST_UNITS = 16, 120
 MOST_SHOWN = 20
-# How many walks of each kind there are at least among 600 trees, and how many of the tables' rows by plain patterns.
+# How many walks of each kind there are at least among 600 trees.
 LEAST = {"refused": 100, "empty": 400, "limited": 400, "unread": 100, "found": 1500, "each limit": 150}
-LEAST |= {"goals, all found": 500, "no goals": 150, "goals, limited": 100, "goals, unread": 50, "rows, goals": 100}
+LEAST |= {"goals, all found": 500, "no goals": 150, "goals, limited": 100, "goals, unread": 50}
 
 
 @dataclass(frozen=True)
@@ -165,56 +163,6 @@ class Comparer:
             return "goals, unread"
         return "goals, all found" if found else "no goals"
 
-    # Tables
-
-    def case_of(self, row):
-        """The walk of a row. Where its pattern begins at the root, the tree's folder is in the place of that, but for a
-        pattern of separators alone."""
-        from_tree = f"{ABOVE}/tree" if row.pattern.startswith("/") and row.pattern.strip("/") else ""
-        return Case(row.tree, "", row.letters, from_tree + row.pattern, row.limit)
-
-    def expected(self, case, row):
-        """What the row says, with the tree's folder in the place of the root: each name of its path is a look."""
-        if not case.pattern.startswith(ABOVE):
-            return list(row.items), row.units
-        items = [item[0] + self.place.top + item[1:] for item in row.items]
-        return items, None if row.units is None else row.units + self.place.top.count("/")
-
-    def row(self, row):
-        """Compares a walk of a table with its row, with the reference and with its whole pattern."""
-        case = self.case_of(row)
-        for _, _, (items, units) in self.compare([case]):
-            wanted, wanted_units = self.expected(case, row)
-            is_same = items == wanted and wanted_units in (None, units)
-            words = f"{row.table}: {spoken(items, units)}, and the row: {spoken(wanted, wanted_units)}"
-            self.judge(case, None if is_same else words)
-            self.kinds["rows, goals"] += self.check_goals(case, items) is not None
-
-    def shut_rows(self, rows):
-        """The walks of a content again, with each directory in turn one that cannot be listed."""
-        tree = rows[0].tree
-        for place, (path, kind) in enumerate(tree.nodes):
-            if kind == "dir":
-                nodes = (*tree.nodes[:place], (path, "blind"), *tree.nodes[place + 1 :])
-                cases = [replace(self.case_of(row), tree=Tree(nodes)) for row in rows]
-                for case, _, (items, _) in self.compare(cases):
-                    self.check_goals(case, items)
-
-    def table(self, path):
-        """Compares the rows of a table. Those of directories that cannot be listed need a user who cannot list them."""
-        contents = collections.defaultdict(list)
-        for row in tables.rows_of(path):
-            contents[row.tree].append(row)
-        for tree, rows in contents.items():
-            is_readable = not make.MODES.keys() & {kind for _, kind in tree.nodes}
-            if not is_readable and not self.place.may_shut:
-                print(f"{path.name}: left out {len(rows)} rows of directories that this user can list")
-                continue
-            for row in rows:
-                self.row(row)
-            if is_readable and self.place.may_shut:
-                self.shut_rows(rows)
-
     # Random walks
 
     def cases(self, source, tree):
@@ -261,7 +209,7 @@ class Comparer:
 
 def built_program():
     """The program, built if it is not there, or None where that fails."""
-    program = CRATE / "out/glob_answers"
+    program = CRATE / "out/glob_vectors"
     if not program.exists() and shutil.which("rt"):
         nothing = {"stdin": subprocess.DEVNULL, "stdout": subprocess.DEVNULL}
         subprocess.run(["rt", "run", "--", "answer"], cwd=CRATE, check=False, **nothing)
@@ -272,9 +220,6 @@ def compare(program, trees, seed):
     """Compares all. Returns how much passed and failed."""
     comparer = Comparer(program)
     try:
-        for path in sorted(TABLES.glob("*.txt")):
-            comparer.table(path)
-        print(f"{comparer.passed} comparisons of rows passed")
         source = random.Random(seed)
         for _ in range(trees):
             comparer.tree(source)
@@ -296,7 +241,7 @@ def main():
     os.umask(0o022)
     program = built_program()
     if not program:
-        sys.exit("glob_answers could not be built\n0 passed, 1 failed")
+        sys.exit("glob_vectors could not be built\n0 passed, 1 failed")
     # The user by whom it is run may not reach the repository.
     with tempfile.TemporaryDirectory() as folder:
         os.chmod(folder, 0o755)

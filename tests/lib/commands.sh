@@ -2,8 +2,6 @@
 # $work, a folder that goes when the script ends; $passed and $failed, how many rows did.
 
 work=$(mktemp -d) || exit 2
-. "$root/tests/lib/ending.sh"
-end_all_by_signal
 trap 'rm -rf "$work"' EXIT
 passed=0 failed=0
 
@@ -11,7 +9,7 @@ passed=0 failed=0
 check() {
     local name=$1
     shift
-    if as_job "$@" >"$work/log" 2>&1; then
+    if "$@" >"$work/log" 2>&1; then
         passed=$((passed + 1))
     else
         failed=$((failed + 1))

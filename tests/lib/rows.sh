@@ -1,4 +1,4 @@
-# What the rows of program.sh, files.sh and launcher.sh are made of. Sourced, with these set: $root, the repository; $program,
+# What the rows of program.sh and files.sh are made of. Sourced, with these set: $root, the repository; $program,
 # the program as a user calls it; $binary, as it is built, where a row runs that; $work, a folder; $passed and $failed, how
 # many rows did.
 
@@ -96,7 +96,7 @@ by_user() {
 
 # skip NAME [WHY]: says that a row is not run, because root may do what it needs forbidden, or why else
 skip() {
-    echo "skipped: $1: ${2:-root may do all, and no other user can run the program here}"
+    echo "left out: $1: ${2:-root may do all, and no other user can run the program here}"
 }
 
 # unread PATH: the beginning of the line for a path that cannot be read
@@ -130,10 +130,10 @@ place() {
     done
 }
 
-# each_row TABLE COMMAND..: runs the command on the fields of each line of tests/rows/TABLE, between which is |, where \n, \0
-# and so on are as for printf. A line that begins with + has words for place, and one that begins with # is a comment
+# each_row TABLE COMMAND..: runs the command on the fields of each line of a file, between which is |, where \n, \0 and so
+# on are as for printf. A line that begins with + has words for place, and one that begins with # is a comment
 each_row() {
-    local table=$root/tests/rows/$1 before=$PWD line fields
+    local table=$1 before=$PWD line fields
     shift
     [ -s "$table" ] || exit 2
     set -f
