@@ -1,4 +1,4 @@
-//! `glob_answers answer`, over the Rust crate: answers the same cases in the same words. It counts no work and knows no
+//! `glob_vectors answer`, over the Rust crate: answers the same cases in the same words. It counts no work and knows no
 //! limit: of each walk it says `0`, and it gives all items.
 
 use glob::{glob_with, GlobResult, Pattern, PatternError};
