@@ -5,3 +5,4 @@ pub mod Keys
 pub mod Memory
 pub mod Nodes
 pub mod Numbers
+pub mod Refusing

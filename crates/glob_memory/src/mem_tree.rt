@@ -195,9 +195,10 @@ impl<A: Allocator + Copy> MemTree<A> {
         ensures fails { IfErr result (λ e. IsListError (list_result self.now.content path.now) e) }
         ensures fault { IfErr result (λ e. IsFaultOf (list_fault self.now.content path.now) e) }
     {
-        let Some(number) = self.nodes.find(self.current, path) else {
-            return Err(ListError::Read(io::Error::from(io::ErrorKind::NotFound)));
-        };
+        let number = self
+            .nodes
+            .find(self.current, path)
+            .ok_or(ListError::Read(io::Error::from(io::ErrorKind::NotFound)))?;
         match self.nodes.kind(number) {
             Kind::Shut(kind) => Err(ListError::Read(io::Error::from(kind))),
             Kind::Other => Err(ListError::Read(io::Error::from(io::ErrorKind::NotADirectory))),
@@ -227,13 +228,12 @@ impl<A: Allocator> MemTree<A> {
             (λ place. IsPlace self.now.content path.now place.0 place.1.now)
             (λ e. add_refusal self.now.content path.now ≡ Some e) }
     {
-        let Some(names) = proper_names(path) else {
-            return Err(TreeRefusal::Improper);
-        };
+        let names = proper_names(path).ok_or(TreeRefusal::Improper)?;
         let (directory, name) = last_name(names);
-        let Some(number) = self.nodes.directory(directory) else {
-            return Err(TreeRefusal::NoParent);
-        };
+        let number = self
+            .nodes
+            .directory(directory)
+            .ok_or(TreeRefusal::NoParent)?;
         if self.nodes.child(number, name).is_some() {
             return Err(TreeRefusal::Taken);
         }
@@ -250,12 +250,9 @@ impl<A: Allocator> MemTree<A> {
         if path == "/" {
             return Ok(self.nodes.root());
         }
-        let Some(names) = proper_names(path) else {
-            return Err(TreeRefusal::Improper);
-        };
-        let Some(number) = self.nodes.directory(Some(names)) else {
-            return Err(TreeRefusal::NoDirectory);
-        };
-        Ok(number)
+        let names = proper_names(path).ok_or(TreeRefusal::Improper)?;
+        self.nodes
+            .directory(Some(names))
+            .ok_or(TreeRefusal::NoDirectory)
     }
 }
