@@ -1,6 +1,8 @@
 -- What a tree with a known content has to answer.
-use Rattle.std.specs.Prelude.{◌≡◌, ℕ, Bool, true, false, List, map, vec_len, Contains, IsPermutation, Option, Some, Result, Ok, Err, Vec, ⊤}
+use Rattle.std.specs.Prelude.{◌≡◌, ◌≢◌, ℕ, Bool, true, false, List, map, vec_len, Contains, IsPermutation, Option, Some, Result, Ok, Err, Vec, ⊤}
+use Rattle.std.specs.declared.io.Error.{Error}
 use Rattle.std.specs.declared.io.ErrorKind.{ErrorKind}
+use Rattle.std.specs.declared.io.ErrorKind.TheVariants.{OutOfMemory}
 use Rattle.std.specs.IoError.{error_kind}
 use Rattle.glob_text.specs.Text.{Text}
 use Rattle.glob_tree.specs.Content.{Content, is_content, DirEntry, ListAnswer, Entries, Fails, NoDirectory}
@@ -57,3 +59,7 @@ IsListFault NoDirectory kind = ⊤
 abbrev pub IsListError : ListAnswer → ListError → Type 0
 IsListError answer (Read e) = IsListFault answer (error_kind e)
 IsListError answer Memory = ⊤
+
+-- the error of a listing where the system answers with this one
+abbrev pub IsListErrorOf : Error → ListError → Type 0
+IsListErrorOf e made = (error_kind e ≡ OutOfMemory → made ≡ Memory) × (error_kind e ≢ OutOfMemory → made ≡ Read e)

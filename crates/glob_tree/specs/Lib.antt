@@ -1,4 +1,5 @@
 pub mod Answers
 pub mod Content
+pub mod Directories
 pub mod Looks
 pub mod Paths

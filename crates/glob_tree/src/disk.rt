@@ -1,8 +1,11 @@
 //! The real file system.
-ghost use Rattle.std.specs.Prelude.{◌≡◌, ◌+◌, None};
-ghost use Rattle.glob_tree.specs.Answers.{entry_count};
+ghost use Rattle.std.specs.Prelude.{◌≡◌, ◌+◌, None, IfOk, IfSome, OnOk};
+ghost use Rattle.std.specs.Io.KnownBytes.{IsAtEnd};
+ghost use Rattle.glob_tree.specs.Answers.{entries_of, entry_count, names_of};
+ghost use Rattle.glob_tree.specs.Directories.{names_in as names_of_bytes};
 
 use crate::asks::Asks;
+use crate::directory::{names_in, read_directory};
 use crate::name::{is_proper, name_from_proper};
 use crate::path_text::join;
 use crate::tree::{Entry, ListError, Look, Tree};
@@ -10,13 +13,6 @@ use std::alloc::{AllocError, Allocator, Global};
 use std::fs::{Files, Metadata};
 use std::io::{self, ErrorKind, Read};
 use std::marker::Model;
-
-/// How many bytes of a directory are read at once by its first two reads. The names of some hundred entries fit. A block
-/// is cleared at each listing, so a larger one would cost a small directory more than it saves in system calls.
-const BLOCK: usize = 4096;
-
-/// How many bytes of a directory are read at once by further reads.
-const LARGE_BLOCK: usize = 32768;
 
 /// Whether the entries of a listing are looked up, so that their kinds are known.
 #[derive(Clone, Copy)]
@@ -29,9 +25,9 @@ enum Kinds {
 /// begin at the current directory of the process, and links are followed.
 ///
 /// A look makes one system call, and two at a link. A listing makes one for each entry, also for a link, and one of names
-/// alone makes none for them. Beside these it opens and closes the directory, and reads its records in two blocks of 4 KiB
-/// and then in blocks of 32 KiB, to an empty read: four calls where some hundred names fit the first block. An I/O error of
-/// the kind `OutOfMemory` is an allocation failure.
+/// alone makes none for them. Beside these it opens and closes the directory, and reads its names in two blocks of 4 KiB
+/// and then in blocks of 32 KiB, to an empty read: four calls where some hundred names fit the first block. It has all
+/// names in memory before it makes entries of them. An I/O error of the kind `OutOfMemory` is an allocation failure.
 ///
 /// In a directory with a file `a` and a link `b` to `a`, a look at `b` finds `Other`, and a listing of `.` the entries
 /// `a` and `b`, neither of them a directory.
@@ -117,93 +113,64 @@ impl<R: Files, A: Allocator + Copy> Disk<R, A> {
     /// The entries of the directory at a path.
     fn entries(&self, path: &str, kinds: Kinds) -> Result<Vec<Entry<A>, A>, ListError> {
         // The separator at its end, so that a link there is followed.
-        let mut directory = join(self.alloc, path, "")?;
-        let mut names = self.rt.open_dir(directory.as_str()).map_err(list_error)?;
+        let mut path = join(self.alloc, path, "")?;
+        let mut directory = self.rt.open_dir(path.as_str())?;
+        self.read_entries(&mut path, kinds, &mut directory)
+    }
+
+    /// The entries of a directory that is open. The path is its own, with a separator at the end.
+    fn read_entries<D: Read>(
+        &self,
+        path: &mut String<A>,
+        kinds: Kinds,
+        directory: &mut D,
+    ) -> Result<Vec<Entry<A>, A>, ListError>
+        ensures names { IfOk result (λ v. IfSome (D.remaining directory.old)
+            (λ bytes. names_of (entries_of v.items) ≡ names_of_bytes bytes)) }
+        ensures end { OnOk result (IsAtEnd (D.remaining directory.new)) }
+    {
+        let bytes = read_directory(self.alloc, directory)?;
+        self.named_entries(path, kinds, bytes.as_slice())
+    }
+
+    /// The entries of the names in the bytes of a directory.
+    fn named_entries(
+        &self,
+        path: &mut String<A>,
+        kinds: Kinds,
+        bytes: &[u8],
+    ) -> Result<Vec<Entry<A>, A>, ListError>
+        ensures names { IfOk result (λ v. names_of (entries_of v.items) ≡ names_of_bytes bytes.now) }
+    {
         let mut entries = Vec::new(self.alloc);
-        self.add_all_entries(&mut entries, &mut directory, kinds, &mut names)?;
+        for name in names_in(self.alloc, bytes)? {
+            entries.push(self.entry(path, kinds, name)?)?;
+        }
         Ok(entries)
     }
 
-    /// Adds the entries of a directory. Most end within two reads of a small block: one of all names, and one of none.
-    fn add_all_entries(
-        &self,
-        entries: &mut Vec<Entry<A>, A>,
-        directory: &mut String<A>,
-        kinds: Kinds,
-        names: &mut R::Dir,
-    ) -> Result<(), ListError> {
-        let mut block = [0; BLOCK];
-        if !self.read_entries(entries, directory, kinds, names, &mut block, 2)? {
-            let mut block = [0; LARGE_BLOCK];
-            self.read_entries(entries, directory, kinds, names, &mut block, u64::MAX)?;
-        }
-        Ok(())
-    }
-
-    /// Adds the entries of at most so many reads of a directory. Returns whether the directory has ended, which it has at
-    /// the first empty read. There is a bound because nothing says that a reader has an end.
-    fn read_entries(
-        &self,
-        entries: &mut Vec<Entry<A>, A>,
-        directory: &mut String<A>,
-        kinds: Kinds,
-        names: &mut R::Dir,
-        block: &mut [u8],
-        reads: u64,
-    ) -> Result<bool, ListError> {
-        for _ in 0..reads {
-            let count = names.read(block).map_err(list_error)?;
-            if count == 0 {
-                return Ok(true);
-            }
-            self.add_entries(entries, directory, kinds, &block[..count])?;
-        }
-        Ok(false)
-    }
-
-    /// Adds an entry for each of some names of a directory. A NUL stands after each name, and no read ends inside one.
-    fn add_entries(
-        &self,
-        entries: &mut Vec<Entry<A>, A>,
-        directory: &mut String<A>,
-        kinds: Kinds,
-        names: &[u8],
-    ) -> Result<(), ListError> {
-        for name in names.split(|&byte| byte == 0) {
-            if is_listed(name) {
-                self.add_entry(entries, directory, kinds, name)?;
-            }
-        }
-        Ok(())
-    }
-
-    /// Adds the entry of a name in a directory.
-    fn add_entry(
-        &self,
-        entries: &mut Vec<Entry<A>, A>,
-        directory: &mut String<A>,
-        kinds: Kinds,
-        name: &[u8],
-    ) -> Result<(), ListError> {
+    /// The entry of a name in a directory.
+    fn entry(&self, path: &mut String<A>, kinds: Kinds, name: &[u8]) -> Result<Entry<A>, ListError>
+        ensures name { IfOk result (λ entry. entry.name ≡ name.now) }
+    {
         let name = match std::str::from_utf8(name) {
             Ok(name) if is_proper(name) => name,
             _ => return Err(ListError::Read(io::Error::from(ErrorKind::InvalidFilename))),
         };
         let is_dir = match kinds {
-            Kinds::LookedUp => matches!(self.look_in(directory, name)?, Look::Dir),
+            Kinds::LookedUp => matches!(self.look_in(path, name)?, Look::Dir),
             Kinds::LeftOut => false,
         };
         let name = name_from_proper(self.alloc, name)?;
-        entries.push(Entry { name, is_dir })?;
-        Ok(())
+        Ok(Entry { name, is_dir })
     }
 
     /// What a name in a directory leads to, and `Missing` where that cannot be learned.
-    fn look_in(&self, directory: &mut String<A>, name: &str) -> Result<Look, AllocError> {
-        let length = directory.len();
-        directory.push_str(name)?;
-        let found = self.rt.metadata(directory.as_str());
-        directory.truncate(length);
+    fn look_in(&self, path: &mut String<A>, name: &str) -> Result<Look, AllocError> {
+        let length = path.len();
+        path.push_str(name)?;
+        let found = self.rt.metadata(path.as_str());
+        path.truncate(length);
         look_of(found, Look::Missing)
     }
 }
@@ -216,18 +183,4 @@ fn look_of(answer: io::Result<Metadata>, missing: Look) -> Result<Look, AllocErr
         Err(error) if error.kind() == ErrorKind::OutOfMemory => Err(AllocError),
         Err(_) => Ok(missing),
     }
-}
-
-/// Why a listing fails where the system answers with this error.
-fn list_error(error: io::Error) -> ListError {
-    if error.kind() == ErrorKind::OutOfMemory {
-        ListError::Memory
-    } else {
-        ListError::Read(error)
-    }
-}
-
-/// Whether an entry comes of this piece: not of the empty one after the last NUL, nor of `.` and `..`.
-fn is_listed(name: &[u8]) -> bool {
-    !name.is_empty() && name != b".".as_slice() && name != b"..".as_slice()
 }

@@ -2,6 +2,7 @@
 #![tactic(auto)]
 
 mod asks;
+mod directory;
 mod disk;
 mod kind;
 mod name;
@@ -9,6 +10,7 @@ mod path_text;
 mod tree;
 
 pub use asks::Asks;
+pub use directory::{names_in, read_directory};
 pub use disk::Disk;
 pub use kind::Kind;
 pub use name::{Name, copy_name, is_proper, name_from_proper};

@@ -4,7 +4,7 @@ ghost use Rattle.glob_tree.specs.Answers.{IsTold, IsListAnswer, IsListError, IsN
 
 use crate::name::Name;
 use std::alloc::{AllocError, AllocFailed, Allocator, Global};
-use std::io;
+use std::io::{self, ErrorKind};
 
 /// What a path leads to. Where `a` is a directory with the file `b`, `a` leads to `Dir`, `a/b` to `Other`, and `a/c` to
 /// `Missing`.
@@ -59,6 +59,21 @@ impl<T: Drop> From<AllocFailed<T>> for ListError {
 
     fn from(_error: AllocFailed<T>) -> ListError {
         ListError::Memory
+    }
+}
+
+/// An error of the system: a failed allocation, where its kind is `OutOfMemory`.
+impl From<io::Error> for ListError {
+    ghost use Rattle.glob_tree.specs.Answers.{IsListErrorOf};
+
+    ghost from_gives = { IsListErrorOf };
+
+    fn from(error: io::Error) -> ListError {
+        if error.kind() == ErrorKind::OutOfMemory {
+            ListError::Memory
+        } else {
+            ListError::Read(error)
+        }
     }
 }
 

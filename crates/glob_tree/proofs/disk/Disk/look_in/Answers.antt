@@ -5,5 +5,5 @@ use Rattle.glob_tree.proofs.disk.Disk.look_in.Goals as goal
 
 pub truncate-requires : goal.truncate-requires
 truncate-requires g c within =
-    let at : c.len-length.result ≡ length (string_bytes c.args.directory.now) = search rules in
+    let at : c.len-length.result ≡ length (string_bytes c.args.path.now) = search rules in
     split_at_seam _ _ _ _ c.in_ok-push_str.ensures.bytes at c.utf8.name

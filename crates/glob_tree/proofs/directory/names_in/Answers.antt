@@ -1,0 +1,14 @@
+use Rattle.std.proofs.Common.{rules, tests}
+use Rattle.std.proofs.lemmas.Iterator.Consumers.{YieldsList-at, YieldsList-from_filter, map_from_collect}
+use Rattle.std.proofs.lemmas.Iterator.Splits.{YieldsList-from_slice_split}
+use Rattle.glob_tree.specs.Directories.{is_listed, names_in}
+use Rattle.glob_tree.proofs.directory.names_in.Goals as goal
+
+pub returns : goal.returns
+unfolding Rattle.glob_tree.specs.Directories.names_in
+returns g c =
+    map_from_collect _ c.collect.ensures.ran
+    (YieldsList-from_filter _ is_listed
+    (YieldsList-at c.filter.ensures.source
+    (YieldsList-from_slice_split _ _ c.args.bytes.now c.split.ensures.rest c.split.ensures.done c.split.ensures.closure (λ x r q k. search (rules, tests))))
+    c.filter.ensures.closure (λ x r q k. search (rules, tests)))
