@@ -7,3 +7,4 @@ pub mod PathLemmas
 pub mod PermutationLemmas
 pub mod PruningLemmas
 pub mod SetLemmas
+pub mod StraysLemmas

@@ -2,4 +2,5 @@ pub mod Entering
 pub mod Laws
 pub mod Pruning
 pub mod Sets
+pub mod Strays
 pub mod Trees

@@ -8,7 +8,10 @@ pub mod laws;
 mod matching;
 mod physical;
 mod pruned;
+mod strays;
+mod system;
 
 pub use exclusion::Exclusion;
-pub use physical::{Links, PhysicalDisk, Strays};
+pub use physical::{Links, PhysicalDisk};
 pub use pruned::Pruned;
+pub use strays::Strays;

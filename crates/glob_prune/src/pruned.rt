@@ -114,13 +114,11 @@ impl<T: Tree, X: Exclusion> Tree for Pruned<T, X> {
             → IfErr result (λ e. IsListError (list_result c path.now) e) }
     {
         self.asks = self.asks.after(1);
-        if !is_entered(&self.exclusion, &mut self.names, path).map_err(|_| ListError::Memory)? {
+        if !is_entered(&self.exclusion, &mut self.names, path)? {
             return Err(ListError::Read(io::Error::from(ErrorKind::NotFound)));
         }
         let entries = self.tree.list(path)?;
-        let kept = kept_entries(&self.exclusion, &mut self.names, entries).map_err(
-            |_| ListError::Memory,
-        )?;
+        let kept = kept_entries(&self.exclusion, &mut self.names, entries)?;
         self.asks = self.asks.after(kept.len());
         Ok(kept)
     }
