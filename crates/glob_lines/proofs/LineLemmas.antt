@@ -1,3 +1,4 @@
+pub mod CopiedRecords
 pub mod FilteredLines
 pub mod Filtering
 pub mod FirstPlaces

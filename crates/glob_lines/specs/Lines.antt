@@ -1,8 +1,8 @@
 -- The records of some bytes, and those of them that a pattern matches. Lines are the records that end before a line feed.
-use Rattle.std.specs.Prelude.{◌≡◌, ℕ, ◌-◌, ◌^◌, ◌==◌, ◌&&◌, ◌⊎◌, Bool, if◌then◌else◌, List, [], ◌∷◌, ◌++◌, Option, IfSome, length, min, take, true}
+use Rattle.std.specs.Prelude.{◌≡◌, ◌≢◌, ℕ, ◌-◌, ◌^◌, ◌==◌, ◌&&◌, ◌⊎◌, Bool, if◌then◌else◌, All, List, [], ◌∷◌, ◌++◌, Option, IfSome, length, min, take, true}
 use Rattle.std.specs.Str.{chars, is_utf8}
 use Rattle.std.specs.List.{flat_map}
-use Rattle.std.specs.Io.KnownBytes.{Appends}
+use Rattle.std.specs.Io.KnownBytes.{Appends, Consumes}
 use Rattle.glob_pattern.specs.Computing.Deciding.{is_match}
 use Rattle.glob_pattern.specs.Matching.Texts.{Matches}
 use Rattle.glob_pattern.specs.declared.options.MatchOptions.{MatchOptions}
@@ -20,6 +20,14 @@ onto_first b (first ∷ others) = (b ∷ first) ∷ others
 abbrev pub records_of : (end : ℕ) → List ℕ → List (List ℕ)
 records_of end [] = []
 records_of end (b ∷ bs) = if b == end then [] ∷ records_of end bs else onto_first b (records_of end bs)
+
+-- no byte ends a record
+abbrev pub HasNoEnd : (end : ℕ) → List ℕ → Type 0
+HasNoEnd end bytes = All (λ b. b ≢ end) bytes
+
+-- the bytes are whole records: there are none, or the last byte ends one
+abbrev pub AreWhole : (end : ℕ) → List ℕ → Type 0
+AreWhole end bytes = (bytes ≡ []) ⊎ ((front : List ℕ) × (bytes ≡ front ++ end ∷ []))
 
 -- the record is text, and the pattern matches it
 abbrev pub RecordMatches : MatchOptions → (pattern : List ℕ) → List ℕ → Type 0
@@ -94,6 +102,17 @@ CopiesSomeSelected end selects input old new = IfSome input (λ bytes. WritesSom
 
 unfoldable pub CopiesSelectedBytes : (end : ℕ) → (List ℕ → Bool) → (input old new : Option (List ℕ)) → Type 0
 CopiesSelectedBytes end selects input old new = IfSome input (λ bytes. WritesKeptBytes end (Selected selects) bytes old new)
+
+-- What was read of the input is whole records and then no end. Just the selected ones of these were written.
+unfoldable pub CopiesWholeSelected : (end : ℕ) → (List ℕ → Bool) → (input rest old new : Option (List ℕ)) → Type 0
+CopiesWholeSelected end selects input rest old new =
+    (whole : List ℕ) × ((partial : List ℕ)
+    × Consumes input rest (whole ++ partial)
+    × AreWhole end whole
+    × HasNoEnd end partial
+    × ((kept : List (List ℕ))
+    × AreKept (Selected selects) (records_of end whole) kept
+    × Appends old new (with_ends end kept)))
 
 -- the same three of the records that a pattern matches
 unfoldable pub FiltersRecords : (end : ℕ) → MatchOptions → (pattern : List ℕ) → (input old new : Option (List ℕ)) → (count : ℕ) → Type 0

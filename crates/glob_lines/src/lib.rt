@@ -1,6 +1,7 @@
 //! Copies the lines of a reader that a pattern matches to a writer, or the records that another byte ends.
 #![tactic(auto)]
 
+mod copying;
 mod fault;
 mod lines;
 mod matching;
@@ -8,7 +9,8 @@ mod record_ends;
 mod selection;
 mod watch;
 
+pub use copying::copy_selected;
 pub use fault::LineFault;
-pub use lines::{filter_lines, filter_records, filter_selected, write_all};
+pub use lines::{filter_lines, filter_records, write_all};
 pub use selection::Selection;
 pub use watch::Watch;

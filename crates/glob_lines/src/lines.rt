@@ -1,7 +1,7 @@
 ghost use Rattle.std.specs.Prelude.{◌≡◌, ◌↔◌, ◌<◌, ◌≤◌, ◌+◌, ◌∷◌, ◌++◌, false, length, take, drop, vec_len, IsTrue, IsErr, IsErrAnd, IfOk, OnOk, OnErr};
 ghost use Rattle.std.specs.Io.KnownBytes.{Keeps, Appends, Consumes, IsAtEnd};
 ghost use Rattle.glob_lines.specs.LineFaults.{IsRead, IsMemory, IsWrite};
-ghost use Rattle.glob_lines.specs.Lines.{records_of, ended_record, AppendsFront, Selected, WritesKept, CopiesSelected, CopiesSomeSelected, CopiesSelectedBytes, FiltersRecords, FiltersSomeRecords, FiltersRecordBytes, FiltersLines, FiltersSomeLines, FiltersSomeBytes};
+ghost use Rattle.glob_lines.specs.Lines.{records_of, ended_record, AppendsFront, Selected, WritesKept, FiltersRecords, FiltersSomeRecords, FiltersRecordBytes, FiltersLines, FiltersSomeLines, FiltersSomeBytes};
 ghost use Rattle.glob_lines.specs.Private.Fronts.{WritesFrontRecords, WritesFrontBytes};
 ghost use Rattle.glob_lines.specs.Private.Gathering.{IsGathered};
 
@@ -14,7 +14,7 @@ use glob_pattern::{MatchOptions, Pattern};
 use std::alloc::{AllocError, Allocator};
 use std::io::{self, Read, Write};
 
-/// How many bytes one read may return.
+/// How many bytes one read may return: the room for them grows by so many.
 const READ_LEN: usize = 64 * 1024;
 
 /// How many bytes of output are gathered before a write.
@@ -88,39 +88,15 @@ pub fn filter_records<A: Allocator + Copy, B: Allocator + Copy, R: Read, W: Writ
     ensures write_fault { IsErrAnd result IsWrite → FiltersRecordBytes end options pattern.now
         (R.remaining reader.old.inner) (W.contents writer.old.inner) (W.contents writer.new.inner) }
 {
-    let selection = Matching { pattern, options };
-    filter_selected(alloc, &selection, end, reader, writer)
-}
-
-/// Copies the records of `reader` that the selection selects to `writer`, as [`filter_records`] does with those that a
-/// pattern matches. So with the selection of the records that begin with `#` and a line feed as the end the input
-/// `"#a\nb\n#c"` gives the output `"#a\n#c\n"`, and 2 is returned. The errors are those of `filter_lines`, where `Memory`
-/// is also an error of the selection.
-#[tactic(auto, unfolding(crate::specs::Lines::CopiesSelected))]
-pub fn filter_selected<A: Allocator + Copy, S: Selection, R: Read, W: Write>(
-    alloc: A,
-    selection: &S,
-    end: u8,
-    reader: &mut Watch<R>,
-    writer: &mut Watch<W>,
-) -> Result<u64, LineFault>
-    requires reader { reader.old.failed ≡ false }
-    requires writer { writer.old.failed ≡ false }
-    ensures records { IfOk result (CopiesSelected end (S.selects selection.now)
-        (R.remaining reader.old.inner)
-        (W.contents writer.old.inner) (W.contents writer.new.inner)) }
-    ensures end { OnOk result (IsAtEnd (R.remaining reader.new.inner)) }
-    ensures read_failed { IsTrue reader.new.failed ↔ IsErrAnd result IsRead }
-    ensures write_failed { IsTrue writer.new.failed ↔ IsErrAnd result IsWrite }
-    ensures read_fault { IsErrAnd result IsRead
-        → Keeps (W.contents writer.old.inner) (W.contents writer.new.inner) }
-    ensures memory { IsErrAnd result IsMemory → CopiesSomeSelected end (S.selects selection.now)
-        (R.remaining reader.old.inner) (W.contents writer.old.inner) (W.contents writer.new.inner) }
-    ensures write_fault { IsErrAnd result IsWrite → CopiesSelectedBytes end (S.selects selection.now)
-        (R.remaining reader.old.inner) (W.contents writer.old.inner) (W.contents writer.new.inner) }
-{
     let input = read_all(alloc, reader)?;
-    write_records(alloc, selection, end, &input, writer)
+    let mut output = Vec::new(alloc);
+    write_records(
+        &Matching { pattern, options },
+        end,
+        &input,
+        &mut output,
+        writer,
+    )
 }
 
 /// All bytes that are left in the reader.
@@ -147,9 +123,9 @@ fn read_all<A: Allocator + Copy, R: Read>(
     }
 }
 
-/// One read into `input` from byte `filled` on, and how many bytes it read. `input` grows by zeros to have room for
-/// `READ_LEN` bytes there.
-fn read_piece<A: Allocator, R: Read>(
+/// One read into `input` from byte `filled` on, and how many bytes it read. Where `input` has no room there, it grows
+/// by `READ_LEN` zeros.
+pub(crate) fn read_piece<A: Allocator, R: Read>(
     input: &mut Vec<u8, A>,
     filled: usize,
     reader: &mut Watch<R>,
@@ -162,22 +138,24 @@ fn read_piece<A: Allocator, R: Read>(
         Consumes (R.remaining reader.old.inner) (R.remaining reader.new.inner)
         (take n (drop filled input.new.items))) }
     ensures end { IfOk result (λ n. n ≡ 0 → IsAtEnd (R.remaining reader.new.inner)) }
+    ensures kept { OnErr result
+        (Keeps (R.remaining reader.old.inner) (R.remaining reader.new.inner)) }
     ensures failed { IsTrue reader.new.failed ↔ IsErrAnd result IsRead }
     ensures no_write { ¬ (IsErrAnd result IsWrite) }
 {
-    let end = filled + READ_LEN;
-    if input.len() < end {
-        input.resize(end, 0)?;
+    if filled == input.len() {
+        input.resize(filled + READ_LEN, 0)?;
     }
     reader.read(&mut input[filled..]).map_err(LineFault::Read)
 }
 
-/// Writes the selected records of the input, each with its end, and returns their number.
-fn write_records<A: Allocator + Copy, S: Selection, W: Write>(
-    alloc: A,
+/// Writes the selected records of the input, each with its end, and returns their number. They are gathered in
+/// `output`, of which nothing but its memory counts before and after.
+pub(crate) fn write_records<A: Allocator, S: Selection, W: Write>(
     selection: &S,
     end: u8,
     input: &[u8],
+    output: &mut Vec<u8, A>,
     writer: &mut Watch<W>,
 ) -> Result<u64, LineFault>
     requires { writer.old.failed ≡ false }
@@ -192,18 +170,18 @@ fn write_records<A: Allocator + Copy, S: Selection, W: Write>(
         → WritesFrontBytes end (Selected (S.selects selection.now)) input.now
         (W.contents writer.old.inner) (W.contents writer.new.inner) }
 {
-    let mut output = Vec::new(alloc);
+    output.clear();
     let mut count = 0u64;
     let mut rest = input;
     while !rest.is_empty() {
         let (first, after) = split_record(rest, end);
         if selection.selects(first)? {
-            keep_record(first, end, &mut output, writer)?;
+            keep_record(first, end, output, writer)?;
             count = count.saturating_add(1);
         }
         rest = after;
     }
-    write_all(writer, &output).map_err(LineFault::Write)?;
+    write_all(writer, output).map_err(LineFault::Write)?;
     Ok(count)
 }
 

@@ -114,7 +114,7 @@ module _ (end : ℕ) where
       (length done.written, subst (λ l. Appends old new' (with_ends end l)) (sym front) (Appends-kept old new new' (with_ends end done.written) done.moved same))
 
   -- some of the bytes that come next were written
-  cut_after : (old new new' : Option (List ℕ)) (all done next rest : List ℕ) (n : ℕ) → all ≡ done ++ (next ++ rest) → Appends old new done → Appends new new' (take n next)
+  pub cut_after : (old new new' : Option (List ℕ)) (all done next rest : List ℕ) (n : ℕ) → all ≡ done ++ (next ++ rest) → Appends old new done → Appends new new' (take n next)
       → (m : ℕ) × Appends old new' (take m all)
   cut_after old new new' all done next rest n split before appended =
       Appends-cut old new' new' all (done ++ take n next) (drop n next ++ rest)

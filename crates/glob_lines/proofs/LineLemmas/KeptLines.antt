@@ -2,20 +2,24 @@
 use Rattle.std.proofs.Common.{◌≡◌, ℕ, ◌⊎◌, inl, inr, List, [], ◌∷◌, ◌++◌, refl, sym, ap, ◌∙◌, subst, append-nil}
 use Rattle.glob_lines.specs.Lines.{AreKept}
 
+-- more records after these
+pub AreKept-append : (P : List ℕ → Type 0) (records more kept others : List (List ℕ)) → AreKept P records kept → AreKept P more others
+    → AreKept P (records ++ more) (kept ++ others)
+AreKept-append P [] more kept others are later = subst (AreKept P more) (ap (λ l. l ++ others) (sym are)) later
+AreKept-append P (x ∷ xs) more kept others (inl (here, (rest, is, are))) later =
+    inl (here, (rest ++ others, ap (λ l. l ++ others) is, AreKept-append P xs more rest others are later))
+AreKept-append P (x ∷ xs) more kept others (inr (not_here, are)) later = inr (not_here, AreKept-append P xs more kept others are later)
+
 -- one more record, which is kept
 pub AreKept-push : (P : List ℕ → Type 0) (records kept : List (List ℕ)) (one : List ℕ) → AreKept P records kept → P one
     → AreKept P (records ++ one ∷ []) (kept ++ one ∷ [])
-AreKept-push P [] kept one are holds = inl (holds, ([], ap (λ l. l ++ one ∷ []) are, refl))
-AreKept-push P (x ∷ xs) kept one (inl (here, (others, is, are))) holds =
-    inl (here, (others ++ one ∷ [], ap (λ l. l ++ one ∷ []) is, AreKept-push P xs others one are holds))
-AreKept-push P (x ∷ xs) kept one (inr (not_here, are)) holds = inr (not_here, AreKept-push P xs kept one are holds)
+AreKept-push P records kept one are holds = AreKept-append P records (one ∷ []) kept (one ∷ []) are (inl (holds, ([], refl, refl)))
 
 -- one more record, which is not kept
 pub AreKept-pass : (P : List ℕ → Type 0) (records kept : List (List ℕ)) (one : List ℕ) → AreKept P records kept → ¬ (P one)
     → AreKept P (records ++ one ∷ []) kept
-AreKept-pass P [] kept one are fails = inr (fails, are)
-AreKept-pass P (x ∷ xs) kept one (inl (here, (others, is, are))) fails = inl (here, (others, is, AreKept-pass P xs others one are fails))
-AreKept-pass P (x ∷ xs) kept one (inr (not_here, are)) fails = inr (not_here, AreKept-pass P xs kept one are fails)
+AreKept-pass P records kept one are fails =
+    subst (AreKept P (records ++ one ∷ [])) (append-nil kept) (AreKept-append P records (one ∷ []) kept [] are (inr (fails, refl)))
 
 -- what is kept of a front of the records is first
 pub AreKept-front : (P : List ℕ → Type 0) (front more kept_front kept : List (List ℕ)) → AreKept P front kept_front → AreKept P (front ++ more) kept

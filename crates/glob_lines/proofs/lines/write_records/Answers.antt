@@ -9,7 +9,7 @@ use Rattle.glob_lines.proofs.lines.write_records.Goals as goal
 pub loop-rest-init : goal.loop-rest-init
 loop-rest-init g c = record {
   none_failed = c.requires;
-  filtered = rw c.new-output.ensures.items (AreFiltered-none c.args.end _ _ _);
+  filtered = rw c.clear.ensures.items (AreFiltered-none c.args.end _ _ _);
 }
 
 pub returns-in_err-selects-clause-memory : goal.returns-in_err-selects-clause-memory

@@ -1,0 +1,107 @@
+//! The selected records of a reader, copied as they come.
+ghost use Rattle.std.specs.Prelude.{◌≡◌, ◌↔◌, ◌≤◌, ◌-◌, false, length, take, drop, vec_len, IsTrue, IsErrAnd, IfOk, OnOk};
+ghost use Rattle.std.specs.Io.KnownBytes.{IsAtEnd};
+ghost use Rattle.glob_lines.specs.LineFaults.{IsRead, IsMemory, IsWrite};
+ghost use Rattle.glob_lines.specs.Lines.{AreWhole, HasNoEnd, CopiesSelected, CopiesSomeSelected, CopiesSelectedBytes, CopiesWholeSelected};
+
+use crate::fault::LineFault;
+use crate::lines::{read_piece, write_records};
+use crate::selection::Selection;
+use crate::watch::Watch;
+use std::alloc::Allocator;
+use std::io::{Read, Write};
+
+/// Copies the records of `reader` that the selection selects to `writer`, in order, and returns their number, which
+/// stays at `u64::MAX` once it is there. A record ends before the byte `end`, and each is written with it. What follows
+/// the last such byte is a record if it is not empty.
+///
+/// So with the selection of the records that begin with `#` and a line feed as the end the input `"#a\nb\n#c"` gives
+/// the output `"#a\n#c\n"`, and 2 is returned.
+///
+/// The selected records among what a read gives are written before the next read. In memory of `alloc` are 64 KiB of
+/// the input, or the longest record, and what is gathered of them for a write. Neither the reader nor the writer may
+/// have failed before. The errors are:
+///
+/// - [`LineFault::Read`]: a call of the reader failed, also with `Interrupted`. Of the records whose end was read
+///   before, the selected ones were written, all of them.
+/// - [`LineFault::Memory`]: allocation failure, for the input, the output or the selection. The first selected records
+///   were written, some or none of them, each whole.
+/// - [`LineFault::Write`]: a call of the writer failed, also with `Interrupted`. The first bytes of the output were
+///   written, some or none of them.
+#[tactic(auto, unfolding(crate::specs::Lines::CopiesSelected))]
+pub fn copy_selected<A: Allocator + Copy, S: Selection, R: Read, W: Write>(
+    alloc: A,
+    selection: &S,
+    end: u8,
+    reader: &mut Watch<R>,
+    writer: &mut Watch<W>,
+) -> Result<u64, LineFault>
+    requires reader { reader.old.failed ≡ false }
+    requires writer { writer.old.failed ≡ false }
+    ensures records { IfOk result (CopiesSelected end (S.selects selection.now)
+        (R.remaining reader.old.inner)
+        (W.contents writer.old.inner) (W.contents writer.new.inner)) }
+    ensures end { OnOk result (IsAtEnd (R.remaining reader.new.inner)) }
+    ensures read_failed { IsTrue reader.new.failed ↔ IsErrAnd result IsRead }
+    ensures write_failed { IsTrue writer.new.failed ↔ IsErrAnd result IsWrite }
+    ensures read_fault { IsErrAnd result IsRead → CopiesWholeSelected end (S.selects selection.now)
+        (R.remaining reader.old.inner) (R.remaining reader.new.inner)
+        (W.contents writer.old.inner) (W.contents writer.new.inner) }
+    ensures memory { IsErrAnd result IsMemory → CopiesSomeSelected end (S.selects selection.now)
+        (R.remaining reader.old.inner) (W.contents writer.old.inner) (W.contents writer.new.inner) }
+    ensures write_fault { IsErrAnd result IsWrite → CopiesSelectedBytes end (S.selects selection.now)
+        (R.remaining reader.old.inner) (W.contents writer.old.inner) (W.contents writer.new.inner) }
+{
+    let mut input = Vec::new(alloc);
+    let mut output = Vec::new(alloc);
+    // How many bytes of a record are at the front of `input`: its end has not come.
+    let mut partial = 0;
+    let mut count = 0u64;
+    // A bound that no run reaches: nothing says that a reader has an end.
+    for _ in 0..u64::MAX {
+        let len = read_piece(&mut input, partial, reader)?;
+        if len == 0 {
+            let last = write_records(selection, end, &input[..partial], &mut output, writer)?;
+            return Ok(count.saturating_add(last));
+        }
+        let filled = partial + len;
+        let whole = whole_len(&input[..filled], partial, end);
+        let copied = write_records(selection, end, &input[..whole], &mut output, writer)?;
+        count = count.saturating_add(copied);
+        move_front(&mut input, whole, filled);
+        partial = filled - whole;
+    }
+    Err(LineFault::Memory)
+}
+
+/// How many of the bytes are whole records with their ends. The first `partial` of the bytes have no end.
+fn whole_len(bytes: &[u8], partial: usize, end: u8) -> usize
+    requires within { partial ≤ length bytes.now }
+    requires partial { HasNoEnd end (take partial bytes.now) }
+    ensures bound { result ≤ length bytes.now }
+    ensures whole { AreWhole end (take result bytes.now) }
+    ensures rest { HasNoEnd end (drop result bytes.now) }
+{
+    let mut len = bytes.len();
+    while len > partial {
+        if bytes[len - 1] == end {
+            return len;
+        }
+        len -= 1;
+    }
+    0
+}
+
+/// Moves the bytes from `start` on and before `end` to the front.
+fn move_front<A: Allocator>(bytes: &mut Vec<u8, A>, start: usize, end: usize)
+    requires order { start ≤ end }
+    requires within { end ≤ vec_len bytes.old }
+    ensures moved { take (end - start) bytes.new.items ≡ drop start (take end bytes.old.items) }
+    ensures len { vec_len bytes.new ≡ vec_len bytes.old }
+{
+    // To move bytes to where they are would make a long record, of which each read gives a part, cost its square.
+    if start == 0 {
+        return;
+    }
+    bytes.copy_within(start..end, 0);
+}
