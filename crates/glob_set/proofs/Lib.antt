@@ -1,3 +1,9 @@
+pub mod BraceAnswers
+pub mod BraceCounting
+pub mod BraceLexing
+pub mod BraceTexts
+pub mod BraceReadings
+pub mod BraceSetLemmas
 pub mod BucketLemmas
 pub mod ListReading
 pub mod MappedErrors

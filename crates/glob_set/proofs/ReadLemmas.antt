@@ -1,5 +1,5 @@
 -- Patterns that are read from a list of texts.
-use Rattle.std.proofs.Common.{◌≡◌, ℕ, ◌+◌, ◌<◌, List, [], ◌∷◌, ◌++◌, length, get_or, map, take, Result, Ok, Err, IfErr, IsErrAnd, sym, ap, subst, ◌∙◌, below_more}
+use Rattle.std.proofs.Common.{◌≡◌, ℕ, ◌+◌, ◌<◌, ◌≤◌, List, [], ◌∷◌, ◌++◌, length, get_or, map, take, Result, Ok, Err, IfErr, IsErrAnd, sym, ap, subst, ◌∙◌, arith, below_more}
 use Rattle.std.proofs.lemmas.List.{take_more, map-append, length-map, get_or-map}
 use Rattle.std.specs.Str.{chars}
 use Rattle.glob_text.specs.Text.{Text}
@@ -9,6 +9,7 @@ use Rattle.glob_pattern.specs.declared.error.PatternRefusal.{PatternRefusal}
 use Rattle.glob_pattern.specs.declared.error.PatternRefusal.TheVariants as pattern
 use Rattle.glob_set.specs.declared.error.SetRefusal.{SetRefusal}
 use Rattle.glob_set.specs.declared.error.SetRefusal.TheVariants.{Syntax, Memory}
+use Rattle.glob_set.specs.BraceSets.{AreAccepted}
 use Rattle.glob_set.specs.Sets.{RefusesTexts, refusal_of}
 
 -- one more element of a list is read, and what it gives is kept
@@ -43,3 +44,11 @@ unfolding RefusesTexts
 IfErr-memory (Ok x) texts known = tt
 IfErr-memory (Err (Syntax i e)) texts known = absurd (cc)
 IfErr-memory (Err Memory) texts known = tt
+
+-- all texts are accepted
+pub AreAccepted-all : {X : Type 0} (f : X → Text) (xs : List X) (i : ℕ) → length xs ≤ i
+    → ((k : ℕ) → k < i → IsAccepted (chars (get_or (map f xs) k []))) → AreAccepted (map f xs)
+unfolding AreAccepted
+AreAccepted-all f xs i end accepted =
+    let long : length (map f xs) ≡ length xs = length-map xs f in
+    λ k below. accepted k (omega (arith, below, long, end))

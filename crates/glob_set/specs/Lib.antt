@@ -1,3 +1,5 @@
+pub mod BraceSets
+pub mod Braces
 pub mod Private
 pub mod Sets
 pub mod Words

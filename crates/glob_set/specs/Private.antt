@@ -1,2 +1,4 @@
+pub mod BraceCounts
+pub mod BraceSteps
 pub mod Buckets
 pub mod Pairs

@@ -1,6 +1,7 @@
 ghost use Rattle.std.specs.Prelude.{Some};
-ghost use Rattle.glob_set.specs.Words.{refusal_words};
+ghost use Rattle.glob_set.specs.Words.{refusal_words, brace_set_refusal_words};
 
+use crate::braces::BraceError;
 use glob_pattern::PatternError;
 use std::alloc::{AllocError, AllocFailed};
 use std::error::Error;
@@ -54,5 +55,51 @@ impl<T: Drop> From<AllocFailed<T>> for SetRefusal {
 
     fn from(_error: AllocFailed<T>) -> SetRefusal {
         SetRefusal::Memory
+    }
+}
+
+/// Why texts with braces were refused as the patterns of a set, by
+/// [`PatternSet::from_braces`](crate::PatternSet::from_braces). Numbers are counted from 0.
+#[derive(Debug, Drop)]
+pub enum BraceSetRefusal {
+    /// The first text with a fault, by its number, and the fault of its braces: of `*.o` and `{a`, 1 and that the `{` at
+    /// place 0 is not closed.
+    Braces(usize, BraceError),
+    /// The first text with a fault, by its number, the first of its alternatives that is not accepted, by its number among
+    /// them, and that one's first fault from the left: of `*.o` and `{a,[}`, 1, 1 and the place 0 in `[`.
+    Pattern(usize, usize, PatternError),
+    /// Out of memory: an allocation failed.
+    Memory,
+}
+
+impl fmt::Display for BraceSetRefusal {
+    ghost output = { λ refusal. Some (brace_set_refusal_words refusal) };
+
+    fn fmt<W: fmt::Write>(&self, f: &mut fmt::Formatter<W>) -> fmt::Result {
+        match self {
+            BraceSetRefusal::Braces(number, error) => {
+                write!(f, "pattern {number}: ")?;
+                error.fmt(f)
+            }
+            BraceSetRefusal::Pattern(number, alternative, error) => {
+                write!(f, "pattern {number}, alternative {alternative}: ")?;
+                error.fmt(f)
+            }
+            BraceSetRefusal::Memory => f.write_str("out of memory"),
+        }
+    }
+}
+
+impl Error for BraceSetRefusal {}
+
+/// A failed allocation.
+impl From<AllocError> for BraceSetRefusal {
+    ghost use Rattle.std.specs.Prelude.{◌≡◌};
+    ghost use Rattle.glob_set.specs.declared.error.BraceSetRefusal.TheVariants.{Memory};
+
+    ghost from_gives = { λ _ refusal. refusal ≡ Memory };
+
+    fn from(_error: AllocError) -> BraceSetRefusal {
+        BraceSetRefusal::Memory
     }
 }

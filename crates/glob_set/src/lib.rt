@@ -3,6 +3,7 @@
 //! A [`PatternSet`] of `*.o`, `target/**` and `!*` says of `a.o` that number 0 is the first pattern that matches it.
 #![tactic(auto)]
 
+pub mod braces;
 mod buckets;
 mod error;
 mod needs;
@@ -10,5 +11,5 @@ mod pairs;
 mod reading;
 mod set;
 
-pub use error::SetRefusal;
+pub use error::{BraceSetRefusal, SetRefusal};
 pub use set::PatternSet;

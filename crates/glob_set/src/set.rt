@@ -1,14 +1,15 @@
-ghost use Rattle.std.specs.Prelude.{◌≡◌, ℕ, ◌<◌, ◌↔◌, length, map, IsTrue, IsOk, IfOk, IfErr, OnOk, OnErr};
+ghost use Rattle.std.specs.Prelude.{◌≡◌, ℕ, List, ◌<◌, ◌↔◌, length, map, IsTrue, IsOk, IfOk, IfErr, OnOk, OnErr};
 ghost use Rattle.std.specs.Path.{path_bytes};
 ghost use Rattle.glob_set.specs.Private.Buckets.{IsBucket};
 ghost use Rattle.glob_set.specs.Private.Pairs.{text_bits, text_class};
+ghost use Rattle.glob_set.specs.BraceSets.{AnyAlternativeMatches, AreAlternativesOf, RefusesBraceTexts};
 ghost use Rattle.glob_set.specs.Sets.{MatchesAt, AnyMatch, FirstMatch, LastMatch, all_matches, AreFirstMatches, AreShort, RefusesTexts};
 
 use crate::buckets::{Bucket, buckets_of};
-use crate::error::SetRefusal;
+use crate::error::{BraceSetRefusal, SetRefusal};
 use crate::needs::needs_of;
 use crate::pairs::{Need, text_bits, text_class};
-use crate::reading::read_patterns;
+use crate::reading::{read_braces, read_patterns};
 use glob_pattern::{MatchOptions, Pattern};
 use std::alloc::{AllocError, Allocator, Global};
 use std::marker::Model;
@@ -107,6 +108,28 @@ impl<A: Allocator + Copy> PatternSet<A> {
         ensures refused { IfErr result (RefusesTexts (map (λ t. t.now) texts.now)) }
     {
         let patterns = read_patterns(alloc, texts)?;
+        Ok(Self::new(alloc, patterns, options)?)
+    }
+
+    /// [`new`](Self::new) of all alternatives of all texts, as from `src/*.{c,h}`: those of the first text first, as
+    /// [`expand`](crate::braces::expand) returns them. A text matches exactly if one of the alternatives of one of the
+    /// texts matches it.
+    ///
+    /// The error is that of the first text with a fault, [`Braces`](BraceSetRefusal::Braces) or
+    /// [`Pattern`](BraceSetRefusal::Pattern), or [`Memory`](BraceSetRefusal::Memory) if an allocation fails.
+    pub fn from_braces(
+        alloc: A,
+        texts: &[&str],
+        options: MatchOptions,
+    ) -> Result<Self, BraceSetRefusal>
+        ensures alternatives { IfOk result
+            (λ set. AreAlternativesOf (map (λ t. t.now) texts.now) set.patterns) }
+        ensures options { IfOk result (λ set. set.options ≡ options) }
+        ensures matches { IfOk result (λ set. (text : List ℕ) → AnyMatch options set.patterns text
+            ↔ AnyAlternativeMatches options (map (λ t. t.now) texts.now) text) }
+        ensures refused { IfErr result (RefusesBraceTexts (map (λ t. t.now) texts.now)) }
+    {
+        let patterns = read_braces(alloc, texts)?;
         Ok(Self::new(alloc, patterns, options)?)
     }
 

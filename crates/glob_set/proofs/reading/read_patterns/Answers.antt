@@ -2,7 +2,7 @@ use Rattle.std.proofs.Common.{◌≡◌, arith, map, rules, subst, sym}
 use Rattle.std.proofs.lemmas.Result.{err_from_is_err_and, IfErr-at_err, IfOk-at_ok}
 use Rattle.glob_set.specs.Sets.{RefusesTexts, refusal_of}
 use Rattle.glob_set.proofs.MappedErrors.{IfErr-mapped, IfOk-mapped}
-use Rattle.glob_set.proofs.ReadLemmas.{map-take_more, RefusesTexts-at, IfErr-memory, accepted_more}
+use Rattle.glob_set.proofs.ReadLemmas.{map-take_more, RefusesTexts-at, IfErr-memory, accepted_more, AreAccepted-all}
 use Rattle.glob_set.proofs.reading.read_patterns.Goals as goal
 
 pub returns-in_err-push-clause-refused : goal.returns-in_err-push-clause-refused
@@ -29,3 +29,8 @@ loop-number-preserved g c =
       accepted = accepted_more (λ t. t.now) texts l.number-counter _ (omega arith)
           (IfOk-at_ok _ c.in_ok-pattern.was (IfOk-mapped c.new.result c.map_err.result _ _ c.map_err.ensures.cases c.new.ensures.accepted)) l.invariant.accepted;
     }
+
+pub returns-clause-accepted : goal.returns-clause-accepted
+returns-clause-accepted g c =
+    let l = c.loop-number in
+    AreAccepted-all (λ t. t.now) c.args.texts.now l.number-counter (omega arith) l.invariant.accepted

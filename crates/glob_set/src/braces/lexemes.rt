@@ -1,0 +1,108 @@
+//! What each character of a text means to braces.
+ghost use Rattle.std.specs.Prelude.{◌≡◌, ◌+◌, ◌<◌, ◌≤◌, length, chars, IfOk, IfSome};
+ghost use Rattle.glob_pattern.specs.Computing.Reading.{close_from};
+ghost use Rattle.glob_set.specs.Braces.{lexemes, lexeme_at, lexeme_of, end_at, bracket_end};
+
+use std::alloc::{AllocError, Allocator};
+
+/// What a character is: a brace, a comma, or itself.
+#[derive(Clone, Copy)]
+pub enum Lexeme {
+    /// The character, which is no brace and no comma, or is in a bracket.
+    Literal(char),
+    /// `{`
+    Open,
+    /// `,`
+    Comma,
+    /// `}`
+    Close,
+}
+
+/// The lexemes of a text, one for each of its characters.
+pub fn lexemes_of<A: Allocator + Copy>(alloc: A, text: &str) -> Result<Vec<Lexeme, A>, AllocError>
+    ensures { IfOk result (λ found. found.items ≡ lexemes (chars text.now)) }
+{
+    let mut characters = Vec::new(alloc);
+    characters.extend(text.chars())?;
+    lexemes_in(alloc, characters.as_slice())
+}
+
+/// The lexemes of the characters.
+fn lexemes_in<A: Allocator>(alloc: A, text: &[char]) -> Result<Vec<Lexeme, A>, AllocError>
+    ensures { IfOk result (λ found. found.items ≡ lexemes text.now) }
+{
+    let mut found = Vec::new(alloc);
+    let mut end = 0;
+    for (place, c) in text.iter().enumerate() {
+        end = end_at(text, place, end);
+        found.push(lexeme_at(place, end, *c))?;
+    }
+    Ok(found)
+}
+
+/// The end of the bracket that a place is in, or that place. The last bracket that begins before it has the end `last`.
+fn end_at(text: &[char], place: usize, last: usize) -> usize
+    requires { place < length text.now }
+    ensures { result ≡ end_at text.now place last }
+{
+    if place < last {
+        last
+    } else {
+        bracket_end(text, place)
+    }
+}
+
+/// What the character at a place is, where those before `end` are in a bracket.
+fn lexeme_at(place: usize, end: usize, c: char) -> Lexeme
+    ensures { result ≡ lexeme_at place end c }
+{
+    if place < end {
+        Lexeme::Literal(c)
+    } else {
+        lexeme_of(c)
+    }
+}
+
+/// What the character is outside of brackets.
+fn lexeme_of(c: char) -> Lexeme
+    ensures { result ≡ lexeme_of c }
+{
+    match c {
+        '{' => Lexeme::Open,
+        ',' => Lexeme::Comma,
+        '}' => Lexeme::Close,
+        _ => Lexeme::Literal(c),
+    }
+}
+
+/// The place after the bracket that begins at a place, or that place if none does.
+fn bracket_end(text: &[char], place: usize) -> usize
+    requires { place < length text.now }
+    ensures { result ≡ bracket_end text.now place }
+{
+    if text[place] != '[' {
+        return place;
+    }
+    let content = match text.get(place + 1) {
+        Some('!') => place + 2,
+        _ => place + 1,
+    };
+    match close_from(text, content + 1) {
+        Some(close) => close + 1,
+        None => place,
+    }
+}
+
+/// The place of the first `]` from a place on.
+fn close_from(text: &[char], start: usize) -> Option<usize>
+    requires { start ≤ length text.now + 2 }
+    ensures place { result ≡ close_from text.now start }
+    ensures within { IfSome result (λ close. close < length text.now) }
+{
+    for place in start..text.len() {
+        if text[place] == ']' {
+            return Some(place);
+        }
+    }
+    None
+}
