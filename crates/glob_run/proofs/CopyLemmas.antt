@@ -2,16 +2,17 @@
 use Rattle.std.proofs.Common.{◌≡◌, ℕ, Option, None, Some, List, ◌∷◌, sym, ap, subst, arith}
 use Rattle.std.specs.Prelude.{option_map}
 use Rattle.std.specs.Io.KnownBytes.{Appends}
-use Rattle.glob_lines.specs.Lines.{FiltersRecordBytes}
-use Rattle.glob_pattern.specs.declared.options.MatchOptions.{MatchOptions}
-use Rattle.glob_run.specs.Outcomes.{CopiesRecords}
+use Rattle.glob.specs.Lines.{FiltersSomeBytes}
+use Rattle.glob.specs.Text.{Text}
+use Rattle.glob.specs.Types.{MatchOptions}
+use Rattle.glob_run.specs.Outcomes.{CopiesLines}
 use Rattle.glob_run.specs.declared.borrowed.Borrowed.{Borrowed}
 
--- at a fault the first bytes of the records that match were written
-pub CopiesRecords-some : (end : ℕ) (o : MatchOptions) (pattern : List ℕ) (input old new : Option (List ℕ)) (status : ℕ) → status ≡ 2
-    → FiltersRecordBytes end o pattern input old new → CopiesRecords end o pattern input old new status
-unfolding CopiesRecords
-CopiesRecords-some end o pattern input old new status is some =
+-- the first bytes of the lines that match were written
+pub CopiesLines-some : (o : MatchOptions) (pattern : Text) (input old new : Option (List ℕ)) (status : ℕ) → status ≡ 2
+    → FiltersSomeBytes o pattern input old new → CopiesLines o pattern input old new status
+unfolding CopiesLines
+CopiesLines-some o pattern input old new status is some =
     (λ none. absurd (omega (arith, is, none)), λ none. absurd (omega (arith, is, none)), λ _. some)
 
 same_head : {x y : ℕ} {xs ys : List ℕ} → x ∷ xs ≡ y ∷ ys → x ≡ y

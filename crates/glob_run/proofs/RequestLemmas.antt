@@ -2,38 +2,38 @@
 use Rattle.std.proofs.Common.{◌≡◌, ℕ, ◌-◌, ◌<◌, ◌≤◌, ◌&&◌, ◌||◌, Bool, true, false, List, [], ◌∷◌, None, Some, length, get_or, take, drop, map, refl, sym, subst, Bor, arith}
 use Rattle.std.specs.Prelude.{codes, bytes_eq}
 use Rattle.std.proofs.lemmas.List.{take_rest}
-use Rattle.glob_run.specs.declared.command.Settings.{Settings}
-use Rattle.glob_console.specs.Words.{is_option, limit_of}
-use Rattle.glob_run.specs.CommandLine.{is_setting, with_setting, paths_request}
+use Rattle.glob.specs.Types.{MatchOptions}
+use Rattle.glob_console.specs.Words.{is_match_option, is_option, limit_of, with_option}
+use Rattle.glob_run.specs.CommandLine.{paths_request}
 
-first_of_each : (a p q r s : Bool) → ((a && p) || ((a && q) || ((a && r) || (a && s)))) ≡ true → a ≡ true
-first_of_each true p q r s e = refl
-first_of_each false p q r s e = e
+first_of_each : (a p q r : Bool) → ((a && p) || ((a && q) || (a && r))) ≡ true → a ≡ true
+first_of_each true p q r e = refl
+first_of_each false p q r e = e
 
 -- a word that sets an option begins with a hyphen
-is_option-from_setting : (word : List ℕ) → is_setting word ≡ true → is_option word ≡ true
-is_option-from_setting [] e = e
-is_option-from_setting (c ∷ cs) e = first_of_each _ _ _ _ _ e
+is_option-from_match_option : (word : List ℕ) → is_match_option word ≡ true → is_option word ≡ true
+is_option-from_match_option [] e = e
+is_option-from_match_option (c ∷ cs) e = first_of_each _ _ _ _ e
 
-option_first : (o : Settings) (limit : ℕ) (word : List ℕ) (words : List (List ℕ)) → bytes_eq word (codes "-n") ≡ false → is_setting word ≡ true
-    → paths_request o limit (word ∷ words) ≡ paths_request (with_setting word o) limit words
-option_first o limit word [] other sets = let e = is_option-from_setting word sets in rw e refl
+option_first : (o : MatchOptions) (limit : ℕ) (word : List ℕ) (words : List (List ℕ)) → bytes_eq word (codes "-n") ≡ false → is_match_option word ≡ true
+    → paths_request o limit (word ∷ words) ≡ paths_request (with_option word o) limit words
+option_first o limit word [] other sets = let e = is_option-from_match_option word sets in rw e refl
 option_first o limit word (next ∷ words) other sets = rw other (rw sets refl)
 
 -- after a word that sets an option
-pub paths_request-option : (o : Settings) (limit : ℕ) (none : Bor (List ℕ)) (words : List (Bor (List ℕ))) → 1 ≤ length words
-    → bytes_eq (get_or words 0 none).now (codes "-n") ≡ false → is_setting (get_or words 0 none).now ≡ true
+pub paths_request-option : (o : MatchOptions) (limit : ℕ) (none : Bor (List ℕ)) (words : List (Bor (List ℕ))) → 1 ≤ length words
+    → bytes_eq (get_or words 0 none).now (codes "-n") ≡ false → is_match_option (get_or words 0 none).now ≡ true
     → paths_request o limit (map (λ w. w.now) words)
-    ≡ paths_request (with_setting (get_or words 0 none).now o) limit (map (λ w. w.now) (take (length words - 1) (drop 1 words)))
+    ≡ paths_request (with_option (get_or words 0 none).now o) limit (map (λ w. w.now) (take (length words - 1) (drop 1 words)))
 paths_request-option o limit none [] long other sets = absurd (omega (arith, long))
 paths_request-option o limit none (word ∷ words) long other sets =
     rw (take_rest (word ∷ words) 1) (option_first o limit word.now (map (λ w. w.now) words) other sets)
 
-limit_first : (o : Settings) (limit most : ℕ) (word next : List ℕ) (words : List (List ℕ)) → bytes_eq word (codes "-n") ≡ true → limit_of next ≡ Some most
+limit_first : (o : MatchOptions) (limit most : ℕ) (word next : List ℕ) (words : List (List ℕ)) → bytes_eq word (codes "-n") ≡ true → limit_of next ≡ Some most
     → paths_request o limit (word ∷ next ∷ words) ≡ paths_request o most words
 limit_first o limit most word next words is gives = rw is (rw gives refl)
 
-limit_next : (o : Settings) (limit most : ℕ) (word other : Bor (List ℕ)) (words : List (Bor (List ℕ))) → 1 ≤ length words
+limit_next : (o : MatchOptions) (limit most : ℕ) (word other : Bor (List ℕ)) (words : List (Bor (List ℕ))) → 1 ≤ length words
     → bytes_eq word.now (codes "-n") ≡ true → limit_of (get_or words 0 other).now ≡ Some most
     → paths_request o limit (map (λ w. w.now) (word ∷ words)) ≡ paths_request o most (map (λ w. w.now) (take (length words - 1) (drop 1 words)))
 limit_next o limit most word other [] long is gives = absurd (omega (arith, long))
@@ -41,7 +41,7 @@ limit_next o limit most word other (next ∷ words) long is gives =
     rw (take_rest (next ∷ words) 1) (limit_first o limit most word.now next.now (map (λ w. w.now) words) is gives)
 
 -- after `-n` and a limit
-pub paths_request-limit : (o : Settings) (limit most : ℕ) (none other : Bor (List ℕ)) (words : List (Bor (List ℕ))) → 1 ≤ length words → 1 ≤ length (take (length words - 1) (drop 1 words))
+pub paths_request-limit : (o : MatchOptions) (limit most : ℕ) (none other : Bor (List ℕ)) (words : List (Bor (List ℕ))) → 1 ≤ length words → 1 ≤ length (take (length words - 1) (drop 1 words))
     → bytes_eq (get_or words 0 none).now (codes "-n") ≡ true → limit_of (get_or (take (length words - 1) (drop 1 words)) 0 other).now ≡ Some most
     → paths_request o limit (map (λ w. w.now) words)
     ≡ paths_request o most (map (λ w. w.now) (take (length (take (length words - 1) (drop 1 words)) - 1) (drop 1 (take (length words - 1) (drop 1 words)))))
@@ -54,7 +54,7 @@ paths_request-limit o limit most none other (word ∷ words) long more is gives 
     (limit_next o limit most word other words more' is gives')
 
 -- after `-n` and no limit
-pub paths_request-no_limit : (o : Settings) (limit : ℕ) (none other : Bor (List ℕ)) (words : List (Bor (List ℕ))) → 1 ≤ length words → 1 ≤ length (take (length words - 1) (drop 1 words))
+pub paths_request-no_limit : (o : MatchOptions) (limit : ℕ) (none other : Bor (List ℕ)) (words : List (Bor (List ℕ))) → 1 ≤ length words → 1 ≤ length (take (length words - 1) (drop 1 words))
     → bytes_eq (get_or words 0 none).now (codes "-n") ≡ true → limit_of (get_or (take (length words - 1) (drop 1 words)) 0 other).now ≡ None
     → None ≡ paths_request o limit (map (λ w. w.now) words)
 paths_request-no_limit o limit none other [] long more is gives = absurd (omega (arith, long))
@@ -64,6 +64,6 @@ paths_request-no_limit o limit none other (word ∷ next ∷ words) long more is
     rw is (rw gives' refl)
 
 -- where no word is left
-pub paths_request-none : (o : Settings) (limit : ℕ) (words : List (Bor (List ℕ))) → length words < 1 → None ≡ paths_request o limit (map (λ w. w.now) words)
+pub paths_request-none : (o : MatchOptions) (limit : ℕ) (words : List (Bor (List ℕ))) → length words < 1 → None ≡ paths_request o limit (map (λ w. w.now) words)
 paths_request-none o limit [] short = refl
 paths_request-none o limit (word ∷ words) short = absurd (omega (arith, short))

@@ -1,4 +1,3 @@
 pub mod CommandLine
 pub mod Outcomes
-pub mod Private
 pub mod Requests

@@ -1,26 +1,49 @@
 -- What a run comes to: its status, and what its output gained.
-use Rattle.std.specs.Prelude.{◌≡◌, ℕ, ◌<◌, ◌⊎◌, List, Option, chars}
+use Rattle.std.specs.Prelude.{◌≡◌, ◌≢◌, ℕ, ◌<◌, ◌⊎◌, Option, Some, None, chars, List}
 use Rattle.std.specs.Io.KnownBytes.{Keeps}
-use Rattle.glob_console.specs.Outcomes.{WritesText}
-use Rattle.glob_pattern.specs.Escaping.{escaped_text}
-use Rattle.glob_lines.specs.Lines.{FiltersRecords, FiltersRecordBytes, ended_record, line_feed}
-use Rattle.glob_pattern.specs.declared.options.MatchOptions.{MatchOptions}
+use Rattle.glob.specs.Answers.{IsTold}
+use Rattle.glob.specs.Components.{walk_fault}
+use Rattle.glob.specs.Content.{Content}
+use Rattle.glob.specs.Escaping.{escaped_text}
+use Rattle.glob.specs.Grammar.Units.{IsAccepted}
+use Rattle.glob.specs.Lines.{FiltersLines, FiltersSomeBytes, ended_record, line_feed}
+use Rattle.glob.specs.Listing.{listing}
+use Rattle.glob.specs.Text.{Text}
+use Rattle.glob.specs.Types.{MatchOptions}
+use Rattle.glob_console.specs.FoundPaths.{IsFindStatus, WritesFound, every}
+use Rattle.glob_console.specs.Outcomes.{IsRefused, WritesText}
+use Rattle.glob_run.specs.Requests.{Request, Lines, Escaped, Paths}
 
--- Status 0: some records match, and just those were written, in order. Status 1: none matches, and none was written.
--- Status 2: of the bytes of the records that match, the first n were written, for some n.
-unfoldable pub CopiesRecords : (end : ℕ) → MatchOptions → (pattern : List ℕ) → (input old new : Option (List ℕ)) → (status : ℕ) → Type 0
-CopiesRecords end options pattern input old new status =
-    (status ≡ 0 → (n : ℕ) × (0 < n) × FiltersRecords end options pattern input old new n)
-    × (status ≡ 1 → FiltersRecords end options pattern input old new 0)
-    × (status ≡ 2 → FiltersRecordBytes end options pattern input old new)
+-- Status 0: some lines match, and just those were written, in order. Status 1: none matches, and none was written.
+-- Status 2: of the bytes of the lines that match, the first n were written, for some n.
+unfoldable pub CopiesLines : MatchOptions → (pattern : Text) → (input old new : Option (List ℕ)) → (status : ℕ) → Type 0
+CopiesLines options pattern input old new status =
+    (status ≡ 0 → (n : ℕ) × (0 < n) × FiltersLines options pattern input old new n)
+    × (status ≡ 1 → FiltersLines options pattern input old new 0)
+    × (status ≡ 2 → FiltersSomeBytes options pattern input old new)
 
 -- the pattern that stands for the text alone, and a line feed
-abbrev pub IsEscapedLine : (text line : List ℕ) → Type 0
+abbrev pub IsEscapedLine : (text line : Text) → Type 0
 IsEscapedLine text line =
-    (escaped : List ℕ) × (chars escaped ≡ escaped_text (chars text)) × (line ≡ ended_record line_feed escaped)
+    (escaped : Text) × (chars escaped ≡ escaped_text (chars text)) × (line ≡ ended_record line_feed escaped)
 
 -- That line was written, and the status is 0; or the status is 2, and nothing was written, or the line's first bytes.
-unfoldable pub WritesEscaped : (text : List ℕ) → (old new : Option (List ℕ)) → (status : ℕ) → Type 0
+unfoldable pub WritesEscaped : Text → (old new : Option (List ℕ)) → (status : ℕ) → Type 0
 WritesEscaped text old new status =
     ((status ≡ 2) × Keeps old new)
-    ⊎ ((line : List ℕ) × IsEscapedLine text line × WritesText line old new status)
+    ⊎ ((line : Text) × IsEscapedLine text line × WritesText line old new status)
+
+-- What a run does for each request, with the tree's content and the input where they are known. `contents` are those of
+-- the output, which was `old` and is `new`. Without a request there is a usage fault.
+unfoldable pub Fulfils : {W : Type 0} → (contents : W → Option (List ℕ)) → (tells : Option Content) → (input : Option (List ℕ))
+    → Option Request → (old new : W) → (status : ℕ) → Type 0
+Fulfils contents tells input None old new status = IsRefused old new status
+Fulfils contents tells input (Some (Lines options pattern)) old new status =
+    ((¬ (IsAccepted (chars pattern))) → IsRefused old new status)
+    × CopiesLines options pattern input (contents old) (contents new) status
+Fulfils contents tells input (Some (Escaped text)) old new status = WritesEscaped text (contents old) (contents new) status
+Fulfils contents tells input (Some (Paths options limit pattern)) old new status =
+    (walk_fault pattern ≢ None → IsRefused old new status)
+    × ((c : Content) → IsTold tells c
+    → IsFindStatus every (listing c options pattern) limit status
+    × WritesFound line_feed every (listing c options pattern) limit (contents old) (contents new) status)

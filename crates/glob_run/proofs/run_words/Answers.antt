@@ -1,20 +1,20 @@
-use Rattle.std.proofs.Common.{◌∙◌}
-use Rattle.glob_run.specs.Private.Fulfilling.{Fulfils}
+use Rattle.std.proofs.Common.{sym, refl}
+use Rattle.glob_run.specs.Outcomes.{Fulfils}
 use Rattle.glob_run.proofs.run_words.Goals as goal
 
-pub returns : goal.returns
+pub returns-in_default-clause-request : goal.returns-in_default-clause-request
 unfolding Fulfils
-returns g c =
-    let met = c.run_command.ensures.request in
-    record {
-      most = c.run_command.ensures.most;
-      usage = λ asked. rw (c.parse.ensures ∙ asked) at met;
-      refused = λ settings pattern asked. (rw (c.parse.ensures ∙ asked) at met).0;
-      records = λ settings pattern asked. (rw (c.parse.ensures ∙ asked) at met).1;
-      escaped = λ text asked. rw (c.parse.ensures ∙ asked) at met;
-      walk_refused = λ settings limit pattern asked. (rw (c.parse.ensures ∙ asked) at met).0;
-      walk_status = λ settings limit pattern asked. (rw (c.parse.ensures ∙ asked) at met).1;
-      walk_written = λ settings limit pattern asked. (rw (c.parse.ensures ∙ asked) at met).2;
-      page = λ asked. rw (c.parse.ensures ∙ asked) at met;
-      version = λ asked. rw (c.parse.ensures ∙ asked) at met;
-    }
+returns-in_default-clause-request g c = rw (sym c.parse.ensures, c.in_default.is) (c.fault.ensures, refl)
+
+pub returns-in-Match-clause-request : goal.returns-in-Match-clause-request
+unfolding Fulfils
+returns-in-Match-clause-request g c = rw (sym c.parse.ensures, c.in-Some.is, c.in-Match.is) (c.run_match.ensures.refused, c.run_match.ensures.lines)
+
+pub returns-in-Escape-clause-request : goal.returns-in-Escape-clause-request
+unfolding Fulfils
+returns-in-Escape-clause-request g c = rw (sym c.parse.ensures, c.in-Some.is, c.in-Escape.is) c.run_escape.ensures.escaped
+
+pub returns-in-Find-clause-request : goal.returns-in-Find-clause-request
+unfolding Fulfils
+returns-in-Find-clause-request g c =
+    rw (sym c.parse.ensures, c.in-Some.is, c.in-Find.is) (c.run_find.ensures.refused, λ content told. (c.run_find.ensures.status content told, c.run_find.ensures.written content told))

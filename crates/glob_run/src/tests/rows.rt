@@ -1,10 +1,10 @@
 //! What the program does with its words, its input and a tree, one row a line.
 //!
-//! A row is WORDS|INPUT|STATUS|OUTPUT|ERRORS, with one blank between each two words, and `∅` for none. Words alone are a
-//! usage fault. `⏎` is a line feed, `␀` a NUL, `␦` the byte 255, and `✗` is where a stream fails, after the bytes before
-//! it. A line `+ KEYS` has the tree of the rows after it: below the root, which is the current directory, directories end
-//! in `/`, and those that cannot be listed in `#`. Other rows have an empty tree. `tests/program.sh` replays the rows on the
-//! built program, but for those with `∅`, `✗`, `#` or an absolute path.
+//! A row is WORDS|INPUT|STATUS|OUTPUT|ERRORS, with one blank between each two words, and `∅` for none. Words alone are
+//! a usage fault. `⏎` is a line feed, `␦` the byte 255, and `✗` is where a stream fails, after the bytes before it. A
+//! line `+ KEYS` has the tree of the rows after it: below the root, which is the current directory, directories end in
+//! `/`, and those that cannot be listed in `#`. Other rows have an empty tree. `tests/program.sh` replays the rows on
+//! the built program, but for those with `∅`, `✗`, `#` or an absolute path.
 
 /// The rows.
 pub static ROWS: &str = "
@@ -22,21 +22,15 @@ match -d -d *|.x⏎y⏎|0|y⏎|
 match -i É|é⏎|1||
 match abc[def|abc⏎|2||Pattern syntax error near position 3: invalid range pattern⏎
 match -d -- *|.x⏎y⏎|0|y⏎|
-match -0 a*|a⏎b␀b␀a|0|a⏎b␀a␀|
-match -i -0 -0 A?|a⏎␀a⏎b␀ab|0|a⏎␀ab␀|
-match -0 *b|a⏎b⏎|1||
-match -0 -- -*|-␀|0|-␀|
-match -0 abc[def|abc␀|2||Pattern syntax error near position 3: invalid range pattern⏎
-
 # escaped texts
 escape a*||0|a[*]⏎|
 escape ||0|⏎|
 escape -- -?||0|-[?]⏎|
+escape -- --help||0|--help⏎|
 escape -?
 escape
 escape a b
 escape _[_]_?_*_!_||0|_[[]_[]]_[?]_[*]_!_⏎|
-
 # usage faults
 ∅
 match
@@ -51,19 +45,27 @@ match -- a b
 catch *
 -- match *
 -- --help
+--help
+-h
+-help
 help
 help match
--help
+--version
 -v
 -V
+match --help
 match -h
 match -0
+match -0 *
 match -00 *
 match --null *
 match -i --help
 match -- --help x
+escape --help
 escape -0 a
+find --help
 find --version
+find -0 *
 find
 find -n
 find -n 5
@@ -78,7 +80,6 @@ find -n 000000000000000000005 *
 find -*
 find a b
 explain a b
-
 # a fault of the pattern comes before the limit, and the last limit counts
 find abc[def||2||Pattern syntax error near position 3: invalid range pattern⏎
 find -n 0 abc[def||2||Pattern syntax error near position 3: invalid range pattern⏎
@@ -86,7 +87,6 @@ find a/**b||2||Pattern syntax error near position 4: recursive wildcards must fo
 find -n 0 *||2||attempting to read `.` resulted in an error: walk limit reached⏎
 find -n 5 -n 0 *||2||attempting to read `.` resulted in an error: walk limit reached⏎
 find -n 00000000000000000000 -- *||2||attempting to read `.` resulted in an error: walk limit reached⏎
-
 # two files below a directory: five units find both
 + d/ d/a d/b
 find d/*||0|d/a⏎d/b⏎|
@@ -97,29 +97,18 @@ find d/zz*||1||
 find d/A||1||
 find -- ||1||
 find -- .||0|.⏎|
-
 # two files: a unit for the start, one for the listing, and one for each entry
 + x y
 find -n 4 *||0|x⏎y⏎|
 find -n 3 *||2||attempting to read `.` resulted in an error: walk limit reached⏎
-
-# a path before the limit
 + d/ d/x
 find -n 5 **||0|d⏎|
 find -n 4 **||2|d⏎|attempting to read `d` resulted in an error: walk limit reached⏎
-
-# options
 + A .a
 find -s *a||0|.a⏎|
 find -i -n 9999999 *a||0|.a⏎A⏎|
 find -d -i -- *a||0|A⏎|
 find -d *a||1||
-
-# paths that end in a NUL
-+ x y a⏎b
-find -0 *||0|a⏎b␀x␀y␀|
-
-# files among directories
 + aaa/ aaa/apple/ aaa/green_apple aaa/kazusa aaa/orange/ aaa/tomato/
 find -- aaa/*||0|aaa/apple⏎aaa/green_apple⏎aaa/kazusa⏎aaa/orange⏎aaa/tomato⏎|
 # two files below an absolute path: a unit for the start, one for each name, and three for the listing
@@ -128,7 +117,6 @@ find /t/u/*||0|/t/u/a⏎/t/u/b⏎|
 find -n 6 /t/u/*||0|/t/u/a⏎/t/u/b⏎|
 find -n 5 /t/u/*||2||attempting to read `/t/u` resulted in an error: walk limit reached⏎
 find /t/u/zz*||1||
-
 # streams that fail
 match *|✗|2||reading failed⏎
 match *|a⏎✗|2||reading failed⏎
@@ -140,7 +128,6 @@ match b|a⏎|1|✗|
 escape a||2|✗|writing failed⏎
 escape a||2|✗|✗
 escape||2||✗
-
 # a path that cannot be written ends a walk, and a line that cannot be written is dropped
 + a/ a/x b# c/ c/x
 find *||2|✗|writing failed⏎

@@ -1,6 +1,6 @@
 use Rattle.std.proofs.Common.{sym, ◌∙◌}
 use Rattle.glob_run.proofs.RequestLemmas.{paths_request-option, paths_request-limit, paths_request-no_limit, paths_request-none}
-use Rattle.glob_run.proofs.command.Search.parse.Goals as goal
+use Rattle.glob_run.proofs.command.Command.parse_find.Goals as goal
 
 pub loop-rest-preserved-then-eq : goal.loop-rest-preserved-then-eq
 loop-rest-preserved-then-eq c =
@@ -9,7 +9,7 @@ loop-rest-preserved-then-eq c =
 
 pub loop-rest-preserved : goal.loop-rest-preserved
 loop-rest-preserved c =
-    rw (c.set.ensures.set c.if-set.true) (sym (paths_request-option _ _ _ _ c.in-len1-up.len_at_least (sym c.eq.ensures ∙ c.if-eq.false) (sym c.set.ensures.named ∙ c.if-set.true))
+    rw (c.set_match_option.ensures.set) (sym (paths_request-option _ _ _ _ c.in-len1-up.len_at_least (sym c.eq.ensures ∙ c.if-eq.false) (sym c.set_match_option.ensures.named ∙ c.if-set_match_option.true))
     ∙ c.loop-rest.invariant)
 
 pub returns-in_err-limit : goal.returns-in_err-limit
