@@ -54,7 +54,7 @@ impl Tree for Chain {
 
     fn list(&mut self, path: &str) -> Result<Vec<Entry>, ListError> {
         self.asks = self.asks.after(1);
-        let entries = self.entries(path).map_err(|_| ListError::Memory)?;
+        let entries = self.entries(path)?;
         self.asks = self.asks.after(entries.len());
         Ok(entries)
     }

@@ -49,17 +49,17 @@ pub fn first_paths<T: Tree>(
 {
     let mut found = Vec::new(alloc);
     while found.len() < most {
-        let Some(item) = paths.next() else {
-            let end = Some(End::Done);
-            return Ok(Beginning { paths: found, end });
-        };
-        match item {
-            Ok(path) => found.push(path)?,
-            Err(error) => {
+        match paths.next() {
+            Some(Ok(path)) => found.push(path)?,
+            Some(Err(error)) => {
                 let end = end_after(error.cause());
                 if end.is_some() {
                     return Ok(Beginning { paths: found, end });
                 }
+            }
+            None => {
+                let end = Some(End::Done);
+                return Ok(Beginning { paths: found, end });
             }
         }
     }

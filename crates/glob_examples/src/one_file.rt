@@ -55,7 +55,7 @@ impl Tree for OneFile<'_> {
             Look::Other => return Err(ListError::Read(no_directory())),
             Look::Missing => return Err(ListError::Read(no_directory())),
         }
-        let entries = entries(self.alloc, self.name).map_err(|_| ListError::Memory)?;
+        let entries = entries(self.alloc, self.name)?;
         self.asks = self.asks.after(entries.len());
         Ok(entries)
     }
@@ -113,9 +113,7 @@ fn no_directory() -> io::Error {
 fn entries(alloc: Global, name: &str) -> Result<Vec<Entry>, AllocError>
     ensures { IfOk result (λ v. entries_of v.items ≡ (name.now, false) ∷ []) }
 {
-    let Ok(name) = Name::new(String::from_str(alloc, name)?) else {
-        return Err(AllocError);
-    };
+    let name = Name::new(String::from_str(alloc, name)?).map_err(|_| AllocError)?;
     let mut entries = Vec::new(alloc);
     entries.push(Entry {
         name,

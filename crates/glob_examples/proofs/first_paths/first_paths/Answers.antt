@@ -19,9 +19,9 @@ loop-paths-init g c = (
 -- an error is passed over
 pub loop-paths-preserved : goal.loop-paths-preserved
 loop-paths-preserved g c =
-    let e = c.in-Err.error in
+    let e = c.in-Some-Err.error in
     let goes : Goes g.T.Tree.asks g.T.Tree.tells c.loop-paths.paths (Some (error_outcome (cause_of e) e)) c.next.new.self =
-    subst (λ r. Goes g.T.Tree.asks g.T.Tree.tells c.loop-paths.paths (option_map outcome r) c.next.new.self) (c.in-Some.is ∙ ap Some c.in-Err.is) c.next.ensures.steps in
+    subst (λ r. Goes g.T.Tree.asks g.T.Tree.tells c.loop-paths.paths (option_map outcome r) c.next.new.self) (c.in-Some-Err.is ∙ ap Some c.in-Some-Err.field-0-is) c.next.ensures.steps in
     let end : end_after (cause_of e) ≡ c.end_after-end.result = ap end_after (sym c.cause.ensures) ∙ sym c.end_after-end.ensures in (
       c.loop-paths.invariant.0,
       Finds-error g.T.Tree.asks g.T.Tree.tells c.args.paths.now c.loop-paths.paths c.next.new.self (map path_buf_bytes c.loop-paths.found.items) c.loop-paths.invariant.1 e goes,
@@ -31,26 +31,26 @@ loop-paths-preserved g c =
 -- a path is kept
 pub loop-paths-preserved-in-Continue-1 : goal.loop-paths-preserved-in-Continue-1
 loop-paths-preserved-in-Continue-1 g c =
-    let goes : Goes g.T.Tree.asks g.T.Tree.tells c.loop-paths.paths (Some (Gives (Found (path_buf_bytes c.in-Ok.path)))) c.next.new.self =
-    subst (λ r. Goes g.T.Tree.asks g.T.Tree.tells c.loop-paths.paths (option_map outcome r) c.next.new.self) (c.in-Some.is ∙ ap Some c.in-Ok.is) c.next.ensures.steps in (
-      omega (arith, c.in_ok-push-in-Ok.ensures.len, c.len.ensures, c.loop-paths-test.true),
-      subst (λ xs. Finds g.T.Tree.tells c.args.paths.now (map path_buf_bytes xs) c.next.new.self) (sym c.in_ok-push-in-Ok.ensures.items)
-          (Finds-path g.T.Tree.asks g.T.Tree.tells c.args.paths.now c.loop-paths.paths c.next.new.self c.loop-paths.found.items c.loop-paths.invariant.1 c.in-Ok.path goes),
+    let goes : Goes g.T.Tree.asks g.T.Tree.tells c.loop-paths.paths (Some (Gives (Found (path_buf_bytes c.in-Some-Ok.path)))) c.next.new.self =
+    subst (λ r. Goes g.T.Tree.asks g.T.Tree.tells c.loop-paths.paths (option_map outcome r) c.next.new.self) (c.in-Some-Ok.is ∙ ap Some c.in-Some-Ok.field-0-is) c.next.ensures.steps in (
+      omega (arith, c.in_ok-push-in-Some-Ok.ensures.len, c.len.ensures, c.loop-paths-test.true),
+      subst (λ xs. Finds g.T.Tree.tells c.args.paths.now (map path_buf_bytes xs) c.next.new.self) (sym c.in_ok-push-in-Some-Ok.ensures.items)
+          (Finds-path g.T.Tree.asks g.T.Tree.tells c.args.paths.now c.loop-paths.paths c.next.new.self c.loop-paths.found.items c.loop-paths.invariant.1 c.in-Some-Ok.path goes),
       λ on. goes.counts.ends,
     )
 
 -- where the walk is done
-pub returns-in_default-clause-at_end : goal.returns-in_default-clause-at_end
-returns-in_default-clause-at_end g c = λ c' told ms is on.
-    let goes : Goes g.T.Tree.asks g.T.Tree.tells c.loop-paths.paths None c.next.new.self = subst (λ r. Goes g.T.Tree.asks g.T.Tree.tells c.loop-paths.paths (option_map outcome r) c.next.new.self) c.in_default.is c.next.ensures.steps in
+pub returns-in-None-clause-at_end : goal.returns-in-None-clause-at_end
+returns-in-None-clause-at_end g c = λ c' told ms is on.
+    let goes : Goes g.T.Tree.asks g.T.Tree.tells c.loop-paths.paths None c.next.new.self = subst (λ r. Goes g.T.Tree.asks g.T.Tree.tells c.loop-paths.paths (option_map outcome r) c.next.new.self) c.in-None.is c.next.ensures.steps in
     Finds-all g.T.Tree.asks g.T.Tree.tells c.args.paths.now c.loop-paths.paths c.next.new.self (map path_buf_bytes c.loop-paths.found.items) c.loop-paths.invariant.1 (c.loop-paths.invariant.2 on) c' told ms is goes
 
 -- where it was refused
 pub returns-then-is_some-clause-at_end : goal.returns-then-is_some-clause-at_end
 returns-then-is_some-clause-at_end g c = λ c' told ms is on.
-    let e = c.in-Err.error in
+    let e = c.in-Some-Err.error in
     let goes : Goes g.T.Tree.asks g.T.Tree.tells c.loop-paths.paths (Some (error_outcome (cause_of e) e)) c.next.new.self =
-    subst (λ r. Goes g.T.Tree.asks g.T.Tree.tells c.loop-paths.paths (option_map outcome r) c.next.new.self) (c.in-Some.is ∙ ap Some c.in-Err.is) c.next.ensures.steps in
+    subst (λ r. Goes g.T.Tree.asks g.T.Tree.tells c.loop-paths.paths (option_map outcome r) c.next.new.self) (c.in-Some-Err.is ∙ ap Some c.in-Some-Err.field-0-is) c.next.ensures.steps in
     let end : end_after (cause_of e) ≡ c.end_after-end.result = ap end_after (sym c.cause.ensures) ∙ sym c.end_after-end.ensures in
     subst (λ o. EndsWith ms (c.args.paths.now.limit - c.args.paths.now.spent) o c.loop-paths.found.items) end
     (Finds-ended g.T.Tree.asks g.T.Tree.tells c.args.paths.now c.loop-paths.paths c.next.new.self c.loop-paths.found.items c.loop-paths.invariant.1 (cause_of e) e goes (c.loop-paths.invariant.2 on) c' told ms is)
@@ -58,17 +58,17 @@ returns-then-is_some-clause-at_end g c = λ c' told ms is on.
 -- the paths in what was charged, where it was refused
 pub returns-then-is_some-clause-taken : goal.returns-then-is_some-clause-taken
 returns-then-is_some-clause-taken g c = λ c' told ms is.
-    let e = c.in-Err.error in
+    let e = c.in-Some-Err.error in
     let goes : Goes g.T.Tree.asks g.T.Tree.tells c.loop-paths.paths (Some (error_outcome (cause_of e) e)) c.next.new.self =
-    subst (λ r. Goes g.T.Tree.asks g.T.Tree.tells c.loop-paths.paths (option_map outcome r) c.next.new.self) (c.in-Some.is ∙ ap Some c.in-Err.is) c.next.ensures.steps in
+    subst (λ r. Goes g.T.Tree.asks g.T.Tree.tells c.loop-paths.paths (option_map outcome r) c.next.new.self) (c.in-Some-Err.is ∙ ap Some c.in-Some-Err.field-0-is) c.next.ensures.steps in
     let (rest, t) = (Finds-error g.T.Tree.asks g.T.Tree.tells c.args.paths.now c.loop-paths.paths c.next.new.self (map path_buf_bytes c.loop-paths.found.items) c.loop-paths.invariant.1 e goes).begins c' told ms is in
     record { done = t.done; rest = rest; whole = t.whole; given = t.given; units = t.units }
 
 pub returns-then-is_some-clause-first : goal.returns-then-is_some-clause-first
 returns-then-is_some-clause-first g c = λ c' told ms is.
-    let e = c.in-Err.error in
+    let e = c.in-Some-Err.error in
     let goes : Goes g.T.Tree.asks g.T.Tree.tells c.loop-paths.paths (Some (error_outcome (cause_of e) e)) c.next.new.self =
-    subst (λ r. Goes g.T.Tree.asks g.T.Tree.tells c.loop-paths.paths (option_map outcome r) c.next.new.self) (c.in-Some.is ∙ ap Some c.in-Err.is) c.next.ensures.steps in
+    subst (λ r. Goes g.T.Tree.asks g.T.Tree.tells c.loop-paths.paths (option_map outcome r) c.next.new.self) (c.in-Some-Err.is ∙ ap Some c.in-Some-Err.field-0-is) c.next.ensures.steps in
     let (rest, t) = (Finds-error g.T.Tree.asks g.T.Tree.tells c.args.paths.now c.loop-paths.paths c.next.new.self (map path_buf_bytes c.loop-paths.found.items) c.loop-paths.invariant.1 e goes).begins c' told ms is in (paths (items rest), taken-all _ _ _ _ _ t)
 
 -- what is left as long as the walk is not over
@@ -82,9 +82,9 @@ returns-clause-taken g c = λ c' told ms is.
     record { done = t.done; rest = rest; whole = t.whole; given = t.given; units = t.units }
 
 -- and where the walk gave no more
-pub returns-in_default-clause-taken : goal.returns-in_default-clause-taken
-returns-in_default-clause-taken g c = λ c' told ms is.
-    let goes : Goes g.T.Tree.asks g.T.Tree.tells c.loop-paths.paths None c.next.new.self = subst (λ r. Goes g.T.Tree.asks g.T.Tree.tells c.loop-paths.paths (option_map outcome r) c.next.new.self) c.in_default.is c.next.ensures.steps in
+pub returns-in-None-clause-taken : goal.returns-in-None-clause-taken
+returns-in-None-clause-taken g c = λ c' told ms is.
+    let goes : Goes g.T.Tree.asks g.T.Tree.tells c.loop-paths.paths None c.next.new.self = subst (λ r. Goes g.T.Tree.asks g.T.Tree.tells c.loop-paths.paths (option_map outcome r) c.next.new.self) c.in-None.is c.next.ensures.steps in
     let (rest, t) = Finds-end g.T.Tree.asks g.T.Tree.tells c.args.paths.now c.loop-paths.paths c.next.new.self (map path_buf_bytes c.loop-paths.found.items) c.loop-paths.invariant.1 goes c' told ms is in
     record { done = t.done; rest = rest; whole = t.whole; given = t.given; units = t.units }
 
@@ -92,5 +92,5 @@ returns-in_default-clause-taken g c = λ c' told ms is.
 pub returns-clause-first : goal.returns-clause-first
 returns-clause-first g c = λ c' told ms is. let (rest, t) = c.loop-paths.invariant.1.begins c' told ms is in (paths (items rest), taken-all _ _ _ _ _ t)
 
-pub returns-in_default-clause-first : goal.returns-in_default-clause-first
-returns-in_default-clause-first g c = λ c' told ms is. let (rest, t) = c.loop-paths.invariant.1.begins c' told ms is in (paths (items rest), taken-all _ _ _ _ _ t)
+pub returns-in-None-clause-first : goal.returns-in-None-clause-first
+returns-in-None-clause-first g c = λ c' told ms is. let (rest, t) = c.loop-paths.invariant.1.begins c' told ms is in (paths (items rest), taken-all _ _ _ _ _ t)

@@ -1,6 +1,5 @@
 use Rattle.std.proofs.Common.{ap}
 use Rattle.std.proofs.lemmas.Result.{IfOk-at_ok}
-use Rattle.glob_set.proofs.MappedErrors.{IfOk-mapped}
 use Rattle.glob_examples.proofs.OneFile.{file_is_listed, listed, nothing_is_listed}
 use Rattle.glob_examples.proofs.one_file.OneFileTree.list.Goals as goal
 
@@ -17,4 +16,4 @@ returns-in-Missing-clause-fails c = λ content told.
 pub returns-clause-entries : goal.returns-clause-entries
 returns-clause-entries c = λ content told.
     file_is_listed c.args.self.now.name.now content told c.args.path.now c.look_below.result c.look_below.ensures c.in-Dir.is _
-    (IfOk-at_ok _ c.in_ok-entries.was (IfOk-mapped c.entries.result c.map_err.result _ _ c.map_err.ensures.cases c.entries.ensures))
+    (IfOk-at_ok _ c.in_ok-entries.was c.entries.ensures)
