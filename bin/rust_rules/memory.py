@@ -4,7 +4,7 @@ import re
 from .scan import closing, first_at_depth_0, mask, opening, owner, signature, stop
 
 # What allocates in std: Rattle's returns a `Result`.
-ALLOCATES = set("clone extend extend_from_slice from_slice from_str push push_str vec! with_capacity".split())
+ALLOCATES = set("append clone extend extend_from_slice from_slice from_str push push_str vec! with_capacity".split())
 
 
 def without_allocators(text):

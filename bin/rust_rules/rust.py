@@ -56,6 +56,8 @@ def without_unused(text, gone, traits):
         seen.update((front, name) for name in kept)
         if not kept or front.split("::")[0] in gone:
             return ""
+        if kept == ["self"]:
+            return f"{public}use {front[:-2]};\n"
         return f"{public}use {front}{{{', '.join(kept)}}};\n"
 
     for names in (r"\{([^{}]*)\}", r"(\w+|\*)"):

@@ -1,7 +1,0 @@
-use Rattle.std.proofs.lemmas.Result.{err_from_is_err_and}
-use Rattle.glob_files.proofs.command.Search.with_patterns.Goals as goal
-
-pub returns-in_err-patterns-clause-wrong : goal.returns-in_err-patterns-clause-wrong
-returns-in_err-patterns-clause-wrong g c =
-    let failed = err_from_is_err_and c.from_residual.result c.from_residual.ensures.1 in
-    rw (failed.1, failed.2) (c.in_err-patterns.ensures.wrong c.args.options)

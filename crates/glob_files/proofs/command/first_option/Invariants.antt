@@ -1,8 +1,0 @@
--- The first option of the other words is that of all words.
-use Rattle.std.proofs.Common.{◌≡◌, drop, map}
-use Rattle.glob_files.specs.CommandLine.{first_option}
-use Rattle.glob_files.proofs.command.first_option.Given as goal
-
-abbrev pub invariant-loop-word : goal.invariant-loop-word
-invariant-loop-word l =
-    first_option (map (λ w. w.now) (drop l.word-index l.words)) ≡ first_option (map (λ w. w.now) l.words)

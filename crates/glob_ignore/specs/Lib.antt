@@ -1,4 +1,0 @@
-pub mod CommandLine
-pub mod Outcomes
-pub mod Paths
-pub mod Requests

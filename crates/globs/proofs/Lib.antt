@@ -1,0 +1,10 @@
+pub mod BelowLemmas
+pub mod CopyLemmas
+pub mod EscapeLemmas
+pub mod FilterLemmas
+pub mod FindingLemmas
+pub mod OrderLemmas
+pub mod RequestLemmas
+pub mod SourceLemmas
+pub mod StarLemmas
+pub mod WalkLemmas

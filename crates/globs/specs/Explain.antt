@@ -1,0 +1,3 @@
+pub mod Hints
+pub mod Outcomes
+pub mod Questions

@@ -1,0 +1,19 @@
+-- What an explanation comes to: its status, and what is written.
+use Rattle.std.specs.Prelude.{◌≡◌, ◌++◌, ℕ, List, Option, chars}
+use Rattle.std.specs.Io.KnownBytes.{Appends}
+use Rattle.glob_pattern.specs.Matching.Texts.{Matches}
+use Rattle.glob_pattern.specs.declared.options.MatchOptions.{MatchOptions}
+use Rattle.globs.specs.Explain.Hints.{AreHints}
+
+-- The lines of a text that the pattern does not match: where it stops, which single change gives a match, and what to
+-- write instead of a form of another tool.
+unfoldable pub AreStopLines : MatchOptions → (pattern text lines : List ℕ) → Type 0
+AreStopLines options pattern text lines =
+    (stop hints advice : List ℕ) × AreHints options pattern text hints × (lines ≡ stop ++ (hints ++ advice))
+
+-- Status 0: the pattern matches the text. Status 1: it does not, and the lines that say why were written.
+unfoldable pub Explains : MatchOptions → (pattern text : List ℕ) → (old new : Option (List ℕ)) → (status : ℕ) → Type 0
+Explains options pattern text old new status =
+    (status ≡ 0 → Matches options (chars pattern) (chars text))
+    × (status ≡ 1 → (¬ (Matches options (chars pattern) (chars text)))
+    × (lines : List ℕ) × AreStopLines options pattern text lines × Appends old new lines)

@@ -1,0 +1,73 @@
+-- By which pattern a tree is walked, so that the walk finds all that some patterns match.
+use Rattle.std.specs.Prelude.{Bool, true, false, ◌&&◌, ◌||◌, not, if◌then◌else◌, List, [], ◌∷◌, ◌++◌, bytes_eq, codes, is_some, ⊤}
+use Rattle.std.specs.List.{list_any}
+use Rattle.std.specs.Str.{IsUtf8}
+use Rattle.std.specs.Path.{cur_dir, parent_dir}
+use Rattle.glob_text.specs.Text.{Text}
+use Rattle.glob_text.specs.Pieces.{is_empty, pieces}
+use Rattle.glob_pattern.specs.declared.options.MatchOptions.{MatchOptions}
+use Rattle.glob_tree.specs.Content.{Content}
+use Rattle.glob_walk.specs.Goal.{is_plain}
+use Rattle.glob_walk.specs.Listing.{listing}
+use Rattle.glob_walk.specs.Marks.{Mark}
+use Rattle.globs.specs.Find.Order.{Before, is_within, last_place}
+
+-- a component that is empty, `.` or `..`
+abbrev pub is_no_name : (component : Text) → Bool
+is_no_name c = is_empty c || (bytes_eq c cur_dir || bytes_eq c parent_dir)
+
+-- no component is such a one: the pattern leads to names below the current directory
+unfoldable pub is_below : (pattern : Text) → Bool
+is_below pattern = not (list_any is_no_name (pieces pattern))
+
+-- each of the patterns leads below the current directory
+abbrev pub are_below : (patterns : List Text) → Bool
+are_below [] = true
+are_below (p ∷ ps) = is_below p && are_below ps
+
+-- a single pattern is text
+abbrev pub IsOneText : (patterns : List Text) → Type 0
+IsOneText [] = ⊤
+IsOneText (p ∷ []) = IsUtf8 p
+IsOneText (p ∷ q ∷ ps) = ⊤
+
+-- how everything is walked: without the dot rule
+abbrev pub everything_options : MatchOptions
+everything_options = record {
+  case_sensitive = true;
+  require_literal_separator = true;
+  require_literal_leading_dot = false;
+}
+
+-- a walk by the pattern gives each path once and in order
+abbrev pub keeps_order : (pattern : Text) → Bool
+keeps_order pattern = is_some (last_place Before (pieces pattern))
+
+-- such a pattern ends in `**`
+abbrev pub ends_in_stars : (pattern : Text) → Bool
+ends_in_stars pattern = is_within (last_place Before (pieces pattern))
+
+-- the pattern itself, or what it names in each directory where it ends in `**`, whose walk finds directories alone
+abbrev pub one_text : (pattern : Text) → Text
+one_text pattern = if ends_in_stars pattern then pattern ++ codes "/*" else pattern
+
+-- the pattern is that of the walk: it gives exactly what it matches under the options, each path once and in order
+unfoldable pub is_single : MatchOptions → (pattern : Text) → Bool
+is_single o pattern =
+    o.case_sensitive && (o.require_literal_separator && (keeps_order pattern && (is_plain pattern && is_plain (one_text pattern))))
+
+-- the pattern of the walk for some patterns
+abbrev pub walk_text : MatchOptions → (patterns : List Text) → Text
+walk_text o [] = codes "**/*"
+walk_text o (p ∷ []) = if is_single o p then one_text p else codes "**/*"
+walk_text o (p ∷ q ∷ ps) = codes "**/*"
+
+-- the options of that walk
+abbrev pub walk_options : MatchOptions → (patterns : List Text) → MatchOptions
+walk_options o [] = everything_options
+walk_options o (p ∷ []) = if is_single o p then o else everything_options
+walk_options o (p ∷ q ∷ ps) = everything_options
+
+-- what the walk for the patterns gives of a content
+abbrev pub walk_listing : Content → MatchOptions → (patterns : List Text) → List Mark
+walk_listing c o patterns = listing c (walk_options o patterns) (walk_text o patterns)

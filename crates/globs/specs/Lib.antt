@@ -1,0 +1,13 @@
+pub mod Chosen
+pub mod CommandLine
+pub mod Copying
+pub mod Escaping
+pub mod Explain
+pub mod Find
+pub mod Ignoring
+pub mod Matching
+pub mod Options
+pub mod Patterns
+pub mod Reading
+pub mod Requests
+pub mod Unignored

@@ -1,0 +1,27 @@
+-- The patterns of a command line.
+use Rattle.std.specs.Prelude.{◌≡◌, Bool, false, List, Contains, ⊤}
+use Rattle.std.specs.List.{list_any}
+use Rattle.std.specs.Str.{chars}
+use Rattle.glob_text.specs.Text.{Text}
+use Rattle.glob_pattern.specs.Computing.Deciding.{is_match}
+use Rattle.glob_pattern.specs.Grammar.Faults.{IsFault}
+use Rattle.glob_pattern.specs.declared.options.MatchOptions.{MatchOptions}
+use Rattle.glob_set.specs.Sets.{Set}
+use Rattle.globs.specs.Find.Planning.{is_below}
+use Rattle.globs.specs.declared.patterns.PatternFault.{PatternFault}
+use Rattle.globs.specs.declared.patterns.PatternFault.TheVariants.{Astray, Syntax, Memory}
+
+-- the patterns, under these options
+abbrev pub set_of : MatchOptions → (patterns : List Text) → Set
+set_of o patterns = record { patterns = patterns; options = o }
+
+-- one of the patterns matches the text
+unfoldable pub is_any_match : Set → (text : Text) → Bool
+is_any_match set text = list_any (λ pattern. is_match set.options (chars pattern) (chars text)) set.patterns
+
+-- one of the texts does not lead below the current directory, or has this fault; or memory was missing
+abbrev pub IsPatternFault : (texts : List Text) → PatternFault → Type 0
+IsPatternFault texts (Astray pattern) = Contains texts pattern.now × (is_below pattern.now ≡ false)
+IsPatternFault texts (Syntax pattern e) =
+    Contains texts pattern.now × IsFault (chars pattern.now) (record { place = e.pos; message = e.msg.now })
+IsPatternFault texts Memory = ⊤

@@ -1,0 +1,41 @@
+-- What the parser of a command line returns.
+use Rattle.std.specs.Prelude.{◌≡◌, None, Some, map, ⊤}
+use Rattle.glob_text.specs.Text.{Text}
+use Rattle.globs.specs.Chosen.{Chosen}
+use Rattle.globs.specs.Options.{value_fault, value_taken}
+use Rattle.globs.specs.Reading.{Reading, Asks, Wrong, Request, Runs, Explains, Helps, VersionLine, Refused}
+use Rattle.globs.specs.declared.command.Asked.{Asked}
+use Rattle.globs.specs.declared.command.Command.{Command}
+use Rattle.globs.specs.declared.command.Command.TheVariants as command
+use Rattle.globs.specs.declared.options.Opt.{Opt}
+use Rattle.globs.specs.declared.usage.UsageFault.{UsageFault}
+use Rattle.globs.specs.declared.usage.UsageFault.TheVariants.{Word, Memory}
+use Rattle.globs.specs.declared.usage.UsageLine.{UsageLine}
+
+abbrev pub asked_reading : {A : Type 0} → Asked A → Reading
+asked_reading asked = Asks asked.options (map (λ w. w.now) asked.operands.now)
+
+-- what a command asks for
+abbrev pub request_of : {A : Type 0} → Command A → Request
+request_of (command.Run name asked) = Runs name asked.options (map (λ w. w.now) asked.operands.now)
+request_of (command.Explain words) = Explains (map (λ w. w.now) words.now)
+request_of (command.Help name) = Helps name
+request_of command.Version = VersionLine
+
+-- the words of a command say that this word is wrong, or memory was missing
+abbrev pub IsWrong : Reading → UsageFault → Type 0
+IsWrong reading (Word w word) = reading ≡ Wrong w word.now
+IsWrong reading Memory = ⊤
+
+-- the words of the program say that this word is wrong, of this command, or memory was missing
+abbrev pub IsWrongRequest : Request → UsageLine → Type 0
+IsWrongRequest request line = elim line.fault [
+  | Word w word ↦ request ≡ Refused line.name w word.now
+  | Memory ↦ ⊤
+]
+
+-- the word is no value of the option, or memory was missing
+abbrev pub IsValueFault : Opt → (word : Text) → Chosen → UsageFault → Type 0
+IsValueFault option text o (Word w word) =
+    (value_taken option text o ≡ None) × (w ≡ value_fault option) × (word.now ≡ text)
+IsValueFault option text o Memory = ⊤

@@ -1,0 +1,182 @@
+//! What the words of a command line ask for.
+ghost use Rattle.std.specs.Prelude.{◌≡◌, IfOk, IfErr, map, option_map, Option, None};
+ghost use Rattle.globs.specs.Options.{new_options};
+ghost use Rattle.globs.specs.CommandLine.{asks_help, command_asked, first_option, help_asked, operands_asked, reading, request_asked};
+ghost use Rattle.globs.specs.Chosen.{Chosen};
+ghost use Rattle.globs.specs.Reading.{Asks};
+ghost use Rattle.globs.specs.Requests.{IsWrong, IsWrongRequest, asked_reading, request_of};
+
+use crate::name::Name;
+use crate::options::{Opt, Options};
+use crate::usage::{UsageFault, UsageLine, Why};
+use std::alloc::Allocator;
+
+/// What a list of words asks of the program.
+#[derive(Drop)]
+pub enum Command<'a, A: Allocator> {
+    /// Run the command of this name.
+    Run(Name, Asked<'a, A>),
+    /// Explain, by the words after the command.
+    Explain(&'a [&'a str]),
+    /// Write the page of a command, or that of all.
+    Help(Option<Name>),
+    /// Write the version.
+    Version,
+}
+
+/// The options of a command, and its operands: at least one.
+#[derive(Drop)]
+pub struct Asked<'a, A: Allocator> {
+    pub options: Options<'a, A>,
+    pub operands: &'a [&'a str],
+}
+
+impl<'a, A: Allocator + Copy> Command<'a, A> {
+    /// Reads the words after the program's name. The error says which word is wrong, and of which command.
+    #[tactic(auto, unfolding(crate::specs::CommandLine::request_asked))]
+    pub fn parse(alloc: A, words: &'a [&'a str]) -> Result<Self, UsageLine<'a>>
+        ensures asked { IfOk result (λ command.
+            request_asked (map (λ w. w.now) words.now) ≡ request_of command) }
+        ensures wrong { IfErr result (IsWrongRequest (request_asked (map (λ w. w.now) words.now))) }
+    {
+        match words {
+            [] => Err(UsageLine::new(None, Why::Empty, "")),
+            [word, rest @ ..] => match *word {
+                "--version" => Ok(Command::Version),
+                "-h" | "--help" => Ok(Command::Help(None)),
+                "help" => Self::parse_help(rest),
+                word => Self::parse_named(alloc, word, rest),
+            },
+        }
+    }
+
+    /// Reads the words after `help`.
+    fn parse_help(words: &'a [&'a str]) -> Result<Self, UsageLine<'a>>
+        ensures asked { IfOk result (λ command.
+            help_asked (map (λ w. w.now) words.now) ≡ request_of command) }
+        ensures wrong { IfErr result (IsWrongRequest (help_asked (map (λ w. w.now) words.now))) }
+    {
+        match words {
+            [] => Ok(Command::Help(None)),
+            [word, ..] => match Name::named(word) {
+                Some(name) => Ok(Command::Help(Some(name))),
+                None => Err(UsageLine::new(None, Why::Command, word)),
+            },
+        }
+    }
+
+    /// Reads the words after that of a command.
+    #[tactic(auto, unfolding(crate::specs::CommandLine::command_asked))]
+    fn parse_named(alloc: A, word: &'a str, words: &'a [&'a str]) -> Result<Self, UsageLine<'a>>
+        ensures asked { IfOk result (λ command.
+            command_asked word.now (map (λ w. w.now) words.now) ≡ request_of command) }
+        ensures wrong { IfErr result
+            (IsWrongRequest (command_asked word.now (map (λ w. w.now) words.now))) }
+    {
+        let Some(name) = Name::named(word) else {
+            return Err(UsageLine::new(None, Why::Command, word));
+        };
+        if asks_help(words) {
+            return Ok(Command::Help(Some(name)));
+        }
+        if name.is_explain() {
+            return Ok(Command::Explain(words));
+        }
+        match Asked::parse(alloc, name, words) {
+            Ok(asked) => Ok(Command::Run(name, asked)),
+            Err(fault) => Err(UsageLine {
+                name: Some(name),
+                fault,
+            }),
+        }
+    }
+}
+
+/// Whether the first of the words asks for a page.
+fn asks_help(words: &[&str]) -> bool
+    ensures { result ≡ asks_help (map (λ w. w.now) words.now) }
+{
+    match words {
+        [] => false,
+        [word, ..] => *word == "-h" || *word == "--help",
+    }
+}
+
+impl<'a, A: Allocator + Copy> Asked<'a, A> {
+    /// Reads the options of a command, and the operands behind them.
+    pub fn parse(alloc: A, name: Name, words: &'a [&'a str]) -> Result<Self, UsageFault<'a>>
+        ensures asked { IfOk result (λ asked.
+            reading name None (new_options name) (map (λ w. w.now) words.now)
+            ≡ asked_reading asked) }
+        ensures wrong { IfErr result
+            (IsWrong (reading name None (new_options name) (map (λ w. w.now) words.now))) }
+    {
+        let mut options = Options::new(alloc, name);
+        let mut awaiting: Option<Opt> = None;
+        let mut rest = words;
+        while let [word, after @ ..] = rest {
+            if let Some(option) = awaiting {
+                options.take(option, word)?;
+                awaiting = None;
+            } else {
+                match Opt::asked(name, word) {
+                    Some(option) => {
+                        options.set(option);
+                        awaiting = option.awaiting();
+                    }
+                    None => return Self::with_operands(options, rest),
+                }
+            }
+            rest = after;
+        }
+        match awaiting {
+            Some(option) => Err(UsageFault::Word(Why::Valueless, option.word())),
+            None => Err(UsageFault::Word(Why::Bare, "")),
+        }
+    }
+
+    /// What is asked by these options and by the operands behind them.
+    fn with_operands(options: Options<'a, A>, words: &'a [&'a str]) -> Result<Self, UsageFault<'a>>
+        ensures asked { IfOk result (λ asked.
+            operands_asked options.entry (map (λ w. w.now) words.now) ≡ asked_reading asked) }
+        ensures wrong { IfErr result
+            (IsWrong (operands_asked options.entry (map (λ w. w.now) words.now))) }
+    {
+        let operands = operands_of(words)?;
+        Ok(Asked { options, operands })
+    }
+}
+
+/// The operands behind the options. Those that begin with `-` are behind `--`.
+fn operands_of<'a>(words: &'a [&'a str]) -> Result<&'a [&'a str], UsageFault<'a>>
+    ensures operands { IfOk result (λ operands. (o : Chosen)
+        → operands_asked o (map (λ w. w.now) words.now)
+        ≡ Asks o (map (λ w. w.now) operands.now)) }
+    ensures wrong { IfErr result (λ fault. (o : Chosen)
+        → IsWrong (operands_asked o (map (λ w. w.now) words.now)) fault) }
+{
+    match words {
+        [] => Err(UsageFault::Word(Why::Bare, "")),
+        [dashes, operands @ ..] if *dashes == "--" => match operands {
+            [] => Err(UsageFault::Word(Why::Bare, "")),
+            [_, ..] => Ok(operands),
+        },
+        [word, ..] if word.starts_with('-') => Err(UsageFault::Word(Why::Unknown, word)),
+        [_, others @ ..] => match first_option(others) {
+            Some(word) => Err(UsageFault::Word(Why::Late, word)),
+            None => Ok(words),
+        },
+    }
+}
+
+/// The first of the words that begins with `-`.
+fn first_option<'a>(words: &[&'a str]) -> Option<&'a str>
+    ensures { option_map (λ w. w.now) result ≡ first_option (map (λ w. w.now) words.now) }
+{
+    for word in words {
+        if word.starts_with('-') {
+            return Some(*word);
+        }
+    }
+    None
+}

@@ -1,0 +1,41 @@
+//! `globs escape`: the patterns that match texts alone.
+ghost use Rattle.std.specs.Prelude.{◌≡◌, ◌≤◌, IfOk, map, string_bytes};
+ghost use Rattle.globs.specs.Escaping.{AreEscaped, WritesEscaped, IsEscapedLine};
+
+use crate::writing::write;
+use glob_console::ErrorLines;
+use glob_pattern::Pattern;
+use std::alloc::{AllocError, Allocator};
+use std::io::Write;
+
+/// Writes a line for each of the texts: the pattern that matches that text alone. It returns the status.
+///
+/// The texts `*.rs` and `a` are written as `"[*].rs\na\n"`.
+pub fn run_escape<A: Allocator + Copy, W: Write, E: Write>(
+    alloc: A,
+    texts: &[&str],
+    output: &mut W,
+    errors: &mut ErrorLines<'_, A, E>,
+) -> u8
+    ensures most { result ≤ 2 }
+    ensures escaped { WritesEscaped (map (λ t. t.now) texts.now)
+        (W.contents output.old) (W.contents output.new) result }
+{
+    match escaped_lines(alloc, texts) {
+        Ok(lines) => write(lines.as_str(), output, errors),
+        Err(_) => errors.fault("out of memory"),
+    }
+}
+
+/// The lines of the escaped texts.
+fn escaped_lines<A: Allocator + Copy>(alloc: A, texts: &[&str]) -> Result<String<A>, AllocError>
+    ensures { IfOk result (λ lines. AreEscaped (map (λ t. t.now) texts.now) (string_bytes lines)) }
+{
+    let mut lines = String::new(alloc);
+    for text in texts {
+        let pattern = Pattern::escape(alloc, text)?;
+        lines.push_str(pattern.as_str())?;
+        lines.push('\n')?;
+    }
+    Ok(lines)
+}

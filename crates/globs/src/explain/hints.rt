@@ -1,0 +1,177 @@
+//! Which single change gives a match. Each line that says so was asked.
+ghost use Rattle.std.specs.Prelude.{◌≡◌, ◌↔◌, ◌++◌, ◌≢◌, ◌∷◌, IfOk, IsTrue, List, ℕ, MatchOption, codes, string_bytes};
+ghost use Rattle.globs.specs.Explain.Hints.{AreHints, GivesMatch, words_of};
+ghost use Rattle.globs.specs.declared.explain.hints.Change.TheVariants.{LowerCase};
+
+use crate::explain::instead::is_match;
+use glob_pattern::MatchOptions;
+use std::alloc::{AllocError, Allocator};
+
+/// A change of one option, or of the pattern or the text.
+#[derive(Clone, Copy)]
+pub enum Change {
+    /// ASCII letters in either case are the same.
+    EitherCase,
+    /// Wildcards and brackets take a `/`.
+    AnySeparator,
+    /// They take a leading `.`.
+    AnyDot,
+    /// The pattern lacks the `./` that it begins with.
+    PatternHere,
+    /// The text lacks the `./` that it begins with.
+    TextHere,
+    /// The pattern lacks the `/**` that it ends in.
+    NotBelow,
+    /// The pattern lacks the white space that it ends in.
+    PatternEnd,
+    /// The text lacks the white space that it ends in.
+    TextEnd,
+    /// Under `-i` both are in lower case, beyond ASCII, too.
+    LowerCase,
+}
+
+/// All changes, in the order of their lines.
+const CHANGES: [Change; 9] = [
+    Change::EitherCase,
+    Change::AnySeparator,
+    Change::AnyDot,
+    Change::PatternHere,
+    Change::TextHere,
+    Change::NotBelow,
+    Change::PatternEnd,
+    Change::TextEnd,
+    Change::LowerCase,
+];
+
+/// A line for each change that gives a match where there is none. So `it matches with -i` is there exactly if `-i`
+/// gives one. The error is an allocation failure.
+///
+/// For `*.RS` and `a.rs` it is that line, and for `./a` and `a` it is `it matches without ./ before the pattern`.
+pub fn hint_lines<A: Allocator + Copy>(
+    alloc: A,
+    pattern: &str,
+    text: &str,
+    options: MatchOptions,
+) -> Result<String<A>, AllocError>
+    ensures { IfOk result (λ lines.
+        AreHints options pattern.now text.now (string_bytes lines)) }
+{
+    let mut lines = String::new(alloc);
+    for change in &CHANGES {
+        if change.gives_match(alloc, pattern, text, options)? {
+            lines.push_str(change.words())?;
+            lines.push('\n')?;
+        }
+    }
+    Ok(lines)
+}
+
+impl Change {
+    /// What the line says, without its end.
+    fn words(self) -> &'static str
+        ensures { result.now ≡ words_of self }
+    {
+        match self {
+            Change::EitherCase => "it matches with -i",
+            Change::AnySeparator => "it matches without -s",
+            Change::AnyDot => "it matches without -d",
+            Change::PatternHere => "it matches without ./ before the pattern",
+            Change::TextHere => "it matches without ./ before the text",
+            Change::NotBelow => "it matches without /**, which takes only what is below",
+            Change::PatternEnd => "it matches without white space at the end of the pattern",
+            Change::TextEnd => "it matches without white space at the end of the text",
+            Change::LowerCase => "it matches in lower case, but -i is of ASCII letters alone",
+        }
+    }
+
+    /// Whether the pattern matches the text after the change.
+    fn gives_match<A: Allocator + Copy>(
+        self,
+        alloc: A,
+        pattern: &str,
+        text: &str,
+        options: MatchOptions,
+    ) -> Result<bool, AllocError>
+        ensures { IfOk result
+            (λ yes. IsTrue yes ↔ GivesMatch self options pattern.now text.now) }
+    {
+        match self {
+            Change::EitherCase => is_match(
+                alloc,
+                pattern,
+                text,
+                MatchOptions {
+                    case_sensitive: false,
+                    ..options
+                },
+            ),
+            Change::AnySeparator => is_match(
+                alloc,
+                pattern,
+                text,
+                MatchOptions {
+                    require_literal_separator: false,
+                    ..options
+                },
+            ),
+            Change::AnyDot => is_match(
+                alloc,
+                pattern,
+                text,
+                MatchOptions {
+                    require_literal_leading_dot: false,
+                    ..options
+                },
+            ),
+            Change::PatternHere => match without_here(pattern) {
+                Some(rest) => is_match(alloc, rest, text, options),
+                None => Ok(false),
+            },
+            Change::TextHere => match without_here(text) {
+                Some(rest) => is_match(alloc, pattern, rest, options),
+                None => Ok(false),
+            },
+            Change::NotBelow => match without_below(pattern) {
+                Some(above) => is_match(alloc, above, text, options),
+                None => Ok(false),
+            },
+            Change::PatternEnd => is_match(alloc, pattern.trim_end(), text, options),
+            Change::TextEnd => is_match(alloc, pattern, text.trim_end(), options),
+            Change::LowerCase => is_lower_match(alloc, pattern, text, options),
+        }
+    }
+}
+
+/// Whether, under `-i`, the pattern in lower case matches the text in lower case.
+fn is_lower_match<A: Allocator + Copy>(
+    alloc: A,
+    pattern: &str,
+    text: &str,
+    options: MatchOptions,
+) -> Result<bool, AllocError>
+    ensures { IfOk result
+        (λ yes. IsTrue yes ↔ GivesMatch LowerCase options pattern.now text.now) }
+{
+    if options.case_sensitive {
+        return Ok(false);
+    }
+    let lower_pattern = pattern.to_lowercase(alloc)?;
+    let lower_text = text.to_lowercase(alloc)?;
+    is_match(alloc, lower_pattern.as_str(), lower_text.as_str(), options)
+}
+
+/// What follows the `./` that a text begins with.
+fn without_here(text: &str) -> Option<&str>
+    ensures { MatchOption result
+        ((rest : List ℕ) → text.now ≢ 46 ∷ 47 ∷ rest) (λ rest. text.now ≡ 46 ∷ 47 ∷ rest.now) }
+{
+    text.strip_prefix('.')?.strip_prefix('/')
+}
+
+/// What is before the `/**` that a text ends in.
+fn without_below(text: &str) -> Option<&str>
+    ensures { MatchOption result ((above : List ℕ) → text.now ≢ above ++ codes "/**")
+        (λ above. text.now ≡ above.now ++ codes "/**") }
+{
+    text.strip_suffix('*')?.strip_suffix('*')?.strip_suffix('/')
+}

@@ -1,0 +1,85 @@
+//! The lines of names that are not UTF-8, and of paths that could not be looked up.
+ghost use Rattle.std.specs.Prelude.{◌≡◌};
+ghost use Rattle.globs.specs.Find.Strays.{is_shown};
+
+use crate::PREFIX;
+use crate::visible::Visible;
+use glob_console::ErrorLines;
+use glob_prune::Strays;
+use std::alloc::Allocator;
+use std::cell::Cell;
+use std::fmt::{self, Display};
+use std::io::{self, Write};
+
+/// Writes a line for each name that is not UTF-8 and each path that could not be looked up, and notes that there was one.
+#[derive(Drop)]
+pub struct StrayLines<'a, A: Allocator, E> {
+    pub alloc: A,
+    pub errors: &'a mut E,
+    pub has_any: &'a Cell<bool>,
+}
+
+impl<A: Allocator + Copy, E: Write> Strays for StrayLines<'_, A, E> {
+    fn stray(&mut self, directory: &str, name: &[u8]) {
+        self.has_any.set(true);
+        let line = StrayLine { directory, name };
+        ErrorLines::new(self.alloc, PREFIX, self.errors).write(&line);
+    }
+
+    fn unsettled(&mut self, path: &str, error: &io::Error) {
+        self.has_any.set(true);
+        let line = UnsettledLine { path, error };
+        ErrorLines::new(self.alloc, PREFIX, self.errors).write(&line);
+    }
+}
+
+/// The line of a path, with the reason why it could not be looked up.
+#[derive(Clone, Copy)]
+struct UnsettledLine<'a> {
+    path: &'a str,
+    error: &'a io::Error,
+}
+
+impl Display for UnsettledLine<'_> {
+    fn fmt<W: fmt::Write>(&self, f: &mut fmt::Formatter<W>) -> fmt::Result {
+        let path = Visible { text: self.path };
+        write!(f, "{path}: {}", self.error)
+    }
+}
+
+/// The line of a name. Bytes that are no printable ASCII are written as `\xff`, so that no escape reaches a
+/// terminal.
+#[derive(Clone, Copy)]
+struct StrayLine<'a> {
+    directory: &'a str,
+    name: &'a [u8],
+}
+
+impl Display for StrayLine<'_> {
+    fn fmt<W: fmt::Write>(&self, f: &mut fmt::Formatter<W>) -> fmt::Result {
+        let directory = Visible {
+            text: self.directory,
+        };
+        write!(f, "a name in `{directory}` is not UTF-8: ")?;
+        for byte in self.name {
+            write_byte(f, *byte)?;
+        }
+        Ok(())
+    }
+}
+
+/// Writes a byte of a name.
+fn write_byte<W: fmt::Write>(f: &mut fmt::Formatter<W>, byte: u8) -> fmt::Result {
+    if is_shown(byte) {
+        f.write_char(char::from(byte))
+    } else {
+        write!(f, "\\x{byte:02x}")
+    }
+}
+
+/// Whether a byte of a name is written as it is: printable ASCII, but no space and no backslash.
+fn is_shown(byte: u8) -> bool
+    ensures { result ≡ is_shown byte }
+{
+    b'!' <= byte && byte <= b'~' && byte != b'\\'
+}

@@ -1,0 +1,181 @@
+//! What `--help`, `help` and `--version` write.
+use crate::name::Name;
+
+/// The version, as the changelog has it at its top.
+pub const VERSION: &str = "globs 0.3.0\n";
+
+/// The page of a command, or that of all.
+pub fn page_of(name: Option<Name>) -> &'static str {
+    match name {
+        None => HELP,
+        Some(Name::Find) => FIND,
+        Some(Name::Match) => MATCH,
+        Some(Name::Ignore) => IGNORE,
+        Some(Name::Explain) => EXPLAIN,
+        Some(Name::Escape) => ESCAPE,
+    }
+}
+
+/// The page of all commands.
+const HELP: &str = "\
+globs: shell patterns, ignore lists and directory walks
+
+  globs find [OPTION].. PATTERN..    write the paths below the current directory that match
+  globs match [OPTION].. PATTERN..   copy the lines of standard input that match
+  globs ignore [OPTION].. FILE..     copy the paths of standard input that rules do not ignore
+  globs explain [OPTION].. PATTERN TEXT
+                                     show why a pattern matches a text, or does not
+  globs escape TEXT..                write the patterns that match these texts alone
+  globs help [COMMAND]               write this page, or that of a command
+  globs --version                    write the version
+
+Quote a pattern: globs find '**/*.rs'. A shell would expand it otherwise.
+
+Patterns:
+  ?         any one character
+  *         any characters, also none. In find no ?, * or bracket takes a /; elsewhere -s says so
+  **        any number of whole components: **, **/a, a/** and a/**/b
+  [abc]     a, b or c; [a-c] one from a to c; [!a-c] one that is not
+  [*]       a * alone. So are the others written: [?], [[], []], [{] and [}]
+  a.{c,h}   a.c and a.h, for find and match. Alternatives may be empty, or have braces of their own
+
+Options stand before the patterns, files or texts, each a word of its own: -t f, not -tf, and
+--max-depth 2, not --max-depth=2. -- ends them: what is after it may begin with -.
+
+Status:
+  0         something was written
+  1         nothing was found, copied or matched
+  2         a fault: lines on standard error, none where the reader of the output goes away
+";
+
+/// The page of `find`.
+const FIND: &str = "\
+globs find: the paths below the current directory that patterns match and no rule ignores
+
+  globs find [OPTION].. PATTERN..
+
+  -0             each path ends in a NUL in place of a line feed
+  -i             ASCII letters in either case are the same
+  -d             neither wildcards nor brackets take a . at the start of a name
+  -L             a symbolic link to a directory is one, and is entered. One that leads back up is
+                 reported, and is not
+  -n LIMIT       the walk spends at most LIMIT units: one for each lookup, listing and entry
+  -t KIND        write only directories: -t d; or all but these, symbolic links too: -t f
+  -x RULE        ignore what RULE names, as a line of an ignore file: -x target -x '*.o' -x '!a.o'
+  --ignore FILE  ignore what the rules of FILE name, as gitignore(5) has them, which are taken from
+                 the current directory: --ignore .gitignore. Each -x comes after all files
+  --max-depth N  pass over paths of more than N names
+  --             ends the options. A pattern that begins with - needs it
+
+A pattern matches a whole path, as src/main.rs, where no ?, * or bracket takes a /: '*.rs' is of
+names here, and '**/*.rs' also of those below. One that begins or ends with /, or has an empty
+component, . or .., is refused. globs help shows what a pattern has.
+
+Nothing is passed over by itself: neither names that begin with a . (see -d), nor what .gitignore
+names (--ignore .gitignore), nor .git (-x .git).
+
+Each path that one of the patterns matches is written once, in ascending byte order of its names.
+What is ignored is never listed, nor what is below it. Without -i one pattern without braces usually
+enters only directories that it can reach.
+
+Status:
+  0         a path was written
+  1         no path was found
+  2         a fault, a directory that could not be listed, a path that could not be looked up, a
+            name that is not UTF-8, a link that leads back up, or the limit
+";
+
+/// The page of `match`.
+const MATCH: &str = "\
+globs match: the lines of standard input that patterns match
+
+  globs match [OPTION].. PATTERN..
+
+  -0  records end in a NUL in place of a line feed, those read and those written
+  -i  ASCII letters in either case are the same
+  -s  ?, * and brackets take no /
+  -d  neither wildcards nor brackets take a . at the start of a component
+  -v  copy the lines that none of the patterns matches
+  --  ends the options. A pattern that begins with - needs it
+
+A line is copied if one of the patterns matches all of it, as it comes: before more input is read.
+A line ends before a line feed, which the last may lack; a carriage return belongs to its line. No
+pattern matches a line that is not UTF-8. Files are not opened: globs match '*.rs' <FILE.
+
+Status:
+  0         a line was copied
+  1         no line was copied
+  2         a fault
+";
+
+/// The page of `ignore`.
+const IGNORE: &str = "\
+globs ignore: the paths of standard input that ignore files do not ignore
+
+  globs ignore [OPTION].. FILE..
+
+  -0  records end in a NUL in place of a line feed, those read and those written: for names with
+      line feeds, as of git ls-files -z, and for xargs -0
+  --  ends the options. A FILE that begins with - needs it
+
+FILE has rules as gitignore(5) has them, one a line, for the paths below one directory. Where rules
+of several files speak of a path, the last of them decides. A wildcard takes a character where git
+takes a byte, case counts, and a line with an unknown class, as [[:word:]], is refused.
+
+Paths: a path is the names from that directory on, with a / between them, as git ls-files -z writes
+them. One that ends in / is that of a directory. A ./ at its start is passed over; . and the empty
+path are copied. Other paths are asked as they are written: by the rule a/b, a//b is not ignored. A
+path that is not UTF-8 is not copied. The disk is not looked at, but for the files.
+
+Paths are written as they come, before more input is read. A line ends before a line feed, which the
+last may lack. A carriage return belongs to its line.
+
+Status:
+  0         a path was copied
+  1         no path was copied
+  2         a fault. A line of FILE that is refused is named by its number
+";
+
+/// The page of `explain`.
+const EXPLAIN: &str = "\
+globs explain: why a pattern matches a text, or does not
+
+  globs explain [OPTION].. PATTERN TEXT
+
+  -i  ASCII letters in either case are the same
+  -s  ?, * and brackets take no /, as in find
+  -d  neither wildcards nor brackets take a . at the start of a component
+  --  ends the options. A PATTERN or TEXT that begins with - needs it
+
+Of a match it writes a line for each wildcard, bracket and character of the pattern: that, a tab,
+and the piece of the text that it takes, as short as the later ones allow.
+
+Otherwise a caret is under the character of the text where it stops. The lines below say what is
+wanted there, which white space the text and the pattern end in, which forms of shells and other
+tools mean nothing here, which single change gives a match, as each was tried, and what to write
+instead of such a form. Braces are characters here: find and match expand them. A control character
+is written as \\r or \\u{1b}.
+
+Status:
+  0         the pattern matches the text
+  1         it does not match
+  2         a fault. That of a pattern that is refused is followed by the pattern, a caret under the
+            fault, and what to write instead
+";
+
+/// The page of `escape`.
+const ESCAPE: &str = "\
+globs escape: the patterns that match texts alone
+
+  globs escape TEXT..
+
+  --  ends the options, of which there are no others. A TEXT that begins with - needs it
+
+It writes a line for each TEXT: the pattern that matches this text and no other, under each option
+but -i. So *.rs is written as [*].rs. Braces stay as they are: where find and match would expand
+them, write [{] and [}].
+
+Status:
+  0         the lines were written
+  2         a fault
+";

@@ -1,0 +1,218 @@
+//! The ignore list of some files and some rules.
+ghost use Rattle.std.specs.Prelude.{◌≡◌, ◌++◌, List, IfOk, IfErr, IfSome, OnOk, map, string_bytes};
+ghost use Rattle.glob_lines.specs.Lines.{line_feed, with_ends};
+ghost use Rattle.glob_rules.specs.Lists.{AreTaken, RefusesText, rules_of};
+ghost use Rattle.glob_text.specs.Text.{Text};
+ghost use Rattle.globs.specs.Ignoring.{AreHeld, IsReadFault, IsUnmarked, texts_of};
+
+use crate::files::IgnoreFiles;
+use glob_rules::{IgnoreList, Reason, RuleRefusal};
+use std::alloc::{AllocError, AllocFailed, Allocator};
+use std::fmt::{self, Display};
+use std::io::{self, ErrorKind};
+
+/// Some rules, and where they come from: a file by its name, or `-x`.
+#[derive(Drop)]
+pub struct Source<'a, A: Allocator> {
+    name: &'a str,
+    text: String<A>,
+}
+
+/// Why there is no ignore list. It prints as a line of a fault, without the program's name.
+#[derive(Drop)]
+pub enum RulesFault<'a> {
+    /// The file is not UTF-8.
+    NoText(&'a str),
+    /// The file cannot be read, for this reason.
+    Unread(&'a str, io::Error),
+    /// The source of this name has a line that is refused, counted from 1.
+    Refused(&'a str, usize, Reason),
+    /// Out of memory: an allocation failed.
+    Memory,
+}
+
+impl<'a> RulesFault<'a> {
+    /// What an error of a read of the file means.
+    fn unread(file: &'a str, error: io::Error) -> Self
+        ensures { IsReadFault file.now error result }
+    {
+        match error.kind() {
+            ErrorKind::OutOfMemory => RulesFault::Memory,
+            ErrorKind::InvalidData => RulesFault::NoText(file),
+            _ => RulesFault::Unread(file, error),
+        }
+    }
+}
+
+impl From<AllocError> for RulesFault<'_> {
+    fn from(_error: AllocError) -> Self {
+        RulesFault::Memory
+    }
+}
+
+impl<T: Drop> From<AllocFailed<T>> for RulesFault<'_> {
+    fn from(_error: AllocFailed<T>) -> Self {
+        RulesFault::Memory
+    }
+}
+
+impl Display for RulesFault<'_> {
+    fn fmt<W: fmt::Write>(&self, f: &mut fmt::Formatter<W>) -> fmt::Result {
+        match self {
+            RulesFault::NoText(file) => {
+                f.write_str(file)?;
+                f.write_str(": the file is not UTF-8")
+            }
+            RulesFault::Unread(file, error) => {
+                f.write_str(file)?;
+                f.write_str(": ")?;
+                Display::fmt(error, f)
+            }
+            RulesFault::Refused(source, line, reason) => {
+                f.write_str(source)?;
+                write!(f, ": line {line}: ")?;
+                Display::fmt(reason, f)
+            }
+            RulesFault::Memory => f.write_str("out of memory"),
+        }
+    }
+}
+
+/// The list of the rules of the files and, after them, the single ones. A byte order mark at the start of a file is no
+/// part of its text.
+pub fn read_list<'a, A: Allocator + Copy, F: IgnoreFiles>(
+    alloc: A,
+    files: &F,
+    names: &[&'a str],
+    rules: &[&'a str],
+) -> Result<IgnoreList<A>, RulesFault<'a>>
+    ensures rules { (texts : List Text)
+        → AreHeld (F.holds files.now) (map (λ w. w.now) names.now) texts
+        → IfOk result (λ list. list
+        ≡ rules_of (with_ends line_feed (texts ++ map (λ w. w.now) rules.now))) }
+{
+    let mut sources = Vec::new(alloc);
+    add_files(alloc, files, names, &mut sources)?;
+    add_rules(alloc, rules, &mut sources)?;
+    match list_of(alloc, sources.as_slice()) {
+        Ok(list) => Ok(list),
+        Err(RuleRefusal::Memory) => Err(RulesFault::Memory),
+        Err(RuleRefusal::Line(line, reason)) => {
+            Err(refusal_of(sources.as_slice(), line, reason))
+        }
+    }
+}
+
+/// Adds the texts of the files.
+fn add_files<'a, A: Allocator + Copy, F: IgnoreFiles>(
+    alloc: A,
+    files: &F,
+    names: &[&'a str],
+    sources: &mut Vec<Source<'a, A>, A>,
+) -> Result<(), RulesFault<'a>>
+    ensures { (texts : List Text)
+        → AreHeld (F.holds files.now) (map (λ w. w.now) names.now) texts
+        → OnOk result (texts_of sources.new.items ≡ texts_of sources.old.items ++ texts) }
+{
+    for name in names {
+        let text = text_of_file(alloc, files, name)?;
+        sources.push(Source { name: *name, text })?;
+    }
+    Ok(())
+}
+
+/// Adds the single rules.
+fn add_rules<'a, A: Allocator + Copy>(
+    alloc: A,
+    rules: &[&'a str],
+    sources: &mut Vec<Source<'a, A>, A>,
+) -> Result<(), RulesFault<'a>>
+    ensures { OnOk result (texts_of sources.new.items
+        ≡ texts_of sources.old.items ++ map (λ w. w.now) rules.now) }
+{
+    for rule in rules {
+        let text = String::from_str(alloc, rule)?;
+        sources.push(Source { name: "-x", text })?;
+    }
+    Ok(())
+}
+
+/// The text of an ignore file, without a byte order mark.
+fn text_of_file<'a, A: Allocator + Copy, F: IgnoreFiles>(
+    alloc: A,
+    files: &F,
+    file: &'a str,
+) -> Result<String<A>, RulesFault<'a>>
+    ensures { IfOk result (λ text. IfSome (F.holds files.now file.now)
+        (λ held. IsUnmarked held (string_bytes text))) }
+{
+    match files.read(alloc, file) {
+        Ok(text) => Ok(String::from_str(alloc, unmarked(text.as_str()))?),
+        Err(error) => Err(RulesFault::unread(file, error)),
+    }
+}
+
+/// The text without a byte order mark at its start.
+fn unmarked(text: &str) -> &str
+    ensures { IsUnmarked text.now result.now }
+{
+    match text.strip_prefix('\u{feff}') {
+        Some(rest) => rest,
+        None => text,
+    }
+}
+
+/// The list of the sources' rules, in order. A refused line is counted over all of them.
+fn list_of<A: Allocator + Copy>(
+    alloc: A,
+    sources: &[Source<'_, A>],
+) -> Result<IgnoreList<A>, RuleRefusal>
+    ensures rules { IfOk result (λ list.
+        list ≡ rules_of (with_ends line_feed (texts_of sources.now))) }
+    ensures taken { IfOk result (λ _. AreTaken (with_ends line_feed (texts_of sources.now))) }
+    ensures refused { IfErr result (RefusesText (with_ends line_feed (texts_of sources.now))) }
+{
+    let text = joined(alloc, sources)?;
+    IgnoreList::new(alloc, text.as_str())
+}
+
+/// The texts of the sources, each with a line feed at its end.
+fn joined<A: Allocator + Copy>(alloc: A, sources: &[Source<'_, A>]) -> Result<String<A>, AllocError>
+    ensures { IfOk result (λ text. string_bytes text
+        ≡ with_ends line_feed (texts_of sources.now)) }
+{
+    let mut text = String::new(alloc);
+    for source in sources {
+        text.push_str(source.text.as_str())?;
+        text.push('\n')?;
+    }
+    Ok(text)
+}
+
+/// The fault of a line that is refused, which is counted over all sources.
+fn refusal_of<'a, A: Allocator>(
+    sources: &[Source<'a, A>],
+    line: usize,
+    reason: Reason,
+) -> RulesFault<'a> {
+    let mut left = line;
+    for source in sources {
+        let lines = line_count(source.text.as_str());
+        if left <= lines {
+            return RulesFault::Refused(source.name, left, reason);
+        }
+        left -= lines;
+    }
+    RulesFault::Refused("-x", left, reason)
+}
+
+/// How many lines a text has, where one more follows its last line feed.
+fn line_count(text: &str) -> usize {
+    let mut count = 1usize;
+    for byte in text.bytes() {
+        if byte == b'\n' {
+            count = count.saturating_add(1);
+        }
+    }
+    count
+}
