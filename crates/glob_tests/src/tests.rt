@@ -1,17 +1,17 @@
-mod captures;
 mod console;
+mod copying;
+mod counted_tree;
 mod disk_walks;
 mod disks;
 mod examples;
-mod fake_tree;
-mod judges;
-mod liars;
 mod lines;
 mod patterns;
 mod printing;
-mod rationing;
 mod readme;
 mod sets;
+mod streams;
 mod support;
 mod trees;
 mod walks;
+
+use glob_rationing as rationing;

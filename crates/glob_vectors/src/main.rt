@@ -8,27 +8,15 @@
 mod answer;
 mod replay;
 mod rules;
-mod sets;
 mod words;
 
-use answer::answer_lines;
-use replay::replay_files;
-use rules::ask_lists;
 use std::{env, io};
-use words::unfit;
-
-/// Does what the command says.
-fn run(rt: HostRuntime, command: &str) -> io::Result<()> {
-    match command {
-        "answer" => answer_lines(rt),
-        "rules" => ask_lists(&rt),
-        _ => Err(unfit()),
-    }
-}
 
 fn main(rt: HostRuntime) -> io::Result<()> {
     match env::args(&rt)?.nth(1) {
-        Some(command) => run(rt, command.as_str()),
-        None => replay_files(&rt),
+        None => replay::replay_files(rt),
+        Some(command) if command.as_str() == "answer" => answer::answer_lines(rt),
+        Some(command) if command.as_str() == "rules" => rules::ask_lists(&rt),
+        Some(_) => Err(words::unfit()),
     }
 }

@@ -4,122 +4,117 @@
 //! printed, how many cases were compared and how many disagree, after each case that disagrees with what was found.
 mod asked_tree;
 mod disk;
-mod escapes;
-mod faults;
 mod goals;
 mod judges;
-mod lines;
 mod matches;
-mod planting;
-mod report;
-mod state;
+mod rows;
+mod settings;
 mod trees;
-mod walking;
+pub mod walking;
 mod walks;
 
-use report::Report;
-use state::State;
+use crate::words::cut;
+use glob::MemTree;
+use settings::Settings;
+use std::alloc::Global;
 use std::{fs, io};
 
-/// What the rows of a file say.
-#[derive(Clone, Copy)]
-enum Subject {
-    /// How patterns are parsed.
-    Faults,
-    /// How texts are escaped.
-    Escapes,
-    /// Which text a pattern matches, in fields.
-    Answers,
-    /// Which texts patterns match, in words.
-    Matches,
-    /// How the characters of a judge are split.
-    Judges,
-    /// Which lines are copied.
-    Lines,
-    /// What a tree in memory answers.
-    Trees,
-    /// What walks give.
-    Walks,
+/// The files. `data/README.md` says where each comes from.
+const FILES: &str =
+    "faults.tsv parse.tsv escape.tsv braces.tsv plain.tsv match.tsv words.tsv matches.txt judges.txt lines.txt \
+    trees.txt walks.txt";
+
+/// What the lines before a row have set, and how many cases of its table were compared and disagree.
+#[derive(Drop)]
+struct Report {
+    rt: HostRuntime,
+    settings: Settings,
+    tree: MemTree,
+    cases: u64,
+    disagree: u64,
+    /// Whether a case of any table disagrees.
+    has_failed: bool,
 }
 
-/// The files. `data/README.md` says where each comes from.
-static FILES: [(&str, Subject); 10] = [
-    ("faults.tsv", Subject::Faults),
-    ("parse.tsv", Subject::Faults),
-    ("escape.tsv", Subject::Escapes),
-    ("match.tsv", Subject::Answers),
-    ("words.tsv", Subject::Answers),
-    ("matches.txt", Subject::Matches),
-    ("judges.txt", Subject::Judges),
-    ("lines.txt", Subject::Lines),
-    ("trees.txt", Subject::Trees),
-    ("walks.txt", Subject::Walks),
-];
+impl Report {
+    /// Memory for what is compared.
+    fn alloc(&self) -> Global {
+        self.rt.alloc()
+    }
+
+    /// Counts a case, and prints it if what was found is not what is wanted.
+    fn compare(&mut self, case: &str, wanted: &str, found: &str) -> io::Result<()> {
+        self.cases = self.cases.saturating_add(1);
+        if wanted == found {
+            return Ok(());
+        }
+        self.has_failed = true;
+        self.disagree = self.disagree.saturating_add(1);
+        println!(self.rt; "  {case} => {wanted}")?;
+        println!(self.rt; "    found: {found}")
+    }
+}
 
 /// Replays all files, and prints each of their tables. The error is that a case disagrees.
-pub fn replay_files(rt: &HostRuntime) -> io::Result<()> {
-    let mut is_alike = true;
-    for &(file, subject) in &FILES {
-        is_alike = replay_file(rt, file, subject)? && is_alike;
+pub fn replay_files(rt: HostRuntime) -> io::Result<()> {
+    let mut report = Report {
+        rt,
+        settings: Settings::new(rt.alloc()),
+        tree: MemTree::new(rt.alloc())?,
+        cases: 0,
+        disagree: 0,
+        has_failed: false,
+    };
+    for file in FILES.split_whitespace() {
+        replay_file(&mut report, file)?;
     }
-    disk::remove(rt)?;
-    if is_alike {
-        Ok(())
-    } else {
-        Err(io::Error::other("cases disagree"))
+    disk::remove(&rt)?;
+    if report.has_failed {
+        return Err(io::Error::other("cases disagree"));
     }
+    Ok(())
 }
 
-/// Replays the tables of a file. Says whether all cases agree.
-fn replay_file(rt: &HostRuntime, file: &str, subject: Subject) -> io::Result<bool> {
-    let text = read(rt, file)?;
-    let mut state = State::new(rt.alloc())?;
-    let mut is_alike = true;
-    for table in text.split("\n= ").skip(1) {
-        is_alike = replay_table(rt, subject, &mut state, table)? && is_alike;
-    }
-    Ok(is_alike)
-}
-
-/// The text of a file. In one of words a line that begins with a blank goes on with the one before.
-fn read(rt: &HostRuntime, file: &str) -> io::Result<String> {
-    let text = fs::read_to_string(rt, file)?;
+/// Replays the tables of a file. In one of words a line that begins with a blank goes on with the one before.
+fn replay_file(report: &mut Report, file: &str) -> io::Result<()> {
+    let mut text = fs::read_to_string(&report.rt, file)?;
     if file.ends_with(".txt") {
-        Ok(text.replace(rt.alloc(), "\n ", " ")?)
-    } else {
-        Ok(text)
+        text = text.replace(report.alloc(), "\n ", " ")?;
     }
+    for table in text.split("\n= ").skip(1) {
+        report.cases = 0;
+        report.disagree = 0;
+        let (name, lines) = cut(table, "\n")?;
+        for line in lines.lines().filter(|line| !line.is_empty()) {
+            replay_line(report, file, line)?;
+        }
+        println!(report.rt;
+            "{name}: {} cases, {} disagree",
+            report.cases, report.disagree
+        )?;
+    }
+    Ok(())
 }
 
-/// Replays a table, and prints it. Says whether all its cases agree.
-fn replay_table(
-    rt: &HostRuntime,
-    subject: Subject,
-    state: &mut State,
-    table: &str,
-) -> io::Result<bool> {
-    let mut report = Report::new(*rt);
-    for line in table.lines().skip(1) {
-        replay_line(&mut report, subject, state, line)?;
-    }
-    report.print(table.lines().next().unwrap_or(""))
-}
-
-/// Replays a line of a table.
-fn replay_line(
-    report: &mut Report,
-    subject: Subject,
-    state: &mut State,
-    line: &str,
-) -> io::Result<()> {
-    match subject {
-        Subject::Faults => faults::replay(report, line),
-        Subject::Escapes => escapes::replay(report, line),
-        Subject::Answers => matches::replay_fields(report, line),
-        Subject::Matches => matches::replay(report, state, line),
-        Subject::Judges => judges::replay(report, line),
-        Subject::Lines => lines::replay(report, line),
-        Subject::Trees => trees::replay(report, state, line),
-        Subject::Walks => walks::replay(report, state, line),
-    }
+/// Replays a line of a table: a row, or a setting, before which nothing is in the tree that rows change.
+fn replay_line(report: &mut Report, file: &str, line: &str) -> io::Result<()> {
+    let alloc = report.alloc();
+    let sign = if file.ends_with(".tsv") { "\t" } else { " =>" };
+    let Some((asked, answer)) = line.split_once(sign) else {
+        report.tree = MemTree::new(alloc)?;
+        return report.settings.set(line);
+    };
+    let found = match file {
+        "match.tsv" | "words.tsv" => return matches::replay_fields(report, asked, answer),
+        "matches.txt" => return matches::replay(report, asked, answer.trim_start()),
+        "trees.txt" => return trees::replay(report, asked, answer.trim_start()),
+        "walks.txt" => return walks::replay(report, asked, answer),
+        "escape.tsv" => rows::escaped(alloc, asked)?,
+        "braces.tsv" => rows::expanded(alloc, asked)?,
+        "plain.tsv" => rows::plainness(alloc, asked)?,
+        "judges.txt" => judges::split(alloc, asked)?,
+        "lines.txt" => rows::copied(alloc, asked)?,
+        _ => rows::parsed(alloc, asked)?,
+    };
+    report.compare(asked, answer.trim_start(), found.as_str())
 }

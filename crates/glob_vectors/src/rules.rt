@@ -8,50 +8,29 @@ use std::io;
 /// Answers the records of standard input.
 pub fn ask_lists(rt: &HostRuntime) -> io::Result<()> {
     let text = io::read_to_string(rt.alloc(), rt.reader())?;
-    take_records(rt, text.as_str())
-}
-
-/// Answers the records of a text.
-fn take_records(rt: &HostRuntime, text: &str) -> io::Result<()> {
     let mut list = None;
     for record in text.split('\0') {
-        take_record(rt, &mut list, record)?;
+        match record.split_at_checked(1) {
+            Some(("L", rules)) => match IgnoreList::new(rt.alloc(), rules) {
+                Ok(rules) => list = Some(rules),
+                Err(refusal) => {
+                    list = None;
+                    println!(rt; "R {refusal}")?;
+                }
+            },
+            Some(("f", path)) => ask(rt, &list, path, false)?,
+            Some(("d", path)) => ask(rt, &list, path, true)?,
+            _ => {}
+        }
     }
     Ok(())
 }
 
-/// Reads the list of a record, or answers its question.
-fn take_record(rt: &HostRuntime, list: &mut Option<IgnoreList>, record: &str) -> io::Result<()> {
-    if let Some(rules) = record.strip_prefix('L') {
-        *list = read_list(rt, rules)?;
-        Ok(())
-    } else if let Some(path) = record.strip_prefix('f') {
-        ask(rt, list, path, false)
-    } else if let Some(path) = record.strip_prefix('d') {
-        ask(rt, list, path, true)
-    } else {
-        Ok(())
-    }
-}
-
-/// The list of these rules. One that is refused is said so, and answers nothing.
-fn read_list(rt: &HostRuntime, rules: &str) -> io::Result<Option<IgnoreList>> {
-    match IgnoreList::new(rt.alloc(), rules) {
-        Ok(list) => Ok(Some(list)),
-        Err(refusal) => {
-            println!(rt; "R {refusal}")?;
-            Ok(None)
-        }
-    }
-}
-
-/// Writes which line of the list decides about a path.
+/// Writes which line of the list decides about a path, if it was not refused.
 fn ask(rt: &HostRuntime, list: &Option<IgnoreList>, path: &str, is_dir: bool) -> io::Result<()> {
     let Some(list) = list else {
         return Ok(());
     };
-    match list.deciding_rule(path, is_dir)? {
-        Some(rule) => rt.println(rule.line),
-        None => rt.println("0"),
-    }
+    let rule = list.deciding_rule(path, is_dir)?;
+    rt.println(rule.map_or(0, |rule| rule.line))
 }

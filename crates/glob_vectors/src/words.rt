@@ -1,7 +1,7 @@
 //! What words of cases and of tables stand for.
 
-use glob::{MatchOptions, Pattern};
-use std::alloc::{AllocError, Global};
+use glob::{MatchOptions, Pattern, PatternRefusal};
+use std::alloc::{AllocError, Allocator, Global};
 use std::io;
 
 /// The error of commands, lines or files that are not what is answered.
@@ -9,6 +9,11 @@ pub fn unfit() -> io::Error {
     io::Error::other(
         "not what a command or a table takes: see the heads of src/main.rt and of the files in data",
     )
+}
+
+/// The texts before and after the first `sign`.
+pub fn cut<'a>(text: &'a str, sign: &str) -> io::Result<(&'a str, &'a str)> {
+    text.split_once(sign).ok_or(unfit())
 }
 
 /// The options that the letters of a case name: `i` case-insensitive, `s` the separator rule, `d` the dot rule.
@@ -22,86 +27,57 @@ pub fn options_of(letters: &str) -> MatchOptions {
 
 /// The options of three letters `t` or `f`: case, the separator rule, the dot rule.
 pub fn options_in_order(letters: &str) -> io::Result<MatchOptions> {
-    let [case, separator, leading_dot] = letters.as_bytes() else {
-        return Err(unfit());
-    };
-    Ok(MatchOptions {
-        case_sensitive: is_true(*case)?,
-        require_literal_separator: is_true(*separator)?,
-        require_literal_leading_dot: is_true(*leading_dot)?,
-    })
-}
-
-/// What a letter `t` or `f` stands for.
-fn is_true(letter: u8) -> io::Result<bool> {
-    match letter {
-        b't' => Ok(true),
-        b'f' => Ok(false),
+    match letters.as_bytes() {
+        [case, separator, dot] if letters.bytes().all(|letter| matches!(letter, b't' | b'f')) => {
+            Ok(MatchOptions {
+                case_sensitive: *case == b't',
+                require_literal_separator: *separator == b't',
+                require_literal_leading_dot: *dot == b't',
+            })
+        }
         _ => Err(unfit()),
     }
 }
 
 /// The pattern of a text.
-pub fn pattern_of(alloc: Global, text: &str) -> io::Result<Pattern> {
-    match Pattern::new(alloc, text) {
-        Ok(pattern) => Ok(pattern),
-        Err(_) => Err(unfit()),
+pub fn pattern_of<A: Allocator + Copy>(alloc: A, text: &str) -> io::Result<Pattern<A>> {
+    Pattern::new(alloc, text).map_err(|_| unfit())
+}
+
+/// The place of a pattern's fault and, after a tab, its message.
+pub fn fault_of(alloc: Global, refusal: PatternRefusal) -> Result<String, AllocError> {
+    match refusal {
+        PatternRefusal::Syntax(error) => format!(in alloc; "{}\t{}", error.pos, error.msg),
+        PatternRefusal::Memory => String::from_str(alloc, "out of memory"),
     }
 }
 
 /// The number that a word writes.
-pub fn number_of(word: &str) -> io::Result<u64> {
-    match word.parse::<u64>() {
-        Ok(number) => Ok(number),
-        Err(_) => Err(unfit()),
-    }
+pub fn number_of(word: &str) -> io::Result<usize> {
+    word.parse::<usize>().map_err(|_| unfit())
 }
 
-/// The place or the count that a word writes.
-pub fn count_of(word: &str) -> io::Result<usize> {
-    match word.parse::<usize>() {
-        Ok(count) => Ok(count),
-        Err(_) => Err(unfit()),
+/// A text, and the number that follows it after ` ; `, if there is one.
+pub fn with_number(text: &str) -> io::Result<(&str, Option<usize>)> {
+    match text.split_once(" ; ") {
+        Some((text, number)) => Ok((text, Some(number_of(number)?))),
+        None => Ok((text, None)),
     }
 }
 
 /// The text that a word stands for: `''` is the empty text, and `<3:a/>b` is `a/a/a/b`.
 pub fn text_of(alloc: Global, word: &str) -> io::Result<String> {
-    let mut text = String::new(alloc);
-    add_text(&mut text, word)?;
-    Ok(text)
-}
-
-/// Adds the text that a word stands for.
-pub fn add_text(text: &mut String, word: &str) -> io::Result<()> {
     if word == "''" {
-        return Ok(());
+        return Ok(String::new(alloc));
     }
-    text.push_str(word.split('<').next().unwrap_or(""))?;
+    let mut text = String::from_str(alloc, word.split('<').next().unwrap_or(""))?;
     for part in word.split('<').skip(1) {
-        add_repeated(text, part)?;
+        let (times, rest) = cut(part, ":")?;
+        let (repeated, after) = cut(rest, ">")?;
+        text.push_str(repeated.repeat(alloc, number_of(times)?)?.as_str())?;
+        text.push_str(after)?;
     }
-    Ok(())
-}
-
-/// Adds what `3:a/>b` stands for.
-fn add_repeated(text: &mut String, written: &str) -> io::Result<()> {
-    let Some((times, rest)) = written.split_once(':') else {
-        return Err(unfit());
-    };
-    let Some((part, after)) = rest.split_once('>') else {
-        return Err(unfit());
-    };
-    add_times(text, part, number_of(times)?)?;
-    Ok(text.push_str(after)?)
-}
-
-/// Adds a text so many times.
-fn add_times(text: &mut String, part: &str, times: u64) -> Result<(), AllocError> {
-    for _ in 0..times {
-        text.push_str(part)?;
-    }
-    Ok(())
+    Ok(text)
 }
 
 /// Whether a text is one of the words.

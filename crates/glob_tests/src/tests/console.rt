@@ -1,19 +1,16 @@
-//! What programs write of a walk, of a text and of a fault: to writers that are interrupted, take few bytes or none, or fail,
-//! and how long a path waits.
-mod writers;
-
-use super::fake_tree::{Behaviour, Counts, FakeTree};
+//! What programs write of a walk, of a text and of a fault: to writers that are interrupted, take few bytes or none, or
+//! fail, and how long a path waits.
+use super::counted_tree::{CountedTree, Counts, rows};
 use super::rationing::Rationed;
-use super::support::{check, check_text, made};
-use super::walks::KINDS;
-use glob::{End, MatchOptions, MemTree, Tree};
+use super::streams::Stream;
+use super::streams::Trouble::{self, Errs, Holds, Idles, Interrupts, Never};
+use super::support::{check, made, tree_of};
+use super::walks::gather;
+use glob::{MatchOptions, Tree};
 use glob_console::{ErrorLines, Every, FindFault, WalkSettings, find_in, write_text};
-use std::alloc::{AllocError, Global};
 use std::cell::Cell;
-use std::fmt::{self, Display};
-use std::io::{self, ErrorKind, Write};
+use std::io::{self, ErrorKind};
 use std::process::Abort;
-use writers::{Mood, Moody};
 
 /// What a program does.
 #[derive(Clone, Copy)]
@@ -22,63 +19,51 @@ enum Job {
     Text(&'static str),
     /// Reports a fault.
     Fault(&'static str),
-    /// Writes the paths of a walk by a pattern with a limit, and this byte after each.
-    Walk(&'static str, u64, u8),
-}
-
-const ALL: u64 = u64::MAX;
-
-/// Does the job as the program `name`, and returns its status.
-fn run<T: Tree, W: Write, E: Write>(
-    alloc: T::Alloc,
-    tree: T,
-    job: Job,
-    output: &mut W,
-    errors: &mut E,
-) -> u8 {
-    let lines = &mut ErrorLines::new(alloc, "name: ", errors);
-    let (pattern, limit, end) = match job {
-        Job::Text(text) => return write_text(text, output, lines),
-        Job::Fault(line) => return lines.fault(line),
-        Job::Walk(pattern, limit, end) => (pattern, limit, end),
-    };
-    let options = MatchOptions::new();
-    let walk = WalkSettings {
-        pattern,
-        options,
-        limit,
-        end,
-    };
-    match find_in(alloc, tree, walk, &Every, output, lines) {
-        Ok(findings) => findings.status(),
-        Err(find_fault) => lines.fault(find_fault),
-    }
+    /// Reports arguments that could not be read.
+    Arguments(ErrorKind),
+    /// Writes the paths of a walk by a pattern, a line for each.
+    Walk(&'static str),
 }
 
 /// What a job came to.
 #[derive(Drop)]
 struct Ran<'a> {
     status: u8,
-    output: Moody<'a>,
-    errors: Moody<'a>,
+    output: Stream<'a>,
+    errors: Stream<'a>,
 }
 
-/// Does the job over 300 directories, in which are so many files.
-fn run_over<'a>(
-    rt: &(impl Abort + AllocGlobal),
+/// Does the job as the program `name` over a tree. The writers take so many bytes a call, have these troubles, and show
+/// the clock.
+fn run<'a, T: Tree>(
+    rt: &impl AllocGlobal,
+    (alloc, tree): (T::Alloc, T),
     job: Job,
-    files: u32,
-    [output, errors]: [Mood; 2],
-    counts: &'a Counts,
+    [one, other]: [(usize, Trouble); 2],
+    clock: &'a Cell<u64>,
 ) -> Ran<'a> {
-    let ample = Rationed::refusing(0, rt.alloc());
-    let tree = made(
-        rt,
-        FakeTree::new(&ample, Behaviour::Rows(300, files), counts),
-    );
-    let mut output = Moody::new(rt.alloc(), output, &counts.asked);
-    let mut errors = Moody::new(rt.alloc(), errors, &counts.asked);
-    let status = run(&ample, tree, job, &mut output, &mut errors);
+    let mut output = Stream::new(rt.alloc(), b"", one.0, one.1);
+    let mut errors = Stream::new(rt.alloc(), b"", other.0, other.1);
+    output.clock = Some(clock);
+    errors.clock = Some(clock);
+    let lines = &mut ErrorLines::new(alloc, "name: ", &mut errors);
+    let status = match job {
+        Job::Text(text) => write_text(text, &mut output, lines),
+        Job::Fault(line) => lines.fault(line),
+        Job::Arguments(kind) => lines.arguments_fault(&io::Error::from(kind), "not UTF-8"),
+        Job::Walk(pattern) => {
+            let walk = WalkSettings {
+                pattern,
+                options: MatchOptions::new(),
+                limit: u64::MAX,
+                end: b'\n',
+            };
+            match find_in(alloc, tree, walk, &Every, &mut output, lines) {
+                Ok(findings) => findings.status(),
+                Err(find_fault) => lines.fault(find_fault),
+            }
+        }
+    };
     Ran {
         status,
         output,
@@ -86,154 +71,115 @@ fn run_over<'a>(
     }
 }
 
-const WILLING: [Mood; 2] = [Mood::Willing, Mood::Willing];
+/// Does the job over so many directories, in which are so many files.
+fn run_over<'a>(
+    rt: &(impl Abort + AllocGlobal),
+    job: Job,
+    content: (u32, u32),
+    writers: [(usize, Trouble); 2],
+    counts: &'a Counts,
+) -> Ran<'a> {
+    let ample = Rationed::ample(rt.alloc());
+    let tree = rows(&ample, content).expect(rt, "a tree");
+    let counted = CountedTree { tree, counts };
+    run(rt, (&ample, counted), job, writers, &counts.asked)
+}
 
-const FAILED: &str = "name: writing failed\n";
+const ALL: usize = usize::MAX;
+
+const WILLING: [(usize, Trouble); 2] = [(ALL, Never), (ALL, Never)];
 
 /// What writes more than three bytes.
 static JOBS: [Job; 3] = [
     Job::Text("some lines\nof a page\n"),
-    Job::Walk("*/x*", ALL, b'\n'),
-    Job::Walk("*", ALL, b'\n'),
+    Job::Walk("*/f*"),
+    Job::Walk("*"),
 ];
 
-/// A writer that is short or interrupted gets what a willing one gets in two writes at most. One that took nothing or
-/// failed is not asked again, and the fault is one line in one write.
+/// A writer that is short or interrupted gets what a willing one gets in two writes at most.
 #[test]
-fn writes_lose_nothing_and_fail_once(rt: HostRuntime) {
+fn writes_lose_nothing(rt: HostRuntime) {
     for &job in &JOBS {
         let counts = Counts::new();
-        let whole = run_over(&rt, job, 0, WILLING, &counts);
-        check(
-            &rt,
-            whole.output.writes <= 2 && whole.output.written.len() > 3,
-            "a job",
-        );
-        for mood in [Mood::Slow, Mood::Interrupted] {
-            let ran = run_over(&rt, job, 0, [mood, mood], &counts);
-            let is_same = ran.output.written == whole.output.written;
-            check(
-                &rt,
-                ran.status == 0 && ran.errors.writes == 0 && is_same,
-                "a short write",
-            );
-        }
-        for mood in [
-            Mood::Idle,
-            Mood::Broken(ErrorKind::Other),
-            Mood::Broken(ErrorKind::WouldBlock),
-        ] {
-            check_once(&rt, job, mood, FAILED);
+        let whole = run_over(&rt, job, (300, 0), WILLING, &counts).output;
+        check(&rt, whole.calls <= 2 && whole.written.len() > 3, "a job");
+        for trouble in [Never, Interrupts] {
+            let ran = run_over(&rt, job, (300, 0), [(3, trouble); 2], &counts);
+            let is_whole = ran.status == 0 && ran.output.written == whole.written;
+            check(&rt, is_whole && ran.errors.calls == 0, "a short write");
         }
     }
 }
 
-/// A writer of this mood is asked once, and the fault is one line in one write.
-fn check_once(rt: &(impl Abort + AllocGlobal), job: Job, mood: Mood, line: &str) {
-    let counts = Counts::new();
-    let ran = run_over(rt, job, 0, [mood, Mood::Willing], &counts);
-    let is_line = ran.errors.written.as_slice() == line.as_bytes() && ran.errors.writes == 1;
-    let is_once = ran.output.writes == 1 && ran.output.flushes <= 1;
-    check(rt, ran.status == 2 && is_line && is_once, line);
+/// The job is a fault of this line, which is written at once to a willing writer, and whole to others. The output has
+/// this trouble, and is not asked again.
+fn check_fault(rt: &(impl Abort + AllocGlobal), job: Job, trouble: Trouble, line: &str) {
+    for errors in [(ALL, Never), (3, Never), (3, Interrupts)] {
+        let (counts, writers) = (Counts::new(), [(ALL, trouble), errors]);
+        let ran = run_over(rt, job, (9, 0), writers, &counts);
+        let is_line = ran.errors.written.as_slice() == line.as_bytes();
+        check(rt, ran.status == 2 && is_line, line);
+        check(rt, ran.errors.calls == 1 || errors.0 == 3, line);
+        check(rt, ran.output.calls <= 1 && ran.output.flushes <= 1, line);
+    }
 }
 
-/// A flush that failed ends a walk, and is not tried again. Where there is no memory to write, that is the fault.
+const FAILED: &str = "name: writing failed\n";
+
+const MEMORY: &str = "name: out of memory\n";
+
+/// A writer that took nothing or failed is not asked again, nor to flush. Where there is no memory to write, that is
+/// the fault.
 #[test]
 fn a_walk_ends_where_its_writer_fails(rt: HostRuntime) {
-    let memory = "name: out of memory\n";
-    for (mood, line) in [
-        (Mood::Unflushed(ErrorKind::Other), FAILED),
-        (Mood::Unflushed(ErrorKind::Interrupted), FAILED),
-        (Mood::Unflushed(ErrorKind::OutOfMemory), memory),
-        (Mood::Broken(ErrorKind::OutOfMemory), memory),
-    ] {
-        check_once(&rt, Job::Walk("*/x*", ALL, b'\n'), mood, line);
-    }
-    for kind in [ErrorKind::BrokenPipe, ErrorKind::StorageFull] {
-        let is_quiet = FindFault::Write(io::Error::from(kind)).is_quiet();
-        check(&rt, is_quiet == (kind == ErrorKind::BrokenPipe), "a pipe");
-    }
-}
-
-/// What reports a fault, and its line.
-static FAULTS: [(Job, &str); 3] = [
-    (Job::Fault("usage: name"), "name: usage: name\n"),
-    (
-        Job::Walk("abc[def", ALL, b'\n'),
-        "name: Pattern syntax error near position 3: invalid range pattern\n",
-    ),
-    (
-        Job::Walk("*", 0, b'\n'),
-        "name: attempting to read `.` resulted in an error: walk limit reached\n",
-    ),
-];
-
-/// A text that cannot be formatted the first time, as where there is no memory for it.
-#[derive(Drop)]
-struct Late(Cell<bool>);
-
-impl Display for Late {
-    fn fmt<W: fmt::Write>(&self, f: &mut fmt::Formatter<W>) -> fmt::Result {
-        if self.0.replace(true) {
-            f.write_str("words")
-        } else {
-            Err(fmt::Error)
-        }
-    }
-}
-
-/// A writer gets the whole line of a fault, and a willing one at once. One that is not formatted is written in pieces.
-#[test]
-fn the_line_of_a_fault_is_whole(rt: HostRuntime) {
-    for &(job, line) in &FAULTS {
-        for (mood, most) in [
-            (Mood::Willing, 1),
-            (Mood::Slow, 99),
-            (Mood::Interrupted, 99),
-        ] {
-            let counts = Counts::new();
-            let ran = run_over(&rt, job, 0, [Mood::Willing, mood], &counts);
-            let is_line = ran.errors.written.as_slice() == line.as_bytes();
-            let is_fault = ran.status == 2 && ran.output.writes == 0;
-            check(&rt, is_line && is_fault && ran.errors.writes <= most, line);
-        }
-    }
-    let mut errors = Vec::new(rt.alloc());
-    ErrorLines::new(rt.alloc(), "name: ", &mut errors).write(&Late(Cell::new(false)));
-    check(
-        &rt,
-        errors.as_slice() == b"name: words\n".as_slice(),
-        "a late text",
-    );
-}
-
-/// Why the arguments could not be read, and the line.
-#[test]
-fn arguments_that_cannot_be_read(rt: HostRuntime) {
-    for (kind, line) in [
-        (ErrorKind::OutOfMemory, "out of memory\n"),
-        (ErrorKind::InvalidData, "not UTF-8\n"),
-        (ErrorKind::Other, "not UTF-8\n"),
-    ] {
-        let mut errors = Vec::new(rt.alloc());
-        let lines = &mut ErrorLines::new(rt.alloc(), "", &mut errors);
-        let status = lines.arguments_fault(&io::Error::from(kind), "not UTF-8");
-        check(
+    for &job in &JOBS {
+        check_fault(&rt, job, Idles(0), FAILED);
+        check_fault(
             &rt,
-            status == 2 && errors.as_slice() == line.as_bytes(),
-            line,
+            job,
+            Errs(0, io::Error::from(ErrorKind::WouldBlock)),
+            FAILED,
         );
     }
+    for (kind, line) in [
+        (ErrorKind::Other, FAILED),
+        (ErrorKind::Interrupted, FAILED),
+        (ErrorKind::OutOfMemory, MEMORY),
+    ] {
+        let (walk, error) = (Job::Walk("00?"), io::Error::from(kind));
+        check_fault(&rt, walk, Holds(error), line);
+        if kind != ErrorKind::Interrupted {
+            check_fault(&rt, walk, Errs(0, error), line);
+        }
+        check(&rt, !FindFault::Write(error).is_quiet(), line);
+    }
+    let pipe = FindFault::Write(io::Error::from(ErrorKind::BrokenPipe));
+    check(&rt, pipe.is_quiet(), "a pipe");
+}
+
+/// A line for which there is no memory is written in pieces.
+#[test]
+fn the_line_of_a_fault_is_whole(rt: HostRuntime) {
+    let words = "name: not UTF-8\n";
+    check_fault(&rt, Job::Fault("a fault"), Never, "name: a fault\n");
+    check_fault(&rt, Job::Arguments(ErrorKind::OutOfMemory), Never, MEMORY);
+    check_fault(&rt, Job::Arguments(ErrorKind::InvalidData), Never, words);
+    check_fault(&rt, Job::Arguments(ErrorKind::Other), Never, words);
+    let scarce = Rationed::refusing(1, rt.alloc());
+    let mut errors = Vec::new(rt.alloc());
+    ErrorLines::new(&scarce, "name: ", &mut errors).write(&"words");
+    let is_line = errors.as_slice() == b"name: words\n".as_slice();
+    check(&rt, is_line && scarce.ration.has_refused(), "in pieces");
 }
 
 /// A pattern, how many files there are, and the asks before the first path, before the second, and at most before that
-/// is written: a lookup, listings and their entries, and then a hundred lookups, listings or entries.
+/// is written: a lookup, listings and their entries, the first write, and then a hundred lookups, listings or entries.
 static WAITS: [(&str, u32, u64, u64, u64); 5] = [
-    ("*/x*", 0, 305, 305, 406),
-    ("*/x*", 150, 305, 305, 457),
-    ("*/x1", 0, 303, 304, 405),
-    ("**/x*", 0, 305, 305, 406),
-    ("**/x*", 30, 305, 305, 430),
+    ("*/f*", 0, 305, 306, 407),
+    ("*/f*", 150, 305, 306, 458),
+    ("*/f1", 2, 303, 304, 406),
+    ("**/f*", 0, 305, 306, 407),
+    ("**/f*", 30, 305, 306, 431),
 ];
 
 /// The first path is written before the next ask. The second waits for a hundred asks. Many paths of one directory are
@@ -241,113 +187,65 @@ static WAITS: [(&str, u32, u64, u64, u64); 5] = [
 #[test]
 fn a_path_waits_for_few_asks(rt: HostRuntime) {
     for &(pattern, files, first, second, most) in &WAITS {
-        let counts = Counts::new();
-        let ran = run_over(&rt, Job::Walk(pattern, ALL, b'\n'), files, WILLING, &counts);
+        let (counts, job) = (Counts::new(), Job::Walk(pattern));
+        let ran = run_over(&rt, job, (300, files), WILLING, &counts);
         let is_soon = match ran.output.times.as_slice() {
             [early, late] => *early == first && second < *late && *late <= most,
             _ => false,
         };
         check(&rt, ran.status == 0 && is_soon, pattern);
     }
-    let counts = Counts::new();
-    let ran = run_over(
-        &rt,
-        Job::Walk("001/y*", ALL, b'\n'),
-        5_000,
-        WILLING,
-        &counts,
-    );
+    let (counts, job) = (Counts::new(), Job::Walk("001/f*"));
+    let ran = run_over(&rt, job, (2, 3_000), WILLING, &counts);
     let blocks = ran.output.written.len() as u64 / 8_192;
-    let are_few = blocks <= ran.output.writes && ran.output.writes <= blocks.saturating_add(2);
-    check(&rt, ran.status == 0 && blocks > 4 && are_few, "many paths");
-    for &(pattern, entries, names) in &KINDS {
-        let counts = Counts::new();
-        let ample = Rationed::refusing(0, rt.alloc());
-        let tree = made(&rt, FakeTree::new(&ample, Behaviour::Rows(2, 1), &counts));
-        let (mut output, mut errors) = (Vec::new(rt.alloc()), Vec::new(rt.alloc()));
-        run(
-            &ample,
-            tree,
-            Job::Walk(pattern, ALL, b'\n'),
-            &mut output,
-            &mut errors,
-        );
-        let is_asked = counts.listings.get() == entries && counts.namings.get() == names;
-        check(&rt, is_asked && errors.is_empty(), pattern);
-    }
+    let most = blocks.saturating_add(2);
+    let are_few = blocks <= ran.output.calls && ran.output.calls <= most;
+    check(&rt, ran.status == 0 && blocks > 2 && are_few, "many paths");
 }
 
-/// The tree of these keys: before `#` a directory that cannot be listed, before `/` another one.
-fn tree_of(alloc: Global, keys: &[&str]) -> Result<MemTree, AllocError> {
-    let mut tree = MemTree::new(alloc)?;
-    for key in keys {
-        let added = if let Some(path) = key.strip_suffix('#') {
-            tree.add_shut(path, ErrorKind::PermissionDenied)
-        } else if let Some(path) = key.strip_suffix('/') {
-            tree.add_dir(path)
-        } else {
-            tree.add_other(key)
-        };
-        added.map_err(|_| AllocError)?;
-    }
-    Ok(tree)
-}
-
-/// Keys, a job, its status, and what is written to both streams.
-static ROWS: [(&[&str], Job, u8, &str, &str); 4] = [
-    (&["/x", "/y"], Job::Walk("*", 4, b'\n'), 0, "x\ny\n", ""),
-    (&["/d#"], Job::Walk("**", 9, b'\n'), 2, "d\n", DENIED),
-    (
-        &["/d#", "/e/"],
-        Job::Walk("**", 9, b'\n'),
-        2,
-        "d\ne\n",
-        DENIED,
-    ),
-    (&["/d#", "/e/"], Job::Walk("**", 9, 0), 2, "d\0e\0", DENIED),
+/// A pattern, and how often entries are asked for over two directories with a file each or two, and how often names
+/// alone: exactly where no entry's kind can change what follows.
+static KINDS: [(&str, u64, u64); 10] = [
+    ("*", 0, 1),
+    ("001/?", 0, 1),
+    ("*/", 1, 0),
+    ("001/?/", 1, 0),
+    ("*/*", 1, 2),
+    ("*/f0", 1, 0),
+    ("**", 3, 0),
+    ("**/*", 3, 0),
+    ("**/000/?0", 3, 1),
+    ("001/b", 0, 0),
 ];
 
-const DENIED: &str = "name: attempting to read `d` resulted in an error: permission denied\n";
+#[test]
+fn names_alone_where_no_kind_matters(rt: HostRuntime) {
+    for &(pattern, entries, names) in &KINDS {
+        let (counts, job) = (Counts::new(), Job::Walk(pattern));
+        let ran = run_over(&rt, job, (2, 1), WILLING, &counts);
+        let is_asked = counts.listings.get() == entries && counts.namings.get() == names;
+        check(&rt, is_asked && ran.errors.calls == 0, pattern);
+        let (counts, ample) = (&Counts::new(), Rationed::ample(rt.alloc()));
+        let tree = rows(&ample, (2, 1)).expect(&rt, "a tree");
+        let counted = CountedTree { tree, counts };
+        drop(made(&rt, gather(&ample, counted, pattern, u64::MAX)));
+        let is_asked = counts.listings.get() == entries && counts.namings.get() == names;
+        check(&rt, is_asked, pattern);
+    }
+}
 
-/// A path may end in a NUL, and an error is a line all the same. The first path is written at once, what waits before an
-/// error, and the rest at the end.
+/// The first path is written at once, what waits before an error, and the rest at the end.
 #[test]
 fn paths_and_errors_are_in_order(rt: HostRuntime) {
-    for &(keys, job, status, paths, faults) in &ROWS {
-        let (mut output, mut errors) = (Vec::new(rt.alloc()), Vec::new(rt.alloc()));
-        let tree = made(&rt, tree_of(rt.alloc(), keys));
-        let found = run(rt.alloc(), tree, job, &mut output, &mut errors);
-        let is_written = output.as_slice() == paths.as_bytes()
-            && errors.as_slice() == faults.as_bytes();
-        check(&rt, found == status && is_written, paths);
-    }
-    let keys = ["/a/", "/a/x", "/a/y", "/b#", "/c/", "/c/x", "/c/y"];
-    let (order, tree) = (Cell::new(0), made(&rt, tree_of(rt.alloc(), &keys)));
-    let mut output = Moody::new(rt.alloc(), Mood::Digit(1), &order);
-    let mut errors = Moody::new(rt.alloc(), Mood::Digit(2), &order);
-    run(
-        rt.alloc(),
-        tree,
-        Job::Walk("*/?", ALL, b'\n'),
-        &mut output,
-        &mut errors,
-    );
-    check(&rt, order.get() == 1_121, "the order");
-    let walk = WalkSettings {
-        pattern: "*",
-        options: MatchOptions::new(),
-        limit: 4,
-        end: b'\n',
-    };
-    let tree = made(&rt, tree_of(rt.alloc(), &["/x", "/y"]));
-    let mut none = Vec::new(rt.alloc());
-    let lines = &mut ErrorLines::new(rt.alloc(), "", &mut none);
-    match find_in(rt.alloc(), tree, walk, &Every, &mut output, lines) {
-        Ok(found) => check(
-            &rt,
-            found.end == End::Done && found.has_path && !found.has_error,
-            "end",
-        ),
-        Err(_) => panic!(rt; "a fault"),
-    }
+    let tree = tree_of(rt.alloc(), "/a/ /a/x /a/y /b# /c/ /c/x /c/y").expect(&rt, "a tree");
+    let clock = Cell::new(0);
+    let ran = run(&rt, (rt.alloc(), tree), Job::Walk("*/?"), WILLING, &clock);
+    let is_written = ran.output.written.as_slice() == b"a/x\na/y\nc/x\nc/y\n".as_slice();
+    check(&rt, ran.status == 2 && is_written, "the paths");
+    let are_paths = ran.output.times.as_slice() == [0, 1, 3].as_slice();
+    let is_error = ran.errors.times.as_slice() == [2].as_slice();
+    check(&rt, are_paths && is_error, "the order");
+    let line = b"name: attempting to read `b` resulted in an error: permission denied\n";
+    let is_line = ran.errors.written.as_slice() == line.as_slice();
+    check(&rt, is_line, "the line");
 }

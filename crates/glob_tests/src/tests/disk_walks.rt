@@ -1,21 +1,12 @@
-//! The calls `glob` and `glob_with`, over a scripted file system and over a folder that the test makes.
-use super::disks::files::{Calls, Kind, Written};
-use super::support::{check, made, text};
+//! The calls `glob` and `glob_with` over a folder that the test makes.
+use super::support::check;
 use super::walks::next_of;
-use glob::{GlobCause, GlobResult, MatchOptions, Paths, Pattern, Tree, glob, glob_with};
-use std::alloc::{AllocError, Allocator, Global};
+use glob::{GlobCause, MatchOptions, Paths, Pattern, Tree, glob, glob_with};
+use std::alloc::{AllocError, Global};
 use std::fs::Files;
 use std::io::ErrorKind;
 use std::test::Fail;
 use std::{env, fs, io};
-
-/// A file and a directory, which is removed before it can be opened.
-static PATHS: [(&str, Kind<'static>); 4] = [
-    (".", Kind::Dir(&[])),
-    ("./", Kind::Dir(&[b".a\0AAA\0"])),
-    ("./.a", Kind::File),
-    ("./AAA", Kind::Dir(&[])),
-];
 
 fn add_line(text: &mut String, line: &str) -> Result<(), AllocError> {
     text.push_str(line)?;
@@ -42,58 +33,6 @@ fn by_glob<R: Files + Drop>(rt: R, alloc: Global, pattern: &str) -> Result<Strin
     }
 }
 
-/// Patterns, and what `glob` gives for each.
-static ROWS: [(&str, &str); 3] = [
-    ("*a*", ".a\n"),
-    ("**", "AAA\n!\n"),
-    (
-        "a/**b[",
-        "Pattern syntax error near position 4: recursive wildcards must form a single path component",
-    ),
-];
-
-#[test]
-fn options_are_those_of_the_caller(rt: HostRuntime) -> Result<(), Fail> {
-    let calls = Calls::new();
-    for &(pattern, wanted) in &ROWS {
-        let found = by_glob(Written::new(&PATHS, &calls), rt.alloc(), pattern)?;
-        assert_eq!(rt; found.as_str(), wanted);
-    }
-    let options = MatchOptions {
-        case_sensitive: false,
-        require_literal_leading_dot: true,
-        ..MatchOptions::new()
-    };
-    let files = Written::new(&PATHS, &calls);
-    let Ok(items) = glob_with(files, rt.alloc(), "*a*", options) else {
-        panic!(rt; "a fault");
-    };
-    let found = lines(rt.alloc(), items)?;
-    assert_eq!(rt; found.as_str(), "AAA\n");
-    Ok(())
-}
-
-/// Whether an item is the error that what is at the path was not found when it was listed.
-fn is_gone<A: Allocator>(item: Option<GlobResult<A>>, path: &str) -> bool {
-    match item {
-        Some(Err(error)) => {
-            let is_read = error.cause() == GlobCause::Read
-                && error.error().kind() == ErrorKind::NotFound;
-            is_read && error.path().as_str() == path
-        }
-        _ => false,
-    }
-}
-
-/// Whether an item is a path.
-fn is_path<A: Allocator>(item: Option<GlobResult<A>>, path: &str) -> bool {
-    match item {
-        Some(Ok(found)) => found.as_str() == path,
-        Some(Err(_error)) => false,
-        None => false,
-    }
-}
-
 /// The path of a new folder in that of temporary files, which is the first of these that is not there yet.
 fn new_folder(rt: HostRuntime) -> io::Result<String> {
     let top = env::temp_dir(&rt)?;
@@ -114,23 +53,29 @@ fn a_folder_that_is_removed_is_an_error(rt: HostRuntime) -> Result<(), Fail> {
     let pattern = format!(in rt.alloc(); "{}/**", Pattern::escape(rt.alloc(), folder.as_str())?)?;
     for options in [None, Some(MatchOptions::new())] {
         fs::create_dir(&rt, inner.as_str())?;
-        let walk = match options {
-            None => glob(rt, rt.alloc(), pattern.as_str()),
-            Some(options) => glob_with(rt, rt.alloc(), pattern.as_str(), options),
+        let known = format!(in rt.alloc(); "{inner}\n")?;
+        let found = by_glob(rt, rt.alloc(), pattern.as_str())?;
+        assert_eq!(rt; found, known);
+        let mut paths = match options {
+            None => glob(rt, rt.alloc(), pattern.as_str())?,
+            Some(options) => glob_with(rt, rt.alloc(), pattern.as_str(), options)?,
         };
-        let Ok(mut paths) = walk else {
-            panic!(rt; "a fault");
-        };
-        let first = next_of(&mut paths);
-        check(&rt, is_path(first, inner.as_str()), "the folder");
+        let first = next_of(&mut paths).expect(&rt, "an item")?;
+        assert_eq!(rt; first.as_str(), inner.as_str());
         fs::remove_dir(&rt, inner.as_str())?;
-        check(
-            &rt,
-            is_gone(next_of(&mut paths), inner.as_str()),
-            "an error",
-        );
+        let Some(Err(error)) = next_of(&mut paths) else {
+            panic!(rt; "no error");
+        };
+        assert_eq!(rt; error.path().as_str(), inner.as_str());
+        let kind = error.error().kind();
+        let is_read = error.cause() == GlobCause::Read;
+        check(&rt, is_read && kind == ErrorKind::NotFound, "an error");
         check(&rt, next_of(&mut paths).is_none(), "the end");
     }
     fs::remove_dir(&rt, folder.as_str())?;
+    let fault = by_glob(rt, rt.alloc(), "a/**b[")?;
+    let words =
+        "Pattern syntax error near position 4: recursive wildcards must form a single path component";
+    assert_eq!(rt; fault.as_str(), words);
     Ok(())
 }

@@ -1,9 +1,10 @@
-//! What is printed of each public error and pattern, whole, and what the calls of an error of a walk give.
-use super::fake_tree::{Behaviour, Counts, FakeTree};
-use super::rationing::{Memory, Rationed};
-use super::support::{are_same, check, check_printed, made, repeated};
+//! What is printed of each public error and of a pattern, and what the calls of an error of a walk give.
+use super::disks::files::Kind::{Dir, Failing, Lost};
+use super::disks::files::{Planted, SystemCalls, Written};
+use super::rationing::Rationed;
+use super::support::{check, check_printed, check_same, made};
 use super::walks::{next_of, start};
-use glob::{GlobCause, GlobError};
+use glob::{Disk, GlobCause, GlobError, Tree};
 use glob_captures::CapturesError;
 use glob_lines::LineFault;
 use glob_pattern::{Pattern, PatternError, PatternRefusal};
@@ -11,40 +12,18 @@ use glob_set::SetRefusal;
 use std::io::{self, ErrorKind};
 use std::process::Abort;
 
-/// Places with their digits, and messages.
-static FAULTS: [(usize, &str, &str); 4] = [
-    (0, "0", ""),
-    (3, "3", "invalid range pattern"),
-    (
-        65_536,
-        "65536",
-        "wildcards are either regular `*` or recursive `**`",
-    ),
-    (
-        usize::MAX,
-        "18446744073709551615",
-        "\u{e9}\u{20ac}\u{10fffe}",
-    ),
-];
-
 /// A fault at a place is printed with its digits, and in a set after the number of the text.
 #[test]
-fn faults_are_printed(rt: HostRuntime) {
-    for &(pos, digits, msg) in &FAULTS {
-        let line = made(
-            &rt,
-            format!(in rt.alloc(); "Pattern syntax error near position {digits}: {msg}"),
-        );
-        check_printed(&rt, &PatternError { pos, msg }, line.as_str());
-        check_printed(
-            &rt,
-            &PatternRefusal::Syntax(PatternError { pos, msg }),
-            line.as_str(),
-        );
-        let numbered = made(&rt, format!(in rt.alloc(); "pattern 12: {line}"));
-        let refusal = SetRefusal::Syntax(12, PatternError { pos, msg });
-        check_printed(&rt, &refusal, numbered.as_str());
-    }
+fn faults_and_patterns_are_printed(rt: HostRuntime) {
+    let (pos, msg) = (usize::MAX, "\u{e9}\u{20ac}\u{10fffe}");
+    let place = "Pattern syntax error near position 18446744073709551615";
+    let line = made(&rt, format!(in rt.alloc(); "{place}: {msg}"));
+    let numbered = made(&rt, format!(in rt.alloc(); "pattern 12: {line}"));
+    let refusal = PatternRefusal::Syntax(PatternError { pos, msg });
+    check_printed(&rt, &PatternError { pos, msg }, line.as_str());
+    check_printed(&rt, &refusal, line.as_str());
+    let refusal = SetRefusal::Syntax(12, PatternError { pos, msg });
+    check_printed(&rt, &refusal, numbered.as_str());
     check_printed(&rt, &PatternRefusal::Memory, "out of memory");
     check_printed(&rt, &SetRefusal::Memory, "out of memory");
     check_printed(&rt, &CapturesError::Memory, "out of memory");
@@ -54,118 +33,68 @@ fn faults_are_printed(rt: HostRuntime) {
     let error = io::Error::new(ErrorKind::Interrupted, "words");
     check_printed(&rt, &LineFault::Read(error), "reading failed");
     check_printed(&rt, &LineFault::Write(error), "writing failed");
-}
-
-/// A pattern is printed as its text, and for the eyes of a programmer with its text in quotes.
-#[test]
-fn patterns_are_printed(rt: HostRuntime) {
-    for (unit, times) in [
-        ("a", 0),
-        ("[!\u{e9}-\u{20ac}]", 1),
-        ("src/**/[!a-c]?*.rs/", 1_000),
-    ] {
-        let source = repeated(&rt, unit, times);
-        let pattern = Pattern::new(rt.alloc(), source.as_str()).expect(&rt, "a pattern");
-        check_printed(&rt, &pattern, source.as_str());
-        let line = made(&rt, format!(in rt.alloc(); "{pattern:?}"));
-        let quoted = made(&rt, format!(in rt.alloc(); "\"{source}\""));
-        check(&rt, line.contains(quoted.as_str()), unit);
-    }
+    let source = "src/**/[!a-\u{e9}]?*.rs/";
+    let pattern = made(&rt, Pattern::new(rt.alloc(), source));
+    check_printed(&rt, &pattern, source);
 }
 
 /// The error that is the first item of a walk.
-fn error_of<'a>(
+fn first_error<T: Tree>(
     rt: &impl Abort,
-    alloc: Memory<'a>,
-    (behaviour, pattern, limit): (Behaviour, &str, u64),
-    counts: &'a Counts,
-) -> GlobError<Memory<'a>> {
-    let tree = made(rt, FakeTree::new(alloc, behaviour, counts));
-    let mut paths = made(rt, start(alloc, tree, pattern, limit));
-    match next_of(&mut paths) {
+    alloc: T::Alloc,
+    tree: T,
+    (pattern, limit): (&str, u64),
+) -> GlobError<T::Alloc> {
+    let mut items = made(rt, start(alloc, tree, pattern, limit));
+    match next_of(&mut items) {
         Some(Err(error)) => error,
         _ => panic!(rt; "no error"),
     }
 }
 
-/// The first item of the walk is an error at the path, if that is known, with this one in it, which it keeps and prints.
-/// Its calls take no memory.
+/// A walk over the files begins with an error at the path, unless memory ran out, with this one in it, which it keeps and
+/// prints. Its calls take no memory.
 fn check_error(
     rt: &(impl AllocGlobal + Abort),
-    walk: (Behaviour, &str, u64),
-    (path, cause): (Option<&str>, GlobCause),
-    known: io::Error,
+    paths: &[Planted<'_>],
+    walk: (&str, u64),
+    (path, cause, known): (&str, GlobCause, io::Error),
 ) {
-    let (ample, counts) = (Rationed::refusing(0, rt.alloc()), Counts::new());
-    let error = error_of(rt, &ample, walk, &counts);
+    let (ample, calls) = (Rationed::ample(rt.alloc()), &SystemCalls::new());
+    let disk = Disk::new(Written { paths, calls }, &ample);
+    let error = first_error(rt, &ample, disk, walk);
     let requests = ample.ration.asked();
-    let at = error.path();
-    check(
-        rt,
-        path.unwrap_or(at.as_str()) == at.as_str() && error.cause() == cause,
-        walk.1,
-    );
+    let at = error.path().as_str();
     let begin = "attempting to read `";
-    let line = made(
-        rt,
-        format!(in rt.alloc(); "{begin}{}` resulted in an error: {known}", at.as_str()),
-    );
-    check_printed(rt, &error, line.as_str());
-    let again = error_of(rt, &ample, walk, &counts).into_error();
-    check(rt, are_same(rt, *error.error(), known) == Ok(true), walk.1);
-    check(rt, are_same(rt, again, known) == Ok(true), walk.1);
-    check(
-        rt,
-        are_same(rt, io::Error::from(error), known) == Ok(true),
-        walk.1,
-    );
-    check(
-        rt,
-        ample.ration.asked() == requests.saturating_mul(2),
-        walk.1,
-    );
+    let line = format!(in rt.alloc(); "{begin}{at}` resulted in an error: {known}");
+    check_printed(rt, &error, made(rt, line).as_str());
+    let is_at_path = cause == GlobCause::Memory || at == path;
+    let is_right = is_at_path && error.cause() == cause;
+    check(rt, is_right && ample.ration.asked() == requests, path);
+    check_same(rt, *error.error(), known);
+    check_same(rt, error.into_error(), known);
 }
 
 #[test]
 fn errors_of_walks(rt: HostRuntime) {
-    let long = repeated(&rt, "\u{e9}", 9_000);
-    let below = made(&rt, format!(in rt.alloc(); "{long}/*"));
     for reason in [
-        io::Error::from(ErrorKind::NotFound),
-        io::Error::from(ErrorKind::Interrupted),
         io::Error::new(ErrorKind::InvalidData, "words of its own"),
-        io::Error::other("\u{e9}\u{20ac}\u{10fffe}"),
-        io::Error::from_raw_os_error(13),
+        io::Error::from_raw_os_error(4),
     ] {
-        let tree = Behaviour::Unreadable(reason);
-        check_error(&rt, (tree, "a/*", 9), (Some("a"), GlobCause::Read), reason);
-        check_error(
-            &rt,
-            (tree, below.as_str(), 9),
-            (Some(long.as_str()), GlobCause::Read),
-            reason,
-        );
+        let paths = [(". a", Dir(&[])), ("a/", Failing(reason, true))];
+        check_error(&rt, &paths, ("a/*", 9), ("a", GlobCause::Read, reason));
     }
     let limited = io::Error::other("walk limit reached");
-    let tree = Behaviour::Chain(9);
-    check_error(&rt, (tree, "a", 0), (Some("."), GlobCause::Limit), limited);
-    check_error(
-        &rt,
-        (tree, "a/b/*", 2),
-        (Some("a/b"), GlobCause::Limit),
-        limited,
-    );
-    check_error(
-        &rt,
-        (tree, long.as_str(), 1),
-        (Some(long.as_str()), GlobCause::Limit),
-        limited,
-    );
+    let paths = [(". a a/b", Dir(&[]))];
+    for (pattern, limit, path) in [("a", 0, "."), ("a/b/*", 2, "a/b")] {
+        check_error(
+            &rt,
+            &paths,
+            (pattern, limit),
+            (path, GlobCause::Limit, limited),
+        );
+    }
     let memory = io::Error::from(ErrorKind::OutOfMemory);
-    check_error(
-        &rt,
-        (Behaviour::NoMemory, "a", 9),
-        (None, GlobCause::Memory),
-        memory,
-    );
+    let paths = [(".", Lost(ErrorKind::OutOfMemory))];
+    check_error(&rt, &paths, ("a", 9), ("", GlobCause::Memory, memory));
 }

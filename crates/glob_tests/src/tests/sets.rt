@@ -1,270 +1,152 @@
-//! Sets of patterns and ignore lists: what they answer in each form of the question, with each request refused in turn.
-use super::rationing::{Memory, Rationed};
-use super::support::{Calls, add, both, check, made, refuse_each, text};
-use glob_pattern::MatchOptions;
-use glob_rules::{IgnoreList, RuleRefusal};
+//! Sets of patterns, ignore lists and captures: what they answer, with each request refused in turn.
+use super::rationing::Memory;
+use super::support::{Calls, check, check_rows, made, refuse_rows};
+use glob_captures::{MOST_STEPS, captures, reach, tokens};
+use glob_pattern::{MatchOptions, Pattern};
+use glob_rules::IgnoreList;
 use glob_set::{PatternSet, SetRefusal};
-use std::alloc::{AllocError, Allocator};
+use std::fmt::Write;
 use std::path::Path;
-use std::process::Abort;
 
-/// The set of the patterns that these texts are.
-fn read<A: Allocator + Copy>(alloc: A, texts: &[&str]) -> Result<PatternSet<A>, SetRefusal> {
-    PatternSet::from_texts(alloc, texts, MatchOptions::new())
-}
+/// Makes a set of the patterns in the first field, and asks it about the second, and then about it as a path: whether
+/// any matches, the first and the last that does, and all of them. Or else gives the number of the text with a fault.
+struct Asking;
 
-/// What a question of the form of this number, below 8, answers: the number of a pattern, which is 0 where any matches.
-/// Those of the last two forms are in the list.
-fn ask<A: Allocator + Copy, B: Allocator>(
-    set: &PatternSet<A>,
-    form: usize,
+/// The answers of a set about a text.
+fn add_answers(
+    set: &PatternSet<Memory<'_>>,
+    alloc: Memory<'_>,
     text: &str,
-    list: &mut Vec<usize, B>,
-) -> Result<Option<usize>, AllocError> {
+    words: &mut String,
+) -> Option<()> {
     let path = Path::new(text);
-    match form {
-        0 => Ok(set.is_match(text)?.then_some(0)),
-        1 => set.first_match(text),
-        2 => set.last_match(text),
-        3 => Ok(set.is_match_path(path)?.then_some(0)),
-        4 => set.first_match_path(path),
-        5 => set.last_match_path(path),
-        6 => {
-            set.matches_into(text, list)?;
-            Ok(None)
-        }
-        _ => {
-            set.matches_path_into(path, list)?;
-            Ok(None)
-        }
-    }
+    let mut all = Vec::new(alloc);
+    set.matches_into(text, &mut all).ok()?;
+    let (is_any, all) = (set.is_match(text).ok()?, all.as_slice());
+    let (first, last) = (set.first_match(text).ok()?, set.last_match(text).ok()?);
+    write!(words, "{is_any} {first:?} {last:?} {all:?}, ").ok()?;
+    let mut all = Vec::new(alloc);
+    set.matches_path_into(path, &mut all).ok()?;
+    let (is_any, all) = (set.is_match_path(path).ok()?, all.as_slice());
+    let first = set.first_match_path(path).ok()?;
+    let last = set.last_match_path(path).ok()?;
+    write!(words, "{is_any} {first:?} {last:?} {all:?}, ").ok()
 }
 
-/// Whether the question is answered: the text is matched by the patterns of these numbers, whatever the list had
-/// before.
-fn is_answered<A: Allocator + Copy, B: Allocator>(
-    set: &PatternSet<A>,
-    (form, text): (usize, &str),
-    list: &mut Vec<usize, B>,
-    numbers: &[usize],
-) -> bool {
-    let wanted = match form {
-        0 | 3 if !numbers.is_empty() => Some(0),
-        1 | 4 => numbers.first().copied(),
-        2 | 5 => numbers.last().copied(),
-        _ => None,
-    };
-    ask(set, form, text, list) == Ok(wanted) && (form < 6 || list.as_slice() == numbers)
-}
-
-/// How many patterns the sets have: around one and two words of 64 bits, and many.
-static SIZES: [usize; 7] = [0, 1, 63, 64, 65, 129, 1_000];
-
-/// A set of so many names: each is matched by the pattern of its number alone, and the next name by none.
-fn check_names(rt: &(impl Abort + AllocGlobal), size: usize) {
-    let mut names = Vec::new(rt.alloc());
-    for number in 0..=size {
-        add(
-            rt,
-            &mut names,
-            made(rt, format!(in rt.alloc(); "f{number}.o")),
-        );
-    }
-    let mut texts = Vec::new(rt.alloc());
-    for name in names.iter().take(size) {
-        add(rt, &mut texts, name.as_str());
-    }
-    let set = made(rt, read(rt.alloc(), texts.as_slice()));
-    let has_parts = set.len() == size
-        && set.patterns().len() == size
-        && set.is_empty() == (size == 0);
-    check(
-        rt,
-        has_parts && set.options() == MatchOptions::new(),
-        "the parts",
-    );
-    let mut list = Vec::new(rt.alloc());
-    for (number, name) in names.iter().enumerate() {
-        for form in 0..8 {
-            let numbers = &[number][..usize::from(number < size)];
-            check(
-                rt,
-                is_answered(&set, (form, name.as_str()), &mut list, numbers),
-                name.as_str(),
-            );
-        }
-    }
-}
-
-#[test]
-fn sets_of_each_size(rt: HostRuntime) {
-    for &size in &SIZES {
-        check_names(&rt, size);
-    }
-}
-
-/// Texts of which a set is made, or of which that of this number has a fault.
-#[derive(Drop)]
-struct Reading<'a>(&'a [&'a str], Option<usize>);
-
-impl Calls for Reading<'_> {
-    fn answer(&self, alloc: Memory<'_>) -> Option<bool> {
-        match read(alloc, self.0) {
-            Ok(_) => Some(self.1.is_none()),
-            Err(SetRefusal::Syntax(number, _)) => Some(self.1 == Some(number)),
+impl Calls for Asking {
+    fn make(&self, alloc: Memory<'_>, fields: &[&str], words: &mut String) -> Option<()> {
+        let [sources, text] = fields else {
+            return None;
+        };
+        let texts = sources.split(' ').collect::<Vec<&str>>(alloc.inner).ok()?;
+        match PatternSet::from_texts(alloc, texts.as_slice(), MatchOptions::new()) {
+            Ok(set) => add_answers(&set, alloc, text, words),
+            Err(SetRefusal::Syntax(number, _)) => write!(words, "{number}").ok(),
             Err(SetRefusal::Memory) => None,
         }
     }
 }
 
-/// The numbers of the patterns below that match the long text below.
-static NUMBERS: [usize; 3] = [0, 1, 3];
+/// A pattern of the second row has 65 tokens, so that its matches ask for memory, and a list, of two matches, once
+/// more.
+const SETS: &str = "
+*.o é[!ab] [a-c]?* a** [ | a => 3
+*<63:?>[b] a* *a *<63:?>[b] b* | a<70:b> => <2:true Some(0) Some(3) [0, 1, 3], >
+*.o a* | b => <2:false None None [], >
+";
 
-/// A question of a form, about a text and the set of two long patterns, one that matches the same text, and two that do
-/// not.
-#[derive(Drop)]
-struct Question<'a> {
-    form: usize,
-    long: &'a str,
-    text: &'a str,
-}
-
-impl Question<'_> {
-    /// Where a request is refused, the question is out of memory, after the first of the numbers, and is answered when
-    /// it is asked again.
-    fn asks(&self, alloc: Memory<'_>, set: &PatternSet<Memory<'_>>) -> Option<bool> {
-        let mut list = Vec::new(alloc);
-        let is_short = ask(set, self.form, self.text, &mut list).is_err();
-        let is_whole = list.as_slice() == NUMBERS.as_slice();
-        let is_right = NUMBERS.as_slice().starts_with(list.as_slice())
-            && is_whole == (!is_short && self.form > 5);
-        if is_short
-            && is_right
-            && is_answered(set, (self.form, self.text), &mut list, NUMBERS.as_slice())
-        {
-            return None;
-        }
-        Some(!is_short && is_right)
-    }
-}
-
-impl Calls for Question<'_> {
-    fn answer(&self, alloc: Memory<'_>) -> Option<bool> {
-        match read(alloc, &[self.long, "a*", "*a", self.long, "b*"]) {
-            Ok(set) => self.asks(alloc, &set),
-            Err(_) => None,
-        }
-    }
-}
-
-/// Texts of which that of the number 3 is the first with a fault.
-static TEXTS: [&str; 5] = ["*.o", "\u{e9}[!ab]", "[a-c]?*", "a**", "["];
-
-/// The set of the question above.
-#[derive(Drop)]
-struct LongSet<'a>(&'a str);
-
-impl Calls for LongSet<'_> {
-    fn answer(&self, alloc: Memory<'_>) -> Option<bool> {
-        match read(alloc, &[self.0, "a*", "*a", self.0, "b*"]) {
-            Ok(_) => Some(true),
-            Err(_) => None,
-        }
-    }
-}
-
-/// The long pattern has 65 tokens. A match of it asks for memory, and a list, of two matches, once more.
 #[test]
 fn each_request_of_a_set_is_refused(rt: HostRuntime) {
-    let refused = refuse_each(&rt, &Reading(&TEXTS, Some(3)), "a set");
-    check(&rt, refused > 9, "requests");
-    let long = text(&rt, "* ?:63 [b]");
-    let text = text(&rt, "a b:70");
-    let (long, text) = (long.as_str(), text.as_str());
-    let first = refuse_each(&rt, &LongSet(long), "a set");
-    for form in 0..8 {
-        let asked = refuse_each(&rt, &Question { form, long, text }, "a question");
-        let fewest = if form < 6 { 1 } else { 3 };
-        check(&rt, first.saturating_add(fewest) <= asked, "requests");
-    }
+    refuse_rows(&rt, &Asking, SETS);
 }
 
-/// Patterns of at most 63 tokens: that of the text, which has 63, among others. A question of any form for one answer
-/// takes no memory.
+/// A set of a thousand names, of which each is matched by the pattern of its number alone.
 #[test]
-fn short_patterns_take_no_memory(rt: HostRuntime) {
-    let longest = text(&rt, "* ?:61 [b]");
-    let letters = text(&rt, "a:1000 b");
-    let counted = Rationed::refusing(0, rt.alloc());
-    let set = made(
-        &rt,
-        read(
-            &counted,
-            &["*.o", "**/target/**", longest.as_str(), "[a-c]*[!x]"],
-        ),
+fn a_large_set_answers(rt: HostRuntime) {
+    let mut names = made(&rt, String::from_str(rt.alloc(), "f0.o"));
+    for number in 1..1_000 {
+        made(&rt, write!(names, " f{number}.o"));
+    }
+    let rows = format!(in rt.alloc();
+        "\
+{names} | f0.o => <2:true Some(0) Some(0) [0], >
+{names} | f999.o => <2:true Some(999) Some(999) [999], >
+{names} | f1000.o => <2:false None None [], >"
     );
-    let first = counted.ration.asked();
-    for form in 0..6 {
-        for text in ["", "a.o", "b/target/c", letters.as_str()] {
-            let found = ask(&set, form, text, &mut Vec::new(rt.alloc()));
-            check(&rt, found.is_ok() && counted.ration.asked() == first, text);
-        }
-    }
+    check_rows(&rt, &Asking, made(&rt, rows).as_str());
+    let names = PatternSet::from_texts(rt.alloc(), &["a", "b"], MatchOptions::new());
+    let set = made(&rt, names);
+    let is_pair = set.len() == 2
+        && set.patterns().len() == 2
+        && !set.is_empty()
+        && set.options() == MatchOptions::new();
+    check(&rt, is_pair, "a pair");
 }
 
-/// Lines of each kind. The pattern of the last has 65 tokens, so that a question takes memory.
-const LINES: &str = "#\n*.o\n!keep.o\n[[:digit:]][!0-9]\ntarget/\n/* a:63 [l]\n";
+/// Asks the list of the lines in the first field about the path in the second, of a directory if `/` is at its end:
+/// whether it is ignored, and the line that decides.
+struct Ignoring;
 
-/// A path, whether it is a directory, the line that decides, and whether it is ignored, as gitignore(5) has it.
-static PATHS: [(&str, bool, Option<usize>, bool); 8] = [
-    ("0 a:63 l", false, Some(6), true),
-    ("src/a.o", false, Some(2), true),
-    ("src/keep.o", false, Some(3), false),
-    ("src/7-", false, Some(4), true),
-    ("src/77", false, None, false),
-    ("target", false, None, false),
-    ("target", true, Some(5), true),
-    ("target/keep.o", false, Some(5), true),
-];
-
-/// The lines of an ignore list, which is made and asked by both calls; a path, whether it is a directory, the line that
-/// decides, and whether it is ignored.
-#[derive(Drop)]
-struct Ignoring<'a>(&'a str, &'a str, (bool, Option<usize>, bool));
-
-impl Ignoring<'_> {
-    fn asks(&self, list: &IgnoreList<Memory<'_>>) -> Option<bool> {
-        let (is_directory, line, is_ignored) = self.2;
-        let ignored = match list.is_ignored(self.1, is_directory) {
-            Ok(found) => Some(found == is_ignored),
-            Err(_) => None,
+impl Calls for Ignoring {
+    fn make(&self, alloc: Memory<'_>, fields: &[&str], words: &mut String) -> Option<()> {
+        let [lines, paths] = fields else {
+            return None;
         };
-        let decided = match list.deciding_rule(self.1, is_directory) {
-            Ok(Some(rule)) => Some(line == Some(rule.line)),
-            Ok(None) => Some(line.is_none()),
-            Err(_) => None,
-        };
-        both(ignored, decided)
+        let list = IgnoreList::new(alloc, lines).ok()?;
+        for path in paths.split(' ') {
+            let name = path.trim_end_matches('/');
+            let is_directory = name.len() < path.len();
+            let is_ignored = list.is_ignored(name, is_directory).ok()?;
+            let rule = list.deciding_rule(name, is_directory).ok()?;
+            write!(words, "{is_ignored} {:?}, ", rule.map(|rule| rule.line)).ok()?;
+        }
+        Some(())
     }
 }
 
-impl Calls for Ignoring<'_> {
-    fn answer(&self, alloc: Memory<'_>) -> Option<bool> {
-        match IgnoreList::new(alloc, self.0) {
-            Ok(list) => self.asks(&list),
-            Err(RuleRefusal::Memory) => None,
-            Err(_) => Some(false),
-        }
-    }
-}
+/// Lines of each kind, of which the last has 65 tokens, so that a question takes memory, and what is ignored by which,
+/// as gitignore(5) has it.
+const PATHS: &str = "\
+#⏎*.o⏎!keep.o⏎[[:digit:]][!0-9]⏎target/⏎/*<63:a>[l]⏎ | \
+0<63:a>l src/a.o src/keep.o src/7- src/77 target target/ target/keep.o => \
+true Some(6), true Some(2), false Some(3), true Some(4), false None, false None, <2:true Some(5), >";
 
 #[test]
 fn each_request_of_an_ignore_list_is_refused(rt: HostRuntime) {
-    let lines = text(&rt, LINES);
-    for &(row, is_directory, line, is_ignored) in &PATHS {
-        let path = text(&rt, row);
-        let row_of_list = (is_directory, line, is_ignored);
-        let ignoring = Ignoring(lines.as_str(), path.as_str(), row_of_list);
-        check(&rt, refuse_each(&rt, &ignoring, row) > 2, row);
+    refuse_rows(&rt, &Ignoring, PATHS);
+}
+
+/// Matches the second field by the first: how many pieces there are, if any, the place up to which the text is taken,
+/// and the number of the tokens.
+struct Capturing;
+
+impl Calls for Capturing {
+    fn make(&self, alloc: Memory<'_>, fields: &[&str], words: &mut String) -> Option<()> {
+        let [source, text] = fields else {
+            return None;
+        };
+        let pattern = Pattern::new(alloc, source).ok()?;
+        let options = MatchOptions::new();
+        if let Some(pieces) = captures(alloc, &pattern, text, options).ok()? {
+            write!(words, "{} pieces, ", pieces.len()).ok()?;
+        }
+        let place = reach(alloc, &pattern, text, options).ok()?.place;
+        let count = tokens(alloc, &pattern).ok()?.len();
+        write!(words, "to {place}, {count} tokens").ok()
     }
+}
+
+/// The last row is of a pattern whose matches ask for memory, too.
+const CAPTURES: &str = "
+*.rs | main.rs => 4 pieces, to 7, 4 tokens
+**/*.[r]s | a/b/c.css => to 9, 5 tokens
+a*[!b] | <40:é> => to 0, 3 tokens
+*<20:€> | <30:€> => 21 pieces, to 90, 21 tokens
+<63:?>* | <70:a> => 64 pieces, to 70, 64 tokens
+";
+
+#[test]
+fn each_request_of_captures_is_refused(rt: HostRuntime) {
+    check(&rt, MOST_STEPS == 67_108_864, "the bound");
+    refuse_rows(&rt, &Capturing, CAPTURES);
 }

@@ -1,18 +1,15 @@
-//! What tests share: texts that repeat a part, checks that name their row, and each request for memory refused in turn.
+//! What tests share: texts that repeat a part, trees of keys, checks that name their row, and each request for memory
+//! refused in turn.
 use super::rationing::{Memory, Rationed};
-use std::alloc::AllocError;
+use glob::MemTree;
+use std::alloc::{AllocError, Allocator, Global};
 use std::fmt::Display;
-use std::io;
+use std::io::{self, ErrorKind};
 use std::process::Abort;
 
 /// What is compared is right. The row says what it was.
 pub fn check(rt: &impl Abort, is_right: bool, row: &str) {
     assert!(rt; is_right, "{row}");
-}
-
-/// A text is the known one.
-pub fn check_text(rt: &impl Abort, found: &str, known: &str, row: &str) {
-    assert!(rt; found == known, "{found} in place of {known} for {row}");
 }
 
 /// The value of an answer that is no error.
@@ -23,91 +20,101 @@ pub fn made<T, E: Drop>(rt: &impl Abort, answer: Result<T, E>) -> T {
     }
 }
 
-/// Adds an item to a list.
-pub fn add<T: Drop>(rt: &impl Abort, list: &mut Vec<T>, item: T) {
-    made(rt, list.push(item));
+/// The text that a row writes: `<3:a/>b` is `a/a/a/b`, and `⏎` a line feed.
+pub fn text(rt: &(impl Abort + AllocGlobal), row: &str) -> String {
+    made(rt, text_of(rt.alloc(), row))
 }
 
-/// A part so many times.
-pub fn repeated(rt: &(impl Abort + AllocGlobal), part: &str, times: usize) -> String {
-    let mut text = String::new(rt.alloc());
-    for _ in 0..times {
-        made(rt, text.push_str(part));
+fn text_of(alloc: Global, row: &str) -> Result<String, AllocError> {
+    let mut text = String::new(alloc);
+    for part in row.split('<') {
+        let (times, piece, rest) = repetition(part).unwrap_or((1, part, ""));
+        text.push_str(piece.repeat(alloc, times)?.as_str())?;
+        text.push_str(rest)?;
     }
-    text
+    text.replace(alloc, "⏎", "\n")
 }
 
-/// The text of parts, with how often each stands there: `*a:60 b` are sixty `*a` and then `b`.
-pub fn text(rt: &(impl Abort + AllocGlobal), parts: &str) -> String {
-    let mut text = String::new(rt.alloc());
-    for part in parts.split_terminator(' ') {
-        let (piece, times) = part.rsplit_once(':').unwrap_or((part, "1"));
-        let piece = match times.parse() {
-            Ok(times) => repeated(rt, piece, times),
-            Err(_) => repeated(rt, part, 1),
-        };
-        made(rt, text.push_str(piece.as_str()));
+/// What `3:a/>b` repeats, how often, and what follows.
+fn repetition(part: &str) -> Option<(usize, &str, &str)> {
+    let (times, rest) = part.split_once(':')?;
+    let (piece, after) = rest.split_once('>')?;
+    Some((times.parse().ok()?, piece, after))
+}
+
+/// The tree of these keys: directories have `/` at their end, and those that cannot be listed `#`.
+pub fn tree_of<A: Allocator + Copy>(alloc: A, keys: &str) -> Option<MemTree<A>> {
+    let mut tree = MemTree::new(alloc).ok()?;
+    for key in keys.split(' ') {
+        if let Some(path) = key.strip_suffix('#') {
+            tree.add_shut(path, ErrorKind::PermissionDenied).ok()?;
+        } else if let Some(path) = key.strip_suffix('/') {
+            tree.add_dir(path).ok()?;
+        } else {
+            tree.add_other(key).ok()?;
+        }
     }
-    text
+    Some(tree)
 }
 
 /// A value is printed as this text, alone and between others.
 pub fn check_printed<T: Display>(rt: &(impl Abort + AllocGlobal), value: &T, text: &str) {
     let line = made(rt, format!(in rt.alloc(); "{value}<{value}>"));
     let known = made(rt, format!(in rt.alloc(); "{text}<{text}>"));
-    check_text(rt, line.as_str(), known.as_str(), text);
+    assert!(rt; line == known, "{line} in place of {known}");
 }
 
-/// Whether both errors have the same kind, the same code of the system and the same words.
-pub fn are_same(
-    rt: &impl AllocGlobal,
-    one: io::Error,
-    other: io::Error,
-) -> Result<bool, AllocError> {
-    let words = format!(in rt.alloc(); "{one}")?;
-    let others = format!(in rt.alloc(); "{other}")?;
+/// Both errors have the same kind, the same code of the system and the same words.
+pub fn check_same(rt: &(impl Abort + AllocGlobal), one: io::Error, other: io::Error) {
+    let words = made(rt, format!(in rt.alloc(); "{other}"));
+    check_printed(rt, &one, words.as_str());
     let is_same = one.kind() == other.kind() && one.raw_os_error() == other.raw_os_error();
-    Ok(is_same && words.as_str() == others.as_str())
+    check(rt, is_same, words.as_str());
 }
 
 /// Calls that ask for memory.
 pub trait Calls {
-    /// Makes the calls with memory from `alloc`. Gives whether what they answer is right; `None` if one of them is out
-    /// of memory, and the others are right.
-    fn answer(&self, alloc: Memory<'_>) -> Option<bool>;
+    /// Makes the calls for the fields of a row with memory from `alloc`, and adds what they answer to the words. `None`
+    /// once a call is out of memory.
+    fn make(&self, alloc: Memory<'_>, fields: &[&str], words: &mut String) -> Option<()>;
 }
 
-/// What two calls give together.
-pub fn both(one: Option<bool>, other: Option<bool>) -> Option<bool> {
-    match (one, other) {
-        (Some(false), _) | (_, Some(false)) => Some(false),
-        (Some(true), Some(true)) => Some(true),
-        _ => None,
+/// Makes the calls of each row `FIELD | FIELD => ANSWER`: with ample memory, and then with each request refused in
+/// turn. They answer so, or a first part of it and are then out of memory. In the end no block is held. Only where a
+/// call asks again, as `collect` does, is the answer whole although a request was refused.
+pub fn refuse_rows<C: Calls>(rt: &(impl Abort + AllocGlobal), calls: &C, rows: &str) {
+    for row in rows.lines() {
+        let asked = check_row(rt, calls, row, 0);
+        for number in 1..=asked {
+            check_row(rt, calls, row, number);
+        }
     }
 }
 
-/// Makes the calls with memory of which the request of this number is refused, or none at 0: they are out of memory, or
-/// right, and no block is left. Gives how many requests there were.
-fn check_calls<C: Calls>(
-    rt: &(impl Abort + AllocGlobal),
-    calls: &C,
-    number: u64,
-    row: &str,
-) -> u64 {
-    let alloc = Rationed::refusing(number, rt.alloc());
-    let is_right = match calls.answer(&alloc) {
-        Some(is_right) => is_right && number == 0,
-        None => number > 0,
+/// Makes the calls of each row with ample memory alone.
+pub fn check_rows<C: Calls>(rt: &(impl Abort + AllocGlobal), calls: &C, rows: &str) {
+    for row in rows.lines() {
+        check_row(rt, calls, row, 0);
+    }
+}
+
+/// Makes the calls of a row, with the request of this number refused, or none at 0. Gives how many requests there were.
+fn check_row<C: Calls>(rt: &(impl Abort + AllocGlobal), calls: &C, row: &str, number: u64) -> u64 {
+    let Some((fields, answer)) = row.split_once(" => ") else {
+        return 0;
     };
-    assert!(rt; is_right && alloc.ration.held() == 0, "{number} of {row}");
+    let (fields, answer) = (text(rt, fields), text(rt, answer));
+    let fields = made(rt, fields.split(" | ").collect::<Vec<&str>>(rt.alloc()));
+    let alloc = Rationed::refusing(number, rt.alloc());
+    let mut words = String::new(rt.alloc());
+    let is_right = match calls.make(&alloc, fields.as_slice(), &mut words) {
+        Some(()) => words == answer,
+        None => number > 0 && answer.starts_with(words.as_str()),
+    };
+    let is_right = is_right && alloc.ration.held() == 0;
+    assert!(rt;
+        is_right,
+        "{number}: {words} in place of {answer} for {row}"
+    );
     alloc.ration.asked()
-}
-
-/// Makes the calls with ample memory, and then with each request refused in turn. Gives how many requests there are.
-pub fn refuse_each<C: Calls>(rt: &(impl Abort + AllocGlobal), calls: &C, row: &str) -> u64 {
-    let asked = check_calls(rt, calls, 0, row);
-    for number in 1..=asked {
-        check_calls(rt, calls, number, row);
-    }
-    asked
 }

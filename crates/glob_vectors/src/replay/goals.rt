@@ -1,156 +1,99 @@
-//! Compares the walk of a plain pattern with the paths of the content that the whole pattern matches, under both settings
-//! of each rule: as sets, and where the pattern says so, in order.
+//! Compares the walk of a plain pattern with the paths of the content that the whole pattern matches, under both
+//! settings of each rule: as sets, and where the pattern says so, in order.
 
-use super::planting::{is_directory, name_of, planted};
-use super::report::Report;
-use super::state::State;
+use super::Report;
+use super::settings::Settings;
 use super::walking::{Job, gathered};
+use super::walks::{is_directory, name_of, source_of};
 use crate::words::{has_word, options_in_order, pattern_of};
 use glob::{MatchOptions, is_plain};
 use std::alloc::{AllocError, Global};
 use std::io::{self, Write};
 
 /// Compares a walk under each setting, if its pattern is plain, and case and the limit are the usual ones.
-pub fn replay(report: &mut Report, state: &State, job: Job<'_>) -> io::Result<()> {
-    let is_usual = job.limit == u64::MAX && job.options.case_sensitive && state.liar.is_empty();
-    if !is_usual || !matches!(is_plain(report.alloc(), job.pattern), Ok(true)) {
+pub fn replay(report: &mut Report, job: Job<'_>) -> io::Result<()> {
+    let alloc = report.alloc();
+    let is_content = report.settings.get("tree").is_empty();
+    let is_usual = is_content && job.limit == u64::MAX && job.options.case_sensitive;
+    if !is_usual || !matches!(is_plain(alloc, job.pattern), Ok(true)) {
         return Ok(());
     }
     for letters in ["tff", "tft", "ttf", "ttt"] {
-        let options = options_in_order(letters)?;
-        let fault = fault_of(report.alloc(), state, Job { options, ..job })?;
-        report.compare(job.pattern, "", fault.as_str())?;
+        let job = Job {
+            options: options_in_order(letters)?,
+            ..job
+        };
+        let goals = goals_of(alloc, &report.settings, job)?;
+        let walk = gathered(alloc, source_of(alloc, &report.settings)?, job)?.words()?;
+        let (walk, goals) = (walk.as_str(), goals.as_str());
+        let is_right = are_goals(walk, goals) && is_orderly(alloc, job.pattern, walk)?;
+        report.compare(job.pattern, goals, if is_right { goals } else { walk })?;
     }
     Ok(())
 }
 
-/// What is wrong with what a walk finds.
-fn fault_of(alloc: Global, state: &State, job: Job<'_>) -> io::Result<String> {
-    let walk = gathered(alloc, planted(alloc, state)?, job)?;
-    let mut goals = String::new(alloc);
-    add_goals(alloc, &mut goals, state.content.as_str(), job)?;
-    add_goals(alloc, &mut goals, state.extra.as_str(), job)?;
-    let mut fault = String::new(alloc);
-    add_strangers(&mut fault, walk.items.as_str(), goals.as_str())?;
-    add_missing(&mut fault, walk.items.as_str(), goals.as_str())?;
-    if !walk.items.contains('!') {
-        add_disorder(
-            alloc,
-            &mut fault,
-            walk.items.as_str(),
-            order_of(job.pattern),
-        )?;
-    }
-    Ok(fault)
-}
-
-/// Adds the paths of a content that the whole pattern matches, each after a blank: of directories alone, if it ends in `/`
+/// The paths of a content that the whole pattern matches, each after a blank: of directories alone, if it ends in `/`
 /// or `**`.
-fn add_goals(alloc: Global, goals: &mut String, content: &str, job: Job<'_>) -> io::Result<()> {
+fn goals_of(alloc: Global, settings: &Settings, job: Job<'_>) -> io::Result<String> {
     let whole = pattern_of(alloc, job.pattern.strip_suffix('/').unwrap_or(job.pattern))?;
     let are_directories = job.pattern.ends_with('/') || job.pattern.ends_with("**");
+    let is_rooted = job.pattern.starts_with('/');
+    let root = if is_rooted { "/" } else { "" };
     let options = MatchOptions {
         require_literal_separator: true,
         ..job.options
     };
-    for word in content.split_whitespace() {
-        let root = if job.pattern.starts_with('/') {
-            "/"
-        } else {
-            ""
-        };
+    let mut goals = String::new(alloc);
+    for word in settings.content()?.split_whitespace() {
         let path = format!(in alloc; "{root}{}", name_of(word))?;
         if (is_directory(word) || !are_directories) && whole.matches_with(path.as_str(), options)? {
-            goals.push(' ')?;
-            goals.push_str(path.as_str())?;
+            write!(goals, " {path}")?;
         }
     }
-    Ok(())
+    Ok(goals)
 }
 
-/// Adds each path among the items that is no goal.
-fn add_strangers(fault: &mut String, items: &str, goals: &str) -> Result<(), AllocError> {
-    for item in items.split_whitespace() {
-        if !item.starts_with('!') && !has_word(goals, item) {
-            write!(fault, " {item} is no goal")?;
-        }
-    }
-    Ok(())
-}
-
-/// Adds each goal that is no item, but for those below a directory that could not be listed.
-fn add_missing(fault: &mut String, items: &str, goals: &str) -> Result<(), AllocError> {
-    for goal in goals.split_whitespace() {
-        if !has_word(items, goal) && !is_lost(goal, items) {
-            write!(fault, " {goal} is missing")?;
-        }
-    }
-    Ok(())
+/// Whether each path of a walk is a goal, and each goal is one of the paths or below a directory that could not be
+/// listed.
+fn are_goals(walk: &str, goals: &str) -> bool {
+    let (mut items, mut keys) = (walk.split_whitespace(), goals.split_whitespace());
+    items.all(|item| item.starts_with('!') || has_word(goals, item))
+        && keys.all(|goal| has_word(walk, goal) || is_lost(goal, walk))
 }
 
 /// Whether a path is below a directory that could not be listed.
-fn is_lost(path: &str, items: &str) -> bool {
-    items.split_whitespace().any(|item| is_below(path, item))
+fn is_lost(path: &str, walk: &str) -> bool {
+    walk.split(" !").skip(1).any(|error| is_below(path, error))
 }
 
-/// Whether an item is the error of a directory, and a path is below that.
-fn is_below(path: &str, item: &str) -> bool {
-    let directory = item
-        .strip_prefix('!')
-        .and_then(|error| error.split_once(':'));
-    match directory.and_then(|(directory, _)| path.strip_prefix(directory)) {
-        Some(rest) => rest.starts_with('/'),
-        None => false,
-    }
+/// Whether a path is below the directory of an error, before which `!` is gone.
+fn is_below(path: &str, error: &str) -> bool {
+    let directory = error.split(':').next().unwrap_or("");
+    let rest = path.strip_prefix(directory);
+    rest.is_some_and(|rest| rest.starts_with('/'))
 }
 
-/// In which order the paths of a pattern come.
-#[derive(Clone, Copy, PartialEq, Eq)]
-enum Order {
-    /// Rising as lists of names: at most one component follows the only place with `**`.
-    Rising,
-    /// Each path once: there is one place with `**`.
-    Once,
-    /// In any order, maybe more than once.
-    Any,
-}
-
-fn order_of(pattern: &str) -> Order {
-    let Some((_, rest)) = pattern.split_once("**") else {
-        return Order::Rising;
-    };
+/// Whether the paths of a walk come once, if the pattern has at most one place with `**`, and if at most one component
+/// follows it, rising as lists of names. Errors are left out. Lists of names are compared as texts with a NUL between
+/// the names.
+fn is_orderly(alloc: Global, pattern: &str, walk: &str) -> Result<bool, AllocError> {
+    let (_, rest) = pattern.split_once("**").unwrap_or(("", ""));
     let rest = rest.trim_start_matches("/**").trim_end_matches('/');
-    if rest.contains("**") {
-        Order::Any
-    } else if rest.matches('/').count() <= 1 {
-        Order::Rising
-    } else {
-        Order::Once
+    if rest.contains("**") || walk.contains(" !") {
+        return Ok(true);
     }
+    if rest.matches('/').count() > 1 {
+        return Ok(walk.split_whitespace().all(|path| is_once(walk, path)));
+    }
+    let lists = walk.replace(alloc, "/", "\0")?;
+    let mut pairs = lists
+        .split_whitespace()
+        .zip(lists.split_whitespace().skip(1));
+    Ok(pairs.all(|(path, next)| path < next))
 }
 
-/// Adds each path that is not where it is to be. Lists of names are compared as texts with a NUL between the names.
-fn add_disorder(
-    alloc: Global,
-    fault: &mut String,
-    items: &str,
-    order: Order,
-) -> Result<(), AllocError> {
-    let lists = items.replace(alloc, "/", "\0")?;
-    let mut before = String::new(alloc);
-    for path in lists.split_whitespace() {
-        let is_twice = lists
-            .split_whitespace()
-            .filter(|other| *other == path)
-            .count()
-            > 1;
-        if (order == Order::Rising && path <= before.as_str())
-            || (order == Order::Once && is_twice)
-        {
-            write!(fault, " {path} is not in order")?;
-        }
-        before.clear();
-        before.push_str(path)?;
-    }
-    Ok(())
+/// Whether a word is there once.
+fn is_once(words: &str, word: &str) -> bool {
+    let same = words.split_whitespace().filter(|other| *other == word);
+    same.count() == 1
 }

@@ -2,39 +2,32 @@
 ghost use Rattle.std.specs.Prelude.{◌&&◌, ◌==◌, ◌≡◌, ◌≤◌, not};
 ghost use Rattle.std.specs.List.{list_any};
 
-use super::report::Report;
-use crate::words::{count_of, unfit};
+use crate::words::{cut, number_of, unfit};
 use glob::{Judge, Shape, run_positions};
-use std::alloc::{AllocError, Global};
+use std::alloc::Global;
 use std::io::{self, Write};
 
-/// What is known of characters and tokens, all numbered from 0.
-#[derive(Clone, Copy)]
-struct Answers<'a> {
+/// A judge whose answers are written down. Tokens, characters and places are numbered from 0.
+#[derive(Drop)]
+struct WrittenJudge<'a> {
+    tokens: usize,
     characters: usize,
     /// The places that open.
     opening: &'a [usize],
     /// Each token with a character that it does not take. It takes all others.
     refused: &'a [(usize, usize)],
-}
-
-/// A judge whose answers are written down.
-#[derive(Drop)]
-struct WrittenJudge<'a> {
-    answers: Answers<'a>,
-    tokens: usize,
     place: usize,
     count: u128,
-    ghost within: { place ≤ answers.characters },
+    ghost within: { place ≤ characters },
 }
 
 impl Judge for WrittenJudge<'_> {
     ghost table = { λ judge. record {
-      characters = judge.answers.characters;
+      characters = judge.characters;
       tokens = judge.tokens;
-      opens = λ place. list_any (λ written. written == place) judge.answers.opening.now;
+      opens = λ place. list_any (λ written. written == place) judge.opening.now;
       takes = λ token character. not (list_any
-          (λ written. written.0 == token && written.1 == character) judge.answers.refused.now);
+          (λ written. written.0 == token && written.1 == character) judge.refused.now);
     } };
 
     ghost place = { λ judge. judge.place };
@@ -42,7 +35,7 @@ impl Judge for WrittenJudge<'_> {
     ghost count = { λ judge. judge.count };
 
     fn step(&mut self) -> bool {
-        if self.place == self.answers.characters {
+        if self.place == self.characters {
             return false;
         }
         self.place += 1;
@@ -50,12 +43,12 @@ impl Judge for WrittenJudge<'_> {
     }
 
     fn opens(&self) -> bool {
-        self.answers.opening.contains(&self.place)
+        self.opening.contains(&self.place)
     }
 
     fn takes(&mut self, token: usize) -> bool {
         self.count += 1;
-        !self.answers.refused.contains(&(token, self.place - 1))
+        !self.refused.contains(&(token, self.place - 1))
     }
 
     fn asked(&self) -> u128 {
@@ -63,87 +56,49 @@ impl Judge for WrittenJudge<'_> {
     }
 }
 
-/// Splits the characters of a row.
-pub fn replay(report: &mut Report, line: &str) -> io::Result<()> {
-    let Some((asked, answer)) = line.split_once(" => ") else {
-        return Ok(());
-    };
-    let parts = asked.split(" | ").collect::<Vec<&str>>(report.alloc())?;
+/// Whether the characters split into pieces of these shapes, in words, and what is wrong with the questions: more than
+/// shapes times characters, or for a split fewer than the characters.
+pub fn split(alloc: Global, asked: &str) -> io::Result<String> {
+    let parts = asked.split(" | ").collect::<Vec<&str>>(alloc)?;
     let [shapes, characters, opening, taken] = parts.as_slice() else {
         return Err(unfit());
     };
-    let shapes = shapes_of(report.alloc(), shapes)?;
-    let opening = places_of(report.alloc(), opening)?;
-    let refused = pairs_of(report.alloc(), taken)?;
-    let answers = Answers {
-        characters: count_of(characters)?,
+    let words = shapes.split_whitespace().filter(|word| *word != "none");
+    let shapes: Vec<Shape> = words.map(|word| shape_of(word)).try_collect(alloc)?;
+    let words = opening.split_whitespace();
+    let opening: Vec<usize> = words.map(|word| number_of(word)).try_collect(alloc)?;
+    let words = taken.split_whitespace().filter(|word| word.contains('.'));
+    let refused: Vec<(usize, usize)> = words.map(|word| pair_of(word)).try_collect(alloc)?;
+    let mut judge = WrittenJudge {
+        tokens: shapes.len(),
+        characters: number_of(characters)?,
         opening: opening.as_slice(),
         refused: refused.as_slice(),
+        place: 0,
+        count: 0,
     };
-    let found = split(report.alloc(), shapes.as_slice(), answers)?;
-    report.compare(asked, answer, found.as_str())
-}
-
-/// The shapes that words name.
-fn shapes_of(alloc: Global, words: &str) -> io::Result<Vec<Shape>> {
-    let mut shapes = Vec::new(alloc);
-    for word in words.split_whitespace() {
-        match word {
-            "One" => shapes.push(Shape::One)?,
-            "Run" => shapes.push(Shape::Run)?,
-            "Deep" => shapes.push(Shape::Deep)?,
-            "none" => {}
-            _ => return Err(unfit()),
-        }
-    }
-    Ok(shapes)
-}
-
-/// The places that words write.
-fn places_of(alloc: Global, words: &str) -> io::Result<Vec<usize>> {
-    let mut places = Vec::new(alloc);
-    for word in words.split_whitespace() {
-        places.push(count_of(word)?)?;
-    }
-    Ok(places)
-}
-
-/// The tokens and characters after `all but`, as in `all but 1.2`.
-fn pairs_of(alloc: Global, words: &str) -> io::Result<Vec<(usize, usize)>> {
-    let mut pairs = Vec::new(alloc);
-    for word in words.split_whitespace() {
-        if let Some((token, character)) = word.split_once('.') {
-            pairs.push((count_of(token)?, count_of(character)?))?;
-        }
-    }
-    Ok(pairs)
-}
-
-/// Whether the characters split into pieces of these shapes, in words, and what is wrong with the questions: more than
-/// shapes times characters, or for a split fewer than the characters.
-fn split(alloc: Global, shapes: &[Shape], answers: Answers<'_>) -> Result<String, AllocError> {
-    let (found, questions) = answer(alloc, shapes, answers)?;
-    let least = if found { answers.characters } else { 0 };
-    let most = shapes.len().saturating_mul(answers.characters);
+    let found = run_positions(alloc, shapes.as_slice(), &mut judge)?;
+    let least = if found { judge.characters } else { 0 };
+    let most = judge.tokens.saturating_mul(judge.characters);
     let mut words = String::from_str(alloc, if found { "yes" } else { "no" })?;
-    if questions < least as u128 || questions > most as u128 {
-        write!(words, ", with {questions} questions")?;
+    if judge.count < least as u128 || judge.count > most as u128 {
+        write!(words, ", with {} questions", judge.count)?;
     }
     Ok(words)
 }
 
-/// What `run_positions` answers, and how many questions that took.
-fn answer(
-    alloc: Global,
-    shapes: &[Shape],
-    answers: Answers<'_>,
-) -> Result<(bool, u128), AllocError> {
-    let mut judge = WrittenJudge {
-        answers,
-        tokens: shapes.len(),
-        place: 0,
-        count: 0,
-    };
-    let found = run_positions(alloc, shapes, &mut judge)?;
-    Ok((found, judge.asked()))
+/// The shape that a word names.
+fn shape_of(word: &str) -> io::Result<Shape> {
+    match word {
+        "One" => Ok(Shape::One),
+        "Run" => Ok(Shape::Run),
+        "Deep" => Ok(Shape::Deep),
+        _ => Err(unfit()),
+    }
+}
+
+/// The token and the character of a word as `1.2`.
+fn pair_of(word: &str) -> io::Result<(usize, usize)> {
+    let (token, character) = cut(word, ".")?;
+    Ok((number_of(token)?, number_of(character)?))
 }

@@ -1,172 +1,87 @@
-//! Rows of matches. In fields: the options, a pattern, a text, and `y` or `n`. In words: `PATTERNS => ANSWER TEXTS`, and
-//! the most questions that this takes may follow.
+//! Rows of matches. In fields: the options, a pattern, a text, and `y` or `n`. In words: `PATTERNS => ANSWER TEXTS`,
+//! and the most questions that this takes may follow.
 
-use super::report::Report;
-use super::state::State;
-use crate::words::{number_of, options_in_order, pattern_of, text_of, unfit};
-use glob::{MatchOptions, Pattern, PatternRefusal};
+use super::Report;
+use crate::words::{cut, options_in_order, pattern_of, text_of, unfit, with_number};
+use glob::{MatchOptions, Pattern};
 use glob_captures::tokens;
-use std::alloc::{AllocError, Global};
+use glob_rationing::{Memory, Rationed};
+use std::alloc::Global;
 use std::io::{self, Write};
 use std::path::Path;
 
-/// A match that is wanted.
-#[derive(Clone, Copy)]
-struct Case<'a> {
-    pattern: &'a str,
-    text: &'a str,
-    options: MatchOptions,
-    answer: &'a str,
-    /// The most questions that it takes, or `None` for the pattern's tokens times the text's characters.
-    most: Option<u64>,
+/// Up to so many tokens a match needs no memory.
+const SHORT: usize = 63;
+
+/// Replays a row of fields, of which the options are the first.
+pub fn replay_fields(report: &mut Report, letters: &str, fields: &str) -> io::Result<()> {
+    let (pattern, rest) = cut(fields, "\t")?;
+    let (text, answer) = cut(rest, "\t")?;
+    let options = options_in_order(letters)?;
+    let found = answer_of(report.alloc(), pattern, text, (options, None))?;
+    let answer = if answer == "y" { "yes" } else { "no" };
+    report.compare(fields, answer, found.as_str())
 }
 
-/// Replays a row of fields.
-pub fn replay_fields(report: &mut Report, line: &str) -> io::Result<()> {
-    let fields = line.split('\t').collect::<Vec<&str>>(report.alloc())?;
-    let [letters, pattern, text, answer] = fields.as_slice() else {
-        return Ok(());
-    };
-    let case = Case {
-        pattern,
-        text,
-        options: options_in_order(letters)?,
-        answer: if *answer == "y" { "yes" } else { "no" },
-        most: None,
-    };
-    replay_case(report, case)
-}
-
-/// Replays a row of words, or sets what another line says.
-pub fn replay(report: &mut Report, state: &mut State, line: &str) -> io::Result<()> {
-    let Some((patterns, outcome)) = line.split_once(" => ") else {
-        return state.set(line);
-    };
-    for letters in state.options.as_str().split_whitespace() {
-        replay_row(report, options_in_order(letters)?, patterns, outcome)?;
+/// Replays a row of words.
+pub fn replay(report: &mut Report, patterns: &str, outcome: &str) -> io::Result<()> {
+    let alloc = report.alloc();
+    let (outcome, most) = with_number(outcome)?;
+    let (answer, texts) = cut(outcome, " ")?;
+    for &(options, word) in report.settings.cases(patterns)?.as_slice() {
+        let pattern = text_of(alloc, word)?;
+        for word in texts.split_whitespace() {
+            let text = text_of(alloc, word)?;
+            let found = answer_of(alloc, pattern.as_str(), text.as_str(), (options, most))?;
+            let name = format!(in alloc; "{pattern} on {text}")?;
+            report.compare(name.as_str(), answer, found.as_str())?;
+        }
     }
     Ok(())
 }
 
-/// Replays the matches of a row under a setting of the options.
-fn replay_row(
-    report: &mut Report,
-    options: MatchOptions,
-    patterns: &str,
-    outcome: &str,
-) -> io::Result<()> {
-    for word in patterns.split_whitespace() {
-        let pattern = text_of(report.alloc(), word)?;
-        replay_pattern(report, options, pattern.as_str(), outcome)?;
-    }
-    Ok(())
-}
-
-/// Replays the matches of a pattern.
-fn replay_pattern(
-    report: &mut Report,
-    options: MatchOptions,
-    pattern: &str,
-    outcome: &str,
-) -> io::Result<()> {
-    let (outcome, most) = match outcome.split_once(" ; ") {
-        Some((outcome, most)) => (outcome, Some(number_of(most)?)),
-        None => (outcome, None),
-    };
-    let Some((answer, texts)) = outcome.split_once(' ') else {
-        return Err(unfit());
-    };
-    for word in texts.split_whitespace() {
-        let text = text_of(report.alloc(), word)?;
-        let case = Case {
-            pattern,
-            text: text.as_str(),
-            options,
-            answer,
-            most,
-        };
-        replay_case(report, case)?;
-    }
-    Ok(())
-}
-
-/// Replays a match.
-fn replay_case(report: &mut Report, case: Case<'_>) -> io::Result<()> {
-    let pattern = pattern_of(report.alloc(), case.pattern)?;
-    let mut found = String::new(report.alloc());
-    let is_match = pattern.matches_with(case.text, case.options)?;
-    found.push_str(if is_match { "yes" } else { "no" })?;
-    add_others(report.alloc(), &mut found, &pattern, case, is_match)?;
-    add_questions(report.alloc(), &mut found, &pattern, case, is_match)?;
-    let name = format!(in report.alloc(); "{} on {}", case.pattern, case.text)?;
-    report.compare(name.as_str(), case.answer, found.as_str())
-}
-
-/// Adds which other calls answer otherwise.
-fn add_others(
+/// `yes` or `no`, and what is wrong: a call that answers otherwise, too many questions or for a match fewer than the
+/// characters, and memory that is asked for though the pattern is short. At most are asked as many as are given, or the
+/// tokens times the characters.
+fn answer_of(
     alloc: Global,
-    found: &mut String,
-    pattern: &Pattern,
-    case: Case<'_>,
-    is_match: bool,
-) -> io::Result<()> {
-    let path = Path::new(case.text);
-    if pattern.clone()?.matches_with(case.text, case.options)? != is_match {
-        found.push_str(", not by a clone")?;
+    source: &str,
+    text: &str,
+    (options, most): (MatchOptions, Option<usize>),
+) -> io::Result<String> {
+    let memory = Rationed::ample(alloc);
+    let pattern = pattern_of(&memory, source)?;
+    let other = read_again(&memory, source)?;
+    let asked = memory.ration.asked();
+    let is_match = pattern.matches_with(text, options)?;
+    let mut found = String::from_str(alloc, if is_match { "yes" } else { "no" })?;
+    let (counted, questions) = pattern.matches_counted(text, options)?;
+    let by_path = other.matches_path_with(Path::new(text), options)?;
+    if [counted, by_path, other.matches_with(text, options)?] != [is_match; 3] {
+        found.push_str(", and otherwise by another call")?;
     }
-    if from_str(alloc, case.pattern)?.matches_path_with(path, case.options)? != is_match {
-        found.push_str(", not by matches_path_with")?;
+    let usual = [other.matches(text)?, other.matches_path(Path::new(text))?];
+    if options == MatchOptions::new() && usual != [is_match; 2] {
+        found.push_str(", and otherwise under the usual options")?;
     }
-    if case.options == MatchOptions::new() {
-        add_usual(found, pattern, case, is_match)?;
-    }
-    Ok(())
-}
-
-/// The pattern of a text, by `from_str`.
-fn from_str(alloc: Global, text: &str) -> io::Result<Pattern> {
-    match Pattern::from_str(alloc, text) {
-        Ok(pattern) => Ok(pattern),
-        Err(_) => Err(unfit()),
-    }
-}
-
-/// Adds which calls under the usual options answer otherwise.
-fn add_usual(
-    found: &mut String,
-    pattern: &Pattern,
-    case: Case<'_>,
-    is_match: bool,
-) -> Result<(), AllocError> {
-    if pattern.matches(case.text)? != is_match {
-        found.push_str(", not by matches")?;
-    }
-    if pattern.matches_path(Path::new(case.text))? != is_match {
-        found.push_str(", not by matches_path")?;
-    }
-    Ok(())
-}
-
-/// Adds what is wrong with the questions: too many, or for a match fewer than the characters.
-fn add_questions(
-    alloc: Global,
-    found: &mut String,
-    pattern: &Pattern,
-    case: Case<'_>,
-    is_match: bool,
-) -> Result<(), AllocError> {
-    let (counted, questions) = pattern.matches_counted(case.text, case.options)?;
-    let characters = case.text.chars().count();
+    let tokens = tokens(alloc, &pattern)?.len();
+    let characters = text.chars().count();
     let least = if is_match { characters } else { 0 };
-    let most = match case.most {
-        Some(most) => most as u128,
-        None => tokens(alloc, pattern)?.len().saturating_mul(characters) as u128,
-    };
-    if counted != is_match || questions < least as u128 || questions > most {
-        write!(
-            found,
-            ", by matches_counted {counted} with {questions} questions"
-        )?;
+    let most = most.unwrap_or(tokens.saturating_mul(characters));
+    if questions < least as u128 || questions > most as u128 {
+        write!(found, ", with {questions} questions")?;
     }
-    Ok(())
+    if tokens <= SHORT && memory.ration.asked() != asked {
+        found.push_str(", with memory")?;
+    }
+    Ok(found)
+}
+
+/// The pattern of a text by other calls than `new`.
+fn read_again<'a>(memory: Memory<'a>, text: &str) -> io::Result<Pattern<Memory<'a>>> {
+    if text.is_empty() {
+        return Ok(Pattern::default(memory));
+    }
+    let pattern = Pattern::from_str(memory, text).map_err(|_| unfit())?;
+    Ok(pattern.clone()?)
 }

@@ -1,11 +1,7 @@
-//! A walk by `next` and by `walk_in`, and what it gives, in words: a path, `!` and the path of a directory that could not
-//! be listed with the kind of its error, `^` and the path of the limit's refusal, and `~` where memory ran out.
+//! A walk, item by item and whole, and what it gives in words.
 
 use super::asked_tree::{AskedTree, Source};
-use glob::{
-    End, GlobCause, GlobError, GlobResult, MatchOptions, Paths, PatternRefusal, Tree, Walk,
-    glob_in, walk_in,
-};
+use glob::{End, GlobCause, GlobError, GlobResult, MatchOptions, Paths, Tree, glob_in, walk_in};
 use std::alloc::{AllocError, Allocator, Global};
 use std::cell::Cell;
 use std::io::{self, Write};
@@ -21,11 +17,12 @@ pub struct Job<'a> {
 /// What a walk gave, and what it spent.
 #[derive(Drop)]
 pub struct Found {
-    /// Its items, and what is wrong with the walk, each after a blank.
+    /// Each item after a tab: `=` and a path; `!`, the path of a directory that could not be listed, `:` and the kind
+    /// of its error; `^` and the path of the limit's refusal; `~` where memory ran out. Or what is printed of the
+    /// pattern's fault; and at last what is wrong with the walk.
     pub items: String,
+    /// The units of work.
     pub spent: u64,
-    /// What is printed of the last error, or of the pattern's fault.
-    pub printed: String,
 }
 
 impl Found {
@@ -34,160 +31,115 @@ impl Found {
         Found {
             items: String::new(alloc),
             spent: 0,
-            printed: String::new(alloc),
         }
+    }
+
+    /// The items as tables write them, each after a blank.
+    pub fn words(&self) -> Result<String, AllocError> {
+        let alloc = *self.items.allocator();
+        let words = self.items.replace(alloc, "\t=", " ")?;
+        words.replace(alloc, "\t", " ")
     }
 
     /// Adds an item.
     fn add<A: Allocator>(&mut self, item: &GlobResult<A>) -> Result<(), AllocError> {
         match item {
-            Ok(path) => self.add_path(" ", path.as_str()),
-            Err(error) => {
-                self.printed.clear();
-                write!(self.printed, "{error}")?;
-                self.add_error(error)
-            }
+            Ok(path) => write!(self.items, "\t={}", path.as_str()),
+            Err(error) => self.add_error(error),
         }
     }
 
+    /// Adds an error, and what is printed of it, if that is wrong.
     fn add_error<A: Allocator>(&mut self, error: &GlobError<A>) -> Result<(), AllocError> {
-        match error.cause() {
-            GlobCause::Memory => self.items.push_str(" ~"),
-            GlobCause::Limit => self.add_path(" ^", error.path().as_str()),
-            GlobCause::Read => {
-                self.add_path(" !", error.path().as_str())?;
-                write!(self.items, ":{:?}", error.error().kind())
-            }
-        }
-    }
-
-    fn add_path(&mut self, sign: &str, path: &str) -> Result<(), AllocError> {
-        self.items.push_str(sign)?;
-        self.items.push_str(path)
-    }
-
-    /// Adds what is wrong with what a tree was asked: each unit is a question, and where the limit refuses one, the walk
-    /// spent the limit.
-    fn check(&mut self, asked: u64, limit: u64) -> Result<(), AllocError> {
-        let is_limited = self.items.contains('^');
-        let is_counted = if is_limited {
-            asked >= self.spent
-        } else {
-            asked == self.spent
+        let alloc = *self.items.allocator();
+        let path = error.path();
+        let path = path.as_str();
+        let tail = match error.cause() {
+            GlobCause::Memory => "out of memory",
+            GlobCause::Limit => "walk limit reached",
+            GlobCause::Read => "",
         };
-        if !is_counted || (is_limited && self.spent != limit) {
-            write!(self.items, " spent:{} asked:{asked}", self.spent)?;
+        let printed = format!(in alloc; "{error}")?;
+        let known = format!(in alloc; "attempting to read `{path}` resulted in an error: {tail}")?;
+        match error.cause() {
+            GlobCause::Memory => self.items.push_str("\t~")?,
+            GlobCause::Limit => write!(self.items, "\t^{path}")?,
+            GlobCause::Read => write!(self.items, "\t!{path}:{:?}", error.error().kind())?,
+        }
+        if !printed.starts_with(known.as_str()) {
+            write!(self.items, "\tprints {printed}")?;
         }
         Ok(())
     }
-}
 
-/// The fault of a pattern.
-fn refused(alloc: Global, refusal: PatternRefusal) -> Result<Found, AllocError> {
-    let mut found = Found::new(alloc);
-    write!(found.printed, "{refusal}")?;
-    match refusal {
-        PatternRefusal::Memory => found.items.push_str(" ~")?,
-        PatternRefusal::Syntax(error) => {
-            write!(found.items, " fault {} {}", error.pos, error.msg)?;
+    /// Adds what is wrong with what a tree was asked: each unit is a question, and where the limit refuses one, the
+    /// walk spent the limit.
+    fn check(&mut self, asked: u64, limit: u64) -> Result<(), AllocError> {
+        let is_right = if self.items.contains('^') {
+            asked >= self.spent && self.spent == limit
+        } else {
+            asked == self.spent
+        };
+        if is_right {
+            return Ok(());
         }
+        write!(self.items, "\tspent {} asked {asked}", self.spent)
     }
-    Ok(found)
-}
-
-/// A walk that has given nothing yet. As of the next two calls, no contract is handed on, since each caller's proof
-/// would carry it.
-fn start<T: Tree>(alloc: T::Alloc, tree: T, job: Job<'_>) -> Result<Paths<T>, PatternRefusal> {
-    glob_in(alloc, tree, job.pattern, job.options, job.limit)
-}
-
-/// The next item of a walk.
-fn next_of<T: Tree>(paths: &mut Paths<T>) -> Option<GlobResult<T::Alloc>> {
-    paths.next()
-}
-
-/// All items of a walk.
-fn gather<T: Tree>(alloc: T::Alloc, tree: T, job: Job<'_>) -> Result<Walk<T>, PatternRefusal> {
-    walk_in(alloc, tree, job.pattern, job.options, job.limit)
 }
 
 /// Walks by `walk_in`. The path of a refusal is not known.
-pub fn gathered(alloc: Global, source: Source, job: Job<'_>) -> io::Result<Found> {
+pub fn gathered(alloc: Global, source: Source<'_>, job: Job<'_>) -> io::Result<Found> {
     let asked = Cell::new(0);
-    let mut found = match gather(alloc, AskedTree::new(alloc, source, &asked), job) {
-        Ok(walk) => whole(alloc, walk)?,
-        Err(refusal) => refused(alloc, refusal)?,
-    };
-    found.check(asked.get(), job.limit)?;
-    Ok(found)
-}
-
-/// What a whole walk gave.
-fn whole<T: Tree>(alloc: Global, walk: Walk<T>) -> Result<Found, AllocError> {
+    let tree = AskedTree::new(alloc, source, &asked);
     let mut found = Found::new(alloc);
-    for item in walk.items.iter() {
-        found.add(item)?;
+    match walk_in(alloc, tree, job.pattern, job.options, job.limit) {
+        Ok(walk) => {
+            for item in walk.items.iter() {
+                found.add(item)?;
+            }
+            found.items.push_str(match walk.end {
+                End::Done => "",
+                End::Memory => "\t~",
+                End::Limit => "\t^",
+            })?;
+            found.spent = walk.spent;
+        }
+        Err(refusal) => write!(found.items, "\t{refusal}")?,
     }
-    found.items.push_str(match walk.end {
-        End::Done => "",
-        End::Memory => " ~",
-        End::Limit => " ^",
-    })?;
-    found.spent = walk.spent;
+    found.check(asked.get(), job.limit)?;
     Ok(found)
 }
 
 /// Walks by `next`. Before the first item is wanted nothing is asked.
-pub fn stepped(alloc: Global, source: Source, job: Job<'_>) -> io::Result<Found> {
+pub fn stepped(alloc: Global, source: Source<'_>, job: Job<'_>) -> io::Result<Found> {
     let asked = Cell::new(0);
-    let begun = start(alloc, AskedTree::new(alloc, source, &asked), job);
-    let early = asked.get();
-    let mut found = taken(alloc, begun)?;
-    found.check(asked.get(), job.limit)?;
-    if early != 0 {
-        found.items.push_str(" asked-early")?;
+    let tree = AskedTree::new(alloc, source, &asked);
+    let mut found = Found::new(alloc);
+    match glob_in(alloc, tree, job.pattern, job.options, job.limit) {
+        Ok(paths) => {
+            let early = asked.get();
+            found = taken(alloc, paths)?;
+            if early != 0 {
+                found.items.push_str("\tasked early")?;
+            }
+        }
+        Err(refusal) => write!(found.items, "\t{refusal}")?,
     }
+    found.check(asked.get(), job.limit)?;
     Ok(found)
 }
 
 /// Takes the items of a walk, and three more. Where it goes on, or counts its items wrongly, the words say so.
-pub fn taken<T: Tree>(alloc: Global, begun: Result<Paths<T>, PatternRefusal>) -> io::Result<Found> {
-    match begun {
-        Err(refusal) => Ok(refused(alloc, refusal)?),
-        Ok(mut paths) => {
-            let mut found = Found::new(alloc);
-            let count = take_all(&mut found, &mut paths)?;
-            take_more(&mut found, &mut paths, count)?;
-            found.spent = paths.spent();
-            Ok(found)
-        }
+pub fn taken<T: Tree>(alloc: Global, mut paths: Paths<T>) -> Result<Found, AllocError> {
+    let mut found = Found::new(alloc);
+    let mut count = 0u128;
+    while let Some(item) = paths.next() {
+        found.add(&item)?;
+        count = count.saturating_add(1);
     }
-}
-
-/// Takes all items, and counts them.
-fn take_all<T: Tree>(found: &mut Found, paths: &mut Paths<T>) -> Result<u64, AllocError> {
-    for count in 0..u64::MAX {
-        match next_of(paths) {
-            Some(item) => found.add(&item)?,
-            None => return Ok(count),
-        }
+    if paths.next().is_some() || paths.next().is_some() || paths.given() != count {
+        found.items.push_str("\tgoes on, or counts wrongly")?;
     }
-    Ok(u64::MAX)
-}
-
-/// Adds what is wrong with a walk that has ended after so many items.
-fn take_more<T: Tree>(
-    found: &mut Found,
-    paths: &mut Paths<T>,
-    count: u64,
-) -> Result<(), AllocError> {
-    for _ in 0..3 {
-        if next_of(paths).is_some() {
-            found.items.push_str(" goes-on")?;
-        }
-    }
-    if paths.given() != u128::from(count) {
-        found.items.push_str(" given-wrong")?;
-    }
-    Ok(())
+    found.spent = paths.spent();
+    Ok(found)
 }

@@ -1,170 +1,127 @@
-//! Rows of walks: `PATTERNS => ITEMS`, after which units of work may follow, as in `PATTERNS => ITEMS ; 13`; or
-//! `PATTERNS prints TEXT`. Other lines say what holds for the rows after them.
+//! Rows of walks: `PATTERNS => ITEMS`, after which units of work may follow, as in `PATTERNS => ITEMS ; 13`. Other
+//! lines say what holds for the rows after them.
 
-use super::planting::planted;
-use super::report::Report;
-use super::state::State;
+use super::asked_tree::Source;
+use super::settings::Settings;
 use super::walking::{Found, Job, gathered, stepped};
-use super::{disk, goals};
-use crate::words::{add_text, number_of, options_in_order, text_of};
-use glob::MatchOptions;
+use super::{Report, disk, goals};
+use crate::words::{number_of, text_of, unfit, with_number};
+use glob::MemTree;
 use std::alloc::{AllocError, Global};
-use std::io::{self, Write};
+use std::io::{self, ErrorKind, Write};
 
-/// What a row says of its walks.
-#[derive(Clone, Copy)]
-pub enum Outcome<'a> {
-    /// They give these items, and may spend so much.
-    Gives(&'a str, Option<u64>),
-    /// Their last error is printed so, or begins so if `..` follows.
-    Prints(&'a str),
-}
+/// What a row wants: what comes before each path, the items, and the units, if it has some.
+pub type Wanted<'a> = (&'a str, &'a str, Option<usize>);
 
-/// Replays a row, or sets what another line says.
-pub fn replay(report: &mut Report, state: &mut State, line: &str) -> io::Result<()> {
-    if let Some((words, printed)) = line.split_once(" prints ") {
-        replay_row(report, state, words, Outcome::Prints(printed))
-    } else if let Some((words, items)) = line.split_once(" =>") {
-        replay_row(report, state, words, given(items)?)
-    } else {
-        state.set(line)
-    }
-}
-
-/// The items of a row, and its units.
-fn given(items: &str) -> io::Result<Outcome<'_>> {
-    match items.split_once(" ;") {
-        Some((items, units)) => Ok(Outcome::Gives(items, Some(number_of(units.trim())?))),
-        None => Ok(Outcome::Gives(items, None)),
-    }
-}
-
-/// Replays the walks of a row.
-fn replay_row(
-    report: &mut Report,
-    state: &mut State,
-    words: &str,
-    outcome: Outcome<'_>,
-) -> io::Result<()> {
-    let settings = state.options.clone()?;
-    for letters in settings.as_str().split_whitespace() {
-        replay_words(report, state, (words, options_in_order(letters)?), outcome)?;
-    }
-    Ok(())
-}
-
-/// Replays the walks of a row under a setting of the options.
-fn replay_words(
-    report: &mut Report,
-    state: &mut State,
-    (words, options): (&str, MatchOptions),
-    outcome: Outcome<'_>,
-) -> io::Result<()> {
-    for word in words.split_whitespace() {
-        let limited = state.limited.clone()?;
+/// Replays a row.
+pub fn replay(report: &mut Report, words: &str, outcome: &str) -> io::Result<()> {
+    let (items, units) = with_number(outcome)?;
+    let limited = text_of(report.alloc(), report.settings.get("limits of"))?;
+    for &(options, word) in report.settings.cases(words)?.as_slice() {
+        let text = text_of(report.alloc(), word)?;
         let (pattern, limit) = match limited.as_str() {
-            "" => (word, u64::MAX),
-            pattern => (pattern, number_of(word)?),
+            "" => (text.as_str(), u64::MAX),
+            pattern => (pattern, number_of(word)? as u64),
         };
-        let pattern = text_of(report.alloc(), pattern)?;
         let job = Job {
-            pattern: pattern.as_str(),
+            pattern,
             options,
             limit,
         };
-        replay_walk(report, state, job, outcome)?;
+        replay_walk(report, job, ("", items, units))?;
     }
     Ok(())
 }
 
-/// Replays a walk wherever the state says.
-fn replay_walk(
-    report: &mut Report,
-    state: &mut State,
-    job: Job<'_>,
-    outcome: Outcome<'_>,
-) -> io::Result<()> {
-    if state.is_in_memory {
-        replay_in_memory(report, state, job, outcome)?;
+/// Replays a walk wherever the settings say: in memory over a tree that counts what it is asked, and as a walk that
+/// finds what the whole pattern matches.
+fn replay_walk(report: &mut Report, job: Job<'_>, wanted: Wanted<'_>) -> io::Result<()> {
+    let alloc = report.alloc();
+    let place = report.settings.get("walked");
+    let (is_on_disk, is_in_memory) = (place.ends_with("on the disk"), place != "on the disk");
+    if is_on_disk {
+        disk::replay(report, job, wanted)?;
     }
-    if let (true, Outcome::Gives(items, units)) = (state.is_on_disk, outcome) {
-        disk::replay(report, state, job, items, units)?;
+    if is_in_memory {
+        let mut found = stepped(alloc, source_of(alloc, &report.settings)?, job)?;
+        let other = gathered(alloc, source_of(alloc, &report.settings)?, job)?;
+        add_other(&mut found, &other)?;
+        compare(report, job.pattern, &found, wanted)?;
+        goals::replay(report, job)?;
     }
     Ok(())
-}
-
-/// Replays a walk over a tree that counts what it is asked, and compares what it finds with what the whole pattern
-/// matches.
-fn replay_in_memory(
-    report: &mut Report,
-    state: &State,
-    job: Job<'_>,
-    outcome: Outcome<'_>,
-) -> io::Result<()> {
-    let mut found = stepped(report.alloc(), planted(report.alloc(), state)?, job)?;
-    match outcome {
-        Outcome::Prints(text) => {
-            let printed = printed_as(found.printed.as_str(), text);
-            report.compare(job.pattern, text, printed)
-        }
-        Outcome::Gives(items, units) => {
-            let other = gathered(report.alloc(), planted(report.alloc(), state)?, job)?;
-            add_other(&mut found, &other)?;
-            let wanted = wanted_words(report.alloc(), "", items, units)?;
-            let words = found_words(&mut found, units)?;
-            report.compare(job.pattern, wanted.as_str(), words)?;
-            goals::replay(report, state, job)
-        }
-    }
-}
-
-/// What was printed, or the row's text if that leaves its end open, and the rest is the same.
-fn printed_as<'a>(printed: &'a str, text: &'a str) -> &'a str {
-    match text.strip_suffix("..") {
-        Some(begin) if printed.starts_with(begin) => text,
-        _ => printed,
-    }
 }
 
 /// Adds what `walk_in` gave, if it is not what `next` gave, but for the path of a refusal.
 fn add_other(found: &mut Found, other: &Found) -> Result<(), AllocError> {
-    let is_alike = match found.items.as_str().split_once('^') {
-        Some((before, _)) => other.items.as_str().strip_suffix('^') == Some(before),
+    let is_alike = match found.items.split_once('^') {
+        Some((before, _)) => other.items.strip_suffix('^') == Some(before),
         None => other.items.as_str() == found.items.as_str(),
     };
-    if !is_alike || other.spent != found.spent {
-        write!(
-            found.items,
-            " and by walk_in:{} ; {}",
-            other.items, other.spent
-        )?;
+    if is_alike && other.spent == found.spent {
+        return Ok(());
     }
-    Ok(())
+    let (items, spent) = (other.items.as_str(), other.spent);
+    write!(found.items, "\tby walk_in {items}\t; {spent}")
 }
 
-/// The items of a row, of which each path has `front` before it, and the units.
-pub fn wanted_words(
-    alloc: Global,
-    front: &str,
-    items: &str,
-    units: Option<u64>,
-) -> io::Result<String> {
-    let mut words = String::new(alloc);
+/// Compares what was found with what a row wants.
+pub fn compare(
+    report: &mut Report,
+    pattern: &str,
+    found: &Found,
+    (front, items, units): Wanted<'_>,
+) -> io::Result<()> {
+    let mut known = String::new(report.alloc());
     for item in items.split_whitespace() {
-        words.push(' ')?;
-        words.push_str(front)?;
-        add_text(&mut words, item)?;
+        write!(known, " {front}{}", text_of(report.alloc(), item)?)?;
     }
+    let mut words = found.words()?;
     if let Some(units) = units {
-        write!(words, " ; {units}")?;
+        write!(known, " ; {units}")?;
+        write!(words, " ; {}", found.spent)?;
     }
-    Ok(words)
+    report.compare(pattern, known.as_str(), words.as_str())
 }
 
-/// What was found, and the units if the row has some.
-pub fn found_words(found: &mut Found, units: Option<u64>) -> Result<&str, AllocError> {
-    if units.is_some() {
-        write!(found.items, " ; {}", found.spent)?;
+/// What answers the walks of a row.
+pub fn source_of(alloc: Global, settings: &Settings) -> io::Result<Source<'_>> {
+    if let Some((looks, lists)) = settings.get("tree").split_once(" | ") {
+        return Ok(Source::Written { looks, lists });
     }
-    Ok(found.items.as_str())
+    let mut tree = MemTree::new(alloc)?;
+    let folder = settings.get("in");
+    if !folder.is_empty() {
+        tree.add_dir(folder).map_err(|_| unfit())?;
+        tree.set_current(folder).map_err(|_| unfit())?;
+    }
+    for word in settings.content()?.split_whitespace() {
+        plant(alloc, &mut tree, settings, word)?;
+    }
+    Ok(Source::Known(tree))
+}
+
+/// Adds what a word of a content writes.
+fn plant(alloc: Global, tree: &mut MemTree, settings: &Settings, word: &str) -> io::Result<()> {
+    let name = name_of(word);
+    let path = format!(in alloc; "{}/{name}", settings.get("in"))?;
+    let path = path.as_str();
+    let added = if word.starts_with('#') || name == settings.get("shut") {
+        tree.add_shut(path, ErrorKind::PermissionDenied)
+    } else if word.ends_with('/') {
+        tree.add_dir(path)
+    } else {
+        tree.add_other(path)
+    };
+    added.map_err(|_| unfit())
+}
+
+/// The path that a word of a content writes: `#a` and `a/` write `a`.
+pub fn name_of(word: &str) -> &str {
+    word.trim_start_matches('#').trim_end_matches('/')
+}
+
+/// Whether a word of a content writes a directory.
+pub fn is_directory(word: &str) -> bool {
+    word.starts_with('#') || word.ends_with('/')
 }

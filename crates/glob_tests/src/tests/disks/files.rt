@@ -1,4 +1,5 @@
 //! A scripted file system, which counts its calls.
+use crate::tests::counted_tree::raise;
 use glob_prune::Strays;
 use std::cell::Cell;
 use std::fs::{File, Files, Metadata, OpenOptions};
@@ -23,52 +24,63 @@ pub enum Kind<'a> {
     Lost(ErrorKind),
 }
 
+/// Paths, with a blank between each two, and what stands there.
+pub type Planted<'a> = (&'a str, Kind<'a>);
+
 /// How many system calls were made, and for how much.
 #[derive(Drop)]
-pub struct Calls {
+pub struct SystemCalls {
     /// How often metadata was asked for.
     pub lookups: Cell<u64>,
     /// How often a directory was opened.
     pub opens: Cell<u64>,
     /// How many bytes the reads of directories had room for, in total.
     pub room: Cell<u64>,
-    /// How often a name that is not UTF-8 was reported.
+    /// How often a name that is not UTF-8 was reported, and how often a path that was not looked up.
     pub strays: Cell<u64>,
+    pub unsettled: Cell<u64>,
 }
 
-/// Adds to a count.
-fn raise(count: &Cell<u64>, more: usize) {
-    count.set(count.get().saturating_add(more as u64));
-}
-
-impl Calls {
+impl SystemCalls {
     /// No calls.
     pub fn new() -> Self {
-        Calls {
+        SystemCalls {
             lookups: Cell::new(0),
             opens: Cell::new(0),
             room: Cell::new(0),
             strays: Cell::new(0),
+            unsettled: Cell::new(0),
         }
     }
 }
 
-/// Counts the names that it receives, each of which has to be this one.
+/// Counts the names that it receives, each of which has to be this one, and the paths, where these are the errors.
 #[derive(Drop)]
-pub struct Noted<'a>(pub &'a Calls);
+pub struct Noted<'a> {
+    pub calls: &'a SystemCalls,
+}
 
 impl Strays for Noted<'_> {
     fn stray(&mut self, directory: &str, name: &[u8]) {
         let is_known = directory == "latin/" && name == b"y\xffz".as_slice();
-        raise(&self.0.strays, if is_known { 1 } else { 9 });
+        raise(&self.calls.strays, if is_known { 1 } else { 9 });
+    }
+
+    fn unsettled(&mut self, path: &str, error: &io::Error) {
+        let is_known = match error.kind() {
+            ErrorKind::FilesystemLoop => path == "d/ring",
+            ErrorKind::PermissionDenied => path == "d/hidden" || path == "unseen/a",
+            _ => false,
+        };
+        raise(&self.calls.unsettled, if is_known { 1 } else { 9 });
     }
 }
 
 /// A file system of some paths. All others are missing. A directory's path ends in a separator where it is opened.
 #[derive(Drop)]
 pub struct Written<'a> {
-    paths: &'a [(&'a str, Kind<'a>)],
-    pub calls: &'a Calls,
+    pub paths: &'a [Planted<'a>],
+    pub calls: &'a SystemCalls,
 }
 
 /// The names of a directory that are not yet read, and why no more can be read after them, if so.
@@ -76,7 +88,7 @@ pub struct Written<'a> {
 pub struct Names<'a> {
     blocks: &'a [&'a [u8]],
     failure: Option<io::Error>,
-    calls: &'a Calls,
+    calls: &'a SystemCalls,
 }
 
 impl Read for Names<'_> {
@@ -94,29 +106,17 @@ impl Read for Names<'_> {
     }
 }
 
-impl<'a> Written<'a> {
-    pub fn new(paths: &'a [(&'a str, Kind<'a>)], calls: &'a Calls) -> Self {
-        Written { paths, calls }
-    }
+const NO_BLOCKS: &[&[u8]] = &[];
 
+impl<'a> Written<'a> {
     /// What stands at a path.
     fn kind(&self, path: &str) -> Kind<'a> {
-        for (key, kind) in self.paths {
-            if *key == path {
+        for (keys, kind) in self.paths {
+            if keys.split(' ').any(|key| key == path) {
                 return *kind;
             }
         }
         Kind::Lost(ErrorKind::NotFound)
-    }
-
-    /// The directory of these blocks, opened.
-    fn opened(&self, blocks: &'a [&'a [u8]], failure: Option<io::Error>) -> io::Result<Names<'a>> {
-        let calls = self.calls;
-        Ok(Names {
-            blocks,
-            failure,
-            calls,
-        })
     }
 }
 
@@ -130,25 +130,29 @@ impl<'a> Files for Written<'a> {
     }
 
     fn open_dir(&self, path: &str) -> io::Result<Names<'a>> {
-        raise(&self.calls.opens, 1);
-        match self.kind(path) {
-            Kind::Dir(blocks) => self.opened(blocks, None),
-            Kind::Torn(blocks, kind) => self.opened(blocks, Some(io::Error::from(kind))),
-            Kind::Failing(error, true) => Err(error),
-            Kind::Failing(error, false) => self.opened(&[], Some(error)),
-            Kind::Link(kind) | Kind::Lost(kind) => Err(io::Error::from(kind)),
-            Kind::File | Kind::LinkToFile | Kind::LinkToDir => Err(unsupported()),
-        }
+        let calls = self.calls;
+        raise(&calls.opens, 1);
+        let (blocks, failure) = match self.kind(path) {
+            Kind::Dir(blocks) => (blocks, None),
+            Kind::Torn(blocks, kind) => (blocks, Some(io::Error::from(kind))),
+            Kind::Failing(error, true) => return Err(error),
+            Kind::Failing(error, false) => (NO_BLOCKS, Some(error)),
+            Kind::Link(kind) | Kind::Lost(kind) => return Err(io::Error::from(kind)),
+            Kind::File | Kind::LinkToFile | Kind::LinkToDir => return Err(unsupported()),
+        };
+        Ok(Names {
+            blocks,
+            failure,
+            calls,
+        })
     }
 
     fn metadata(&self, path: &str) -> io::Result<Metadata> {
         raise(&self.calls.lookups, 1);
         match self.kind(path) {
             Kind::File | Kind::LinkToFile => Ok(Metadata::of_file(0)),
-            Kind::Dir(_) | Kind::Torn(..) | Kind::Failing(..) | Kind::LinkToDir => Ok(
-                Metadata::of_dir(),
-            ),
             Kind::Link(kind) | Kind::Lost(kind) => Err(io::Error::from(kind)),
+            _ => Ok(Metadata::of_dir()),
         }
     }
 

@@ -1,5 +1,7 @@
 //! An allocator that counts the requests for memory, their bytes and the blocks that are held, and refuses a chosen
 //! request.
+#![tactic(auto)]
+
 ghost use Rattle.std.specs.Prelude.{◌≡◌, false, Option, None, Some, ℕ};
 
 use std::alloc::{AllocError, Allocator, Global};
@@ -34,15 +36,19 @@ impl Ration {
         self.bytes.get()
     }
 
+    /// Whether a request was refused.
+    pub fn has_refused(&self) -> bool {
+        match self.refused {
+            Some(number) => 0 < number && number <= self.asked.get(),
+            None => false,
+        }
+    }
+
     /// How many blocks are held: those that were asked for and not refused, without those that were given back.
     pub fn held(&self) -> u64 {
-        let asked = self.asked.get();
-        let refused = match self.refused {
-            Some(number) => u64::from(0 < number && number <= asked),
-            None => 0,
-        };
-        asked
-            .saturating_sub(refused)
+        self.asked
+            .get()
+            .saturating_sub(u64::from(self.has_refused()))
             .saturating_sub(self.given_back.get())
     }
 
@@ -75,6 +81,11 @@ pub struct Rationed<A> {
 pub type Memory<'a> = &'a Rationed<Global>;
 
 impl<A> Rationed<A> {
+    /// The allocator `inner`, none of whose requests is refused.
+    pub fn ample(inner: A) -> Self {
+        Rationed::refusing(0, inner)
+    }
+
     /// The allocator `inner`, whose request of this number, counted from 1, is refused. At 0 none is.
     pub fn refusing(number: u64, inner: A) -> Self
         ensures { result.ration ≡ Some number }

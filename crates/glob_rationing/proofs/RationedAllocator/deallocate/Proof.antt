@@ -40,13 +40,13 @@ use Rattle.std.proofs.alloc.Calls.{Al, α, seen, token, Gives, at_gives, Gives-g
 use Rattle.std.proofs.raw_atomic.Walks.{proved, leaves}
 use Rattle.std.proofs.VecSteps.Shapes.{after}
 use Rattle.std.specs.Allocator.{owned_block}
-use Rattle.glob_tests.specs.contracts.tests.rationing.Ration as ration
-use Rattle.glob_tests.specs.contracts.tests.rationing.Rationed as wrapper
-use Rattle.glob_tests.specs.contracts.tests.rationing.Ration.count_return as counts
-use Rattle.glob_tests.proofs.tests.rationing.Ration.count_return.Met as counts_met
-use Rattle.glob_tests.specs.contracts.tests.rationing.RationedAllocator.deallocate as f
-use Rattle.glob_tests.proofs.tests.rationing.RationedAllocator.deallocate.Statement.{statement}
-use Rattle.glob_tests.proofs.tests.rationing.RationedAllocator.deallocate.Code as code
+use Rattle.glob_rationing.specs.contracts.Ration as ration
+use Rattle.glob_rationing.specs.contracts.Rationed as wrapper
+use Rattle.glob_rationing.specs.contracts.Ration.count_return as counts
+use Rattle.glob_rationing.proofs.Ration.count_return.Met as counts_met
+use Rattle.glob_rationing.specs.contracts.RationedAllocator.deallocate as f
+use Rattle.glob_rationing.proofs.RationedAllocator.deallocate.Statement.{statement}
+use Rattle.glob_rationing.proofs.RationedAllocator.deallocate.Code as code
 
 abbrev Wrapped : RattleType → RattleType
 Wrapped Y = wrapper.the_row (param 0 Y)
@@ -107,7 +107,7 @@ deallocate_spec 𝓤 𝓛 𝓜 𝓡 wired Y L g d d' met _ =
     enter ! _ _ _ _ _ $ alloc_all ! (λ l. pass_all ! refl ((tt, tt), ((tt, tt), ((tt, record { fits = are.1.1.0.1 }), ((tt, record { fits = are.1.1.1.0.1 }), tt)))) $
     sets ! (addr ! (through ! refl (fld ! refl (stop !)))) refl (tt, tt) $
     use2 𝓛 (raw (Counted.pre counted)) (counts-goes 𝓛 𝓜.mem 𝓡.returns κ q counter r.now.ration) $
-    calls_at ! fm Counted (counts_met.met 𝓤 𝓛 𝓜 𝓡 (code.calls-glob_tests::tests::rationing::Ration::count_return 𝓡.env wired)) counted (and_then ! (get ! refl) (no_more !)) (λ u.
+    calls_at ! fm Counted (counts_met.met 𝓤 𝓛 𝓜 𝓡 (code.calls-glob_rationing::Ration::count_return 𝓡.env wired)) counted (and_then ! (get ! refl) (no_more !)) (λ u.
     use1 𝓛 (later (given (u ≡ vunit) (‵ (flft κ q)))) (counts-gives 𝓛 𝓜.mem 𝓡.returns κ q counter r.now.ration u) $ await ! tt $ learn ! (λ is. lands_as ! is refl (tt, tt) $
     first ! $ blocks ! $ sets ! (addr ! (through ! refl (fld ! refl (stop !)))) refl (tt, tt) $
     move ! (1 ∷ 0 ∷ 2 ∷ 3 ∷ []) $

@@ -40,13 +40,13 @@ use Rattle.std.proofs.alloc.Calls.{Al, α, seen, token, Answer, answer_val, Answ
 use Rattle.std.proofs.raw_atomic.Walks.{proved, leaves}
 use Rattle.std.proofs.VecSteps.Shapes.{after}
 use Rattle.std.specs.Allocator.{block_if_ok}
-use Rattle.glob_tests.specs.contracts.tests.rationing.Ration as ration
-use Rattle.glob_tests.specs.contracts.tests.rationing.Rationed as wrapper
-use Rattle.glob_tests.specs.contracts.tests.rationing.Ration.refuses_next as asks
-use Rattle.glob_tests.proofs.tests.rationing.Ration.refuses_next.Met as asks_met
-use Rattle.glob_tests.specs.contracts.tests.rationing.RationedAllocator.allocate as f
-use Rattle.glob_tests.proofs.tests.rationing.RationedAllocator.allocate.Statement.{statement}
-use Rattle.glob_tests.proofs.tests.rationing.RationedAllocator.allocate.Code as code
+use Rattle.glob_rationing.specs.contracts.Ration as ration
+use Rattle.glob_rationing.specs.contracts.Rationed as wrapper
+use Rattle.glob_rationing.specs.contracts.Ration.refuses_next as asks
+use Rattle.glob_rationing.proofs.Ration.refuses_next.Met as asks_met
+use Rattle.glob_rationing.specs.contracts.RationedAllocator.allocate as f
+use Rattle.glob_rationing.proofs.RationedAllocator.allocate.Statement.{statement}
+use Rattle.glob_rationing.proofs.RationedAllocator.allocate.Code as code
 
 abbrev Wrapped : RattleType → RattleType
 Wrapped Y = wrapper.the_row (param 0 Y)
@@ -108,7 +108,7 @@ allocate_spec 𝓤 𝓛 𝓜 𝓡 wired Y L g d d' met _ =
     enter ! _ _ _ _ _ $ alloc_all ! (λ l. pass_all ! refl ((tt, tt), ((tt, record { fits = are.1.0.1 }), ((tt, record { fits = are.1.1.0.1 }), tt))) $
     sets ! (addr ! (through ! refl (fld ! refl (stop !)))) refl (tt, tt) $
     use2 𝓛 (raw (Asked.pre asked)) (asks-goes 𝓛 𝓜.mem 𝓡.returns κ q counter r.now.ration n are.1.0.1) $
-    calls_at ! fm Asked (asks_met.met 𝓤 𝓛 𝓜 𝓡 (code.calls-glob_tests::tests::rationing::Ration::refuses_next 𝓡.env wired)) asked (and_then ! (get ! refl) (and_then ! (get ! refl) (no_more !))) (λ u.
+    calls_at ! fm Asked (asks_met.met 𝓤 𝓛 𝓜 𝓡 (code.calls-glob_rationing::Ration::refuses_next 𝓡.env wired)) asked (and_then ! (get ! refl) (and_then ! (get ! refl) (no_more !))) (λ u.
     use1 𝓛 (later (some (λ (y : Bool). given (u ≡ vbool y) (‵ (flft κ q))))) (asks-gives 𝓛 𝓜.mem 𝓡.returns κ q counter r.now.ration n u) $ await ! tt $ pick ! (λ y. learn ! (λ is. lands_as ! is refl (tt, tt) $
     first ! $ branches ! (get ! refl)
     (λ _. move ! (0 ∷ 2 ∷ []) $ join ! $ sets ! (agg ! (no_more !)) refl (tt, tt) $ sets ! (agg ! (and_then ! (lit ! tt) (and_then ! (get ! refl) (no_more !)))) refl (Answer-typed false 0 0) $
