@@ -12,10 +12,23 @@
 //! assert_eq!(numbers, [0, 1]);
 //! # Ok::<(), cadmiumdove::set::SetRefusal>(())
 //! ```
+//!
+//! Braces are short for their alternatives:
+//!
+//! ```
+//! use cadmiumdove::set::{PatternSet, braces};
+//! use cadmiumdove::MatchOptions;
+//!
+//! let set = PatternSet::from_braces(&["src/*.{c,h}", "README"], MatchOptions::new()).unwrap();
+//! assert!(set.is_match("src/a.h"));
+//! assert_eq!(set.first_match("README"), Some(2));
+//! assert_eq!(braces::expand("a{,b{1,2}}[{]"), Ok(vec!["a[{]".into(), "ab1[{]".into(), "ab2[{]".into()]));
+//! assert_eq!(braces::expand("a}"), Err(braces::BraceError::Unmatched(1)));
+//! ```
 
 use std::path::Path;
 
-pub use crate::proved::glob_set::{PatternSet, SetRefusal};
+pub use crate::proved::glob_set::{braces, BraceSetRefusal, PatternSet, SetRefusal};
 
 impl PatternSet {
     /// [`is_match`](Self::is_match) of the path's text. A path that is not UTF-8 is never matched.

@@ -4,6 +4,7 @@
 use std::fs;
 use std::path::{Path, PathBuf};
 
+use cadmiumdove::walk::is_plain;
 use cadmiumdove::{MatchOptions, Pattern};
 
 /// The folder of the tables, if there is one.
@@ -28,6 +29,10 @@ fn holds(table: &str, fields: &[&str]) -> bool {
         ("escape", [text, escaped]) => {
             let pattern = Pattern::escape(text);
             pattern == *escaped && Pattern::new(&pattern).unwrap().matches(text)
+        }
+        ("plain", [text, word @ ("plain" | "not plain")]) => is_plain(text).is_ok_and(|yes| yes == (*word == "plain")),
+        ("plain", [text, place, words]) => {
+            is_plain(text).is_err_and(|error| error.pos.to_string() == *place && error.msg == *words)
         }
         ("parse" | "faults", [text, "ok"]) => Pattern::new(text).is_ok_and(|pattern| pattern.as_str() == *text),
         ("parse" | "faults", [text, place, words]) => {

@@ -5,6 +5,7 @@
 #![allow(clippy::byte_char_slices, clippy::let_and_return, clippy::manual_find, clippy::manual_ignore_case_cmp)]
 #![allow(clippy::manual_map, clippy::needless_range_loop, clippy::nonminimal_bool, clippy::ptr_arg)]
 #![allow(clippy::question_mark, clippy::should_implement_trait, clippy::too_many_arguments, clippy::manual_contains)]
+#![allow(clippy::single_match, clippy::vec_init_then_push)]
 
 pub mod glob_captures;
 pub mod glob_pattern;

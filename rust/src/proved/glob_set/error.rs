@@ -2,6 +2,7 @@
 //! Contracts are there, and their proofs in `crates/glob_set/proofs`; it is changed there alone.
 
 use crate::proved::glob_pattern::PatternError;
+use crate::proved::glob_set::braces::BraceError;
 use std::error::Error;
 use std::fmt;
 
@@ -26,3 +27,32 @@ impl fmt::Display for SetRefusal {
 }
 
 impl Error for SetRefusal {}
+
+/// Why texts with braces were refused as the patterns of a set, by
+/// [`PatternSet::from_braces`](crate::proved::glob_set::PatternSet::from_braces). Numbers are counted from 0.
+#[derive(Debug)]
+pub enum BraceSetRefusal {
+    /// The first text with a fault, by its number, and the fault of its braces: of `*.o` and `{a`, 1 and that the `{` at
+    /// place 0 is not closed.
+    Braces(usize, BraceError),
+    /// The first text with a fault, by its number, the first of its alternatives that is not accepted, by its number among
+    /// them, and that one's first fault from the left: of `*.o` and `{a,[}`, 1, 1 and the place 0 in `[`.
+    Pattern(usize, usize, PatternError),
+}
+
+impl fmt::Display for BraceSetRefusal {
+    fn fmt(&self, f: &mut fmt::Formatter<'_>) -> fmt::Result {
+        match self {
+            BraceSetRefusal::Braces(number, error) => {
+                write!(f, "pattern {number}: ")?;
+                error.fmt(f)
+            }
+            BraceSetRefusal::Pattern(number, alternative, error) => {
+                write!(f, "pattern {number}, alternative {alternative}: ")?;
+                error.fmt(f)
+            }
+        }
+    }
+}
+
+impl Error for BraceSetRefusal {}

@@ -5,6 +5,7 @@
 //!
 //! A [`PatternSet`] of `*.o`, `target/**` and `!*` says of `a.o` that number 0 is the first pattern that matches it.
 
+pub mod braces;
 mod buckets;
 mod error;
 mod needs;
@@ -12,5 +13,5 @@ mod pairs;
 mod reading;
 mod set;
 
-pub use error::SetRefusal;
+pub use error::{BraceSetRefusal, SetRefusal};
 pub use set::PatternSet;

@@ -3,10 +3,10 @@
 
 use crate::proved::glob_pattern::{MatchOptions, Pattern};
 use crate::proved::glob_set::buckets::{buckets_of, Bucket};
-use crate::proved::glob_set::error::SetRefusal;
+use crate::proved::glob_set::error::{BraceSetRefusal, SetRefusal};
 use crate::proved::glob_set::needs::needs_of;
 use crate::proved::glob_set::pairs::{text_bits, text_class, Need};
-use crate::proved::glob_set::reading::read_patterns;
+use crate::proved::glob_set::reading::{read_braces, read_patterns};
 
 /// Patterns in order, and the options that they match by. It reports which of them match a text by their **numbers**,
 /// counted from 0. Most patterns are rejected untried, since the text lacks bytes that each text has that they match.
@@ -63,6 +63,17 @@ impl PatternSet {
     /// accepted.
     pub fn from_texts(texts: &[&str], options: MatchOptions) -> Result<Self, SetRefusal> {
         let patterns = read_patterns(texts)?;
+        Ok(Self::new(patterns, options))
+    }
+
+    /// [`new`](Self::new) of all alternatives of all texts, as from `src/*.{c,h}`: those of the first text first, as
+    /// [`expand`](crate::proved::glob_set::braces::expand) returns them. A text matches exactly if one of the alternatives of one of the
+    /// texts matches it.
+    ///
+    /// The error is that of the first text with a fault, [`Braces`](BraceSetRefusal::Braces) or
+    /// [`Pattern`](BraceSetRefusal::Pattern).
+    pub fn from_braces(texts: &[&str], options: MatchOptions) -> Result<Self, BraceSetRefusal> {
+        let patterns = read_braces(texts)?;
         Ok(Self::new(patterns, options))
     }
 

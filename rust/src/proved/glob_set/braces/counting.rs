@@ -1,0 +1,54 @@
+//! Made by `bin/rust_crate` from `crates/glob_set/src/braces/counting.rt`.
+//! Contracts are there, and their proofs in `crates/glob_set/proofs`; it is changed there alone.
+//!
+//! How many alternatives lexemes have, and whether their braces are balanced.
+
+use crate::proved::glob_set::braces::error::BraceError;
+use crate::proved::glob_set::braces::lexemes::Lexeme;
+
+/// A `{` without its `}` so far. Counts of alternatives are at most the largest `usize`.
+#[derive(Clone, Copy)]
+pub struct Opened {
+    /// Its place, in characters from 0.
+    pub place: usize,
+    /// How many alternatives there are before it.
+    pub before: usize,
+    /// How many there are between it and its last comma.
+    pub found: usize,
+}
+
+/// How many alternatives the lexemes have, at most the largest `usize`. The error is the first brace from the left that
+/// has no partner.
+pub fn count_of(lexemes: &[Lexeme]) -> Result<usize, BraceError> {
+    let mut opened = Vec::new();
+    let mut count: usize = 1;
+    for (place, lexeme) in lexemes.iter().enumerate() {
+        count = count_lexeme(&mut opened, count, place, *lexeme)?;
+    }
+    match opened.first() {
+        Some(first) => Err(BraceError::Unclosed(first.place)),
+        None => Ok(count),
+    }
+}
+
+/// The count of what follows the last `{` without its `}`, or the comma after it, with one more lexeme.
+fn count_lexeme(opened: &mut Vec<Opened>, count: usize, place: usize, lexeme: Lexeme) -> Result<usize, BraceError> {
+    match lexeme {
+        Lexeme::Literal(_) => Ok(count),
+        Lexeme::Open => {
+            opened.push(Opened { place, before: count, found: 0 });
+            Ok(1)
+        }
+        Lexeme::Comma => match opened.pop() {
+            Some(last) => {
+                opened.push(Opened { found: last.found.saturating_add(count), ..last });
+                Ok(1)
+            }
+            None => Ok(count),
+        },
+        Lexeme::Close => match opened.pop() {
+            Some(last) => Ok(last.before.saturating_mul(last.found.saturating_add(count))),
+            None => Err(BraceError::Unmatched(place)),
+        },
+    }
+}

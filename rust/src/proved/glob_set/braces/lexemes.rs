@@ -1,0 +1,88 @@
+//! Made by `bin/rust_crate` from `crates/glob_set/src/braces/lexemes.rt`.
+//! Contracts are there, and their proofs in `crates/glob_set/proofs`; it is changed there alone.
+//!
+//! What each character of a text means to braces.
+
+/// What a character is: a brace, a comma, or itself.
+#[derive(Clone, Copy)]
+pub enum Lexeme {
+    /// The character, which is no brace and no comma, or is in a bracket.
+    Literal(char),
+    /// `{`
+    Open,
+    /// `,`
+    Comma,
+    /// `}`
+    Close,
+}
+
+/// The lexemes of a text, one for each of its characters.
+pub fn lexemes_of(text: &str) -> Vec<Lexeme> {
+    let mut characters = Vec::new();
+    characters.extend(text.chars());
+    lexemes_in(characters.as_slice())
+}
+
+/// The lexemes of the characters.
+fn lexemes_in(text: &[char]) -> Vec<Lexeme> {
+    let mut found = Vec::new();
+    let mut end = 0;
+    for (place, c) in text.iter().enumerate() {
+        end = end_at(text, place, end);
+        found.push(lexeme_at(place, end, *c));
+    }
+    found
+}
+
+/// The end of the bracket that a place is in, or that place. The last bracket that begins before it has the end `last`.
+fn end_at(text: &[char], place: usize, last: usize) -> usize {
+    if place < last {
+        last
+    } else {
+        bracket_end(text, place)
+    }
+}
+
+/// What the character at a place is, where those before `end` are in a bracket.
+fn lexeme_at(place: usize, end: usize, c: char) -> Lexeme {
+    if place < end {
+        Lexeme::Literal(c)
+    } else {
+        lexeme_of(c)
+    }
+}
+
+/// What the character is outside of brackets.
+fn lexeme_of(c: char) -> Lexeme {
+    match c {
+        '{' => Lexeme::Open,
+        ',' => Lexeme::Comma,
+        '}' => Lexeme::Close,
+        _ => Lexeme::Literal(c),
+    }
+}
+
+/// The place after the bracket that begins at a place, or that place if none does.
+fn bracket_end(text: &[char], place: usize) -> usize {
+    if text[place] != '[' {
+        return place;
+    }
+    let content = match text.get(place + 1) {
+        Some('!') => place + 2,
+        _ => place + 1,
+    };
+    match close_from(text, content + 1) {
+        Some(close) => close + 1,
+        None => place,
+    }
+}
+
+/// The place of the first `]` from a place on.
+fn close_from(text: &[char], start: usize) -> Option<usize> {
+    for place in start..text.len() {
+        if text[place] == ']' {
+            return Some(place);
+        }
+    }
+    None
+}
