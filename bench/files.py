@@ -1,9 +1,9 @@
 #!/usr/bin/env python3
-"""Runs glob_files over a tree half of which is ignored, beside other finders, each told to use one thread, and prints tables.
+"""Runs `globs find` over a tree half of which is ignored, beside other finders, each told to use one thread, and prints tables.
 
 usage: files.py FOLDER PROGRAM ROUNDS SHARE
 
-FOLDER has measure and calls, and PROGRAM is glob_files. In each of ROUNDS rounds every program runs once, and its least
+FOLDER has measure and calls, and PROGRAM is globs. In each of ROUNDS rounds every program runs once, and its least
 time counts. SHARE divides the size of the tree, which has 100,000 files. All have to find the same files. `calls` makes
 the system calls of a walk over what is left of the tree.
 """
@@ -40,7 +40,7 @@ def commands(folder, program):
     """What each program that is installed is started with, and in which tree."""
     fd, rg = shutil.which("fdfind") or shutil.which("fd"), shutil.which("rg")
     words = [word for name in EXCLUDED for word in ("-x", name)]
-    some = {"glob_files": ("tree", [program, *words, "**/*.rs"]), "the calls alone": ("left", [folder / "calls", "1000"])}
+    some = {"globs find": ("tree", [program, "find", *words, "**/*.rs"]), "the calls alone": ("left", [folder / "calls", "1000"])}
     if fd:
         words = [word for name in EXCLUDED for word in ("-E", name)]
         some["fd -I"] = ("tree", [fd, "-I", "--threads", "1", "--color", "never", *words, "--glob", "*.rs"])
@@ -59,9 +59,9 @@ def print_tables(cells):
     print_head("Milliseconds, and peak memory in megabytes:", ["program"], ["processor", "clock", "peak"])
     for head, it in cells.items():
         print_row([head, f"{it.busy:.1f}", f"{it.clock:.1f}", f"{it.peak:.1f}"])
-    others = [head for head in cells if head != "glob_files"]
+    others = [head for head in cells if head != "globs find"]
     print_head("Half of the tree ignored, processor time:", ["pattern"], [f"to {head}" for head in others])
-    print_row(["`**/*.rs`", *(ratio(cells["glob_files"].busy, cells[head].busy) for head in others)])
+    print_row(["`**/*.rs`", *(ratio(cells["globs find"].busy, cells[head].busy) for head in others)])
 
 
 def main():

@@ -11,6 +11,7 @@ PROGRAM answers the cases as glob_vectors does, which it is by default. Prints w
 import functools
 import itertools
 import random
+import re
 import subprocess
 import sys
 from pathlib import Path
@@ -19,6 +20,9 @@ PROGRAM = Path(__file__).resolve().parent.parent / "crates/glob_vectors/out/glob
 
 # i for no case, s for the separator rule, d for the dot rule.
 OPTIONS = ["", "i", "s", "is", "d", "id", "sd", "isd"]
+
+# The kinds of tokens as the program names them, and here.
+KINDS = {"Literal": "literal", "AnyChar": "?", "AnySequence": "*", "Recursive": "**", "OneOf": "[]", "NoneOf": "[!]"}
 
 # How a token is written, its kind, and the characters that it is or lists.
 SMALL = [("a", "literal", "a"), ("/", "literal", "/"), (".", "literal", "."), ("?", "?", ""), ("*", "*", ""), ("**/", "**", ""),
@@ -31,54 +35,9 @@ MIXED_TEXT = "b/.é€\U0010fffe"
 
 # The longest text, of 16,777,216 bytes, that four tokens are compared with.
 LONGEST = "\U0010fffe" * 4_194_304
-
-# Options, a pattern, a text, and where the pieces end, in bytes.
-PIECES = [
-    ("", "", "", ""),
-    ("", "*", "", "0"),
-    ("", "*.*", "a.b.rs", "1 2 6"),
-    ("", "**", "a/b", "3"),
-    ("", "a/**/[!b]", "a/x/y/c", "1 2 6 7"),
-    ("", "**/a*", "a/ab", "0 1 4"),
-    ("s", "**/a*", "a/ab", "2 3 4"),
-    ("i", "A*", "ab", "1 2"),
-    # Characters of two, three and four bytes, before a piece, in it and after it.
-    ("", "?*[a-z]", "äöz", "2 4 5"),
-    ("", "*ä*", "äöä", "0 2 6"),
-    ("", "?b*", "€b€", "3 4 7"),
-    ("", "*€?", "aé€\U0010fffe", "3 6 10"),
-    ("", "?[!a]*c", "\U0010fffe\U0010fffec", "4 8 8 9"),
-    ("", "**/é", "€/\U0010fffe/é", "9 11"),
-    ("", "*\U0010fffe", "\U0010fffeé\U0010fffe", "6 10"),
-    ("", "", "a", "no"),
-    ("", "*.rs", "a.rc", "no"),
-    ("", "**/a", "ba", "no"),
-    ("", "?", "éé", "no"),
-    ("", "*?*?", LONGEST, "0 4 16777212 16777216"),
-]
-# A pattern, a text, how far it is taken, and the tokens that wait there.
-REACHED = [
-    ("*.rs", "a.rc", "4 0 1"),
-    ("a[0-9]b", "a1c", "2 2"),
-    ("ab", "", "0 0"),
-    ("ä?b", "äöc", "4 2"),
-    ("€\U0010fffeb", "€\U0010fffec", "7 2"),
-    ("a/**/b", "a/xx/c", "5 2 3"),
-    ("a", "ab", "1"),
-    ("", "ab", "0"),
-    ("*?*?", LONGEST, "16777216 0 1 2 3"),
-]
-# A pattern, and of each token its kind and where it ends, in bytes.
-WRITTEN = [
-    ("", ""),
-    ("ä?", "literal 2 ? 3"),
-    ("[]x]", "[] 4"),
-    ("[!]x]]", "[!] 5 literal 6"),
-    ("[[!]*", "[] 4 * 5"),
-    ("**/**/[€-\U0010fffe]", "** 6 [] 16"),
-    ("/**/**", "literal 1 ** 6"),
-    ("*/**", "* 1 literal 2 ** 4"),
-]
+# The fields of an answer, and the rows by hand that say one of them.
+FIELDS = ["written", "pieces", "reached"]
+ROWS = Path(__file__).resolve().parent / "rows/captures.txt"
 
 
 def may_follow(before, token):
@@ -205,11 +164,20 @@ def random_cases(rng):
             yield tokens, "".join(rng.choice(MIXED_TEXT) for _ in range(rng.randint(0, 8)))
 
 
+def read(line):
+    """The fields of an answer: each token's kind and where it is written up to; where each piece ends, or `no`; and the
+    place that is reached, with the tokens that wait there."""
+    tokens, pieces, reached = line.split("\t")
+    written = re.findall(r"kind: (\w+), .*?end: (\d+)", tokens)
+    ends = "no" if pieces == "None" else " ".join(re.findall(r"end: (\d+)", pieces))
+    return [" ".join(f"{KINDS[kind]} {end}" for kind, end in written), ends, " ".join(re.findall(r"\d+", reached))]
+
+
 def answers(program, cases):
     """The fields that the program answers, for each case."""
     asked = "".join("\t".join(["captures", *case]) + "\n" for case in cases)
     done = subprocess.run([program, "answer"], input=asked, capture_output=True, encoding="utf-8")
-    found = [line.split("\t") for line in done.stdout.split("\n")[:-1]]
+    found = [read(line) for line in done.stdout.split("\n")[:-1]]
     if done.returncode != 0 or len(found) != len(cases):
         sys.exit(f"{program}: {len(found)} answers to {len(cases)} cases {done.stderr}")
     return found
@@ -217,12 +185,10 @@ def answers(program, cases):
 
 def rows():
     """Each row by hand as a case, the number of the field that it speaks of, and what that is."""
-    for options, pattern, text, wanted in PIECES:
-        yield (options, pattern, text), 1, wanted
-    for pattern, text, wanted in REACHED:
-        yield ("", pattern, text), 2, wanted
-    for pattern, wanted in WRITTEN:
-        yield ("", pattern, ""), 0, wanted
+    for line in ROWS.read_text(encoding="utf-8").splitlines():
+        if not line.startswith("#"):
+            field, options, pattern, text, wanted = line.split("|")
+            yield (options, pattern, text.replace("LONGEST", LONGEST)), FIELDS.index(field), wanted
 
 
 def compare(program, cases):
@@ -240,7 +206,7 @@ def compare(program, cases):
 
 def report(cases, found, wanted):
     """Prints the first answers that are not what is wanted, and counts all."""
-    wrong = [row for row in zip(cases, found, wanted) if [field.strip() for field in row[1]] != row[2]]
+    wrong = [row for row in zip(cases, found, wanted) if row[1] != row[2]]
     for case, answer, fields in wrong[:10]:
         print(f"options, pattern, text {str(case)[:300]}: {answer} in place of {fields}")
     return len(wrong)

@@ -37,7 +37,7 @@ EXAMPLES = {
         "crates/glob_examples/src/sources.rt",
         "crates/glob_examples/specs/Sources.antt",
         "crates/glob/src/paths.rt",
-        "crates/glob_tests/src/tests/liars.rt",
+        "crates/glob_tests/src/tests/counted_tree.rt",
         "crates/glob_examples/src/one_file.rt",
         "crates/glob_examples/src/one_file.rt",
         "crates/glob_examples/proofs/one_file/walk_over_main/Answers.antt",
@@ -154,11 +154,11 @@ def source_names():
 
 
 def unknown_tests():
-    """The tests that the tables of docs/FAULTS.md name and that are not there, or are not one, and the rows of
-    tests/program.sh that are not there."""
+    """The tests that the tables of docs/FAULTS.md name and that are not there, or are not one, and the rows of the scripts that
+    are not there."""
     sources = {f"/{name}": (ROOT / name).read_text(encoding="utf-8") for name in FILES if name.endswith(".rt")}
     tests = [(file, name) for file in sources for name in re.findall(r"#\[test\]\n\s*fn (\w+)\(", sources[file])]
-    rows = (ROOT / "tests/program.sh").read_text(encoding="utf-8")
+    rows = "".join((ROOT / f"tests/{name}.sh").read_text(encoding="utf-8") for name in ("program", "globs"))
     cells = re.findall(r"\|([^|]*)\|$", (ROOT / "docs/FAULTS.md").read_text(encoding="utf-8"), re.M)
     found = []
     for file, name in re.findall(r"`(?:([\w/]+\.rt): )?(\w+)`", "|".join(cells)):

@@ -1,7 +1,7 @@
 #!/usr/bin/env python3
-"""Runs each example of the man pages, and each call of glob_run that the README shows. Checks the man pages where `mandoc` or `groff` is installed, asks
-bash, fish and zsh what the completions offer, and installs all of it. Prints what is wrong, and last how many checks
-passed and failed."""
+"""Runs each example of the man pages, and each call of the programs that the README shows. Checks the man pages where
+`mandoc` or `groff` is installed, asks bash, fish and zsh what the completions offer, and installs all of it. Prints what
+is wrong, and last how many checks passed and failed."""
 
 import contextlib
 import os
@@ -14,70 +14,34 @@ import tempfile
 from pathlib import Path
 
 ROOT = Path(__file__).resolve().parent.parent
-PAGE = ROOT / "man/glob_run.1"
 PROGRAMS = sorted(page.stem for page in ROOT.glob("man/*.1"))
 ROFF = {r"\(aq": "'", r"\(ga": "`", r"\e": "\\", r"\-": "-", r"\&": ""}
 
-# The words of a command line, of which the last is being written, and what bash offers for it. So do fish and zsh, but
-# for the lines of FISH and of ZSH. Neither offers `--`, and fish offers options only after a hyphen.
+# The words of a command line, of which the last is being written, and what is offered for it: by bash, and by fish and zsh
+# where that differs. Neither of them offers `--`, and fish offers options only after a hyphen.
 COMPLETIONS = [
-    ("glob_run ", "--help --version -h escape find match"),
-    ("glob_run m", "match"),
-    ("glob_run --", "--help --version"),
-    ("glob_run match -", "-- -0 -d -i -s"),
-    ("glob_run match -i", "-i"),
-    ("glob_run match -i -", "-- -0 -d -i -s"),
-    ("glob_run match -- -", ""),
-    ("glob_run match a -", ""),
-    ("glob_run find -", "-- -0 -d -i -n -s"),
-    ("glob_run find -n ", ""),
-    ("glob_run find -n 5 -", "-- -0 -d -i -n -s"),
-    ("glob_run find fo", "folder"),
-    ("glob_run find -n 5 fo", "folder"),
-    ("glob_run find -- fo", "folder"),
-    ("glob_run find folder fo", ""),
-    ("glob_run find br", "br[[]1[]]/"),
-    ("glob_run find br[[]1", "br[[]1[]]/"),
-    ("glob_run match fo", ""),
-    ("glob_run escape -", "--"),
-    ("glob_run --help ", ""),
-    ("glob_explain -", "-- --help --version -d -h -i -s"),
-    ("glob_explain -i -", "-- -d -i -s"),
-    ("glob_explain -- -", ""),
-    ("glob_explain a -", ""),
+    ("globs ", "--help --version escape explain find help ignore match"),
+    ("globs m", "match"),
+    ("globs match -", "-- -0 -d -i -s -v"),
+    ("globs match a", ""),
+    ("globs explain -", "-- -d -i -s"),
+    ("globs find -", "-- --ignore --max-depth -0 -L -d -i -n -t -x"),
+    ("globs find --m", "--max-depth"),
+    ("globs find -t ", "d f"),
+    ("globs find -n 5 fo", "folder"),
+    ("globs find --ignore fo", "folder"),
+    ("globs ignore -0 fo", "folder"),
+    ("globs help f", "find"),
 ]
-
-FISH = {
-    "glob_run ": "escape find match",
-    "glob_run match -": "-0 -d -i -s",
-    "glob_run match -i -": "-0 -d -i -s",
-    "glob_run find -": "-0 -d -i -n -s",
-    "glob_run find -n 5 -": "-0 -d -i -n -s",
-    "glob_run find fo": "folder/",
-    "glob_run find -n 5 fo": "folder/",
-    "glob_run find -- fo": "folder/",
-    "glob_run escape -": "",
-    "glob_explain -": "--help --version -d -h -i -s",
-    "glob_explain -i -": "-d -i -s",
-}
-
-ZSH = {
-    "glob_run match -": "-0 -d -i -s",
-    "glob_run match -i -": "-0 -d -i -s",
-    "glob_run find -": "-0 -d -i -n -s",
-    "glob_run find -n 5 -": "-0 -d -i -n -s",
-    "glob_run find br": r"br\[\[\]1\[\]\]",
-    # It has no unquoted [ after a name.
-    "glob_run find br[[]1": "",
-    "glob_run escape -": "",
-    "glob_explain -": "--help --version -d -h -i -s",
-    "glob_explain -i -": "-d -i -s",
-}
+FISH = {"globs ": "escape explain find help ignore match", "globs find --m": "--max-depth", "globs find -n 5 fo": "folder/",
+    "globs find --ignore fo": "folder/", "globs ignore -0 fo": "folder/"}
+FISH |= {line: found.removeprefix("-- ") for line, found in COMPLETIONS if found.startswith("-- ")}
+ZSH = {line: found.removeprefix("-- ") for line, found in COMPLETIONS if found.startswith("-- ")}
 
 # What zsh reads at its start in a terminal: it completes each line of the file ASKED, and writes a line with all that it
 # offers to the file OFFERED. Then it ends. What is offered goes through `compadd`, which with -O, -A or -D only asks.
 ZSHRC = """
-fpath=("$COMPLETIONS" $fpath)
+fpath=("$SITE" $fpath)
 autoload -Uz compinit && compinit -u -D
 compadd() {
     local -a found options=("${(@)argv[1,(i)(-|--)]}")
@@ -100,23 +64,14 @@ zle-line-init() {
 zle -N zle-line-init
 """
 
-INSTALLED = sorted(
-    file.format(name)
-    for name in PROGRAMS
-    for file in (
-        "bin/{}",
-        "share/bash-completion/completions/{}",
-        "share/fish/vendor_completions.d/{}.fish",
-        "share/man/man1/{}.1",
-        "share/zsh/site-functions/_{}",
-    )
-)
+MADE = {"bash": "share/bash-completion/completions/globs", "zsh": "share/zsh/site-functions/_globs",
+    "fish": "share/fish/vendor_completions.d/globs.fish"}
+INSTALLED = sorted([*MADE.values(), *(file.format(name) for name in PROGRAMS for file in ("bin/{}", "share/man/man1/{}.1"))])
 
 
 def examples():
     """The commands of the man pages, and those that the README shows after a `$`, each with what it writes."""
-    # The examples of glob_run come first: those of others make files.
-    text = "".join((ROOT / f"man/{name}.1").read_text(encoding="utf-8") for name in ["glob_run", *PROGRAMS[:-1]])
+    text = "".join((ROOT / f"man/{name}.1").read_text(encoding="utf-8") for name in PROGRAMS)
     blocks = re.findall(r"^\.EX\n(.*?)^\.EE$", text, re.M | re.S)
     blocks = [re.sub(r"\\\(..|\\.", lambda it: ROFF[it[0]], block) for block in blocks]
     blocks += re.findall(r"^```text\n(.*?)^```$", (ROOT / "README.md").read_text(encoding="utf-8"), re.M | re.S)
@@ -128,7 +83,7 @@ def shown_calls():
     text = (ROOT / "README.md").read_text(encoding="utf-8")
     found = []
     for block in re.findall(r"^```sh\n(.*?)^```$", text, re.M | re.S):
-        for command, comment in re.findall(r"^(.*bin/glob_run .*?) +# (.*)$", block, re.M):
+        for command, comment in re.findall(r"^(.*bin/glob(?:_run|s) .*?) +# (.*)$", block, re.M):
             found.append((command, comment.split(": ")[-1].replace(", ", "\n") + "\n"))
     return found
 
@@ -150,34 +105,26 @@ def lint():
     return None
 
 
-def completion_faults(line, wanted, folder):
+def completion_faults(line, wanted, folder, made):
     script = """
         . "$1"
         read -r -a COMP_WORDS <<<"$2"
         [ "${2% }" = "$2" ] || COMP_WORDS+=('')
         COMP_CWORD=$((${#COMP_WORDS[@]} - 1))
-        "_${COMP_WORDS[0]}"
+        _globs
         printf '%s\\n' "${COMPREPLY[@]}"
     """
-    words = ["bash", "-c", script, "bash", ROOT / f"completions/{line.split()[0]}.bash", line]
-    ran = subprocess.run(words, cwd=folder, capture_output=True, text=True)
+    ran = subprocess.run(["bash", "-c", script, "bash", made, line], cwd=folder, capture_output=True, text=True)
     offered = " ".join(sorted(ran.stdout.split()))
     return [] if (offered, ran.stderr) == (wanted, "") else [f"{line}: {offered} {ran.stderr}"]
 
 
-def naming_faults():
-    """Whether bash takes all that is offered for names of files: then a folder `match` would make `match` a path."""
-    words = ["bash", "-c", '. "$1"; complete -p glob_run', "bash", ROOT / "completions/glob_run.bash"]
-    said = subprocess.run(words, capture_output=True, text=True).stdout
-    return [] if said == "complete -F _glob_run glob_run\n" else [f"bash: {said}"]
-
-
-def fish_faults(line, wanted, folder):
+def fish_faults(line, wanted, folder, made):
     """What fish offers otherwise than it should, and None where it is not installed."""
     if not shutil.which("fish"):
         return None
     script = "source $argv[1]; complete -C $argv[2]"
-    words = ["fish", "--no-config", "-c", script, "--", ROOT / f"completions/{line.split()[0]}.fish", line]
+    words = ["fish", "--no-config", "-c", script, "--", made, line]
     ran = subprocess.run(words, cwd=folder, capture_output=True, text=True)
     offered = " ".join(sorted(it.split("\t")[0] for it in ran.stdout.splitlines()))
     return [] if (offered, ran.stderr) == (wanted, "") else [f"fish: {line}: {offered} {ran.stderr}"]
@@ -197,7 +144,7 @@ def run_in_terminal(words, **how):
     ran.wait()
 
 
-def zsh_faults(folder, home):
+def zsh_faults(folder, home, made):
     """What zsh offers otherwise than it should, of each line. An empty list where it is not installed."""
     if not shutil.which("zsh"):
         print("left out: there is no zsh, so it is not asked what it offers")
@@ -207,7 +154,7 @@ def zsh_faults(folder, home):
     asked.write_text("".join(f"{line}\n" for line, _ in COMPLETIONS), encoding="utf-8")
     offered.touch()
     env = {"PATH": os.environ["PATH"], "TERM": "dumb", "HOME": home, "ZDOTDIR": home}
-    env |= {"COMPLETIONS": ROOT / "completions", "ASKED": asked, "OFFERED": offered}
+    env |= {"SITE": made.parent, "ASKED": asked, "OFFERED": offered}
     run_in_terminal(["zsh", "-d", "-i"], cwd=folder, env=env)
     found = [" ".join(sorted(it.split())) for it in offered.read_text(encoding="utf-8").splitlines()]
     found += ["no answer"] * (len(COMPLETIONS) - len(found))
@@ -219,10 +166,10 @@ def zsh_faults(folder, home):
 def syntax_faults(shell, file):
     """What a shell says of a file that it cannot read, and None where the shell is not installed."""
     if not shutil.which(shell):
-        print(f"left out: there is no {shell}, so {file} is not read")
+        print(f"left out: there is no {shell}, so its completions are not read")
         return None
-    ran = subprocess.run([shell, "-n", ROOT / file], capture_output=True, text=True)
-    return [f"{file}: {ran.stderr}"] if ran.returncode or ran.stderr else []
+    ran = subprocess.run([shell, "-n", file], capture_output=True, text=True)
+    return [f"{shell}: {ran.stderr}"] if ran.returncode or ran.stderr else []
 
 
 def install_faults(prefix):
@@ -231,10 +178,9 @@ def install_faults(prefix):
     if ran.returncode or found != INSTALLED:
         return [f"bin/install: {found} {ran.stderr}"]
     version = re.search(r"^## (.*)$", (ROOT / "CHANGELOG.md").read_text(encoding="utf-8"), re.M)[1]
-    faults = []
+    said = subprocess.run([f"{prefix}/bin/globs", "--version"], capture_output=True, text=True).stdout
+    faults = [] if said == f"globs {version}\n" else [f"the installed program is {said}"]
     for name in PROGRAMS:
-        said = subprocess.run([f"{prefix}/bin/{name}", "--version"], capture_output=True, text=True).stdout
-        faults += [] if said == f"{name} {version}\n" else [f"the installed program is {said}"]
         page = (ROOT / f"man/{name}.1").read_text(encoding="utf-8")
         faults += [] if f'"{name} {version}"' in page else [f"the version in the man page of {name}"]
     return faults
@@ -249,18 +195,13 @@ def refusal_faults(words):
 def main():
     with tempfile.TemporaryDirectory() as work:
         prefix, folder = Path(work, "prefix"), Path(work, "here")
-        for name in ("folder", "br[1]"):
-            (folder / name).mkdir(parents=True)
+        (folder / "folder").mkdir(parents=True)
         checks = [install_faults(prefix), lint(), refusal_faults([]), refusal_faults(["--help"])]
-        checks += [naming_faults()]
-        checks += [completion_faults(*it, folder) for it in COMPLETIONS]
-        checks += [fish_faults(line, FISH.get(line, wanted), folder) for line, wanted in COMPLETIONS]
-        checks += zsh_faults(folder, Path(work))
-        checks += [syntax_faults("zsh", f"completions/_{name}") for name in PROGRAMS]
-        checks += [syntax_faults("fish", f"completions/{name}.fish") for name in PROGRAMS]
-        checks += [syntax_faults("bash", f"completions/{name}.bash") for name in PROGRAMS]
-        for name in ("folder", "br[1]"):
-            (folder / name).rmdir()
+        checks += [completion_faults(*it, folder, prefix / MADE["bash"]) for it in COMPLETIONS]
+        checks += [fish_faults(line, FISH.get(line, it), folder, prefix / MADE["fish"]) for line, it in COMPLETIONS]
+        checks += zsh_faults(folder, Path(work), prefix / MADE["zsh"])
+        checks += [syntax_faults(shell, prefix / file) for shell, file in MADE.items()]
+        (folder / "folder").rmdir()
         checks += [run_example(*it, folder, prefix / "bin") for it in examples()]
         checks += [run_example(*it, ROOT, os.environ["PATH"]) for it in shown_calls()]
     done = [faults for faults in checks if faults is not None]

@@ -1,6 +1,6 @@
 #!/usr/bin/env python3
 """Checks the page of docs/page: that it is made of the present sources, and, where Chromium is installed, that it answers
-as bin/glob_explain does on 200 patterns and lines from a seeded generator, piece by piece, and that it walks a
+as `globs explain` does on 200 patterns and lines from a seeded generator, piece by piece, and that it walks a
 tree as `find` does. It drives the page's own fields in a headless browser, without a network. Its last line is 'N passed,
 M failed'."""
 
@@ -16,7 +16,7 @@ from urllib.parse import unquote
 
 ROOT = Path(__file__).resolve().parent.parent
 PAGE = ROOT / "docs/page/index.html"
-PROGRAM, EXPLAIN = str(ROOT / "bin/glob_run"), str(ROOT / "bin/glob_explain")
+PROGRAM, GLOBS = str(ROOT / "bin/glob_run"), str(ROOT / "bin/globs")
 CASES = 200
 TREE = ["src/main.rs", "src/walk/lines.rs", "src/walk/_x.rs", "src/walk/.hidden.rs", "src/empty/", "docs/A.md", "README.md"]
 WALKS = ["*", "**", "src/**/[!_]*.rs", "**/*.rs", "*/", "src/*/*", "docs/A*.md", "missing/*", "**/empty", "[R-S]*"]
@@ -76,9 +76,9 @@ def expected(pattern, flags, line):
     """What the page has to show: a fault; or that the line matches, and the pieces, those of neighbouring characters as
     one; or that it does not, and after how many characters it stops."""
     options = [word for i, word in enumerate(("-i", "-s", "-d")) if flags & (1 << i)]
-    status, out, error = run([*options, "--", pattern, line], program=EXPLAIN)
+    status, out, error = run(["explain", *options, "--", pattern, line], program=GLOBS)
     if status == 2:
-        fault = re.match(r"Pattern syntax error near position (\d+): (.*)\n", error)
+        fault = re.match(r"globs: Pattern syntax error near position (\d+): (.*)\n", error)
         return [f"Refused at character {fault[1]}: {fault[2]}", "", [], None]
     if status == 1:
         return [None, "no", [], out.split("\n")[1].index("^")]

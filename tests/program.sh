@@ -74,34 +74,6 @@ done <<'ROWS'
 ROWS
 set +f
 
-for words in --version '--version x'; do
-    # shellcheck disable=SC2086 # a word for each
-    unfed $words
-    check "by $words the version is the one at the top of the changelog" 0 "glob_run $(version)\n" ''
-done
-
-unfed --help
-cp "$work/out" "$work/page"
-awk 'NR == FNR { begins[$0]; next }
-    length > 100
-    { for (begin in begins) if (index($0, begin) == 1) delete begins[begin] }
-    END { for (begin in begins) print begin }' "$root/tests/rows/help.txt" "$work/page" >"$work/out"
-check 'a line of the page for each word, and none of more than 100 bytes' 0 '' ''
-for words in -h '-h match' 'match --help' 'find --help x' 'escape --help'; do
-    # shellcheck disable=SC2086 # a word for each
-    unfed $words
-    cmp -s "$work/page" "$work/out" && : >"$work/out"
-    check "the page by $words" 0 '' ''
-done
-
-"$program" --help >/dev/full 2>"$work/err"
-status=$? && : >"$work/out"
-check 'the page to a full standard output' 2 '' 'writing failed\n'
-
-"$program" --help >&- 2>"$work/err"
-status=$?
-check 'the page to a closed standard output' 2 '' 'writing failed\n'
-
 # means FORM LINES WANTED OTHER WANTED: what a form of other tools copies here, and what copies instead of it
 means() {
     printf '%b' "$2" >"$work/in"
@@ -115,11 +87,6 @@ means '[^a]' '^\na\nb\n' '^\na\n' '[!a]' '^\nb\n'
 means '[[:alpha:]]' 'a\nz\na]\n:]\nz]\n' 'a]\n:]\n' '[a-zA-Z]' 'a\nz\n'
 means '\*' '*\n\\\\a\n' '\\\\a\n' '[*]' '*\n'
 means './*.rs' 'a.rs\n./a.rs\n' './a.rs\n' '*.rs' 'a.rs\n./a.rs\n'
-
-printf 'a\nb\0b\0a' >"$work/in"
-"$program" match -0 'a*' <"$work/in" 2>"$work/err" | tr '\0' '!' >"$work/out"
-status=${PIPESTATUS[0]}
-check 'records that end in a NUL' 0 'a\nb!a!' ''
 
 unfed match 'abc[def'
 check 'a fault of the pattern before anything is read' 2 '' 'Pattern syntax error near position 3: invalid range pattern\n'
@@ -166,10 +133,6 @@ check 'escape to a full standard output' 2 '' 'writing failed\n'
 status=$?
 check 'escape to a closed standard output' 2 '' 'writing failed\n'
 
-"$program" --version >/dev/full 2>"$work/err"
-status=$? && : >"$work/out"
-check 'the version to a full standard output' 2 '' 'writing failed\n'
-
 "$program" match 'abc[def' >"$work/out" 2>/dev/full
 status=$? && : >"$work/err"
 check 'a fault that match cannot report' 2 '' ''
@@ -211,11 +174,10 @@ refuses_each match 0 match '*.rs'
 refuses_each 'a match of many tokens' 0 match "$(printf '*[a-z]%.0s' {1..64}).rs"
 refuses_each 'a fault of a pattern' 2 match 'abc[def'
 refuses_each escape 0 escape 'a*[b]'
-refuses_each 'a page' 0 --help
 refuses_each 'a usage fault' 2 match
 cd "$root" || exit
 refuses_each find 0 find 'docs/**/A*.md'
-refuses_each 'find with a limit' 2 find -0 -n 9 '*'
+refuses_each 'find with a limit' 2 find -n 9 '*'
 refuses_each 'find with a fault' 2 find 'a**b'
 cd "$OLDPWD" || exit
 
@@ -257,9 +219,6 @@ check 'find with a word that is not UTF-8' 2 '' "$usage"
 mkdir names && touch 'names/a b' $'names/a\nb' 'names/a*b' 'names/[x]' $'names/\xc3\xa9'
 run find 'names/*'
 check 'names with blanks, line feeds and wildcards' 0 'names/[x]\nnames/a\nb\nnames/a b\nnames/a*b\nnames/\xc3\xa9\n' ''
-run find -0 'names/a?b'
-tr '\0' '!' <"$work/out" >"$work/some" && mv "$work/some" "$work/out"
-check 'names that end in a NUL' 0 'names/a\nb!names/a b!names/a*b!' ''
 run find 'names/a[*]b'
 check 'a wildcard in a bracket' 0 'names/a*b\n' ''
 run find "$("$program" escape 'names/[x]')"

@@ -22,7 +22,7 @@ alone() {
 }
 
 program() {
-    [ "$(printf 'src/a.rs\nb.c\n' | bin/glob_run match '*.rs')" = src/a.rs ] && bin/glob_run --version
+    [ "$(printf 'src/a.rs\nb.c\n' | bin/glob_run match '*.rs')" = src/a.rs ] && bin/glob_run escape a
 }
 
 # By the flags of pkg-config.
@@ -65,8 +65,8 @@ check 'a release' "$root/bin/release" "$work/made"
 mkdir "$work/there"
 check 'it is unpacked' tar -C "$work/there" -xf "$work/made"/*.tar.gz
 check 'the program' alone program
-check 'the filter' alone bash -c '[ "$(printf "a.o\nb.c\n" | bin/glob_ignore <(echo "*.o"))" = b.c ]'
-check 'man pages' alone test -s share/man/man1/glob_run.1 -a -s share/man/man1/glob_files.1
+check 'the filter' alone bash -c '[ "$(printf "a.o\nb.c\n" | bin/globs ignore <(echo "*.o"))" = b.c ]'
+check 'man pages' alone test -s share/man/man1/glob_run.1 -a -s share/man/man1/globs.1
 if_there pkg-config 'from C' alone from_c
 if_there cargo 'from Rust' alone from_rust
 check 'what it was made from' alone built

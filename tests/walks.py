@@ -100,12 +100,14 @@ class Comparer:
             print(f"{case}: {fault}")
 
     def ask(self, cases):
-        """The items and units of walks that begin at one place, or the fault in the place of both."""
+        """The items and units of walks that begin at one place, or the fault in the place of both. What cannot be listed is
+        shut: that kind is left out."""
         if cases:
             self.place.enter(cases[0].tree, cases[0].start)
         for answer in self.walker.ask([case.line(self.place.above) for case in cases]):
             word, *rest = answer.split("\t") if isinstance(answer, str) else ("none", answer.reason)
-            yield (rest[1:], int(rest[0])) if word == "ok" else ([word, *rest], None)
+            items = [item.removesuffix(":PermissionDenied") for item in rest[1:]]
+            yield (items, int(rest[0])) if word == "ok" else ([word, *rest], None)
 
     def written(self, case):
         """The same by the reference: its marks, or the fault."""

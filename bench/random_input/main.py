@@ -256,7 +256,8 @@ class Comparer:
 
 def field_of(numbers):
     """What a set is to say of a text that the patterns of these numbers match."""
-    return "\t" + " ".join(map(str, ["yes", numbers[0], numbers[-1], *numbers] if numbers else ["no", "no", "no"]))
+    ends = f"true Some({numbers[0]}) Some({numbers[-1]})" if numbers else "false None None"
+    return f"\t{ends} {numbers}"
 
 
 def spent(answer):
@@ -265,9 +266,9 @@ def spent(answer):
 
 
 def items_of(answer):
-    """The items of a walk, or the fault."""
+    """The items of a walk, or the fault. What cannot be listed is shut: that kind, which ours says, is left out."""
     fields = answer.split("\t")
-    return fields[2:] if fields[0] == "ok" else fields
+    return [item.removesuffix(":PermissionDenied") for item in fields[2:]] if fields[0] == "ok" else fields
 
 
 def is_cut(limited, whole, limit):
@@ -281,7 +282,7 @@ def is_cut(limited, whole, limit):
         return limited == whole
     *items, last = items_of(limited) or [""]
     is_beginning = items_of(whole)[: len(items)] == items
-    return spent(limited) == limit and is_beginning and last.startswith("?")
+    return spent(limited) == limit and is_beginning and last.startswith(reference.REFUSED)
 
 
 def run(comparer, seconds, seed):

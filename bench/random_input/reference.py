@@ -8,7 +8,7 @@ from dataclasses import dataclass, replace
 
 UNIT = re.compile(r"\*+|\?|\[!.[^]]*\]|\[[^!][^]]*\]|.", re.S)
 # A unit of work, a path, a directory that cannot be listed, and a limit's refusal: each is written before its path.
-WORK, FOUND, UNREAD, REFUSED = ".", "=", "!", "?"
+WORK, FOUND, UNREAD, REFUSED = ".", "=", "!", "^"
 STARS = "wildcards are either regular `*` or recursive `**`"
 RECURSIVE = "recursive wildcards must form a single path component"
 RANGE = "invalid range pattern"

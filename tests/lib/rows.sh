@@ -1,4 +1,4 @@
-# What the rows of program.sh and files.sh are made of. Sourced, with these set: $root, the repository; $program,
+# What the rows of program.sh and globs.sh are made of. Sourced, with these set: $root, the repository; $program,
 # the program as a user calls it; $binary, as it is built, where a row runs that; $work, a folder; $passed and $failed, how
 # many rows did.
 
@@ -89,7 +89,7 @@ by_user() {
     local user=()
     [ "$(id -u)" != 0 ] || user=(setpriv --reuid=65534 --regid=65534 --clear-groups)
     cp "$binary" "$work/by_user" && chmod 755 "$work" "$work/by_user"
-    "${user[@]}" "$work/by_user" --version >/dev/null 2>&1 || return
+    "${user[@]}" "$work/by_user" escape a >/dev/null 2>&1 || return
     "${user[@]}" "$work/by_user" "$@" >"$work/out" 2>"$work/err"
     status=$?
 }
