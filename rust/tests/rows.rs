@@ -4,6 +4,7 @@
 use std::fs;
 use std::path::{Path, PathBuf};
 
+use cadmiumdove::set::braces::expand;
 use cadmiumdove::walk::is_plain;
 use cadmiumdove::{MatchOptions, Pattern};
 
@@ -30,6 +31,10 @@ fn holds(table: &str, fields: &[&str]) -> bool {
             let pattern = Pattern::escape(text);
             pattern == *escaped && Pattern::new(&pattern).unwrap().matches(text)
         }
+        ("braces", [text, wanted]) => match expand(text) {
+            Ok(texts) => texts.iter().map(|text| format!("<{text}>")).collect::<String>() == *wanted,
+            Err(error) => error.to_string() == *wanted,
+        },
         ("plain", [text, word @ ("plain" | "not plain")]) => is_plain(text).is_ok_and(|yes| yes == (*word == "plain")),
         ("plain", [text, place, words]) => {
             is_plain(text).is_err_and(|error| error.pos.to_string() == *place && error.msg == *words)
