@@ -2,4 +2,5 @@ pub mod Classes
 pub mod Known
 pub mod Listing
 pub mod Putting
+pub mod Spans
 pub mod Words

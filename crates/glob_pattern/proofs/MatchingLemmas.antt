@@ -11,6 +11,7 @@ pub mod PlainPatterns
 pub mod PlainTokens
 pub mod Rests
 pub mod Running
+pub mod Spans
 pub mod Splits
 pub mod Stepping
 pub mod Tokens

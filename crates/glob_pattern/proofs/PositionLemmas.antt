@@ -3,6 +3,7 @@ pub mod Alive
 pub mod LastOnes
 pub mod Prefixes
 pub mod Running
+pub mod Spans
 pub mod Spreading
 pub mod TakenPrefixes
 pub mod Words

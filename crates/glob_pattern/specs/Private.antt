@@ -5,5 +5,6 @@ pub mod Needles
 pub mod Positions
 pub mod Prefilters
 pub mod Prefixes
+pub mod Spans
 pub mod Stepping
 pub mod TextTable

@@ -17,3 +17,4 @@ pub use pattern::{
     Pattern, TokenKind, Trimmed, literal_at, match_trimmed, token_kind, token_takes, tokens_len,
     trim,
 };
+pub use token::taking::is_open;

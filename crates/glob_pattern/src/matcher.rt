@@ -6,7 +6,7 @@ mod positions;
 mod shape_word;
 
 pub use positions::{Span, decide};
-pub use shape_word::{ShapeWord, shape_words};
+pub use shape_word::{ShapeWord, last_before, shape_words};
 use std::alloc::{AllocError, Allocator};
 
 /// How many tokens a word of 64 bits has: there is one more position than tokens.

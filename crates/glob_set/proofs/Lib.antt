@@ -1,5 +1,6 @@
 pub mod BraceAnswers
 pub mod BraceCounting
+pub mod BraceEscapes
 pub mod BraceLexing
 pub mod BraceTexts
 pub mod BraceReadings

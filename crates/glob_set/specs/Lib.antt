@@ -1,3 +1,4 @@
+pub mod BraceEscaping
 pub mod BraceSets
 pub mod Braces
 pub mod Private

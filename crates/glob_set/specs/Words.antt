@@ -28,7 +28,8 @@ brace_refusal_words refusal.Memory = out_of_memory
 
 -- of a refusal of texts with braces
 abbrev pub brace_set_refusal_words : BraceSetRefusal → List ℕ
-brace_set_refusal_words (set.Braces number fault) = codes "pattern " ++ decimal number ++ codes ": " ++ brace_error_words fault
+brace_set_refusal_words (set.Braces number fault) =
+    codes "pattern " ++ decimal number ++ codes ": " ++ brace_error_words fault
 brace_set_refusal_words (set.Pattern number alternative e) =
     codes "pattern " ++ decimal number ++ codes ", alternative " ++ decimal alternative ++ codes ": "
     ++ pattern_error_words e

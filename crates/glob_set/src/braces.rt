@@ -8,18 +8,20 @@
 //! | `a{,b}`, `{a}` | `a` and `ab`, `a` |
 //! | `a,b`, `[{,}]` | themselves: outside of braces a comma is itself, in a bracket each character is |
 //!
-//! A bracket is one of a pattern: `[`, perhaps `!`, one character, further ones that are not `]`, and `]`. A `[` that no
-//! such bracket begins with is itself.
+//! A bracket is one of a pattern: `[`, perhaps `!`, one character, further ones that are not `]`, and `]`. A `[` that
+//! no such bracket begins with is itself.
 ghost use Rattle.std.specs.Prelude.{◌≤◌, ◌↔◌, ℕ, List, IfOk, IfErr, chars, length, map, string_bytes};
 ghost use Rattle.glob_set.specs.Braces.{AreAlternatives, IsAlternative, IsAmong, RefusesBraces};
 
 mod counting;
 mod error;
+mod escaping;
 mod expanding;
 mod lexemes;
 
 use counting::count_of;
 pub use error::{BraceError, BraceRefusal};
+pub use escaping::escape;
 use expanding::expand_all;
 use lexemes::lexemes_of;
 use std::alloc::Allocator;
@@ -31,8 +33,8 @@ pub const MOST_ALTERNATIVES: usize = 1000;
 /// `b2`. A text without braces is its only alternative. They are counted before any is made.
 ///
 /// The error is [`Syntax`](BraceRefusal::Syntax) with the first brace from the left that has no partner, or with
-/// [`TooMany`](BraceError::TooMany) if there are more than [`MOST_ALTERNATIVES`], or [`Memory`](BraceRefusal::Memory) if
-/// an allocation fails.
+/// [`TooMany`](BraceError::TooMany) if there are more than [`MOST_ALTERNATIVES`], or [`Memory`](BraceRefusal::Memory)
+/// if an allocation fails.
 pub fn expand<A: Allocator + Copy>(alloc: A, text: &str) -> Result<Vec<String<A>, A>, BraceRefusal>
     ensures alternatives { IfOk result
         (λ texts. AreAlternatives (chars text.now) (map string_bytes texts.items)) }

@@ -62,11 +62,11 @@ impl<T: Drop> From<AllocFailed<T>> for SetRefusal {
 /// [`PatternSet::from_braces`](crate::PatternSet::from_braces). Numbers are counted from 0.
 #[derive(Debug, Drop)]
 pub enum BraceSetRefusal {
-    /// The first text with a fault, by its number, and the fault of its braces: of `*.o` and `{a`, 1 and that the `{` at
-    /// place 0 is not closed.
+    /// The first text with a fault, by its number, and the fault of its braces: of `*.o` and `{a`, 1 and that the `{`
+    /// at place 0 is not closed.
     Braces(usize, BraceError),
-    /// The first text with a fault, by its number, the first of its alternatives that is not accepted, by its number among
-    /// them, and that one's first fault from the left: of `*.o` and `{a,[}`, 1, 1 and the place 0 in `[`.
+    /// The first text with a fault, by its number, the first of its alternatives that is not accepted, by its number
+    /// among them, and that one's first fault from the left: of `*.o` and `{a,[}`, 1, 1 and the place 0 in `[`.
     Pattern(usize, usize, PatternError),
     /// Out of memory: an allocation failed.
     Memory,

@@ -42,7 +42,8 @@ pub fn read_braces<A: Allocator + Copy>(
     alloc: A,
     texts: &[&str],
 ) -> Result<Vec<Pattern<A>, A>, BraceSetRefusal>
-    ensures patterns { IfOk result (λ patterns. AreAlternativesOf (map (λ t. t.now) texts.now) patterns.items) }
+    ensures patterns { IfOk result
+        (λ patterns. AreAlternativesOf (map (λ t. t.now) texts.now) patterns.items) }
     ensures refused { IfErr result (RefusesBraceTexts (map (λ t. t.now) texts.now)) }
 {
     let mut patterns = Vec::new(alloc);

@@ -100,8 +100,8 @@ impl<A: Allocator + Copy> PatternSet<A> {
 
     /// [`new`](Self::new) of the patterns that are parsed from the texts, as from `*.o` and `target/**`.
     ///
-    /// The error is [`Syntax`](SetRefusal::Syntax) with the number and the fault of the first text that is not accepted,
-    /// or [`Memory`](SetRefusal::Memory) if an allocation fails.
+    /// The error is [`Syntax`](SetRefusal::Syntax) with the number and the fault of the first text that is not
+    /// accepted, or [`Memory`](SetRefusal::Memory) if an allocation fails.
     pub fn from_texts(alloc: A, texts: &[&str], options: MatchOptions) -> Result<Self, SetRefusal>
         ensures set { IfOk result
             (λ set. set ≡ record { patterns = map (λ t. t.now) texts.now; options = options }) }

@@ -1,11 +1,11 @@
 -- Wildcards where no rule applies.
 use Rattle.std.proofs.Common.{◌≡◌, ◌≢◌, ℕ, ◌+◌, ◌<◌, Bool, true, false, List, length, map, get_or, refl, ⊎_elim, zero-add, arith}
-use Rattle.std.proofs.lemmas.Bool.{cases_lt}
+use Rattle.std.proofs.lemmas.Bool.{cases_lt, or_parts}
 use Rattle.std.proofs.lemmas.List.{get_or-map, length-map}
 use Rattle.std.specs.Int.{IsBitSet}
 use Rattle.glob_text.specs.Text.{Text, opens}
 use Rattle.glob_pattern.specs.Grammar.Tokens.{Token, shape_of}
-use Rattle.glob_pattern.specs.Matching.Taking.{takes}
+use Rattle.glob_pattern.specs.Matching.Taking.{takes, has_rules}
 use Rattle.glob_pattern.specs.Private.Positions.{IsShapeWord, TakesRest}
 use Rattle.glob_pattern.specs.Private.TextTable.{table_of}
 use Rattle.glob_pattern.specs.declared.matcher.Shape.TheVariants.{One}
@@ -14,21 +14,19 @@ use Rattle.glob_pattern.specs.declared.options.MatchOptions.{MatchOptions}
 use Rattle.glob_pattern.specs.declared.token.Token.TheVariants.{Literal, AnyChar, AnySequence, Recursive, OneOf, NoneOf}
 
 -- a wildcard takes each character
-takes-freely : (o : MatchOptions) (opening : Bool) (c : ℕ) (t : Token) → o.require_literal_separator ≡ false → o.require_literal_leading_dot ≡ false
-    → shape_of t ≢ One → takes o opening c t ≡ true
-takes-freely o opening c (Literal x) slashes dots grows = absurd (grows refl)
-takes-freely o opening c AnyChar slashes dots grows = absurd (grows refl)
-takes-freely o opening c AnySequence slashes dots grows = rw (slashes, dots) refl
-takes-freely o opening c Recursive slashes dots grows = rw dots refl
-takes-freely o opening c (OneOf e) slashes dots grows = absurd (grows refl)
-takes-freely o opening c (NoneOf e) slashes dots grows = absurd (grows refl)
+takes-freely : (o : MatchOptions) (opening : Bool) (c : ℕ) (t : Token) → has_rules o ≡ false → shape_of t ≢ One → takes o opening c t ≡ true
+takes-freely o opening c (Literal x) free grows = absurd (grows refl)
+takes-freely o opening c AnyChar free grows = absurd (grows refl)
+takes-freely o opening c AnySequence free grows = let both = or_parts o.require_literal_separator o.require_literal_leading_dot free in rw (both.0, both.1) refl
+takes-freely o opening c Recursive free grows = rw (or_parts o.require_literal_separator o.require_literal_leading_dot free).1 refl
+takes-freely o opening c (OneOf e) free grows = absurd (grows refl)
+takes-freely o opening c (NoneOf e) free grows = absurd (grows refl)
 
 -- a wildcard of the first word before `end` that may end anywhere takes the rest
 pub TakesRest-freely : (o : MatchOptions) (tokens : List Token) (text : Text) (word : ShapeWord) (end j : ℕ) → IsShapeWord (map shape_of tokens) 0 word
-    → o.require_literal_separator ≡ false → o.require_literal_leading_dot ≡ false
-    → j < 64 → j + 1 ≡ end → IsBitSet word.wildcards j → (IsBitSet word.recursive j → ⊥) → TakesRest (table_of o tokens text) (map shape_of tokens) end j
+    → has_rules o ≡ false → j < 64 → j + 1 ≡ end → IsBitSet word.wildcards j → (IsBitSet word.recursive j → ⊥) → TakesRest (table_of o tokens text) (map shape_of tokens) end j
 unfolding table_of
-TakesRest-freely o tokens text word end j is slashes dots lt last wild free =
+TakesRest-freely o tokens text word end j is unruled lt last wild free =
     let shapes = map shape_of tokens in
     let here = (is.wildcards j lt).0 wild in
     let grows : get_or shapes j One ≢ One = rw (zero-add j) at here.1 in
@@ -42,5 +40,5 @@ TakesRest-freely o tokens text word end j is slashes dots lt last wild free =
           (λ more. absurd (free ((is.recursive j lt).1 (here.0, rw (zero-add j) deep, omega (arith, more)))))
           (λ all. omega (arith, all, last, here.0))
           (cases_lt end (length shapes));
-      takes = λ k from below. takes-freely o (opens text k) (get_or text k 0) (get_or tokens j AnyChar) slashes dots (λ one. grows (rw shape one));
+      takes = λ k from below. takes-freely o (opens text k) (get_or text k 0) (get_or tokens j AnyChar) unruled (λ one. grows (rw shape one));
     }

@@ -1,20 +1,25 @@
 -- Which names the components of a pattern take, each from its own level down.
 use Rattle.std.specs.Prelude.{Bool, true, false, ◌&&◌, ◌||◌, not, if◌then◌else◌, List, [], ◌∷◌, bytes_eq, IsTrue, IsFalse}
 use Rattle.std.specs.Path.{has_no_slash}
-use Rattle.glob_text.specs.Characters.{dot}
-use Rattle.glob_text.specs.Pieces.{is_empty, begins_with}
+use Rattle.glob_text.specs.Pieces.{is_empty}
 use Rattle.glob_text.specs.Text.{Text}
 use Rattle.glob_pattern.specs.Grammar.Characters.{star}
 use Rattle.glob_pattern.specs.Grammar.Units.{IsAccepted}
+use Rattle.glob_pattern.specs.Matching.Taking.{is_excluded_dot}
 use Rattle.glob_pattern.specs.declared.options.MatchOptions.{MatchOptions}
 
 -- `**`
 abbrev pub is_recursive : (component : Text) → Bool
 is_recursive component = bytes_eq component (star ∷ star ∷ [])
 
--- `**` may take the name: under the dot rule, none that begins with a dot
+-- `**` may take the name, whose first character is at a component start or not: no rule excludes that character
+abbrev pub admits : MatchOptions → (opening : Bool) → (name : Text) → Bool
+admits o opening [] = true
+admits o opening (c ∷ cs) = not (is_excluded_dot o opening c)
+
+-- `**` may take the name
 abbrev pub is_open : MatchOptions → (name : Text) → Bool
-is_open o name = not (o.require_literal_leading_dot && begins_with dot name)
+is_open o name = admits o true name
 
 -- `**` takes all the names, at least one
 abbrev pub run_to_end : MatchOptions → (names : List Text) → Bool
@@ -45,11 +50,7 @@ takes_names o matches (t ∷ u ∷ us) names =
 
 -- the options, and the separator rule
 abbrev pub with_separator_rule : MatchOptions → MatchOptions
-with_separator_rule o = record {
-  case_sensitive = o.case_sensitive;
-  require_literal_separator = true;
-  require_literal_leading_dot = o.require_literal_leading_dot;
-}
+with_separator_rule o = record o { require_literal_separator = true }
 
 -- a pattern of one level: it is accepted, holds no separator, and is not empty
 abbrev pub IsComponent : Text → Type 0

@@ -1,5 +1,5 @@
 -- Which token takes which character, under the options.
-use Rattle.std.specs.Prelude.{ℕ, Bool, ◌&&◌, not, ◌==◌}
+use Rattle.std.specs.Prelude.{ℕ, Bool, ◌&&◌, ◌||◌, not, ◌==◌}
 use Rattle.glob_text.specs.Characters.{slash, dot}
 use Rattle.glob_pattern.specs.Grammar.Brackets.{is_same, holds}
 use Rattle.glob_pattern.specs.Grammar.Tokens.{Token}
@@ -13,6 +13,10 @@ is_excluded_separator o c = o.require_literal_separator && c == slash
 -- the dot rule excludes c from wildcards: it is a leading dot at a component start
 abbrev pub is_excluded_dot : MatchOptions → (opening : Bool) → ℕ → Bool
 is_excluded_dot o opening c = o.require_literal_leading_dot && opening && c == dot
+
+-- some rule is set
+abbrev pub has_rules : MatchOptions → Bool
+has_rules o = o.require_literal_separator || o.require_literal_leading_dot
 
 -- no rule excludes c from wildcards
 abbrev pub is_free : MatchOptions → (opening : Bool) → ℕ → Bool

@@ -6,6 +6,7 @@ use Rattle.std.specs.List.{list_any}
 use Rattle.glob_text.specs.Characters.{slash, dot}
 use Rattle.glob_pattern.specs.Grammar.Brackets.{is_same, holds}
 use Rattle.glob_pattern.specs.Grammar.Tokens.{Token, is_recursive}
+use Rattle.glob_pattern.specs.Matching.Options.{new_options}
 use Rattle.glob_pattern.specs.Matching.Taking.{takes, is_excluded_separator, is_excluded_dot}
 use Rattle.glob_pattern.specs.declared.options.MatchOptions.{MatchOptions}
 use Rattle.glob_pattern.specs.declared.pattern.char_masks.CharMasks.{CharMasks}
@@ -36,11 +37,7 @@ mask_at masks class = slice_index_or masks class 0
 
 -- case-sensitively or not, and neither rule
 abbrev pub case_options : (case : Bool) → MatchOptions
-case_options case = record {
-  case_sensitive = case;
-  require_literal_separator = false;
-  require_literal_leading_dot = false;
-}
+case_options case = record new_options { case_sensitive = case }
 
 -- the last character of the entry is beyond ASCII
 abbrev pub is_beyond : Entry → Bool

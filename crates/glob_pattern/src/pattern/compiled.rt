@@ -13,13 +13,14 @@ ghost use Rattle.glob_text.specs.Text.{Text};
 ghost use Rattle.glob_pattern.specs.declared.matcher.shape_word.ShapeWord.{ShapeWord};
 ghost use Rattle.glob_pattern.specs.declared.token.Token.TheVariants.{Literal, AnyChar};
 
-use crate::matcher::{Judge, ShapeWord, Span, WORD, decide, shape_words};
+use crate::matcher::{Judge, Shape, ShapeWord, Shaped, Span, WORD, decide, shape_words};
 use crate::options::MatchOptions;
 use crate::pattern::char_masks::{CharMasks, masks_of};
-use crate::pattern::judge::TextJudge;
+use crate::pattern::judge::{SpanJudge, TextJudge};
 use crate::pattern::prefilter::{Prefilter, Trimmed};
 use crate::token::Token;
 use crate::token::bracket::Bracket;
+use crate::token::taking::has_rules;
 use std::alloc::{AllocError, Allocator};
 use std::marker::Model;
 use std::slice;
@@ -31,7 +32,7 @@ pub struct Compiled<A: Allocator> {
     // their shapes as bits: those of the first 63 tokens, and if there are more tokens, those of all
     first: ShapeWord,
     words: Vec<ShapeWord, A>,
-    // none in a pattern without `*` and `**`
+    // none where wildcards alone are between the ends, unless there are more than 63 tokens
     masks: Vec<CharMasks, A>,
     prefilter: Prefilter,
 }
@@ -92,7 +93,10 @@ impl<A: Allocator + Copy> Compiled<A> {
         } else {
             shape_words(alloc, list)?
         };
-        let masks = masks_of(alloc, list, prefilter.lead < list.len())?;
+        let between = &list[prefilter.lead..list.len() - prefilter.trail];
+        let listed = between.iter().any(|token| token.shape() == Shape::One);
+        let is_long = !between.is_empty() && list.len() > WORD;
+        let masks = masks_of(alloc, list, listed || is_long)?;
         Ok(Compiled {
             first: ShapeWord::new(list, 0),
             tokens,
@@ -149,8 +153,7 @@ impl<A: Allocator + Copy> Compiled<A> {
             end,
             enough: self.enough(end, options),
         };
-        let (answer, _) = self.run(front, span, options)?;
-        Ok(answer)
+        self.run_span(front, span, options)
     }
 
     /// Whether the tokens match the text, and how many questions it took. With at most 63 tokens the call succeeds.
@@ -197,6 +200,33 @@ impl<A: Allocator + Copy> Compiled<A> {
         Ok((answer, judge.asked()))
     }
 
+    /// [`run`](Self::run) without the count, by a judge that needs no masks where there are none.
+    #[inline(always)]
+    fn run_span(&self, text: &str, span: Span, options: MatchOptions) -> Result<bool, AllocError>
+        requires within { span.start ≤ length text.now }
+        requires ascii { IsAscii (take span.start text.now) }
+        requires ready { (words : List ShapeWord) → AreShapeWords (map shape_of self.now) words
+            → CanRun (table_of options self.now (chars text.now)) (map shape_of self.now) words
+            span span.start 0 }
+        requires order { span.start ≤ span.end }
+        requires end { span.end ≤ length self.now }
+        ensures answer { IfOk result (λ yes. IsTrue yes
+            ↔ IsAlive (table_of options self.now (chars text.now)) (map shape_of self.now)
+            span.end (length (chars text.now))) }
+        ensures short { length self.now < 64 → IsOk result }
+    {
+        if !self.masks.is_empty() || self.tokens.len() > WORD {
+            let (answer, _) = self.run(text, span, options)?;
+            return Ok(answer);
+        }
+        let tokens = self.tokens.as_slice();
+        let masks = self.masks.as_slice();
+        let judge = TextJudge::new(tokens, masks, text, span.start, options);
+        let mut judge = SpanJudge::new(judge, self.first, span.end);
+        let alloc = *self.tokens.allocator();
+        decide(alloc, tokens, self.words(), span, &mut judge)
+    }
+
     /// The shapes as bits.
     #[inline(always)]
     fn words(&self) -> &[ShapeWord]
@@ -217,10 +247,7 @@ impl<A: Allocator + Copy> Compiled<A> {
         ensures { (text : Text) (j : ℕ) → IsBitSet result j
             → TakesRest (table_of options self.now text) (map shape_of self.now) end j }
     {
-        if options.require_literal_separator
-            || options.require_literal_leading_dot
-            || self.tokens.len() > WORD
-        {
+        if has_rules(options) || self.tokens.len() > WORD {
             return 0;
         }
         self.first.free_before(end)

@@ -1,5 +1,5 @@
 //! The judge of a text's characters and a pattern's tokens.
-ghost use Rattle.std.specs.Prelude.{◌≡◌, ℕ, ◌+◌, ◌-◌, ◌*◌, ◌^◌, ◌<◌, ◌≤◌, ◌↔◌, length, take, drop, ◌==◌, IsTrue, chars};
+ghost use Rattle.std.specs.Prelude.{◌≡◌, ℕ, false, ◌+◌, ◌-◌, ◌*◌, ◌^◌, ◌<◌, ◌≤◌, ◌↔◌, length, take, drop, ◌==◌, IsTrue, chars};
 ghost use Rattle.glob_text.specs.Characters.{slash};
 ghost use Rattle.std.specs.Int.{IsBitSet};
 ghost use Rattle.std.specs.Str.{IsAscii};
@@ -9,12 +9,15 @@ ghost use Rattle.glob_pattern.specs.Private.Stepping.{IsSteppedTo, place_before}
 ghost use Rattle.glob_pattern.specs.Private.TextTable.{table_of, TakesBit};
 ghost use Rattle.glob_pattern.specs.Private.CharMasks.{AreCharMasks};
 
+mod span_judge;
+
 use crate::matcher::{Judge, WORD};
 use crate::options::MatchOptions;
 use crate::pattern::char_masks::{BEYOND, CharMasks, class_of};
 use crate::token::Token;
 use crate::token::bracket::Bracket;
 use crate::token::taking::takes;
+pub use span_judge::SpanJudge;
 use std::alloc::Allocator;
 use std::str::Chars;
 
@@ -73,6 +76,52 @@ impl<'a, A: Allocator> TextJudge<'a, A> {
             count: 0,
         }
     }
+
+    /// Steps over the next character. Returns whether there was one.
+    #[inline(always)]
+    fn advance(&mut self) -> bool
+        ensures tokens { self.new.tokens ≡ self.old.tokens }
+        ensures text { self.new.text ≡ self.old.text }
+        ensures options { self.new.options ≡ self.old.options }
+        ensures count { self.new.count ≡ self.old.count }
+        ensures stepped { IsTrue result
+            → (place_before (chars self.new.text.now) (chars (chars_rest self.new.rest))
+            ≡ place_before (chars self.old.text.now) (chars (chars_rest self.old.rest)) + 1)
+            × (place_before (chars self.new.text.now) (chars (chars_rest self.new.rest))
+            ≤ length (chars self.new.text.now)) }
+        ensures ended { result ≡ false
+            → (place_before (chars self.new.text.now) (chars (chars_rest self.new.rest))
+            ≡ place_before (chars self.old.text.now) (chars (chars_rest self.old.rest)))
+            × (length (chars self.new.text.now)
+            ≡ place_before (chars self.old.text.now) (chars (chars_rest self.old.rest))) }
+    {
+        // Named for the proof: what is left is UTF-8.
+        let _left = self.rest.as_str();
+        let Some(c) = self.rest.next() else {
+            return false;
+        };
+        self.before = self.current;
+        self.current = c;
+        true
+    }
+
+    /// Whether the token takes the character last stepped over.
+    #[inline(always)]
+    fn is_taken(&self, token: usize) -> bool
+        requires stepped { 0 < place_before (chars self.now.text.now)
+            (chars (chars_rest self.now.rest)) }
+        requires token { token < length self.now.tokens.now }
+        ensures { result
+            ≡ (table_of self.now.options self.now.tokens.now (chars self.now.text.now)).takes token
+            (place_before (chars self.now.text.now) (chars (chars_rest self.now.rest)) - 1) }
+    {
+        takes(
+            &self.tokens[token],
+            self.options,
+            self.before == '/',
+            self.current,
+        )
+    }
 }
 
 #[tactic(auto, unfolding(crate::specs::Private::TextTable::table_of))]
@@ -85,14 +134,7 @@ impl<A: Allocator> Judge for TextJudge<'_, A> {
 
     #[inline(always)]
     fn step(&mut self) -> bool {
-        // Named for the proof: what is left is UTF-8.
-        let _left = self.rest.as_str();
-        let Some(c) = self.rest.next() else {
-            return false;
-        };
-        self.before = self.current;
-        self.current = c;
-        true
+        self.advance()
     }
 
     #[inline(always)]
@@ -103,12 +145,7 @@ impl<A: Allocator> Judge for TextJudge<'_, A> {
     #[inline(always)]
     fn takes(&mut self, token: usize) -> bool {
         self.count += 1;
-        takes(
-            &self.tokens[token],
-            self.options,
-            self.before == '/',
-            self.current,
-        )
+        self.is_taken(token)
     }
 
     #[inline(always)]
@@ -116,7 +153,7 @@ impl<A: Allocator> Judge for TextJudge<'_, A> {
         self.count += u128::from(asked.count_ones());
         let opening = self.before == '/';
         let Some(masks) = self.masks.get(word) else {
-            // A pattern without `*` and `**` has no masks.
+            // Where there are no masks, matches go by `SpanJudge`, and only counted ones come here.
             let options = self.options;
             return take_left(self.tokens, word, asked, options, opening, self.current);
         };

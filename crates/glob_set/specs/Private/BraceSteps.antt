@@ -12,7 +12,8 @@ pub record OpenGroup : Type 0 where
   pub before : List Text
   pub found : List Text
 
--- the alternatives of what follows the last `{` without its `}`, or the comma after it, and all such `{`, the last first
+-- the alternatives of what follows the last `{` without its `}`, or the comma after it, and all such `{`, the last
+-- first
 pub record Reading : Type 0 where
   pub texts : List Text
   pub groups : List OpenGroup

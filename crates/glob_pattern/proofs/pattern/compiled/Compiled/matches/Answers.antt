@@ -2,6 +2,7 @@ use Rattle.std.proofs.Common.{◌≡◌, ◌+◌, ◌-◌, ℕ, List, length, ta
 use Rattle.std.specs.List.{slice_range}
 use Rattle.std.specs.Str.{IsAscii}
 use Rattle.std.proofs.lemmas.List.{length-take-le, length-map, get_or-drop, take-take}
+use Rattle.std.proofs.lemmas.Result.{IfOk-weaker}
 use Rattle.glob_pattern.specs.Grammar.Tokens.{shape_of}
 use Rattle.glob_pattern.proofs.MatchingLemmas.Running.{CanRun-trimmed}
 use Rattle.glob_pattern.proofs.MatchingLemmas.Trims.{trimmed}
@@ -24,19 +25,19 @@ range-front-requires-clause-end_boundary g c =
 pub overflow_sub-end : goal.overflow_sub-end
 overflow_sub-end g c = omega (arith, c.requires.ones.within, length-map c.args.self.now shape_of, c.len.ensures, ap length c.self.view_is)
 
-pub run-requires-clause-within : goal.run-requires-clause-within
-run-requires-clause-within g c = omega (arith, c.requires.within, c.range-front.ensures.len)
+pub run_span-requires-clause-within : goal.run_span-requires-clause-within
+run_span-requires-clause-within g c = omega (arith, c.requires.within, c.range-front.ensures.len)
 
-pub run-requires-clause-ascii : goal.run-requires-clause-ascii
-run-requires-clause-ascii g c =
+pub run_span-requires-clause-ascii : goal.run_span-requires-clause-ascii
+run_span-requires-clause-ascii g c =
     let text = c.args.text.now in
     let m = length text - c.args.trimmed.end in
     let front : c.range-front.result.now ≡ take m text = c.range-front.ensures.value ∙ front-is text m in
     let cut = take-take c.args.trimmed.start m text (omega (arith, c.requires.within)) in
     subst (λ bytes. IsAscii (take c.args.trimmed.start bytes)) (sym front) (subst IsAscii (sym cut) c.requires.front)
 
-pub run-requires-clause-ready : goal.run-requires-clause-ready
-run-requires-clause-ready g c = λ words shaped.
+pub run_span-requires-clause-ready : goal.run_span-requires-clause-ready
+run_span-requires-clause-ready g c = λ words shaped.
     let text = c.args.text.now in
     let m = length text - c.args.trimmed.end in
     let front : c.range-front.result.now ≡ take m text = c.range-front.ensures.value ∙ front-is text m in
@@ -53,5 +54,5 @@ returns-clause-answer g c =
     let front : c.range-front.result.now ≡ take m text = c.range-front.ensures.value ∙ front-is text m in
     let match = trimmed c.args.options c.args.self.now text c.args.trimmed.start c.args.trimmed.end c.utf8.text c.requires in
     let many : c.len.result ≡ length c.args.self.now = omega (arith, c.len.ensures, ap length c.self.view_is) in
-    let (split, whole) = rw (front, many) at c.in_ok-answer.ensures.answer in
-    (λ t. match.1 (split t), λ m. whole (match.0 m))
+    IfOk-weaker c.run_span.result _ _ (λ yes h. (λ t. match.1 (h.0 t), λ m. h.1 (match.0 m)))
+    (rw (front, many) at c.run_span.ensures.answer)
