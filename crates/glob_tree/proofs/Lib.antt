@@ -1,3 +1,5 @@
 pub mod ContentLemmas
 pub mod DiskLemmas
+pub mod Examples
 pub mod LoopLemmas
+pub mod MemoryLemmas

@@ -2,4 +2,6 @@ pub mod Answers
 pub mod Content
 pub mod Directories
 pub mod Looks
+pub mod Memory
 pub mod Paths
+pub mod Private

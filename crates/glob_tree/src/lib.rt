@@ -1,18 +1,24 @@
-//! Trees of files and directories: what a walk asks of one, the paths in it, and the file system as one.
+//! Trees of files and directories: what a walk asks of one, the paths in it, a tree in memory, and the file system.
 #![tactic(auto)]
 
 mod asks;
 mod directory;
 mod disk;
+mod keys;
 mod kind;
+mod mem_tree;
 mod name;
+mod nodes;
 mod path_text;
+mod refusal;
 mod tree;
 
 pub use asks::Asks;
 pub use directory::{names_in, read_directory};
 pub use disk::Disk;
 pub use kind::Kind;
+pub use mem_tree::MemTree;
 pub use name::{Name, copy_name, is_proper, name_from_proper};
 pub use path_text::{begins_with_dot, child, join};
+pub use refusal::TreeRefusal;
 pub use tree::{Entry, ListError, Look, Tree};

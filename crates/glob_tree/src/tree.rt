@@ -28,8 +28,7 @@ pub struct Entry<A: Allocator = Global> {
     pub is_dir: bool,
 }
 
-/// Why a listing failed. That of a file in a `MemTree` of the crate `glob_memory` has `Read`, with an I/O error of the
-/// kind `NotADirectory`.
+/// Why a listing failed. That of a file in a tree in memory has `Read`, with an I/O error of the kind `NotADirectory`.
 #[derive(Debug, Drop)]
 pub enum ListError {
     /// The directory cannot be read, or there is none, for this reason.
@@ -87,7 +86,7 @@ impl From<io::Error> for ListError {
 /// - `asks` counts what was asked: one for each `look`, and for each `list` or `list_names` one and one for each entry that
 ///   it returns. A tree keeps the count in a field of type [`Asks`](crate::Asks).
 ///
-/// A `MemTree` of the crate `glob_memory` has a known content: `tree.look("/")` returns `Look::Dir`, and raises its
+/// Over a tree in memory `tree.look("/")` returns `Look::Dir`, and raises its
 /// `asks` by one.
 pub trait Tree: Drop {
     /// The allocator of the entries that it lists.

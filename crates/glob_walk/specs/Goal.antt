@@ -38,11 +38,7 @@ text_below pattern names = if has_root pattern then slash ∷ join_with_byte sla
 
 -- case-sensitive, with the separator rule, and the dot rule as the walk has it
 abbrev pub goal_options : MatchOptions → MatchOptions
-goal_options o = record {
-  case_sensitive = true;
-  require_literal_separator = true;
-  require_literal_leading_dot = o.require_literal_leading_dot;
-}
+goal_options o = record o { case_sensitive = true; require_literal_separator = true }
 
 -- the whole pattern, without a separator at its end, matches the text
 abbrev pub matches_undivided : MatchOptions → (pattern text : Text) → Bool

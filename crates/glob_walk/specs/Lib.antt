@@ -1,13 +1,17 @@
 pub mod Aims
+pub mod Answers
 pub mod Components
 pub mod Driven
 pub mod GlobCauses
 pub mod GlobErrors
 pub mod Goal
+pub mod Laws
 pub mod Listing
 pub mod Machines
 pub mod Marks
+pub mod Order
 pub mod Private
 pub mod Questions
+pub mod WalkGoals
 pub mod Walks
 pub mod Words

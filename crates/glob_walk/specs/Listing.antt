@@ -9,6 +9,7 @@ use Rattle.glob_tree.specs.Looks.{is_there, is_directory}
 use Rattle.glob_tree.specs.Paths.{join, child}
 use Rattle.glob_tree.specs.Content.{Content, ListAnswer, Entries, Fails, NoDirectory, look_result, list_result, sorted_entries}
 use Rattle.glob_walk.specs.Components.{start, components, wants_directories, Literal, Recursive, Wild, component_kind, is_current_or_parent, begins_recursive, matches_name}
+use Rattle.glob_pattern.specs.Matching.Components.{is_open}
 use Rattle.glob_pattern.specs.declared.options.MatchOptions.{MatchOptions}
 use Rattle.glob_tree.specs.declared.tree.Look.{Look}
 
@@ -60,9 +61,9 @@ abbrev pub by_match : Content → MatchOptions → (next : Next) → (component 
 by_match c o next component path =
     list_directory c path (special_names c o next component path) (λ name d. match_at o next component (child path name) name d)
 
--- `**` enters the entry: a directory, and under the dot rule no dotted one
+-- `**` enters the entry: a directory whose name it may take
 abbrev pub is_entered : MatchOptions → (name : Text) → Bool → Bool
-is_entered o name d = d && not (o.require_literal_leading_dot && begins_with dot name)
+is_entered o name d = d && is_open o name
 
 -- `**` from a directory on, down n levels: of each entry `each` says what comes of it by its path and name,
 -- and then it is entered.

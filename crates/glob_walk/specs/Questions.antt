@@ -1,5 +1,5 @@
 -- What a walk asks for.
-use Rattle.std.specs.Prelude.{◌≡◌, Bool, true, [], Option, Some, None, Result, Vec, IfOk, IfErr}
+use Rattle.std.specs.Prelude.{◌≡◌, ℕ, Bool, true, [], Option, Some, None, Result, Vec, IfOk, IfErr}
 use Rattle.glob_text.specs.Text.{Text}
 use Rattle.glob_tree.specs.Content.{Content, is_content, look_result, list_result}
 use Rattle.glob_tree.specs.Answers.{IsEntriesAnswer, IsListError, entries_of}
@@ -16,6 +16,11 @@ abbrev pub question_path : Option Question → Text
 question_path None = []
 question_path (Some (LookAt path)) = path
 question_path (Some (ListAt kinds path)) = path
+
+-- the unit of the question that is open
+abbrev pub question_units : Option Question → ℕ
+question_units None = 0
+question_units (Some q) = 1
 
 -- a look is asked for
 abbrev pub IsLook : Option Question → Type 0

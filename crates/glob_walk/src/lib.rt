@@ -5,6 +5,7 @@ mod component;
 mod ending;
 mod error;
 mod frame;
+pub mod laws;
 mod machine;
 mod meter;
 mod plain;
@@ -16,5 +17,5 @@ mod walker;
 
 pub use ending::End;
 pub use error::{GlobCause, GlobError, GlobResult};
-pub use machine::{Step, WalkMachine};
+pub use machine::{Answer, Step, WalkMachine};
 pub use plain::is_plain;

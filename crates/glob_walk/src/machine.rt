@@ -1,7 +1,7 @@
 //! A walk that asks its caller, and reads nothing itself.
-ghost use Rattle.std.specs.Prelude.{◌≡◌, ◌≤◌, ◌+◌, List, [], None, IfOk, IfErr, string_bytes, if◌then◌else◌};
+ghost use Rattle.std.specs.Prelude.{◌≡◌, ◌≤◌, ◌+◌, ℕ, List, [], None, IfOk, IfErr, string_bytes, if◌then◌else◌};
 ghost use Rattle.std.specs.Path.{root_dir, cur_dir};
-ghost use Rattle.glob_tree.specs.Answers.{entry_count};
+ghost use Rattle.glob_tree.specs.Answers.{IsTold, entry_count};
 ghost use Rattle.glob_tree.specs.Content.{Content};
 ghost use Rattle.glob_walk.specs.Aims.{listing_of};
 ghost use Rattle.glob_walk.specs.Machines.{IsFreshMachine, Says, StepGoes, list_error_outcome, left_of, saying};
@@ -11,17 +11,17 @@ ghost use Rattle.glob_walk.specs.Marks.{Item, Mark};
 ghost use Rattle.glob_walk.specs.Driven.{HasGiven, GivesNext};
 ghost use Rattle.glob_walk.specs.Walks.{NoMemory, RefusesWith};
 ghost use Rattle.glob_walk.specs.Private.Stacks.{aim_of};
-ghost use Rattle.glob_walk.specs.Private.Turns.{IfFailed, IsAnswer, IsAnswered, answer_count};
-ghost use Rattle.glob_walk.specs.Questions.{IsLook, IsList, IsListedIn, IsSeenIn, IsSomeContent, question_path};
+ghost use Rattle.glob_walk.specs.Answers.{IfFailed, IsAnswer, IsAnswered, answer_count};
+ghost use Rattle.glob_walk.specs.Questions.{IsLook, IsList, IsListedIn, IsSeenIn, IsSomeContent, question_path, question_units};
 
 use crate::error::GlobResult;
 use crate::meter::Meter;
 use crate::plan::Plan;
 use crate::stack::Stack;
-use crate::task::{Sight, Task, Wanted};
+use crate::task::{Accepted, Task, TaskState};
 use crate::walker::Walker;
 use glob_pattern::{MatchOptions, PatternRefusal};
-use glob_tree::{Entry, ListError, Look};
+use glob_tree::{Entry, ListError, Look, Tree};
 use std::alloc::{AllocError, Allocator, Global};
 use std::marker::Model;
 
@@ -41,25 +41,26 @@ pub enum Step<A: Allocator = Global> {
     Done,
 }
 
-/// What the caller says between two steps.
+/// The answer to the question that is open, as [`ask`](WalkMachine::ask) returns it. Where a look at the directory `a` is
+/// asked for, that is an `Answer::Look` with `Look::Dir`.
 #[derive(Drop)]
-pub(crate) enum Answer<A: Allocator> {
-    /// No question was open.
+pub enum Answer<A: Allocator = Global> {
+    /// No question is open.
     Nothing,
     /// The answer to a look.
     Look(Result<Look, AllocError>),
-    /// The answer to a listing.
+    /// The answer to a listing, of entries or of names alone.
     List(Result<Vec<Entry<A>, A>, ListError>),
 }
 
 /// A walk without a tree: it asks its questions one by one, and whoever drives it answers them from a file system, an
-/// archive or a network, at once or later. `Paths` of the crate `glob` is a loop that answers them from a
-/// [`Tree`](glob_tree::Tree).
+/// archive or a network, at once or later. Where a [`Tree`](glob_tree::Tree) answers, as in `Paths` of the crate `glob`,
+/// [`advance`](WalkMachine::advance) is the one call that is needed.
 ///
 /// ```text
 /// let mut machine = WalkMachine::new(alloc, "*", MatchOptions::new(), 100)?;
 /// machine.next()                  // Step::Look, where machine.path() is "."
-/// machine.looked(Ok(Look::Dir))   // Step::List, where machine.path() is "."
+/// machine.looked(Ok(Look::Dir))   // Step::ListNames, where machine.path() is "."
 /// machine.listed(Ok(entries))     // of files `y` and `x`: Step::Item(Ok("x"))
 /// machine.next()                  // Step::Item(Ok("y"))
 /// machine.next()                  // Step::Done; machine.spent() is 4
@@ -136,7 +137,7 @@ impl<A: Allocator + Copy> WalkMachine<A> {
         let next = Some(Task {
             path: start,
             component: 0,
-            sight: Sight::Unseen(Wanted::Any),
+            state: TaskState::Unseen(Accepted::Any),
         });
         let stack = Stack { plan, next, frames };
         let meter = Meter { limit, spent: 0 };
@@ -155,6 +156,47 @@ impl<A: Allocator + Copy> WalkMachine<A> {
             → HasGiven all c given self.old → GivesNext all c given (saying result) self.new }
     {
         self.resume(Answer::Nothing)
+    }
+
+    /// The next step, where a tree answers the question that is open, if one is. Calls of it alone make a whole walk: over a
+    /// file `x`, those of `*` return `Look`, `ListNames`, the item `x`, and `Done`.
+    ///
+    /// The tree is asked at most one question. Its allocation failure makes the step an error with the cause `Memory`.
+    pub fn advance<T: Tree<Alloc = A>>(&mut self, tree: &mut T) -> Step<A>
+        ensures content { T.tells tree.new ≡ T.tells tree.old }
+        ensures untouched { self.old.asked ≡ None → tree.new ≡ tree.old }
+        ensures steps { (n : ℕ)
+            × (T.asks tree.new ≡ T.asks tree.old + question_units self.old.asked + n)
+            × StepGoes (IsTold (T.tells tree.old)) n self.old (saying result) self.new }
+        ensures driven { (c : Content) → (all : List Mark) → (given : List Item)
+            → IsTold (T.tells tree.old) c
+            → HasGiven all c given self.old → GivesNext all c given (saying result) self.new }
+    {
+        let answer = self.ask(tree);
+        self.resume(answer)
+    }
+
+    /// The answer of a tree to the question that is open, and `Nothing` where none is. [`resume`](WalkMachine::resume) takes
+    /// it; [`advance`](WalkMachine::advance) is the two in one.
+    pub fn ask<T: Tree<Alloc = A>>(&self, tree: &mut T) -> Answer<A>
+        ensures content { T.tells tree.new ≡ T.tells tree.old }
+        ensures untouched { self.now.asked ≡ None → tree.new ≡ tree.old }
+        ensures asks { T.asks tree.new
+            ≡ T.asks tree.old + question_units self.now.asked + answer_count result }
+        ensures answer { IsAnswer self.now.asked result }
+        ensures answered { (c : Content) → IsTold (T.tells tree.old) c
+            → IsAnswered self.now.asked result c }
+    {
+        let Some(task) = &self.walker.stack.next else {
+            return Answer::Nothing;
+        };
+        let path = task.path.as_str();
+        match task.state {
+            TaskState::Looking(_) => Answer::Look(tree.look(path)),
+            TaskState::Listing { kinds: true, .. } => Answer::List(tree.list(path)),
+            TaskState::Listing { kinds: false, .. } => Answer::List(tree.list_names(path)),
+            TaskState::Unseen(_) | TaskState::Seen(_) => Answer::Nothing,
+        }
     }
 
     /// Answers the look that is asked for, and returns the next step. `Err` says that there was no memory to look: the step
@@ -187,18 +229,22 @@ impl<A: Allocator + Copy> WalkMachine<A> {
         self.resume(Answer::List(listed))
     }
 
-    /// Takes an answer, and goes on to the next step.
-    fn resume(&mut self, answer: Answer<A>) -> Step<A>
+    /// Takes the answer to the question that is open, or `Nothing` where none is, and returns the next step, as
+    /// [`looked`](WalkMachine::looked), [`listed`](WalkMachine::listed) and [`next`](WalkMachine::next) do.
+    pub fn resume(&mut self, answer: Answer<A>) -> Step<A>
         requires answer { IsAnswer self.old.asked answer }
         ensures failed { IfFailed answer (question_path self.old.asked)
             (λ o. saying result ≡ Says o) }
         ensures steps { StepGoes (IsAnswered self.old.asked answer) (answer_count answer)
             self.old (saying result) self.new }
+        ensures driven { (c : Content) → (all : List Mark) → (given : List Item)
+            → IsAnswered self.old.asked answer c
+            → HasGiven all c given self.old → GivesNext all c given (saying result) self.new }
     {
         if self.over {
             return Step::Done;
         }
-        let turn = self.walker.resume(answer);
+        let turn = self.walker.proceed(answer);
         self.given += turn.item_count();
         self.over = turn.is_last();
         turn.into_step(self.walker.stack.plan.alloc)
@@ -211,9 +257,9 @@ impl<A: Allocator> WalkMachine<A> {
         ensures { result.now ≡ question_path self.now.asked }
     {
         match &self.walker.stack.next {
-            Some(task) => match task.sight {
-                Sight::Looking(_) | Sight::Listing { .. } => task.path.as_str(),
-                Sight::Unseen(_) | Sight::Seen(_) => "",
+            Some(task) => match task.state {
+                TaskState::Looking(_) | TaskState::Listing { .. } => task.path.as_str(),
+                TaskState::Unseen(_) | TaskState::Seen(_) => "",
             },
             None => "",
         }

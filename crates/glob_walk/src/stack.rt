@@ -31,7 +31,7 @@ pub struct Stack<A: Allocator> {
 impl<A: Allocator + Copy> Stack<A> {
     /// Takes one step in the last directory, which may leave a task, and lets the directory go if that was its last step.
     /// The answer is `false` where there is no directory. The weight falls by the step, so steps come to an end.
-    pub fn go_on(&mut self) -> Result<bool, AllocError>
+    pub fn step(&mut self) -> Result<bool, AllocError>
         requires none { self.old.next ≡ None }
         requires within { IsWithin self.old }
         ensures plan { self.new.plan ≡ self.old.plan }

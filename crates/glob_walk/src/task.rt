@@ -7,14 +7,14 @@ ghost use Rattle.glob_tree.specs.declared.tree.Look.{Look as LookOf};
 ghost use Rattle.glob_walk.specs.Marks.{Work};
 ghost use Rattle.glob_walk.specs.declared.plan.Plan.{Plan as PlanOf};
 ghost use Rattle.glob_walk.specs.Private.Stacks.{next_weight};
-ghost use Rattle.glob_walk.specs.Private.Tasks.{is_wanted as is_wanted_look, next_marks, next_ready, question_of, sight_marks, IsNextSound};
+ghost use Rattle.glob_walk.specs.Private.Tasks.{is_accepted as is_accepted_look, next_marks, next_ready, question_of, state_marks, IsNextSound};
 
 use glob_tree::Look;
 use std::alloc::Allocator;
 
 /// Which answers to a look let the walk go on at the path.
 #[derive(Clone, Copy)]
-pub enum Wanted {
+pub enum Accepted {
     /// Any of them.
     Any,
     /// Those that say that something is there.
@@ -26,11 +26,11 @@ pub enum Wanted {
 
 /// What is known of a task's path, and so what the task is.
 #[derive(Clone, Copy)]
-pub enum Sight {
+pub enum TaskState {
     /// Nothing: it is to be looked up.
-    Unseen(Wanted),
+    Unseen(Accepted),
     /// Nothing yet: its look was charged and is asked for, and the answer is awaited.
-    Looking(Wanted),
+    Looking(Accepted),
     /// It is there, and this says whether it is a directory: it is to be entered, or given.
     Seen(bool),
     /// It is a directory, and its listing was charged and is asked for.
@@ -51,36 +51,36 @@ pub struct Task<A: Allocator> {
     /// The number of the component.
     pub component: usize,
     /// What is known of the path.
-    pub sight: Sight,
+    pub state: TaskState,
 }
 
-impl Wanted {
-    /// What is wanted of the look at a literal component in a path that is a directory or not: `.` and `..` are there in
+impl Accepted {
+    /// Which looks are accepted at a literal component in a path that is a directory or not: `.` and `..` are there in
     /// a directory, whatever the look says.
-    pub fn of_literal(is_current_or_parent: bool, is_dir: bool) -> Wanted
-        ensures { (seen : LookOf) → is_wanted_look result seen
+    pub fn of_literal(is_current_or_parent: bool, is_dir: bool) -> Accepted
+        ensures { (seen : LookOf) → is_accepted_look result seen
             ≡ (if is_current_or_parent then is_dir else is_there seen) }
     {
         if !is_current_or_parent {
-            Wanted::Present
+            Accepted::Present
         } else if is_dir {
-            Wanted::Any
+            Accepted::Any
         } else {
-            Wanted::Nothing
+            Accepted::Nothing
         }
     }
 
-    /// Whether the walk goes on after this answer.
-    pub fn is_met(self, seen: Look) -> bool
-        ensures { result ≡ is_wanted_look self seen }
+    /// Whether the walk goes on after this answer to the look.
+    pub fn accepts(self, seen: Look) -> bool
+        ensures { result ≡ is_accepted_look self seen }
     {
         match self {
-            Wanted::Any => true,
-            Wanted::Present => match seen {
+            Accepted::Any => true,
+            Accepted::Present => match seen {
                 Look::Missing => false,
                 Look::Dir | Look::Other => true,
             },
-            Wanted::Nothing => false,
+            Accepted::Nothing => false,
         }
     }
 }
@@ -96,15 +96,15 @@ fn is_directory(seen: Look) -> bool
 }
 
 /// The task that follows a look: to go on at the path with the same component, or nothing where the answer is not the
-/// one that is wanted.
+/// one that is accepted.
 pub fn task_after_look<A: Allocator>(
     path: String<A>,
     component: usize,
-    wanted: Wanted,
+    accepted: Accepted,
     seen: Look,
 ) -> Option<Task<A>>
     ensures marks { (c : Content) → (plan : PlanOf A) → seen ≡ look_result c (string_bytes path)
-        → sight_marks c plan component (string_bytes path) (Sight.Unseen wanted)
+        → state_marks c plan component (string_bytes path) (TaskState.Unseen accepted)
         ≡ Work (string_bytes path) ∷ next_marks c plan result }
     ensures sound { (c : Content) → seen ≡ look_result c (string_bytes path)
         → IsNextSound c result }
@@ -112,13 +112,13 @@ pub fn task_after_look<A: Allocator>(
     ensures ready { (plan : PlanOf A) → next_ready plan result ≤ 1 }
     ensures free { question_of result ≡ None }
 {
-    if !wanted.is_met(seen) {
+    if !accepted.accepts(seen) {
         return None;
     }
-    let sight = Sight::Seen(is_directory(seen));
+    let state = TaskState::Seen(is_directory(seen));
     Some(Task {
         path,
         component,
-        sight,
+        state,
     })
 }

@@ -9,11 +9,11 @@ use std::alloc::Allocator;
 use std::io;
 use std::path::PathBuf;
 
-/// What a turn comes to. After each of them but `Went` the loop of turns stops, and hands it out.
+/// What a turn comes to. After each of them but `Continue` the loop of turns stops, and hands it out.
 #[derive(Drop)]
 pub enum Turn<A: Allocator> {
     /// Neither a path nor an error: the walk goes on.
-    Went,
+    Continue,
     /// A look at the task's path is asked for, and was charged.
     Look,
     /// A listing of the task's path is asked for, and was charged for the directory itself.
@@ -39,7 +39,7 @@ impl<A: Allocator> Turn<A> {
         ensures { result ≡ item_number (turn_outcome self.now) }
     {
         match self {
-            Turn::Went | Turn::Look | Turn::List { .. } | Turn::Done => 0,
+            Turn::Continue | Turn::Look | Turn::List { .. } | Turn::Done => 0,
             Turn::Path(_) | Turn::Unread(..) | Turn::Limit(_) | Turn::Memory => 1,
         }
     }
@@ -49,7 +49,7 @@ impl<A: Allocator> Turn<A> {
         ensures { result ≡ is_last_turn self.now }
     {
         match self {
-            Turn::Went | Turn::Look | Turn::List { .. } => false,
+            Turn::Continue | Turn::Look | Turn::List { .. } => false,
             Turn::Path(_) | Turn::Unread(..) => false,
             Turn::Done | Turn::Limit(_) | Turn::Memory => true,
         }
@@ -63,7 +63,7 @@ impl<A: Allocator> Turn<A> {
             Turn::Look => Step::Look,
             Turn::List { kinds: true } => Step::List,
             Turn::List { kinds: false } => Step::ListNames,
-            Turn::Went | Turn::Done => Step::Done,
+            Turn::Continue | Turn::Done => Step::Done,
             Turn::Path(path) => Step::Item(Ok(PathBuf::from(path))),
             Turn::Unread(path, e) => Step::Item(Err(GlobError::read(PathBuf::from(path), e))),
             Turn::Limit(path) => Step::Item(Err(GlobError::limit(PathBuf::from(path)))),

@@ -20,7 +20,8 @@ ghost use Rattle.glob_walk.specs.Questions.{IsSomeContent, IsLook, IsList, IsSee
 ghost use Rattle.glob_walk.specs.Private.Tasks.{task_marks, enter_from, IsListedFor, IsOpened, next_ready, IsNextSound, IsNextOpened, question_of};
 ghost use Rattle.glob_walk.specs.Private.Stacks.{next_weight, weight, IsWithin};
 ghost use Rattle.glob_walk.specs.Private.Walking.{is_last_turn, turn_saying};
-ghost use Rattle.glob_walk.specs.Private.Turns.{TurnsTo, with_task, AreListedAt, IfFailed, IsAnswer, IsAnswered, IsQuestion, answer_count};
+ghost use Rattle.glob_walk.specs.Answers.{IfFailed, IsAnswer, IsAnswered, answer_count};
+ghost use Rattle.glob_walk.specs.Private.Turns.{TurnsTo, with_task, AreListedAt, IsQuestion};
 
 use crate::component::{Component, is_current_or_parent};
 use crate::frame::{Cursor, Frame};
@@ -28,7 +29,7 @@ use crate::machine::Answer;
 use crate::meter::{Meter, sort_entries};
 use crate::plan::Plan;
 use crate::stack::Stack;
-use crate::task::{Sight, Task, Wanted, task_after_look};
+use crate::task::{Accepted, Task, TaskState, task_after_look};
 use crate::turn::Turn;
 use glob_tree::{Entry, ListError, Look, child};
 use std::alloc::{AllocError, Allocator};
@@ -42,24 +43,24 @@ pub struct Walker<A: Allocator> {
 
 impl<A: Allocator + Copy> Walker<A> {
     /// Asks for a look at a path, for one unit.
-    fn look(&mut self, path: String<A>, component: usize, wanted: Wanted) -> Turn<A>
+    fn look(&mut self, path: String<A>, component: usize, accepted: Accepted) -> Turn<A>
         requires limit { self.old.meter.spent ≤ self.old.meter.limit }
         requires none { self.old.stack.next ≡ None }
         requires within { IsWithin self.old.stack }
         ensures asks { IsQuestion result }
-        ensures stops { result ≢ Turn.Went }
+        ensures stops { result ≢ Turn.Continue }
         ensures turn { TurnsTo IsSomeContent 0
-            self.old.meter (with_task path component (Sight.Unseen wanted) self.old.stack) result
+            self.old.meter (with_task path component (TaskState.Unseen accepted) self.old.stack) result
             self.new.meter self.new.stack }
     {
         if !self.meter.charge() {
             return Turn::Limit(path);
         }
-        let sight = Sight::Looking(wanted);
+        let state = TaskState::Looking(accepted);
         self.stack.next = Some(Task {
             path,
             component,
-            sight,
+            state,
         });
         Turn::Look
     }
@@ -73,20 +74,20 @@ impl<A: Allocator + Copy> Walker<A> {
         requires component { component < vec_len self.old.stack.plan.components }
         requires opens { IsOpened recursive (drop component self.old.stack.plan.components.items) }
         ensures asks { IsQuestion result }
-        ensures stops { result ≢ Turn.Went }
+        ensures stops { result ≢ Turn.Continue }
         ensures turn { TurnsTo IsSomeContent 0
-            self.old.meter (with_task path component (Sight.Seen true) self.old.stack) result
+            self.old.meter (with_task path component (TaskState.Seen true) self.old.stack) result
             self.new.meter self.new.stack }
     {
         if !self.meter.charge() {
             return Turn::Limit(path);
         }
         let kinds = self.stack.plan.needs_kinds(component, recursive);
-        let sight = Sight::Listing { recursive, kinds };
+        let state = TaskState::Listing { recursive, kinds };
         self.stack.next = Some(Task {
             path,
             component,
-            sight,
+            state,
         });
         Turn::List { kinds }
     }
@@ -107,7 +108,7 @@ impl<A: Allocator + Copy> Walker<A> {
         requires listed { IsListedFor self.old.stack.plan component recursive kinds }
         ensures { TurnsTo (AreListedAt kinds (string_bytes path) entries.items) (vec_len entries)
             self.old.meter
-            (with_task path component (Sight.Listing recursive kinds) self.old.stack) result
+            (with_task path component (TaskState.Listing recursive kinds) self.old.stack) result
             self.new.meter self.new.stack }
     {
         if !self.meter.charge_entries(entries.len()) {
@@ -127,7 +128,7 @@ impl<A: Allocator + Copy> Walker<A> {
             entries,
             cursor,
         }) {
-            Ok(()) => Turn::Went,
+            Ok(()) => Turn::Continue,
             Err(_) => Turn::Memory,
         }
     }
@@ -140,17 +141,17 @@ impl<A: Allocator + Copy> Walker<A> {
         requires limit { self.old.meter.spent ≤ self.old.meter.limit }
         requires none { self.old.stack.next ≡ None }
         requires within { IsWithin self.old.stack }
-        ensures falls { result ≡ Turn.Went → weight self.new.stack < weight self.old.stack + 2 }
+        ensures falls { result ≡ Turn.Continue → weight self.new.stack < weight self.old.stack + 2 }
         ensures past { vec_len self.old.stack.plan.components ≤ number → result ≢ Turn.Memory }
         ensures turn { TurnsTo IsSomeContent 0
-            self.old.meter (with_task path number (Sight.Seen is_dir) self.old.stack) result
+            self.old.meter (with_task path number (TaskState.Seen is_dir) self.old.stack) result
             self.new.meter self.new.stack }
     {
         let Some(component) = self.stack.plan.component(number) else {
             if is_dir || !self.stack.plan.directories {
                 return Turn::Path(path);
             }
-            return Turn::Went;
+            return Turn::Continue;
         };
         if component.is_literal() {
             let path = path.as_str();
@@ -158,10 +159,10 @@ impl<A: Allocator + Copy> Walker<A> {
                 return Turn::Memory;
             };
             self.stack.next = Some(task);
-            return Turn::Went;
+            return Turn::Continue;
         }
         if !is_dir {
-            return Turn::Went;
+            return Turn::Continue;
         }
         let recursive = component.is_recursive();
         self.list(path, number, recursive)
@@ -173,7 +174,7 @@ impl<A: Allocator + Copy> Walker<A> {
         requires limit { self.old.meter.spent ≤ self.old.meter.limit }
         requires within { IsWithin self.old.stack }
         requires free { question_of self.old.stack.next ≡ None }
-        ensures falls { result ≡ Turn.Went → weight self.new.stack < weight self.old.stack }
+        ensures falls { result ≡ Turn.Continue → weight self.new.stack < weight self.old.stack }
         ensures idle { self.old.stack.next ≡ None → self.old.stack.frames.items ≡ []
             → result ≡ Turn.Done }
         ensures turn { TurnsTo IsSomeContent 0
@@ -181,8 +182,8 @@ impl<A: Allocator + Copy> Walker<A> {
             self.new.meter self.new.stack }
     {
         let Some(task) = self.stack.next.take() else {
-            return match self.stack.go_on() {
-                Ok(true) => Turn::Went,
+            return match self.stack.step() {
+                Ok(true) => Turn::Continue,
                 Ok(false) => Turn::Done,
                 Err(_) => Turn::Memory,
             };
@@ -190,12 +191,12 @@ impl<A: Allocator + Copy> Walker<A> {
         let Task {
             path,
             component,
-            sight,
+            state,
         } = task;
-        match sight {
-            Sight::Unseen(wanted) => self.look(path, component, wanted),
-            Sight::Seen(is_dir) => self.enter(path, component, is_dir),
-            Sight::Looking(_) | Sight::Listing { .. } => unreachable!(),
+        match state {
+            TaskState::Unseen(accepted) => self.look(path, component, accepted),
+            TaskState::Seen(is_dir) => self.enter(path, component, is_dir),
+            TaskState::Looking(_) | TaskState::Listing { .. } => unreachable!(),
         }
     }
 
@@ -204,21 +205,21 @@ impl<A: Allocator + Copy> Walker<A> {
         requires limit { self.old.meter.spent ≤ self.old.meter.limit }
         requires within { IsWithin self.old.stack }
         requires free { question_of self.old.stack.next ≡ None }
-        ensures stops { result ≢ Turn.Went }
+        ensures stops { result ≢ Turn.Continue }
         ensures turn { TurnsTo IsSomeContent 0
             self.old.meter self.old.stack result
             self.new.meter self.new.stack }
     {
         loop {
             match self.turn() {
-                Turn::Went => {}
+                Turn::Continue => {}
                 turn => return turn,
             }
         }
     }
 
     /// Takes the answer to the question that is open: what comes of it at once.
-    fn hear(&mut self, answer: Answer<A>) -> Turn<A>
+    fn take_answer(&mut self, answer: Answer<A>) -> Turn<A>
         requires limit { self.old.meter.spent ≤ self.old.meter.limit }
         requires within { IsWithin self.old.stack }
         requires opened { IsNextOpened self.old.stack.plan self.old.stack.next }
@@ -231,19 +232,19 @@ impl<A: Allocator + Copy> Walker<A> {
             self.new.meter self.new.stack }
     {
         match answer {
-            Answer::Nothing => Turn::Went,
-            Answer::Look(seen) => self.see(seen),
-            Answer::List(listed) => self.read(listed),
+            Answer::Nothing => Turn::Continue,
+            Answer::Look(seen) => self.take_look(seen),
+            Answer::List(listed) => self.take_listing(listed),
         }
     }
 
     /// Takes the answer to a look, and leaves the task that follows, if any.
-    fn see(&mut self, answer: Result<Look, AllocError>) -> Turn<A>
+    fn take_look(&mut self, answer: Result<Look, AllocError>) -> Turn<A>
         requires limit { self.old.meter.spent ≤ self.old.meter.limit }
         requires within { IsWithin self.old.stack }
         requires asked { IsLook (question_of self.old.stack.next) }
         ensures failed { IfErr answer (λ _. turn_saying result ≡ Says NoMemory) }
-        ensures seen { IfOk answer (λ _. result ≡ Turn.Went) }
+        ensures seen { IfOk answer (λ _. result ≡ Turn.Continue) }
         ensures turn { TurnsTo (IsSeenIn (question_of self.old.stack.next) answer) 0
             self.old.meter self.old.stack result
             self.new.meter self.new.stack }
@@ -257,17 +258,17 @@ impl<A: Allocator + Copy> Walker<A> {
         let Task {
             path,
             component,
-            sight,
+            state,
         } = task;
-        let Sight::Looking(wanted) = sight else {
+        let TaskState::Looking(accepted) = state else {
             unreachable!()
         };
-        self.stack.next = task_after_look(path, component, wanted, seen);
-        Turn::Went
+        self.stack.next = task_after_look(path, component, accepted, seen);
+        Turn::Continue
     }
 
     /// Takes the answer to a listing.
-    fn read(&mut self, answer: Result<Vec<Entry<A>, A>, ListError>) -> Turn<A>
+    fn take_listing(&mut self, answer: Result<Vec<Entry<A>, A>, ListError>) -> Turn<A>
         requires limit { self.old.meter.spent ≤ self.old.meter.limit }
         requires within { IsWithin self.old.stack }
         requires opened { IsNextOpened self.old.stack.plan self.old.stack.next }
@@ -285,9 +286,9 @@ impl<A: Allocator + Copy> Walker<A> {
         let Task {
             path,
             component,
-            sight,
+            state,
         } = task;
-        let Sight::Listing { recursive, kinds } = sight else {
+        let TaskState::Listing { recursive, kinds } = state else {
             unreachable!()
         };
         match answer {
@@ -298,35 +299,35 @@ impl<A: Allocator + Copy> Walker<A> {
     }
 
     /// Takes the answer to the question that is open, or `Nothing` where none is, and goes on to the next question or item.
-    fn go_on(&mut self, answer: Answer<A>) -> Turn<A>
+    fn take_turns(&mut self, answer: Answer<A>) -> Turn<A>
         requires limit { self.old.meter.spent ≤ self.old.meter.limit }
         requires within { IsWithin self.old.stack }
         requires opened { IsNextOpened self.old.stack.plan self.old.stack.next }
         requires answer { IsAnswer (question_of self.old.stack.next) answer }
         ensures failed { IfFailed answer (question_path (question_of self.old.stack.next))
             (λ o. turn_saying result ≡ Says o) }
-        ensures stops { result ≢ Turn.Went }
+        ensures stops { result ≢ Turn.Continue }
         ensures turn { TurnsTo (IsAnswered (question_of self.old.stack.next) answer)
             (answer_count answer)
             self.old.meter self.old.stack result
             self.new.meter self.new.stack }
     {
-        match self.hear(answer) {
-            Turn::Went => self.turns(),
+        match self.take_answer(answer) {
+            Turn::Continue => self.turns(),
             turn => turn,
         }
     }
 
-    /// The turn that [`go_on`](Walker::go_on) ends with. Where no item follows it, as after a refusal, nothing stays on the
+    /// The turn that [`take_turns`](Walker::take_turns) ends with. Where no item follows it, as after a refusal, nothing stays on the
     /// stack, since a walk that is over may be kept for long.
-    pub fn resume(&mut self, answer: Answer<A>) -> Turn<A>
+    pub fn proceed(&mut self, answer: Answer<A>) -> Turn<A>
         requires limit { self.old.meter.spent ≤ self.old.meter.limit }
         requires within { IsWithin self.old.stack }
         requires opened { IsNextOpened self.old.stack.plan self.old.stack.next }
         requires answer { IsAnswer (question_of self.old.stack.next) answer }
         ensures failed { IfFailed answer (question_path (question_of self.old.stack.next))
             (λ o. turn_saying result ≡ Says o) }
-        ensures stops { result ≢ Turn.Went }
+        ensures stops { result ≢ Turn.Continue }
         ensures turn { TurnsTo (IsAnswered (question_of self.old.stack.next) answer)
             (answer_count answer)
             self.old.meter self.old.stack result
@@ -334,7 +335,7 @@ impl<A: Allocator + Copy> Walker<A> {
         ensures cleared { is_last_turn result ≡ true
             → (self.new.stack.next ≡ None) × (self.new.stack.frames.items ≡ []) }
     {
-        let turn = self.go_on(answer);
+        let turn = self.take_turns(answer);
         if turn.is_last() {
             self.stack.clear();
         }
@@ -342,7 +343,7 @@ impl<A: Allocator + Copy> Walker<A> {
     }
 }
 
-/// The task of a literal component at a path: the look at the two joined. `.` and `..` are wanted in a directory alone,
+/// The task of a literal component at a path: the look at the two joined. `.` and `..` are there in a directory alone,
 /// and any other name where something is there.
 #[tactic(auto, using(crate::proofs::WalkLemmas::Naming::literal_marks))]
 fn literal_task<A: Allocator + Copy>(
@@ -365,10 +366,10 @@ fn literal_task<A: Allocator + Copy>(
     ensures sound { IfOk result (λ task. (c : Content) → IsNextSound c (Some task)) }
 {
     let name = component.as_str();
-    let wanted = Wanted::of_literal(is_current_or_parent(name), is_dir);
+    let accepted = Accepted::of_literal(is_current_or_parent(name), is_dir);
     Ok(Task {
         path: child(plan.alloc, path, name)?,
         component: number + 1,
-        sight: Sight::Unseen(wanted),
+        state: TaskState::Unseen(accepted),
     })
 }

@@ -1,16 +1,15 @@
 -- A run of `**`: enough levels always give the same marks, and so its equation needs none.
-use Rattle.std.proofs.Common.{◌≡◌, ℕ, zero, suc, ◌+◌, ◌<◌, ◌≤◌, max, Bool, true, false, cond, not, ◌&&◌, ⊎_elim, List, [], ◌∷◌, ◌++◌, length, replicate, Option, Some, None, refl, ap, sym, ◌∙◌, arith}
+use Rattle.std.proofs.Common.{◌≡◌, ℕ, zero, suc, ◌+◌, ◌<◌, ◌≤◌, max, Bool, true, false, cond, ⊎_elim, List, [], ◌∷◌, ◌++◌, length, replicate, Option, Some, None, refl, ap, sym, ◌∙◌, arith}
 use Rattle.std.specs.Prelude.{Contains, option_map, unwrap_or, fold, flat_map}
 use Rattle.std.proofs.lemmas.Bool.{and_parts, both_ways}
 use Rattle.std.proofs.lemmas.List.{length-append}
 use Rattle.glob_text.specs.Text.{Text}
-use Rattle.glob_text.specs.Characters.{dot}
-use Rattle.glob_text.specs.Pieces.{begins_with}
 use Rattle.glob_tree.specs.Paths.{child}
 use Rattle.glob_tree.specs.Content.{Content, Key, DirEntry, children, list_result, sorted_entries, is_dir, is_dir_at, kind_at}
 use Rattle.glob_walk.specs.Marks.{Mark, Work}
 use Rattle.glob_walk.specs.Components.{Recursive, Literal, Wild, component_kind, begins_recursive}
 use Rattle.glob_walk.specs.Listing.{Next, after_listing, by_name, by_match, list_directory, is_entered, descent, deepest, levels, enter, meet}
+use Rattle.glob_pattern.specs.Matching.Components.{is_open}
 use Rattle.glob_pattern.specs.declared.options.MatchOptions.{MatchOptions}
 use Rattle.glob_tree.specs.declared.kind.Kind.{Kind}
 use Rattle.glob_tree.proofs.ContentLemmas.Membership.{Contains-nil, Contains-cases, Contains-head, Contains-tail}
@@ -61,7 +60,7 @@ cond_agree false x y z same = refl
 
 -- what is entered is a directory
 pub is_entered-directory : (o : MatchOptions) (name : Text) (d : Bool) → is_entered o name d ≡ true → d ≡ true
-is_entered-directory o name d h = (and_parts d (not (o.require_literal_leading_dot && begins_with dot name)) h).0
+is_entered-directory o name d h = (and_parts d (is_open o name) h).0
 
 -- Below a directory at k, all numbers of levels give the same marks that reach down to the deepest keys.
 pub descent_enough : (c : Content) → IsContent c → (o : MatchOptions) (each : Text → Text → Bool → List Mark) (n m : ℕ) (path : Text) (k : Key) → LeadsTo c path k

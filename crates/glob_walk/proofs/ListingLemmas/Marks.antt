@@ -17,24 +17,6 @@ pub items-replicate : (n : ℕ) (path : Text) → items (replicate n (Work path)
 items-replicate zero path = refl
 items-replicate (suc n) path = items-replicate n path
 
-pub cost-replicate : (n : ℕ) (path : Text) → cost (replicate n (Work path)) ≡ n
-cost-replicate zero path = refl
-cost-replicate (suc n) path = ap suc (cost-replicate n path)
-
--- a limit that is not reached cuts nothing
-pub front_whole : (n : ℕ) (ms : List Mark) → cost ms ≤ n → front n ms ≡ ms
-front_whole n [] h = refl
-front_whole n (Give item ∷ ms) h = ap (λ ns. Give item ∷ ns) (front_whole n ms h)
-front_whole zero (Work path ∷ ms) h = absurd (omega (arith, h))
-front_whole (suc n) (Work path ∷ ms) h = ap (λ ns. Work path ∷ ns) (front_whole n ms (omega (arith, h)))
-
--- all units up to the limit are done
-pub cost-front : (n : ℕ) (ms : List Mark) → n ≤ cost ms → cost (front n ms) ≡ n
-cost-front n [] h = omega (arith, h)
-cost-front n (Give item ∷ ms) h = cost-front n ms h
-cost-front zero (Work path ∷ ms) h = refl
-cost-front (suc n) (Work path ∷ ms) h = ap suc (cost-front n ms (omega (arith, h)))
-
 -- what is given within a limit is a beginning of what is given
 pub IsBeginning-front : (n : ℕ) (ms : List Mark) → IsBeginning (items (front n ms)) (items ms)
 IsBeginning-front n [] = ([], refl)

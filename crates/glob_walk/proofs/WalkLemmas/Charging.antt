@@ -1,5 +1,5 @@
 -- What is left where nothing was charged, and turns after one another.
-use Rattle.std.proofs.Common.{◌≡◌, ℕ, ◌+◌, ◌≤◌, Bool, true, false, cond, List, [], ◌∷◌, ◌++◌, Option, None, Some, refl, ap, sym, subst, ◌∙◌, arith}
+use Rattle.std.proofs.Common.{◌≡◌, ℕ, ◌+◌, ◌≤◌, Bool, true, false, cond, List, [], ◌∷◌, ◌++◌, Option, None, Some, refl, ap, ◌∙◌, arith}
 use Rattle.std.proofs.lemmas.Bool.{cond-true, cond-false}
 use Rattle.std.specs.Prelude.{string_bytes}
 use Rattle.std.specs.IoError.{error_kind}
@@ -13,15 +13,16 @@ use Rattle.glob_tree.specs.Content.{Content}
 use Rattle.glob_walk.specs.declared.stack.Stack.{Stack}
 use Rattle.glob_walk.specs.declared.plan.Plan.{Plan}
 use Rattle.glob_walk.specs.declared.task.Task.{Task}
-use Rattle.glob_walk.specs.declared.task.Sight.{Sight}
-use Rattle.glob_walk.specs.declared.task.Sight.TheVariants as sight
+use Rattle.glob_walk.specs.declared.task.TaskState.{TaskState}
+use Rattle.glob_walk.specs.declared.task.TaskState.TheVariants as state
 use Rattle.glob_walk.specs.declared.machine.Answer.{Answer}
 use Rattle.glob_walk.specs.declared.machine.Answer.TheVariants as answer
 use Rattle.glob_walk.specs.Questions.{Question, LookAt, ListAt, IsLook, IsSomeContent, question_path}
 use Rattle.glob_walk.specs.Machines.{AsksNext}
-use Rattle.glob_walk.specs.Private.Tasks.{question_of, sight_question, IsNextOpened, IsSightOpened}
-use Rattle.glob_walk.specs.Private.Stacks.{left, ready, IsWithin, IsSound}
-use Rattle.glob_walk.specs.Private.Turns.{TurnOf, TurnCounts, IfGoing, TurnsTo, IsAnswered, listed_items}
+use Rattle.glob_walk.specs.Private.Tasks.{question_of, state_question, IsNextOpened, IsStateOpened}
+use Rattle.glob_walk.specs.Private.Stacks.{left, ready, IsWithin}
+use Rattle.glob_walk.specs.Answers.{IsAnswered}
+use Rattle.glob_walk.specs.Private.Turns.{TurnOf, TurnCounts, IfGoing, TurnsTo, listed_items}
 use Rattle.glob_walk.specs.Walks.{Charges, BreaksOff, works}
 
 pub uncharged : (left new : List Mark) (spent : ℕ) → left ≡ new → Charges left spent new spent
@@ -58,7 +59,7 @@ Charges-asked a d s u path h = Charges-trans a (Work path ∷ d) d s h.before u 
 
 -- a turn after others that only charged
 pub TurnOf-after : {A : Type 0} (first mid new : List Mark) (s t u : ℕ) (q : Option Question) (r : Turn A) → Charges first s mid t → TurnOf mid t r q new u → TurnOf first s r q new u
-TurnOf-after first mid new s t u q turn.Went h k = Charges-trans first mid new s t u h k
+TurnOf-after first mid new s t u q turn.Continue h k = Charges-trans first mid new s t u h k
 TurnOf-after first mid new s t u q turn.Look h k = AsksNext-after first mid new s t u (question_path q) h k
 TurnOf-after first mid new s t u q (turn.List kinds) h k = AsksNext-after first mid new s t u (question_path q) h k
 TurnOf-after first mid new s t u q (turn.Path p) h k = Charges-trans first mid (Give (Found (string_bytes p)) ∷ new) s t u h k
@@ -68,7 +69,7 @@ TurnOf-after first mid new s t u q turn.Memory h k = record { rest = k.rest; cha
 TurnOf-after first mid new s t u q turn.Done h k = (Charges-trans first mid new s t u h k.0, k.1)
 
 TurnCounts-after : {A : Type 0} (n : ℕ) (a b d : Meter) (r : Turn A) → b.spent ≡ a.spent + n → TurnCounts 0 b r d → TurnCounts n a r d
-TurnCounts-after n a b d turn.Went h k = omega (arith, h, k)
+TurnCounts-after n a b d turn.Continue h k = omega (arith, h, k)
 TurnCounts-after n a b d turn.Look h k = omega (arith, h, k)
 TurnCounts-after n a b d (turn.List kinds) h k = omega (arith, h, k)
 TurnCounts-after n a b d (turn.Path p) h k = omega (arith, h, k)
@@ -78,7 +79,7 @@ TurnCounts-after n a b d turn.Memory h k = omega (arith, h, k)
 TurnCounts-after n a b d turn.Done h k = omega (arith, h, k)
 
 pub IfGoing-map : {A P Q : Type 0} (r : Turn A) → (P → Q) → IfGoing r P → IfGoing r Q
-IfGoing-map turn.Went f h = f h
+IfGoing-map turn.Continue f h = f h
 IfGoing-map turn.Look f h = f h
 IfGoing-map (turn.List kinds) f h = f h
 IfGoing-map (turn.Path p) f h = f h
@@ -88,7 +89,7 @@ IfGoing-map turn.Memory f h = tt
 IfGoing-map turn.Done f h = f h
 
 -- no turn at all
-pub TurnsTo-none : {A : Type 0} (Fits : Content → Type 0) (m : Meter) (s : Stack A) → m.spent ≤ m.limit → IsWithin s → question_of s.next ≡ None → TurnsTo Fits 0 m s turn.Went m s
+pub TurnsTo-none : {A : Type 0} (Fits : Content → Type 0) (m : Meter) (s : Stack A) → m.spent ≤ m.limit → IsWithin s → question_of s.next ≡ None → TurnsTo Fits 0 m s turn.Continue m s
 TurnsTo-none Fits m s fits within free = record {
   limit = refl;
   fits = fits;
@@ -103,7 +104,7 @@ TurnsTo-none Fits m s fits within free = record {
 
 -- a turn after one that went on
 pub TurnsTo-after : {A : Type 0} (Fits : Content → Type 0) (Fits' : Content → Type 0) (n : ℕ) (a b d : Meter) (s s1 s2 : Stack A) (t : Turn A)
-    → ((c : Content) → Fits c → Fits' c) → TurnsTo Fits n a s turn.Went b s1 → TurnsTo Fits' 0 b s1 t d s2 → TurnsTo Fits n a s t d s2
+    → ((c : Content) → Fits c → Fits' c) → TurnsTo Fits n a s turn.Continue b s1 → TurnsTo Fits' 0 b s1 t d s2 → TurnsTo Fits n a s t d s2
 TurnsTo-after Fits Fits' n a b d s s1 s2 t fit h k = record {
   limit = k.limit ∙ h.limit;
   fits = k.fits;
@@ -116,45 +117,29 @@ TurnsTo-after Fits Fits' n a b d s s1 s2 t fit h k = record {
   takes = λ c w u. TurnOf-after (left c s) (left c s1) (left c s2) a.spent b.spent d.spent (question_of s2.next) t (h.takes c w u) (k.takes c (fit c w) (h.sound c w u));
 }
 
--- a turn of a stack is one of each stack that stands for the same
-pub TurnsTo-same : {A : Type 0} (Fits : Content → Type 0) (n : ℕ) (old new : Meter) (s s0 s' : Stack A) (t : Turn A)
-    → s0.plan ≡ s.plan → ready s0 ≤ ready s → ((c : Content) → IsSound c s → IsSound c s0) → ((c : Content) → left c s ≡ left c s0)
-    → TurnsTo Fits n old s0 t new s' → TurnsTo Fits n old s t new s'
-TurnsTo-same Fits n old new s s0 s' t plan waits sound same h = record {
-  limit = h.limit;
-  fits = h.fits;
-  counts = h.counts;
-  plan = h.plan ∙ plan;
-  within = h.within;
-  asks = h.asks;
-  ready = IfGoing-map t (λ (r : ready s' + listed_items t + old.spent ≤ ready s0 + new.spent). omega (arith, r, waits)) h.ready;
-  sound = IfGoing-map t (λ f c w k. f c w (sound c k)) h.sound;
-  takes = λ c w k. subst (λ ms. TurnOf ms old.spent t (question_of s'.next) (left c s') new.spent) (sym (same c)) (h.takes c w (sound c k));
-}
-
 -- a task that asks for no listing
 pub opened-free : {A : Type 0} (plan : Plan A) (next : Option (Task A)) → question_of next ≡ None → IsNextOpened plan next
 opened-free plan None h = tt
-opened-free plan (Some t) h = of_sight t.sight h
+opened-free plan (Some t) h = of_sight t.state h
   where
-    of_sight : (s : Sight) → sight_question (string_bytes t.path) s ≡ None → IsSightOpened plan t.component s
-    of_sight (sight.Unseen w) h = tt
-    of_sight (sight.Seen d) h = tt
-    of_sight (sight.Looking w) h = tt
-    of_sight (sight.Listing recursive kinds) h = absurd (some_none h)
+    of_sight : (s : TaskState) → state_question (string_bytes t.path) s ≡ None → IsStateOpened plan t.component s
+    of_sight (state.Unseen w) h = tt
+    of_sight (state.Seen d) h = tt
+    of_sight (state.Looking w) h = tt
+    of_sight (state.Listing recursive kinds) h = absurd (some_none h)
       where
         some_none : Some (ListAt kinds (string_bytes t.path)) ≡ None → ⊥
         some_none e = absurd (cc)
 
 pub opened-look : {A : Type 0} (plan : Plan A) (next : Option (Task A)) → IsLook (question_of next) → IsNextOpened plan next
 opened-look plan None h = tt
-opened-look plan (Some t) h = of_sight t.sight h
+opened-look plan (Some t) h = of_sight t.state h
   where
-    of_sight : (s : Sight) → IsLook (sight_question (string_bytes t.path) s) → IsSightOpened plan t.component s
-    of_sight (sight.Unseen w) h = tt
-    of_sight (sight.Seen d) h = tt
-    of_sight (sight.Looking w) h = tt
-    of_sight (sight.Listing recursive kinds) h = absurd h
+    of_sight : (s : TaskState) → IsLook (state_question (string_bytes t.path) s) → IsStateOpened plan t.component s
+    of_sight (state.Unseen w) h = tt
+    of_sight (state.Seen d) h = tt
+    of_sight (state.Looking w) h = tt
+    of_sight (state.Listing recursive kinds) h = absurd h
 
 -- a content that answers is well formed
 pub IsAnswered-content : {A : Type 0} (q : Option Question) (a : Answer A) (c : Content) → IsAnswered q a c → IsSomeContent c

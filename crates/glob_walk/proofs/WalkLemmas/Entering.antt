@@ -1,15 +1,14 @@
 -- What is made of an entry that is met.
-use Rattle.std.proofs.Common.{◌≡◌, ℕ, ◌+◌, Bool, true, false, cond, not, ◌&&◌, ◌||◌, List, [], ◌∷◌, drop, length, get_or, Some, None, Result, Ok, Err, refl, ap, sym, subst, ◌∙◌, arith, ◌<◌}
+use Rattle.std.proofs.Common.{◌≡◌, ℕ, ◌+◌, Bool, true, false, cond, not, ◌||◌, List, [], ◌∷◌, drop, length, get_or, Some, None, Result, Ok, Err, refl, ap, sym, subst, ◌∙◌, arith, ◌<◌}
 use Rattle.std.specs.Prelude.{IfOk, ⊤}
 use Rattle.std.proofs.lemmas.List.{drop_more}
 use Rattle.std.proofs.lemmas.Bool.{and_parts, cond-true}
 use Rattle.glob_text.specs.Text.{Text}
-use Rattle.glob_text.specs.Characters.{dot}
 use Rattle.glob_tree.specs.Paths.{child}
-use Rattle.glob_text.specs.Pieces.{begins_with}
 use Rattle.glob_walk.specs.Marks.{Give, Found}
 use Rattle.glob_tree.specs.Content.{Content}
 use Rattle.glob_walk.specs.Listing.{enter, meet, match_at, is_entered}
+use Rattle.glob_pattern.specs.Matching.Components.{is_open}
 use Rattle.glob_pattern.specs.declared.options.MatchOptions.{MatchOptions}
 use Rattle.glob_walk.specs.declared.plan.Plan.{Plan}
 use Rattle.glob_walk.specs.Private.Forms.{takes_name}
@@ -30,7 +29,7 @@ module _ (c : Content) (o : MatchOptions) (dirs : Bool) where
   meet-next t ts path name d = refl
 
 pub is_entered-directory : (o : MatchOptions) (name : Text) (d : Bool) → is_entered o name d ≡ true → d ≡ true
-is_entered-directory o name d h = (and_parts d (not (o.require_literal_leading_dot && begins_with dot name)) h).0
+is_entered-directory o name d h = (and_parts d (is_open o name) h).0
 
 or_true : (b : Bool) → (b || true) ≡ true
 or_true true = refl

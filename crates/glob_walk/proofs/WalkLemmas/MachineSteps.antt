@@ -10,7 +10,7 @@ use Rattle.glob_tree.specs.Content.{Content}
 use Rattle.glob_walk.specs.Aims.{listing_of}
 use Rattle.glob_walk.specs.Listing.{look_up, enter}
 use Rattle.glob_walk.specs.Questions.{Question}
-use Rattle.glob_walk.specs.Machines.{MachineState, Saying, StepGoes, Says, Ends}
+use Rattle.glob_walk.specs.Machines.{MachineState, Saying, IsAskedAfter, IsCharged, StepCounts, StepGoes, Says, Ends, is_last_step, step_outcome}
 use Rattle.glob_walk.specs.Walks.{Outcome, Charges, item_number}
 use Rattle.glob_walk.specs.declared.meter.Meter.{Meter}
 use Rattle.glob_walk.specs.declared.stack.Stack.{Stack}
@@ -19,18 +19,19 @@ use Rattle.glob_walk.specs.declared.turn.Turn.TheVariants as turn
 use Rattle.glob_walk.specs.declared.machine.Answer.{Answer}
 use Rattle.glob_walk.specs.declared.machine.Answer.TheVariants as answer
 use Rattle.glob_walk.specs.Private.Stacks.{aim_of, frames_marks, left, ready, IsWithin, IsSound}
-use Rattle.glob_walk.specs.Private.Tasks.{enter_from, sight_marks, task_marks, next_marks, next_ready, sight_ready, question_of, IsNextSound, IsSightSound, IsNextOpened, IsSightOpened}
+use Rattle.glob_walk.specs.Private.Tasks.{enter_from, state_marks, task_marks, next_marks, next_ready, state_ready, question_of, IsNextSound, IsStateSound, IsNextOpened, IsStateOpened}
 use Rattle.glob_walk.specs.Private.Frames.{unmet, is_done, IsFrameSound}
 use Rattle.glob_walk.specs.declared.task.Task.{Task}
-use Rattle.glob_walk.specs.declared.task.Sight.TheVariants.{Unseen}
-use Rattle.glob_walk.specs.declared.task.Wanted.TheVariants.{Any}
-use Rattle.glob_walk.specs.Private.Turns.{TurnsTo, TurnCounts, IfFailed, IsAnswer, IsAnswered, answer_count}
+use Rattle.glob_walk.specs.declared.task.TaskState.TheVariants.{Unseen}
+use Rattle.glob_walk.specs.declared.task.Accepted.TheVariants.{Any}
+use Rattle.glob_walk.specs.Answers.{IfFailed, IsAnswer, IsAnswered, answer_count}
+use Rattle.glob_walk.specs.Private.Turns.{TurnsTo, TurnCounts}
 use Rattle.glob_walk.specs.Private.Walking.{IsUnderWay, IsGood, turn_outcome, turn_saying, is_last_turn}
 use Rattle.glob_walk.proofs.WalkLemmas.Stepping.{append_none}
 use Rattle.glob_walk.proofs.WalkLemmas.Charging.{opened-free, opened-look}
 
 pub one_item : {A : Type 0} (t : Turn A) → item_number (turn_outcome t) ≤ 1
-one_item turn.Went = omega arith
+one_item turn.Continue = omega arith
 one_item turn.Look = omega arith
 one_item (turn.List kinds) = omega arith
 one_item (turn.Path p) = omega arith
@@ -40,7 +41,7 @@ one_item turn.Memory = omega arith
 one_item turn.Done = omega arith
 
 pub grows : {A : Type 0} (n : ℕ) (m m' : Meter) (t : Turn A) → TurnCounts n m t m' → m.spent ≤ m'.spent
-grows n m m' turn.Went h = omega (arith, h)
+grows n m m' turn.Continue h = omega (arith, h)
 grows n m m' turn.Look h = omega (arith, h)
 grows n m m' (turn.List kinds) h = omega (arith, h)
 grows n m m' (turn.Path p) h = omega (arith, h)
@@ -83,9 +84,9 @@ module _ {A : Type 0} (Fits : Content → Type 0) (n : ℕ) (m m' : Meter) (s s'
     ended = λ _. free;
   }
 
-  pub IsGood-after : (t : Turn A) → t ≢ turn.Went → TurnsTo Fits n m s t m' s' → (is_last_turn t ≡ true → IsCleared s')
+  pub IsGood-after : (t : Turn A) → t ≢ turn.Continue → TurnsTo Fits n m s t m' s' → (is_last_turn t ≡ true → IsCleared s')
       → IsGood m' s' (given + item_number (turn_outcome t)) (is_last_turn t)
-  IsGood-after turn.Went stops r cleared = absurd (stops refl)
+  IsGood-after turn.Continue stops r cleared = absurd (stops refl)
   IsGood-after turn.Look stops r cleared = going turn.Look 0 r.limit r.fits r.within r.ready (opened-look s'.plan s'.next r.asks)
   IsGood-after (turn.List kinds) stops r cleared = going (turn.List kinds) 0 r.limit r.fits r.within r.ready r.asks.1
   IsGood-after (turn.Path p) stops r cleared = going (turn.Path p) 1 r.limit r.fits r.within r.ready (opened-free s'.plan s'.next r.asks)
@@ -94,112 +95,53 @@ module _ {A : Type 0} (Fits : Content → Type 0) (n : ℕ) (m m' : Meter) (s s'
   IsGood-after turn.Memory stops r cleared = over 1 (omega arith) r.limit (grows {A = A} n m m' turn.Memory r.counts) r.fits (ap question_of (cleared refl).0)
   IsGood-after turn.Done stops r cleared = over 0 (omega arith) r.limit (grows {A = A} n m m' turn.Done r.counts) r.fits r.asks
 
-  goes : (t : Turn A) → t ≢ turn.Went → TurnsTo Fits n m s t m' s' → (is_last_turn t ≡ true → IsCleared s')
+  -- the counts of a turn are those of its step
+  counted : (t : Turn A) → t ≢ turn.Continue → TurnsTo Fits n m s t m' s' → (is_last_turn t ≡ true → IsCleared s')
+      → IsCharged n (view m s given false) (turn_saying t) (view m' s' (given + item_number (turn_outcome t)) (is_last_turn t)) → IsAskedAfter (turn_saying t) (question_of s'.next)
+      → turn_outcome t ≡ step_outcome (turn_saying t) → is_last_turn t ≡ is_last_step (turn_saying t)
+      → StepCounts n (view m s given false) (turn_saying t) (view m' s' (given + item_number (turn_outcome t)) (is_last_turn t))
+  counted t stops r cleared charged asks outcome ends = record {
+    limit = r.limit;
+    aim = ap aim_of r.plan;
+    grows = grows n m m' t r.counts;
+    within = r.fits;
+    charged = charged;
+    given = ap (λ o. given + item_number o) outcome;
+    few = (IsGood-after t stops r cleared).few;
+    asks = asks;
+    ends = ends;
+    stays = λ yes'. absurd (both_ways false refl yes');
+  }
+
+  goes : (t : Turn A) → t ≢ turn.Continue → TurnsTo Fits n m s t m' s' → (is_last_turn t ≡ true → IsCleared s')
       → StepGoes Fits n (view m s given false) (turn_saying t) (view m' s' (given + item_number (turn_outcome t)) (is_last_turn t))
-  goes turn.Went stops r cleared = absurd (stops refl)
+  goes turn.Continue stops r cleared = absurd (stops refl)
   goes turn.Look stops r cleared = record {
-    counts = record {
-      limit = r.limit;
-      aim = ap aim_of r.plan;
-      grows = grows {A = A} n m m' turn.Look r.counts;
-      within = r.fits;
-      charged = r.counts;
-      given = refl;
-      few = (IsGood-after turn.Look stops r cleared).few;
-      asks = r.asks;
-      ends = refl;
-      stays = λ yes'. absurd (both_ways false refl yes');
-    };
+    counts = counted turn.Look stops r cleared r.counts r.asks refl refl;
     takes = λ c f no h. record { agrees = r.sound c f h; takes = r.takes c f h };
   }
   goes (turn.List kinds) stops r cleared = record {
-    counts = record {
-      limit = r.limit;
-      aim = ap aim_of r.plan;
-      grows = grows {A = A} n m m' (turn.List kinds) r.counts;
-      within = r.fits;
-      charged = r.counts;
-      given = refl;
-      few = (IsGood-after (turn.List kinds) stops r cleared).few;
-      asks = r.asks.0;
-      ends = refl;
-      stays = λ yes'. absurd (both_ways false refl yes');
-    };
+    counts = counted (turn.List kinds) stops r cleared r.counts r.asks.0 refl refl;
     takes = λ c f no h. record { agrees = r.sound c f h; takes = r.takes c f h };
   }
   goes (turn.Path p) stops r cleared = record {
-    counts = record {
-      limit = r.limit;
-      aim = ap aim_of r.plan;
-      grows = grows n m m' (turn.Path p) r.counts;
-      within = r.fits;
-      charged = r.counts;
-      given = refl;
-      few = (IsGood-after (turn.Path p) stops r cleared).few;
-      asks = r.asks;
-      ends = refl;
-      stays = λ yes'. absurd (both_ways false refl yes');
-    };
+    counts = counted (turn.Path p) stops r cleared r.counts r.asks refl refl;
     takes = λ c f no h. record { agrees = r.sound c f h; takes = r.takes c f h };
   }
   goes (turn.Unread p e) stops r cleared = record {
-    counts = record {
-      limit = r.limit;
-      aim = ap aim_of r.plan;
-      grows = grows n m m' (turn.Unread p e) r.counts;
-      within = r.fits;
-      charged = r.counts;
-      given = refl;
-      few = (IsGood-after (turn.Unread p e) stops r cleared).few;
-      asks = r.asks;
-      ends = refl;
-      stays = λ yes'. absurd (both_ways false refl yes');
-    };
+    counts = counted (turn.Unread p e) stops r cleared r.counts r.asks refl refl;
     takes = λ c f no h. record { agrees = r.sound c f h; takes = r.takes c f h };
   }
   goes (turn.Limit p) stops r cleared = record {
-    counts = record {
-      limit = r.limit;
-      aim = ap aim_of r.plan;
-      grows = r.counts.2;
-      within = r.fits;
-      charged = (r.counts.0, r.counts.1);
-      given = refl;
-      few = (IsGood-after (turn.Limit p) stops r cleared).few;
-      asks = ap question_of (cleared refl).0;
-      ends = refl;
-      stays = λ yes'. absurd (both_ways false refl yes');
-    };
+    counts = counted (turn.Limit p) stops r cleared (r.counts.0, r.counts.1) (ap question_of (cleared refl).0) refl refl;
     takes = λ c f no h. record { agrees = cleared_sound c s' (cleared refl); takes = r.takes c f h };
   }
   goes turn.Memory stops r cleared = record {
-    counts = record {
-      limit = r.limit;
-      aim = ap aim_of r.plan;
-      grows = grows {A = A} n m m' turn.Memory r.counts;
-      within = r.fits;
-      charged = r.counts;
-      given = refl;
-      few = (IsGood-after turn.Memory stops r cleared).few;
-      asks = ap question_of (cleared refl).0;
-      ends = refl;
-      stays = λ yes'. absurd (both_ways false refl yes');
-    };
+    counts = counted turn.Memory stops r cleared r.counts (ap question_of (cleared refl).0) refl refl;
     takes = λ c f no h. record { agrees = cleared_sound c s' (cleared refl); takes = r.takes c f h };
   }
   goes turn.Done stops r cleared = record {
-    counts = record {
-      limit = r.limit;
-      aim = ap aim_of r.plan;
-      grows = grows {A = A} n m m' turn.Done r.counts;
-      within = r.fits;
-      charged = r.counts;
-      given = refl;
-      few = (IsGood-after turn.Done stops r cleared).few;
-      asks = r.asks;
-      ends = refl;
-      stays = λ yes'. absurd (both_ways false refl yes');
-    };
+    counts = counted turn.Done stops r cleared r.counts r.asks refl refl;
     takes = λ c f no h. record {
       agrees = r.sound c f h;
       takes = let t = r.takes c f h in (subst (λ ms. Charges (left c s) m.spent ms m'.spent) t.1 t.0, t.1);
@@ -208,7 +150,7 @@ module _ {A : Type 0} (Fits : Content → Type 0) (n : ℕ) (m m' : Meter) (s s'
 
 -- a step, with what is known of its parts
 pub goes_at : {A : Type 0} (n : ℕ) (m m' : Meter) (s s' : Stack A) (given : ℕ) (over' : Bool) (a : Answer A) (v : MachineState A) → view m s given over' ≡ v → over' ≡ false → m.limit < 2 ^ 64 → IsUnderWay m s given
-    → (t : Turn A) (x : Saying) (k : ℕ) (b : Bool) → x ≡ turn_saying t → k ≡ item_number (turn_outcome t) → b ≡ is_last_turn t → t ≢ turn.Went
+    → (t : Turn A) (x : Saying) (k : ℕ) (b : Bool) → x ≡ turn_saying t → k ≡ item_number (turn_outcome t) → b ≡ is_last_turn t → t ≢ turn.Continue
     → TurnsTo (IsAnswered (question_of s.next) a) n m s t m' s' → (is_last_turn t ≡ true → IsCleared s') → StepGoes (IsAnswered v.asked a) n v x (view m' s' (given + k) b)
 goes_at {A} n m m' s s' given over' a v e going' fits w t x k b xs ks bs stops r cleared =
     subst (λ u. StepGoes (IsAnswered u.asked a) n u x (view m' s' (given + k) b)) e
@@ -263,9 +205,9 @@ goes_over m s given over' yes' a v e good answers =
     }) answers
 
 -- a walk that has done nothing yet
-pub IsGood-fresh : {A : Type 0} (m : Meter) (s : Stack A) (t : Task A) → m.spent ≡ 0 → m.limit < 2 ^ 64 → s.next ≡ Some t → t.sight ≡ Unseen Any → s.frames.items ≡ [] → IsGood m s 0 false
+pub IsGood-fresh : {A : Type 0} (m : Meter) (s : Stack A) (t : Task A) → m.spent ≡ 0 → m.limit < 2 ^ 64 → s.next ≡ Some t → t.state ≡ Unseen Any → s.frames.items ≡ [] → IsGood m s 0 false
 IsGood-fresh m s t none fits next unseen empty =
-    let none_ready : next_ready s.plan s.next ≡ 0 = ap (next_ready s.plan) next ∙ ap (sight_ready (nat_le (length s.plan.components.items) t.component)) unseen in
+    let none_ready : next_ready s.plan s.next ≡ 0 = ap (next_ready s.plan) next ∙ ap (state_ready (nat_le (length s.plan.components.items) t.component)) unseen in
     let none_unmet : sum_by unmet s.frames.items ≡ 0 = ap (sum_by unmet) empty in
     record {
       limit = omega (arith, none);
@@ -277,23 +219,23 @@ IsGood-fresh m s t none fits next unseen empty =
           going = subst (All (λ f. is_done f ≡ false)) (sym empty) (All-from_recursion (λ f. is_done f ≡ false) [] tt);
         };
         ready = omega (arith, none_ready, none_unmet);
-        opened = subst (IsNextOpened s.plan) (sym next) (subst (IsSightOpened s.plan t.component) (sym unseen) tt);
+        opened = subst (IsNextOpened s.plan) (sym next) (subst (IsStateOpened s.plan t.component) (sym unseen) tt);
       };
       ended = λ yes'. absurd (both_ways false refl yes');
     }
 
-pub left-fresh : {A : Type 0} (c : Content) (s : Stack A) (t : Task A) → s.next ≡ Some t → t.sight ≡ Unseen Any → t.component ≡ 0 → s.frames.items ≡ []
+pub left-fresh : {A : Type 0} (c : Content) (s : Stack A) (t : Task A) → s.next ≡ Some t → t.state ≡ Unseen Any → t.component ≡ 0 → s.frames.items ≡ []
     → string_bytes t.path ≡ cond s.plan.rooted root_dir cur_dir → left c s ≡ listing_of c (aim_of s.plan)
 left-fresh c s t next unseen component empty at =
     ap (λ n. next_marks c s.plan n ++ frames_marks c s.plan s.frames.items) next
     ∙ ap (λ fs. task_marks c s.plan t ++ frames_marks c s.plan fs) empty
     ∙ append_none (task_marks c s.plan t)
-    ∙ ap (λ x. sight_marks c s.plan t.component (string_bytes t.path) x) unseen
+    ∙ ap (λ x. state_marks c s.plan t.component (string_bytes t.path) x) unseen
     ∙ ap (λ n. look_up c (λ seen. true) (enter_from c s.plan n) (string_bytes t.path)) component
     ∙ ap (look_up c (λ seen. true) (enter c s.plan.options s.plan.directories s.plan.components.items)) at
 
-pub sound-fresh : {A : Type 0} (c : Content) (s : Stack A) (t : Task A) → s.next ≡ Some t → t.sight ≡ Unseen Any → s.frames.items ≡ [] → IsSound c s
+pub sound-fresh : {A : Type 0} (c : Content) (s : Stack A) (t : Task A) → s.next ≡ Some t → t.state ≡ Unseen Any → s.frames.items ≡ [] → IsSound c s
 sound-fresh c s t next unseen empty = record {
-  next = subst (IsNextSound c) (sym next) (subst (IsSightSound c (string_bytes t.path)) (sym unseen) tt);
+  next = subst (IsNextSound c) (sym next) (subst (IsStateSound c (string_bytes t.path)) (sym unseen) tt);
   frames = subst (All (IsFrameSound c)) (sym empty) (All-from_recursion (IsFrameSound c) [] tt);
 }

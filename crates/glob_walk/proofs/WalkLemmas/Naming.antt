@@ -11,14 +11,14 @@ use Rattle.glob_pattern.specs.declared.options.MatchOptions.{MatchOptions}
 use Rattle.glob_tree.specs.declared.tree.Look.{Look}
 use Rattle.glob_walk.proofs.ListingLemmas.Descending.{enter-literal, enter_none, enter-recursive_none}
 use Rattle.glob_walk.specs.declared.plan.Plan.{Plan}
-use Rattle.glob_walk.specs.declared.task.Wanted.{Wanted}
-use Rattle.glob_walk.specs.Private.Tasks.{enter_from, is_wanted, IsOpened}
+use Rattle.glob_walk.specs.declared.task.Accepted.{Accepted}
+use Rattle.glob_walk.specs.Private.Tasks.{enter_from, is_accepted, IsOpened}
 use Rattle.glob_walk.proofs.WalkLemmas.Entering.{enter-end}
 
-pub literal_marks : {A : Type 0} (c : Content) (plan : Plan A) (component : ℕ) (path : Text) (d : Bool) (t : Text) (w : Wanted)
+pub literal_marks : {A : Type 0} (c : Content) (plan : Plan A) (component : ℕ) (path : Text) (d : Bool) (t : Text) (w : Accepted)
     → drop component plan.components.items ≡ t ∷ drop (component + 1) plan.components.items → is_literal t ≡ true
-    → ((seen : Look) → is_wanted w seen ≡ cond (is_current_or_parent t) d (is_there seen))
-    → enter_from c plan component path d ≡ look_up c (is_wanted w) (enter_from c plan (component + 1)) (child path t)
+    → ((seen : Look) → is_accepted w seen ≡ cond (is_current_or_parent t) d (is_there seen))
+    → enter_from c plan component path d ≡ look_up c (is_accepted w) (enter_from c plan (component + 1)) (child path t)
 literal_marks c plan component path d t w at kind same =
     ap (λ ts. enter c plan.options plan.directories ts path d) at
     ∙ enter-literal c plan.options plan.directories t (drop (component + 1) plan.components.items) path d (ap (λ b. cond b Literal (cond (is_recursive t) Recursive Wild)) kind)

@@ -18,11 +18,11 @@ use Rattle.glob_walk.proofs.ListingLemmas.Descending.{enter-wild, enter-recursiv
 use Rattle.glob_walk.specs.declared.plan.Plan.{Plan}
 use Rattle.glob_walk.specs.declared.frame.Cursor.{Cursor}
 use Rattle.glob_walk.specs.declared.frame.Cursor.TheVariants.{Parent, At}
-use Rattle.glob_walk.specs.Private.Tasks.{enter_from, sight_marks, next_marks, sight_question, question_of, IsOpened, IsSightOpened, IsNextOpened, IsSightSound, IsNextSound}
+use Rattle.glob_walk.specs.Private.Tasks.{enter_from, state_marks, next_marks, state_question, question_of, IsOpened, IsStateOpened, IsNextOpened, IsStateSound, IsNextSound}
 use Rattle.glob_walk.specs.Private.Stacks.{left, frames_marks}
 use Rattle.glob_walk.specs.declared.stack.Stack.{Stack}
 use Rattle.glob_walk.specs.declared.task.Task.{Task}
-use Rattle.glob_walk.specs.declared.task.Sight.TheVariants.{Listing}
+use Rattle.glob_walk.specs.declared.task.TaskState.TheVariants.{Listing}
 use Rattle.glob_walk.specs.Questions.{Question, ListAt}
 use Rattle.glob_walk.specs.Private.Frames.{take_at, first_of, entries_marks, special_marks, special_after, cursor_marks, cursor_unmet, first_cursor, IsEntrySound}
 use Rattle.glob_walk.specs.Private.Meters.{IsInOrder, IsHeld, IsCut}
@@ -246,16 +246,16 @@ pub listed_fault : {A : Type 0} (c : Content) (w : IsContent c) (plan : Plan A) 
 listed_fault c w plan recursive component path opens d kind fault = ap (drop 1) (opened_fault c w plan recursive component path opens d kind fault)
 
 -- the task of a stack awaits a listing
-module _ {A : Type 0} (c : Content) (s : Stack A) (t : Task A) (recursive kinds : Bool) (next : s.next ≡ Some t) (listing : t.sight ≡ Listing recursive kinds) where
+module _ {A : Type 0} (c : Content) (s : Stack A) (t : Task A) (recursive kinds : Bool) (next : s.next ≡ Some t) (listing : t.state ≡ Listing recursive kinds) where
   pub listed_answer : (P : Option Question → Type 0) → P (question_of s.next) → P (Some (ListAt kinds (string_bytes t.path)))
-  listed_answer P h = subst P (ap question_of next ∙ ap (sight_question (string_bytes t.path)) listing) h
+  listed_answer P h = subst P (ap question_of next ∙ ap (state_question (string_bytes t.path)) listing) h
 
   pub unread_left : IsContent c → IsNextOpened s.plan s.next → IsNextSound c s.next → (kind : ErrorKind) → IsListFault (list_result c (string_bytes t.path)) kind
       → left c s ≡ Give (Unread (string_bytes t.path) kind) ∷ frames_marks c s.plan s.frames.items
   unread_left w opened sound kind fault =
       let rest = frames_marks c s.plan s.frames.items in
-      let o : IsSightOpened s.plan t.component (Listing recursive kinds) = subst (IsSightOpened s.plan t.component) listing (subst (IsNextOpened s.plan) next opened) in
-      let d : IsSightSound c (string_bytes t.path) (Listing recursive kinds) = subst (IsSightSound c (string_bytes t.path)) listing (subst (IsNextSound c) next sound) in
+      let o : IsStateOpened s.plan t.component (Listing recursive kinds) = subst (IsStateOpened s.plan t.component) listing (subst (IsNextOpened s.plan) next opened) in
+      let d : IsStateSound c (string_bytes t.path) (Listing recursive kinds) = subst (IsStateSound c (string_bytes t.path)) listing (subst (IsNextSound c) next sound) in
       ap (λ n. next_marks c s.plan n ++ rest) next
-      ∙ ap (λ x. sight_marks c s.plan t.component (string_bytes t.path) x ++ rest) listing
+      ∙ ap (λ x. state_marks c s.plan t.component (string_bytes t.path) x ++ rest) listing
       ∙ ap (λ ms. ms ++ rest) (listed_fault c w s.plan recursive t.component (string_bytes t.path) o.opens d kind fault)

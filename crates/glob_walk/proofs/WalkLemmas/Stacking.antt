@@ -64,14 +64,6 @@ module _ {A : Type 0} (c : Content) (plan : Plan A) where
   pub frames_last : (fs : List (Frame A)) (f : Frame A) → frames_marks c plan (fs ++ f ∷ []) ≡ frame_marks c plan f ++ frames_marks c plan fs
   frames_last fs f = ap (flat_map (frame_marks c plan)) (reverse-append fs (f ∷ []))
 
-  pub pop_left : (fs rest : List (Frame A)) (n : ℕ) (f : Frame A) → n + 1 ≡ length fs → f ≡ get_or fs n f → is_done f ≡ true → rest ≡ take n (set fs n f)
-      → frames_marks c plan fs ≡ frames_marks c plan rest
-  pop_left fs rest n f h is done popped =
-      ap (frames_marks c plan) (last_split fs n f h is)
-      ∙ frames_last (take n fs) f
-      ∙ ap (λ ms. ms ++ frames_marks c plan (take n fs)) (done_marks c plan f done)
-      ∙ ap (frames_marks c plan) (sym (popped ∙ front_last fs n f h))
-
   pub step_left : (fs : List (Frame A)) (n : ℕ) (f g : Frame A) (next : List Mark) → n + 1 ≡ length fs → f ≡ get_or fs n f
       → frame_marks c plan f ≡ next ++ frame_marks c plan g → frames_marks c plan fs ≡ next ++ frames_marks c plan (set fs n g)
   step_left fs n f g next h is went =

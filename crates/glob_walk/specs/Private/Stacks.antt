@@ -6,8 +6,8 @@ use Rattle.glob_walk.specs.Marks.{Mark}
 use Rattle.glob_tree.specs.Content.{Content}
 use Rattle.glob_walk.specs.declared.plan.Plan.{Plan}
 use Rattle.glob_walk.specs.declared.task.Task.{Task}
-use Rattle.glob_walk.specs.declared.task.Sight.{Sight}
-use Rattle.glob_walk.specs.declared.task.Sight.TheVariants as sight
+use Rattle.glob_walk.specs.declared.task.TaskState.{TaskState}
+use Rattle.glob_walk.specs.declared.task.TaskState.TheVariants as state
 use Rattle.glob_walk.specs.declared.frame.Frame.{Frame}
 use Rattle.glob_walk.specs.declared.stack.Stack.{Stack}
 use Rattle.glob_walk.specs.Private.Tasks.{next_marks, next_ready, IsNextSound}
@@ -30,15 +30,15 @@ frames_marks c plan frames = flat_map (frame_marks c plan) (reverse frames)
 abbrev pub left : {A : Type 0} → Content → Stack A → List Mark
 left c s = next_marks c s.plan s.next ++ frames_marks c s.plan s.frames.items
 
-abbrev pub sight_weight : Sight → ℕ
-sight_weight (sight.Unseen w) = 1
-sight_weight (sight.Seen d) = 2
-sight_weight (sight.Looking w) = 0
-sight_weight (sight.Listing recursive kinds) = 0
+abbrev pub state_weight : TaskState → ℕ
+state_weight (state.Unseen w) = 1
+state_weight (state.Seen d) = 2
+state_weight (state.Looking w) = 0
+state_weight (state.Listing recursive kinds) = 0
 
 abbrev pub next_weight : {A : Type 0} → Option (Task A) → ℕ
 next_weight None = 0
-next_weight (Some t) = sight_weight t.sight
+next_weight (Some t) = state_weight t.state
 
 abbrev pub frame_weight : {A : Type 0} → Frame A → ℕ
 frame_weight f = 3 * steps_left f + 1

@@ -11,58 +11,58 @@ use Rattle.glob_walk.specs.Questions.{Question, LookAt, ListAt}
 use Rattle.glob_tree.specs.Looks.{is_there, is_directory}
 use Rattle.glob_tree.specs.declared.tree.Look.{Look}
 use Rattle.glob_walk.specs.declared.plan.Plan.{Plan}
-use Rattle.glob_walk.specs.declared.task.Wanted.{Wanted}
-use Rattle.glob_walk.specs.declared.task.Wanted.TheVariants as wanted
-use Rattle.glob_walk.specs.declared.task.Sight.{Sight}
-use Rattle.glob_walk.specs.declared.task.Sight.TheVariants as sight
+use Rattle.glob_walk.specs.declared.task.Accepted.{Accepted}
+use Rattle.glob_walk.specs.declared.task.Accepted.TheVariants as accepted
+use Rattle.glob_walk.specs.declared.task.TaskState.{TaskState}
+use Rattle.glob_walk.specs.declared.task.TaskState.TheVariants as state
 use Rattle.glob_walk.specs.declared.task.Task.{Task}
 
 -- the walk goes on after this answer to a look
-abbrev pub is_wanted : Wanted → Look → Bool
-is_wanted wanted.Any seen = true
-is_wanted wanted.Present seen = is_there seen
-is_wanted wanted.Nothing seen = false
+abbrev pub is_accepted : Accepted → Look → Bool
+is_accepted accepted.Any seen = true
+is_accepted accepted.Present seen = is_there seen
+is_accepted accepted.Nothing seen = false
 
 -- what comes of a path, with the components from a number on left
 abbrev pub enter_from : {A : Type 0} → Content → Plan A → ℕ → Text → Bool → List Mark
 enter_from c plan component = enter c plan.options plan.directories (drop component plan.components.items)
 
 -- what comes of a path that is looked up, or that is known to be there
-abbrev pub sight_marks : {A : Type 0} → Content → Plan A → ℕ → Text → Sight → List Mark
-sight_marks c plan component path (sight.Unseen w) = look_up c (is_wanted w) (enter_from c plan component) path
-sight_marks c plan component path (sight.Seen d) = enter_from c plan component path d
-sight_marks c plan component path (sight.Looking w) =
-    if is_wanted w (look_result c path) then enter_from c plan component path (is_directory (look_result c path)) else []
-sight_marks c plan component path (sight.Listing recursive kinds) = drop 1 (enter_from c plan component path true)
+abbrev pub state_marks : {A : Type 0} → Content → Plan A → ℕ → Text → TaskState → List Mark
+state_marks c plan component path (state.Unseen w) = look_up c (is_accepted w) (enter_from c plan component) path
+state_marks c plan component path (state.Seen d) = enter_from c plan component path d
+state_marks c plan component path (state.Looking w) =
+    if is_accepted w (look_result c path) then enter_from c plan component path (is_directory (look_result c path)) else []
+state_marks c plan component path (state.Listing recursive kinds) = drop 1 (enter_from c plan component path true)
 
 abbrev pub task_marks : {A : Type 0} → Content → Plan A → Task A → List Mark
-task_marks c plan t = sight_marks c plan t.component (string_bytes t.path) t.sight
+task_marks c plan t = state_marks c plan t.component (string_bytes t.path) t.state
 
 abbrev pub next_marks : {A : Type 0} → Content → Plan A → Option (Task A) → List Mark
 next_marks c plan None = []
 next_marks c plan (Some t) = task_marks c plan t
 
 -- what is said to be a directory is looked at as one
-abbrev pub IsSightSound : Content → Text → Sight → Type 0
-IsSightSound c path (sight.Unseen w) = Unit {0}
-IsSightSound c path (sight.Seen d) = d ≡ true → is_directory (look_result c path) ≡ true
-IsSightSound c path (sight.Looking w) = Unit {0}
-IsSightSound c path (sight.Listing recursive kinds) = is_directory (look_result c path) ≡ true
+abbrev pub IsStateSound : Content → Text → TaskState → Type 0
+IsStateSound c path (state.Unseen w) = Unit {0}
+IsStateSound c path (state.Seen d) = d ≡ true → is_directory (look_result c path) ≡ true
+IsStateSound c path (state.Looking w) = Unit {0}
+IsStateSound c path (state.Listing recursive kinds) = is_directory (look_result c path) ≡ true
 
 abbrev pub IsNextSound : {A : Type 0} → Content → Option (Task A) → Type 0
 IsNextSound c None = Unit {0}
-IsNextSound c (Some t) = IsSightSound c (string_bytes t.path) t.sight
+IsNextSound c (Some t) = IsStateSound c (string_bytes t.path) t.state
 
 -- how many items may come before the next unit
-abbrev pub sight_ready : Bool → Sight → ℕ
-sight_ready last (sight.Unseen w) = 0
-sight_ready last (sight.Seen d) = if last then 1 else 0
-sight_ready last (sight.Looking w) = 1
-sight_ready last (sight.Listing recursive kinds) = 1
+abbrev pub state_ready : Bool → TaskState → ℕ
+state_ready last (state.Unseen w) = 0
+state_ready last (state.Seen d) = if last then 1 else 0
+state_ready last (state.Looking w) = 1
+state_ready last (state.Listing recursive kinds) = 1
 
 abbrev pub next_ready : {A : Type 0} → Plan A → Option (Task A) → ℕ
 next_ready plan None = 0
-next_ready plan (Some t) = sight_ready (nat_le (length plan.components.items) t.component) t.sight
+next_ready plan (Some t) = state_ready (nat_le (length plan.components.items) t.component) t.state
 
 -- a directory is listed for the first component: one that is matched, or a `**` with none right after it
 abbrev pub IsOpened : Bool → List Text → Type 0
@@ -71,15 +71,15 @@ IsOpened false (t ∷ ts) = component_kind t ≡ Wild
 IsOpened true (t ∷ ts) = (component_kind t ≡ Recursive) × (begins_recursive ts ≡ false)
 
 -- what is asked for, where a task awaits an answer
-abbrev pub sight_question : Text → Sight → Option Question
-sight_question path (sight.Unseen w) = None
-sight_question path (sight.Seen d) = None
-sight_question path (sight.Looking w) = Some (LookAt path)
-sight_question path (sight.Listing recursive kinds) = Some (ListAt kinds path)
+abbrev pub state_question : Text → TaskState → Option Question
+state_question path (state.Unseen w) = None
+state_question path (state.Seen d) = None
+state_question path (state.Looking w) = Some (LookAt path)
+state_question path (state.Listing recursive kinds) = Some (ListAt kinds path)
 
 abbrev pub question_of : {A : Type 0} → Option (Task A) → Option Question
 question_of None = None
-question_of (Some t) = sight_question (string_bytes t.path) t.sight
+question_of (Some t) = state_question (string_bytes t.path) t.state
 
 -- No entry's kind changes what follows: the component is no `**` and the last, and directories are not wanted.
 pub record IgnoresKinds {A : Type 0} (plan : Plan A) (component : ℕ) (recursive : Bool) : Type 0 where
@@ -94,15 +94,15 @@ pub record IsListedFor {A : Type 0} (plan : Plan A) (component : ℕ) (recursive
   pub names : kinds ≡ false → IgnoresKinds plan component recursive
 
 -- a directory whose listing is asked for is one of a component
-abbrev pub IsSightOpened : {A : Type 0} → Plan A → ℕ → Sight → Type 0
-IsSightOpened plan component (sight.Unseen w) = Unit {0}
-IsSightOpened plan component (sight.Seen d) = Unit {0}
-IsSightOpened plan component (sight.Looking w) = Unit {0}
-IsSightOpened plan component (sight.Listing recursive kinds) = IsListedFor plan component recursive kinds
+abbrev pub IsStateOpened : {A : Type 0} → Plan A → ℕ → TaskState → Type 0
+IsStateOpened plan component (state.Unseen w) = Unit {0}
+IsStateOpened plan component (state.Seen d) = Unit {0}
+IsStateOpened plan component (state.Looking w) = Unit {0}
+IsStateOpened plan component (state.Listing recursive kinds) = IsListedFor plan component recursive kinds
 
 abbrev pub IsNextOpened : {A : Type 0} → Plan A → Option (Task A) → Type 0
 IsNextOpened plan None = Unit {0}
-IsNextOpened plan (Some t) = IsSightOpened plan t.component t.sight
+IsNextOpened plan (Some t) = IsStateOpened plan t.component t.state
 
 -- the first component begins with a dot
 abbrev pub is_dotted : List Text → Bool

@@ -1,27 +1,25 @@
 -- One turn of a walk, against the written listing.
-use Rattle.std.specs.Prelude.{◌≡◌, ℕ, ◌+◌, ◌≤◌, Bool, Option, Some, None, List, [], ◌∷◌, String, string_bytes, IfErr, ⊤}
+use Rattle.std.specs.Prelude.{◌≡◌, ℕ, ◌+◌, ◌≤◌, Bool, Option, Some, None, List, [], ◌∷◌, String, string_bytes, ⊤}
 use Rattle.std.specs.IoError.{error_kind}
 use Rattle.glob_text.specs.Text.{Text}
 use Rattle.glob_walk.specs.Marks.{Mark, Give, Found, Unread}
 use Rattle.glob_walk.specs.declared.meter.Meter.{Meter}
 use Rattle.glob_walk.specs.declared.turn.Turn.{Turn}
 use Rattle.glob_walk.specs.declared.turn.Turn.TheVariants as turn
-use Rattle.glob_walk.specs.declared.machine.Answer.{Answer}
-use Rattle.glob_walk.specs.declared.machine.Answer.TheVariants as answer
-use Rattle.glob_walk.specs.Questions.{Question, IsLook, IsList, IsListWith, IsSomeContent, IsSeenIn, IsListedIn, question_path}
-use Rattle.glob_walk.specs.Machines.{AsksNext, list_error_outcome}
-use Rattle.glob_walk.specs.Walks.{Outcome, NoMemory, Charges, StopsAt, BreaksOff}
+use Rattle.glob_walk.specs.Questions.{Question, IsLook, IsListWith, IsSomeContent, question_path}
+use Rattle.glob_walk.specs.Machines.{AsksNext}
+use Rattle.glob_walk.specs.Walks.{Charges, StopsAt, BreaksOff}
 use Rattle.glob_tree.specs.Content.{Content, list_result}
-use Rattle.glob_tree.specs.Answers.{IsEntriesAnswer, entries_of, entry_count}
+use Rattle.glob_tree.specs.Answers.{IsEntriesAnswer, entries_of}
 use Rattle.glob_tree.specs.declared.tree.Entry.{Entry}
 use Rattle.glob_walk.specs.declared.stack.Stack.{Stack}
-use Rattle.glob_walk.specs.declared.task.Sight.{Sight}
+use Rattle.glob_walk.specs.declared.task.TaskState.{TaskState}
 use Rattle.glob_walk.specs.Private.Tasks.{question_of, IsNextOpened}
 use Rattle.glob_walk.specs.Private.Stacks.{left, ready, IsWithin, IsSound}
 
 -- what a turn takes from the front of what was left, and what is then asked for
 abbrev pub TurnOf : {A : Type 0} → List Mark → ℕ → Turn A → Option Question → List Mark → ℕ → Type 0
-TurnOf old spent turn.Went q new spent' = Charges old spent new spent'
+TurnOf old spent turn.Continue q new spent' = Charges old spent new spent'
 TurnOf old spent turn.Look q new spent' = AsksNext old spent (question_path q) new spent'
 TurnOf old spent (turn.List kinds) q new spent' = AsksNext old spent (question_path q) new spent'
 TurnOf old spent (turn.Path p) q new spent' = Charges old spent (Give (Found (string_bytes p)) ∷ new) spent'
@@ -88,33 +86,9 @@ pub record TurnsTo {A : Type 0} (Fits : Content → Type 0) (n : ℕ) (old : Met
       → TurnOf (left c s) old.spent t (question_of s'.next) (left c s') new.spent
 
 -- the stack, with this to do first
-abbrev pub with_task : {A : Type 0} → String A → ℕ → Sight → Stack A → Stack A
-with_task path component sight s = record s { next = Some (record { path = path; component = component; sight = sight }) }
+abbrev pub with_task : {A : Type 0} → String A → ℕ → TaskState → Stack A → Stack A
+with_task path component state s = record s { next = Some (record { path = path; component = component; state = state }) }
 
 -- the content lists these entries at the path, with their kinds or as names alone
 abbrev pub AreListedAt : {A : Type 0} → Bool → Text → List (Entry A) → Content → Type 0
 AreListedAt kinds path es c = IsSomeContent c × IsEntriesAnswer kinds (list_result c path) (entries_of es)
-
--- the answer is one to what is asked for
-abbrev pub IsAnswer : {A : Type 0} → Option Question → Answer A → Type 0
-IsAnswer q answer.Nothing = q ≡ None
-IsAnswer q (answer.Look r) = IsLook q
-IsAnswer q (answer.List r) = IsList q
-
--- the content answers so
-abbrev pub IsAnswered : {A : Type 0} → Option Question → Answer A → Content → Type 0
-IsAnswered q answer.Nothing c = IsSomeContent c
-IsAnswered q (answer.Look r) c = IsSeenIn q r c
-IsAnswered q (answer.List r) c = IsListedIn q r c
-
--- what follows of an answer that failed, at this path
-abbrev pub IfFailed : {A : Type 0} → Answer A → (path : Text) → (Outcome → Type 0) → Type 0
-IfFailed answer.Nothing path P = ⊤
-IfFailed (answer.Look r) path P = IfErr r (λ _. P NoMemory)
-IfFailed (answer.List r) path P = IfErr r (λ e. P (list_error_outcome path e))
-
--- how many entries were answered
-abbrev pub answer_count : {A : Type 0} → Answer A → ℕ
-answer_count answer.Nothing = 0
-answer_count (answer.Look r) = 0
-answer_count (answer.List r) = entry_count r

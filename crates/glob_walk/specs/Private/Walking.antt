@@ -1,5 +1,5 @@
 -- What is true of a walk between two items.
-use Rattle.std.specs.Prelude.{◌≡◌, ℕ, ◌+◌, ◌≤◌, ◌<◌, ◌^◌, Bool, true, false, List, Option, Some, None, string_bytes}
+use Rattle.std.specs.Prelude.{◌≡◌, ℕ, ◌+◌, ◌≤◌, ◌<◌, ◌^◌, Bool, true, false, Option, Some, None, string_bytes}
 use Rattle.std.specs.IoError.{error_kind}
 use Rattle.glob_walk.specs.Marks.{Found, Unread}
 use Rattle.glob_walk.specs.Walks.{Outcome, Gives, LimitAt, NoMemory}
@@ -28,7 +28,7 @@ pub record IsGood {A : Type 0} (meter : Meter) (stack : Stack A) (given : ℕ) (
 
 -- what a turn says that ends the loop of turns
 abbrev pub turn_outcome : {A : Type 0} → Turn A → Option Outcome
-turn_outcome turn.Went = None
+turn_outcome turn.Continue = None
 turn_outcome turn.Look = None
 turn_outcome (turn.List kinds) = None
 turn_outcome (turn.Path p) = Some (Gives (Found (string_bytes p)))
@@ -38,7 +38,7 @@ turn_outcome turn.Memory = Some NoMemory
 turn_outcome turn.Done = None
 
 abbrev pub turn_saying : {A : Type 0} → Turn A → Saying
-turn_saying turn.Went = Ends
+turn_saying turn.Continue = Ends
 turn_saying turn.Look = AsksLook
 turn_saying (turn.List kinds) = AsksList kinds
 turn_saying (turn.Path p) = Says (Gives (Found (string_bytes p)))

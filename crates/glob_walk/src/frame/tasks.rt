@@ -12,9 +12,9 @@ ghost use Rattle.glob_walk.specs.Private.Frames.{first_part, first_marks, second
 use crate::component::Component;
 use crate::frame::Frame;
 use crate::plan::Plan;
-use crate::task::{Sight, Task, Wanted};
-use glob_pattern::MatchOptions;
-use glob_tree::{Entry, begins_with_dot, child, join};
+use crate::task::{Accepted, Task, TaskState};
+use glob_pattern::{MatchOptions, is_open};
+use glob_tree::{Entry, child, join};
 use std::alloc::{AllocError, Allocator};
 
 impl<A: Allocator + Copy> Frame<A> {
@@ -41,7 +41,7 @@ impl<A: Allocator + Copy> Frame<A> {
         Ok(Some(Task {
             path: join(plan.alloc, self.path.as_str(), name)?,
             component: self.component + 1,
-            sight: Sight::Unseen(Wanted::Any),
+            state: TaskState::Unseen(Accepted::Any),
         }))
     }
 
@@ -70,7 +70,7 @@ impl<A: Allocator + Copy> Frame<A> {
         Ok(Some(Task {
             path: child(plan.alloc, self.path.as_str(), name)?,
             component,
-            sight: Sight::Seen(entry.is_dir),
+            state: TaskState::Seen(entry.is_dir),
         }))
     }
 
@@ -99,7 +99,7 @@ impl<A: Allocator + Copy> Frame<A> {
         Ok(Some(Task {
             path: child(plan.alloc, self.path.as_str(), name)?,
             component: self.component,
-            sight: Sight::Seen(true),
+            state: TaskState::Seen(true),
         }))
     }
 }
@@ -145,9 +145,9 @@ fn match_at<A: Allocator + Copy>(
     }
 }
 
-/// Whether `**` enters an entry: a directory, and under the dot rule no dotted one.
+/// Whether `**` enters an entry: a directory whose name it may take.
 fn is_entered(options: MatchOptions, name: &str, is_dir: bool) -> bool
     ensures { result ≡ is_entered_entry options name.now is_dir }
 {
-    is_dir && !(options.require_literal_leading_dot && begins_with_dot(name))
+    is_dir && is_open(options, name)
 }

@@ -4,26 +4,26 @@ use Rattle.std.proofs.lemmas.Bool.{leb-false}
 use Rattle.std.proofs.lemmas.Result.{IfOk-weaker}
 use Rattle.glob_walk.specs.declared.plan.Plan.{Plan}
 use Rattle.glob_walk.specs.declared.task.Task.{Task}
-use Rattle.glob_walk.specs.declared.task.Sight.{Sight}
-use Rattle.glob_walk.specs.declared.task.Sight.TheVariants as sight
+use Rattle.glob_walk.specs.declared.task.TaskState.{TaskState}
+use Rattle.glob_walk.specs.declared.task.TaskState.TheVariants as state
 use Rattle.glob_walk.specs.declared.frame.Cursor.TheVariants.{At, Inside}
-use Rattle.glob_walk.specs.Private.Tasks.{next_marks, next_ready, sight_ready}
+use Rattle.glob_walk.specs.Private.Tasks.{next_marks, next_ready, state_ready}
 use Rattle.glob_walk.specs.Private.Frames.{cursor_steps, cursor_unmet, is_done_at}
 use Rattle.glob_walk.proofs.WalkLemmas.Stepping.{contained_at, at_step, inside_step}
 use Rattle.glob_walk.proofs.frame.Frame.step.Goals.{then-self, else-self}
 use Rattle.glob_walk.proofs.frame.Frame.step.Goals as goal
 
 -- a task is at most one item before the next unit
-one_ready : (last : Bool) (s : Sight) → sight_ready last s ≤ 1
-one_ready last (sight.Unseen w) = omega arith
-one_ready true (sight.Seen d) = omega arith
-one_ready false (sight.Seen d) = omega arith
-one_ready last (sight.Looking w) = omega arith
-one_ready last (sight.Listing recursive kinds) = omega arith
+one_ready : (last : Bool) (s : TaskState) → state_ready last s ≤ 1
+one_ready last (state.Unseen w) = omega arith
+one_ready true (state.Seen d) = omega arith
+one_ready false (state.Seen d) = omega arith
+one_ready last (state.Looking w) = omega arith
+one_ready last (state.Listing recursive kinds) = omega arith
 
 ready_one : {A : Type 0} (plan : Plan A) (next : Option (Task A)) → next_ready plan next ≤ 1
 ready_one plan None = omega arith
-ready_one plan (Some t) = one_ready (nat_le (length plan.components.items) t.component) t.sight
+ready_one plan (Some t) = one_ready (nat_le (length plan.components.items) t.component) t.state
 
 OnOk-from : {T E : Type 0} (r : Result T E) {P : Type 0} → P → OnOk r P
 OnOk-from (Ok x) p = p

@@ -1,6 +1,6 @@
 use Rattle.std.proofs.Common.{rules, refl, Some}
-use Rattle.glob_walk.specs.declared.task.Sight.TheVariants.{Unseen}
-use Rattle.glob_walk.specs.declared.task.Wanted.TheVariants.{Any}
+use Rattle.glob_walk.specs.declared.task.TaskState.TheVariants.{Unseen}
+use Rattle.glob_walk.specs.declared.task.Accepted.TheVariants.{Any}
 use Rattle.glob_walk.proofs.WalkLemmas.MachineSteps.{IsGood-fresh, sound-fresh, left-fresh}
 use Rattle.glob_walk.proofs.machine.WalkMachine.from_plan.Goals as goal
 
@@ -15,5 +15,5 @@ returns-clause-fresh g c = record {
   over = refl;
   asked = refl;
   agrees = λ c'. sound-fresh c' _ _ refl refl (search rules);
-  whole = λ c'. left-fresh c' (record { plan = c.args.plan; next = Some (record { path = c.args.start; component = 0; sight = Unseen Any }); frames = c.new-frames.result }) (record { path = c.args.start; component = 0; sight = Unseen Any }) refl refl refl (search rules) c.requires.start;
+  whole = λ c'. left-fresh c' (record { plan = c.args.plan; next = Some (record { path = c.args.start; component = 0; state = Unseen Any }); frames = c.new-frames.result }) (record { path = c.args.start; component = 0; state = Unseen Any }) refl refl refl (search rules) c.requires.start;
 }

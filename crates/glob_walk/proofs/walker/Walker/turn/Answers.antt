@@ -2,29 +2,29 @@ use Rattle.std.proofs.Common.{rules, refl, ◌≡◌, ◌++◌, None, Some, ap, 
 use Rattle.glob_walk.specs.Questions.{IsSomeContent}
 use Rattle.glob_walk.specs.declared.meter.Meter.{Meter}
 use Rattle.glob_walk.specs.declared.stack.Stack.{Stack}
-use Rattle.glob_walk.specs.declared.task.Sight.{Sight}
-use Rattle.glob_walk.specs.declared.task.Sight.TheVariants.{Seen, Unseen}
+use Rattle.glob_walk.specs.declared.task.TaskState.{TaskState}
+use Rattle.glob_walk.specs.declared.task.TaskState.TheVariants.{Seen, Unseen}
 use Rattle.glob_walk.specs.declared.task.Task.{Task}
 use Rattle.glob_walk.specs.declared.turn.Turn.{Turn}
 use Rattle.glob_walk.specs.Private.Tasks.{next_marks, IsNextSound}
-use Rattle.glob_walk.specs.Private.Stacks.{frames_marks, next_weight, sight_weight}
+use Rattle.glob_walk.specs.Private.Stacks.{frames_marks, next_weight, state_weight}
 use Rattle.glob_walk.specs.Private.Turns.{TurnsTo, with_task}
 use Rattle.glob_walk.proofs.WalkLemmas.Charging.{breaks_off, uncharged}
 use Rattle.glob_walk.proofs.walker.Walker.turn.Goals as goal
 
 -- the turn of a task that was taken off is one of the stack
-takes_task : {A : Type 0} (old new : Meter) (s s' : Stack A) (t : Task A) (x : Sight) (turn : Turn A) → s.next ≡ Some t → t.sight ≡ x
+takes_task : {A : Type 0} (old new : Meter) (s s' : Stack A) (t : Task A) (x : TaskState) (turn : Turn A) → s.next ≡ Some t → t.state ≡ x
     → TurnsTo IsSomeContent 0 old (with_task t.path t.component x s) turn new s' → TurnsTo IsSomeContent 0 old s turn new s'
 takes_task {A} old new s s' t x turn next is h =
     let same : with_task t.path t.component x s ≡ s =
     ap (λ y. with_task t.path t.component y s) (sym is) ∙ ap (λ n. record { plan = s.plan; next = n; frames = s.frames }) (sym next) in
     subst (λ (z : Stack A). TurnsTo IsSomeContent 0 old z turn new s') same h
 
-pub go_on-requires-clause-none : goal.go_on-requires-clause-none
-go_on-requires-clause-none g c = c.take.ensures.after
+pub step-requires-clause-none : goal.step-requires-clause-none
+step-requires-clause-none g c = c.take.ensures.after
 
-pub go_on-requires-clause-within : goal.go_on-requires-clause-within
-go_on-requires-clause-within g c = record { components = c.requires.within.components; going = c.requires.within.going }
+pub step-requires-clause-within : goal.step-requires-clause-within
+step-requires-clause-within g c = record { components = c.requires.within.components; going = c.requires.within.going }
 
 pub look-requires-clause-limit : goal.look-requires-clause-limit
 look-requires-clause-limit g c = c.requires.limit
@@ -55,13 +55,13 @@ returns-in-Unseen-clause-idle g c = λ none _. let next : c.args.self.now.stack.
 
 pub returns-in-Unseen-clause-turn : goal.returns-in-Unseen-clause-turn
 returns-in-Unseen-clause-turn g c =
-    takes_task c.args.self.now.meter c.look.new.self.meter c.args.self.now.stack c.look.new.self.stack c.in-Some.task (Unseen c.in-Unseen.wanted)
+    takes_task c.args.self.now.meter c.look.new.self.meter c.args.self.now.stack c.look.new.self.stack c.in-Some.task (Unseen c.in-Unseen.accepted)
     c.look.result (sym c.take.ensures.value ∙ c.in-Some.is) c.in-Unseen.is c.look.ensures.turn
 
 pub returns-in-Seen-clause-falls : goal.returns-in-Seen-clause-falls
 returns-in-Seen-clause-falls g c = λ went.
     let two : next_weight c.args.self.now.stack.next ≡ 2 =
-    ap next_weight (sym c.take.ensures.value ∙ c.in-Some.is) ∙ ap sight_weight c.in-Seen.is in
+    ap next_weight (sym c.take.ensures.value ∙ c.in-Some.is) ∙ ap state_weight c.in-Seen.is in
     omega (arith, c.enter.ensures.falls went, ap next_weight c.take.ensures.after, two)
 
 pub returns-in-Seen-clause-idle : goal.returns-in-Seen-clause-idle
@@ -79,7 +79,7 @@ returns-in-Ok-true-clause-turn g c =
       limit = refl;
       fits = c.requires.limit;
       counts = omega arith;
-      plan = c.go_on.ensures.plan;
+      plan = c.step.ensures.plan;
       within = c.in-Ok-true.ensures.within;
       asks = c.in-Ok-true.ensures.free;
       ready = search rules;
@@ -96,7 +96,7 @@ returns-in-Ok-false-clause-turn g c =
       limit = refl;
       fits = c.requires.limit;
       counts = omega arith;
-      plan = c.go_on.ensures.plan;
+      plan = c.step.ensures.plan;
       within = c.in-Ok-false.ensures.within;
       asks = c.in-Ok-false.ensures.free;
       ready = search rules;
@@ -114,7 +114,7 @@ returns-in-Err-clause-turn g c = record {
   limit = refl;
   fits = c.requires.limit;
   counts = omega arith;
-  plan = c.go_on.ensures.plan;
+  plan = c.step.ensures.plan;
   within = tt;
   asks = tt;
   ready = tt;

@@ -1,5 +1,0 @@
-use Rattle.glob_pattern.proofs.GrammarLemmas.Accepted.{no_fault}
-use Rattle.glob_laws.proofs.patterns.accepted_has_no_fault.Goals as goal
-
-pub returns : goal.returns
-returns c = no_fault

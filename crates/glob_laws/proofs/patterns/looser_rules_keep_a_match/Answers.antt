@@ -1,8 +1,0 @@
-use Rattle.glob_laws.proofs.MatchLemmas.Loosening.{tokens_loosened, patterns_loosened}
-use Rattle.glob_laws.proofs.patterns.looser_rules_keep_a_match.Goals as goal
-
-pub returns-clause-tokens : goal.returns-clause-tokens
-returns-clause-tokens c = tokens_loosened
-
-pub returns-clause-patterns : goal.returns-clause-patterns
-returns-clause-patterns c = patterns_loosened

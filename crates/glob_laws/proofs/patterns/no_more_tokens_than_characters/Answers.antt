@@ -1,5 +1,0 @@
-use Rattle.glob_pattern.proofs.GrammarLemmas.Accepted.{length-HasTokens}
-use Rattle.glob_laws.proofs.patterns.no_more_tokens_than_characters.Goals as goal
-
-pub returns : goal.returns
-returns c = length-HasTokens

@@ -1,5 +1,0 @@
-use Rattle.glob_pattern.proofs.GrammarLemmas.Accepted.{reading_of-Ok}
-use Rattle.glob_laws.proofs.patterns.reading_answers_tokens.Goals as goal
-
-pub returns : goal.returns
-returns c = reading_of-Ok

@@ -1,5 +1,0 @@
-use Rattle.glob_laws.proofs.ComponentLemmas.SeparatorRule.{separator_rule_free}
-use Rattle.glob_laws.proofs.patterns.separator_rule_spares_names.Goals as goal
-
-pub returns : goal.returns
-returns c = separator_rule_free

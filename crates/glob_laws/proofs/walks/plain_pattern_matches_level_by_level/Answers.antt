@@ -1,5 +1,0 @@
-use Rattle.glob_laws.proofs.GoalLemmas.GoalNames.{plain_matches_levels}
-use Rattle.glob_laws.proofs.walks.plain_pattern_matches_level_by_level.Goals as goal
-
-pub returns : goal.returns
-returns c = plain_matches_levels

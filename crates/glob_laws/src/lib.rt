@@ -1,7 +1,0 @@
-//! Laws of the definitions that contracts name, of patterns and of walks, with worked examples. Each is the contract of a
-//! function that does nothing. No program needs them.
-#![tactic(auto)]
-
-pub mod calls;
-pub mod patterns;
-pub mod walks;

@@ -1,0 +1,79 @@
+-- What a caller's proof needs of the words of a whole walk, which its goals show closed.
+use Rattle.std.proofs.Common.{◌≡◌, ℕ, ◌+◌, ◌<◌, ◌≤◌, List, Option, Result, IsTrue}
+use Rattle.std.specs.declared.path.buf.PathBuf.{PathBuf}
+use Rattle.glob_text.specs.Text.{Text}
+use Rattle.glob_tree.specs.Content.{Content}
+use Rattle.glob_tree.specs.Answers.{IsTold}
+use Rattle.glob_pattern.specs.declared.options.MatchOptions.{MatchOptions}
+use Rattle.glob_walk.specs.Goal.{is_plain, is_readable, ReachesGoal, GivesGoal}
+use Rattle.glob_walk.specs.Marks.{Mark, Item, items, cost, front, paths, IsBeginning}
+use Rattle.glob_walk.specs.Order.{IsOrderly}
+use Rattle.glob_walk.specs.WalkGoals.{Answers, given_items, WalksPlainly, FindsGoal, FindsExactly, FindsInOrder}
+use Rattle.glob_walk.specs.Walks.{AreItems, IsCutShort, HasNoRefusal, IsWalk, IsWalkAsked}
+use Rattle.glob_walk.specs.declared.error.GlobError.{GlobError}
+use Rattle.glob_walk.specs.declared.ending.End.{End}
+use Rattle.glob_walk.specs.declared.ending.End.TheVariants.{Done, Limit, Memory}
+
+-- A walk is plain if the content is known, the pattern is plain, and the options keep case.
+pub walks_plainly : (told : Option Content) (c : Content) (o : MatchOptions) (pattern : Text) → IsTold told c → IsTrue (is_plain pattern) → IsTrue o.case_sensitive → WalksPlainly told c o pattern
+unfolding WalksPlainly
+walks_plainly told c o pattern is plain case = (is, plain, case)
+
+-- So it is, only if.
+pub facts_of_plain_walk : (told : Option Content) (c : Content) (o : MatchOptions) (pattern : Text) → WalksPlainly told c o pattern → IsTold told c × IsTrue (is_plain pattern) × IsTrue o.case_sensitive
+unfolding WalksPlainly
+facts_of_plain_walk told c o pattern plain = plain
+
+module _ {A : Type 0} (told : Option Content) (o : MatchOptions) (pattern : Text) (end : End) (answers : Answers A) where
+  -- Each path is a goal, and where the walk is done each goal is a path or hidden.
+  pub found_goal : FindsGoal told o pattern end answers → (c : Content) → WalksPlainly told c o pattern → ReachesGoal c o pattern (end ≡ Done) (given_items answers)
+  unfolding FindsGoal
+  found_goal finds = finds
+
+  -- Over a readable content the paths are exactly the goal.
+  pub found_exactly : FindsExactly told o pattern end answers → (c : Content) → WalksPlainly told c o pattern → IsTrue (is_readable c pattern) → end ≡ Done → GivesGoal c o pattern (given_items answers)
+  unfolding FindsExactly
+  found_exactly finds = finds
+
+  -- The paths come once and in order, as far as the runs of `**` allow.
+  pub found_in_order : FindsInOrder told o pattern answers → (c : Content) → WalksPlainly told c o pattern → IsOrderly pattern (paths (given_items answers))
+  unfolding FindsInOrder
+  found_in_order finds = finds
+
+module _ {A : Type 0} (answers : List (Result (PathBuf A) (GlobError A))) where
+  -- Answers without a refusal are items.
+  pub items_of_answers : HasNoRefusal answers → (is : List Item) × AreItems answers is
+  unfolding HasNoRefusal
+  items_of_answers has = has
+
+  module _ (ms : List Mark) (limit spent : ℕ) where
+    -- A walk that is done has all items of the listing, at its cost.
+    pub done_walk : IsWalk ms limit Done spent answers → (cost ms ≤ limit) × (spent ≡ cost ms) × AreItems answers (items ms)
+    unfolding IsWalk
+    done_walk walk = walk
+
+    -- A walk that ended at its limit has the items before the unit that does not fit.
+    pub limited_walk : IsWalk ms limit Limit spent answers → (limit < cost ms) × (spent ≡ limit) × AreItems answers (items (front limit ms))
+    unfolding IsWalk
+    limited_walk walk = walk
+
+    -- A walk that ran out of memory has a beginning of the items.
+    pub stopped_walk : IsWalk ms limit Memory spent answers → (is : List Item) × AreItems answers is × IsBeginning is (items ms) × IsCutShort ms spent is
+    unfolding IsWalk
+    stopped_walk walk = walk
+
+module _ (limit asks spent asks' : ℕ) where
+  -- A walk that is done asked what it charged.
+  pub asked_by_done_walk : IsWalkAsked limit asks Done spent asks' → asks' ≡ asks + spent
+  unfolding IsWalkAsked
+  asked_by_done_walk asked = asked
+
+  -- A walk that ended at its limit spent it, and asked at least that.
+  pub asked_by_limited_walk : IsWalkAsked limit asks Limit spent asks' → (spent ≡ limit) × (asks + spent ≤ asks')
+  unfolding IsWalkAsked
+  asked_by_limited_walk asked = asked
+
+  -- A walk that ran out of memory asked what it charged.
+  pub asked_by_stopped_walk : IsWalkAsked limit asks Memory spent asks' → asks' ≡ asks + spent
+  unfolding IsWalkAsked
+  asked_by_stopped_walk asked = asked

@@ -1,0 +1,53 @@
+-- What the laws of a plain walk say of the items that a walk gave: the clauses of a whole walk.
+use Rattle.std.proofs.Common.{◌≡◌, ℕ, true, List, [], ◌∷◌, ◌++◌, map, refl, sym, ap, ap₂, subst, ◌∙◌}
+use Rattle.std.specs.Prelude.{IsTrue, Option}
+use Rattle.std.specs.Str.{IsUtf8}
+use Rattle.std.proofs.lemmas.List.{append-nil}
+use Rattle.glob_text.specs.Text.{Text}
+use Rattle.glob_tree.specs.Content.{Content}
+use Rattle.glob_tree.specs.Answers.{IsTold}
+use Rattle.glob_walk.specs.Marks.{Item, items, front, paths, IsBeginning}
+use Rattle.glob_walk.specs.Listing.{listing}
+use Rattle.glob_walk.specs.Goal.{is_plain, is_readable, IsPlainWalk, ReachesGoal, GivesGoal}
+use Rattle.glob_walk.specs.Order.{IsOrderly}
+use Rattle.glob_pattern.specs.declared.options.MatchOptions.{MatchOptions}
+use Rattle.glob_walk.proofs.ListingLemmas.Marks.{IsBeginning-front}
+use Rattle.glob_walk.proofs.GoalLemmas.ReachedGoals.{plain_walk_reaches, plain_walk_gives}
+use Rattle.glob_walk.proofs.GoalLemmas.OnceInOrder.{plain_walk_orderly}
+
+-- the premises of a plain walk, over a tree with a known content
+pub plain_walk : (told : Option Content) (c : Content) (o : MatchOptions) (pattern : Text) → IsTold told c → IsUtf8 pattern → IsTrue (is_plain pattern) → IsTrue o.case_sensitive → IsPlainWalk c o pattern
+plain_walk told c o pattern tells utf8 plain case = record { content = tells.1; text = utf8; plain = plain; case = case }
+
+-- all the items are a beginning of them, and so are those within a limit
+pub IsBeginning-whole : (given all : List Item) → given ≡ all → IsBeginning given all
+IsBeginning-whole given all whole = ([], sym (append-nil all) ∙ ap (λ is. is ++ []) (sym whole))
+
+pub IsBeginning-within : (c : Content) (o : MatchOptions) (pattern : Text) (limit : ℕ) (given : List Item) → given ≡ items (front limit (listing c o pattern))
+    → IsBeginning given (items (listing c o pattern))
+IsBeginning-within c o pattern limit given within =
+    subst (λ is. IsBeginning is (items (listing c o pattern))) (sym within) (IsBeginning-front limit (listing c o pattern))
+
+-- answers that say the same say the same items, where different items are said differently
+pub same_items : {Said : Type 0} (saying : Item → Said) → ((i j : Item) → saying i ≡ saying j → i ≡ j)
+    → (is js : List Item) → map saying is ≡ map saying js → is ≡ js
+same_items saying only [] [] e = refl
+same_items saying only [] (j ∷ js) e = absurd (cc)
+same_items saying only (i ∷ is) [] e = absurd (cc)
+same_items saying only (i ∷ is) (j ∷ js) e =
+    let first : saying i ≡ saying j = cc in
+    let rest : map saying is ≡ map saying js = cc in
+    ap₂ (λ x xs. x ∷ xs) (only i j first) (same_items saying only is js rest)
+
+module _ (c : Content) (o : MatchOptions) (pattern : Text) (p : IsPlainWalk c o pattern) (given : List Item) where
+  -- whatever the end, each path is a goal; and with all the items each goal is a path or hidden
+  pub reaches_goal : (IsDone : Type 0) → IsBeginning given (items (listing c o pattern)) → (IsDone → given ≡ items (listing c o pattern)) → ReachesGoal c o pattern IsDone given
+  reaches_goal IsDone begins done = plain_walk_reaches c o pattern p given begins IsDone done
+
+  -- with all the items, over a readable content, no item is an error, and a text is a path exactly if it is a goal
+  pub gives_goal : is_readable c pattern ≡ true → given ≡ items (listing c o pattern) → GivesGoal c o pattern given
+  gives_goal readable whole = subst (GivesGoal c o pattern) (sym whole) (plain_walk_gives c o pattern p readable)
+
+  -- the paths come once and in order
+  pub comes_in_order : IsBeginning given (items (listing c o pattern)) → IsOrderly pattern (paths given)
+  comes_in_order begins = plain_walk_orderly c o pattern p given begins

@@ -1,0 +1,5 @@
+use Rattle.glob_pattern.proofs.GrammarLemmas.Accepted.{reading_of-Err}
+use Rattle.glob_walk.proofs.laws.patterns.reading_answers_fault.Goals as goal
+
+pub returns : goal.returns
+returns c = reading_of-Err

@@ -1,0 +1,122 @@
+use Rattle.std.proofs.Common.{◌≡◌, ℕ, ◌+◌, ◌-◌, ◌<◌, ◌≤◌, true, false, List, length, get_or, set, take, Option, None, Some, refl, sym, ap, ◌∙◌, ◌++◌, subst, arith}
+use Rattle.std.specs.Prelude.{vec_len, sum_by}
+use Rattle.std.specs.List.{All}
+use Rattle.std.proofs.lemmas.List.Elements.{All-get_or, All-set}
+use Rattle.std.proofs.lemmas.List.Sums.{sum_by-set, sum_by-take-le}
+use Rattle.glob_walk.specs.declared.task.Task.{Task}
+use Rattle.glob_walk.specs.declared.task.TaskState.{TaskState}
+use Rattle.glob_walk.specs.declared.task.TaskState.TheVariants as state
+use Rattle.glob_walk.specs.Private.Tasks.{next_marks}
+use Rattle.glob_walk.specs.Private.Frames.{is_done, unmet, IsFrameSound}
+use Rattle.glob_walk.specs.Private.Stacks.{frames_marks, state_weight, next_weight, frame_weight}
+use Rattle.glob_walk.proofs.WalkLemmas.Stacking.{step_left, last_step_left, All-front}
+use Rattle.glob_walk.proofs.stack.Stack.step.Goals as goal
+
+state-light : (s : TaskState) → state_weight s ≤ 2
+state-light (state.Unseen w) = omega arith
+state-light (state.Seen d) = omega arith
+state-light (state.Looking w) = omega arith
+state-light (state.Listing recursive kinds) = omega arith
+
+next-light : {A : Type 0} (next : Option (Task A)) → next_weight next ≤ 2
+next-light None = omega arith
+next-light (Some t) = state-light t.state
+
+-- one of a list is replaced by another
+sum-at : {X : Type 0} (f : X → ℕ) (xs : List X) (n : ℕ) (x y : X) → n + 1 ≡ length xs → x ≡ get_or xs n x → sum_by f (set xs n y) + f x ≡ sum_by f xs + f y
+sum-at f xs n x y h is = ap (λ z. sum_by f (set xs n y) + f z) is ∙ sum_by-set f xs n y x (omega (arith, h))
+
+-- and dropped
+sum-front : {X : Type 0} (f : X → ℕ) (xs ys : List X) (n : ℕ) (x y : X) → n + 1 ≡ length xs → x ≡ get_or xs n x → ys ≡ take n (set xs n y) → sum_by f ys + f x ≤ sum_by f xs + f y
+sum-front f xs ys n x y h is popped = omega (arith, ap (sum_by f) popped, sum_by-take-le f (set xs n y) n, sum-at f xs n x y h is)
+
+-- what holds of all holds of the last
+last-holds : {X : Type 0} (P : X → Type 0) (xs : List X) (n : ℕ) (x : X) → n + 1 ≡ length xs → x ≡ get_or xs n x → All P xs → P x
+last-holds P xs n x h is all = subst P (sym is) (All-get_or P xs n x (omega (arith, h)) all)
+
+pub returns-else-is_done-clause-left : goal.returns-else-is_done-clause-left
+returns-else-is_done-clause-left g c = λ c'.
+    ap (λ n. next_marks c' c.args.self.now.plan n ++ frames_marks c' c.args.self.now.plan c.args.self.now.frames.items) c.requires.none
+    ∙ step_left c' c.args.self.now.plan c.args.self.now.frames.items (vec_len c.args.self.now.frames - 1) c.in-Some.frame.now c.step.new.self (next_marks c' c.args.self.now.plan c.in_ok-self.field-0)
+    (omega (arith, c.in-Some.ensures.variant.0 refl, c.args.self.now.frames.ok.0)) c.in-Some.ensures.value (c.in_ok-self.ensures.marks c')
+
+pub returns-then-is_done-clause-left : goal.returns-then-is_done-clause-left
+returns-then-is_done-clause-left g c = λ c'.
+    let done : is_done c.step.new.self ≡ true = sym c.is_done.ensures ∙ c.if-is_done.true in
+    ap (λ n. next_marks c' c.args.self.now.plan n ++ frames_marks c' c.args.self.now.plan c.args.self.now.frames.items) c.requires.none
+    ∙ last_step_left c' c.args.self.now.plan c.args.self.now.frames.items c.pop.new.self.items (vec_len c.args.self.now.frames - 1) c.in-Some.frame.now c.step.new.self (next_marks c' c.args.self.now.plan c.in_ok-self.field-0)
+    (omega (arith, c.in-Some.ensures.variant.0 refl, c.args.self.now.frames.ok.0)) c.in-Some.ensures.value (c.in_ok-self.ensures.marks c') done c.pop.ensures.rest
+
+pub returns-then-is_done-clause-within : goal.returns-then-is_done-clause-within
+returns-then-is_done-clause-within g c =
+    let n = vec_len c.args.self.now.frames - 1 in
+    record {
+      components = All-front (λ f. f.component < length c.args.self.now.plan.components.items) c.args.self.now.frames.items c.pop.new.self.items n c.step.new.self (omega (arith, c.in-Some.ensures.variant.0 refl, c.args.self.now.frames.ok.0)) c.pop.ensures.rest c.requires.within.components;
+      going = All-front (λ f. is_done f ≡ false) c.args.self.now.frames.items c.pop.new.self.items n c.step.new.self (omega (arith, c.in-Some.ensures.variant.0 refl, c.args.self.now.frames.ok.0)) c.pop.ensures.rest c.requires.within.going;
+    }
+
+pub returns-then-is_done-clause-sound : goal.returns-then-is_done-clause-sound
+returns-then-is_done-clause-sound g c = λ c' h.
+    let frame : IsFrameSound c' c.in-Some.frame.now =
+    last-holds (IsFrameSound c') c.args.self.now.frames.items (vec_len c.args.self.now.frames - 1) c.in-Some.frame.now (omega (arith, c.in-Some.ensures.variant.0 refl, c.args.self.now.frames.ok.0)) c.in-Some.ensures.value h.frames in
+    record {
+      next = c.in_ok-self.ensures.sound c' frame;
+      frames = All-front (IsFrameSound c') c.args.self.now.frames.items c.pop.new.self.items (vec_len c.args.self.now.frames - 1) c.step.new.self (omega (arith, c.in-Some.ensures.variant.0 refl, c.args.self.now.frames.ok.0)) c.pop.ensures.rest h.frames;
+    }
+
+pub returns-else-is_done-clause-falls : goal.returns-else-is_done-clause-falls
+returns-else-is_done-clause-falls g c = λ _.
+    let n = vec_len c.args.self.now.frames - 1 in
+    let sums = sum-at frame_weight c.args.self.now.frames.items n c.in-Some.frame.now c.step.new.self (omega (arith, c.in-Some.ensures.variant.0 refl, c.args.self.now.frames.ok.0)) c.in-Some.ensures.value in
+    omega (arith, sums, next-light c.in_ok-self.field-0, c.in_ok-self.ensures.falls)
+
+pub returns-else-is_done-clause-ready : goal.returns-else-is_done-clause-ready
+returns-else-is_done-clause-ready g c =
+    let n = vec_len c.args.self.now.frames - 1 in
+    let sums = sum-at unmet c.args.self.now.frames.items n c.in-Some.frame.now c.step.new.self (omega (arith, c.in-Some.ensures.variant.0 refl, c.args.self.now.frames.ok.0)) c.in-Some.ensures.value in
+    omega (arith, sums, c.in_ok-self.ensures.ready)
+
+pub returns-then-is_done-clause-falls : goal.returns-then-is_done-clause-falls
+returns-then-is_done-clause-falls g c = λ _.
+    let n = vec_len c.args.self.now.frames - 1 in
+    let sums = sum-front frame_weight c.args.self.now.frames.items c.pop.new.self.items n c.in-Some.frame.now c.step.new.self (omega (arith, c.in-Some.ensures.variant.0 refl, c.args.self.now.frames.ok.0)) c.in-Some.ensures.value c.pop.ensures.rest in
+    omega (arith, sums, next-light c.in_ok-self.field-0, c.in_ok-self.ensures.falls)
+
+pub returns-then-is_done-clause-ready : goal.returns-then-is_done-clause-ready
+returns-then-is_done-clause-ready g c =
+    let n = vec_len c.args.self.now.frames - 1 in
+    let sums = sum-front unmet c.args.self.now.frames.items c.pop.new.self.items n c.in-Some.frame.now c.step.new.self (omega (arith, c.in-Some.ensures.variant.0 refl, c.args.self.now.frames.ok.0)) c.in-Some.ensures.value c.pop.ensures.rest in
+    omega (arith, sums, c.in_ok-self.ensures.ready)
+
+pub step-requires-clause-going : goal.step-requires-clause-going
+step-requires-clause-going g c =
+    last-holds (λ f. is_done f ≡ false) c.args.self.now.frames.items (vec_len c.args.self.now.frames - 1) c.in-Some.frame.now
+    (omega (arith, c.in-Some.ensures.variant.0 refl, c.args.self.now.frames.ok.0)) c.in-Some.ensures.value c.requires.within.going
+
+pub step-requires-clause-within : goal.step-requires-clause-within
+step-requires-clause-within g c =
+    let below = last-holds (λ f. f.component < length c.args.self.now.plan.components.items) c.args.self.now.frames.items (vec_len c.args.self.now.frames - 1) c.in-Some.frame.now
+    (omega (arith, c.in-Some.ensures.variant.0 refl, c.args.self.now.frames.ok.0)) c.in-Some.ensures.value c.requires.within.components in
+    omega (arith, below, c.args.self.now.plan.components.ok.0)
+
+pub returns-else-is_done-clause-within : goal.returns-else-is_done-clause-within
+returns-else-is_done-clause-within g c =
+    let n = vec_len c.args.self.now.frames - 1 in
+    let going : is_done c.step.new.self ≡ false = sym c.is_done.ensures ∙ c.if-is_done.false in
+    let frame = last-holds (λ f. f.component < length c.args.self.now.plan.components.items) c.args.self.now.frames.items n c.in-Some.frame.now
+    (omega (arith, c.in-Some.ensures.variant.0 refl, c.args.self.now.frames.ok.0)) c.in-Some.ensures.value c.requires.within.components in
+    let component = subst (λ f. f.component < length c.args.self.now.plan.components.items) (sym c.in_ok-self.ensures.same) frame in
+    record {
+      components = All-set (λ f. f.component < length c.args.self.now.plan.components.items) c.args.self.now.frames.items n c.step.new.self component c.requires.within.components;
+      going = All-set (λ f. is_done f ≡ false) c.args.self.now.frames.items n c.step.new.self going c.requires.within.going;
+    }
+
+pub returns-else-is_done-clause-sound : goal.returns-else-is_done-clause-sound
+returns-else-is_done-clause-sound g c = λ c' h.
+    let n = vec_len c.args.self.now.frames - 1 in
+    let frame : IsFrameSound c' c.in-Some.frame.now =
+    last-holds (IsFrameSound c') c.args.self.now.frames.items n c.in-Some.frame.now (omega (arith, c.in-Some.ensures.variant.0 refl, c.args.self.now.frames.ok.0)) c.in-Some.ensures.value h.frames in
+    record {
+      next = c.in_ok-self.ensures.sound c' frame;
+      frames = All-set (IsFrameSound c') c.args.self.now.frames.items n c.step.new.self (subst (IsFrameSound c') (sym c.in_ok-self.ensures.same) (record { entries = frame.entries })) h.frames;
+    }

@@ -1,0 +1,61 @@
+-- Laws of walks, as statements.
+use Rattle.std.specs.Prelude.{◌≡◌, ℕ, ◌≤◌, List, ◌∷◌, Some, IsTrue, ◌&&◌, Bool, IsPermutation, AllPairs}
+use Rattle.std.specs.Str.{IsUtf8, is_utf8}
+use Rattle.std.specs.List.{list_all}
+use Rattle.glob_text.specs.Text.{Text}
+use Rattle.glob_tree.specs.Paths.{is_proper}
+use Rattle.glob_tree.specs.Content.{Content, Key, DirEntry, is_content, is_dir_at, is_before, resolve, sorted_entries}
+use Rattle.glob_walk.specs.Components.{components, matches_name}
+use Rattle.glob_walk.specs.Marks.{Mark, Item, items, paths, IsBeginning}
+use Rattle.glob_walk.specs.Listing.{descent, levels, listing}
+use Rattle.glob_walk.specs.Goal.{is_plain, matches_undivided, text_below, is_readable, IsPlainWalk, ReachesGoal, GivesGoal}
+use Rattle.glob_walk.specs.Order.{IsOrderly}
+use Rattle.glob_pattern.specs.declared.options.MatchOptions.{MatchOptions}
+use Rattle.glob_pattern.specs.Matching.Components.{takes_names}
+
+-- names as the keys of a content have them
+abbrev pub are_names : List Text → Bool
+are_names names = list_all (λ name. is_utf8 name && is_proper name) names
+
+-- Case-sensitively, a plain pattern without a separator at its end matches the text of names below the start, under the
+-- separator rule, exactly where its components take the names.
+abbrev pub PlainMatchesLevels : Type 0
+PlainMatchesLevels =
+    (o : MatchOptions) (pattern : Text) → IsUtf8 pattern → IsTrue (is_plain pattern) → IsTrue o.case_sensitive
+    → (n : Text) (ns : List Text) → IsTrue (are_names (n ∷ ns))
+    → matches_undivided o pattern (text_below pattern (n ∷ ns)) ≡ takes_names o (matches_name o) (components pattern) (n ∷ ns)
+
+-- of a plain walk, each path among a beginning of the items is a goal, and all the items reach the goal
+abbrev pub PlainWalkReaches : Type 0
+PlainWalkReaches =
+    (c : Content) (o : MatchOptions) (pattern : Text) → IsPlainWalk c o pattern
+    → (given : List Item) → IsBeginning given (items (listing c o pattern))
+    → ReachesGoal c o pattern (given ≡ items (listing c o pattern)) given
+
+-- over a readable content the items of a plain walk are exactly the goal
+abbrev pub PlainWalkGives : Type 0
+PlainWalkGives =
+    (c : Content) (o : MatchOptions) (pattern : Text) → IsPlainWalk c o pattern → IsTrue (is_readable c pattern)
+    → GivesGoal c o pattern (items (listing c o pattern))
+
+-- a plain walk gives its paths once and in order, as far as each `**` allows
+abbrev pub PlainWalkOrderly : Type 0
+PlainWalkOrderly =
+    (c : Content) (o : MatchOptions) (pattern : Text) → IsPlainWalk c o pattern
+    → (given : List Item) → IsBeginning given (items (listing c o pattern)) → IsOrderly pattern (paths given)
+
+-- as many levels as `levels` or more give the same marks of a descent below a directory
+abbrev pub EnoughLevelsAgree : Type 0
+EnoughLevelsAgree =
+    (c : Content) (o : MatchOptions) (each : Text → Text → Bool → List Mark) (path : Text) (k : Key)
+    → IsTrue (is_content c) → resolve c path ≡ Some k → IsTrue (is_dir_at c k)
+    → (n m : ℕ) → levels c ≤ n → levels c ≤ m → descent c o each n path ≡ descent c o each m path
+
+-- the order in which the listing has entries is one of them all, and each name is at most those after it
+pub record IsAscendingOrder (entries sorted : List DirEntry) : Type 0 where
+  pub same : IsPermutation entries sorted
+  pub rising : AllPairs (λ e later. IsTrue (is_before e later)) sorted
+
+-- entries are put in ascending byte order of names, and none is lost or added
+abbrev pub EntriesAscend : Type 0
+EntriesAscend = (entries : List DirEntry) → IsAscendingOrder entries (sorted_entries entries)

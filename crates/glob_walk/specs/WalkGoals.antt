@@ -1,0 +1,47 @@
+-- What a whole walk of a plain pattern finds.
+use Rattle.std.specs.Prelude.{◌≡◌, List, map, filter_map, Option, Some, None, Result, IsTrue}
+use Rattle.std.specs.declared.path.buf.PathBuf.{PathBuf}
+use Rattle.glob_text.specs.Text.{Text}
+use Rattle.glob_tree.specs.Content.{Content}
+use Rattle.glob_tree.specs.Answers.{IsTold}
+use Rattle.glob_pattern.specs.declared.options.MatchOptions.{MatchOptions}
+use Rattle.glob_walk.specs.Goal.{is_plain, is_readable, ReachesGoal, GivesGoal}
+use Rattle.glob_walk.specs.Marks.{Item, paths}
+use Rattle.glob_walk.specs.Order.{IsOrderly}
+use Rattle.glob_walk.specs.Walks.{Outcome, Gives, LimitAt, NoMemory, outcome}
+use Rattle.glob_walk.specs.declared.error.GlobError.{GlobError}
+use Rattle.glob_walk.specs.declared.ending.End.{End}
+use Rattle.glob_walk.specs.declared.ending.End.TheVariants.{Done}
+
+-- what `walk_in` puts into `items`
+abbrev pub Answers : (A : Type 0) → Type 0
+Answers A = List (Result (PathBuf A) (GlobError A))
+
+abbrev pub item_of : Outcome → Option Item
+item_of (Gives item) = Some item
+item_of (LimitAt path) = None
+item_of NoMemory = None
+
+-- the items that they say
+abbrev pub given_items : {A : Type 0} → Answers A → List Item
+given_items answers = filter_map item_of (map outcome answers)
+
+-- c is the known content of the tree, the pattern is plain, and the options keep case
+unfoldable pub WalksPlainly : (told : Option Content) → Content → MatchOptions → (pattern : Text) → Type 0
+WalksPlainly told c o pattern = IsTold told c × IsTrue (is_plain pattern) × IsTrue o.case_sensitive
+
+-- each path is a goal, and where the walk is done each goal is a path or hidden
+unfoldable pub FindsGoal : {A : Type 0} → (told : Option Content) → MatchOptions → (pattern : Text) → End → Answers A → Type 0
+FindsGoal told o pattern end answers =
+    (c : Content) → WalksPlainly told c o pattern → ReachesGoal c o pattern (end ≡ Done) (given_items answers)
+
+-- where the walk is done over a readable content, no item is an error, and the paths are exactly the goal
+unfoldable pub FindsExactly : {A : Type 0} → (told : Option Content) → MatchOptions → (pattern : Text) → End → Answers A → Type 0
+FindsExactly told o pattern end answers =
+    (c : Content) → WalksPlainly told c o pattern → IsTrue (is_readable c pattern) → end ≡ Done
+    → GivesGoal c o pattern (given_items answers)
+
+-- each path comes once and in order, as far as each `**` allows
+unfoldable pub FindsInOrder : {A : Type 0} → (told : Option Content) → MatchOptions → (pattern : Text) → Answers A → Type 0
+FindsInOrder told o pattern answers =
+    (c : Content) → WalksPlainly told c o pattern → IsOrderly pattern (paths (given_items answers))

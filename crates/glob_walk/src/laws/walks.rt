@@ -1,0 +1,41 @@
+//! Laws of walks: each is the contract of a function that does nothing.
+ghost use Rattle.glob_walk.specs.Laws.{EnoughLevelsAgree, EntriesAscend, PlainMatchesLevels, PlainWalkReaches, PlainWalkGives, PlainWalkOrderly};
+
+/// Case-sensitively and under the separator rule, a plain pattern, without a `/` at its end, matches the path of a key
+/// below the start exactly where its components take the key's names: `a/**/c` that of `a/b/c`, since `a` takes `a`,
+/// `**` takes `b` and `c` takes `c`.
+pub fn plain_pattern_matches_level_by_level()
+    ensures { PlainMatchesLevels }
+{}
+
+/// A plain walk finds what the undivided pattern matches, as far as it came and as far as it could read. Where `d`
+/// cannot be listed, `*/*` has an error for `d` in the place of `d/x`.
+pub fn plain_walk_reaches_the_goal()
+    ensures { PlainWalkReaches }
+{}
+
+/// Over a readable content a plain walk has no error, and its paths are exactly what the undivided pattern matches
+/// under the separator rule, and under the dot rule if that is set, or the directories among those if it ends in `/` or
+/// `**`: by `**/x` over files `x`, `y` and `d/x` they are `d/x` and `x`.
+pub fn plain_walk_gives_the_goal()
+    ensures { PlainWalkGives }
+{}
+
+/// A plain walk gives each path once where `**` is in at most one place of the pattern, `**/**` being one, and in
+/// order where at most one component follows it. So `**/*` gives `d` before `d/x`, and each once.
+pub fn plain_walk_is_orderly()
+    ensures { PlainWalkOrderly }
+{}
+
+/// A descent by `**` below a directory, which the written listing cuts at a number of levels, is not changed by the cut:
+/// more levels than the longest key has names give the same marks. So over `d/x` alone, which has two names, three levels
+/// give what a hundred give.
+pub fn enough_levels_give_the_same_marks()
+    ensures { EnoughLevelsAgree }
+{}
+
+/// The written listing has the entries of a directory in ascending byte order of names, and each as often as the
+/// directory has it: `b`, `a` and `a.c` as `a`, `a.c` and `b`.
+pub fn entries_stand_in_ascending_order()
+    ensures { EntriesAscend }
+{}
