@@ -1,3 +1,4 @@
 pub mod Ends
 pub mod Fronts
 pub mod Rests
+pub mod Written

@@ -1,9 +1,14 @@
 //! How the tokens of a pattern are written.
-ghost use Rattle.std.specs.Prelude.{◌≡◌, ◌+◌, ◌-◌, ◌<◌, ◌≤◌, ℕ, length, map, IfOk, chars};
+ghost use Rattle.std.specs.Prelude.{◌≡◌, ◌+◌, ◌<◌, ◌≤◌, ◌↔◌, ℕ, length, map, IsTrue, IfOk, chars};
+ghost use Rattle.glob_text.specs.Text.{Has};
+ghost use Rattle.glob_pattern.specs.Grammar.Characters.{star};
+ghost use Rattle.glob_pattern.specs.Grammar.Units.{ClosesBefore};
 ghost use Rattle.glob_pattern.specs.Computing.Tokens.{tokens_of, kind_of};
-ghost use Rattle.glob_captures.specs.Writing.{AreAdjacent};
+ghost use Rattle.glob_captures.specs.Writing.{AreAdjacent, AreWritten};
+ghost use Rattle.glob_captures.specs.Private.Written.{IsAfterStars, IsTokenEnd};
 
 use crate::piece::Piece;
+use crate::steps::bytes_of;
 use glob_pattern::{Pattern, TokenKind, characters_of, token_kind, tokens_len};
 use std::alloc::{AllocError, Allocator};
 
@@ -28,15 +33,18 @@ pub fn tokens<A: Allocator + Copy, B: Allocator>(
     ensures kinds { IfOk result (λ list.
         map (λ token. token.kind) list.items ≡ map kind_of (tokens_of (chars pattern.now))) }
     ensures adjacent { IfOk result (λ list. (end : ℕ) × AreAdjacent 0 list.items end) }
+    ensures written { IfOk result (λ list. AreWritten (chars pattern.now)
+        0 (tokens_of (chars pattern.now)) list.items (length (chars pattern.now))) }
 {
-    let text = characters_of(alloc, pattern.as_str())?;
+    let characters = characters_of(alloc, pattern.as_str())?;
+    let text = characters.as_slice();
     let mut list = Vec::new(alloc);
     let mut place = 0;
-    let mut start = 0usize;
+    let mut start = 0;
     for token in 0..tokens_len(pattern) {
         let kind = token_kind(pattern, token);
-        let after = token_end(text.as_slice(), place, kind);
-        let end = start.saturating_add(bytes_between(text.as_slice(), place, after));
+        let after = token_end(text, place, kind);
+        let end = start + bytes_of(&text[place..after]);
         list.push(Written {
             kind,
             piece: Piece { start, end },
@@ -47,23 +55,12 @@ pub fn tokens<A: Allocator + Copy, B: Allocator>(
     Ok(list)
 }
 
-/// How many bytes the characters between two places have.
-fn bytes_between(text: &[char], start: usize, end: usize) -> usize
-    requires low { start ≤ end }
-    requires high { end ≤ length text.now }
-{
-    let mut bytes = 0usize;
-    for c in &text[start..end] {
-        bytes = bytes.saturating_add(c.len_utf8());
-    }
-    bytes
-}
-
 /// The place after the token of this kind that is written from a place on.
 fn token_end(text: &[char], place: usize, kind: TokenKind) -> usize
     requires { place ≤ length text.now }
     ensures low { place ≤ result }
     ensures high { result ≤ length text.now }
+    ensures end { IsTokenEnd text.now place kind result }
 {
     match kind {
         TokenKind::Literal | TokenKind::AnyChar | TokenKind::AnySequence => {
@@ -80,15 +77,34 @@ fn recursive_end(text: &[char], place: usize) -> usize
     requires { place ≤ length text.now }
     ensures low { place ≤ result }
     ensures high { result ≤ length text.now }
+    ensures end { IsTokenEnd text.now place TokenKind.Recursive result }
 {
     let mut end = place;
-    while end + 2 <= text.len() && text[end] == '*' && text[end + 1] == '*' {
-        end += 2;
-        if end < text.len() && text[end] == '/' {
-            end += 1;
-        }
+    while has_stars(text, end) {
+        end = after_stars(text, end);
     }
     end
+}
+
+/// Whether two stars are at a place.
+fn has_stars(text: &[char], place: usize) -> bool
+    requires { place ≤ length text.now }
+    ensures { IsTrue result ↔ (Has text.now place star × Has text.now (place + 1) star) }
+{
+    text.len() - place >= 2 && text[place] == '*' && text[place + 1] == '*'
+}
+
+/// The place after two stars, and after a `/` that follows.
+fn after_stars(text: &[char], place: usize) -> usize
+    requires { Has text.now (place + 1) star }
+    ensures after { IsAfterStars text.now place result }
+    ensures low { place < result }
+    ensures high { result ≤ length text.now }
+{
+    match text.get(place + 2) {
+        Some('/') => place + 3,
+        _ => place + 2,
+    }
 }
 
 /// The place after the `]` that ends the bracket at a place, of which the first characters end none.
@@ -97,6 +113,7 @@ fn bracket_end(text: &[char], place: usize, skipped: usize) -> usize
     requires few { skipped ≤ 3 }
     ensures low { place ≤ result }
     ensures high { result ≤ length text.now }
+    ensures closes { (e : ℕ) → ClosesBefore text.now (place + skipped) e → result ≡ e }
 {
     for end in place..text.len() {
         if place + skipped <= end && text[end] == ']' {

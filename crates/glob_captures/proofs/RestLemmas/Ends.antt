@@ -12,8 +12,9 @@ use Rattle.glob_pattern.specs.declared.options.MatchOptions.{MatchOptions}
 use Rattle.glob_pattern.proofs.MatchingLemmas.Splits.{MayReach-le, SplitsFrom-within}
 use Rattle.glob_captures.specs.declared.steps.Form.{Form}
 use Rattle.glob_captures.specs.declared.piece.Piece.{Piece}
+use Rattle.glob_captures.specs.Writing.{byte_place}
 use Rattle.glob_captures.specs.Private.Rests.{grows, closes, shape_at, shapes_from, IsFormAt, TakesRest, AreRests}
-use Rattle.glob_captures.specs.Private.Ends.{IsShortestEnd, AreShortestEnds, byte_place, places_between, HasShortestEnds, LacksOnly, may_end, IsFirstEnd}
+use Rattle.glob_captures.specs.Private.Ends.{IsShortestEnd, AreShortestEnds, places_between, HasShortestEnds, LacksOnly, may_end, IsFirstEnd}
 use Rattle.glob_captures.proofs.RestLemmas.Rows.{shapes-at}
 
 -- where a piece reaches, by a test

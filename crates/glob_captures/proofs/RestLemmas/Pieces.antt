@@ -18,8 +18,9 @@ use Rattle.glob_pattern.proofs.MatchingLemmas.TokensOf.{tokens_of-HasTokens}
 use Rattle.glob_pattern.proofs.MatchingLemmas.PiecesAndSplits.{TakesAll-from_piece, TakesPiece-from_all, MayReach-from_form, HasForm-from_reach, SplitsFrom-from_pieces, Splits-from_TokensMatch}
 use Rattle.glob_captures.specs.declared.piece.Piece.{Piece}
 use Rattle.glob_captures.specs.Captures.{IsNoMore, places_of, AreCaptures}
+use Rattle.glob_captures.specs.Writing.{byte_place}
 use Rattle.glob_captures.specs.Private.Rests.{TakesRest}
-use Rattle.glob_captures.specs.Private.Ends.{IsShortestEnd, AreShortestEnds, byte_place, places_between, HasShortestEnds}
+use Rattle.glob_captures.specs.Private.Ends.{IsShortestEnd, AreShortestEnds, places_between, HasShortestEnds}
 use Rattle.glob_captures.proofs.ByteLemmas.{byte_place_later}
 
 -- the pieces of the text from place i on: allowed for the tokens, at these places, and the shortest

@@ -1,5 +1,5 @@
 -- Splits of a text as the places at which the pieces end, and the one with the shortest pieces.
-use Rattle.std.specs.Prelude.{◌≡◌, ℕ, ◌+◌, ◌<◌, ◌≤◌, Bool, ◌&&◌, ◌||◌, not, ◌==◌, false, List, [], ◌∷◌, ◌++◌, length, take, slice_index_or, IsTrue, encode_utf8_all}
+use Rattle.std.specs.Prelude.{◌≡◌, ℕ, ◌+◌, ◌<◌, ◌≤◌, Bool, ◌&&◌, ◌||◌, not, ◌==◌, false, List, [], ◌∷◌, ◌++◌, length, slice_index_or, IsTrue}
 use Rattle.glob_text.specs.Text.{Text, opens}
 use Rattle.glob_pattern.specs.Grammar.Tokens.{Token}
 use Rattle.glob_pattern.specs.Matching.Splits.{Table, MayReach, TakesAll, SplitsFrom}
@@ -7,6 +7,7 @@ use Rattle.glob_pattern.specs.Private.TextTable.{table_of}
 use Rattle.glob_pattern.specs.declared.options.MatchOptions.{MatchOptions}
 use Rattle.glob_pattern.specs.declared.matcher.Shape.{Shape}
 use Rattle.glob_captures.specs.declared.piece.Piece.{Piece}
+use Rattle.glob_captures.specs.Writing.{byte_place}
 use Rattle.glob_captures.specs.Private.Rests.{shapes_from}
 
 -- The piece of token n, of the shape `shape`, from place i on ends at the first place from which on the others take the rest.
@@ -23,10 +24,6 @@ AreShortestEnds table n [] i (end ∷ ends) = ⊥
 AreShortestEnds table n (shape ∷ others) i [] = ⊥
 AreShortestEnds table n (shape ∷ others) i (end ∷ ends) =
     IsShortestEnd table n shape others i end × AreShortestEnds table (n + 1) others end ends
-
--- the place k, counted in characters, in bytes
-abbrev pub byte_place : Text → (k : ℕ) → ℕ
-byte_place text k = length (encode_utf8_all (take k text))
 
 -- the pieces from place i on that end at these places, in bytes
 abbrev pub places_between : Text → (i : ℕ) → (ends : List ℕ) → List Piece

@@ -1,8 +1,9 @@
 use Rattle.std.proofs.Common.{◌≡◌, ◌+◌, ◌-◌, ℕ, chars, length, refl, ap₂, subst, arith}
 use Rattle.glob_pattern.specs.Computing.Tokens.{tokens_of}
 use Rattle.glob_captures.specs.declared.piece.Piece.{Piece}
+use Rattle.glob_captures.specs.Writing.{byte_place}
 use Rattle.glob_captures.specs.Private.Rests.{TakesRest}
-use Rattle.glob_captures.specs.Private.Ends.{byte_place, LacksOnly}
+use Rattle.glob_captures.specs.Private.Ends.{LacksOnly}
 use Rattle.glob_captures.proofs.ByteLemmas.{length-encodes_take, length-encodes_piece, byte_place_later}
 use Rattle.glob_captures.proofs.RestLemmas.Ends.{LacksOnly-start, LacksOnly-more, TakesRest-after, HasShortestEnds-all}
 use Rattle.glob_captures.proofs.capturing.shortest_pieces.Goals as goal

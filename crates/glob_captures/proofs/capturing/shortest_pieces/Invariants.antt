@@ -1,7 +1,8 @@
 use Rattle.std.proofs.Common.{chars, ◌≡◌, ◌≤◌, length}
 use Rattle.glob_pattern.specs.Computing.Tokens.{tokens_of}
+use Rattle.glob_captures.specs.Writing.{byte_place}
 use Rattle.glob_captures.specs.Private.Rests.{TakesRest}
-use Rattle.glob_captures.specs.Private.Ends.{byte_place, LacksOnly}
+use Rattle.glob_captures.specs.Private.Ends.{LacksOnly}
 use Rattle.glob_captures.proofs.capturing.shortest_pieces.Given as goal
 
 abbrev pub invariant-loop-token : goal.invariant-loop-token
