@@ -8,10 +8,9 @@ use Rattle.std.specs.declared.path.buf.PathBuf.{PathBuf}
 use Rattle.std.proofs.KnownBytes.{Appends-nil}
 use Rattle.glob_tree.specs.Answers.{IsTold}
 use Rattle.glob_tree.specs.Content.{Content}
-use Rattle.glob_walk.specs.Machines.{MachineState, Saying, AsksLook, AsksList, Says, Ends, IsAskedAfter, StepCounts, StepGoes, is_last_step, left_of, saying, step_units}
+use Rattle.glob_walk.specs.Machines.{MachineState, Saying, AsksLook, AsksList, Says, Ends, StepCounts, is_last_step, left_of, saying, step_units}
 use Rattle.glob_lines.specs.Lines.{AppendsFront, ended_record, with_ends}
 use Rattle.glob_walk.specs.Marks.{Mark, Item, Found, Unread, items, cost, front, IsBeginning}
-use Rattle.glob_walk.specs.Questions.{IsSomeContent}
 use Rattle.glob_text.specs.Text.{Text}
 use Rattle.glob_walk.specs.Driven.{HasGiven, GivesNext}
 use Rattle.glob_walk.specs.declared.ending.End.{End}
@@ -34,50 +33,41 @@ abbrev pub Over : {X A : Type 0} → (X → Option Content) → X → MachineSta
 Over tells of first P = (c : Content) → IsTold (tells of) c → (ms : List Mark) → HasGiven ms c [] first → P ms c
 
 -- the walk is still going on, or it came to an end within which it gave these items
-abbrev pub GoesOn : {X A : Type 0} → (X → Option Content) → X → MachineState A → List Item → Saying → MachineState A → End → Type 0
-GoesOn tells of first given s walk e =
-    ((e ≡ last.Done) × Over tells of first (λ ms c. GivesNext ms c given s walk))
-    ⊎ ((s ≡ Ends) × Over tells of first (λ ms c. GaveItems ms first.limit e given))
+abbrev pub GoesOn : {X A : Type 0} → (X → Option Content) → X → MachineState A → List Item → MachineState A → End → Type 0
+GoesOn tells of first given walk e =
+    ((e ≡ last.Done) × Over tells of first (λ ms c. HasGiven ms c given walk))
+    ⊎ ((walk.over ≡ true) × Over tells of first (λ ms c. GaveItems ms first.limit e given))
 
--- A walk after one of its steps. The items before that step were written, or wait.
-pub record Written {X A : Type 0} (end : ℕ) (f : Content → Text → Bool) (tells : X → Option Content) (of : X) (first : MachineState A) (old : Option (List ℕ)) (tree : X) (s : Saying) (walk : MachineState A) (findings : Findings) (held : Option (List ℕ)) (waiting : List ℕ) : Type 0 where
+-- A walk between two of its steps. The items before were written, or wait.
+pub record Written {X A : Type 0} (end : ℕ) (f : Content → Text → Bool) (tells : X → Option Content) (of : X) (first : MachineState A) (old : Option (List ℕ)) (tree : X) (walk : MachineState A) (findings : Findings) (held : Option (List ℕ)) (waiting : List ℕ) : Type 0 where
   pub given : List Item
   pub texts : List Text
   pub same : tells tree ≡ tells of
   pub limit : walk.limit ≡ first.limit
-  pub within : walk.spent ≤ walk.limit
-  pub few : walk.given ≤ walk.spent + 1
-  pub asks : IsAskedAfter s walk.asked
-  pub ends : walk.over ≡ is_last_step s
   pub queued : Queues old [] held waiting (with_ends end texts)
   pub path : findings.has_path ≡ has_any texts
   pub kept : Over tells of first (λ ms c. texts ≡ wanted_paths (f c) given)
   pub error : findings.has_error ≡ has_unread given
   pub begins : Over tells of first (λ ms c. IsBeginning given (items ms))
-  pub going : GoesOn tells of first given s walk findings.end
+  pub going : GoesOn tells of first given walk findings.end
 
 -- what a step says of the items, over each content that fits
 abbrev pub TellsStep : {A : Type 0} → (Content → Type 0) → MachineState A → Saying → MachineState A → Type 0
 TellsStep Fits walk s new = (c : Content) → (all : List Mark) → (given : List Item) → Fits c → HasGiven all c given walk → GivesNext all c given s new
 
-pub Written-first : {X A : Type 0} (end : ℕ) (f : Content → Text → Bool) (tells : X → Option Content) (of : X) (first walk : MachineState A) (old : Option (List ℕ)) (s : Saying) (findings : Findings)
-    → findings.end ≡ last.Done → findings.has_path ≡ false → findings.has_error ≡ false → StepGoes IsSomeContent 0 first s walk → TellsStep IsSomeContent first s walk
-    → Written end f tells of first old of s walk findings old []
-Written-first end f tells of first walk old s findings done path error goes next = record {
+pub Written-first : {X A : Type 0} (end : ℕ) (f : Content → Text → Bool) (tells : X → Option Content) (of : X) (first : MachineState A) (old : Option (List ℕ)) (findings : Findings)
+    → findings.end ≡ last.Done → findings.has_path ≡ false → findings.has_error ≡ false → Written end f tells of first old of first findings old []
+Written-first end f tells of first old findings done path error = record {
   given = [];
   texts = [];
-  kept = λ c told ms begun. refl;
   same = refl;
-  limit = goes.counts.limit;
-  within = goes.counts.within;
-  few = goes.counts.few;
-  asks = goes.counts.asks;
-  ends = goes.counts.ends;
+  limit = refl;
   queued = ([], Appends-nil old, refl);
   path = path;
+  kept = λ c told ms begun. refl;
   error = error;
   begins = λ c told ms begun. (items ms, refl);
-  going = inl (done, λ c told ms begun. next c ms [] told.1 begun);
+  going = inl (done, λ c told ms begun. begun);
 }
 
 begins_from : {A : Type 0} (c : Content) (ms : List Mark) (given : List Item) (walk : MachineState A) → HasGiven ms c given walk → IsBeginning given (items ms)
@@ -97,268 +87,241 @@ no_path cause.Read e = tt
 no_path cause.Memory e = tt
 no_path cause.Limit e = tt
 
-module _ {X A : Type 0} (end : ℕ) (f : Content → Text → Bool) (tells : X → Option Content) (of : X) (first : MachineState A) (old : Option (List ℕ)) (tree : X) (walk : MachineState A) (findings : Findings) (held : Option (List ℕ)) (waiting : List ℕ) where
-  -- the tree answered a question
-  Written-answer : (s s' : Saying) → step_units s ≡ 1 → Written end f tells of first old tree s walk findings held waiting
-      → (tree' : X) (walk' : MachineState A) (held' : Option (List ℕ)) (waiting' : List ℕ) (n : ℕ) → tells tree' ≡ tells tree → Queues held waiting held' waiting' []
-      → StepCounts n walk s' walk' → TellsStep (IsTold (tells tree)) walk s' walk'
-      → Written end f tells of first old tree' s' walk' findings held' waiting'
-  Written-answer s s' question w tree' walk' held' waiting' n same queued counts next = record {
-    given = w.given;
-    texts = w.texts;
-    kept = w.kept;
-    same = same ∙ w.same;
-    limit = counts.limit ∙ w.limit;
-    within = counts.within;
-    few = counts.few;
-    asks = counts.asks;
-    ends = counts.ends;
-    queued = subst (Queues old [] held' waiting') (append-nil (with_ends end w.texts))
-        (Queues-trans old held held' [] waiting waiting' (with_ends end w.texts) [] w.queued queued);
-    path = w.path;
-    error = w.error;
-    begins = w.begins;
-    going = still w.going;
-  }
-    where
-      kept : (s : Saying) (c : Content) (ms : List Mark) → step_units s ≡ 1 → GivesNext ms c w.given s walk → HasGiven ms c w.given walk
-      kept AsksLook c ms q h = h
-      kept (AsksList kinds) c ms q h = h
-      kept (Says o) c ms q h = absurd (omega (arith, q))
-      kept Ends c ms q h = absurd (omega (arith, q))
+-- one more step of the walk
+module _ {X A : Type 0} (end : ℕ) (f : Content → Text → Bool) (tells : X → Option Content) (of : X) (first : MachineState A) (old : Option (List ℕ)) (tree asked : X) (walk walk' : MachineState A) (n : ℕ) (findings : Findings) (held : Option (List ℕ)) (waiting : List ℕ)
+    (w : Written end f tells of first old tree walk findings held waiting) (told : tells asked ≡ tells tree) where
+  told_here : (c : Content) → IsTold (tells of) c → IsTold (tells tree) c
+  told_here c is = (w.same ∙ is.0, is.1)
 
-      still : GoesOn tells of first w.given s walk findings.end → GoesOn tells of first w.given s' walk' findings.end
-      still (inl (done, said)) = inl (done, λ c told ms begun. next c ms w.given (w.same ∙ told.0, told.1) (kept s c ms question (said c told ms begun)))
-      still (inr (is, gave)) = let z : step_units s ≡ 0 = ap step_units is in absurd (omega (arith, z, question))
+  told_after : (c : Content) → IsTold (tells of) c → IsTold (tells asked) c
+  told_after c is = (told ∙ w.same ∙ is.0, is.1)
+
+  -- what the step does to the counts and to the items
+  abbrev pub Steps : Saying → Type 0
+  Steps s = StepCounts n walk s walk' × TellsStep (IsTold (tells tree)) walk s walk'
+
+  -- the step comes of what is left, or the walk has ended
+  goes_on : (s : Saying) → Steps s
+      → ((findings.end ≡ last.Done) × Over tells of first (λ ms c. GivesNext ms c w.given s walk'))
+      ⊎ ((s ≡ Ends) × Over tells of first (λ ms c. GaveItems ms first.limit findings.end w.given))
+  goes_on s (counts, next) = by_going w.going
+    where
+      by_going : GoesOn tells of first w.given walk findings.end
+          → ((findings.end ≡ last.Done) × Over tells of first (λ ms c. GivesNext ms c w.given s walk'))
+          ⊎ ((s ≡ Ends) × Over tells of first (λ ms c. GaveItems ms first.limit findings.end w.given))
+      by_going (inl (done, has)) = inl (done, λ c told ms begun. next c ms w.given (told_here c told) (has c told ms begun))
+      by_going (inr (over, gave)) = inr ((counts.stays over).0, gave)
+
+  -- an item is one of what is left
+  gives : (o : Outcome) → Steps (Says o) → (findings.end ≡ last.Done) × Over tells of first (λ ms c. GivesNext ms c w.given (Says o) walk')
+  gives o steps = by_going (goes_on (Says o) steps)
+    where
+      by_going : ((findings.end ≡ last.Done) × Over tells of first (λ ms c. GivesNext ms c w.given (Says o) walk'))
+          ⊎ ((Says o ≡ Ends) × Over tells of first (λ ms c. GaveItems ms first.limit findings.end w.given))
+          → (findings.end ≡ last.Done) × Over tells of first (λ ms c. GivesNext ms c w.given (Says o) walk')
+      by_going (inl said) = said
+      by_going (inr (is, gave)) = absurd (cc)
+
+  -- so it is one of the listing
+  has_given : (o : Outcome) (item : Item) → o ≡ Gives item → Steps (Says o) → Over tells of first (λ ms c. HasGiven ms c (w.given ++ item ∷ []) walk')
+  has_given o item is steps c told ms begun = subst (λ p. GivesNext ms c w.given (Says p) walk') is ((gives o steps).1 c told ms begun)
+
+  kept_with : (text : Text) (c : Content) → IsTold (tells of) c → true ≡ f c text → (ms : List Mark) → HasGiven ms c [] first → w.texts ++ text ∷ [] ≡ wanted_paths (f c) (w.given ++ Found text ∷ [])
+  kept_with text c told sure ms begun = wanted_push (f c) w.texts (text ∷ []) w.given (Found text) (w.kept c told ms begun) (wanted_one (f c) text sure)
 
   -- some of the lines that wait were written
-  Written-before : (s : Saying) → Written end f tells of first old tree s walk findings held waiting → (held' : Option (List ℕ)) → AppendsFront held held' waiting
-      → Over tells of first (λ ms c. FindsSomeBytes end (f c) ms old held')
-  Written-before s w held' some c told ms begun =
+  before_fault : (held' : Option (List ℕ)) → AppendsFront held held' waiting → Over tells of first (λ ms c. FindsSomeBytes end (f c) ms old held')
+  before_fault held' some c told ms begun =
       let (rest, split) = w.begins c told ms begun in
       Queues-some old held held' _ waiting (with_ends end w.texts) (with_ends end (wanted_paths (f c) rest))
       (records_begin end (f c) w.texts w.given rest (items ms) (w.kept c told ms begun) split) w.queued some
 
-  -- all lines were written, and nothing is left of the walk
-  Written-end : (s : Saying) → s ≡ Ends → Written end f tells of first old tree s walk findings held waiting → (held' : Option (List ℕ)) (waiting' : List ℕ) → Queues held waiting held' waiting' [] → waiting' ≡ []
-      → Over tells of first (λ ms c. FindsPaths end (f c) ms first.limit old held' findings)
-  Written-end s is w held' waiting' queued none c told ms begun =
-      (w.given, gave w.going, subst (λ ts. Appends old held' (with_ends end ts)) kept all, w.path ∙ ap has_any kept, w.error)
+  -- a path could not be written
+  path_fault : (text : Text) → Steps (Says (Gives (Found text))) → (c : Content) → IsTold (tells of) c → true ≡ f c text → (held' : Option (List ℕ)) → AppendsFront held held' (waiting ++ ended_record end text)
+      → (ms : List Mark) → HasGiven ms c [] first → FindsSomeBytes end (f c) ms old held'
+  path_fault text steps c told sure held' some ms begun =
+      let (rest, split) = begins_from c ms (w.given ++ Found text ∷ []) walk' (has_given _ (Found text) refl steps c told ms begun) in
+      let after : List ℕ = with_ends end (wanted_paths (f c) rest) in
+      Queues-more old held held' _ waiting (with_ends end w.texts) (ended_record end text) after
+      (records_begin end (f c) (w.texts ++ text ∷ []) (w.given ++ Found text ∷ []) rest (items ms) (kept_with text c told sure ms begun) split
+      ∙ ap (λ l. l ++ after) (records_push end w.texts text)) w.queued some
+
+  -- a step could not be written
+  pub Written-fault : (s : Step A) → Steps (saying s) → (held' : Option (List ℕ)) → ((c : Content) → IsTold (tells asked) c → AppendsFront held held' (waiting ++ step_record end (f c) s))
+      → Over tells of first (λ ms c. FindsSomeBytes end (f c) ms old held')
+  Written-fault s steps held' some c told ms begun = by_step s steps (some c (told_after c told))
     where
-      kept : w.texts ≡ wanted_paths (f c) w.given
-      kept = w.kept c told ms begun
+      none : AppendsFront held held' (waiting ++ []) → FindsSomeBytes end (f c) ms old held'
+      none wrote = before_fault held' (subst (AppendsFront held held') (append-nil waiting) wrote) c told ms begun
 
-      all : Appends old held' (with_ends end w.texts)
-      all = Queues-all old held' (with_ends end w.texts) (subst (Queues old [] held' []) (append-nil (with_ends end w.texts))
-          (Queues-trans old held held' [] waiting [] (with_ends end w.texts) [] w.queued (subst (λ l. Queues held waiting held' l []) none queued)))
+      by_path : (path : PathBuf A) (yes : Bool) → yes ≡ f c (path_buf_bytes path) → Steps (Says (Gives (Found (path_buf_bytes path))))
+          → AppendsFront held held' (waiting ++ (if yes then ended_record end (path_buf_bytes path) else [])) → FindsSomeBytes end (f c) ms old held'
+      by_path path true sure steps wrote = path_fault (path_buf_bytes path) steps c told sure held' wrote ms begun
+      by_path path false never steps wrote = none wrote
 
-      gave : GoesOn tells of first w.given s walk findings.end → GaveItems ms first.limit findings.end w.given
-      gave (inr over) = over.1 c told ms begun
-      gave (inl (done, said)) =
-          let (are, units) = subst (λ o. GivesNext ms c w.given o walk) is (said c told ms begun) in
-          let enough : cost ms ≤ first.limit = omega (arith, w.within, w.limit, units) in
-          subst (λ e. GaveItems ms first.limit e w.given) (sym done) (enough, are)
+      by_step : (t : Step A) → Steps (saying t) → AppendsFront held held' (waiting ++ step_record end (f c) t) → FindsSomeBytes end (f c) ms old held'
+      by_step (step.Item (Ok path)) steps wrote = by_path path (f c (path_buf_bytes path)) refl steps wrote
+      by_step (step.Item (Err e)) steps wrote = none wrote
+      by_step step.Done steps wrote = none wrote
+      by_step step.Look steps wrote = none wrote
+      by_step step.List steps wrote = none wrote
+      by_step step.ListNames steps wrote = none wrote
 
-  module _ (o : Outcome) (w : Written end f tells of first old tree (Says o) walk findings held waiting) where
-    going_on : GoesOn tells of first w.given (Says o) walk findings.end → (findings.end ≡ last.Done) × Over tells of first (λ ms c. GivesNext ms c w.given (Says o) walk)
-    going_on (inl said) = said
-    going_on (inr (is, gave)) = absurd (cc)
+  -- the step was written, and the tree may have been asked
+  module _ (tree' : X) (same : tells tree' ≡ tells asked) (held' : Option (List ℕ)) (waiting' : List ℕ) where
+    still : Queues held waiting held' waiting' [] → Queues old [] held' waiting' (with_ends end w.texts)
+    still queued = subst (Queues old [] held' waiting') (append-nil (with_ends end w.texts))
+        (Queues-trans old held held' [] waiting waiting' (with_ends end w.texts) [] w.queued queued)
 
-    -- the item is one of the listing
-    more : (item : Item) → o ≡ Gives item → Over tells of first (λ ms c. HasGiven ms c (w.given ++ item ∷ []) walk)
-    more item is c told ms begun = subst (λ p. GivesNext ms c w.given (Says p) walk) is ((going_on w.going).1 c told ms begun)
+    -- a question
+    Written-asked : (s : Saying) → step_units s ≡ 1 → Steps s → Queues held waiting held' waiting' [] → Written end f tells of first old tree' walk' findings held' waiting'
+    Written-asked s question steps queued = record {
+      given = w.given;
+      texts = w.texts;
+      same = same ∙ (told ∙ w.same);
+      limit = steps.0.limit ∙ w.limit;
+      queued = still queued;
+      path = w.path;
+      kept = w.kept;
+      error = w.error;
+      begins = w.begins;
+      going = by_going (goes_on s steps);
+    }
+      where
+        has : (q : Saying) (c : Content) (ms : List Mark) → step_units q ≡ 1 → GivesNext ms c w.given q walk' → HasGiven ms c w.given walk'
+        has AsksLook c ms unit h = h
+        has (AsksList kinds) c ms unit h = h
+        has (Says o) c ms unit h = absurd (omega (arith, unit))
+        has Ends c ms unit h = absurd (omega (arith, unit))
 
-    -- the path is wanted, or not, over each content
-    abbrev IsSo : Bool → Text → Type 0
-    IsSo sure text = (c : Content) → IsTold (tells tree) c → sure ≡ f c text
+        by_going : ((findings.end ≡ last.Done) × Over tells of first (λ ms c. GivesNext ms c w.given s walk'))
+            ⊎ ((s ≡ Ends) × Over tells of first (λ ms c. GaveItems ms first.limit findings.end w.given))
+            → GoesOn tells of first w.given walk' findings.end
+        by_going (inl (done, said)) = inl (done, λ c told ms begun. has s c ms question (said c told ms begun))
+        by_going (inr (is, gave)) = let z : step_units s ≡ 0 = ap step_units is in absurd (omega (arith, z, question))
 
-    told_here : (c : Content) → IsTold (tells of) c → IsTold (tells tree) c
-    told_here c told = (w.same ∙ told.0, told.1)
+    module _ (o : Outcome) (steps : Steps (Says o)) where
+      -- an item, with the paths that it adds
+      Written-given : (item : Item) (texts : List Text) (findings' : Findings) → o ≡ Gives item → findings'.end ≡ findings.end
+          → Queues old [] held' waiting' (with_ends end (w.texts ++ texts)) → findings'.has_path ≡ has_any (w.texts ++ texts)
+          → Over tells of first (λ ms c. w.texts ++ texts ≡ wanted_paths (f c) (w.given ++ item ∷ [])) → findings'.has_error ≡ has_unread (w.given ++ item ∷ [])
+          → Written end f tells of first old tree' walk' findings' held' waiting'
+      Written-given item texts findings' is same_end queued path kept error = record {
+        given = w.given ++ item ∷ [];
+        texts = w.texts ++ texts;
+        same = same ∙ (told ∙ w.same);
+        limit = steps.0.limit ∙ w.limit;
+        queued = queued;
+        path = path;
+        kept = kept;
+        error = error;
+        begins = λ c told ms begun. begins_from c ms (w.given ++ item ∷ []) walk' (has_given o item is steps c told ms begun);
+        going = inl (same_end ∙ (gives o steps).0, has_given o item is steps);
+      }
 
-    kept_with : (text : Text) (c : Content) → IsTold (tells of) c → true ≡ f c text → (ms : List Mark) → HasGiven ms c [] first → w.texts ++ text ∷ [] ≡ wanted_paths (f c) (w.given ++ Found text ∷ [])
-    kept_with text c told sure ms begun =
-        wanted_push (f c) w.texts (text ∷ []) w.given (Found text) (w.kept c told ms begun) (wanted_one (f c) text sure)
-
-    -- a path could not be written
-    path_fault : (text : Text) → o ≡ Gives (Found text) → (c : Content) → IsTold (tells of) c → true ≡ f c text → (held' : Option (List ℕ)) → AppendsFront held held' (waiting ++ ended_record end text)
-        → (ms : List Mark) → HasGiven ms c [] first → FindsSomeBytes end (f c) ms old held'
-    path_fault text is c told sure held' some ms begun =
-        let (rest, split) = begins_from c ms (w.given ++ Found text ∷ []) walk (more (Found text) is c told ms begun) in
-        let after : List ℕ = with_ends end (wanted_paths (f c) rest) in
-        Queues-more old held held' _ waiting (with_ends end w.texts) (ended_record end text) after
-        (records_begin end (f c) (w.texts ++ text ∷ []) (w.given ++ Found text ∷ []) rest (items ms) (kept_with text c told sure ms begun) split
-        ∙ ap (λ l. l ++ after) (records_push end w.texts text)) w.queued some
-
-    module _ (tree' : X) (same : tells tree' ≡ tells tree) (s' : Saying) (walk' : MachineState A) (held' : Option (List ℕ)) (waiting' : List ℕ) (n : ℕ) (counts : StepCounts n walk s' walk') (next : TellsStep (IsTold (tells tree)) walk s' walk') where
-      still : Queues held waiting held' waiting' [] → Queues old [] held' waiting' (with_ends end w.texts)
-      still queued = subst (Queues old [] held' waiting') (append-nil (with_ends end w.texts))
-          (Queues-trans old held held' [] waiting waiting' (with_ends end w.texts) [] w.queued queued)
+      none_added : Queues held waiting held' waiting' [] → Queues old [] held' waiting' (with_ends end (w.texts ++ []))
+      none_added queued = subst (λ ts. Queues old [] held' waiting' (with_ends end ts)) (sym (append-nil w.texts)) (still queued)
 
       -- a path was added
-      Written-path : (text : Text) → o ≡ Gives (Found text) → IsSo true text → Queues held waiting held' waiting' (ended_record end text)
-          → Written end f tells of first old tree' s' walk' (record findings { has_path = true }) held' waiting'
-      Written-path text is sure queued = record {
-        given = w.given ++ Found text ∷ [];
-        texts = w.texts ++ text ∷ [];
-        kept = λ c told. kept_with text c told (sure c (told_here c told));
-        same = same ∙ w.same;
-        limit = counts.limit ∙ w.limit;
-        within = counts.within;
-        few = counts.few;
-        asks = counts.asks;
-        ends = counts.ends;
-        queued = subst (Queues old [] held' waiting') (sym (records_push end w.texts text))
-            (Queues-trans old held held' [] waiting waiting' (with_ends end w.texts) (ended_record end text) w.queued queued);
-        path = sym (has_any-push w.texts text);
-        error = w.error ∙ sym (has_unread-found w.given text);
-        begins = λ c told ms begun. begins_from c ms (w.given ++ Found text ∷ []) walk (more (Found text) is c told ms begun);
-        going = inl ((going_on w.going).0, λ c told ms begun. next c ms (w.given ++ Found text ∷ []) (told_here c told) (more (Found text) is c told ms begun));
-      }
+      Written-path : (text : Text) → o ≡ Gives (Found text) → ((c : Content) → IsTold (tells asked) c → true ≡ f c text) → Queues held waiting held' waiting' (ended_record end text)
+          → Written end f tells of first old tree' walk' (record findings { has_path = true }) held' waiting'
+      Written-path text is sure queued = Written-given (Found text) (text ∷ []) (record findings { has_path = true }) is refl
+          (subst (Queues old [] held' waiting') (sym (records_push end w.texts text))
+          (Queues-trans old held held' [] waiting waiting' (with_ends end w.texts) (ended_record end text) w.queued queued))
+          (sym (has_any-push w.texts text)) (λ c told. kept_with text c told (sure c (told_after c told))) (w.error ∙ sym (has_unread-found w.given text))
 
       -- a path was passed over
-      Written-passed : (text : Text) → o ≡ Gives (Found text) → IsSo false text → Queues held waiting held' waiting' []
-          → Written end f tells of first old tree' s' walk' findings held' waiting'
-      Written-passed text is never queued = record {
-        given = w.given ++ Found text ∷ [];
-        texts = w.texts;
-        kept = λ c told ms begun. sym (append-nil w.texts)
-            ∙ wanted_push (f c) w.texts [] w.given (Found text) (w.kept c told ms begun) (unwanted_one (f c) text (never c (told_here c told)));
-        same = same ∙ w.same;
-        limit = counts.limit ∙ w.limit;
-        within = counts.within;
-        few = counts.few;
-        asks = counts.asks;
-        ends = counts.ends;
-        queued = still queued;
-        path = w.path;
-        error = w.error ∙ sym (has_unread-found w.given text);
-        begins = λ c told ms begun. begins_from c ms (w.given ++ Found text ∷ []) walk (more (Found text) is c told ms begun);
-        going = inl ((going_on w.going).0, λ c told ms begun. next c ms (w.given ++ Found text ∷ []) (told_here c told) (more (Found text) is c told ms begun));
-      }
+      Written-passed : (text : Text) → o ≡ Gives (Found text) → ((c : Content) → IsTold (tells asked) c → false ≡ f c text) → Queues held waiting held' waiting' []
+          → Written end f tells of first old tree' walk' findings held' waiting'
+      Written-passed text is never queued = Written-given (Found text) [] findings is refl (none_added queued) (w.path ∙ ap has_any (sym (append-nil w.texts)))
+          (λ c told ms begun. wanted_push (f c) w.texts [] w.given (Found text) (w.kept c told ms begun) (unwanted_one (f c) text (never c (told_after c told))))
+          (w.error ∙ sym (has_unread-found w.given text))
 
       -- a directory could not be listed
       Written-unread : (p : Text) (k : ErrorKind) → o ≡ Gives (Unread p k) → Queues held waiting held' waiting' []
-          → Written end f tells of first old tree' s' walk' (record findings { has_error = true }) held' waiting'
-      Written-unread p k is queued =
-          record {
-            given = w.given ++ Unread p k ∷ [];
-            texts = w.texts;
-            kept = λ c told ms begun. sym (append-nil w.texts) ∙ wanted_push (f c) w.texts [] w.given (Unread p k) (w.kept c told ms begun) refl;
-            same = same ∙ w.same;
-            limit = counts.limit ∙ w.limit;
-            within = counts.within;
-            few = counts.few;
-            asks = counts.asks;
-            ends = counts.ends;
-            queued = still queued;
-            path = w.path;
-            error = sym (has_unread-push w.given p k);
-            begins = λ c told ms begun. begins_from c ms (w.given ++ Unread p k ∷ []) walk (more (Unread p k) is c told ms begun);
-            going = inl ((going_on w.going).0, λ c told ms begun. next c ms (w.given ++ Unread p k ∷ []) (told_here c told) (more (Unread p k) is c told ms begun));
-          }
+          → Written end f tells of first old tree' walk' (record findings { has_error = true }) held' waiting'
+      Written-unread p k is queued = Written-given (Unread p k) [] (record findings { has_error = true }) is refl (none_added queued) (w.path ∙ ap has_any (sym (append-nil w.texts)))
+          (λ c told ms begun. wanted_push (f c) w.texts [] w.given (Unread p k) (w.kept c told ms begun) refl) (sym (has_unread-push w.given p k))
 
       -- a refusal ended the walk
       Written-refusal : (e : End) → is_last_step (Says o) ≡ true → Queues held waiting held' waiting' [] → Over tells of first (λ ms c. GaveItems ms first.limit e w.given)
-          → Written end f tells of first old tree' s' walk' (record findings { end = e }) held' waiting'
+          → Written end f tells of first old tree' walk' (record findings { end = e }) held' waiting'
       Written-refusal e last queued gave = record {
         given = w.given;
         texts = w.texts;
-        kept = w.kept;
-        same = same ∙ w.same;
-        limit = counts.limit ∙ w.limit;
-        within = counts.within;
-        few = counts.few;
-        asks = counts.asks;
-        ends = counts.ends;
+        same = same ∙ (told ∙ w.same);
+        limit = steps.0.limit ∙ w.limit;
         queued = still queued;
         path = w.path;
+        kept = w.kept;
         error = w.error;
         begins = w.begins;
-        going = inr ((counts.stays (w.ends ∙ last)).0, gave);
+        going = inr (steps.0.ends ∙ last, gave);
       }
 
       -- an error was reported
-      Written-error : (r : Outcome) → o ≡ r → IsNoPath r → Queues held waiting held' waiting' [] → Written end f tells of first old tree' s' walk' (noting findings r) held' waiting'
+      Written-error : (r : Outcome) → o ≡ r → IsNoPath r → Queues held waiting held' waiting' [] → Written end f tells of first old tree' walk' (noting findings r) held' waiting'
       Written-error (Gives (Found p)) is plain queued = absurd plain
       Written-error (Gives (Unread p k)) is plain queued = Written-unread p k is queued
       Written-error (LimitAt p) is plain queued = Written-refusal last.Limit (ap (λ r. is_last_step (Says r)) is) queued (λ c told ms begun.
-          let (all, less, are) = subst (λ r. GivesNext ms c w.given (Says r) walk) is ((going_on w.going).1 c told ms begun) in
-          (subst (λ n. n < cost ms) w.limit less, subst (λ n. w.given ≡ items (front n ms)) w.limit are))
+          let (all, less, are) = subst (λ r. GivesNext ms c w.given (Says r) walk') is ((gives o steps).1 c told ms begun) in
+          let same_limit = steps.0.limit ∙ w.limit in
+          (subst (λ n. n < cost ms) same_limit less, subst (λ n. w.given ≡ items (front n ms)) same_limit are))
       Written-error NoMemory is plain queued = Written-refusal last.Memory (ap (λ r. is_last_step (Says r)) is) queued (λ c told ms begun.
-          let cut = subst (λ r. GivesNext ms c w.given (Says r) walk) is ((going_on w.going).1 c told ms begun) in
-          (walk.spent, subst (λ n. walk.spent ≤ n) w.limit w.within, cut))
+          let cut = subst (λ r. GivesNext ms c w.given (Says r) walk') is ((gives o steps).1 c told ms begun) in
+          (walk'.spent, subst (λ n. walk'.spent ≤ n) (steps.0.limit ∙ w.limit) steps.0.within, cut))
 
-  -- the answer of a choice to an item
-  abbrev pub IsAnswered : Bool → Result (PathBuf A) (GlobError A) → Type 0
-  IsAnswered sure item = (c : Content) → IsTold (tells tree) c → sure ≡ is_item_wanted (f c) item
+    -- the answer of a choice to an item
+    abbrev pub IsAnswered : Bool → Result (PathBuf A) (GlobError A) → Type 0
+    IsAnswered sure item = (c : Content) → IsTold (tells asked) c → sure ≡ is_item_wanted (f c) item
 
-  -- an item was written, or waits, where it is wanted
-  Written-item : (item : Result (PathBuf A) (GlobError A)) → Written end f tells of first old tree (Says (outcome item)) walk findings held waiting
-      → (findings' : Findings) (held' : Option (List ℕ)) (waiting' : List ℕ)
-      → StepWrites end IsAnswered (step.Item item) findings findings' (Queues held waiting held' waiting') waiting'
-      → (tree' : X) → tells tree' ≡ tells tree → (s' : Saying) (walk' : MachineState A) (n : ℕ) → StepCounts n walk s' walk' → TellsStep (IsTold (tells tree)) walk s' walk'
-      → Written end f tells of first old tree' s' walk' findings' held' waiting'
-  Written-item (Ok path) w findings' held' waiting' (inl (sure, noted, queued)) tree' same s' walk' n counts next =
-      subst (λ x. Written end f tells of first old tree' s' walk' x held' waiting') (sym noted)
-      (Written-path _ w tree' same s' walk' held' waiting' n counts next (path_buf_bytes path) refl sure queued)
-  Written-item (Err e) w findings' held' waiting' (inl (sure, noted, queued)) tree' same s' walk' n counts next =
-      subst (λ x. Written end f tells of first old tree' s' walk' x held' waiting') (sym noted)
-      (Written-error _ w tree' same s' walk' held' waiting' n counts next (error_outcome e.cause e) refl (no_path e.cause e) queued)
-  Written-item (Ok path) w findings' held' waiting' (inr (never, is, noted, queued)) tree' same s' walk' n counts next =
-      subst (λ x. Written end f tells of first old tree' s' walk' x held' waiting') (sym noted)
-      (Written-passed _ w tree' same s' walk' held' waiting' n counts next (path_buf_bytes path) refl never queued)
-  Written-item (Err e) w findings' held' waiting' (inr (never, is, noted, queued)) tree' same s' walk' n counts next = absurd is
+    -- what was written of a step
+    abbrev pub Writes : Step A → Findings → Type 0
+    Writes s findings' = StepWrites end IsAnswered s findings findings' (Queues held waiting held' waiting') waiting'
 
-  -- a step was written, and the walk went on
-  pub Written-next : (s : Step A) → (s ≡ step.Done → ⊥) → Written end f tells of first old tree (saying s) walk findings held waiting
-      → (findings' : Findings) (held' : Option (List ℕ)) (waiting' : List ℕ) → StepWrites end IsAnswered s findings findings' (Queues held waiting held' waiting') waiting'
-      → (asked tree' : X) → tells asked ≡ tells tree → tells tree' ≡ tells asked
-      → (s' : Saying) (walk' : MachineState A) (n : ℕ) → StepCounts n walk s' walk' → TellsStep (IsTold (tells asked)) walk s' walk'
-      → Written end f tells of first old tree' s' walk' findings' held' waiting'
-  Written-next s going w findings' held' waiting' wrote asked tree' same same' s' walk' n counts next = by_step s going w wrote
-    where
-      here : TellsStep (IsTold (tells tree)) walk s' walk'
-      here c all given told = next c all given (same ∙ told.0, told.1)
+    -- an item was written, or waits, where it is wanted
+    Written-item : (item : Result (PathBuf A) (GlobError A)) → Steps (Says (outcome item)) → (findings' : Findings) → Writes (step.Item item) findings'
+        → Written end f tells of first old tree' walk' findings' held' waiting'
+    Written-item (Ok path) steps findings' (inl (sure, noted, queued)) =
+        subst (λ x. Written end f tells of first old tree' walk' x held' waiting') (sym noted) (Written-path _ steps (path_buf_bytes path) refl sure queued)
+    Written-item (Err e) steps findings' (inl (sure, noted, queued)) =
+        subst (λ x. Written end f tells of first old tree' walk' x held' waiting') (sym noted) (Written-error _ steps (error_outcome e.cause e) refl (no_path e.cause e) queued)
+    Written-item (Ok path) steps findings' (inr (never, is, noted, queued)) =
+        subst (λ x. Written end f tells of first old tree' walk' x held' waiting') (sym noted) (Written-passed _ steps (path_buf_bytes path) refl never queued)
+    Written-item (Err e) steps findings' (inr (never, is, noted, queued)) = absurd is
 
-      answered : (t : Saying) → step_units t ≡ 1 → Written end f tells of first old tree t walk findings held waiting → (findings' ≡ findings) × Queues held waiting held' waiting' []
-          → Written end f tells of first old tree' s' walk' findings' held' waiting'
-      answered t question v (noted, queued) = subst (λ x. Written end f tells of first old tree' s' walk' x held' waiting') (sym noted)
-          (Written-answer t s' question v tree' walk' held' waiting' n (same' ∙ same) queued counts here)
+    -- a step was written, and it is not the last
+    pub Written-next : (s : Step A) → (s ≡ step.Done → ⊥) → Steps (saying s) → (findings' : Findings) → Writes s findings' → Written end f tells of first old tree' walk' findings' held' waiting'
+    Written-next s going steps findings' wrote = by_step s going steps wrote
+      where
+        question : (t : Saying) → step_units t ≡ 1 → Steps t → (findings' ≡ findings) × Queues held waiting held' waiting' [] → Written end f tells of first old tree' walk' findings' held' waiting'
+        question t unit steps (noted, queued) = subst (λ x. Written end f tells of first old tree' walk' x held' waiting') (sym noted) (Written-asked t unit steps queued)
 
-      by_step : (t : Step A) → (t ≡ step.Done → ⊥) → Written end f tells of first old tree (saying t) walk findings held waiting
-          → StepWrites end IsAnswered t findings findings' (Queues held waiting held' waiting') waiting'
-          → Written end f tells of first old tree' s' walk' findings' held' waiting'
-      by_step (step.Item item) going v wrote = Written-item item v findings' held' waiting' wrote tree' (same' ∙ same) s' walk' n counts here
-      by_step step.Done going v wrote = absurd (going refl)
-      by_step step.Look going v wrote = answered AsksLook refl v wrote
-      by_step step.List going v wrote = answered _ refl v wrote
-      by_step step.ListNames going v wrote = answered _ refl v wrote
+        by_step : (t : Step A) → (t ≡ step.Done → ⊥) → Steps (saying t) → Writes t findings' → Written end f tells of first old tree' walk' findings' held' waiting'
+        by_step (step.Item item) going steps wrote = Written-item item steps findings' wrote
+        by_step step.Done going steps wrote = absurd (going refl)
+        by_step step.Look going steps wrote = question AsksLook refl steps wrote
+        by_step step.List going steps wrote = question _ refl steps wrote
+        by_step step.ListNames going steps wrote = question _ refl steps wrote
 
-  -- a step could not be written
-  pub Written-fault : (s : Step A) → Written end f tells of first old tree (saying s) walk findings held waiting
-      → (held' : Option (List ℕ)) → ((c : Content) → IsTold (tells tree) c → AppendsFront held held' (waiting ++ step_record end (f c) s)) → Over tells of first (λ ms c. FindsSomeBytes end (f c) ms old held')
-  Written-fault s w held' some c told ms begun = by_step s w (some c (w.same ∙ told.0, told.1))
-    where
-      none : (t : Saying) → Written end f tells of first old tree t walk findings held waiting → AppendsFront held held' (waiting ++ []) → FindsSomeBytes end (f c) ms old held'
-      none t v wrote = Written-before t v held' (subst (AppendsFront held held') (append-nil waiting) wrote) c told ms begun
+    -- after the last step all lines were written, and nothing is left of the walk
+    pub Written-done : (s : Step A) → s ≡ step.Done → Steps (saying s) → (findings' : Findings) → Writes s findings' → Over tells of first (λ ms c. FindsPaths end (f c) ms first.limit old held' findings')
+    Written-done s is steps findings' wrote c told ms begun =
+        let (noted, queued, none) = subst (λ t. Writes t findings') is wrote in
+        subst (FindsPaths end (f c) ms first.limit old held') (sym noted)
+        (w.given, gave (goes_on (saying s) steps), subst (λ ts. Appends old held' (with_ends end ts)) kept (all queued none), w.path ∙ ap has_any kept, w.error)
+      where
+        kept : w.texts ≡ wanted_paths (f c) w.given
+        kept = w.kept c told ms begun
 
-      by_path : (path : PathBuf A) (yes : Bool) → yes ≡ f c (path_buf_bytes path) → Written end f tells of first old tree (Says (Gives (Found (path_buf_bytes path)))) walk findings held waiting
-          → AppendsFront held held' (waiting ++ (if yes then ended_record end (path_buf_bytes path) else [])) → FindsSomeBytes end (f c) ms old held'
-      by_path path true sure v wrote = path_fault _ v (path_buf_bytes path) refl c told sure held' wrote ms begun
-      by_path path false never v wrote = none _ v wrote
+        all : Queues held waiting held' waiting' [] → waiting' ≡ [] → Appends old held' (with_ends end w.texts)
+        all queued none = Queues-all old held' (with_ends end w.texts) (subst (λ l. Queues old [] held' l (with_ends end w.texts)) none (still queued))
 
-      by_step : (t : Step A) → Written end f tells of first old tree (saying t) walk findings held waiting → AppendsFront held held' (waiting ++ step_record end (f c) t) → FindsSomeBytes end (f c) ms old held'
-      by_step (step.Item (Ok path)) v wrote = by_path path (f c (path_buf_bytes path)) refl v wrote
-      by_step (step.Item (Err e)) v wrote = none _ v wrote
-      by_step step.Done v wrote = none _ v wrote
-      by_step step.Look v wrote = none _ v wrote
-      by_step step.List v wrote = none _ v wrote
-      by_step step.ListNames v wrote = none _ v wrote
-
-  -- after the last step all lines were written, and nothing is left of the walk
-  pub Written-done : (s : Step A) → s ≡ step.Done → Written end f tells of first old tree (saying s) walk findings held waiting
-      → (findings' : Findings) (held' : Option (List ℕ)) (waiting' : List ℕ) → StepWrites end IsAnswered s findings findings' (Queues held waiting held' waiting') waiting'
-      → Over tells of first (λ ms c. FindsPaths end (f c) ms first.limit old held' findings')
-  Written-done s is w findings' held' waiting' wrote c told ms begun =
-      let (noted, queued, none) = subst (λ t. StepWrites end IsAnswered t findings findings' (Queues held waiting held' waiting') waiting') is wrote in
-      subst (FindsPaths end (f c) ms first.limit old held') (sym noted) (Written-end (saying s) (ap (λ t. saying t) is) w held' waiting' queued none c told ms begun)
+        gave : ((findings.end ≡ last.Done) × Over tells of first (λ ms c. GivesNext ms c w.given (saying s) walk'))
+            ⊎ ((saying s ≡ Ends) × Over tells of first (λ ms c. GaveItems ms first.limit findings.end w.given))
+            → GaveItems ms first.limit findings.end w.given
+        gave (inr over) = over.1 c told ms begun
+        gave (inl (done, said)) =
+            let (are, units) = subst (λ t. GivesNext ms c w.given (saying t) walk') is (said c told ms begun) in
+            let fits : cost ms ≤ first.limit = omega (arith, steps.0.within, steps.0.limit, w.limit, units) in
+            subst (λ e. GaveItems ms first.limit e w.given) (sym done) (fits, are)

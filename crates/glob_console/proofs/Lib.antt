@@ -1,6 +1,6 @@
+pub mod BorrowedLemmas
 pub mod CallerLemmas
 pub mod FoundLemmas
 pub mod ItemLemmas
 pub mod NumberLemmas
-pub mod StepLemmas
 pub mod WritingLemmas

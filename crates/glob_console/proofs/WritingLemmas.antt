@@ -33,6 +33,16 @@ Appends-more a b c all done rest n split before wrote = (
   Appends-trans a b c done (take n rest) before wrote,
 )
 
+-- it is one of more bytes
+pub AppendsFront-longer : (old new : Option (List ℕ)) (bytes rest : List ℕ) → AppendsFront old new bytes → AppendsFront old new (bytes ++ rest)
+AppendsFront-longer old new bytes rest (n, wrote) =
+    AppendsFront-front old new (bytes ++ rest) (take n bytes) (drop n bytes ++ rest) (ap (λ l. l ++ rest) (sym (take-append-drop n bytes)) ∙ append_assoc (take n bytes) (drop n bytes) rest) wrote
+
+-- whether all bytes were written or not, the first were
+pub AppendsFront-either : {T E : Type 0} (r : Result T E) (old new : Option (List ℕ)) (bytes : List ℕ) → OnOk r (Appends old new bytes) → OnErr r (AppendsFront old new bytes) → AppendsFront old new bytes
+AppendsFront-either (Ok x) old new bytes all some = AppendsFront-front old new bytes bytes [] (sym (append-nil bytes)) all
+AppendsFront-either (Err e) old new bytes all some = some
+
 -- nothing was written
 pub AppendsFront-none : (old new : Option (List ℕ)) (bytes : List ℕ) → Keeps old new → AppendsFront old new bytes
 AppendsFront-none None new bytes same = (0, tt)

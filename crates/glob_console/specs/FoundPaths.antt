@@ -36,14 +36,15 @@ wanted_paths wanted is = filter wanted (paths is)
 abbrev pub found_status : (wanted : Text → Bool) → List Item → ℕ
 found_status wanted is = if has_unread is then 2 else (if has_any (wanted_paths wanted is) then 0 else 1)
 
--- What a walk gave that came to this end within the limit: all items of the listing; those before the first unit of work
--- that does not fit; or, without memory, those of what was charged, but for at most the last.
+-- What a walk gave that came to this end within the limit: all items of the listing; those before the first unit of
+-- work that does not fit; or, without memory, those of what was charged, but for at most the last.
 abbrev pub GaveItems : (listing : List Mark) → (limit : ℕ) → End → List Item → Type 0
 GaveItems ms limit end.Done given = (cost ms ≤ limit) × (given ≡ items ms)
 GaveItems ms limit end.Limit given = (limit < cost ms) × (given ≡ items (front limit ms))
 GaveItems ms limit end.Memory given = (spent : ℕ) × (spent ≤ limit) × IsCutShort ms spent given
 
--- The wanted paths of what the walk gave were written, a record each, in order, also those between errors and after them.
+-- The wanted paths of what the walk gave were written, a record each, in order, also those between errors and after
+-- them.
 abbrev pub FindsPaths : (end : ℕ) → (wanted : Text → Bool) → (listing : List Mark) → (limit : ℕ)
     → (old new : Option (List ℕ)) → Findings → Type 0
 FindsPaths end wanted ms limit old new findings =

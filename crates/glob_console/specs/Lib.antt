@@ -1,5 +1,6 @@
 pub mod FoundPaths
 pub mod Laws
+pub mod Lines
 pub mod Outcomes
 pub mod Private
 pub mod Words

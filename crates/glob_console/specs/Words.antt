@@ -1,9 +1,10 @@
 -- What a word of a command line is, in each of the programs.
-use Rattle.std.specs.Prelude.{ℕ, ◌^◌, ◌==◌, ◌&&◌, ◌||◌, Bool, true, false, [], ◌∷◌, Option, None, Some, if◌then◌else◌, length, nat_lt, nat_le, codes, bytes_eq}
+use Rattle.std.specs.Prelude.{ℕ, ◌^◌, ◌==◌, ◌&&◌, Bool, false, [], ◌∷◌, Option, None, Some, if◌then◌else◌, is_some, unwrap_or, length, nat_lt, nat_le}
 use Rattle.std.specs.List.{list_all}
 use Rattle.std.specs.Char.{is_ascii_digit}
 use Rattle.std.specs.Str.Parse.{digits_value}
 use Rattle.glob_text.specs.Text.{Text}
+use Rattle.glob_pattern.specs.Matching.Options.{with_letter}
 use Rattle.glob_pattern.specs.declared.options.MatchOptions.{MatchOptions}
 
 -- a word that begins with a hyphen
@@ -21,13 +22,17 @@ is_limit word =
 abbrev pub limit_of : Text → Option ℕ
 limit_of word = if is_limit word then Some (digits_value 10 word) else None
 
--- a word that sets a match option
-abbrev pub is_match_option : Text → Bool
-is_match_option word = bytes_eq word (codes "-i") || (bytes_eq word (codes "-s") || bytes_eq word (codes "-d"))
+-- the options with the one that the word sets: a hyphen, and the letter of a match option
+abbrev pub option_set : Text → MatchOptions → Option MatchOptions
+option_set [] options = None
+option_set (dash ∷ []) options = None
+option_set (dash ∷ letter ∷ []) options = if dash == 45 then with_letter letter options else None
+option_set (dash ∷ letter ∷ more ∷ rest) options = None
+
+-- the word sets a match option
+abbrev pub is_match_option : MatchOptions → Text → Bool
+is_match_option options word = is_some (option_set word options)
 
 -- the options once the word has set its own
 abbrev pub with_option : Text → MatchOptions → MatchOptions
-with_option word options =
-    if bytes_eq word (codes "-i") then record options { case_sensitive = false }
-    else (if bytes_eq word (codes "-s") then record options { require_literal_separator = true }
-    else (if bytes_eq word (codes "-d") then record options { require_literal_leading_dot = true } else options))
+with_option word options = unwrap_or (option_set word options) options

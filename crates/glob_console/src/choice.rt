@@ -8,8 +8,8 @@ ghost use Rattle.glob_tree.specs.Content.{Content};
 use glob_tree::Tree;
 use std::alloc::AllocError;
 
-/// What says which paths of a walk are written, and may look them up in the tree that is walked. The same choice gives the
-/// same answer for the same path and content.
+/// What says which paths of a walk are written, and may look them up in the tree that is walked. The same choice gives
+/// the same answer for the same path and content.
 ///
 /// ```text
 /// struct Directories;

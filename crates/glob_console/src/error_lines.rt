@@ -1,21 +1,26 @@
 //! The lines of standard error.
-ghost use Rattle.std.specs.Prelude.{◌≡◌};
+ghost use Rattle.std.specs.Prelude.{◌≡◌, ◌++◌, ◌↔◌, IfSome, IsFalse, IsTrue, codes};
+ghost use Rattle.std.specs.IoError.{error_kind};
+ghost use Rattle.std.specs.declared.io.ErrorKind.TheVariants.{BrokenPipe};
+ghost use Rattle.glob_console.specs.Lines.{WritesLine};
+ghost use Rattle.glob_lines.specs.Lines.{AppendsFront};
 
 use crate::status::FAULT;
+use crate::writing::write_whole;
 use std::alloc::Allocator;
 use std::fmt::Display;
 use std::io::{self, Write};
 
-/// The lines that a program writes to standard error, each behind the same words: the program's name, or none. A fault of
-/// the writer itself is dropped.
+/// The lines that a program writes to standard error, each behind the same words: the program's name, or none. A fault
+/// of the writer itself is dropped.
 ///
-/// By `ErrorLines::new(alloc, "glob_files: ", &mut stderr)` the fault `out of memory` is the line
-/// `glob_files: out of memory`.
+/// By `ErrorLines::new(alloc, "globs: ", &mut stderr)` the fault `out of memory` is the line `globs: out of memory`.
 #[derive(Drop)]
 pub struct ErrorLines<'e, A: Allocator, E> {
     alloc: A,
     prefix: &'e str,
     writer: &'e mut E,
+    is_quiet: bool,
 }
 
 impl<'e, A: Allocator + Copy, E: Write> ErrorLines<'e, A, E> {
@@ -25,29 +30,57 @@ impl<'e, A: Allocator + Copy, E: Write> ErrorLines<'e, A, E> {
             alloc,
             prefix,
             writer,
+            is_quiet: false,
         }
     }
 
-    /// Writes a line at once, so that no other process writes into it. Where there is no memory for the line, it is written
-    /// piece by piece.
-    pub fn write<D: Display>(&mut self, message: &D) {
+    /// The same lines, but none for a write whose reader went away.
+    pub fn quiet(alloc: A, prefix: &'e str, writer: &'e mut E) -> Self {
+        ErrorLines {
+            is_quiet: true,
+            ..Self::new(alloc, prefix, writer)
+        }
+    }
+
+    /// Writes a line at once, so that no other process writes into it. Where there is no memory for the line, it says
+    /// `out of memory`.
+    pub fn write<D: Display>(&mut self, message: &D)
+        ensures { IfSome (D.output message.now) (λ text. WritesLine self.old.prefix.now text
+            (E.contents self.old.writer.now) (E.contents self.new.writer.now)) }
+    {
         let prefix = self.prefix;
         let _ = match format!(in self.alloc; "{prefix}{message}\n") {
-            Ok(line) => self.writer.write_all(line.as_bytes()),
-            Err(_) => writeln!(self.writer, "{prefix}{message}"),
+            Ok(line) => write_whole(self.writer, line.as_bytes()),
+            Err(_) => write_scarce(prefix, self.writer),
         };
     }
 
     /// Writes the line of a fault, and returns its status.
     pub fn fault<D: Display + Drop>(&mut self, message: D) -> u8
-        ensures { result ≡ 2 }
+        ensures status { result ≡ 2 }
+        ensures line { IfSome (D.output message) (λ text. WritesLine self.old.prefix.now text
+            (E.contents self.old.writer.now) (E.contents self.new.writer.now)) }
     {
         self.write(&message);
         FAULT
     }
 
-    /// Writes the line of arguments that could not be read: `out of memory`, or `message` where one is not UTF-8. It returns
-    /// the status of a fault.
+    /// Writes the line of a write to the output that failed, and returns the status of a fault: `out of memory`, or
+    /// `writing failed`. Quiet lines have none where the reader of the output went away.
+    pub fn write_fault(&mut self, error: &io::Error) -> u8
+        ensures { result ≡ 2 }
+    {
+        if !is_reported(self.is_quiet, error) {
+            return FAULT;
+        }
+        match error.kind() {
+            io::ErrorKind::OutOfMemory => self.fault("out of memory"),
+            _ => self.fault("writing failed"),
+        }
+    }
+
+    /// Writes the line of arguments that could not be read: `out of memory`, or `message` where one is not UTF-8. It
+    /// returns the status of a fault.
     pub fn arguments_fault(&mut self, error: &io::Error, message: &str) -> u8
         ensures { result ≡ 2 }
     {
@@ -56,4 +89,20 @@ impl<'e, A: Allocator + Copy, E: Write> ErrorLines<'e, A, E> {
             _ => self.fault(message),
         }
     }
+}
+
+/// Writes, piece by piece, the line of a line that there was no memory for.
+fn write_scarce<E: Write>(prefix: &str, writer: &mut E) -> io::Result<()>
+    ensures { AppendsFront (E.contents writer.old) (E.contents writer.new)
+        (prefix.now ++ codes "out of memory\n") }
+{
+    write_whole(writer, prefix.as_bytes())?;
+    write_whole(writer, b"out of memory\n")
+}
+
+/// Whether a write that failed has a line: not if the lines are quiet and its reader went away.
+fn is_reported(is_quiet: bool, error: &io::Error) -> bool
+    ensures { IsFalse result ↔ (IsTrue is_quiet × (error_kind error.now ≡ BrokenPipe)) }
+{
+    !(is_quiet && error.kind() == io::ErrorKind::BrokenPipe)
 }

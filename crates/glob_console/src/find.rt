@@ -1,13 +1,12 @@
 //! What a walk of a tree finds and a choice wants, a record for each path.
-ghost use Rattle.std.specs.Prelude.{◌≡◌, ◌≢◌, ◌++◌, [], ℕ, List, None, IfOk, IfErr, IsErrAnd, OnErr, OnOk};
+ghost use Rattle.std.specs.Prelude.{◌≡◌, ◌≢◌, ◌++◌, [], List, IfOk, IfErr, IsErrAnd, OnErr, OnOk};
 ghost use Rattle.glob_tree.specs.Answers.{IsTold};
 ghost use Rattle.glob_tree.specs.Content.{Content};
 ghost use Rattle.glob_lines.specs.Lines.{AppendsFront};
 ghost use Rattle.glob_walk.specs.Components.{walk_fault};
 ghost use Rattle.glob_walk.specs.Listing.{listing};
-ghost use Rattle.glob_walk.specs.Machines.{Ends, IsAskedAfter, StepCounts, saying};
-ghost use Rattle.glob_walk.specs.Marks.{Item, Mark};
-ghost use Rattle.glob_walk.specs.Driven.{GivesNext, HasGiven};
+ghost use Rattle.glob_walk.specs.Marks.{Mark};
+ghost use Rattle.glob_walk.specs.Driven.{HasGiven};
 ghost use Rattle.glob_console.specs.FoundPaths.{FindsPaths, FindsSomeBytes, IsFindFault, IsRefusal};
 ghost use Rattle.glob_console.specs.Private.Writing.{Queues, StepWrites, is_item_wanted, step_record};
 
@@ -38,13 +37,13 @@ pub struct WalkSettings<'a> {
     pub end: u8,
 }
 
-/// Walks the tree: each path that the choice wants is a record of `output`, and each error a line of `errors`, after the
-/// paths before it. A path waits for others before it is written, but not for long: after 8 KiB or a hundred units of the
-/// walk.
+/// Walks the tree: each path that the choice wants is a record of `output`, and each error a line of `errors`, after
+/// the paths before it. A path waits for others before it is written, but not for long: after 8 KiB or a hundred units
+/// of the walk.
 ///
-/// Over files `x` and `y`, `*` writes the lines `x` and `y`, where every path is wanted. With the limit 3 it writes none, and
-/// the walk's end is `Limit`. If the pattern is refused, `output` stays as it was. If a line cannot be written, `output`
-/// gained the first bytes of these lines.
+/// Over files `x` and `y`, `*` writes the lines `x` and `y`, where every path is wanted. With the limit 3 it writes
+/// none, and the walk's end is `Limit`. If the pattern is refused, `output` stays as it was. If a line cannot be
+/// written, `output` gained the first bytes of these lines.
 pub fn find_in<T: Tree, C: Choice, W: Write, E: Write>(
     alloc: T::Alloc,
     tree: T,
@@ -89,7 +88,6 @@ fn write_items<T: Tree, C: Choice, W: Write, E: Write>(
     output: &mut W,
     errors: &mut ErrorLines<'_, T::Alloc, E>,
 ) -> io::Result<Findings>
-    requires free { walk.old.asked ≡ None }
     ensures paths { (c : Content) → IsTold (T.tells tree.old) c → (ms : List Mark)
         → HasGiven ms c [] walk.old → IfOk result (FindsPaths
         end (C.wanted choice.now c) ms walk.old.limit
@@ -101,8 +99,8 @@ fn write_items<T: Tree, C: Choice, W: Write, E: Write>(
 {
     let mut lines = Lines::new(alloc)?;
     let mut findings = Findings::new();
-    let mut step = walk.next();
     loop {
+        let step = walk.advance(tree);
         write_step(
             &step,
             walk.spent(),
@@ -117,12 +115,11 @@ fn write_items<T: Tree, C: Choice, W: Write, E: Write>(
         if let Step::Done = step {
             return Ok(findings);
         }
-        step = go_on(step, tree, walk);
     }
 }
 
-/// Writes and notes the item of a step, if it is wanted: a path, or an error. After the last step it writes all lines that
-/// wait, and before a question those that have waited long.
+/// Writes and notes the item of a step, if it is wanted: a path, or an error. After the last step it writes all lines
+/// that wait, and before a question those that have waited long.
 fn write_step<T: Tree, C: Choice, W: Write, E: Write>(
     step: &Step<T::Alloc>,
     spent: u64,
@@ -164,42 +161,5 @@ fn write_step<T: Tree, C: Choice, W: Write, E: Write>(
         },
         Step::Done => lines.flush(output),
         _ => lines.before_ask(spent, output),
-    }
-}
-
-/// Goes on with a walk after a step that is not its last, and returns the next one. The tree answers a question.
-#[inline]
-fn go_on<T: Tree>(
-    step: Step<T::Alloc>,
-    tree: &mut T,
-    walk: &mut WalkMachine<T::Alloc>,
-) -> Step<T::Alloc>
-    requires more { saying step ≢ Ends }
-    requires asked { IsAskedAfter (saying step) walk.old.asked }
-    ensures content { T.tells tree.new ≡ T.tells tree.old }
-    ensures counts { (n : ℕ) × StepCounts n walk.old (saying result) walk.new }
-    ensures driven { (c : Content) → (all : List Mark) → (given : List Item)
-        → IsTold (T.tells tree.old) c → HasGiven all c given walk.old
-        → GivesNext all c given (saying result) walk.new }
-{
-    match step {
-        Step::Item(item) => {
-            // It is freed before the next one is made.
-            drop(item);
-            walk.next()
-        }
-        Step::Look => {
-            let seen = tree.look(walk.path());
-            walk.looked(seen)
-        }
-        Step::List => {
-            let listed = tree.list(walk.path());
-            walk.listed(listed)
-        }
-        Step::ListNames => {
-            let named = tree.list_names(walk.path());
-            walk.listed(named)
-        }
-        Step::Done => unreachable!(),
     }
 }

@@ -1,6 +1,7 @@
 //! What the programs share at the command line: words, lines of standard error, and the paths of a walk as records.
 #![tactic(auto)]
 
+mod borrowed;
 mod choice;
 mod error_lines;
 mod find;
@@ -9,6 +10,7 @@ mod status;
 mod words;
 mod writing;
 
+pub use borrowed::Borrowed;
 pub use choice::{Choice, Every};
 pub use error_lines::ErrorLines;
 pub use find::fault::FindFault;

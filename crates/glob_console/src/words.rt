@@ -2,7 +2,7 @@
 ghost use Rattle.std.specs.Prelude.{◌≡◌, IfOk, map, string_bytes};
 ghost use Rattle.std.specs.Char.{is_ascii_digit};
 ghost use Rattle.std.specs.List.{list_all};
-ghost use Rattle.glob_console.specs.Words.{is_match_option, limit_of, with_option};
+ghost use Rattle.glob_console.specs.Words.{is_match_option, limit_of, option_set, with_option};
 
 use glob_pattern::MatchOptions;
 use std::alloc::{AllocError, Allocator};
@@ -30,16 +30,26 @@ pub fn words_of<A: Allocator + Copy>(
 
 /// Sets the match option that the word names: `-i`, `-s` or `-d`. False where it names none.
 pub fn set_match_option(options: &mut MatchOptions, word: &str) -> bool
-    ensures named { result ≡ is_match_option word.now }
+    ensures named { result ≡ is_match_option options.old word.now }
     ensures set { options.new ≡ with_option word.now options.old }
 {
-    match word {
-        "-i" => options.case_sensitive = false,
-        "-s" => options.require_literal_separator = true,
-        "-d" => options.require_literal_leading_dot = true,
-        _ => return false,
+    match option_set(*options, word) {
+        Some(set) => {
+            *options = set;
+            true
+        }
+        None => false,
     }
-    true
+}
+
+/// The options with the one that the word sets: a hyphen, and the letter of a match option.
+fn option_set(options: MatchOptions, word: &str) -> Option<MatchOptions>
+    ensures { result ≡ option_set word.now options }
+{
+    match word.as_bytes() {
+        [b'-', letter] => options.with_letter(*letter as char),
+        _ => None,
+    }
 }
 
 /// A limit: one to twenty decimal digits, whose number is at most `u64::MAX`. So `007` is 7, and `+7` none.

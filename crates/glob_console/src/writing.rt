@@ -10,7 +10,7 @@ use crate::status::FOUND;
 use std::alloc::Allocator;
 use std::io::{self, ErrorKind, Write};
 
-/// Writes the whole text, and returns the status: 0, or 2 after the line `writing failed`.
+/// Writes the whole text, and returns the status: 0, or 2 after the line of a write that failed.
 #[tactic(auto, unfolding(crate::specs::Outcomes::WritesText))]
 pub fn write_text<A: Allocator + Copy, W: Write, E: Write>(
     text: &str,
@@ -22,12 +22,12 @@ pub fn write_text<A: Allocator + Copy, W: Write, E: Write>(
 {
     match write_whole(output, text.as_bytes()) {
         Ok(()) => FOUND,
-        Err(_) => errors.fault("writing failed"),
+        Err(error) => errors.write_fault(&error),
     }
 }
 
-/// Writes all of the bytes, in as many writes as it takes, and tries again where one was interrupted. At any other error
-/// the first bytes were written, some or none of them. The contract of `write_all` does not say so.
+/// Writes all of the bytes, in as many writes as it takes, and tries again where one was interrupted. At any other
+/// error the first bytes were written, some or none of them. The contract of `write_all` does not say so.
 #[inline]
 pub fn write_whole<W: Write>(writer: &mut W, bytes: &[u8]) -> io::Result<()>
     ensures all { OnOk result

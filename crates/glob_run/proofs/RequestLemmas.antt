@@ -1,28 +1,32 @@
 -- What the words after `find` ask for, once their first one or two are read.
-use Rattle.std.proofs.Common.{◌≡◌, ℕ, ◌-◌, ◌<◌, ◌≤◌, ◌&&◌, ◌||◌, Bool, true, false, List, [], ◌∷◌, None, Some, length, get_or, take, drop, map, refl, sym, subst, Bor, arith}
+use Rattle.std.proofs.Common.{◌≡◌, ℕ, ◌-◌, ◌<◌, ◌≤◌, ◌==◌, Bool, true, false, if◌then◌else◌, Option, is_some, List, [], ◌∷◌, None, Some, length, get_or, take, drop, map, refl, sym, subst, Bor, arith}
 use Rattle.std.specs.Prelude.{codes, bytes_eq}
+use Rattle.std.proofs.lemmas.Bool.{false≢true}
 use Rattle.std.proofs.lemmas.List.{take_rest}
+use Rattle.glob.specs.Matching.Options.{with_letter}
 use Rattle.glob.specs.Types.{MatchOptions}
 use Rattle.glob_console.specs.Words.{is_match_option, is_option, limit_of, with_option}
 use Rattle.glob_run.specs.CommandLine.{paths_request}
 
-first_of_each : (a p q r : Bool) → ((a && p) || ((a && q) || (a && r))) ≡ true → a ≡ true
-first_of_each true p q r e = refl
-first_of_each false p q r e = e
+if_some : {X : Type 0} (b : Bool) (x : Option X) → is_some (if b then x else None) ≡ true → b ≡ true
+if_some true x e = refl
+if_some false x e = e
 
 -- a word that sets an option begins with a hyphen
-is_option-from_match_option : (word : List ℕ) → is_match_option word ≡ true → is_option word ≡ true
-is_option-from_match_option [] e = e
-is_option-from_match_option (c ∷ cs) e = first_of_each _ _ _ _ e
+is_option-from_match_option : (o : MatchOptions) (word : List ℕ) → is_match_option o word ≡ true → is_option word ≡ true
+is_option-from_match_option o [] e = e
+is_option-from_match_option o (c ∷ []) e = absurd (false≢true e)
+is_option-from_match_option o (c ∷ letter ∷ []) e = if_some (c == 45) (with_letter letter o) e
+is_option-from_match_option o (c ∷ letter ∷ d ∷ ds) e = absurd (false≢true e)
 
-option_first : (o : MatchOptions) (limit : ℕ) (word : List ℕ) (words : List (List ℕ)) → bytes_eq word (codes "-n") ≡ false → is_match_option word ≡ true
+option_first : (o : MatchOptions) (limit : ℕ) (word : List ℕ) (words : List (List ℕ)) → bytes_eq word (codes "-n") ≡ false → is_match_option o word ≡ true
     → paths_request o limit (word ∷ words) ≡ paths_request (with_option word o) limit words
-option_first o limit word [] other sets = let e = is_option-from_match_option word sets in rw e refl
+option_first o limit word [] other sets = let e = is_option-from_match_option o word sets in rw e refl
 option_first o limit word (next ∷ words) other sets = rw other (rw sets refl)
 
 -- after a word that sets an option
 pub paths_request-option : (o : MatchOptions) (limit : ℕ) (none : Bor (List ℕ)) (words : List (Bor (List ℕ))) → 1 ≤ length words
-    → bytes_eq (get_or words 0 none).now (codes "-n") ≡ false → is_match_option (get_or words 0 none).now ≡ true
+    → bytes_eq (get_or words 0 none).now (codes "-n") ≡ false → is_match_option o (get_or words 0 none).now ≡ true
     → paths_request o limit (map (λ w. w.now) words)
     ≡ paths_request (with_option (get_or words 0 none).now o) limit (map (λ w. w.now) (take (length words - 1) (drop 1 words)))
 paths_request-option o limit none [] long other sets = absurd (omega (arith, long))

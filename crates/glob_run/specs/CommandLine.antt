@@ -17,7 +17,7 @@ operand_of (a ∷ b ∷ c ∷ more) = None
 abbrev pub lines_request : MatchOptions → List Text → Option Request
 lines_request options [] = None
 lines_request options (word ∷ words) =
-    if is_match_option word then lines_request (with_option word options) words
+    if is_match_option options word then lines_request (with_option word options) words
     else option_map (Lines options) (operand_of (word ∷ words))
 
 -- The words after `find`, under the options and the limit that were set before them. `-n` takes the word after it.
@@ -26,7 +26,7 @@ paths_request options limit [] = None
 paths_request options limit (word ∷ []) = option_map (Paths options limit) (operand_of (word ∷ []))
 paths_request options limit (word ∷ next ∷ words) =
     if bytes_eq word (codes "-n") then option_and_then (λ most. paths_request options most words) (limit_of next)
-    else (if is_match_option word then paths_request (with_option word options) limit (next ∷ words)
+    else (if is_match_option options word then paths_request (with_option word options) limit (next ∷ words)
     else option_map (Paths options limit) (operand_of (word ∷ next ∷ words)))
 
 -- the words after the program's name

@@ -40,6 +40,6 @@ pub fn run_find<T: Tree, W: Write, E: Write>(
     };
     match find_in(alloc, tree, walk, &Every, output, errors) {
         Ok(findings) => findings.status(),
-        Err(find_fault) => errors.fault(find_fault),
+        Err(find_fault) => find_fault.report(errors),
     }
 }

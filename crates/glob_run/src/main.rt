@@ -10,17 +10,15 @@ ghost use Rattle.glob_console.specs.Outcomes.{IsRefused};
 ghost use Rattle.glob_run.specs.CommandLine.{request_asked};
 ghost use Rattle.glob_run.specs.Outcomes.{CopiesLines, Fulfils, IsEscapedLine, WritesEscaped};
 
-mod borrowed;
 mod command;
 mod find;
 #[cfg(test)]
 mod tests;
 
-use borrowed::Borrowed;
 use command::Command;
 use find::run_find;
 use glob::{Disk, LineFault, MatchOptions, Pattern, Tree, Watch, filter_lines};
-use glob_console::{ErrorLines, FOUND, UNFOUND, arguments, words_of, write_text};
+use glob_console::{Borrowed, ErrorLines, FOUND, UNFOUND, arguments, words_of, write_text};
 use std::alloc::{AllocError, Allocator};
 use std::io::{Read, Write};
 use std::process::ExitCode;

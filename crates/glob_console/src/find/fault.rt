@@ -1,9 +1,12 @@
 //! Why a search wrote less than it found.
-use glob_pattern::PatternRefusal;
-use std::fmt::{self, Display};
-use std::io::{self, ErrorKind};
+ghost use Rattle.std.specs.Prelude.{◌≡◌};
 
-/// Why a search failed. It prints as the refusal, or as `writing failed` or `out of memory`.
+use crate::error_lines::ErrorLines;
+use glob_pattern::PatternRefusal;
+use std::alloc::Allocator;
+use std::io;
+
+/// Why a search failed.
 #[derive(Drop)]
 pub enum FindFault {
     /// The pattern of the walk was refused, before anything was looked up or written.
@@ -37,23 +40,13 @@ impl From<io::Error> for FindFault {
 }
 
 impl FindFault {
-    /// Whether the reader of the output went away, of which no line is written.
-    pub fn is_quiet(&self) -> bool {
+    /// Writes the line of the fault, and returns its status.
+    pub fn report<A: Allocator + Copy, E: io::Write>(self, errors: &mut ErrorLines<'_, A, E>) -> u8
+        ensures { result ≡ 2 }
+    {
         match self {
-            FindFault::Pattern(_) => false,
-            FindFault::Write(error) => error.kind() == ErrorKind::BrokenPipe,
-        }
-    }
-}
-
-impl Display for FindFault {
-    fn fmt<W: fmt::Write>(&self, f: &mut fmt::Formatter<W>) -> fmt::Result {
-        match self {
-            FindFault::Pattern(refusal) => Display::fmt(refusal, f),
-            FindFault::Write(error) => f.write_str(match error.kind() {
-                ErrorKind::OutOfMemory => "out of memory",
-                _ => "writing failed",
-            }),
+            FindFault::Pattern(refusal) => errors.fault(refusal),
+            FindFault::Write(error) => errors.write_fault(&error),
         }
     }
 }

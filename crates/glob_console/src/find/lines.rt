@@ -35,7 +35,8 @@ impl<A: Allocator> Lines<A> {
         })
     }
 
-    /// Adds the text and the byte that ends it. Where it fails, the first bytes of what waits and of these may have been written.
+    /// Adds the text and the byte that ends it. Where it fails, the first bytes of what waits and of these may have
+    /// been written.
     pub fn add<W: Write>(&mut self, text: &str, end: u8, output: &mut W) -> io::Result<()>
         ensures line { OnOk result (Queues (W.contents output.old) self.old.waiting.items
             (W.contents output.new) self.new.waiting.items (ended_record end text.now)) }

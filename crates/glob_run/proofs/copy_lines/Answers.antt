@@ -4,7 +4,7 @@ use Rattle.glob_run.proofs.CopyLemmas.{CopiesLines-some}
 use Rattle.glob_run.proofs.copy_lines.Goals as goal
 
 pub returns-in-Err-clause-lines : goal.returns-in-Err-clause-lines
-returns-in-Err-clause-lines g c = CopiesLines-some _ _ _ _ _ _ c.fault.ensures c.in-Err.ensures.some
+returns-in-Err-clause-lines g c = CopiesLines-some _ _ _ _ _ _ c.fault.ensures.status c.in-Err.ensures.some
 
 pub returns-in-Ok-eq0-clause-lines : goal.returns-in-Ok-eq0-clause-lines
 unfolding CopiesLines

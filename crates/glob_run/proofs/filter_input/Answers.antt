@@ -2,7 +2,7 @@ use Rattle.std.proofs.Common.{rules}
 use Rattle.std.proofs.lemmas.Result.{IfOk-weaker, on_err_weaker}
 use Rattle.glob.specs.Lines.{line_feed}
 use Rattle.glob.proofs.LineLemmas.{records_elsewhere, some_bytes_elsewhere, some_bytes_at_fault}
-use Rattle.glob_run.proofs.CopyLemmas.{Appends-borrowed}
+use Rattle.glob_console.proofs.CallerLemmas.{Appends-borrowed}
 use Rattle.glob_run.proofs.filter_input.Goals as goal
 
 pub returns-clause-lines : goal.returns-clause-lines

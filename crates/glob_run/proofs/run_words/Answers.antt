@@ -4,7 +4,7 @@ use Rattle.glob_run.proofs.run_words.Goals as goal
 
 pub returns-in_default-clause-request : goal.returns-in_default-clause-request
 unfolding Fulfils
-returns-in_default-clause-request g c = rw (sym c.parse.ensures, c.in_default.is) (c.fault.ensures, refl)
+returns-in_default-clause-request g c = rw (sym c.parse.ensures, c.in_default.is) (c.fault.ensures.status, refl)
 
 pub returns-in-Match-clause-request : goal.returns-in-Match-clause-request
 unfolding Fulfils

@@ -1,0 +1,29 @@
+//! A writer behind a reference.
+ghost use Rattle.std.specs.Prelude.{◌∷◌, option_map};
+
+use std::io::{self, Write};
+
+/// A writer behind a reference, for a call that takes a `&mut Borrowed`. By its contract such a call could exchange
+/// the reference, so `contents` begins with the reference's name. Calls only add at the end of `contents`, so the name
+/// shows that it is still the same writer.
+#[derive(Drop)]
+pub struct Borrowed<'w, W> {
+    pub writer: &'w mut W,
+}
+
+impl<W: Write> Write for Borrowed<'_, W> {
+    ghost contents = { λ borrowed. option_map (λ bytes. borrowed.writer.ghost_name ∷ bytes)
+        (W.contents borrowed.writer.now) };
+
+    fn write(&mut self, buf: &[u8]) -> io::Result<usize> {
+        self.writer.write(buf)
+    }
+
+    fn flush(&mut self) -> io::Result<()> {
+        self.writer.flush()
+    }
+
+    fn write_all(&mut self, buf: &[u8]) -> io::Result<()> {
+        self.writer.write_all(buf)
+    }
+}
