@@ -13,7 +13,7 @@ use Rattle.glob_walk.specs.Components.{has_root}
 use Rattle.glob_walk.specs.Goal.{goal, goal_text, start_key, is_readable, IsPlainWalk}
 use Rattle.glob_walk.specs.Listing.{listing}
 use Rattle.glob_walk.specs.Marks.{items, paths}
-use Rattle.glob_laws.proofs.GoalLemmas.ReachedGoals.{plain_walk_gives}
+use Rattle.glob_walk.proofs.GoalLemmas.ReachedGoals.{plain_walk_gives}
 use Rattle.glob_prune.specs.Laws.{IsFoundAndKept}
 use Rattle.glob_prune.specs.Pruning.{Exclusion, is_excluded, pruned}
 use Rattle.glob_prune.proofs.ContentLemmas.{is_content-pruned, same_current}

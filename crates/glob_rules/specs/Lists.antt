@@ -1,9 +1,10 @@
 -- The rules of a text, and which texts are refused.
-use Rattle.std.specs.Prelude.{◌≡◌, ◌⊎◌, ℕ, ◌+◌, ◌-◌, ◌^◌, ◌<◌, min, Bool, true, false, ◌&&◌, ◌==◌, if◌then◌else◌, List, [], ◌∷◌, ◌++◌, length, slice_index_or, drop, ⊤}
+use Rattle.std.specs.Prelude.{◌≡◌, ◌⊎◌, ℕ, ◌+◌, ◌-◌, ◌^◌, ◌<◌, min, Bool, true, ◌&&◌, ◌==◌, if◌then◌else◌, List, [], ◌∷◌, ◌++◌, length, slice_index_or, drop, ⊤}
 use Rattle.std.specs.List.{fold, slice_split}
 use Rattle.std.specs.Str.{chars, IsUtf8}
 use Rattle.glob_text.specs.Text.{Text, has}
 use Rattle.glob_pattern.specs.Grammar.Units.{IsAccepted}
+use Rattle.glob_pattern.specs.Matching.Options.{new_options}
 use Rattle.glob_pattern.specs.declared.options.MatchOptions.{MatchOptions}
 use Rattle.glob_rules.specs.Lines.{Line, line_of}
 use Rattle.glob_rules.specs.declared.error.Reason.{Reason}
@@ -22,11 +23,7 @@ pub record Ignores : Type 0 where
 
 -- how a pattern is compared with a path: case-sensitive, with the separator rule, and without the dot rule
 abbrev pub rule_options : MatchOptions
-rule_options = record {
-  case_sensitive = true;
-  require_literal_separator = true;
-  require_literal_leading_dot = false;
-}
+rule_options = record new_options { require_literal_separator = true }
 
 -- no line is read
 abbrev pub no_rules : Ignores

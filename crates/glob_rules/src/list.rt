@@ -176,8 +176,7 @@ fn rule_options() -> MatchOptions
     ensures { result ≡ rule_options }
 {
     MatchOptions {
-        case_sensitive: true,
         require_literal_separator: true,
-        require_literal_leading_dot: false,
+        ..MatchOptions::new()
     }
 }

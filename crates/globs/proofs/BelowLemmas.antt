@@ -1,5 +1,5 @@
 -- The components of a pattern that leads below the current directory are its pieces.
-use Rattle.std.proofs.Common.{◌≡◌, ℕ, suc, ◌-◌, Bool, true, false, cond, not, ◌&&◌, ◌||◌, ◌==◌, List, [], ◌∷◌, ◌++◌, length, take, drop, slice_index, refl, sym, ap, ◌∙◌, arith}
+use Rattle.std.proofs.Common.{◌≡◌, ℕ, suc, ◌-◌, Bool, true, false, ◌||◌, ◌==◌, [], ◌∷◌, ◌++◌, length, take, drop, slice_index, refl, sym, ap, ◌∙◌, arith}
 use Rattle.std.specs.Prelude.{codes}
 use Rattle.std.specs.List.{list_any}
 use Rattle.std.proofs.lemmas.Bool.{both_ways, not-true, not_from_false, eqb-true, or_right, cond-false}
@@ -8,10 +8,10 @@ use Rattle.glob_text.specs.Characters.{slash}
 use Rattle.glob_text.specs.Text.{Text}
 use Rattle.glob_text.specs.Pieces.{ends_with, pieces}
 use Rattle.glob_tree.proofs.ContentLemmas.Resolving.{pieces-append}
-use Rattle.glob_walk.specs.Components.{components, has_root, without_end_separator, without_root}
+use Rattle.glob_walk.specs.Components.{components, has_root, without_end_separator}
 use Rattle.globs.specs.Find.Planning.{is_below, is_no_name}
 
-no_names : (p : Text) → is_below p ≡ true → list_any is_no_name (pieces p) ≡ false
+pub no_names : (p : Text) → is_below p ≡ true → list_any is_no_name (pieces p) ≡ false
 unfolding is_below
 no_names p below = not-true (list_any is_no_name (pieces p)) below
 

@@ -1,39 +1,82 @@
 -- A copy's status, and which records an ignore list selects.
-use Rattle.std.proofs.Common.{◌≡◌, ◌≢◌, ℕ, ◌<◌, Bool, true, false, ◌&&◌, ◌||◌, not, List, Option, Result, IsErrAnd, OnErr, refl, sym, ap, ◌∙◌, arith}
+use Rattle.std.proofs.Common.{◌≡◌, ◌≢◌, ℕ, Bool, true, false, ◌&&◌, ◌||◌, not, List, Option, None, Some, Result, Ok, Err, IsErr, IsErrAnd, IsTrue, refl, sym, ap, ◌∙◌, arith}
 use Rattle.std.specs.Str.{is_utf8, IsUtf8}
 use Rattle.std.proofs.lemmas.Str.{IsUtf8-from_is_utf8, is_utf8-from_IsUtf8}
+use Rattle.std.specs.Io.KnownBytes.{Appends}
 use Rattle.std.proofs.KnownBytes.{Keeps-refl}
 use Rattle.std.proofs.lemmas.Bool.{false≢true}
 use Rattle.glob_text.specs.Text.{Text}
 use Rattle.glob_rules.specs.Lists.{Ignores}
 use Rattle.glob_rules.specs.Deciding.{is_ignored}
-use Rattle.glob_lines.specs.Lines.{CopiesSelected, CopiesSelectedBytes}
+use Rattle.glob_lines.specs.Lines.{CopiesSelected, CopiesSelectedBytes, CopiesWholeSelected}
 use Rattle.glob_lines.proofs.CallerLemmas.{selected_bytes_by_keeping}
-use Rattle.globs.specs.Copying.{Copies}
+use Rattle.globs.specs.Copying.{Copies, Input}
 use Rattle.globs.specs.Unignored.{is_directory, is_here, is_selected, path_of}
 
-module _ (end : ℕ) (selects : List ℕ → Bool) (input old new : Option (List ℕ)) where
+module _ (end : ℕ) (selects : List ℕ → Bool) (input : Input) (old new : Option (List ℕ)) where
   -- a copy of some records has the status 0
-  pub copies_some : (n : ℕ) → n ≢ 0 → CopiesSelected end selects input old new n → Copies end selects input old new 0
+  pub copies_some : (n : ℕ) → n ≢ 0 → ¬ (IsTrue input.failed) → CopiesSelected end selects input.before old new n → Copies end selects input old new 0
   unfolding Copies
-  copies_some n any copied =
-      (λ _. (n, omega (arith, any), copied), λ one. absurd (omega (arith, one)), λ two. absurd (omega (arith, two)))
+  copies_some n any read copied =
+      (λ _. (n, omega (arith, any), copied), λ one. absurd (omega (arith, one)), λ two. absurd (omega (arith, two)), λ failed. absurd (read failed))
 
   -- a copy of none has the status 1
-  pub copies_none : CopiesSelected end selects input old new 0 → Copies end selects input old new 1
+  pub copies_none : ¬ (IsTrue input.failed) → CopiesSelected end selects input.before old new 0 → Copies end selects input old new 1
   unfolding Copies
-  copies_none copied = (λ zero. absurd (omega (arith, zero)), λ _. copied, λ two. absurd (omega (arith, two)))
+  copies_none read copied =
+      (λ zero. absurd (omega (arith, zero)), λ _. copied, λ two. absurd (omega (arith, two)), λ failed. absurd (read failed))
 
   -- at the status 2 a beginning was written
-  pub copies_bytes : (status : ℕ) → status ≡ 2 → CopiesSelectedBytes end selects input old new → Copies end selects input old new status
+  pub copies_bytes : (status : ℕ) → status ≡ 2 → CopiesSelectedBytes end selects input.before old new
+      → (IsTrue input.failed → CopiesWholeSelected end selects input.before input.after old new) → Copies end selects input old new status
   unfolding Copies
-  copies_bytes status is some =
-      (λ none. absurd (omega (arith, is, none)), λ one. absurd (omega (arith, is, one)), λ _. some)
+  copies_bytes status is some whole =
+      (λ none. absurd (omega (arith, is, none)), λ one. absurd (omega (arith, is, one)), λ _. some, λ failed. (is, whole failed))
 
--- where nothing was written and the status is 2
-pub copies_at_fault : (end : ℕ) (selects : List ℕ → Bool) (input known : Option (List ℕ)) (status : ℕ) → status ≡ 2 → Copies end selects input known known status
-copies_at_fault end selects input known status is =
-    copies_bytes end selects input known known status is (selected_bytes_by_keeping end selects input known known (Keeps-refl known))
+-- where nothing was read or written and the status is 2
+pub copies_at_fault : (end : ℕ) (selects : List ℕ → Bool) (input : Input) (known : Option (List ℕ)) (status : ℕ) → input.failed ≡ false → status ≡ 2 → Copies end selects input known known status
+copies_at_fault end selects input known status read is =
+    copies_bytes end selects input known known status is (selected_bytes_by_keeping end selects input.before known known (Keeps-refl known))
+    (λ failed. absurd (false≢true (sym read ∙ failed)))
+
+-- a call that succeeded did not fail
+pub no_failure : {E : Type 0} (r : Result ℕ E) (n : ℕ) (failed : Bool) → r ≡ Ok n → (IsTrue failed → IsErr r) → ¬ (IsTrue failed)
+no_failure r n failed is fails did = by r is (fails did)
+  where
+    by : {E : Type 0} (r : Result ℕ E) → r ≡ Ok n → ¬ (IsErr r)
+    by (Ok m) e err = absurd (false≢true err)
+    by (Err x) e err = absurd (cc)
+
+-- a call that failed with such an error failed
+pub failed_with : {T E : Type 0} (r : Result T E) (P : E → Type 0) → IsErrAnd r P → IsErr r
+failed_with (Ok x) P is = absurd is
+failed_with (Err e) P is = refl
+
+-- what was appended here was appended there
+abbrev pub AlsoAppends : (old new old' new' : Option (List ℕ)) → Type 0
+AlsoAppends old new old' new' = (bytes : List ℕ) → Appends old new bytes → Appends old' new' bytes
+
+module _ (end : ℕ) (selects : List ℕ → Bool) where
+  -- so were the selected records
+  pub selected_elsewhere : (input old new old' new' : Option (List ℕ)) (count : ℕ) → AlsoAppends old new old' new'
+      → CopiesSelected end selects input old new count → CopiesSelected end selects input old' new' count
+  unfolding CopiesSelected
+  selected_elsewhere None old new old' new' count also copied = tt
+  selected_elsewhere (Some bytes) old new old' new' count also (kept, are, wrote, counted) = (kept, are, also _ wrote, counted)
+
+  -- their first bytes
+  pub bytes_elsewhere : (input old new old' new' : Option (List ℕ)) → AlsoAppends old new old' new'
+      → CopiesSelectedBytes end selects input old new → CopiesSelectedBytes end selects input old' new'
+  unfolding CopiesSelectedBytes
+  bytes_elsewhere None old new old' new' also copied = tt
+  bytes_elsewhere (Some bytes) old new old' new' also (kept, are, (n, wrote)) = (kept, are, (n, also _ wrote))
+
+  -- those whose end was read
+  pub whole_elsewhere : (input rest old new old' new' : Option (List ℕ)) → AlsoAppends old new old' new'
+      → CopiesWholeSelected end selects input rest old new → CopiesWholeSelected end selects input rest old' new'
+  unfolding CopiesWholeSelected
+  whole_elsewhere input rest old new old' new' also (whole, (partial, consumed, ended, open_end, (kept, are, wrote))) =
+      (whole, (partial, consumed, ended, open_end, (kept, are, also _ wrote)))
 
 here_picked : (u h i : Bool) → u ≡ true → h ≡ true → true ≡ (u && (h || i))
 here_picked true true i text here = refl

@@ -5,13 +5,13 @@ use Rattle.std.specs.List.{filter}
 use Rattle.std.specs.Io.KnownBytes.{Appends}
 use Rattle.std.specs.Path.{cur_dir}
 use Rattle.std.specs.declared.cmp.Ordering.TheVariants.{Less}
-use Rattle.std.proofs.lemmas.Bool.{and_parts, and_from, false≢true, cond-true, cond-false}
+use Rattle.std.proofs.lemmas.Bool.{and_parts, and_from, false≢true, cond-false}
 use Rattle.std.proofs.lemmas.List.{append-nil}
 use Rattle.std.proofs.lemmas.List.Kept.{AllPairs-filter}
 use Rattle.std.proofs.lemmas.Option.{none-some, same_Some}
 use Rattle.glob_text.specs.Text.{Text}
 use Rattle.glob_lines.specs.Lines.{with_ends}
-use Rattle.glob_console.specs.FoundPaths.{FindsPaths, GaveItems, WritesFound, status_of, wanted_paths}
+use Rattle.glob_console.specs.FoundPaths.{GaveItems, WritesFound, status_of, wanted_paths}
 use Rattle.glob_console.specs.declared.find.findings.Findings.{Findings}
 use Rattle.glob_pattern.specs.declared.options.MatchOptions.{MatchOptions}
 use Rattle.glob_prune.specs.Laws.{IsFoundAndKept}
@@ -28,13 +28,13 @@ use Rattle.glob_tree.proofs.ContentLemmas.Membership.{Contains-cases, Contains-h
 use Rattle.glob_walk.specs.Components.{has_root}
 use Rattle.glob_walk.specs.Goal.{goal_text, is_readable, matches_kind, matches_undivided, text_below, IsPlainWalk}
 use Rattle.glob_walk.specs.Listing.{listing}
-use Rattle.glob_walk.specs.Marks.{Item, Mark, items, paths}
+use Rattle.glob_walk.specs.Marks.{Item, items, paths}
 use Rattle.glob_walk.specs.declared.ending.End.{End}
 use Rattle.glob_walk.specs.declared.ending.End.TheVariants as end
-use Rattle.glob_laws.specs.Order.{IsAscending, path_cmp}
-use Rattle.glob_laws.proofs.GoalLemmas.KeysBelow.{names_at}
-use Rattle.glob_laws.proofs.GoalLemmas.NamedPaths.{AreNames-from, LeadsTo-start, resolve-under, under-start}
-use Rattle.glob_laws.proofs.GoalLemmas.OnceInOrder.{plain_walk_orderly}
+use Rattle.glob_walk.specs.Order.{IsAscending, path_cmp}
+use Rattle.glob_walk.proofs.GoalLemmas.KeysBelow.{names_at}
+use Rattle.glob_walk.proofs.GoalLemmas.NamedPaths.{AreNames-from, LeadsTo-start, resolve-under, under-start}
+use Rattle.glob_walk.proofs.GoalLemmas.OnceInOrder.{plain_walk_orderly}
 use Rattle.globs.specs.Find.Filtering.{is_kind, is_wanted}
 use Rattle.globs.specs.Find.Finding.{IsFound, WritesExactly}
 use Rattle.globs.specs.Patterns.{is_any_match, set_of}

@@ -2,9 +2,12 @@ pub mod BelowLemmas
 pub mod CopyLemmas
 pub mod EscapeLemmas
 pub mod FilterLemmas
+pub mod FulfilLemmas
 pub mod FindingLemmas
+pub mod OpenedLemmas
 pub mod OrderLemmas
 pub mod RequestLemmas
+pub mod ShallowLemmas
 pub mod SourceLemmas
 pub mod StarLemmas
 pub mod WalkLemmas

@@ -7,7 +7,7 @@ use Rattle.std.proofs.lemmas.Option.{none-some}
 use Rattle.glob_text.specs.Text.{Text}
 use Rattle.glob_walk.specs.Components.{is_recursive}
 use Rattle.glob_walk.specs.Goal.{ends_recursive}
-use Rattle.glob_laws.specs.Order.{after_first_recursive}
+use Rattle.glob_walk.specs.Order.{after_first_recursive}
 use Rattle.globs.specs.Find.Order.{Before, Within, After, is_within, last_place, next_place}
 use Rattle.globs.specs.declared.find.order.Place.{Place}
 

@@ -1,11 +1,11 @@
 -- What words ask for, once the first of them is read.
-use Rattle.std.proofs.Common.{◌≡◌, ℕ, ◌-◌, ◌≤◌, ◌≢◌, ◌||◌, Bool, true, false, List, [], ◌∷◌, Some, None, length, get_or, take, drop, map, refl, ap, Bor, arith}
+use Rattle.std.proofs.Common.{◌≡◌, ℕ, ◌-◌, ◌≤◌, ◌≢◌, ◌||◌, false, List, [], ◌∷◌, Some, None, length, get_or, take, drop, map, refl, ap, Bor, arith}
 use Rattle.std.proofs.lemmas.List.{take_rest}
 use Rattle.std.proofs.lemmas.Bool.{false_from_ne_true}
 use Rattle.std.proofs.lemmas.Slice.Eq.{bytes_eq-Decides}
 use Rattle.std.specs.Prelude.{bytes_eq, codes}
 use Rattle.globs.specs.Chosen.{Chosen}
-use Rattle.globs.specs.CommandLine.{asks_help, command_asked, is_explain, name_of, operands_asked, reading, request_asked, request_of_reading}
+use Rattle.globs.specs.CommandLine.{asks_help, command_asked, name_of, operands_asked, reading, request_asked, request_of_reading}
 use Rattle.globs.specs.Reading.{Reading}
 use Rattle.globs.specs.Requests.{IsWrong, IsWrongRequest}
 use Rattle.globs.specs.Options.{awaiting, new_options, option_asked, value_taken, with_flag}
@@ -63,14 +63,14 @@ asked_command none (word ∷ words) long version short page help =
     rw (take_rest (word ∷ words) 1) (first_asked word.now (map (λ w. w.now) words) (other _ _ version) (rw (other _ _ short) (other _ _ page)) (other _ _ help))
 
 -- what a command does by its words
-pub asked_words : (word : List ℕ) (words : List (List ℕ)) (name : Name) (read : Reading) → name_of word ≡ Some name → asks_help words ≡ false → is_explain name ≡ false
+pub asked_words : (word : List ℕ) (words : List (List ℕ)) (name : Name) (read : Reading) → name_of word ≡ Some name → asks_help words ≡ false
     → reading name None (new_options name) words ≡ read → command_asked word words ≡ request_of_reading name read
 unfolding command_asked
-asked_words word words name read named help explain is = rw named (rw help (rw explain (ap (request_of_reading name) is)))
+asked_words word words name read named help is = rw named (rw help (ap (request_of_reading name) is))
 
 -- what is wrong with the words of a command is wrong with those of the program
-pub wrong_words : (word : List ℕ) (words : List (List ℕ)) (name : Name) (fault : UsageFault) → name_of word ≡ Some name → asks_help words ≡ false → is_explain name ≡ false
+pub wrong_words : (word : List ℕ) (words : List (List ℕ)) (name : Name) (fault : UsageFault) → name_of word ≡ Some name → asks_help words ≡ false
     → IsWrong (reading name None (new_options name) words) fault → IsWrongRequest (command_asked word words) (record { name = Some name; fault = fault })
 unfolding command_asked
-wrong_words word words name (Word w text) named help explain is = rw named (rw help (rw explain (ap (request_of_reading name) is)))
-wrong_words word words name Memory named help explain is = tt
+wrong_words word words name (Word w text) named help is = rw named (rw help (ap (request_of_reading name) is))
+wrong_words word words name Memory named help is = tt

@@ -1,8 +1,10 @@
 -- The texts of sources, one more at a time.
-use Rattle.std.proofs.Common.{◌≡◌, ℕ, ◌+◌, ◌<◌, ◌≤◌, ◌⊎◌, inl, inr, List, [], ◌∷◌, ◌++◌, Option, Some, length, get_or, drop, map, IfSome, refl, sym, ap, subst, ◌∙◌, append-nil, append_assoc, Bor}
-use Rattle.std.proofs.lemmas.List.{append_cancel_left, drop_all, drop_more}
+use Rattle.std.proofs.Common.{◌≡◌, ℕ, ◌+◌, ◌<◌, ◌≤◌, List, [], ◌∷◌, ◌++◌, Option, None, Some, length, get_or, take, drop, map, IfSome, sym, ap, subst, ◌∙◌, append-nil, append_assoc, Bor}
+use Rattle.std.proofs.lemmas.List.{drop_all, drop_more, map_more, take_all}
 use Rattle.glob_text.specs.Text.{Text}
-use Rattle.globs.specs.Ignoring.{AreHeld, IsUnmarked, mark}
+use Rattle.glob_lines.specs.Lines.{line_feed, with_ends}
+use Rattle.glob_rules.specs.Lists.{Ignores, rules_of}
+use Rattle.globs.specs.Ignoring.{AreRead, HasRules, IsRead, IsUnmarked}
 
 abbrev now : Bor Text → Text
 now text = text.now
@@ -25,45 +27,50 @@ rules_more rules i none so_far new all text below is pushed so =
 pub rules_done : (rules : List (Bor Text)) (i : ℕ) (so_far all : List Text) → length rules ≤ i → so_far ++ map now (drop i rules) ≡ all → so_far ≡ all
 rules_done rules i so_far all end so = sym (append-nil so_far) ∙ ap (λ ts. so_far ++ map now ts) (sym (drop_all i rules end)) ∙ so
 
--- a text has one other without a mark
-unmarked_same : (held text other : Text) → IsUnmarked held text → IsUnmarked held other → text ≡ other
-unmarked_same held text other (inl is) (inl was) = append_cancel_left mark text other (sym is ∙ was)
-unmarked_same held text other (inl is) (inr (none, was)) = absurd (none text is)
-unmarked_same held text other (inr (none, is)) (inl was) = absurd (none other was)
-unmarked_same held text other (inr (none, is)) (inr (also, was)) = is ∙ sym was
+-- what was read is the text of the file, and has no mark any more
+pub read_file : (known : Option Text) (held text : Text) → IfSome known (λ k. held ≡ k) → IsUnmarked held text → IsRead known text
+read_file None held text is unmarked = (held, unmarked)
+read_file (Some k) held text is unmarked = subst (λ z. IsUnmarked z text) is unmarked
 
--- the texts so far and those of the files that are left are the texts before and those of all files
-abbrev pub HeldSoFar : (holds : Text → Option Text) → (names : List (Bor Text)) → (i : ℕ) → (before so_far : List Text) → Type 0
-HeldSoFar holds names i before so_far =
-    (texts : List Text) → AreHeld holds (map (λ w. w.now) names) texts
-    → (rest : List Text) × AreHeld holds (map (λ w. w.now) (drop i names)) rest × (so_far ++ rest ≡ before ++ texts)
+-- one more file was read
+AreRead-push : (holds : Text → Option Text) (names texts : List Text) (name text : Text) → AreRead holds names texts → IsRead (holds name) text
+    → AreRead holds (names ++ name ∷ []) (texts ++ text ∷ [])
+AreRead-push holds [] [] name text are is = (is, tt)
+AreRead-push holds [] (t ∷ ts) name text are is = absurd are
+AreRead-push holds (n ∷ ns) [] name text are is = absurd are
+AreRead-push holds (n ∷ ns) (t ∷ ts) name text are is = (are.0, AreRead-push holds ns ts name text are.1 is)
+
+-- the texts so far are those before and those of the files so far
+pub ReadSoFar : (holds : Text → Option Text) → (names : List (Bor Text)) → (i : ℕ) → (before so_far : List Text) → Type 0
+ReadSoFar holds names i before so_far =
+    (texts : List Text) × AreRead holds (map (λ w. w.now) (take i names)) texts × (so_far ≡ before ++ texts)
 
 -- no file is read
-pub files_first : (holds : Text → Option Text) (names : List (Bor Text)) (before : List Text) → HeldSoFar holds names 0 before before
-files_first holds names before texts are = (texts, are, refl)
+pub files_first : (holds : Text → Option Text) (names : List (Bor Text)) (before : List Text) → ReadSoFar holds names 0 before before
+unfolding ReadSoFar
+files_first holds names before = ([], tt, sym (append-nil before))
 
 -- one more file
 pub files_more : (holds : Text → Option Text) (names : List (Bor Text)) (i : ℕ) (none : Bor Text) (before so_far new : List Text) (text : Text) → i < length names
-    → IfSome (holds (get_or names i none).now) (λ held. IsUnmarked held text) → new ≡ so_far ++ text ∷ [] → HeldSoFar holds names i before so_far → HeldSoFar holds names (i + 1) before new
-files_more holds names i none before so_far new text below known pushed held texts are =
-    let (rest, left, same) = held texts are in
-    by_rest rest (subst (λ ns. AreHeld holds ns rest) (left_more names i none below) left) same
-  where
-    of_text : (t h : Text) → holds (get_or names i none).now ≡ Some h → IsUnmarked h t → text ≡ t
-    of_text t h is unmarked = unmarked_same h text t (subst (λ r. IfSome r (λ held. IsUnmarked held text)) is known) unmarked
+    → IsRead (holds (get_or names i none).now) text → new ≡ so_far ++ text ∷ [] → ReadSoFar holds names i before so_far → ReadSoFar holds names (i + 1) before new
+unfolding ReadSoFar
+files_more holds names i none before so_far new text below is pushed (texts, are, same) = (
+  texts ++ text ∷ [],
+  subst (λ ns. AreRead holds ns (texts ++ text ∷ [])) (sym (map_more now names i none below))
+      (AreRead-push holds (map now (take i names)) texts (get_or names i none).now text are is),
+  pushed ∙ ap (λ ts. ts ++ text ∷ []) same ∙ append_assoc before texts (text ∷ []),
+)
 
-    by_rest : (rest : List Text) → AreHeld holds ((get_or names i none).now ∷ map now (drop (i + 1) names)) rest → so_far ++ rest ≡ before ++ texts
-        → (rest : List Text) × AreHeld holds (map (λ w. w.now) (drop (i + 1) names)) rest × (new ++ rest ≡ before ++ texts)
-    by_rest [] left same = absurd left
-    by_rest (t ∷ ts) (h, is, unmarked, others) same =
-        (ts, others, one_of so_far new ts (before ++ texts) text pushed (ap (λ u. so_far ++ u ∷ ts) (of_text t h is unmarked) ∙ same))
+-- all files
+pub files_done : (holds : Text → Option Text) (names : List (Bor Text)) (i : ℕ) (before so_far : List Text) → length names ≤ i → ReadSoFar holds names i before so_far
+    → (texts : List Text) × AreRead holds (map (λ w. w.now) names) texts × (so_far ≡ before ++ texts)
+unfolding ReadSoFar
+files_done holds names i before so_far end (texts, are, same) =
+    (texts, subst (λ ns. AreRead holds (map now ns) texts) (take_all i names end) are, same)
 
--- no file is left
-pub files_done : (holds : Text → Option Text) (names : List (Bor Text)) (i : ℕ) (before so_far : List Text) → length names ≤ i → HeldSoFar holds names i before so_far
-    → (texts : List Text) → AreHeld holds (map (λ w. w.now) names) texts → so_far ≡ before ++ texts
-files_done holds names i before so_far end held texts are =
-    let (rest, left, same) = held texts are in
-    none_left rest (subst (λ ns. AreHeld holds (map (λ w. w.now) ns) rest) (drop_all i names end) left) same
-  where
-    none_left : (rest : List Text) → rest ≡ [] → so_far ++ rest ≡ before ++ texts → so_far ≡ before ++ texts
-    none_left rest none same = sym (append-nil so_far) ∙ ap (λ ts. so_far ++ ts) (sym none) ∙ same
+-- the list of the rules of files and single ones
+pub has_rules : (holds : Text → Option Text) (names rules after all : List Text) (list : Ignores) → (texts : List Text) × AreRead holds names texts × (after ≡ [] ++ texts)
+    → all ≡ after ++ rules → list ≡ rules_of (with_ends line_feed all) → HasRules holds names rules list
+unfolding HasRules
+has_rules holds names rules after all list (texts, are, same) more is =
+    (texts, are, is ∙ ap (λ ts. rules_of (with_ends line_feed ts)) (more ∙ ap (λ ts. ts ++ rules) same))

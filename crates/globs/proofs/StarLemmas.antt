@@ -1,5 +1,5 @@
 -- A last `*` takes each name that `**` may take.
-use Rattle.std.proofs.Common.{◌≡◌, ⊎_elim, Bool, true, false, not, ◌&&◌, ◌||◌, ◌==◌, List, [], ◌∷◌, ◌++◌, map, refl, sym, ap, ◌∙◌}
+use Rattle.std.proofs.Common.{◌≡◌, ⊎_elim, Bool, true, false, not, ◌&&◌, ◌==◌, List, [], ◌∷◌, ◌++◌, refl, sym, ap, ◌∙◌}
 use Rattle.std.specs.Prelude.{codes}
 use Rattle.std.specs.List.{list_all}
 use Rattle.std.specs.Path.{has_no_slash}
@@ -10,17 +10,17 @@ use Rattle.glob_text.specs.Text.{Text}
 use Rattle.glob_text.specs.Pieces.{begins_with}
 use Rattle.glob_pattern.specs.Computing.Deciding.{is_match, tokens_match}
 use Rattle.glob_pattern.specs.Computing.Reading.{units_from}
-use Rattle.glob_pattern.specs.Matching.Components.{is_open, run_to_end, run_before}
+use Rattle.glob_pattern.specs.Matching.Components.{is_open, run_to_end}
 use Rattle.glob_pattern.specs.Matching.Taking.{takes as token_takes}
 use Rattle.glob_pattern.specs.declared.options.MatchOptions.{MatchOptions}
 use Rattle.glob_pattern.specs.declared.token.Token.TheVariants.{AnySequence}
 use Rattle.glob_tree.specs.Content.{Key}
 use Rattle.glob_walk.specs.Components.{is_recursive, matches_name}
 use Rattle.glob_walk.specs.Goal.{ends_recursive}
-use Rattle.glob_laws.proofs.ComponentLemmas.FirstSeparator.{no_slash_parts}
-use Rattle.glob_laws.proofs.ComponentLemmas.Fits.{fits, tokens_match-fits}
-use Rattle.glob_laws.proofs.GoalLemmas.Characters.{AllUtf8, dot-chars, no_slash-chars}
-use Rattle.glob_laws.proofs.GoalLemmas.TakenNames.{takes, takes-one, takes-one_none, run-cases, run-enter, run-met, run-nil}
+use Rattle.glob_walk.proofs.ComponentLemmas.FirstSeparator.{no_slash_parts}
+use Rattle.glob_walk.proofs.ComponentLemmas.Fits.{fits, tokens_match-fits}
+use Rattle.glob_walk.proofs.GoalLemmas.Characters.{AllUtf8, dot-chars, no_slash-chars}
+use Rattle.glob_walk.proofs.GoalLemmas.TakenNames.{takes, takes-one, takes-one_none, run-cases, run-enter, run-met, run-nil}
 
 abbrev star : Text
 star = codes "*"
@@ -51,11 +51,24 @@ star_is : (o : MatchOptions) (text : Text) → is_match o (chars star) text ≡ 
 unfolding is_match units_from chars
 star_is o text = refl
 
+-- an open name begins with no dot that the rule is about
+open_start : (o : MatchOptions) (n : Text) → is_open o n ≡ true → not (o.require_literal_leading_dot && begins_with dot n) ≡ true
+open_start o [] open' = by_rule o.require_literal_leading_dot
+  where
+    by_rule : (r : Bool) → not (r && false) ≡ true
+    by_rule true = refl
+    by_rule false = refl
+open_start o (c ∷ cs) open' = by_rule o.require_literal_leading_dot (c == dot) open'
+  where
+    by_rule : (r x : Bool) → not (r && true && x) ≡ true → not (r && x) ≡ true
+    by_rule true x h = h
+    by_rule false x h = refl
+
 star_matches : (o : MatchOptions) (n : Text) → IsUtf8 n → has_no_slash n ≡ true → is_open o n ≡ true → matches_name o star n ≡ true
 star_matches o n utf8 flat open' =
     star_is o (chars n) ∙ tokens_match-fits o (AnySequence ∷ []) (chars n)
     ∙ star_fits o true (chars n) (no_slash-chars n utf8 ∙ flat)
-    (ap (λ x. o.require_literal_leading_dot && true && x) (dot-chars n utf8) ∙ at_start o.require_literal_leading_dot (begins_with dot n) open')
+    (ap (λ x. o.require_literal_leading_dot && true && x) (dot-chars n utf8) ∙ at_start o.require_literal_leading_dot (begins_with dot n) (open_start o n open'))
 
 star_takes : (o : MatchOptions) (n : Text) → IsUtf8 n → has_no_slash n ≡ true → is_open o n ≡ true → takes o (star ∷ []) (n ∷ []) ≡ true
 star_takes o n utf8 flat open' = takes-one o star [] n [] refl ∙ and_from (matches_name o star n) true (star_matches o n utf8 flat open') refl

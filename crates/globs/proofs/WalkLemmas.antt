@@ -5,24 +5,23 @@ use Rattle.std.specs.List.{list_any}
 use Rattle.std.specs.Str.{chars, is_utf8, IsUtf8}
 use lib.Utf8.{encode}
 use Rattle.std.proofs.lemmas.Bool.{and_parts, and_from, false≢true, or_right, or_cases, cond-true, cond-false}
-use Rattle.std.proofs.lemmas.Option.{none-some}
 use Rattle.std.proofs.lemmas.Str.{IsUtf8-append, IsUtf8-from_is_utf8}
 use Rattle.glob_text.specs.Text.{Text}
 use Rattle.glob_text.specs.Pieces.{ends_with, pieces}
 use Rattle.glob_pattern.specs.Computing.Deciding.{is_match}
 use Rattle.glob_pattern.specs.Computing.Reading.{units_from}
-use Rattle.glob_pattern.specs.Matching.Components.{run_to_end}
+use Rattle.glob_pattern.specs.Matching.Components.{is_open, run_to_end}
 use Rattle.glob_pattern.specs.declared.options.MatchOptions.{MatchOptions}
 use Rattle.glob_prune.specs.Pruning.{path_of}
 use Rattle.glob_tree.specs.Content.{Key, is_dir}
 use Rattle.glob_tree.specs.declared.kind.Kind.{Kind}
 use Rattle.glob_walk.specs.Components.{components, has_root, is_recursive, walk_fault}
 use Rattle.glob_walk.specs.Goal.{ends_recursive, goal_options, goal_text, is_plain, matches_kind, matches_undivided, text_below}
-use Rattle.glob_laws.specs.Laws.{are_names}
-use Rattle.glob_laws.specs.Order.{after_first_recursive, keeps_order as keeps_path_order}
-use Rattle.glob_laws.proofs.GoalLemmas.GoalNames.{plain_matches_levels}
-use Rattle.glob_laws.proofs.GoalLemmas.NamedPaths.{AllUtf8-from, AreNames-from, flat-from}
-use Rattle.glob_laws.proofs.GoalLemmas.TakenNames.{takes}
+use Rattle.glob_walk.specs.Laws.{are_names}
+use Rattle.glob_walk.specs.Order.{after_first_recursive, keeps_order as keeps_path_order}
+use Rattle.glob_walk.proofs.GoalLemmas.GoalNames.{plain_matches_levels}
+use Rattle.glob_walk.proofs.GoalLemmas.NamedPaths.{AllUtf8-from, AreNames-from, flat-from}
+use Rattle.glob_walk.proofs.GoalLemmas.TakenNames.{takes}
 use Rattle.globs.specs.Find.Order.{Before, Within, After, is_within, last_place}
 use Rattle.globs.specs.Find.Planning.{IsOneText, are_below, everything_options, is_below, is_single, one_text, walk_options, walk_text}
 use Rattle.globs.specs.Patterns.{is_any_match, set_of}
@@ -53,9 +52,13 @@ gives o p kind n ns root allowed matched =
 abbrev everything : Text
 everything = codes "**/*"
 
+each_open : (n : Text) → is_open everything_options n ≡ true
+each_open [] = refl
+each_open (c ∷ cs) = refl
+
 all_open : (n : Text) (ns : Key) → run_to_end everything_options (n ∷ ns) ≡ true
-all_open n [] = refl
-all_open n (m ∷ ns) = all_open m ns
+all_open n [] = each_open n
+all_open n (m ∷ ns) = ap (λ b. b && run_to_end everything_options (m ∷ ns)) (each_open n) ∙ all_open m ns
 
 everything_plain : is_plain everything ≡ true
 unfolding is_plain walk_fault units_from chars

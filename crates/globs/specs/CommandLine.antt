@@ -1,10 +1,10 @@
 -- What the words of a command line ask for, or the first of them that is wrong.
-use Rattle.std.specs.Prelude.{◌||◌, Bool, true, false, List, [], ◌∷◌, Option, None, Some, if◌then◌else◌, codes, bytes_eq, option_map, unwrap_or}
+use Rattle.std.specs.Prelude.{◌||◌, Bool, false, List, [], ◌∷◌, Option, None, Some, if◌then◌else◌, codes, bytes_eq, option_map, unwrap_or}
 use Rattle.glob_text.specs.Text.{Text}
 use Rattle.glob_console.specs.Words.{is_option}
 use Rattle.globs.specs.Chosen.{Chosen}
 use Rattle.globs.specs.Options.{awaiting, new_options, option_asked, option_word, value_fault, value_taken, with_flag}
-use Rattle.globs.specs.Reading.{Reading, Asks, Wrong, Request, Runs, Explains, Helps, VersionLine, Refused}
+use Rattle.globs.specs.Reading.{Reading, Asks, Wrong, Request, Runs, Helps, VersionLine, Refused}
 use Rattle.globs.specs.declared.name.Name.{Name}
 use Rattle.globs.specs.declared.name.Name.TheVariants.{Find, Match, Ignore, Explain, Escape}
 use Rattle.globs.specs.declared.options.Opt.{Opt}
@@ -18,14 +18,6 @@ name_of word =
     else (if bytes_eq word (codes "ignore") then Some Ignore
     else (if bytes_eq word (codes "explain") then Some Explain
     else (if bytes_eq word (codes "escape") then Some Escape else None))))
-
--- the command reads its words by itself
-abbrev pub is_explain : Name → Bool
-is_explain Find = false
-is_explain Match = false
-is_explain Ignore = false
-is_explain Explain = true
-is_explain Escape = false
 
 -- the first of the words that begins with a hyphen
 abbrev pub first_option : List Text → Option Text
@@ -48,9 +40,12 @@ abbrev pub reading : Name → Option Opt → Chosen → List Text → Reading
 reading name None o [] = Wrong why.Bare []
 reading name (Some option) o [] = Wrong why.Valueless (option_word option)
 reading name (Some option) o (word ∷ words) =
-    unwrap_or (option_map (λ taken. reading name None taken words) (value_taken option word o)) (Wrong (value_fault option) word)
+    unwrap_or (option_map (λ taken. reading name None taken words) (value_taken option word o))
+    (Wrong (value_fault option) word)
 reading name None o (word ∷ words) =
-    unwrap_or (option_map (λ option. reading name (awaiting option) (record o { settings = with_flag option o.settings }) words) (option_asked name word))
+    unwrap_or (option_map
+    (λ option. reading name (awaiting option) (record o { settings = with_flag option o.settings }) words)
+    (option_asked name word))
     (operands_asked o (word ∷ words))
 
 -- a word that asks for a page
@@ -65,7 +60,8 @@ asks_help (word ∷ words) = is_help word
 -- the words after `help`
 abbrev pub help_asked : List Text → Request
 help_asked [] = Helps None
-help_asked (word ∷ words) = unwrap_or (option_map (λ name. Helps (Some name)) (name_of word)) (Refused None why.Command word)
+help_asked (word ∷ words) =
+    unwrap_or (option_map (λ name. Helps (Some name)) (name_of word)) (Refused None why.Command word)
 
 -- what a command does by its words
 abbrev pub request_of_reading : Name → Reading → Request
@@ -74,13 +70,13 @@ request_of_reading name (Wrong w word) = Refused (Some name) w word
 
 -- the words after that of a command
 abbrev pub words_asked : Name → List Text → Request
-words_asked name words =
-    if is_explain name then Explains words else request_of_reading name (reading name None (new_options name) words)
+words_asked name words = request_of_reading name (reading name None (new_options name) words)
 
 -- a word that is to be that of a command, and those after it
 unfoldable pub command_asked : Text → List Text → Request
 command_asked word words =
-    unwrap_or (option_map (λ name. if asks_help words then Helps (Some name) else words_asked name words) (name_of word))
+    unwrap_or (option_map (λ name. if asks_help words then Helps (Some name) else words_asked name words)
+    (name_of word))
     (Refused None why.Command word)
 
 -- the words after the program's name; what is after those of a page is passed over

@@ -2,14 +2,15 @@
 use Rattle.std.specs.Prelude.{◌≡◌, ℕ, ◌⊎◌, List, [], ◌∷◌, ◌++◌, Option, chars}
 use Rattle.std.specs.Io.KnownBytes.{Keeps}
 use Rattle.glob_console.specs.Outcomes.{WritesText}
-use Rattle.glob_pattern.specs.Escaping.{escaped_text}
 use Rattle.glob_lines.specs.Lines.{ended_record, line_feed}
+use Rattle.glob_set.specs.BraceEscaping.{StandsFor, escaped_text}
 use Rattle.glob_text.specs.Text.{Text}
 
--- the pattern that stands for the text alone, and a line feed
+-- the pattern with braces that stands for the text alone, and a line feed
 abbrev pub IsEscapedLine : (text line : Text) → Type 0
 IsEscapedLine text line =
-    (escaped : Text) × (chars escaped ≡ escaped_text (chars text)) × (line ≡ ended_record line_feed escaped)
+    (escaped : Text) × (chars escaped ≡ escaped_text (chars text)) × StandsFor escaped text
+    × (line ≡ ended_record line_feed escaped)
 
 -- such a line for each text, in order
 abbrev pub AreEscaped : (texts : List Text) → (lines : Text) → Type 0

@@ -1,6 +1,9 @@
 pub mod Filtering
 pub mod Finding
 pub mod Order
+pub mod Outcomes
 pub mod Planning
+pub mod Shallow
+pub mod ShallowTrees
 pub mod Skipping
 pub mod Strays

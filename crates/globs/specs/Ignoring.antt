@@ -1,9 +1,10 @@
 -- The rules of ignore files.
-use Rattle.std.specs.Prelude.{◌≡◌, ◌≢◌, ◌⊎◌, ℕ, List, [], ◌∷◌, ◌++◌, Option, Some, map, string_bytes, encode_utf8}
+use Rattle.std.specs.Prelude.{◌≡◌, ◌≢◌, ◌⊎◌, List, [], ◌∷◌, ◌++◌, Option, None, Some, ⊤, map, string_bytes, encode_utf8}
 use Rattle.std.specs.IoError.{error_kind}
 use Rattle.std.specs.declared.io.Error.{Error}
-use Rattle.std.specs.declared.io.ErrorKind.{ErrorKind}
 use Rattle.std.specs.declared.io.ErrorKind.TheVariants.{OutOfMemory, InvalidData}
+use Rattle.glob_lines.specs.Lines.{line_feed, with_ends}
+use Rattle.glob_rules.specs.Lists.{Ignores, rules_of}
 use Rattle.glob_text.specs.Text.{Text}
 use Rattle.globs.specs.declared.ignoring.RulesFault.{RulesFault}
 use Rattle.globs.specs.declared.ignoring.RulesFault.TheVariants.{NoText, Unread, Refused, Memory}
@@ -21,12 +22,22 @@ IsUnmarked text other = (text ≡ mark ++ other) ⊎ (((rest : Text) → text �
 abbrev pub texts_of : {A : Type 0} → List (Source A) → List Text
 texts_of sources = map (λ s. string_bytes s.text) sources
 
+-- the text is that of a file, without a byte order mark, and where its text is known, of that
+abbrev pub IsRead : (known : Option Text) → (text : Text) → Type 0
+IsRead None text = (held : Text) × IsUnmarked held text
+IsRead (Some held) text = IsUnmarked held text
+
 -- these are the texts of the files of these names, without byte order marks
-abbrev pub AreHeld : (holds : Text → Option Text) → (names texts : List Text) → Type 0
-AreHeld holds [] texts = texts ≡ []
-AreHeld holds (name ∷ names) [] = ⊥
-AreHeld holds (name ∷ names) (text ∷ texts) =
-    (held : Text) × (holds name ≡ Some held) × IsUnmarked held text × AreHeld holds names texts
+abbrev pub AreRead : (holds : Text → Option Text) → (names texts : List Text) → Type 0
+AreRead holds [] [] = ⊤
+AreRead holds [] (text ∷ texts) = ⊥
+AreRead holds (name ∷ names) [] = ⊥
+AreRead holds (name ∷ names) (text ∷ texts) = IsRead (holds name) text × AreRead holds names texts
+
+-- the list has the rules of the files of these names, and then the single ones
+unfoldable pub HasRules : (holds : Text → Option Text) → (names rules : List Text) → Ignores → Type 0
+HasRules holds names rules list =
+    (texts : List Text) × AreRead holds names texts × (list ≡ rules_of (with_ends line_feed (texts ++ rules)))
 
 -- what an error of a read of the file means: out of memory, a file that is not UTF-8, or the error of the system
 abbrev pub IsReadFault : (file : Text) → Error → RulesFault → Type 0

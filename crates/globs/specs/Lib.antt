@@ -3,11 +3,15 @@ pub mod CommandLine
 pub mod Copying
 pub mod Escaping
 pub mod Explain
+pub mod Faults
 pub mod Find
+pub mod Help
 pub mod Ignoring
 pub mod Matching
 pub mod Options
+pub mod Outcomes
 pub mod Patterns
 pub mod Reading
 pub mod Requests
 pub mod Unignored
+pub mod Visible

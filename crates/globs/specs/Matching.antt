@@ -1,8 +1,13 @@
 -- Which records some patterns match.
-use Rattle.std.specs.Prelude.{Bool, ◌&&◌, not, if◌then◌else◌, List, ℕ}
+use Rattle.std.specs.Prelude.{Bool, ◌&&◌, ◌⊎◌, not, if◌then◌else◌, List, Option, ℕ}
 use Rattle.std.specs.Str.{is_utf8}
+use Rattle.glob_console.specs.Outcomes.{IsRefused}
+use Rattle.glob_set.specs.BraceSets.{AreAlternativesOf}
 use Rattle.glob_set.specs.Sets.{Set}
-use Rattle.globs.specs.Patterns.{is_any_match}
+use Rattle.glob_text.specs.Text.{Text}
+use Rattle.globs.specs.Copying.{Copies, Input}
+use Rattle.globs.specs.Patterns.{is_any_match, set_of}
+use Rattle.globs.specs.declared.options.Settings.{Settings}
 
 -- the record is text, and one of the patterns matches it
 abbrev pub is_record_match : Set → (bytes : List ℕ) → Bool
@@ -11,3 +16,11 @@ is_record_match set bytes = is_utf8 bytes && is_any_match set bytes
 -- one of the patterns matches the record, or, inverted, none of them does
 abbrev pub is_chosen : Set → (inverts : Bool) → (bytes : List ℕ) → Bool
 is_chosen set inverts bytes = if inverts then not (is_record_match set bytes) else is_record_match set bytes
+
+-- The words are refused; or the records were copied that one of their alternatives matches or, inverted, that none does.
+unfoldable pub CopiesMatches : {W : Type 0} → (contents : W → Option (List ℕ)) → Settings → (words : List Text) → Input
+    → (old new : W) → (status : ℕ) → Type 0
+CopiesMatches contents settings words input old new status =
+    IsRefused old new status
+    ⊎ ((patterns : List Text) × AreAlternativesOf words patterns
+    × Copies settings.end (is_chosen (set_of settings.options patterns) settings.inverts) input (contents old) (contents new) status)

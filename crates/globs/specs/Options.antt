@@ -1,8 +1,9 @@
 -- The options of the commands: which there are, which command has each, and what they set.
-use Rattle.std.specs.Prelude.{◌^◌, ◌-◌, Bool, true, false, List, [], ◌∷◌, ◌++◌, Option, None, Some, if◌then◌else◌, codes, bytes_eq, option_map, option_and_then}
+use Rattle.std.specs.Prelude.{◌^◌, ◌-◌, Bool, true, false, [], ◌∷◌, ◌++◌, Option, None, Some, if◌then◌else◌, codes, bytes_eq, option_map, option_and_then}
 use Rattle.glob_text.specs.Text.{Text}
 use Rattle.glob_lines.specs.Lines.{line_feed}
 use Rattle.glob_console.specs.Words.{limit_of}
+use Rattle.glob_pattern.specs.Matching.Options.{new_options as match_options}
 use Rattle.globs.specs.Chosen.{Chosen}
 use Rattle.globs.specs.declared.name.Name.{Name}
 use Rattle.globs.specs.declared.name.Name.TheVariants.{Find, Match, Ignore, Explain, Escape}
@@ -25,11 +26,7 @@ is_find Escape = false
 -- before any option: lines, case-sensitive, without the dot rule, of each kind, without a limit
 abbrev pub new_settings : Name → Settings
 new_settings name = record {
-  options = record {
-    case_sensitive = true;
-    require_literal_separator = is_find name;
-    require_literal_leading_dot = false;
-  };
+  options = record match_options { require_literal_separator = is_find name };
   end = line_feed;
   inverts = false;
   limit = 2 ^ 64 - 1;

@@ -6,10 +6,11 @@ use Rattle.glob_text.specs.Text.{Text}
 use Rattle.glob_pattern.specs.Computing.Deciding.{is_match}
 use Rattle.glob_pattern.specs.Grammar.Faults.{IsFault}
 use Rattle.glob_pattern.specs.declared.options.MatchOptions.{MatchOptions}
+use Rattle.glob_set.specs.Braces.{IsBraceFault, lexemes}
 use Rattle.glob_set.specs.Sets.{Set}
 use Rattle.globs.specs.Find.Planning.{is_below}
 use Rattle.globs.specs.declared.patterns.PatternFault.{PatternFault}
-use Rattle.globs.specs.declared.patterns.PatternFault.TheVariants.{Astray, Syntax, Memory}
+use Rattle.globs.specs.declared.patterns.PatternFault.TheVariants.{Astray, Syntax, Braces, Memory}
 
 -- the patterns, under these options
 abbrev pub set_of : MatchOptions → (patterns : List Text) → Set
@@ -21,7 +22,8 @@ is_any_match set text = list_any (λ pattern. is_match set.options (chars patter
 
 -- one of the texts does not lead below the current directory, or has this fault; or memory was missing
 abbrev pub IsPatternFault : (texts : List Text) → PatternFault → Type 0
-IsPatternFault texts (Astray pattern) = Contains texts pattern.now × (is_below pattern.now ≡ false)
+IsPatternFault texts (Astray pattern column) = Contains texts pattern.now × (is_below pattern.now ≡ false)
 IsPatternFault texts (Syntax pattern e) =
     Contains texts pattern.now × IsFault (chars pattern.now) (record { place = e.pos; message = e.msg.now })
+IsPatternFault texts (Braces pattern e) = Contains texts pattern.now × IsBraceFault (lexemes (chars pattern.now)) e
 IsPatternFault texts Memory = ⊤

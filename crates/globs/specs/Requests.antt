@@ -1,9 +1,9 @@
 -- What the parser of a command line returns.
-use Rattle.std.specs.Prelude.{◌≡◌, None, Some, map, ⊤}
+use Rattle.std.specs.Prelude.{◌≡◌, None, map, ⊤}
 use Rattle.glob_text.specs.Text.{Text}
 use Rattle.globs.specs.Chosen.{Chosen}
 use Rattle.globs.specs.Options.{value_fault, value_taken}
-use Rattle.globs.specs.Reading.{Reading, Asks, Wrong, Request, Runs, Explains, Helps, VersionLine, Refused}
+use Rattle.globs.specs.Reading.{Reading, Asks, Wrong, Request, Runs, Helps, VersionLine, Refused}
 use Rattle.globs.specs.declared.command.Asked.{Asked}
 use Rattle.globs.specs.declared.command.Command.{Command}
 use Rattle.globs.specs.declared.command.Command.TheVariants as command
@@ -18,7 +18,6 @@ asked_reading asked = Asks asked.options (map (λ w. w.now) asked.operands.now)
 -- what a command asks for
 abbrev pub request_of : {A : Type 0} → Command A → Request
 request_of (command.Run name asked) = Runs name asked.options (map (λ w. w.now) asked.operands.now)
-request_of (command.Explain words) = Explains (map (λ w. w.now) words.now)
 request_of (command.Help name) = Helps name
 request_of command.Version = VersionLine
 

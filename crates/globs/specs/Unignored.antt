@@ -1,11 +1,14 @@
 -- The path of a record, and which records are copied.
-use Rattle.std.specs.Prelude.{◌-◌, Bool, ◌&&◌, ◌||◌, not, if◌then◌else◌, length, take, drop, codes, bytes_eq}
+use Rattle.std.specs.Prelude.{◌-◌, ◌⊎◌, ℕ, List, [], Option, Bool, ◌&&◌, ◌||◌, not, if◌then◌else◌, length, take, drop, codes, bytes_eq}
 use Rattle.std.specs.Str.{is_utf8}
+use Rattle.glob_console.specs.Outcomes.{IsRefused}
 use Rattle.glob_text.specs.Characters.{dot, slash}
 use Rattle.glob_text.specs.Text.{Text, has}
 use Rattle.glob_text.specs.Pieces.{is_empty}
 use Rattle.glob_rules.specs.Deciding.{is_ignored}
 use Rattle.glob_rules.specs.Lists.{Ignores}
+use Rattle.globs.specs.Copying.{Copies, Input}
+use Rattle.globs.specs.Ignoring.{HasRules}
 
 -- without a `./` at the start
 abbrev pub without_here : Text → Text
@@ -33,3 +36,11 @@ unfoldable pub is_selected : Ignores → (bytes : Text) → Bool
 is_selected list bytes =
     is_utf8 (path_of bytes)
     && (is_here (path_of bytes) || not (is_ignored list (path_of bytes) (is_directory bytes)))
+
+-- The list is refused; or the records were copied that the rules of the files of these names do not ignore.
+unfoldable pub CopiesUnignored : {W : Type 0} → (contents : W → Option (List ℕ)) → (holds : Text → Option Text)
+    → (end : ℕ) → (names : List Text) → Input → (old new : W) → (status : ℕ) → Type 0
+CopiesUnignored contents holds end names input old new status =
+    IsRefused old new status
+    ⊎ ((list : Ignores) × HasRules holds names [] list
+    × Copies end (is_selected list) input (contents old) (contents new) status)

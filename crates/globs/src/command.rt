@@ -16,8 +16,6 @@ use std::alloc::Allocator;
 pub enum Command<'a, A: Allocator> {
     /// Run the command of this name.
     Run(Name, Asked<'a, A>),
-    /// Explain, by the words after the command.
-    Explain(&'a [&'a str]),
     /// Write the page of a command, or that of all.
     Help(Option<Name>),
     /// Write the version.
@@ -78,9 +76,6 @@ impl<'a, A: Allocator + Copy> Command<'a, A> {
         };
         if asks_help(words) {
             return Ok(Command::Help(Some(name)));
-        }
-        if name.is_explain() {
-            return Ok(Command::Explain(words));
         }
         match Asked::parse(alloc, name, words) {
             Ok(asked) => Ok(Command::Run(name, asked)),

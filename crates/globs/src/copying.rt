@@ -1,65 +1,61 @@
 //! Copies of records of the input.
-ghost use Rattle.std.specs.Prelude.{◌≡◌, ◌≤◌, ◌↔◌, false, IfOk, IsTrue, OnErr};
-ghost use Rattle.glob_lines.specs.Lines.{CopiesSelected, CopiesSelectedBytes};
-ghost use Rattle.globs.specs.Copying.{Copies, IsGone};
+ghost use Rattle.std.specs.Prelude.{◌≡◌, ◌≤◌, false, IfOk, IsErr, IsTrue, OnErr};
+ghost use Rattle.glob_lines.specs.Lines.{CopiesSelected, CopiesSelectedBytes, CopiesWholeSelected};
+ghost use Rattle.globs.specs.Copying.{Copies, input_of};
 
-use glob_console::{ErrorLines, FAULT, FOUND, UNFOUND};
+use glob_console::{Borrowed, ErrorLines, FOUND, UNFOUND};
 use glob_lines::{LineFault, Selection, Watch, copy_selected};
 use std::alloc::Allocator;
-use std::io::{ErrorKind, Read, Write};
+use std::io::{Read, Write};
 
 /// Copies the selected records of the input, each of which ends in `end`, and returns the status: 0 where some were
-/// copied, 1 where none, 2 at a fault. A fault is a line of `errors`, unless the reader of the output went away.
+/// copied, 1 where none, 2 at a fault, which is a line of `errors`.
 ///
 /// Over the input `"a.o\na.c\n"` a selection of records that end in `c` writes `"a.c\n"`.
 #[tactic(auto, unfolding(crate::specs::Copying::Copies))]
-pub fn copy<A: Allocator + Copy, S: Selection, R: Read + Drop, W: Write, E: Write>(
+pub fn copy<A: Allocator + Copy, S: Selection, R: Read, W: Write, E: Write>(
     alloc: A,
     selection: &S,
     end: u8,
-    input: R,
-    output: &mut Watch<W>,
+    input: &mut Watch<R>,
+    output: &mut W,
     errors: &mut ErrorLines<'_, A, E>,
 ) -> u8
-    requires { output.old.failed ≡ false }
+    requires { input.old.failed ≡ false }
     ensures most { result ≤ 2 }
-    ensures copied { Copies end (S.selects selection.now) (R.remaining input)
-        (W.contents output.old.inner) (W.contents output.new.inner) result }
+    ensures copied { Copies end (S.selects selection.now) (input_of R.remaining input.old input.new)
+        (W.contents output.old) (W.contents output.new) result }
 {
     match copy_input(alloc, selection, end, input, output) {
         Ok(0) => UNFOUND,
         Ok(_) => FOUND,
-        Err(line_fault) if is_gone(&line_fault) => FAULT,
+        Err(LineFault::Write(error)) => errors.write_fault(&error),
         Err(line_fault) => errors.fault(line_fault),
     }
 }
 
 /// Copies the selected records, and returns how many there are. Where it fails, the first bytes of them were written.
-fn copy_input<A: Allocator + Copy, S: Selection, R: Read + Drop, W: Write>(
+fn copy_input<A: Allocator + Copy, S: Selection, R: Read, W: Write>(
     alloc: A,
     selection: &S,
     end: u8,
-    input: R,
-    output: &mut Watch<W>,
+    input: &mut Watch<R>,
+    output: &mut W,
 ) -> Result<u64, LineFault>
-    requires { output.old.failed ≡ false }
+    requires { input.old.failed ≡ false }
     ensures records { IfOk result (CopiesSelected end (S.selects selection.now)
-        (R.remaining input)
-        (W.contents output.old.inner) (W.contents output.new.inner)) }
+        (R.remaining input.old.inner) (W.contents output.old) (W.contents output.new)) }
     ensures some { OnErr result (CopiesSelectedBytes end (S.selects selection.now)
-        (R.remaining input)
-        (W.contents output.old.inner) (W.contents output.new.inner)) }
+        (R.remaining input.old.inner) (W.contents output.old) (W.contents output.new)) }
+    ensures failed { IsTrue input.new.failed → IsErr result }
+    ensures whole { IsTrue input.new.failed → CopiesWholeSelected end (S.selects selection.now)
+        (R.remaining input.old.inner) (R.remaining input.new.inner)
+        (W.contents output.old) (W.contents output.new) }
 {
-    let mut reader = Watch::new(input);
-    copy_selected(alloc, selection, end, &mut reader, output)
-}
-
-/// Whether the reader of the output went away.
-fn is_gone(fault: &LineFault) -> bool
-    ensures { IsTrue result ↔ IsGone fault.now }
-{
-    match fault {
-        LineFault::Write(error) => error.kind() == ErrorKind::BrokenPipe,
-        LineFault::Read(_) | LineFault::Memory => false,
-    }
+    let mut writer = Watch::new(Borrowed { writer: output });
+    let answer = copy_selected(alloc, selection, end, input, &mut writer);
+    let Borrowed { writer: output } = writer.into_inner();
+    // No effect at run time. The proof reads here what the output holds.
+    let _ = &*output;
+    answer
 }

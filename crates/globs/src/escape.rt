@@ -2,15 +2,15 @@
 ghost use Rattle.std.specs.Prelude.{◌≡◌, ◌≤◌, IfOk, map, string_bytes};
 ghost use Rattle.globs.specs.Escaping.{AreEscaped, WritesEscaped, IsEscapedLine};
 
-use crate::writing::write;
-use glob_console::ErrorLines;
-use glob_pattern::Pattern;
+use glob_console::{ErrorLines, write_text};
+use glob_set::braces::escape;
 use std::alloc::{AllocError, Allocator};
 use std::io::Write;
 
-/// Writes a line for each of the texts: the pattern that matches that text alone. It returns the status.
+/// Writes a line for each of the texts: the pattern that matches that text alone, braces and all. It returns the
+/// status.
 ///
-/// The texts `*.rs` and `a` are written as `"[*].rs\na\n"`.
+/// The texts `*.rs` and `{a}` are written as `"[*].rs\n[{]a[}]\n"`.
 pub fn run_escape<A: Allocator + Copy, W: Write, E: Write>(
     alloc: A,
     texts: &[&str],
@@ -22,7 +22,7 @@ pub fn run_escape<A: Allocator + Copy, W: Write, E: Write>(
         (W.contents output.old) (W.contents output.new) result }
 {
     match escaped_lines(alloc, texts) {
-        Ok(lines) => write(lines.as_str(), output, errors),
+        Ok(lines) => write_text(lines.as_str(), output, errors),
         Err(_) => errors.fault("out of memory"),
     }
 }
@@ -33,7 +33,7 @@ fn escaped_lines<A: Allocator + Copy>(alloc: A, texts: &[&str]) -> Result<String
 {
     let mut lines = String::new(alloc);
     for text in texts {
-        let pattern = Pattern::escape(alloc, text)?;
+        let pattern = escape(alloc, text)?;
         lines.push_str(pattern.as_str())?;
         lines.push('\n')?;
     }

@@ -1,58 +1,71 @@
 //! `globs explain`: why a pattern matches a text, or does not. It writes which piece of the text each token takes, or
 //! where the text stops and what is wanted there; and what to write instead of a pattern that is refused.
-ghost use Rattle.std.specs.Prelude.{◌≡◌, ◌≤◌, List, ℕ, None, Some, chars, map};
+ghost use Rattle.std.specs.Prelude.{◌≡◌, ◌≤◌, chars, map};
 ghost use Rattle.glob_console.specs.Outcomes.{IsRefused};
-ghost use Rattle.globs.specs.Explain.Outcomes.{Explains};
-ghost use Rattle.globs.specs.Explain.Questions.{question_asked};
+ghost use Rattle.globs.specs.Explain.Outcomes.{Answers, Explains};
 ghost use Rattle.glob_pattern.specs.Grammar.Units.{IsAccepted};
-ghost use Rattle.glob_pattern.specs.declared.options.MatchOptions.{MatchOptions};
 
 mod explanation;
 mod foreign;
-mod hints;
+pub mod hints;
 mod instead;
-mod notes;
-mod question;
+pub mod notes;
 mod refusal;
 mod rows;
 mod stop;
 
-use crate::writing::write;
+use crate::name::Name;
+use crate::usage::{UsageLine, Why};
 use explanation::explain;
-use glob_console::{ErrorLines, FOUND, UNFOUND};
+use glob_console::{ErrorLines, FOUND, UNFOUND, write_text};
 use glob_pattern::{MatchOptions, Pattern, PatternError, PatternRefusal};
-use question::Question;
 use refusal::explain_refusal;
 use std::alloc::Allocator;
 use std::io::Write;
 
-/// Explains what the words after `explain` ask, and returns the exit status: 0 where the pattern matches the text, 1
-/// where it does not, 2 at a fault.
+/// Explains why a pattern matches a text, or does not, and returns the exit status: 0 where it does, 1 where not, 2 at a
+/// fault. The operands are the pattern and the text.
 ///
-/// A fault is lines of `errors`. A usage fault, or a fault of the pattern, leaves the output as it was.
+/// A fault is lines of `errors`. Another number of operands, or a fault of the pattern, leaves the output as it was.
 ///
-/// The words `?*` and `xyz` write a line of `?`, a tab and `x`, and one of `*`, a tab and `yz`; the status is 0.
+/// The operands `?*` and `xyz` write a line of `?`, a tab and `x`, and one of `*`, a tab and `yz`; the status is 0.
+#[tactic(auto, unfolding(crate::specs::Explain::Outcomes::Answers))]
 pub fn run_explain<A: Allocator + Copy, W: Write, E: Write>(
     alloc: A,
-    words: &[&str],
+    options: MatchOptions,
+    operands: &[&str],
     output: &mut W,
     errors: &mut ErrorLines<'_, A, E>,
 ) -> u8
     ensures most { result ≤ 2 }
-    ensures usage { question_asked (map (λ w. w.now) words.now) ≡ None
-        → IsRefused output.old output.new result }
-    ensures refused { (options : MatchOptions) → (pattern text : List ℕ)
-        → question_asked (map (λ w. w.now) words.now) ≡ Some (options, pattern, text)
-        → (¬ (IsAccepted (chars pattern))) → IsRefused output.old output.new result }
-    ensures explained { (options : MatchOptions) → (pattern text : List ℕ)
-        → question_asked (map (λ w. w.now) words.now) ≡ Some (options, pattern, text)
-        → Explains options pattern text
-        (W.contents output.old) (W.contents output.new) result }
+    ensures explained { Answers W.contents options (map (λ w. w.now) operands.now)
+        output.old output.new result }
 {
-    match Question::parse(alloc, words) {
-        Ok(question) => answer(alloc, &question, output, errors),
-        Err(usage) => errors.fault(usage),
+    match operands {
+        [pattern, text] => {
+            let question = Question {
+                options,
+                pattern,
+                text,
+            };
+            answer(alloc, question, output, errors)
+        }
+        [_, _, extra, ..] => errors.fault(usage(Why::Extra, extra)),
+        [] | [_] => errors.fault(usage(Why::Textless, "")),
     }
+}
+
+/// The line of an operand that is wrong.
+fn usage(why: Why, word: &str) -> UsageLine<'_> {
+    UsageLine::new(Some(Name::Explain), why, word)
+}
+
+/// A pattern and a text, of which is asked why the one matches the other, or does not.
+#[derive(Clone, Copy)]
+struct Question<'a> {
+    options: MatchOptions,
+    pattern: &'a str,
+    text: &'a str,
 }
 
 /// Writes why the pattern matches the text, or does not, and returns the status. A pattern that is refused is written
@@ -60,15 +73,15 @@ pub fn run_explain<A: Allocator + Copy, W: Write, E: Write>(
 #[tactic(auto, unfolding(crate::specs::Explain::Outcomes::Explains))]
 fn answer<A: Allocator + Copy, W: Write, E: Write>(
     alloc: A,
-    question: &Question<'_>,
+    question: Question<'_>,
     output: &mut W,
     errors: &mut ErrorLines<'_, A, E>,
 ) -> u8
     ensures most { result ≤ 2 }
-    ensures refused { (¬ (IsAccepted (chars question.now.pattern.now)))
+    ensures refused { (¬ (IsAccepted (chars question.entry.pattern.now)))
         → IsRefused output.old output.new result }
-    ensures explained { Explains question.now.options question.now.pattern.now question.now.text.now
-        (W.contents output.old) (W.contents output.new) result }
+    ensures explained { Explains question.entry.options question.entry.pattern.now
+        question.entry.text.now (W.contents output.old) (W.contents output.new) result }
 {
     match Pattern::new(alloc, question.pattern) {
         Ok(pattern) => {
@@ -103,7 +116,7 @@ fn write_explained<A: Allocator + Copy, W: Write, E: Write>(
     match explain(alloc, pattern, text, options) {
         Ok(explanation) => {
             let found = if explanation.is_match { FOUND } else { UNFOUND };
-            match write(explanation.lines.as_str(), output, errors) {
+            match write_text(explanation.lines.as_str(), output, errors) {
                 FOUND => found,
                 fault => fault,
             }

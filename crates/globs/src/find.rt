@@ -1,16 +1,16 @@
 //! `globs find`: the paths below the current directory that one of the patterns matches and nothing excludes.
-ghost use Rattle.std.specs.Prelude.{◌≡◌, ◌≢◌, ◌≤◌, ◌⊎◌, List, false, map, IsTrue};
+ghost use Rattle.std.specs.Prelude.{◌≡◌, ◌≢◌, ◌≤◌, false, map, IsTrue};
 ghost use Rattle.glob_console.specs.FoundPaths.{IsFindStatus, WritesFound};
 ghost use Rattle.glob_console.specs.Outcomes.{IsRefused};
 ghost use Rattle.glob_prune.specs.Pruning.{pruned};
-ghost use Rattle.glob_set.specs.BraceSets.{AreAlternativesOf};
-ghost use Rattle.glob_text.specs.Text.{Text};
 ghost use Rattle.glob_tree.specs.Answers.{IsTold};
 ghost use Rattle.glob_tree.specs.Content.{Content};
 ghost use Rattle.glob_walk.specs.Goal.{is_readable};
 ghost use Rattle.globs.specs.Find.Filtering.{is_wanted};
 ghost use Rattle.globs.specs.Find.Finding.{IsFound, WritesExactly};
+ghost use Rattle.globs.specs.Find.Outcomes.{Finds, FindsUnignored};
 ghost use Rattle.globs.specs.Find.Planning.{are_below, walk_listing, walk_text};
+ghost use Rattle.globs.specs.Find.Shallow.{opened};
 ghost use Rattle.globs.specs.Find.Skipping.{is_skipped};
 ghost use Rattle.globs.specs.Patterns.{set_of};
 
@@ -19,55 +19,102 @@ mod filter;
 mod order;
 mod plan;
 mod search;
-mod skipping;
+mod shallow;
+pub mod skipping;
 mod strays;
 mod walk;
 
 use crate::braces::expand_words;
+use crate::command::Asked;
+use crate::explain::notes::first_form;
+use crate::files::IgnoreFiles;
+use crate::ignoring::read_list;
+use crate::name::Name;
 use crate::options::Settings;
-use glob_console::{ErrorLines, words_of};
+use crate::patterns::FaultLines;
+use glob_console::{ErrorLines, UNFOUND, words_of};
 use glob_prune::Pruned;
 use glob_rules::IgnoreList;
 use glob_tree::Tree;
 use search::run_patterns;
-use skipping::Skipping;
+use shallow::Shallow;
+use skipping::{SharedRules, Skipping, share_list};
+use std::alloc::Allocator;
+use std::fmt::{self, Display};
 use std::io::Write;
+use std::rc::Rc;
 
-/// As [`run_find`], by the alternatives of the words: `*.{c,h}` as `*.c` and `*.h`. A word whose braces are refused is lines
-/// of `errors`, before anything is looked up or written.
-pub fn find_words<T: Tree, W: Write, E: Write>(
+/// Searches the tree for what is asked, and returns the status. A list of rules that is refused is a fault, before
+/// anything is looked up or written; one that is not is in `rules` from then on.
+#[tactic(auto, unfolding(crate::specs::Find::Outcomes::FindsUnignored))]
+pub fn find_asked<T: Tree, F: IgnoreFiles, W: Write, E: Write>(
     alloc: T::Alloc,
     tree: T,
-    list: IgnoreList<T::Alloc>,
+    rules: &SharedRules<T::Alloc>,
+    files: &F,
+    asked: &Asked<'_, T::Alloc>,
+    output: &mut W,
+    errors: &mut ErrorLines<'_, T::Alloc, E>,
+) -> u8
+    ensures most { result ≤ 2 }
+    ensures found { FindsUnignored W.contents (T.tells tree) (F.holds files.now) asked.now.options
+        (map (λ w. w.now) asked.now.operands.now) output.old output.new result }
+{
+    let options = &asked.options;
+    match read_list(
+        alloc,
+        files,
+        options.files.as_slice(),
+        options.rules.as_slice(),
+    ) {
+        Ok(list) => {
+            let Ok(list) = share_list(alloc, list, rules) else {
+                return errors.fault("out of memory");
+            };
+            find_words(
+                alloc,
+                tree,
+                list,
+                options.settings,
+                asked.operands,
+                output,
+                errors,
+            )
+        }
+        Err(rules_fault) => errors.fault(rules_fault),
+    }
+}
+
+/// As [`run_find`], by the alternatives of the words: `*.{c,h}` as `*.c` and `*.h`. A word whose braces are refused is
+/// lines of `errors`, before anything is looked up or written. Where one pattern finds nothing and has a form of
+/// another tool, a line says what that is here.
+#[tactic(auto, unfolding(crate::specs::Find::Outcomes::Finds))]
+fn find_words<T: Tree, W: Write, E: Write>(
+    alloc: T::Alloc,
+    tree: T,
+    list: Rc<IgnoreList<T::Alloc>, T::Alloc>,
     settings: Settings,
     words: &[&str],
     output: &mut W,
     errors: &mut ErrorLines<'_, T::Alloc, E>,
 ) -> u8
     ensures most { result ≤ 2 }
-    ensures exact { IsRefused output.old output.new result ⊎ ((patterns : List Text)
-        × AreAlternativesOf (map (λ w. w.now) words.now) patterns
-        × ((c : Content) → IsTold (T.tells tree) c
-        → IsFindStatus
-        (is_wanted (set_of settings.options patterns) settings.kind
-        (pruned (is_skipped list settings.depth) c))
-        (walk_listing (pruned (is_skipped list settings.depth) c) settings.options patterns)
-        settings.limit result
-        × (IsTrue (is_readable (pruned (is_skipped list settings.depth) c)
-        (walk_text settings.options patterns))
-        → result ≢ 2 → WritesExactly settings.end
-        (IsFound (is_skipped list settings.depth) (set_of settings.options patterns)
-        settings.kind c)
-        (W.contents output.old) (W.contents output.new)))) }
+    ensures found { Finds W.contents (T.tells tree) settings list.value (map (λ w. w.now) words.now)
+        output.old output.new result }
 {
     let texts = match expand_words(alloc, words) {
         Ok(texts) => texts,
-        Err(brace_fault) => return errors.fault(brace_fault),
+        Err(fault) => {
+            return errors.fault(FaultLines {
+                name: Name::Find,
+                fault,
+            });
+        }
     };
     let Ok(patterns) = words_of(alloc, texts.as_slice()) else {
         return errors.fault("out of memory");
     };
-    run_find(
+    let status = run_find(
         alloc,
         tree,
         list,
@@ -75,20 +122,51 @@ pub fn find_words<T: Tree, W: Write, E: Write>(
         patterns.as_slice(),
         output,
         errors,
-    )
+    );
+    if status == UNFOUND {
+        note_form(alloc, patterns.as_slice(), errors);
+    }
+    status
+}
+
+/// Writes what the first form of another tool is here, if the patterns are one that has such a form.
+fn note_form<A: Allocator + Copy, E: Write>(
+    alloc: A,
+    patterns: &[&str],
+    errors: &mut ErrorLines<'_, A, E>,
+) {
+    if let [pattern] = patterns {
+        if let Ok(Some((form, words))) = first_form(alloc, pattern) {
+            errors.write(&FormLine { form, words });
+        }
+    }
+}
+
+/// The line of a form of another tool.
+#[derive(Clone, Copy)]
+struct FormLine {
+    form: &'static str,
+    words: &'static str,
+}
+
+impl Display for FormLine {
+    fn fmt<W: fmt::Write>(&self, f: &mut fmt::Formatter<W>) -> fmt::Result {
+        write!(f, "{} {}", self.form, self.words)
+    }
 }
 
 /// Walks the tree, and writes the paths below its current directory that one of the patterns matches, that are of the
 /// kind of the settings, and that neither the list nor the depth excludes, in ascending byte order of their names, each
-/// once. It returns the exit status: 0 with a path, 1 without, and 2 where a directory could not be listed, the walk did
-/// not come to its end, or a pattern is refused. A refusal is lines of `errors`, before anything is looked up or written.
+/// once. It returns the exit status: 0 with a path, 1 without, and 2 where a directory could not be listed, the walk
+/// did not come to its end, or a pattern is refused. A refusal is lines of `errors`, before anything is looked up or
+/// written.
 ///
 /// Over files `a.rs`, `b.c`, `d/a.rs` and `t/a.rs`, where the list ignores `t`, `**/*.rs` and `d/*` write `a.rs` and
 /// `d/a.rs`.
 fn run_find<T: Tree, W: Write, E: Write>(
     alloc: T::Alloc,
     tree: T,
-    list: IgnoreList<T::Alloc>,
+    list: Rc<IgnoreList<T::Alloc>, T::Alloc>,
     settings: Settings,
     patterns: &[&str],
     output: &mut W,
@@ -99,20 +177,20 @@ fn run_find<T: Tree, W: Write, E: Write>(
         → IsRefused output.old output.new result }
     ensures status { (c : Content) → IsTold (T.tells tree) c → IsFindStatus
         (is_wanted (set_of settings.options (map (λ p. p.now) patterns.now)) settings.kind
-        (pruned (is_skipped list settings.depth) c))
-        (walk_listing (pruned (is_skipped list settings.depth) c)
+        (pruned (is_skipped list.value settings.depth) (opened settings.depth c)))
+        (walk_listing (pruned (is_skipped list.value settings.depth) (opened settings.depth c))
         settings.options (map (λ p. p.now) patterns.now)) settings.limit result }
     ensures written { (c : Content) → IsTold (T.tells tree) c → WritesFound settings.end
         (is_wanted (set_of settings.options (map (λ p. p.now) patterns.now)) settings.kind
-        (pruned (is_skipped list settings.depth) c))
-        (walk_listing (pruned (is_skipped list settings.depth) c)
+        (pruned (is_skipped list.value settings.depth) (opened settings.depth c)))
+        (walk_listing (pruned (is_skipped list.value settings.depth) (opened settings.depth c))
         settings.options (map (λ p. p.now) patterns.now)) settings.limit
         (W.contents output.old) (W.contents output.new) result }
     ensures exact { (c : Content) → IsTold (T.tells tree) c
-        → IsTrue (is_readable (pruned (is_skipped list settings.depth) c)
+        → IsTrue (is_readable (pruned (is_skipped list.value settings.depth) (opened settings.depth c))
         (walk_text settings.options (map (λ p. p.now) patterns.now)))
         → result ≢ 2 → WritesExactly settings.end
-        (IsFound (is_skipped list settings.depth)
+        (IsFound (is_skipped list.value settings.depth)
         (set_of settings.options (map (λ p. p.now) patterns.now)) settings.kind c)
         (W.contents output.old) (W.contents output.new) }
 {
@@ -120,6 +198,7 @@ fn run_find<T: Tree, W: Write, E: Write>(
         list,
         depth: settings.depth,
     };
-    let tree = Pruned::new(alloc, tree, skipping);
-    run_patterns(alloc, tree, patterns, settings, output, errors)
+    let pruned = Pruned::new(alloc, tree, skipping);
+    let shallow = Shallow::new(alloc, pruned, settings.depth);
+    run_patterns(alloc, shallow, patterns, settings, output, errors)
 }

@@ -1,11 +1,16 @@
 //! What `--help`, `help` and `--version` write.
+ghost use Rattle.std.specs.Prelude.{◌≡◌};
+ghost use Rattle.globs.specs.Help.{page_of};
+
 use crate::name::Name;
 
 /// The version, as the changelog has it at its top.
-pub const VERSION: &str = "globs 0.3.0\n";
+pub const VERSION: &str = "globs 0.4.0\n";
 
 /// The page of a command, or that of all.
-pub fn page_of(name: Option<Name>) -> &'static str {
+pub fn page_of(name: Option<Name>) -> &'static str
+    ensures { result.now ≡ page_of name }
+{
     match name {
         None => HELP,
         Some(Name::Find) => FIND,
@@ -54,29 +59,34 @@ globs find: the paths below the current directory that patterns match and no rul
 
   globs find [OPTION].. PATTERN..
 
+globs help shows what a PATTERN may have: ?, *, **, brackets and braces.
+
   -0             each path ends in a NUL in place of a line feed
   -i             ASCII letters in either case are the same
   -d             neither wildcards nor brackets take a . at the start of a name
   -L             a symbolic link to a directory is one, and is entered. One that leads back up is
-                 reported, and is not
-  -n LIMIT       the walk spends at most LIMIT units: one for each lookup, listing and entry
-  -t KIND        write only directories: -t d; or all but these, symbolic links too: -t f
+                 reported, and is not entered
+  -n LIMIT       the walk spends at most LIMIT units: one for each lookup, listing and entry. At the
+                 limit the output is incomplete, and a line says so
+  -t KIND        -t d writes only directories. -t f writes all else: files, pipes, devices, and
+                 symbolic links, unless -L makes one a directory
   -x RULE        ignore what RULE names, as a line of an ignore file: -x target -x '*.o' -x '!a.o'
   --ignore FILE  ignore what the rules of FILE name, as gitignore(5) has them, which are taken from
                  the current directory: --ignore .gitignore. Each -x comes after all files
-  --max-depth N  pass over paths of more than N names
+  --max-depth N  pass over paths of more than N names. A directory of N names is not listed
   --             ends the options. A pattern that begins with - needs it
 
 A pattern matches a whole path, as src/main.rs, where no ?, * or bracket takes a /: '*.rs' is of
 names here, and '**/*.rs' also of those below. One that begins or ends with /, or has an empty
-component, . or .., is refused. globs help shows what a pattern has.
+component, . or .., is refused.
 
 Nothing is passed over by itself: neither names that begin with a . (see -d), nor what .gitignore
 names (--ignore .gitignore), nor .git (-x .git).
 
 Each path that one of the patterns matches is written once, in ascending byte order of its names.
 What is ignored is never listed, nor what is below it. Without -i one pattern without braces usually
-enters only directories that it can reach.
+enters only directories that it can reach. Where one pattern finds nothing and has a form of another
+tool, as ~/ or +(a), a line on standard error says what that is here.
 
 Status:
   0         a path was written
@@ -172,8 +182,7 @@ globs escape: the patterns that match texts alone
   --  ends the options, of which there are no others. A TEXT that begins with - needs it
 
 It writes a line for each TEXT: the pattern that matches this text and no other, under each option
-but -i. So *.rs is written as [*].rs. Braces stay as they are: where find and match would expand
-them, write [{] and [}].
+but -i. So *.rs is written as [*].rs, and {a} as [{]a[}], which find and match do not expand.
 
 Status:
   0         the lines were written

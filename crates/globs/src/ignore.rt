@@ -1,11 +1,7 @@
 //! `globs ignore`: the paths of the input that the rules of ignore files do not ignore.
-ghost use Rattle.std.specs.Prelude.{◌≡◌, ◌≤◌, false, List, map};
-ghost use Rattle.glob_lines.specs.Lines.{line_feed, with_ends};
-ghost use Rattle.glob_rules.specs.Lists.{rules_of};
-ghost use Rattle.glob_text.specs.Text.{Text};
-ghost use Rattle.globs.specs.Copying.{Copies};
-ghost use Rattle.globs.specs.Ignoring.{AreHeld};
-ghost use Rattle.globs.specs.Unignored.{is_selected};
+ghost use Rattle.std.specs.Prelude.{◌≡◌, ◌≤◌, false, map};
+ghost use Rattle.globs.specs.Copying.{input_of};
+ghost use Rattle.globs.specs.Unignored.{CopiesUnignored};
 
 mod unignored;
 
@@ -19,25 +15,23 @@ use std::io::{Read, Write};
 use unignored::Unignored;
 
 /// Copies the paths of the input that the rules of the files do not ignore, and returns the status. Of several files
-/// the later rules decide. They are read whole before the input.
+/// the later rules decide. They are read whole before the input. A list that is refused is a fault, before anything is
+/// read of the input or written.
 ///
 /// Over the input `"a.o\na.c\n"` a file `*.o` writes `"a.c\n"`.
-pub fn run_ignore<A: Allocator + Copy, F: IgnoreFiles, R: Read + Drop, W: Write, E: Write>(
+pub fn run_ignore<A: Allocator + Copy, F: IgnoreFiles, R: Read, W: Write, E: Write>(
     alloc: A,
     files: &F,
     end: u8,
     names: &[&str],
-    input: R,
-    output: &mut Watch<W>,
+    input: &mut Watch<R>,
+    output: &mut W,
     errors: &mut ErrorLines<'_, A, E>,
 ) -> u8
-    requires { output.old.failed ≡ false }
+    requires { input.old.failed ≡ false }
     ensures most { result ≤ 2 }
-    ensures copied { (texts : List Text)
-        → AreHeld (F.holds files.now) (map (λ w. w.now) names.now) texts
-        → Copies end (is_selected (rules_of (with_ends line_feed texts)))
-        (R.remaining input)
-        (W.contents output.old.inner) (W.contents output.new.inner) result }
+    ensures copied { CopiesUnignored W.contents (F.holds files.now) end (map (λ w. w.now) names.now)
+        (input_of R.remaining input.old input.new) output.old output.new result }
 {
     match read_list(alloc, files, names, &[]) {
         Ok(list) => copy(

@@ -1,11 +1,13 @@
 //! The ignore list of some files and some rules.
-ghost use Rattle.std.specs.Prelude.{◌≡◌, ◌++◌, List, IfOk, IfErr, IfSome, OnOk, map, string_bytes};
+ghost use Rattle.std.specs.Prelude.{◌≡◌, ◌++◌, List, IfOk, IfErr, OnOk, map, string_bytes};
 ghost use Rattle.glob_lines.specs.Lines.{line_feed, with_ends};
 ghost use Rattle.glob_rules.specs.Lists.{AreTaken, RefusesText, rules_of};
 ghost use Rattle.glob_text.specs.Text.{Text};
-ghost use Rattle.globs.specs.Ignoring.{AreHeld, IsReadFault, IsUnmarked, texts_of};
+ghost use Rattle.globs.specs.Faults.{rules_words};
+ghost use Rattle.globs.specs.Ignoring.{AreRead, HasRules, IsRead, IsReadFault, IsUnmarked, texts_of};
 
 use crate::files::IgnoreFiles;
+use crate::visible::Visible;
 use glob_rules::{IgnoreList, Reason, RuleRefusal};
 use std::alloc::{AllocError, AllocFailed, Allocator};
 use std::fmt::{self, Display};
@@ -57,21 +59,21 @@ impl<T: Drop> From<AllocFailed<T>> for RulesFault<'_> {
 }
 
 impl Display for RulesFault<'_> {
+    ghost output = { λ fault. rules_words fault };
+
     fn fmt<W: fmt::Write>(&self, f: &mut fmt::Formatter<W>) -> fmt::Result {
         match self {
             RulesFault::NoText(file) => {
-                f.write_str(file)?;
-                f.write_str(": the file is not UTF-8")
+                let file = Visible { text: *file };
+                write!(f, "{file}: the file is not UTF-8")
             }
             RulesFault::Unread(file, error) => {
-                f.write_str(file)?;
-                f.write_str(": ")?;
-                Display::fmt(error, f)
+                let file = Visible { text: *file };
+                write!(f, "{file}: {error}")
             }
             RulesFault::Refused(source, line, reason) => {
-                f.write_str(source)?;
-                write!(f, ": line {line}: ")?;
-                Display::fmt(reason, f)
+                let source = Visible { text: *source };
+                write!(f, "{source}: line {line}: {reason}")
             }
             RulesFault::Memory => f.write_str("out of memory"),
         }
@@ -86,10 +88,8 @@ pub fn read_list<'a, A: Allocator + Copy, F: IgnoreFiles>(
     names: &[&'a str],
     rules: &[&'a str],
 ) -> Result<IgnoreList<A>, RulesFault<'a>>
-    ensures rules { (texts : List Text)
-        → AreHeld (F.holds files.now) (map (λ w. w.now) names.now) texts
-        → IfOk result (λ list. list
-        ≡ rules_of (with_ends line_feed (texts ++ map (λ w. w.now) rules.now))) }
+    ensures { IfOk result
+        (HasRules (F.holds files.now) (map (λ w. w.now) names.now) (map (λ w. w.now) rules.now)) }
 {
     let mut sources = Vec::new(alloc);
     add_files(alloc, files, names, &mut sources)?;
@@ -110,9 +110,9 @@ fn add_files<'a, A: Allocator + Copy, F: IgnoreFiles>(
     names: &[&'a str],
     sources: &mut Vec<Source<'a, A>, A>,
 ) -> Result<(), RulesFault<'a>>
-    ensures { (texts : List Text)
-        → AreHeld (F.holds files.now) (map (λ w. w.now) names.now) texts
-        → OnOk result (texts_of sources.new.items ≡ texts_of sources.old.items ++ texts) }
+    ensures { OnOk result ((texts : List Text)
+        × AreRead (F.holds files.now) (map (λ w. w.now) names.now) texts
+        × (texts_of sources.new.items ≡ texts_of sources.old.items ++ texts)) }
 {
     for name in names {
         let text = text_of_file(alloc, files, name)?;
@@ -143,8 +143,7 @@ fn text_of_file<'a, A: Allocator + Copy, F: IgnoreFiles>(
     files: &F,
     file: &'a str,
 ) -> Result<String<A>, RulesFault<'a>>
-    ensures { IfOk result (λ text. IfSome (F.holds files.now file.now)
-        (λ held. IsUnmarked held (string_bytes text))) }
+    ensures { IfOk result (λ text. IsRead (F.holds files.now file.now) (string_bytes text)) }
 {
     match files.read(alloc, file) {
         Ok(text) => Ok(String::from_str(alloc, unmarked(text.as_str()))?),

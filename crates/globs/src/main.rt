@@ -2,7 +2,11 @@
 //! lines, apply ignore lists, explain and escape.
 #![tactic(auto)]
 
-ghost use Rattle.std.specs.Prelude.{◌≤◌};
+ghost use Rattle.std.specs.Prelude.{◌≡◌, ◌≤◌, false, if◌then◌else◌, map};
+ghost use Rattle.globs.specs.CommandLine.{request_asked};
+ghost use Rattle.globs.specs.Copying.{input_of};
+ghost use Rattle.globs.specs.Outcomes.{Fulfils};
+ghost use Rattle.globs.specs.Reading.{Runs};
 
 mod braces;
 mod command;
@@ -20,82 +24,128 @@ mod options;
 mod patterns;
 mod usage;
 mod visible;
-mod writing;
 
 use command::{Asked, Command};
 use escape::run_escape;
 use explain::run_explain;
-use files::DiskFiles;
-use find::disk::find_on_disk;
-use glob_console::{ErrorLines, arguments, words_of};
+use files::{DiskFiles, IgnoreFiles};
+use find::disk::{Disks, disk_of, last_status};
+use find::find_asked;
+use find::skipping::SharedRules;
+use glob_console::{ErrorLines, arguments, words_of, write_text};
 use glob_lines::Watch;
+use glob_prune::Links;
+use glob_tree::Tree;
 use ignore::run_ignore;
 use matching::match_words;
 use name::Name;
-use std::alloc::Global;
+use std::cell::Cell;
+use std::io::{Read, Write};
 use std::process::ExitCode;
-use writing::write;
 
 /// What each fault of standard error begins with.
 const PREFIX: &str = "globs: ";
 
-/// Does what the words after the program's name ask, and returns the exit status.
-fn run_words(rt: HostRuntime, words: &[&str]) -> u8
-    ensures { result ≤ 2 }
+/// Does what the words after the program's name ask, and returns the exit status: 0 where something was written, 1 where
+/// nothing was found, copied or matched, and 2 at a fault, which is lines of `errors`. A usage fault leaves the output as
+/// it was.
+///
+/// Over the input `"a.rs\nb.c\n"` the words `match` and `*.rs` write `"a.rs\n"`, and the status is 0.
+pub fn run_words<T: Tree, F: IgnoreFiles, R: Read, W: Write, E: Write>(
+    alloc: T::Alloc,
+    disks: Disks<'_, T, T::Alloc>,
+    files: &F,
+    words: &[&str],
+    input: &mut Watch<R>,
+    output: &mut W,
+    errors: &mut E,
+) -> u8
+    requires { input.old.failed ≡ false }
+    ensures most { result ≤ 2 }
+    ensures request { Fulfils W.contents (record {
+      told = λ follows. T.tells (if follows then disks.entry.logical else disks.entry.physical);
+      holds = F.holds files.now;
+      input = input_of R.remaining input.old input.new;
+    })
+        (request_asked (map (λ w. w.now) words.now)) output.old output.new result }
 {
-    let alloc = rt.alloc();
-    let mut stderr = rt.stderr();
-    let errors = &mut ErrorLines::new(alloc, PREFIX, &mut stderr);
+    let errors = &mut ErrorLines::quiet(alloc, PREFIX, errors);
     match Command::parse(alloc, words) {
-        Ok(Command::Run(name, asked)) => run_command(rt, name, &asked),
-        Ok(Command::Explain(words)) => run_explain(alloc, words, &mut rt.stdout(), errors),
-        Ok(Command::Help(name)) => write(help::page_of(name), &mut rt.stdout(), errors),
-        Ok(Command::Version) => write(help::VERSION, &mut rt.stdout(), errors),
+        Ok(Command::Run(name, asked)) => {
+            run_command(alloc, disks, files, name, &asked, input, output, errors)
+        }
+        Ok(Command::Help(name)) => write_text(help::page_of(name), output, errors),
+        Ok(Command::Version) => write_text(help::VERSION, output, errors),
         Err(usage_line) => errors.fault(usage_line),
     }
 }
 
 /// Runs a command, and returns the exit status.
-fn run_command(rt: HostRuntime, name: Name, asked: &Asked<'_, Global>) -> u8
-    ensures { result ≤ 2 }
+#[tactic(auto, unfolding(crate::specs::Outcomes::Fulfils))]
+fn run_command<T: Tree, F: IgnoreFiles, R: Read, W: Write, E: Write>(
+    alloc: T::Alloc,
+    disks: Disks<'_, T, T::Alloc>,
+    files: &F,
+    name: Name,
+    asked: &Asked<'_, T::Alloc>,
+    input: &mut Watch<R>,
+    output: &mut W,
+    errors: &mut ErrorLines<'_, T::Alloc, E>,
+) -> u8
+    requires { input.old.failed ≡ false }
+    ensures most { result ≤ 2 }
+    ensures request { Fulfils W.contents (record {
+      told = λ follows. T.tells (if follows then disks.entry.logical else disks.entry.physical);
+      holds = F.holds files.now;
+      input = input_of R.remaining input.old input.new;
+    })
+        (Runs name asked.now.options (map (λ w. w.now) asked.now.operands.now))
+        output.old output.new result }
 {
-    let alloc = rt.alloc();
-    let mut stderr = rt.stderr();
-    let errors = &mut ErrorLines::new(alloc, PREFIX, &mut stderr);
     let settings = asked.options.settings;
     let operands = asked.operands;
-    let output = &mut Watch::new(rt.stdout());
     match name {
-        Name::Find => find_on_disk(rt, asked, &mut rt.stdout(), errors, &mut rt.stderr()),
-        Name::Match => match_words(alloc, settings, operands, rt.stdin(), output, errors),
-        Name::Ignore => {
-            let files = DiskFiles { rt };
-            run_ignore(
-                alloc,
-                &files,
-                settings.end,
-                operands,
-                rt.stdin(),
-                output,
-                errors,
-            )
+        Name::Find => {
+            let rules = disks.rules;
+            let tree = disks.chosen(settings.follows);
+            find_asked(alloc, tree, rules, files, asked, output, errors)
         }
-        Name::Escape | Name::Explain => run_escape(alloc, operands, &mut rt.stdout(), errors),
+        Name::Match => match_words(alloc, settings, operands, input, output, errors),
+        Name::Ignore => run_ignore(alloc, files, settings.end, operands, input, output, errors),
+        Name::Explain => run_explain(alloc, settings.options, operands, output, errors),
+        Name::Escape => run_escape(alloc, operands, output, errors),
     }
 }
 
 fn main(rt: HostRuntime) -> ExitCode {
     let alloc = rt.alloc();
     let mut stderr = rt.stderr();
-    let mut errors = ErrorLines::new(alloc, PREFIX, &mut stderr);
+    let mut errors = ErrorLines::quiet(alloc, PREFIX, &mut stderr);
     let arguments = match arguments(&rt) {
         Ok(arguments) => arguments,
         Err(error) => {
             return ExitCode::from(errors.arguments_fault(&error, "a word is not UTF-8"));
         }
     };
-    ExitCode::from(match words_of(alloc, arguments.as_slice()) {
-        Ok(words) => run_words(rt, words.as_slice()),
-        Err(_) => errors.fault("out of memory"),
-    })
+    let Ok(words) = words_of(alloc, arguments.as_slice()) else {
+        return ExitCode::from(errors.fault("out of memory"));
+    };
+    let has_stray = Cell::new(false);
+    let rules = SharedRules::new();
+    let (mut kept, mut followed) = (rt.stderr(), rt.stderr());
+    let disks = Disks {
+        physical: disk_of(rt, Links::Kept, &mut kept, &has_stray, &rules),
+        logical: disk_of(rt, Links::Followed, &mut followed, &has_stray, &rules),
+        rules: &rules,
+    };
+    let status = run_words(
+        alloc,
+        disks,
+        &DiskFiles { rt },
+        words.as_slice(),
+        &mut Watch::new(rt.stdin()),
+        &mut rt.stdout(),
+        &mut rt.stderr(),
+    );
+    ExitCode::from(last_status(has_stray.get(), status))
 }

@@ -1,17 +1,15 @@
 //! `globs match`: the records of the input that one of the patterns matches, or those that none matches.
-ghost use Rattle.std.specs.Prelude.{◌≡◌, ◌≤◌, ◌↔◌, ◌⊎◌, List, false, map, IfOk, IsTrue};
+ghost use Rattle.std.specs.Prelude.{◌≡◌, ◌≤◌, ◌↔◌, false, map, IfOk, IsTrue};
 ghost use Rattle.std.specs.Str.{chars};
-ghost use Rattle.glob_console.specs.Outcomes.{IsRefused};
-ghost use Rattle.glob_set.specs.BraceSets.{AreAlternativesOf};
-ghost use Rattle.glob_text.specs.Text.{Text};
-ghost use Rattle.globs.specs.Copying.{Copies};
-ghost use Rattle.globs.specs.Matching.{is_chosen, is_record_match};
+ghost use Rattle.globs.specs.Copying.{Copies, input_of};
+ghost use Rattle.globs.specs.Matching.{CopiesMatches, is_chosen, is_record_match};
 ghost use Rattle.globs.specs.Patterns.{set_of};
 
 use crate::braces::expand_words;
 use crate::copying::copy;
+use crate::name::Name;
 use crate::options::Settings;
-use crate::patterns::{is_any_match, read_set};
+use crate::patterns::{FaultLines, is_any_match, read_set};
 use glob_console::{ErrorLines, words_of};
 use glob_lines::{Selection, Watch};
 use glob_set::PatternSet;
@@ -19,27 +17,30 @@ use std::alloc::{AllocError, Allocator};
 use std::io::{Read, Write};
 use std::str;
 
-/// As [`run_match`], by the alternatives of the words: `*.{c,h}` as `*.c` and `*.h`. A word whose braces are refused is a
-/// fault, before anything is read or written.
-pub fn match_words<A: Allocator + Copy, R: Read + Drop, W: Write, E: Write>(
+/// As [`run_match`], by the alternatives of the words: `*.{c,h}` as `*.c` and `*.h`. A word whose braces are refused is
+/// a fault, before anything is read or written.
+#[tactic(auto, unfolding(crate::specs::Matching::CopiesMatches))]
+pub fn match_words<A: Allocator + Copy, R: Read, W: Write, E: Write>(
     alloc: A,
     settings: Settings,
     words: &[&str],
-    input: R,
-    output: &mut Watch<W>,
+    input: &mut Watch<R>,
+    output: &mut W,
     errors: &mut ErrorLines<'_, A, E>,
 ) -> u8
-    requires { output.old.failed ≡ false }
+    requires { input.old.failed ≡ false }
     ensures most { result ≤ 2 }
-    ensures copied { IsRefused output.old output.new result ⊎ ((patterns : List Text)
-        × AreAlternativesOf (map (λ w. w.now) words.now) patterns
-        × Copies settings.end (is_chosen (set_of settings.options patterns) settings.inverts)
-        (R.remaining input)
-        (W.contents output.old.inner) (W.contents output.new.inner) result) }
+    ensures copied { CopiesMatches W.contents settings (map (λ w. w.now) words.now)
+        (input_of R.remaining input.old input.new) output.old output.new result }
 {
     let texts = match expand_words(alloc, words) {
         Ok(texts) => texts,
-        Err(brace_fault) => return errors.fault(brace_fault),
+        Err(fault) => {
+            return errors.fault(FaultLines {
+                name: Name::Match,
+                fault,
+            });
+        }
     };
     let Ok(patterns) = words_of(alloc, texts.as_slice()) else {
         return errors.fault("out of memory");
@@ -51,20 +52,20 @@ pub fn match_words<A: Allocator + Copy, R: Read + Drop, W: Write, E: Write>(
 /// none matches, and returns the status. A pattern that is refused is a fault, before anything is read or written.
 ///
 /// Over the input `"a.rs\nb.c\n"` the pattern `*.rs` writes `"a.rs\n"`, and inverted `"b.c\n"`.
-fn run_match<A: Allocator + Copy, R: Read + Drop, W: Write, E: Write>(
+fn run_match<A: Allocator + Copy, R: Read, W: Write, E: Write>(
     alloc: A,
     settings: Settings,
     patterns: &[&str],
-    input: R,
-    output: &mut Watch<W>,
+    input: &mut Watch<R>,
+    output: &mut W,
     errors: &mut ErrorLines<'_, A, E>,
 ) -> u8
-    requires { output.old.failed ≡ false }
+    requires { input.old.failed ≡ false }
     ensures most { result ≤ 2 }
     ensures copied { Copies settings.end
         (is_chosen (set_of settings.options (map (λ p. p.now) patterns.now)) settings.inverts)
-        (R.remaining input)
-        (W.contents output.old.inner) (W.contents output.new.inner) result }
+        (input_of R.remaining input.old input.new)
+        (W.contents output.old) (W.contents output.new) result }
 {
     match read_set(alloc, patterns, settings.options) {
         Ok(set) => {
@@ -74,7 +75,10 @@ fn run_match<A: Allocator + Copy, R: Read + Drop, W: Write, E: Write>(
             };
             copy(alloc, &chosen, settings.end, input, output, errors)
         }
-        Err(pattern_fault) => errors.fault(pattern_fault),
+        Err(fault) => errors.fault(FaultLines {
+            name: Name::Match,
+            fault,
+        }),
     }
 }
 

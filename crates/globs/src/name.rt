@@ -1,6 +1,7 @@
 //! The names of the commands.
 ghost use Rattle.std.specs.Prelude.{◌≡◌};
-ghost use Rattle.globs.specs.CommandLine.{is_explain, name_of};
+ghost use Rattle.globs.specs.CommandLine.{name_of};
+ghost use Rattle.globs.specs.Faults.{name_word};
 
 /// A command.
 #[derive(Clone, Copy, PartialEq, Eq)]
@@ -27,15 +28,10 @@ impl Name {
         }
     }
 
-    /// Whether it explains, and reads its words by itself.
-    pub fn is_explain(self) -> bool
-        ensures { result ≡ is_explain self }
-    {
-        matches!(self, Name::Explain)
-    }
-
     /// The word that names it.
-    pub fn word(self) -> &'static str {
+    pub fn word(self) -> &'static str
+        ensures { result.now ≡ name_word self }
+    {
         match self {
             Name::Find => "find",
             Name::Match => "match",

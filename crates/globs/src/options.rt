@@ -155,9 +155,8 @@ impl Settings {
     {
         Settings {
             options: MatchOptions {
-                case_sensitive: true,
                 require_literal_separator: matches!(name, Name::Find),
-                require_literal_leading_dot: false,
+                ..MatchOptions::new()
             },
             end: b'\n',
             inverts: false,

@@ -1,21 +1,28 @@
 //! The patterns of a command line.
-ghost use Rattle.std.specs.Prelude.{◌≡◌, IfOk, IfErr, map};
+ghost use Rattle.std.specs.Prelude.{◌≡◌, Some, IfOk, IfErr, map};
+ghost use Rattle.std.specs.Fmt.{WritesOnOk};
+ghost use Rattle.globs.specs.Faults.{brace_lines, fault_words, message_words};
 ghost use Rattle.globs.specs.Patterns.{IsPatternFault, is_any_match, set_of};
 ghost use Rattle.glob_set.specs.Sets.{RefusesTexts};
 
-use crate::visible::Caret;
+use crate::name::Name;
+use crate::usage::Help;
+use crate::visible::{Caret, Visible};
 use glob_pattern::{MatchOptions, PatternError};
+use glob_set::braces::BraceError;
 use glob_set::{PatternSet, SetRefusal};
 use std::alloc::{AllocError, Allocator};
 use std::fmt::{self, Display};
 
-/// Why a pattern is refused. It prints as the lines of a fault, without the program's name and the last line feed.
+/// Why a pattern is refused. Columns are in characters of the pattern, counted from 0.
 #[derive(Drop)]
 pub enum PatternFault<'a> {
-    /// The pattern does not lead to names below the current directory.
-    Astray(&'a str),
+    /// The component at this column is no name, so the pattern does not lead below the current directory.
+    Astray(&'a str, usize),
     /// The pattern is not accepted.
     Syntax(&'a str, PatternError),
+    /// The braces of the pattern are refused.
+    Braces(&'a str, BraceError),
     /// Out of memory: an allocation failed.
     Memory,
 }
@@ -32,22 +39,72 @@ impl From<AllocError> for PatternFault<'_> {
     }
 }
 
-impl Display for PatternFault<'_> {
+/// The lines of a pattern that is refused, for the command of this name: what is wrong, the pattern, a caret under the
+/// place, and where help is. They print without the program's name and the last line feed.
+#[derive(Drop)]
+pub struct FaultLines<'a> {
+    pub name: Name,
+    pub fault: PatternFault<'a>,
+}
+
+impl Display for FaultLines<'_> {
+    ghost output = { λ lines. Some (fault_words lines) };
+
     fn fmt<W: fmt::Write>(&self, f: &mut fmt::Formatter<W>) -> fmt::Result {
-        match self {
-            PatternFault::Astray(pattern) => {
-                f.write_str(pattern)?;
-                f.write_str(": no component may be empty, `.` or `..`: try globs help find")
-            }
-            PatternFault::Syntax(pattern, error) => {
+        let help = Help {
+            name: Some(self.name),
+        };
+        match &self.fault {
+            PatternFault::Astray(text, column) => {
                 let caret = Caret {
-                    text: *pattern,
+                    text: *text,
+                    column: *column,
+                };
+                write!(f, "no component may be empty, `.` or `..`\n{caret}\n{help}")
+            }
+            PatternFault::Syntax(text, error) => {
+                let caret = Caret {
+                    text: *text,
                     column: error.pos,
                 };
-                writeln!(f, "{error}")?;
-                write!(f, "{caret}\ntry globs help")
+                write!(f, "{}\n{caret}\n{help}", message_of(error))
+            }
+            PatternFault::Braces(text, error) => {
+                write_braces(f, text, *error)?;
+                write!(f, "\n{help}")
             }
             PatternFault::Memory => f.write_str("out of memory"),
+        }
+    }
+}
+
+/// What the message of a pattern's fault is here: a bracket that is not closed says so.
+pub fn message_of(error: &PatternError) -> &'static str
+    ensures { result.now ≡ message_words error.now.msg.now }
+{
+    if error.msg == "invalid range pattern" {
+        "unclosed ["
+    } else {
+        error.msg
+    }
+}
+
+/// Writes what is wrong with the braces of a text, the text, and a caret under the place, if it is one.
+fn write_braces<W: fmt::Write>(
+    f: &mut fmt::Formatter<W>,
+    text: &str,
+    error: BraceError,
+) -> fmt::Result
+    ensures { WritesOnOk W.write_str_gives f.old result (brace_lines text.now error) f.new }
+{
+    match error {
+        BraceError::Unmatched(column) | BraceError::Unclosed(column) => {
+            let caret = Caret { text, column };
+            write!(f, "{error}\n{caret}")
+        }
+        BraceError::TooMany => {
+            let text = Visible { text };
+            write!(f, "{error}\n{text}")
         }
     }
 }

@@ -1,8 +1,10 @@
 //! What is wrong with a command line.
-ghost use Rattle.std.specs.Prelude.{◌≡◌};
+ghost use Rattle.std.specs.Prelude.{◌≡◌, Some};
+ghost use Rattle.globs.specs.Faults.{help_words, usage_words, why_words};
 ghost use Rattle.globs.specs.declared.usage.UsageFault.TheVariants.{Word};
 
 use crate::name::Name;
+use crate::visible::Visible;
 use std::alloc::{AllocError, AllocFailed};
 use std::fmt::{self, Display};
 
@@ -75,36 +77,58 @@ impl<'a> UsageLine<'a> {
 }
 
 impl Display for UsageLine<'_> {
+    ghost output = { λ line. Some (usage_words line) };
+
     fn fmt<W: fmt::Write>(&self, f: &mut fmt::Formatter<W>) -> fmt::Result {
-        let (why, word) = match self.fault {
-            UsageFault::Word(why, word) => (why, word),
-            UsageFault::Memory => return f.write_str("out of memory"),
-        };
-        f.write_str(word)?;
-        f.write_str(match why {
+        match self.fault {
+            UsageFault::Word(why, word) => {
+                let word = Visible { text: word };
+                let help = Help { name: self.name };
+                write!(f, "{word}{}: {help}", why.words(self.name))
+            }
+            UsageFault::Memory => f.write_str("out of memory"),
+        }
+    }
+}
+
+impl Why {
+    /// What is said of the word.
+    fn words(self, name: Option<Name>) -> &'static str
+        ensures { result.now ≡ why_words name self }
+    {
+        match self {
             Why::Unknown => " is no option",
             Why::Valueless => " lacks its value",
             Why::Limit => " is no limit: -n takes a number below 2 to the power of 64",
             Why::Depth => " is no depth: --max-depth takes a number below 2 to the power of 64",
             Why::Kind => " is no kind: -t takes f or d",
             Why::Late => " is behind an operand: options come first",
-            Why::Bare => match self.name {
+            Why::Bare => match name {
                 Some(Name::Ignore) => "there is no FILE",
                 Some(Name::Escape) => "there is no TEXT",
-                _ => "there is no PATTERN",
+                Some(Name::Find | Name::Match | Name::Explain) | None => "there is no PATTERN",
             },
             Why::Textless => "there is no text",
             Why::Extra => " is behind the text: quote the pattern",
             Why::Command => " is no command",
             Why::Empty => "there is no command",
-        })?;
-        f.write_str(": try globs help")?;
+        }
+    }
+}
+
+/// Where help is: `try globs help`, and the word of the command, if there is one.
+#[derive(Clone, Copy)]
+pub struct Help {
+    pub name: Option<Name>,
+}
+
+impl Display for Help {
+    ghost output = { λ help. Some (help_words help.name) };
+
+    fn fmt<W: fmt::Write>(&self, f: &mut fmt::Formatter<W>) -> fmt::Result {
         match self.name {
-            Some(name) => {
-                f.write_char(' ')?;
-                f.write_str(name.word())
-            }
-            None => Ok(()),
+            Some(name) => write!(f, "try globs help {}", name.word()),
+            None => f.write_str("try globs help"),
         }
     }
 }

@@ -1,4 +1,8 @@
 //! Texts as lines on which each character is seen.
+ghost use Rattle.std.specs.Prelude.{◌≡◌, Some, replicate};
+ghost use Rattle.std.specs.Fmt.{WritesOnOk};
+ghost use Rattle.globs.specs.Visible.{caret_lines, indent, visible, visible_character, width};
+
 use std::fmt::{self, Display};
 
 /// A text, whose control characters print as in a literal of Rust: `\r`, `\t`, `\u{1b}`.
@@ -16,34 +20,87 @@ pub struct Caret<'a> {
 }
 
 impl Display for Visible<'_> {
+    ghost output = { λ v. Some (visible v.text.now) };
+
     fn fmt<W: fmt::Write>(&self, f: &mut fmt::Formatter<W>) -> fmt::Result {
-        for c in self.text.chars() {
-            if c.is_control() {
-                for part in c.escape_default() {
-                    f.write_char(part)?;
-                }
-            } else {
-                f.write_char(c)?;
-            }
-        }
-        Ok(())
+        write_visible(f, self.text)
+    }
+}
+
+/// Writes a text, in which control characters are seen.
+fn write_visible<W: fmt::Write>(f: &mut fmt::Formatter<W>, text: &str) -> fmt::Result
+    ensures { WritesOnOk W.write_str_gives f.old result (visible text.now) f.new }
+{
+    for c in text.chars() {
+        write_character(f, c)?;
+    }
+    Ok(())
+}
+
+/// Writes a character, or what is seen in place of a control character.
+fn write_character<W: fmt::Write>(f: &mut fmt::Formatter<W>, c: char) -> fmt::Result
+    ensures { WritesOnOk W.write_str_gives f.old result (visible_character c) f.new }
+{
+    if c == '\t' {
+        f.write_str("\\t")
+    } else if c == '\n' {
+        f.write_str("\\n")
+    } else if c == '\r' {
+        f.write_str("\\r")
+    } else if c.is_control() {
+        write!(f, "\\u{{{:x}}}", c as u32)
+    } else {
+        f.write_char(c)
     }
 }
 
 impl Display for Caret<'_> {
+    ghost output = { λ c. Some (caret_lines c.text.now c.column) };
+
     fn fmt<W: fmt::Write>(&self, f: &mut fmt::Formatter<W>) -> fmt::Result {
         let text = Visible { text: self.text };
         writeln!(f, "{text}")?;
-        for c in self.text.chars().take(self.column) {
-            if c.is_control() {
-                for _ in c.escape_default() {
-                    f.write_char(' ')?;
-                }
-            } else {
-                f.write_char(' ')?;
-            }
-        }
+        write_indent(f, self.text, self.column)?;
         f.write_char('^')
+    }
+}
+
+/// Writes as many blanks as the first characters of the text take columns.
+fn write_indent<W: fmt::Write>(
+    f: &mut fmt::Formatter<W>,
+    text: &str,
+    characters: usize,
+) -> fmt::Result
+    ensures { WritesOnOk W.write_str_gives f.old result (indent text.now characters) f.new }
+{
+    for c in text.chars().take(characters) {
+        write_blanks(f, width(c))?;
+    }
+    Ok(())
+}
+
+/// Writes so many blanks.
+fn write_blanks<W: fmt::Write>(f: &mut fmt::Formatter<W>, count: u8) -> fmt::Result
+    ensures { WritesOnOk W.write_str_gives f.old result (replicate count 32) f.new }
+{
+    for _blank in 0..count {
+        f.write_char(' ')?;
+    }
+    Ok(())
+}
+
+/// How many columns a character takes.
+fn width(c: char) -> u8
+    ensures { result ≡ width c }
+{
+    if c == '\t' || c == '\n' || c == '\r' {
+        2
+    } else if c < '\u{10}' {
+        5
+    } else if c.is_control() {
+        6
+    } else {
+        1
     }
 }
 

@@ -1,6 +1,8 @@
 -- What an explanation comes to: its status, and what is written.
-use Rattle.std.specs.Prelude.{◌≡◌, ◌++◌, ℕ, List, Option, chars}
+use Rattle.std.specs.Prelude.{◌≡◌, ◌++◌, ℕ, List, [], ◌∷◌, Option, chars}
 use Rattle.std.specs.Io.KnownBytes.{Appends}
+use Rattle.glob_console.specs.Outcomes.{IsRefused}
+use Rattle.glob_pattern.specs.Grammar.Units.{IsAccepted}
 use Rattle.glob_pattern.specs.Matching.Texts.{Matches}
 use Rattle.glob_pattern.specs.declared.options.MatchOptions.{MatchOptions}
 use Rattle.globs.specs.Explain.Hints.{AreHints}
@@ -17,3 +19,14 @@ Explains options pattern text old new status =
     (status ≡ 0 → Matches options (chars pattern) (chars text))
     × (status ≡ 1 → (¬ (Matches options (chars pattern) (chars text)))
     × (lines : List ℕ) × AreStopLines options pattern text lines × Appends old new lines)
+
+-- What operands come to: a pattern and a text are explained, and any other number of them is refused, as is a pattern that
+-- is not accepted.
+unfoldable pub Answers : {W : Type 0} → (contents : W → Option (List ℕ)) → MatchOptions → (operands : List (List ℕ))
+    → (old new : W) → (status : ℕ) → Type 0
+Answers contents options [] old new status = IsRefused old new status
+Answers contents options (pattern ∷ []) old new status = IsRefused old new status
+Answers contents options (pattern ∷ text ∷ []) old new status =
+    ((¬ (IsAccepted (chars pattern))) → IsRefused old new status)
+    × Explains options pattern text (contents old) (contents new) status
+Answers contents options (pattern ∷ text ∷ extra ∷ more) old new status = IsRefused old new status

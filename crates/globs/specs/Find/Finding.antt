@@ -2,7 +2,7 @@
 use Rattle.std.specs.Prelude.{◌≡◌, ◌≢◌, ℕ, true, false, List, [], ◌++◌, Option, Some, Contains, ◌↔◌}
 use Rattle.std.specs.Io.KnownBytes.{Appends}
 use Rattle.glob_text.specs.Text.{Text}
-use Rattle.glob_laws.specs.Order.{IsAscending}
+use Rattle.glob_walk.specs.Order.{IsAscending}
 use Rattle.glob_lines.specs.Lines.{with_ends}
 use Rattle.glob_prune.specs.Pruning.{Exclusion, is_excluded, path_of}
 use Rattle.glob_set.specs.Sets.{Set}
@@ -12,8 +12,8 @@ use Rattle.globs.specs.Find.Filtering.{is_kind}
 use Rattle.globs.specs.Patterns.{is_any_match}
 use Rattle.globs.specs.declared.options.Kind.{Kind}
 
--- the path is that of a key below the current directory which one of the patterns matches, which is of the kind, and which
--- nothing excludes
+-- the path is that of a key below the current directory which one of the patterns matches, which is of the kind, and
+-- which nothing excludes
 pub record IsFound (x : Exclusion) (set : Set) (wanted : Kind) (c : Content) (path : Text) : Type 0 where
   pub names : Key
   pub kind : at.Kind

@@ -1,10 +1,11 @@
 -- By which pattern a tree is walked, so that the walk finds all that some patterns match.
-use Rattle.std.specs.Prelude.{Bool, true, false, ◌&&◌, ◌||◌, not, if◌then◌else◌, List, [], ◌∷◌, ◌++◌, bytes_eq, codes, is_some, ⊤}
+use Rattle.std.specs.Prelude.{Bool, true, ◌&&◌, ◌||◌, not, if◌then◌else◌, List, [], ◌∷◌, ◌++◌, bytes_eq, codes, is_some, ⊤}
 use Rattle.std.specs.List.{list_any}
 use Rattle.std.specs.Str.{IsUtf8}
 use Rattle.std.specs.Path.{cur_dir, parent_dir}
 use Rattle.glob_text.specs.Text.{Text}
 use Rattle.glob_text.specs.Pieces.{is_empty, pieces}
+use Rattle.glob_pattern.specs.Matching.Options.{new_options}
 use Rattle.glob_pattern.specs.declared.options.MatchOptions.{MatchOptions}
 use Rattle.glob_tree.specs.Content.{Content}
 use Rattle.glob_walk.specs.Goal.{is_plain}
@@ -33,11 +34,7 @@ IsOneText (p ∷ q ∷ ps) = ⊤
 
 -- how everything is walked: without the dot rule
 abbrev pub everything_options : MatchOptions
-everything_options = record {
-  case_sensitive = true;
-  require_literal_separator = true;
-  require_literal_leading_dot = false;
-}
+everything_options = record new_options { require_literal_separator = true }
 
 -- a walk by the pattern gives each path once and in order
 abbrev pub keeps_order : (pattern : Text) → Bool

@@ -161,7 +161,7 @@ fn is_lower_match<A: Allocator + Copy>(
 }
 
 /// What follows the `./` that a text begins with.
-fn without_here(text: &str) -> Option<&str>
+pub fn without_here(text: &str) -> Option<&str>
     ensures { MatchOption result
         ((rest : List ℕ) → text.now ≢ 46 ∷ 47 ∷ rest) (λ rest. text.now ≡ 46 ∷ 47 ∷ rest.now) }
 {

@@ -1,7 +1,8 @@
 //! What is easily missed in a pattern and a text that it does not match: forms that have a meaning elsewhere and none
 //! here, and white space at an end.
 use crate::explain::rows::add_row;
-use glob_captures::{TokenKind, Written};
+use glob_captures::{TokenKind, Written, tokens};
+use glob_pattern::Pattern;
 use std::alloc::{AllocError, Allocator};
 
 /// What a parenthesis is here.
@@ -45,14 +46,14 @@ static BLANKS: &[(char, &str)] = &[
     ('\n', "a line feed"),
 ];
 
-/// Adds a line for each form of another tool in the pattern, whose tokens are in `tokens`. What a bracket lists is
+/// Adds a line for each form of another tool in the pattern, whose tokens are in `written`. What a bracket lists is
 /// none.
 ///
 /// So for `!a|b` these are a line for `!` and one for `|`.
 pub fn add_forms<A: Allocator>(
     lines: &mut String<A>,
     pattern: &str,
-    tokens: &[Written],
+    written: &[Written],
 ) -> Result<(), AllocError> {
     for (form, words) in STARTS {
         if pattern.starts_with(*form) {
@@ -60,11 +61,40 @@ pub fn add_forms<A: Allocator>(
         }
     }
     for (form, words) in FORMS {
-        if tokens.iter().any(|token| begins_at(*token, pattern, form)) {
+        if is_among(pattern, written, form) {
             add_row(lines, form, words)?;
         }
     }
     Ok(())
+}
+
+/// The first such form of a pattern whose braces are expanded, and what it is here.
+///
+/// So for `!a|b` it is `!`, and that it negates nothing.
+pub fn first_form<A: Allocator + Copy>(
+    alloc: A,
+    pattern: &str,
+) -> Result<Option<(&'static str, &'static str)>, AllocError> {
+    for (form, words) in STARTS {
+        if pattern.starts_with(*form) {
+            return Ok(Some((form, words)));
+        }
+    }
+    let Ok(parsed) = Pattern::new(alloc, pattern) else {
+        return Ok(None);
+    };
+    let list = tokens(alloc, &parsed)?;
+    for (form, words) in FORMS {
+        if *form != "{" && is_among(pattern, list.as_slice(), form) {
+            return Ok(Some((form, words)));
+        }
+    }
+    Ok(None)
+}
+
+/// Whether the form is at a token of the pattern.
+fn is_among(pattern: &str, written: &[Written], form: &str) -> bool {
+    written.iter().any(|token| begins_at(*token, pattern, form))
 }
 
 /// Whether the pattern goes on with the form where the token is written, which is no bracket.

@@ -1,15 +1,15 @@
 //! Why a pattern is refused.
 use crate::explain::instead::accepted_instead;
+use crate::patterns::message_of;
 use crate::visible::{Caret, is_seen};
 use glob_pattern::PatternError;
 use std::alloc::{AllocError, Allocator};
 
-/// Explains why `Pattern::new` refused `written` with this error, in four lines: the error, the pattern, a caret under
-/// the character of the fault, and what to write instead. The last has no line feed. The error is an allocation
-/// failure.
+/// Explains why `Pattern::new` refused `written` with this error, in five lines: the fault, the pattern, a caret under
+/// the character of the fault, what to write instead, and where help is. The last has no line feed. The error is an
+/// allocation failure.
 ///
-/// So of `a[b` they are `Pattern syntax error near position 1: invalid range pattern`, `a[b`, a caret below the `[`,
-/// and `write instead: a[[]b`.
+/// So of `a[b` they are `unclosed [`, `a[b`, a caret below the `[`, `write instead: a[[]b` and `try globs help explain`.
 pub fn explain_refusal<A: Allocator + Copy>(
     alloc: A,
     written: &str,
@@ -19,8 +19,10 @@ pub fn explain_refusal<A: Allocator + Copy>(
         text: written,
         column: error.pos,
     };
-    let mut lines = format!(in alloc; "{error}\n{caret}\n")?;
+    let message = message_of(&error);
+    let mut lines = format!(in alloc; "{message}\n{caret}\n")?;
     add_instead(alloc, &mut lines, written, error.pos)?;
+    lines.push_str("\ntry globs help explain")?;
     Ok(lines)
 }
 

@@ -1,59 +1,60 @@
-//! A search of the disk.
-ghost use Rattle.std.specs.Prelude.{◌≡◌, ◌≤◌, if◌then◌else◌};
+//! The disk of a search.
+ghost use Rattle.std.specs.Prelude.{◌≡◌, if◌then◌else◌};
 
-use crate::command::Asked;
-use crate::files::DiskFiles;
-use crate::find::find_words;
+use crate::find::skipping::SharedRules;
 use crate::find::strays::StrayLines;
-use crate::ignoring::read_list;
-use glob_console::{ErrorLines, FAULT};
+use glob_console::FAULT;
 use glob_prune::{Links, PhysicalDisk};
-use std::alloc::Global;
+use std::alloc::{Allocator, Global};
 use std::cell::Cell;
 use std::fs::Files;
 use std::io::Write;
 
-/// Searches the disk for what is asked, and returns the status. Names that are not UTF-8 are lines of `strays`.
-pub fn find_on_disk<R: Files + AllocGlobal + Copy + Drop, W: Write, E: Write, S: Write>(
-    rt: R,
-    asked: &Asked<'_, Global>,
-    output: &mut W,
-    errors: &mut ErrorLines<'_, Global, E>,
-    strays: &mut S,
-) -> u8
-    ensures { result ≤ 2 }
-{
-    let alloc = rt.alloc();
-    let options = &asked.options;
-    let settings = options.settings;
-    let files = DiskFiles { rt };
-    let list = match read_list(
-        alloc,
-        &files,
-        options.files.as_slice(),
-        options.rules.as_slice(),
-    ) {
-        Ok(list) => list,
-        Err(rules_fault) => return errors.fault(rules_fault),
-    };
-    let has_stray = Cell::new(false);
-    let lines = StrayLines {
-        alloc,
-        errors: strays,
-        has_any: &has_stray,
-    };
-    let links = if settings.follows {
-        Links::Followed
-    } else {
-        Links::Kept
-    };
-    let disk = PhysicalDisk::with_links(rt, lines, alloc, links);
-    let status = find_words(alloc, disk, list, settings, asked.operands, output, errors);
-    last_status(has_stray.get(), status)
+/// A disk, for either way to take symbolic links.
+#[derive(Drop)]
+pub struct Disks<'a, T, A: Allocator> {
+    /// One on which a symbolic link to a directory is none.
+    pub physical: T,
+    /// One on which it is a directory.
+    pub logical: T,
+    /// Where the rules are put that say what of them is reported.
+    pub rules: &'a SharedRules<A>,
 }
 
-/// The status of a search: 2 where a name is not UTF-8, and else its own.
-fn last_status(has_stray: bool, status: u8) -> u8
+impl<T: Drop, A: Allocator> Disks<'_, T, A> {
+    /// The disk on which links are followed, or the other.
+    pub fn chosen(self, follows: bool) -> T
+        ensures { result ≡ (if follows then self.entry.logical else self.entry.physical) }
+    {
+        let Disks {
+            physical,
+            logical,
+            ..
+        } = self;
+        if follows { logical } else { physical }
+    }
+}
+
+/// The disk that `rt` reaches. Names that are not UTF-8 are lines of `errors`, and paths that cannot be looked up,
+/// unless the rules ignore them. That there was one is noted.
+pub fn disk_of<'a, R: Files + AllocGlobal + Copy + Drop, E: Write>(
+    rt: R,
+    links: Links,
+    errors: &'a mut E,
+    has_stray: &'a Cell<bool>,
+    rules: &'a SharedRules<Global>,
+) -> PhysicalDisk<R, StrayLines<'a, Global, E>, Global> {
+    let strays = StrayLines {
+        alloc: rt.alloc(),
+        errors,
+        has_any: has_stray,
+        rules,
+    };
+    PhysicalDisk::with_links(rt, strays, rt.alloc(), links)
+}
+
+/// The status of a run: 2 where there was a stray, and else its own.
+pub fn last_status(has_stray: bool, status: u8) -> u8
     ensures { result ≡ (if has_stray then 2 else status) }
 {
     if has_stray { FAULT } else { status }

@@ -27,17 +27,15 @@ impl Place {
     }
 }
 
-/// Where the last component of a pattern is, if a walk by the pattern gives each path once and in order: it has no `**`,
-/// or at most one component after the first. So of `**/*` it is after, and neither `**/a/b` nor `**/a/**` keeps order.
+/// Where the last component of a pattern is, if a walk by the pattern gives each path once and in order: it has no
+/// `**`, or at most one component after the first. So of `**/*` it is after, and neither `**/a/b` nor `**/a/**` keeps
+/// order.
 pub fn last_place(pattern: &str) -> Option<Place>
     ensures { result ≡ last_place Before (pieces pattern.now) }
 {
     let mut place = Place::Before;
     for component in pattern.split('/') {
-        match place.after(is_recursive(component)) {
-            Some(next) => place = next,
-            None => return None,
-        }
+        place = place.after(is_recursive(component))?;
     }
     Some(place)
 }

@@ -22,8 +22,8 @@ pub struct Plan<A: Allocator> {
 }
 
 impl<A: Allocator + Copy> Plan<A> {
-    /// The walk for some patterns. For one that is plain and keeps the order of paths, where case counts, it enters only
-    /// the directories that the pattern names, and else all.
+    /// The walk for some patterns. For one that is plain and keeps the order of paths, where case counts, it enters
+    /// only the directories that the pattern names, and else all.
     pub fn new(alloc: A, patterns: &[&str], options: MatchOptions) -> Result<Self, AllocError>
         ensures text { IfOk result (λ plan.
             string_bytes plan.text ≡ walk_text options (map (λ w. w.now) patterns.now)) }
@@ -61,9 +61,8 @@ impl<A: Allocator + Copy> Plan<A> {
         Ok(Plan {
             text: String::from_str(alloc, EVERYTHING)?,
             options: MatchOptions {
-                case_sensitive: true,
                 require_literal_separator: true,
-                require_literal_leading_dot: false,
+                ..MatchOptions::new()
             },
         })
     }
@@ -135,6 +134,20 @@ pub fn is_below(pattern: &str) -> bool
     ensures { result ≡ is_below pattern.now }
 {
     !leads_elsewhere(pattern)
+}
+
+/// At which character of a pattern its first component begins that is no name, counted from 0.
+pub fn astray_column(pattern: &str) -> usize {
+    let mut column = 0usize;
+    for piece in pattern.split('/') {
+        if is_no_name(piece) {
+            return column;
+        }
+        column = column
+            .saturating_add(piece.chars().count())
+            .saturating_add(1);
+    }
+    column
 }
 
 /// Whether some component of a pattern is no name.

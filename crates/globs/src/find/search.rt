@@ -9,10 +9,11 @@ ghost use Rattle.globs.specs.Find.Planning.{IsOneText, are_below, walk_listing, 
 ghost use Rattle.globs.specs.Patterns.{IsPatternFault, set_of};
 
 use crate::find::filter::Filter;
-use crate::find::plan::{Plan, is_below};
+use crate::find::plan::{Plan, astray_column, is_below};
 use crate::find::walk::run_walk;
+use crate::name::Name;
 use crate::options::Settings;
-use crate::patterns::{PatternFault, read_set};
+use crate::patterns::{FaultLines, PatternFault, read_set};
 use glob_console::{ErrorLines, WalkSettings};
 use glob_tree::Tree;
 use std::alloc::Allocator;
@@ -52,7 +53,10 @@ pub fn run_patterns<T: Tree, W: Write, E: Write>(
             };
             run_walk(alloc, tree, walk, &filter, output, errors)
         }
-        Err(pattern_fault) => errors.fault(pattern_fault),
+        Err(fault) => errors.fault(FaultLines {
+            name: Name::Find,
+            fault,
+        }),
     }
 }
 
@@ -73,7 +77,7 @@ fn read_patterns<'a, A: Allocator + Copy>(
     ensures kind { IfOk result (λ r. r.1.kind ≡ settings.kind) }
 {
     if let Some(pattern) = first_astray(patterns) {
-        return Err(PatternFault::Astray(pattern));
+        return Err(PatternFault::Astray(pattern, astray_column(pattern)));
     }
     let set = read_set(alloc, patterns, settings.options)?;
     let filter = Filter {

@@ -1,8 +1,12 @@
 //! The lines of names that are not UTF-8, and of paths that could not be looked up.
-ghost use Rattle.std.specs.Prelude.{◌≡◌};
-ghost use Rattle.globs.specs.Find.Strays.{is_shown};
+ghost use Rattle.std.specs.Prelude.{◌≡◌, Some};
+ghost use Rattle.std.specs.Fmt.{WritesOnOk};
+ghost use Rattle.std.specs.List.{flat_map};
+ghost use Rattle.globs.specs.Find.Strays.{byte_words, is_shown, stray_words};
 
 use crate::PREFIX;
+use crate::explain::hints::without_here;
+use crate::find::skipping::SharedRules;
 use crate::visible::Visible;
 use glob_console::ErrorLines;
 use glob_prune::Strays;
@@ -11,12 +15,14 @@ use std::cell::Cell;
 use std::fmt::{self, Display};
 use std::io::{self, Write};
 
-/// Writes a line for each name that is not UTF-8 and each path that could not be looked up, and notes that there was one.
+/// Writes a line for each name that is not UTF-8 and each path that could not be looked up, unless the rules ignore it,
+/// and notes that there was one.
 #[derive(Drop)]
 pub struct StrayLines<'a, A: Allocator, E> {
     pub alloc: A,
     pub errors: &'a mut E,
     pub has_any: &'a Cell<bool>,
+    pub rules: &'a SharedRules<A>,
 }
 
 impl<A: Allocator + Copy, E: Write> Strays for StrayLines<'_, A, E> {
@@ -27,9 +33,21 @@ impl<A: Allocator + Copy, E: Write> Strays for StrayLines<'_, A, E> {
     }
 
     fn unsettled(&mut self, path: &str, error: &io::Error) {
+        if is_ignored(self.rules, path) {
+            return;
+        }
         self.has_any.set(true);
         let line = UnsettledLine { path, error };
         ErrorLines::new(self.alloc, PREFIX, self.errors).write(&line);
+    }
+}
+
+/// Whether the rules ignore what is at a path, which is taken for no directory. Without memory to tell they do not.
+fn is_ignored<A: Allocator + Copy>(rules: &SharedRules<A>, path: &str) -> bool {
+    let path = without_here(path).unwrap_or(path);
+    match rules.get() {
+        Some(list) => list.is_ignored(path, false).unwrap_or(false),
+        None => false,
     }
 }
 
@@ -56,24 +74,35 @@ struct StrayLine<'a> {
 }
 
 impl Display for StrayLine<'_> {
+    ghost output = { λ line. Some (stray_words line.directory.now line.name.now) };
+
     fn fmt<W: fmt::Write>(&self, f: &mut fmt::Formatter<W>) -> fmt::Result {
         let directory = Visible {
             text: self.directory,
         };
         write!(f, "a name in `{directory}` is not UTF-8: ")?;
-        for byte in self.name {
-            write_byte(f, *byte)?;
-        }
-        Ok(())
+        write_bytes(f, self.name)
     }
 }
 
+/// Writes the bytes of a name.
+fn write_bytes<W: fmt::Write>(f: &mut fmt::Formatter<W>, name: &[u8]) -> fmt::Result
+    ensures { WritesOnOk W.write_str_gives f.old result (flat_map byte_words name.now) f.new }
+{
+    for byte in name {
+        write_byte(f, *byte)?;
+    }
+    Ok(())
+}
+
 /// Writes a byte of a name.
-fn write_byte<W: fmt::Write>(f: &mut fmt::Formatter<W>, byte: u8) -> fmt::Result {
+fn write_byte<W: fmt::Write>(f: &mut fmt::Formatter<W>, byte: u8) -> fmt::Result
+    ensures { WritesOnOk W.write_str_gives f.old result (byte_words byte) f.new }
+{
     if is_shown(byte) {
         f.write_char(char::from(byte))
     } else {
-        write!(f, "\\x{byte:02x}")
+        write!(f, "\\x{:x}{:x}", byte / 16, byte % 16)
     }
 }
 

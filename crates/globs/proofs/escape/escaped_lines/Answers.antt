@@ -1,7 +1,6 @@
-use Rattle.std.proofs.Common.{string_bytes, refl, arith, sym, subst}
+use Rattle.std.proofs.Common.{string_bytes, arith}
 use Rattle.std.proofs.Math.Utf8.{encode}
-use Rattle.std.proofs.lemmas.Result.{IfOk-from_err}
-use Rattle.globs.proofs.EscapeLemmas.{Continues, all_lines, one_more}
+use Rattle.globs.proofs.EscapeLemmas.{all_lines, one_more}
 use Rattle.globs.proofs.escape.escaped_lines.Goals as goal
 
 pub loop-text-init : goal.loop-text-init
@@ -11,7 +10,7 @@ pub loop-text-preserved : goal.loop-text-preserved
 unfolding encode
 loop-text-preserved g c =
     rw c.in_ok-push.ensures.bytes (rw c.in_ok-push_str.ensures.bytes (rw c.as_str.ensures.value
-    (one_more c.args.texts.now c.loop-text.text-index _ (string_bytes c.loop-text.lines) _ (omega arith) c.in_ok-pattern.ensures c.loop-text.invariant)))
+    (one_more c.args.texts.now c.loop-text.text-index _ (string_bytes c.loop-text.lines) _ (omega arith) c.in_ok-pattern.ensures.escaped c.in_ok-pattern.ensures.stands c.loop-text.invariant)))
 
 pub returns : goal.returns
 returns g c = all_lines c.args.texts.now c.loop-text.text-index _ (omega arith) c.loop-text.invariant

@@ -5,8 +5,8 @@ use Rattle.globs.proofs.escape.run_escape.Goals as goal
 
 pub returns-in-Ok-clause-escaped : goal.returns-in-Ok-clause-escaped
 unfolding WritesEscaped
-returns-in-Ok-clause-escaped g c = inr (_, c.in-Ok.ensures, rw c.as_str.ensures.value at c.write.ensures.written)
+returns-in-Ok-clause-escaped g c = inr (_, c.in-Ok.ensures, rw c.as_str.ensures.value at c.write_text.ensures.written)
 
 pub returns-in-Err-clause-escaped : goal.returns-in-Err-clause-escaped
 unfolding WritesEscaped
-returns-in-Err-clause-escaped g c = inl (c.fault.ensures, Keeps-refl _)
+returns-in-Err-clause-escaped g c = inl (c.fault.ensures.status, Keeps-refl _)

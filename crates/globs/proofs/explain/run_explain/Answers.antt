@@ -1,9 +1,7 @@
-use Rattle.std.proofs.Common.{arith}
-use Rattle.globs.specs.Explain.Outcomes.{Explains}
+use Rattle.globs.proofs.FulfilLemmas.{answers_two}
 use Rattle.globs.proofs.explain.run_explain.Goals as goal
 
--- a fault has neither status that says something
-pub returns-in-Err-clause-explained : goal.returns-in-Err-clause-explained
-unfolding Explains
-returns-in-Err-clause-explained g c = λ options pattern text asked.
-    (λ none. absurd (omega (arith, none, c.fault.ensures)), λ one. absurd (omega (arith, one, c.fault.ensures)))
+pub returns-in-len2-clause-explained : goal.returns-in-len2-clause-explained
+returns-in-len2-clause-explained g c =
+    answers_two g.W.Write.contents c.args.options c.args.operands.now _ _ _ _ _ c.in-len2.len_at_least c.in-len2.len_below
+    c.answer.ensures.refused c.answer.ensures.explained

@@ -28,10 +28,10 @@ pub returns-in-0-clause-explained : goal.returns-in-0-clause-explained
 returns-in-0-clause-explained g c =
     let explanation = c.in-Ok.explanation in
     let old = g.W.Write.contents c.args.output.now in
-    let new = g.W.Write.contents c.write.new.output in
+    let new = g.W.Write.contents c.write_text.new.output in
     explains_written c.args.options c.args.pattern.now c.args.text.now (string_bytes explanation.lines) old new
-    explanation.is_match c.write.result c.if-explanation.found c.in-Ok.ensures.answer c.in-Ok.ensures.stop c.in-0.is
-    (subst (λ text. WritesText text old new c.write.result) c.as_str.ensures.value c.write.ensures.written)
+    explanation.is_match c.write_text.result c.if-explanation.found c.in-Ok.ensures.answer c.in-Ok.ensures.stop c.in-0.is
+    (subst (λ text. WritesText text old new c.write_text.result) c.as_str.ensures.value c.write_text.ensures.written)
     (elim c.if-explanation.branch [
       | then-explanation w ↦ inl (w.if-explanation.true, w.found-is)
       | else-explanation w ↦ inr (w.if-explanation.false, w.found-is)
@@ -40,5 +40,5 @@ returns-in-0-clause-explained g c =
 pub returns-in-Ok-clause-explained : goal.returns-in-Ok-clause-explained
 returns-in-Ok-clause-explained g c =
     explains_fault c.args.options c.args.pattern.now c.args.text.now c.as_str.result.now
-    (g.W.Write.contents c.args.output.now) (g.W.Write.contents c.write.new.output)
-    c.write.result (omega arith) c.write.ensures.written
+    (g.W.Write.contents c.args.output.now) (g.W.Write.contents c.write_text.new.output)
+    c.write_text.result (omega arith) c.write_text.ensures.written

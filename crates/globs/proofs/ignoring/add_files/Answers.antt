@@ -13,4 +13,4 @@ loop-name-preserved g c =
     (ap texts_of c.in_ok-push.ensures.items ∙ map-append (λ s. string_bytes s.text) _ _) c.loop-name.invariant
 
 pub returns : goal.returns
-returns g c = λ texts are. files_done (g.F.IgnoreFiles.holds c.args.files.now) c.args.names.now c.loop-name.name-index _ _ (omega arith) c.loop-name.invariant texts are
+returns g c = files_done (g.F.IgnoreFiles.holds c.args.files.now) c.args.names.now c.loop-name.name-index _ _ (omega arith) c.loop-name.invariant

@@ -1,4 +1,4 @@
-use Rattle.std.proofs.Common.{string_bytes, ap, sym, ◌∙◌, arith}
+use Rattle.std.proofs.Common.{string_bytes, ap, ◌∙◌, arith}
 use Rattle.std.proofs.lemmas.List.{map-append}
 use Rattle.globs.specs.Ignoring.{texts_of}
 use Rattle.globs.proofs.SourceLemmas.{rules_done, rules_more}

@@ -1,9 +1,9 @@
-use Rattle.std.proofs.Common.{◌≡◌, ℕ, ◌<◌, List, [], length, get_or, map, refl, sym, subst, arith, Bor}
+use Rattle.std.proofs.Common.{ℕ, ◌<◌, List, [], length, get_or, map, subst, arith, Bor}
 use Rattle.std.specs.Prelude.{Contains}
 use Rattle.std.specs.Str.{chars}
 use Rattle.std.proofs.lemmas.List.{get_or-map, length-map}
 use Rattle.std.proofs.lemmas.List.Elements.{Contains-get_or}
-use Rattle.glob_laws.proofs.GoalLemmas.FoundParts.{map-contains}
+use Rattle.glob_walk.proofs.GoalLemmas.FoundParts.{map-contains}
 use Rattle.glob_pattern.specs.Grammar.Faults.{Fault, IsFault}
 use Rattle.glob_text.specs.Text.{Text}
 use Rattle.glob_set.specs.Sets.{RefusesTexts}

@@ -1,4 +1,4 @@
-use Rattle.std.proofs.Common.{◌≡◌, ◌∙◌, None, map, refl, sym}
+use Rattle.std.proofs.Common.{◌≡◌, ◌∙◌, None, map, sym}
 use Rattle.globs.specs.CommandLine.{operands_asked, reading}
 use Rattle.globs.specs.Options.{new_options}
 use Rattle.globs.proofs.RequestLemmas.{reading_operands, reading_option, reading_value}

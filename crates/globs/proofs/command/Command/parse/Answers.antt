@@ -1,5 +1,4 @@
-use Rattle.std.proofs.Common.{◌≡◌, IfErr, IfOk, map, subst, sym}
-use Rattle.globs.specs.CommandLine.{command_asked, request_asked}
+use Rattle.std.proofs.Common.{◌≡◌, IfErr, IfOk, subst, sym}
 use Rattle.globs.specs.Reading.{Request}
 use Rattle.globs.specs.Requests.{IsWrongRequest, request_of}
 use Rattle.globs.proofs.RequestLemmas.{asked_command}

@@ -1,10 +1,9 @@
-use Rattle.std.proofs.Common.{◌≡◌, List, [], ◌∷◌, ◌++◌, map, sym, ap, ◌∙◌, append_assoc, lit<, refl}
+use Rattle.std.proofs.Common.{[], ◌∷◌, ◌++◌, map, sym, ap, ◌∙◌, append_assoc, lit<, refl}
 use Rattle.std.specs.Prelude.{option_and_then}
 use Rattle.std.proofs.lemmas.Iterator.Consumers.{YieldsList-end}
 use Rattle.std.proofs.lemmas.Iterator.Splits.{YieldsList-from_str_split}
 use Rattle.std.proofs.lemmas.List.{map-append, append-nil}
 use Rattle.glob_text.specs.Characters.{slash}
-use Rattle.glob_walk.specs.Components.{is_recursive}
 use Rattle.glob_walk.proofs.WalkLemmas.Reading.{split_at_turn}
 use Rattle.globs.specs.Find.Order.{Before, last_place, next_place}
 use Rattle.globs.proofs.find.order.last_place.Goals as goal
@@ -13,13 +12,14 @@ pub loop-component-init : goal.loop-component-init
 loop-component-init c = λ rest. refl
 
 -- no component may be there
-pub returns-in-None-after : goal.returns-in-None-after
-returns-in-None-after c =
+pub returns-in_err-place : goal.returns-in_err-place
+returns-in_err-place c =
     let parts = YieldsList-from_str_split slash c.args.pattern.now (lit< tt) (cc) (cc) (cc) in
     let (others, whole) = split_at_turn parts c.loop-component.yielded _ c.loop-component.yielded_by _ _ c.in-Some.component c.in-Some.is c.next.ensures.steps in
-    sym (ap (last_place Before) whole ∙ c.loop-component.invariant (c.in-Some.component.now ∷ others)
+    c.from_residual.ensures
+    ∙ sym (ap (last_place Before) whole ∙ c.loop-component.invariant (c.in-Some.component.now ∷ others)
     ∙ ap (λ b. option_and_then (λ next. last_place next others) (next_place c.loop-component.place b)) (sym c.is_recursive.ensures)
-    ∙ ap (option_and_then (λ next. last_place next others)) (sym c.after.ensures ∙ c.in-None-after.is))
+    ∙ ap (option_and_then (λ next. last_place next others)) (sym c.after.ensures ∙ c.in_err-place.was))
 
 -- one more component
 pub loop-component-preserved : goal.loop-component-preserved
@@ -30,7 +30,7 @@ loop-component-preserved c = λ rest.
     ∙ ap (last_place Before) (append_assoc yielded (component.now ∷ []) rest)
     ∙ c.loop-component.invariant (component.now ∷ rest)
     ∙ ap (λ b. option_and_then (λ next. last_place next rest) (next_place c.loop-component.place b)) (sym c.is_recursive.ensures)
-    ∙ ap (option_and_then (λ next. last_place next rest)) (sym c.after.ensures ∙ c.in-Some-after.is)
+    ∙ ap (option_and_then (λ next. last_place next rest)) (sym c.after.ensures ∙ c.in_ok-place.was)
 
 -- the components have come to their end
 pub returns : goal.returns

@@ -41,8 +41,8 @@ pub returns-in-Ok-clause-refused : goal.returns-in-Ok-clause-refused
 returns-in-Ok-clause-refused g c astray = absurd (false≢true (sym astray ∙ c.in-Ok.ensures.below))
 
 pub returns-in-Err-clause-refused : goal.returns-in-Err-clause-refused
-returns-in-Err-clause-refused g c astray = (c.fault.ensures, refl)
+returns-in-Err-clause-refused g c astray = (c.fault.ensures.status, refl)
 
 pub returns-in-Err-clause-status : goal.returns-in-Err-clause-status
 unfolding IsFindStatus
-returns-in-Err-clause-status g c c' told = inl c.fault.ensures
+returns-in-Err-clause-status g c c' told = inl c.fault.ensures.status

@@ -1,0 +1,48 @@
+-- What fulfils a request.
+use Rattle.std.proofs.Common.{◌≡◌, ℕ, ◌<◌, ◌≤◌, List, [], ◌∷◌, Option, length, get_or, map, inl, refl, arith, Bor}
+use Rattle.std.specs.Str.{chars}
+use Rattle.std.proofs.KnownBytes.{Keeps-refl}
+use Rattle.glob_console.specs.Outcomes.{IsRefused}
+use Rattle.glob_console.proofs.CallerLemmas.{text_at_fault}
+use Rattle.glob_pattern.specs.Grammar.Units.{IsAccepted}
+use Rattle.glob_pattern.specs.declared.options.MatchOptions.{MatchOptions}
+use Rattle.globs.specs.Escaping.{WritesEscaped}
+use Rattle.globs.specs.Explain.Outcomes.{Answers, Explains}
+use Rattle.globs.specs.Find.Outcomes.{FindsUnignored}
+use Rattle.globs.specs.Matching.{CopiesMatches}
+use Rattle.globs.specs.Outcomes.{Fulfils, World}
+use Rattle.globs.specs.Reading.{Request, Runs, Helps, VersionLine, Refused}
+use Rattle.globs.specs.Unignored.{CopiesUnignored}
+use Rattle.globs.specs.declared.name.Name.TheVariants.{Find, Match, Ignore, Explain, Escape}
+
+-- a pattern and a text are answered as their question is
+pub answers_two : {W : Type 0} (contents : W → Option (List ℕ)) (o : MatchOptions) (operands : List (Bor (List ℕ))) (none other : Bor (List ℕ)) (old new : W) (status : ℕ)
+    → 2 ≤ length operands → length operands < 3 → (¬ (IsAccepted (chars (get_or operands 0 none).now)) → IsRefused old new status)
+    → Explains o (get_or operands 0 none).now (get_or operands 1 other).now (contents old) (contents new) status
+    → Answers contents o (map (λ w. w.now) operands) old new status
+unfolding Answers
+answers_two contents o [] none other old new status long short refused explained = absurd (omega (arith, long))
+answers_two contents o (p ∷ []) none other old new status long short refused explained = absurd (omega (arith, long))
+answers_two contents o (p ∷ t ∷ []) none other old new status long short refused explained = (refused, explained)
+answers_two contents o (p ∷ t ∷ x ∷ more) none other old new status long short refused explained = absurd (omega (arith, short))
+
+module _ {W : Type 0} (contents : W → Option (List ℕ)) (known : W) (status : ℕ) (is : status ≡ 2) where
+  answers_refused : (o : MatchOptions) (operands : List (List ℕ)) → Answers contents o operands known known status
+  unfolding Answers Explains
+  answers_refused o [] = (is, refl)
+  answers_refused o (p ∷ []) = (is, refl)
+  answers_refused o (p ∷ t ∷ []) =
+      ((λ _. (is, refl)), (λ zero. absurd (omega (arith, is, zero)), λ one. absurd (omega (arith, is, one))))
+  answers_refused o (p ∷ t ∷ x ∷ more) = (is, refl)
+
+  -- a fault before anything was done with the output fulfils each request
+  pub fulfils_refused : (world : World) (request : Request) → Fulfils contents world request known known status
+  unfolding Fulfils FindsUnignored CopiesMatches CopiesUnignored WritesEscaped
+  fulfils_refused world (Runs Find o operands) = inl (is, refl)
+  fulfils_refused world (Runs Match o operands) = inl (is, refl)
+  fulfils_refused world (Runs Ignore o operands) = inl (is, refl)
+  fulfils_refused world (Runs Explain o operands) = answers_refused o.settings.options operands
+  fulfils_refused world (Runs Escape o operands) = inl (is, Keeps-refl (contents known))
+  fulfils_refused world (Helps name) = text_at_fault _ (contents known) status is
+  fulfils_refused world VersionLine = text_at_fault _ (contents known) status is
+  fulfils_refused world (Refused name why word) = (is, refl)

@@ -1,0 +1,10 @@
+-- The blanks of the characters so far are written.
+use Rattle.std.proofs.Common.{replicate}
+use Rattle.std.specs.Fmt.{HasWritten, IsPlainFormatter}
+use Rattle.std.specs.List.{flat_map}
+use Rattle.globs.specs.Visible.{width}
+use Rattle.globs.proofs.visible.write_indent.Given as goal
+
+abbrev pub invariant-loop-c : goal.invariant-loop-c
+invariant-loop-c g l =
+    IsPlainFormatter l.initial.f → HasWritten g.W.Write.write_str_gives l.initial.f (flat_map (λ c. replicate (width c) 32) l.yielded) l.f

@@ -1,0 +1,91 @@
+-- The printed texts of faults. What words from outside have of control characters is seen.
+use Rattle.std.specs.Prelude.{◌++◌, ◌∷◌, Option, None, Some, codes, if◌then◌else◌, bytes_eq, decimal}
+use Rattle.glob_pattern.specs.Grammar.Faults.{range_message}
+use Rattle.glob_rules.specs.Words.{reason_words}
+use Rattle.glob_set.specs.Words.{brace_error_words}
+use Rattle.glob_set.specs.declared.braces.error.BraceError.{BraceError}
+use Rattle.glob_set.specs.declared.braces.error.BraceError.TheVariants.{Unmatched, Unclosed, TooMany}
+use Rattle.glob_text.specs.Text.{Text}
+use Rattle.globs.specs.Visible.{caret_lines, visible}
+use Rattle.globs.specs.declared.ignoring.RulesFault.{RulesFault}
+use Rattle.globs.specs.declared.ignoring.RulesFault.TheVariants as rules
+use Rattle.globs.specs.declared.name.Name.{Name}
+use Rattle.globs.specs.declared.name.Name.TheVariants.{Find, Match, Ignore, Explain, Escape}
+use Rattle.globs.specs.declared.patterns.FaultLines.{FaultLines}
+use Rattle.globs.specs.declared.patterns.PatternFault.TheVariants as pattern
+use Rattle.globs.specs.declared.usage.UsageFault.TheVariants as usage
+use Rattle.globs.specs.declared.usage.UsageLine.{UsageLine}
+use Rattle.globs.specs.declared.usage.Why.{Why}
+use Rattle.globs.specs.declared.usage.Why.TheVariants as why
+
+-- the word of a command
+abbrev pub name_word : Name → Text
+name_word Find = codes "find"
+name_word Match = codes "match"
+name_word Ignore = codes "ignore"
+name_word Explain = codes "explain"
+name_word Escape = codes "escape"
+
+-- where help is
+abbrev pub help_words : Option Name → Text
+help_words None = codes "try globs help"
+help_words (Some name) = codes "try globs help " ++ name_word name
+
+-- what a command lacks that has no operand
+abbrev pub bare_words : Option Name → Text
+bare_words None = codes "there is no PATTERN"
+bare_words (Some Find) = codes "there is no PATTERN"
+bare_words (Some Match) = codes "there is no PATTERN"
+bare_words (Some Ignore) = codes "there is no FILE"
+bare_words (Some Explain) = codes "there is no PATTERN"
+bare_words (Some Escape) = codes "there is no TEXT"
+
+-- what is wrong with a word of a command line
+abbrev pub why_words : Option Name → Why → Text
+why_words name why.Unknown = codes " is no option"
+why_words name why.Valueless = codes " lacks its value"
+why_words name why.Limit = codes " is no limit: -n takes a number below 2 to the power of 64"
+why_words name why.Depth = codes " is no depth: --max-depth takes a number below 2 to the power of 64"
+why_words name why.Kind = codes " is no kind: -t takes f or d"
+why_words name why.Late = codes " is behind an operand: options come first"
+why_words name why.Bare = bare_words name
+why_words name why.Textless = codes "there is no text"
+why_words name why.Extra = codes " is behind the text: quote the pattern"
+why_words name why.Command = codes " is no command"
+why_words name why.Empty = codes "there is no command"
+
+-- the line of a usage fault
+abbrev pub usage_words : UsageLine → Text
+usage_words line = elim line.fault [
+  | usage.Word w word ↦ visible word.now ++ (why_words line.name w ++ (codes ": " ++ help_words line.name))
+  | usage.Memory ↦ codes "out of memory"
+]
+
+-- what a message of a pattern's fault is here: a bracket that is not closed says so
+abbrev pub message_words : (message : Text) → Text
+message_words message = if bytes_eq message range_message then codes "unclosed [" else message
+
+-- the lines of braces that are refused, but for the last
+abbrev pub brace_lines : (text : Text) → BraceError → Text
+brace_lines text (Unmatched place) = brace_error_words (Unmatched place) ++ 10 ∷ caret_lines text place
+brace_lines text (Unclosed place) = brace_error_words (Unclosed place) ++ 10 ∷ caret_lines text place
+brace_lines text TooMany = brace_error_words TooMany ++ 10 ∷ visible text
+
+-- the lines of a pattern that is refused: what is wrong, the pattern, a caret under its place, and where help is
+abbrev pub fault_words : FaultLines → Text
+fault_words lines = elim lines.fault [
+  | pattern.Astray text column ↦
+      codes "no component may be empty, `.` or `..`" ++ 10 ∷ (caret_lines text.now column ++ 10 ∷ help_words (Some lines.name))
+  | pattern.Syntax text e ↦
+      message_words e.msg.now ++ 10 ∷ (caret_lines text.now e.pos ++ 10 ∷ help_words (Some lines.name))
+  | pattern.Braces text e ↦ brace_lines text.now e ++ 10 ∷ help_words (Some lines.name)
+  | pattern.Memory ↦ codes "out of memory"
+]
+
+-- the line of rules that are refused; what the system says of a file is not known
+abbrev pub rules_words : RulesFault → Option Text
+rules_words (rules.NoText file) = Some (visible file.now ++ codes ": the file is not UTF-8")
+rules_words (rules.Unread file e) = None
+rules_words (rules.Refused source line reason) =
+    Some (visible source.now ++ (codes ": line " ++ (decimal line ++ (codes ": " ++ reason_words reason))))
+rules_words rules.Memory = Some (codes "out of memory")

@@ -1,0 +1,41 @@
+-- What a search comes to: its status, and what its output gained.
+use Rattle.std.specs.Prelude.{◌≢◌, ◌⊎◌, ℕ, List, Option, IsTrue}
+use Rattle.glob_console.specs.FoundPaths.{IsFindStatus}
+use Rattle.glob_console.specs.Outcomes.{IsRefused}
+use Rattle.glob_prune.specs.Pruning.{pruned}
+use Rattle.glob_rules.specs.Lists.{Ignores}
+use Rattle.glob_set.specs.BraceSets.{AreAlternativesOf}
+use Rattle.glob_text.specs.Text.{Text}
+use Rattle.glob_tree.specs.Answers.{IsTold}
+use Rattle.glob_tree.specs.Content.{Content}
+use Rattle.glob_walk.specs.Goal.{is_readable}
+use Rattle.globs.specs.Chosen.{Chosen}
+use Rattle.globs.specs.Find.Filtering.{is_wanted}
+use Rattle.globs.specs.Find.Finding.{IsFound, WritesExactly}
+use Rattle.globs.specs.Find.Planning.{walk_listing, walk_text}
+use Rattle.globs.specs.Find.Shallow.{opened}
+use Rattle.globs.specs.Find.Skipping.{is_skipped}
+use Rattle.globs.specs.Ignoring.{HasRules}
+use Rattle.globs.specs.Patterns.{set_of}
+use Rattle.globs.specs.declared.options.Settings.{Settings}
+
+-- The words are refused; or, of a known content, the status is that of the walk, and where that could read all and ended,
+-- just the paths were written that one of the alternatives of the words finds.
+unfoldable pub Finds : {W : Type 0} → (contents : W → Option (List ℕ)) → (told : Option Content) → Settings → Ignores
+    → (words : List Text) → (old new : W) → (status : ℕ) → Type 0
+Finds contents told settings list words old new status =
+    IsRefused old new status
+    ⊎ ((patterns : List Text) × AreAlternativesOf words patterns
+    × ((c : Content) → IsTold told c
+    → let x = is_skipped list settings.depth in let set = set_of settings.options patterns in
+    let left = pruned x (opened settings.depth c) in
+    IsFindStatus (is_wanted set settings.kind left) (walk_listing left settings.options patterns) settings.limit status
+    × (IsTrue (is_readable left (walk_text settings.options patterns)) → status ≢ 2
+    → WritesExactly settings.end (IsFound x set settings.kind c) (contents old) (contents new))))
+
+-- The rules are refused; or the search passes over what those of the files and the single ones ignore.
+unfoldable pub FindsUnignored : {W : Type 0} → (contents : W → Option (List ℕ)) → (told : Option Content)
+    → (holds : Text → Option Text) → Chosen → (words : List Text) → (old new : W) → (status : ℕ) → Type 0
+FindsUnignored contents told holds o words old new status =
+    IsRefused old new status
+    ⊎ ((list : Ignores) × HasRules holds o.files o.rules list × Finds contents told o.settings list words old new status)

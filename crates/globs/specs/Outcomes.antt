@@ -1,0 +1,39 @@
+-- What a run does that fulfils the request of its words: its status, and what its output gained.
+use Rattle.std.specs.Prelude.{ℕ, Bool, List, Option}
+use Rattle.glob_console.specs.Outcomes.{IsRefused, WritesText}
+use Rattle.glob_text.specs.Text.{Text}
+use Rattle.glob_tree.specs.Content.{Content}
+use Rattle.globs.specs.Copying.{Input}
+use Rattle.globs.specs.Escaping.{WritesEscaped}
+use Rattle.globs.specs.Explain.Outcomes.{Answers}
+use Rattle.globs.specs.Find.Outcomes.{FindsUnignored}
+use Rattle.globs.specs.Help.{page_of}
+use Rattle.globs.specs.Matching.{CopiesMatches}
+use Rattle.globs.specs.Reading.{Request, Runs, Helps, VersionLine, Refused}
+use Rattle.globs.specs.Unignored.{CopiesUnignored}
+use Rattle.globs.specs.declared.help.TheConstants.{VERSION}
+use Rattle.globs.specs.declared.name.Name.TheVariants.{Find, Match, Ignore, Explain, Escape}
+
+-- What is known of what a run works on: the content of the disk, with symbolic links to directories or without, the
+-- texts of files, and the input.
+pub record World : Type 0 where
+  pub told : (follows : Bool) → Option Content
+  pub holds : (path : Text) → Option Text
+  pub input : Input
+
+-- what fulfils a request; a usage fault has the status 2, and leaves the output as it was
+unfoldable pub Fulfils : {W : Type 0} → (contents : W → Option (List ℕ)) → World → Request → (old new : W)
+    → (status : ℕ) → Type 0
+Fulfils contents world (Runs Find o operands) old new status =
+    FindsUnignored contents (world.told o.settings.follows) world.holds o operands old new status
+Fulfils contents world (Runs Match o operands) old new status =
+    CopiesMatches contents o.settings operands world.input old new status
+Fulfils contents world (Runs Ignore o operands) old new status =
+    CopiesUnignored contents world.holds o.settings.end operands world.input old new status
+Fulfils contents world (Runs Explain o operands) old new status =
+    Answers contents o.settings.options operands old new status
+Fulfils contents world (Runs Escape o operands) old new status =
+    WritesEscaped operands (contents old) (contents new) status
+Fulfils contents world (Helps name) old new status = WritesText (page_of name) (contents old) (contents new) status
+Fulfils contents world VersionLine old new status = WritesText VERSION.now (contents old) (contents new) status
+Fulfils contents world (Refused name why word) old new status = IsRefused old new status
