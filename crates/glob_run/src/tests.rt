@@ -1,34 +1,62 @@
-//! Replays the rows over streams and trees in memory.
+//! Replays the rows over streams and trees in memory, and sees to it that those are asked by their command alone.
 ghost use Rattle.std.specs.Prelude.{None};
 
 mod rows;
 
 use crate::run_words;
-use glob::{MemTree, TreeRefusal};
+use glob::{Entry, ListError, Look, MemTree, Tree, TreeRefusal};
 use rows::ROWS;
 use std::alloc::{AllocError, Global};
+use std::cell::Cell;
 use std::io::{self, ErrorKind, Read};
 
 /// What a row is without its fields: a usage fault.
 const USAGE: &str =
     "|a⏎|2||usage: glob_run match [-i] [-s] [-d] PATTERN | escape TEXT | find [-i] [-s] [-d] [-n LIMIT] PATTERN⏎";
 
-/// A reader of the bytes of a field, one a call.
+/// A reader of the bytes of a field, one a call, and whether it was called.
 #[derive(Drop)]
 struct Source<'a> {
     rest: &'a [u8],
+    asked: &'a Cell<bool>,
 }
 
 impl Read for Source<'_> {
     ghost remaining = { λ _. None };
 
     fn read(&mut self, buf: &mut [u8]) -> io::Result<usize> {
+        self.asked.set(true);
         let len = buf.len().min(1);
         match self.rest {
             [] => Err(io::Error::from(ErrorKind::Other)),
             [0] => Ok(0),
             _ => self.rest.read(&mut buf[..len]),
         }
+    }
+}
+
+/// A tree in memory, and whether it was asked.
+#[derive(Drop)]
+struct Watched<'a> {
+    tree: MemTree,
+    asked: &'a Cell<bool>,
+}
+
+impl Tree for Watched<'_> {
+    type Alloc = Global;
+
+    ghost tells = { λ _. None };
+
+    ghost asks = { λ watched. watched.tree.asks };
+
+    fn look(&mut self, path: &str) -> Result<Look, AllocError> {
+        self.asked.set(true);
+        self.tree.look(path)
+    }
+
+    fn list(&mut self, path: &str) -> Result<Vec<Entry>, ListError> {
+        self.asked.set(true);
+        self.tree.list(path)
     }
 }
 
@@ -63,6 +91,14 @@ fn tree_of(alloc: Global, keys: &str) -> Result<MemTree, TreeRefusal> {
     Ok(tree)
 }
 
+/// Whether only `match` read its input and only `find` asked its tree, and neither at a fault of the words or the pattern.
+fn is_asked_by(words: &str, errors: &str, input: bool, tree: bool) -> bool {
+    let is_fault = errors.starts_with("usage") || errors.starts_with("Pattern");
+    let may_read = words.starts_with("match") && !is_fault;
+    let may_walk = words.starts_with("find") && !is_fault;
+    (may_read || !input) && (may_walk || !tree)
+}
+
 /// Whether the program does on the words of the row, over a tree of these keys, what its other fields say.
 fn does(alloc: Global, keys: &str, row: &str) -> Result<bool, TreeRefusal> {
     let mut row = String::from_str(alloc, row)?;
@@ -70,24 +106,27 @@ fn does(alloc: Global, keys: &str, row: &str) -> Result<bool, TreeRefusal> {
         row.push_str(USAGE)?;
     }
     let fields: Vec<&str> = row.splitn(5, '|').collect(alloc)?;
-    let [words, input, status, output, errors] = *fields.as_slice() else {
+    let [line, input, status, output, report] = *fields.as_slice() else {
         return Ok(false);
     };
-    let words: Vec<&str> = words.split(' ').filter(|word| *word != "∅").collect(alloc)?;
+    let words: Vec<&str> = line.split(' ').filter(|word| *word != "∅").collect(alloc)?;
     let input = bytes_of(alloc, input)?;
-    let (output, errors) = (bytes_of(alloc, output)?, bytes_of(alloc, errors)?);
+    let (output, errors) = (bytes_of(alloc, output)?, bytes_of(alloc, report)?);
+    let (read, walked) = (Cell::new(false), Cell::new(false));
     let mut written = vec![in alloc; 0; output.len()]?;
     let mut reported = vec![in alloc; 0; errors.len()]?;
     let (mut stdout, mut stderr) = (written.as_mut_slice(), reported.as_mut_slice());
-    let found = run_words(
-        alloc,
-        tree_of(alloc, keys)?,
-        &words,
-        Source { rest: &input },
-        &mut stdout,
-        &mut stderr,
-    );
-    Ok(status.parse::<u8>() == Ok(found) && written == output && reported == errors)
+    let tree = Watched {
+        tree: tree_of(alloc, keys)?,
+        asked: &walked,
+    };
+    let source = Source {
+        rest: &input,
+        asked: &read,
+    };
+    let found = run_words(alloc, tree, &words, source, &mut stdout, &mut stderr);
+    let is_right = status.parse::<u8>() == Ok(found) && written == output && reported == errors;
+    Ok(is_right && is_asked_by(line, report, read.get(), walked.get()))
 }
 
 #[test]

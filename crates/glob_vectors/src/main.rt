@@ -1,15 +1,14 @@
 //! Replays tables of answers from outside over the crate `glob`, and answers the cases of tests.
 //!
-//! - Without a word: replays the tables of `data`, which lie in the folder that it runs in (see `replay.rt`).
-//! - `answer` answers the cases of `bench/run --random`, `tests/walks.py` and `tests/captures.py`, line by line.
+//! - Without a word: replays the tables of `data`, which lie in the folder that it runs in.
+//! - `answer` answers the cases of `tests/random_input.py` and `tests/captures.py`, line by line.
 //! - `rules` asks ignore lists about paths, for `tests/ignore.py`.
 #![tactic(auto)]
 
-mod answer;
-mod replay;
-mod rules;
-mod words;
+#[cfg(test)]
+mod tests;
 
+use glob_replay::{answer, replay, rules, words};
 use std::{env, io};
 
 fn main(rt: HostRuntime) -> io::Result<()> {

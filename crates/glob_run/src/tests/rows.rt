@@ -3,7 +3,7 @@
 //! A row is WORDS|INPUT|STATUS|OUTPUT|ERRORS, with one blank between each two words, and `∅` for none. Words alone are
 //! a usage fault. `⏎` is a line feed, `␦` the byte 255, and `✗` is where a stream fails, after the bytes before it. A
 //! line `+ KEYS` has the tree of the rows after it: below the root, which is the current directory, directories end in
-//! `/`, and those that cannot be listed in `#`. Other rows have an empty tree. `tests/program.sh` replays the rows on
+//! `/`, and those that cannot be listed in `#`. Other rows have an empty tree. `tests/programs.py` replays the rows on
 //! the built program, but for those with `∅`, `✗`, `#` or an absolute path.
 
 /// The rows.

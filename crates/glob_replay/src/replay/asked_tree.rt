@@ -1,0 +1,144 @@
+//! A tree that counts what it is asked. Contracts know no content of it, so any answer is allowed.
+ghost use Rattle.std.specs.Prelude.{◌≡◌, ◌+◌, None};
+
+use super::contents::tree_of;
+use crate::rationing::Memory;
+use glob::{Asks, Entry, ListError, Look, MemTree, Name, Tree};
+use std::alloc::AllocError;
+use std::cell::Cell;
+use std::io::{self, ErrorKind};
+
+/// The answer of a listing.
+pub type Listed<'a> = Result<Vec<Entry<Memory<'a>>, Memory<'a>>, ListError>;
+
+/// What answers.
+#[derive(Drop)]
+pub enum Source<'a> {
+    /// What is in a tree in memory.
+    Known(MemTree<Memory<'a>>),
+    /// The answers of the lookups, and those of the listings, in words: the first word is the answer of the first call,
+    /// and so on. The last word is the answer of all later calls.
+    Written {
+        alloc: Memory<'a>,
+        looks: &'a str,
+        lists: &'a str,
+    },
+}
+
+impl<'a> Source<'a> {
+    /// A tree in memory of a content.
+    pub fn of(alloc: Memory<'a>, content: &str) -> io::Result<Self> {
+        Ok(Source::Known(tree_of(alloc, ("", ""), content)?))
+    }
+
+    fn look(&mut self, path: &str) -> Result<Look, AllocError> {
+        match self {
+            Source::Known(tree) => tree.look(path),
+            Source::Written { looks, .. } => match next_word(looks) {
+                "Dir" => Ok(Look::Dir),
+                "Other" => Ok(Look::Other),
+                "Missing" => Ok(Look::Missing),
+                _ => Err(AllocError),
+            },
+        }
+    }
+
+    fn list(&mut self, path: &str) -> Listed<'a> {
+        match self {
+            Source::Known(tree) => tree.list(path),
+            Source::Written { alloc, lists, .. } => match next_word(lists) {
+                "!InvalidData" => Err(ListError::Read(ErrorKind::InvalidData.into())),
+                "!NotFound" => Err(ListError::Read(ErrorKind::NotFound.into())),
+                "~" => Err(ListError::Memory),
+                names => entries_of(alloc, names),
+            },
+        }
+    }
+}
+
+/// The first of the words, which is taken away, if it is not the last.
+fn next_word<'a>(words: &mut &'a str) -> &'a str {
+    let (word, rest) = words.split_once(' ').unwrap_or((*words, *words));
+    *words = rest;
+    word
+}
+
+/// The entries of names between commas, with `/` after directories. `''` is none.
+fn entries_of<'a>(alloc: Memory<'a>, names: &str) -> Listed<'a> {
+    let mut entries = Vec::new(alloc);
+    for name in names.split(',').filter(|name| *name != "''") {
+        let is_dir = name.ends_with('/');
+        if let Ok(name) = Name::new(String::from_str(alloc, name.trim_end_matches('/'))?) {
+            entries.push(Entry { name, is_dir })?;
+        }
+    }
+    Ok(entries)
+}
+
+/// How much was asked of a tree.
+#[derive(Default, Drop)]
+pub struct Counts {
+    /// Lookups, listings and the entries of these.
+    pub asked: Cell<u64>,
+    /// How often entries or names were listed, and how often names alone.
+    pub listings: Cell<u64>,
+    pub namings: Cell<u64>,
+}
+
+/// Adds to a count.
+pub fn raise(count: &Cell<u64>, more: usize) {
+    count.set(count.get().saturating_add(more as u64));
+}
+
+/// A tree that counts what it is asked.
+#[derive(Drop)]
+pub struct AskedTree<'a> {
+    source: Source<'a>,
+    counts: &'a Counts,
+    asks: Asks,
+}
+
+impl<'a> AskedTree<'a> {
+    /// A tree that counts there.
+    pub fn new(source: Source<'a>, counts: &'a Counts) -> Self {
+        AskedTree {
+            source,
+            counts,
+            asks: Asks::new(),
+        }
+    }
+
+    /// Counts so many lookups, listings or entries.
+    fn count(&mut self, more: usize)
+        ensures asks { self.new.asks ≡ self.old.asks + more }
+    {
+        self.asks = self.asks.after(more);
+        raise(&self.counts.asked, more);
+    }
+}
+
+impl<'a> Tree for AskedTree<'a> {
+    type Alloc = Memory<'a>;
+
+    ghost tells = { λ _. None };
+
+    ghost asks = { λ tree. tree.asks };
+
+    fn look(&mut self, path: &str) -> Result<Look, AllocError> {
+        self.count(1);
+        self.source.look(path)
+    }
+
+    fn list(&mut self, path: &str) -> Listed<'a> {
+        raise(&self.counts.listings, 1);
+        self.count(1);
+        let entries = self.source.list(path)?;
+        self.count(entries.len());
+        Ok(entries)
+    }
+
+    fn list_names(&mut self, path: &str) -> Listed<'a> {
+        raise(&self.counts.namings, 1);
+        self.list(path)
+    }
+}

@@ -1,0 +1,73 @@
+//! Walks on the disk. The content is made in a folder below the current directory: the pattern has the folder's escaped
+//! path and `/` before it, and each path the folder's path and `/`.
+
+use super::Report;
+use super::contents::{is_directory, name_of};
+use super::settings::Settings;
+use super::walking::{Job, taken};
+use super::walks::{Wanted, compare};
+use crate::rationing::Rationed;
+use crate::words::refused;
+use glob::{MatchOptions, Pattern, glob, glob_with};
+use std::{env, fs, io};
+
+/// The name of the folder.
+const FOLDER: &str = "content_of_walks";
+
+/// Removes the folder, if it is there.
+pub fn remove(rt: &HostRuntime) -> io::Result<()> {
+    if fs::exists(rt, FOLDER)? {
+        fs::remove_dir_all(rt, FOLDER)?;
+    }
+    Ok(())
+}
+
+/// Makes the content in the folder, in place of what was there.
+fn make(rt: &HostRuntime, settings: &Settings) -> io::Result<()> {
+    remove(rt)?;
+    fs::create_dir(rt, FOLDER)?;
+    let (content, more) = (settings.get("content"), settings.get("more"));
+    for word in content.split_whitespace().chain(more.split_whitespace()) {
+        let path = format!(in rt.alloc(); "{FOLDER}/{}", name_of(word))?;
+        if is_directory(word) {
+            fs::create_dir(rt, path.as_str())?;
+        } else {
+            fs::write(rt, path.as_str(), "")?;
+        }
+    }
+    Ok(())
+}
+
+/// Replays a walk below the folder. Each name in the folder's path is a look more, unless it is escaped.
+pub fn replay(report: &Report, job: Job<'_>, (_, items, units): Wanted<'_>) -> io::Result<()> {
+    let rt = report.rt;
+    let alloc = rt.alloc();
+    make(&rt, &report.settings)?;
+    let current = env::current_dir(&rt)?;
+    let folder = format!(in alloc; "{}/{FOLDER}/", current.as_path().as_str())?;
+    let front = Pattern::escape(alloc, folder.as_str())?;
+    let pattern = format!(in alloc; "{front}{}", job.pattern)?;
+    let pattern = pattern.as_str();
+    let looks = folder.matches('/').count().saturating_sub(1);
+    let units = units.filter(|_| front.as_str() == folder.as_str());
+    let units = units.map(|units| units.saturating_add(looks));
+    let wanted = (folder.as_str(), items, units);
+    replay_at(report, pattern, job.options, wanted)
+}
+
+/// Replays a walk by `glob_with`, and under the usual options also by `glob`.
+fn replay_at(
+    report: &Report,
+    pattern: &str,
+    options: MatchOptions,
+    wanted: Wanted<'_>,
+) -> io::Result<()> {
+    let (rt, ample) = (report.rt, Rationed::ample(report.alloc()));
+    let paths = glob_with(rt, &ample, pattern, options).map_err(refused)?;
+    compare(report, pattern, &taken(&ample, paths)?, wanted)?;
+    if options != MatchOptions::new() {
+        return Ok(());
+    }
+    let paths = glob(rt, &ample, pattern).map_err(refused)?;
+    compare(report, pattern, &taken(&ample, paths)?, wanted)
+}

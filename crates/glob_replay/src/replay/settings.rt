@@ -1,0 +1,64 @@
+//! What the lines before a row have set.
+
+use crate::words::{cut, options_in_order, unfit};
+use glob::MatchOptions;
+use std::alloc::{AllocError, Global};
+use std::collections::BTreeMap;
+use std::io;
+
+/// What holds for the rows that follow, by name.
+#[derive(Drop)]
+pub struct Settings {
+    alloc: Global,
+    values: BTreeMap<String, String>,
+}
+
+impl Settings {
+    /// Nothing is set.
+    pub fn new(alloc: Global) -> Self {
+        Settings {
+            alloc,
+            values: BTreeMap::new(alloc),
+        }
+    }
+
+    /// What this name is set to. What was not set is empty.
+    pub fn get(&self, name: &str) -> &str {
+        self.values.get(name).map_or("", |value| value.as_str())
+    }
+
+    /// Sets what a line `NAME: VALUE` says. With a content, a tree or calls all begins anew.
+    pub fn set(&mut self, line: &str) -> io::Result<()> {
+        let (name, value) = cut(line, ":")?;
+        match name {
+            "content" | "tree" | "calls" => self.values = BTreeMap::new(self.alloc),
+            "more" | "in memory" | "in" | "shut" | "walked" | "options" | "limits of" | "refused" =>
+                {}
+            _ => return Err(unfit()),
+        }
+        let name = String::from_str(self.alloc, name)?;
+        let value = String::from_str(self.alloc, value.trim())?;
+        self.values.insert(name, value)?;
+        Ok(())
+    }
+
+    /// The words of the content in memory.
+    pub fn content(&self) -> Result<String, AllocError> {
+        let (content, more, extra) = (self.get("content"), self.get("more"), self.get("in memory"));
+        format!(in self.alloc; "{content} {more} {extra}")
+    }
+
+    /// The words of a row, each with each of the settings of the options.
+    pub fn cases<'a>(&self, words: &'a str) -> io::Result<Vec<(MatchOptions, &'a str)>> {
+        let letters = self.get("options");
+        let letters = if letters.is_empty() { "tff" } else { letters };
+        let mut cases = Vec::new(self.alloc);
+        for letters in letters.split_whitespace() {
+            let options = options_in_order(letters)?;
+            for word in words.split_whitespace() {
+                cases.push((options, word))?;
+            }
+        }
+        Ok(cases)
+    }
+}

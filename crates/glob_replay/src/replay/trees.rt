@@ -1,0 +1,94 @@
+//! Rows of calls of a tree in memory: `CALL PATHS => ANSWER`, each over what the ones before have left.
+
+use super::Report;
+use super::contents::tree_of;
+use crate::rationing::Memory;
+use crate::words::{cut, has_word, out_of_memory, text_of, unfit};
+use glob::{Entry, ListError, MemTree, Tree, TreeRefusal};
+use std::alloc::Allocator;
+use std::io::{self, ErrorKind, Write};
+
+/// Makes the calls of a row.
+pub fn replay(report: &mut Report, asked: &str, answer: &str) -> io::Result<()> {
+    let (call, paths) = cut(asked, " ")?;
+    for word in paths.split_whitespace() {
+        let path = text_of(report.alloc(), word)?;
+        let mut found = String::new(report.alloc());
+        add_answer(&mut report.tree, call, path.as_str(), &mut found)?;
+        let is_alike = are_same_words(found.as_str(), answer);
+        let found = if is_alike { answer } else { found.as_str() };
+        report.compare(asked, answer, found)?;
+    }
+    Ok(())
+}
+
+/// Whether the texts have the same words, in any order.
+fn are_same_words(found: &str, answer: &str) -> bool {
+    found.split_whitespace().count() == answer.split_whitespace().count()
+        && answer.split_whitespace().all(|word| has_word(found, word))
+}
+
+/// Makes the calls of a new tree, and adds what they answer.
+pub fn change(alloc: Memory<'_>, changes: &[&str], words: &mut String) -> io::Result<()> {
+    let mut tree = MemTree::new(alloc)?;
+    for change in changes {
+        let (call, path) = cut(change, " ")?;
+        add_answer(&mut tree, call, path, words)?;
+    }
+    Ok(())
+}
+
+/// Adds how many entries the root of a content has. A look asks for no memory.
+pub fn list(alloc: Memory<'_>, content: &str, words: &mut String) -> io::Result<()> {
+    let mut tree = tree_of(alloc, ("", ""), content)?;
+    let asked = alloc.ration.asked();
+    tree.look("./f0")?;
+    if alloc.ration.asked() != asked {
+        words.push_str("looks with memory ")?;
+    }
+    match tree.list("/") {
+        Ok(entries) => Ok(write!(words, "{}", entries.len())?),
+        Err(_) => Err(out_of_memory()),
+    }
+}
+
+/// Adds what a call answers, in words.
+fn add_answer<A: Allocator + Copy>(
+    tree: &mut MemTree<A>,
+    call: &str,
+    path: &str,
+    words: &mut String,
+) -> io::Result<()> {
+    let changed = match call {
+        "look" => return Ok(write!(words, "{:?} ", tree.look(path)?)?),
+        "list" => return add_entries(words, tree.list(path)),
+        "add_dir" => tree.add_dir(path),
+        "add_shut" => tree.add_shut(path, ErrorKind::PermissionDenied),
+        "add_other" => tree.add_other(path),
+        "set_current" => tree.set_current(path),
+        _ => return Err(unfit()),
+    };
+    match changed {
+        Ok(()) => Ok(words.push_str("ok ")?),
+        Err(TreeRefusal::Memory) => Err(out_of_memory()),
+        Err(refusal) => Ok(write!(words, "{refusal:?} ")?),
+    }
+}
+
+/// Adds what a listing answers: the names of entries, with `/` after those of directories, or after `!` the error.
+pub fn add_entries<A: Allocator>(
+    words: &mut String,
+    listed: Result<Vec<Entry<A>, A>, ListError>,
+) -> io::Result<()> {
+    match listed {
+        Ok(entries) => {
+            for entry in entries.iter() {
+                words.push_str(entry.name.as_str())?;
+                words.push_str(if entry.is_dir { "/ " } else { " " })?;
+            }
+            Ok(())
+        }
+        Err(ListError::Read(error)) => Ok(write!(words, "!{error} ")?),
+        Err(ListError::Memory) => Err(out_of_memory()),
+    }
+}

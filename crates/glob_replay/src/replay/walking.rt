@@ -1,0 +1,218 @@
+//! A walk, item by item and whole, and what it gives in words.
+
+use super::asked_tree::{AskedTree, Counts, Source};
+use crate::rationing::Memory;
+use crate::words::out_of_memory;
+use glob::{
+    End, GlobCause, GlobError, GlobResult, MatchOptions, Paths, PatternRefusal, Tree, Walk,
+    glob_in, walk_in,
+};
+use std::alloc::{AllocError, Allocator, Global};
+use std::io::{self, Write};
+
+/// A walk over a tree.
+#[derive(Clone, Copy)]
+pub struct Job<'a> {
+    pub pattern: &'a str,
+    pub options: MatchOptions,
+    pub limit: u64,
+}
+
+impl<'a> Job<'a> {
+    pub fn new(pattern: &'a str, options: MatchOptions, limit: u64) -> Self {
+        Job {
+            pattern,
+            options,
+            limit,
+        }
+    }
+
+    /// The walk by a pattern, under the usual options and without a limit.
+    pub fn of(pattern: &'a str) -> Self {
+        Job::new(pattern, MatchOptions::new(), u64::MAX)
+    }
+}
+
+/// What a walk gave, and what it spent.
+#[derive(Drop)]
+pub struct Found {
+    /// Each item after a tab: `=` and a path, or `!`, the path of a directory that could not be listed, `:` and the kind
+    /// of its error. Or what is printed of the pattern's fault; and at last what is wrong with the walk.
+    pub items: String,
+    /// The paths, and those of the directories that could not be listed.
+    pub paths: Vec<String>,
+    pub lost: Vec<String>,
+    /// How it ended, and the path of the limit's refusal, if it is known.
+    pub end: End,
+    pub refused: String,
+    /// The units of work.
+    pub spent: u64,
+}
+
+impl Found {
+    /// Nothing yet.
+    fn new(alloc: Global) -> Self {
+        Found {
+            items: String::new(alloc),
+            paths: Vec::new(alloc),
+            lost: Vec::new(alloc),
+            end: End::Done,
+            refused: String::new(alloc),
+            spent: 0,
+        }
+    }
+
+    /// What a whole walk gave.
+    pub fn of<T: Tree>(alloc: Global, walk: Walk<T>) -> Result<Self, AllocError> {
+        let mut found = Found::new(alloc);
+        for item in walk.items.iter() {
+            found.add(item)?;
+        }
+        found.end = walk.end;
+        found.spent = walk.spent;
+        Ok(found)
+    }
+
+    /// The items, and where the walk ended before it was done `~`, for want of memory, or `^` and the path of the refusal.
+    pub fn text(&self) -> Result<String, AllocError> {
+        let (alloc, items, refused) = (*self.items.allocator(), &self.items, &self.refused);
+        match self.end {
+            End::Done => format!(in alloc; "{items}"),
+            End::Memory => format!(in alloc; "{items}\t~"),
+            End::Limit => format!(in alloc; "{items}\t^{refused}"),
+        }
+    }
+
+    /// Adds the items to the words. The error is that memory ran out after them.
+    pub fn add_to(&self, words: &mut String) -> io::Result<()> {
+        words.push_str(&self.items)?;
+        match self.end {
+            End::Memory => Err(out_of_memory()),
+            _ => Ok(()),
+        }
+    }
+
+    /// Adds an item.
+    fn add<A: Allocator>(&mut self, item: &GlobResult<A>) -> Result<(), AllocError> {
+        match item {
+            Ok(path) => {
+                write!(self.items, "\t={}", path.as_str())?;
+                let path = String::from_str(*self.items.allocator(), path.as_str())?;
+                Ok(self.paths.push(path)?)
+            }
+            Err(error) => self.add_error(error),
+        }
+    }
+
+    /// Adds an error.
+    fn add_error<A: Allocator>(&mut self, error: &GlobError<A>) -> Result<(), AllocError> {
+        let alloc = *self.items.allocator();
+        let path = String::from_str(alloc, error.path().as_str())?;
+        let (tail, end) = match error.cause() {
+            GlobCause::Memory => ("out of memory", End::Memory),
+            GlobCause::Limit => ("walk limit reached", End::Limit),
+            GlobCause::Read => ("", End::Done),
+        };
+        self.check_printed(error, &path, tail)?;
+        self.end = end;
+        if end != End::Done {
+            self.refused = path;
+            return Ok(());
+        }
+        write!(self.items, "\t!{path}:{:?}", error.error().kind())?;
+        Ok(self.lost.push(path)?)
+    }
+
+    /// Adds what is printed of an error, if it is wrong.
+    fn check_printed<A: Allocator>(
+        &mut self,
+        error: &GlobError<A>,
+        path: &str,
+        tail: &str,
+    ) -> Result<(), AllocError> {
+        let alloc = *self.items.allocator();
+        let printed = format!(in alloc; "{error}")?;
+        let known = format!(in alloc; "attempting to read `{path}` resulted in an error: {tail}")?;
+        if printed.starts_with(known.as_str()) {
+            return Ok(());
+        }
+        write!(self.items, "\tprints {printed}")
+    }
+
+    /// Adds what is wrong with what a tree was asked: each unit is a question, and where the limit refuses one, the
+    /// walk spent the limit.
+    fn check(&mut self, asked: u64, limit: u64) -> Result<(), AllocError> {
+        let spent = self.spent;
+        let is_right = match self.end {
+            End::Limit => asked >= spent && spent == limit,
+            _ => asked == spent,
+        };
+        if is_right {
+            return Ok(());
+        }
+        write!(self.items, "\tspent {spent} asked {asked}")
+    }
+}
+
+/// What is found where a walk refuses its pattern: what is printed of its fault.
+fn fault(alloc: Global, refusal: PatternRefusal) -> io::Result<Found> {
+    let mut found = Found::new(alloc);
+    match refusal {
+        PatternRefusal::Syntax(fault) => write!(found.items, "\t{fault}")?,
+        PatternRefusal::Memory => return Err(out_of_memory()),
+    }
+    Ok(found)
+}
+
+/// Walks by `walk_in`. The path of a refusal is not known.
+pub fn gathered<'a>(
+    alloc: Memory<'a>,
+    (source, counts): (Source<'a>, &'a Counts),
+    job: Job<'_>,
+) -> io::Result<Found> {
+    let tree = AskedTree::new(source, counts);
+    let mut found = match walk_in(alloc, tree, job.pattern, job.options, job.limit) {
+        Ok(walk) => Found::of(alloc.inner, walk)?,
+        Err(refusal) => fault(alloc.inner, refusal)?,
+    };
+    found.check(counts.asked.get(), job.limit)?;
+    Ok(found)
+}
+
+/// Walks by `next`. Before the first item is wanted nothing is asked.
+pub fn stepped<'a>(
+    alloc: Memory<'a>,
+    (source, counts): (Source<'a>, &'a Counts),
+    job: Job<'_>,
+) -> io::Result<Found> {
+    let tree = AskedTree::new(source, counts);
+    let paths = glob_in(alloc, tree, job.pattern, job.options, job.limit);
+    let early = counts.asked.get();
+    let mut found = match paths {
+        Ok(paths) => taken(alloc, paths)?,
+        Err(refusal) => fault(alloc.inner, refusal)?,
+    };
+    if early != 0 {
+        found.items.push_str("\tasked early")?;
+    }
+    found.check(counts.asked.get(), job.limit)?;
+    Ok(found)
+}
+
+/// Takes the items of a walk with this memory, and two more, which ask for none. Where it goes on, or counts its items
+/// wrongly, the words say so.
+pub fn taken<T: Tree>(alloc: Memory<'_>, mut paths: Paths<T>) -> Result<Found, AllocError> {
+    let mut found = Found::new(alloc.inner);
+    let mut count = 0u128;
+    while let Some(item) = paths.next() {
+        found.add(&item)?;
+        count = count.saturating_add(1);
+    }
+    let asked = alloc.ration.asked();
+    let goes_on = paths.next().is_some() || paths.next().is_some();
+    if goes_on || alloc.ration.asked() != asked || paths.given() != count {
+        found.items.push_str("\tgoes on, or counts wrongly")?;
+    }
+    found.spent = paths.spent();
+    Ok(found)
+}

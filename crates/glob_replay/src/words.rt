@@ -1,0 +1,111 @@
+//! What words of cases and of tables stand for.
+
+use glob::{MatchOptions, Pattern, PatternRefusal};
+use std::alloc::{AllocError, Allocator, Global};
+use std::io::{self, ErrorKind, Write};
+
+/// The error of commands, lines or files that are not what is answered.
+pub fn unfit() -> io::Error {
+    io::Error::other(
+        "not what a command or a table takes: see the heads of src/main.rt and of the files in data",
+    )
+}
+
+/// The error of memory that ran out.
+pub fn out_of_memory() -> io::Error {
+    io::Error::from(ErrorKind::OutOfMemory)
+}
+
+/// The error of a text that is no pattern, or of memory that ran out.
+pub fn refused(refusal: PatternRefusal) -> io::Error {
+    match refusal {
+        PatternRefusal::Syntax(_) => unfit(),
+        PatternRefusal::Memory => out_of_memory(),
+    }
+}
+
+/// The texts before and after the first `sign`.
+pub fn cut<'a>(text: &'a str, sign: &str) -> io::Result<(&'a str, &'a str)> {
+    text.split_once(sign).ok_or(unfit())
+}
+
+/// The options that the letters of a case name: `i` case-insensitive, `s` the separator rule, `d` the dot rule.
+pub fn options_of(letters: &str) -> io::Result<MatchOptions> {
+    MatchOptions::from_letters(letters).ok_or(unfit())
+}
+
+/// The options of three letters `t` or `f`: case, the separator rule, the dot rule.
+pub fn options_in_order(letters: &str) -> io::Result<MatchOptions> {
+    match letters.as_bytes() {
+        [
+            case @ (b't' | b'f'),
+            separator @ (b't' | b'f'),
+            dot @ (b't' | b'f'),
+        ] => Ok(MatchOptions {
+            case_sensitive: *case == b't',
+            require_literal_separator: *separator == b't',
+            require_literal_leading_dot: *dot == b't',
+            ..MatchOptions::new()
+        }),
+        _ => Err(unfit()),
+    }
+}
+
+/// The pattern of a text.
+pub fn pattern_of<A: Allocator + Copy>(alloc: A, text: &str) -> io::Result<Pattern<A>> {
+    Pattern::new(alloc, text).map_err(refused)
+}
+
+/// Adds the place of a pattern's fault and, after a tab, its message.
+pub fn add_fault(refusal: PatternRefusal, words: &mut String) -> io::Result<()> {
+    match refusal {
+        PatternRefusal::Syntax(error) => Ok(write!(words, "{}\t{}", error.pos, error.msg)?),
+        PatternRefusal::Memory => Err(out_of_memory()),
+    }
+}
+
+/// The number that a word writes.
+pub fn number_of(word: &str) -> io::Result<usize> {
+    word.parse::<usize>().map_err(|_| unfit())
+}
+
+/// Whether both errors have the same kind, the same code of the system and the same words.
+pub fn are_same(alloc: Global, one: &io::Error, other: &io::Error) -> Result<bool, AllocError> {
+    let (words, other_words) = (format!(in alloc; "{one}")?, format!(in alloc; "{other}")?);
+    let is_kind = one.kind() == other.kind() && one.raw_os_error() == other.raw_os_error();
+    Ok(is_kind && words == other_words)
+}
+
+/// Adds the part of a word after a `<`, as `3:a/>b`.
+fn push_part(text: &mut String, part: &str) -> io::Result<()> {
+    let (times, rest) = cut(part, ":")?;
+    let (repeated, after) = cut(rest, ">")?;
+    for _ in 0..number_of(times)? {
+        text.push_str(repeated)?;
+    }
+    Ok(text.push_str(after)?)
+}
+
+/// The text that a word stands for: `''` is the empty text, `<3:a/>b` is `a/a/a/b`, `⏎` a line feed, and `␍`
+/// a carriage return.
+pub fn text_of(alloc: Global, word: &str) -> io::Result<String> {
+    if word == "''" {
+        return Ok(String::new(alloc));
+    }
+    let mut text = String::from_str(alloc, word.split('<').next().unwrap_or(""))?;
+    for part in word.split('<').skip(1) {
+        push_part(&mut text, part)?;
+    }
+    Ok(text.replace(alloc, "⏎", "\n")?.replace(alloc, "␍", "\r")?)
+}
+
+/// Items, each after a tab and, if it is a path, `=`, with a blank in place of these.
+pub fn in_words(items: &String) -> Result<String, AllocError> {
+    let alloc = *items.allocator();
+    items.replace(alloc, "\t=", " ")?.replace(alloc, "\t", " ")
+}
+
+/// Whether a text is one of the words.
+pub fn has_word(words: &str, text: &str) -> bool {
+    words.split_whitespace().any(|word| word == text)
+}

@@ -1,0 +1,62 @@
+//! The calls `glob` and `glob_with` over a folder that the test makes.
+use super::check;
+use glob::{GlobCause, MatchOptions, Pattern, PatternRefusal, glob, glob_with};
+use std::io::ErrorKind;
+use std::test::Fail;
+use std::{env, fs, io};
+
+/// The path of a new folder in that of temporary files, which is the first of these that is not there yet.
+fn new_folder(rt: HostRuntime) -> io::Result<String> {
+    let top = env::temp_dir(&rt)?;
+    for number in 0..1_000 {
+        let folder = format!(in rt.alloc(); "{}/glob_vectors_{number}", top.as_str())?;
+        if fs::create_dir(&rt, folder.as_str()).is_ok() {
+            return Ok(folder);
+        }
+    }
+    Err(io::Error::from(ErrorKind::AlreadyExists))
+}
+
+/// The fault of a pattern is the answer of both calls.
+#[test]
+fn a_faulty_pattern_is_refused(rt: HostRuntime) {
+    for (pattern, pos) in [("a/**b", 4), ("x/a[/]b", 1), ("abc[def", 3)] {
+        let refused = [
+            glob(rt, rt.alloc(), pattern).err(),
+            glob_with(rt, rt.alloc(), pattern, MatchOptions::new()).err(),
+        ];
+        let are_faults = refused.iter().all(|refusal| match refusal {
+            Some(PatternRefusal::Syntax(fault)) => fault.pos == pos,
+            _ => false,
+        });
+        check(&rt, are_faults, pattern);
+    }
+}
+
+/// A folder that is given and then removed before it is listed is an error, and the walk goes on to its end.
+#[test]
+fn a_folder_that_is_removed_is_an_error(rt: HostRuntime) -> Result<(), Fail> {
+    let folder = new_folder(rt)?;
+    let inner = format!(in rt.alloc(); "{folder}/e")?;
+    let pattern = format!(in rt.alloc(); "{}/**", Pattern::escape(rt.alloc(), folder.as_str())?)?;
+    for options in [None, Some(MatchOptions::new())] {
+        fs::create_dir(&rt, inner.as_str())?;
+        let mut paths = match options {
+            None => glob(rt, rt.alloc(), pattern.as_str())?,
+            Some(options) => glob_with(rt, rt.alloc(), pattern.as_str(), options)?,
+        };
+        let first = paths.next().expect(&rt, "an item")?;
+        assert_eq!(rt; first.as_str(), inner.as_str());
+        fs::remove_dir(&rt, inner.as_str())?;
+        let Some(Err(error)) = paths.next() else {
+            panic!(rt; "no error");
+        };
+        assert_eq!(rt; error.path().as_str(), inner.as_str());
+        let kind = error.error().kind();
+        let is_read = error.cause() == GlobCause::Read;
+        check(&rt, is_read && kind == ErrorKind::NotFound, "an error");
+        check(&rt, paths.next().is_none(), "the end");
+    }
+    fs::remove_dir(&rt, folder.as_str())?;
+    Ok(())
+}
