@@ -3,7 +3,7 @@ use Rattle.std.specs.Str.{chars, is_utf8}
 use lib.Utf8.{encode}
 use Rattle.glob_tree.specs.Paths.{join, child}
 use Rattle.glob_tree.specs.Content.{is_content, kind_at, children, resolve, look_result, list_result}
-use Rattle.glob_memory.specs.Memory.{add_refusal, current_refusal, content_with, with_current, directory_key, list_fault}
+use Rattle.glob_tree.specs.Memory.{add_refusal, current_refusal, content_with, with_current, directory_key, list_fault}
 use Rattle.glob_walk.specs.Listing.{listing, descent, enter, meet}
 use Rattle.glob_walk.specs.Components.{walk_fault}
 use Rattle.glob_walk.specs.Goal.{goal, is_plain, is_readable}

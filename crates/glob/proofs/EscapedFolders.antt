@@ -15,9 +15,9 @@ use Rattle.glob.specs.PathOptions.{path_options}
 use Rattle.glob_pattern.specs.declared.token.bracket.Entry.TheVariants.{Single}
 use Rattle.glob_pattern.specs.declared.token.Token.TheVariants.{Literal, AnySequence, Recursive, OneOf}
 use Rattle.glob_pattern.proofs.Places.{get_or-from_drop, length-at_drop, drop-after_piece, length-after_piece}
-use Rattle.glob_laws.proofs.ComponentLemmas.Fits.{fits, one_then, many_then, closed_then}
-use Rattle.glob_laws.proofs.ComponentLemmas.JoinedComponents.{is_match-units}
-use Rattle.glob_laws.proofs.MatchLemmas.Escaping.{escaped_token, escaped_text-writes, escaped_text-literal}
+use Rattle.glob_walk.proofs.ComponentLemmas.Fits.{fits, one_then, many_then, closed_then}
+use Rattle.glob_walk.proofs.ComponentLemmas.JoinedComponents.{is_match-units}
+use Rattle.glob_pattern.proofs.EscapingLemmas.Standing.{escaped_token, escaped_stands, stands-writes, stands-literal}
 use Rattle.glob_pattern.proofs.GrammarLemmas.Accepted.{reading_of-Ok}
 use Rattle.glob_pattern.proofs.GrammarLemmas.WrittenUnits.{UnitAt-plain}
 use Rattle.glob_pattern.proofs.MatchingLemmas.Deciding.{Decides-Matches}
@@ -79,7 +79,7 @@ units-written (c ∷ cs) whole f e h =
     let rest : Text = escaped_text cs ++ all_below in
     let first : drop f whole ≡ escaped_character c ++ rest = e ∙ append_assoc (escaped_character c) (escaped_text cs) all_below in (
       f + length (escaped_character c),
-      escaped_text-writes c whole rest f first,
+      stands-writes escaped_character escaped_token escaped_stands c whole rest f first,
       units-written cs whole (f + length (escaped_character c)) (drop-after_piece whole (escaped_character c) rest f first)
           (length-after_piece whole (escaped_character c) rest f first h),
     )
@@ -102,7 +102,7 @@ fits-name [] ts b text h = (text, b, refl, h)
 fits-name (x ∷ name) ts b [] h = absurd (false≢true (sym (fits-escaped x (map escaped_token name ++ ts) b []) ∙ h))
 fits-name (x ∷ name) ts b (c ∷ cs) h =
     let both = and_parts (takes path_options b c (escaped_token x)) _ (sym (fits-escaped x (map escaped_token name ++ ts) b (c ∷ cs)) ∙ h) in
-    let same : c ≡ x = same_character c x (sym ((escaped_text-literal path_options x).1 b c) ∙ both.0) in
+    let same : c ≡ x = same_character c x (sym ((stands-literal path_options _ _ x (escaped_stands x)).1 b c) ∙ both.0) in
     let (rest, after, is, others) = fits-name name ts (c == slash) cs both.1 in
     (rest, after, ap (λ y. y ∷ cs) same ∙ ap (λ ys. x ∷ ys) is, others)
 
@@ -111,7 +111,7 @@ fits-from_name : (name : Text) (ts : List Token) (b : Bool) (rest : Text) → ((
 fits-from_name [] ts b rest h = h b
 fits-from_name (x ∷ name) ts b rest h =
     fits-escaped x (map escaped_token name ++ ts) b (x ∷ name ++ rest)
-    ∙ and_from _ _ ((escaped_text-literal path_options x).1 b x ∙ is_same-itself x) (fits-from_name name ts (x == slash) rest h)
+    ∙ and_from _ _ ((stands-literal path_options _ _ x (escaped_stands x)).1 b x ∙ is_same-itself x) (fits-from_name name ts (x == slash) rest h)
 
 -- what `**/*` takes: any text
 either : (e m c : Bool) → (m || c) ≡ true → ((not e && true) && m || (e && m || c)) ≡ true

@@ -14,11 +14,11 @@ use Rattle.glob_pattern.specs.declared.options.MatchOptions.{MatchOptions}
 use Rattle.glob_walk.specs.declared.error.GlobError.{GlobError}
 use Rattle.glob_walk.specs.Goal.{goal, IsPlainWalk, ReachesGoal}
 use Rattle.glob_walk.specs.Listing.{listing}
-use Rattle.glob_laws.specs.Order.{IsOrderly}
+use Rattle.glob_walk.specs.Order.{IsOrderly}
 use Rattle.glob_walk.specs.Marks.{Item, Found, Unread, Mark, Give, items, cost, paths, Work}
-use Rattle.glob_laws.specs.WalkGoals.{Answers, item_of, given_items}
+use Rattle.glob_walk.specs.WalkGoals.{Answers, item_of, given_items}
 use Rattle.glob_walk.specs.Walks.{Gives, LimitAt, NoMemory, outcome, works, AreItems, Charges, StopsAt, Goes, IsFresh, Walking}
-use Rattle.glob_laws.proofs.GoalLemmas.Clauses.{reaches_goal, comes_in_order, IsBeginning-whole}
+use Rattle.glob_walk.proofs.GoalLemmas.Clauses.{reaches_goal, comes_in_order, IsBeginning-whole}
 
 -- the items of a walk that has no error among them
 abbrev pub found_items : List Text → List Item
@@ -176,13 +176,6 @@ module _ {X : Type 0} (asks : X → ℕ) (tells : X → Option Content) (first n
       → (ms : List Mark) → first.left ≡ Some ms → found_items found ≡ items ms
   FindsSoFar-whole answer none goes limit tree fresh c told ms is =
       FindsSoFar-end (subst (λ r. Goes asks tells now (option_map outcome r) new) none goes) c (ap tells fresh.tree ∙ told.0, told.1) ms is
-
-  -- and by a plain pattern they are its goal
-  pub FindsSoFar-goal : {A : Type 0} (answer : Option (Result (PathBuf A) (GlobError A))) → answer ≡ None → Goes asks tells now (option_map outcome answer) new → (limit : ℕ) (tree : X) → IsFresh tree limit first → (c : Content) → IsTold (tells tree) c
-      → (o : MatchOptions) (pattern : Text) → IsPlainWalk c o pattern → first.left ≡ Some (listing c o pattern)
-      → (path : Text) → Contains found path ↔ Contains (goal c o pattern) path
-  FindsSoFar-goal answer none goes limit tree fresh c told o pattern plain is =
-      goal-listed c o pattern plain found (FindsSoFar-whole answer none goes limit tree fresh c told (listing c o pattern) is)
 
   -- a directory that could not be listed is an item of the written listing
   pub FindsSoFar-unread : (path : Text) (kind : ErrorKind) → Goes asks tells now (Some (Gives (Unread path kind))) new → (c : Content) → IsTold (tells first.tree) c

@@ -8,4 +8,4 @@ pub mod KeptTexts
 mod WalkClauses
 pub use Rattle.glob_lines.proofs.CallerLemmas as LineLemmas
 pub use Rattle.glob_pattern.proofs.CallerLemmas as PatternLemmas
-pub use Rattle.glob_laws.proofs.CallerLemmas as WalkLemmas
+pub use Rattle.glob_walk.proofs.CallerLemmas as WalkLemmas

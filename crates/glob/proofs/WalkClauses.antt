@@ -7,13 +7,13 @@ use Rattle.glob_pattern.specs.declared.options.MatchOptions.{MatchOptions}
 use Rattle.glob_walk.specs.Marks.{Item, items, front, paths, IsBeginning}
 use Rattle.glob_walk.specs.Listing.{listing}
 use Rattle.glob_walk.specs.Goal.{is_readable, IsPlainWalk, ReachesGoal, GivesGoal}
-use Rattle.glob_laws.specs.Order.{IsOrderly}
+use Rattle.glob_walk.specs.Order.{IsOrderly}
 use Rattle.glob_walk.specs.Walks.{Gives, AreItems, IsWalk}
-use Rattle.glob_laws.specs.WalkGoals.{item_of, given_items}
+use Rattle.glob_walk.specs.WalkGoals.{item_of, given_items}
 use Rattle.glob_walk.specs.declared.error.GlobError.{GlobError}
 use Rattle.glob_walk.specs.declared.ending.End.{End}
 use Rattle.glob_walk.specs.declared.ending.End.TheVariants.{Done, Limit, Memory}
-use Rattle.glob_laws.proofs.GoalLemmas.Clauses.{IsBeginning-whole, IsBeginning-within, reaches_goal, gives_goal, comes_in_order}
+use Rattle.glob_walk.proofs.GoalLemmas.Clauses.{IsBeginning-whole, IsBeginning-within, reaches_goal, gives_goal, comes_in_order}
 
 -- the items of answers that say them
 given_items-is : {A : Type 0} (answers : List (Result (PathBuf A) (GlobError A))) (is : List Item) → AreItems answers is → given_items answers ≡ is

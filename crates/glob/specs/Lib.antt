@@ -17,19 +17,20 @@ pub use Rattle.glob_text.specs.Text
 pub use Rattle.glob_tree.specs.Answers
 pub use Rattle.glob_tree.specs.Content
 pub use Rattle.glob_tree.specs.Looks
-pub use Rattle.glob_memory.specs.Memory
+pub use Rattle.glob_tree.specs.Memory
 pub use Rattle.glob_tree.specs.Paths
+pub use Rattle.glob_walk.specs.Answers as WalkAnswers
 pub use Rattle.glob_walk.specs.Components
 pub use Rattle.glob_walk.specs.Driven
 pub use Rattle.glob_walk.specs.GlobCauses
 pub use Rattle.glob_walk.specs.GlobErrors
 pub use Rattle.glob_walk.specs.Goal
-pub use Rattle.glob_laws.specs.Laws as WalkLaws
+pub use Rattle.glob_walk.specs.Laws as WalkLaws
 pub use Rattle.glob_walk.specs.Listing
 pub use Rattle.glob_walk.specs.Machines
 pub use Rattle.glob_walk.specs.Marks
-pub use Rattle.glob_laws.specs.Order
+pub use Rattle.glob_walk.specs.Order
 pub use Rattle.glob_walk.specs.Questions
-pub use Rattle.glob_laws.specs.WalkGoals
+pub use Rattle.glob_walk.specs.WalkGoals
 pub use Rattle.glob_walk.specs.Walks
 pub use Rattle.glob_walk.specs.Words as WalkWords

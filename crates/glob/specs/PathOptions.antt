@@ -1,11 +1,8 @@
 -- How a pattern matches a path.
-use Rattle.std.specs.Prelude.{true, false}
+use Rattle.std.specs.Prelude.{true}
+use Rattle.glob.specs.Matching.Options.{new_options}
 use Rattle.glob.specs.Types.{MatchOptions}
 
 -- case-sensitive, with the separator rule
 abbrev pub path_options : MatchOptions
-path_options = record {
-  case_sensitive = true;
-  require_literal_separator = true;
-  require_literal_leading_dot = false;
-}
+path_options = record new_options { require_literal_separator = true }

@@ -32,11 +32,10 @@ mod walk;
 
 pub use disk_walk::{glob, glob_with};
 pub use glob_lines::{LineFault, Watch, filter_lines, filter_records};
-pub use glob_memory::{MemTree, TreeRefusal};
 pub use glob_pattern::{
     Judge, MatchOptions, Pattern, PatternError, PatternRefusal, Shape, run_positions,
 };
-pub use glob_tree::{Asks, Disk, Entry, ListError, Look, Name, Tree};
-pub use glob_walk::{End, GlobCause, GlobError, GlobResult, Step, WalkMachine, is_plain};
+pub use glob_tree::{Asks, Disk, Entry, ListError, Look, MemTree, Name, Tree, TreeRefusal};
+pub use glob_walk::{Answer, End, GlobCause, GlobError, GlobResult, Step, WalkMachine, is_plain};
 pub use paths::{Paths, glob_in};
 pub use walk::{Walk, walk_in};

@@ -5,7 +5,7 @@ ghost use Rattle.glob_tree.specs.Answers.{IsTold};
 ghost use Rattle.glob_walk.specs.Components.{walk_fault};
 ghost use Rattle.glob_walk.specs.Listing.{listing};
 ghost use Rattle.glob.specs.Private.Walking.{EndsAs, refusal_end};
-ghost use Rattle.glob_laws.specs.WalkGoals.{FindsGoal, FindsExactly, FindsInOrder};
+ghost use Rattle.glob_walk.specs.WalkGoals.{FindsGoal, FindsExactly, FindsInOrder};
 ghost use Rattle.glob_walk.specs.Walks.{outcome, HasNoRefusal, IsFresh, IsWalk, IsWalkAsked, RefusesWith, Walking};
 
 use crate::paths::{Paths, glob_in};

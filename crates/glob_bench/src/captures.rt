@@ -24,7 +24,7 @@ pub fn compare_captures(rt: &HostRuntime, words: &[&str]) -> io::Result<()> {
     let rounds = number_of(rounds)?;
     let pattern = read_pattern(rt, pattern)?;
     let text = fs::read_to_string(rt, file)?;
-    compare_lines(rt, &pattern, options_of(letters), text.as_str(), rounds)
+    compare_lines(rt, &pattern, options_of(letters)?, text.as_str(), rounds)
 }
 
 /// Asks a pattern about the lines of a text, and about those that it matches, and writes the count and the times.

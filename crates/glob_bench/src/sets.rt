@@ -33,7 +33,7 @@ fn question_of(word: &str) -> io::Result<Question> {
 /// The set of the patterns that are the lines of a text.
 fn set_of(alloc: Global, text: &str, letters: &str) -> io::Result<PatternSet> {
     let lines = lines_of(alloc, text)?;
-    PatternSet::from_texts(alloc, lines.as_slice(), options_of(letters)).map_err(|_| unfit())
+    PatternSet::from_texts(alloc, lines.as_slice(), options_of(letters)?).map_err(|_| unfit())
 }
 
 /// The set of the patterns that are the lines of a file.

@@ -17,7 +17,7 @@ pub fn match_file(rt: &HostRuntime, words: &[&str]) -> io::Result<()> {
     let times = number_of(times)?;
     let pattern = read_pattern(rt, pattern)?;
     let text = fs::read_to_string(rt, file)?;
-    match_lines(rt, &pattern, options_of(letters), text.as_str(), times)
+    match_lines(rt, &pattern, options_of(letters)?, text.as_str(), times)
 }
 
 /// Matches the lines of a text over and over.

@@ -10,13 +10,9 @@ pub fn unfit() -> io::Error {
     io::Error::other("not what a command takes: see the head of src/main.rt")
 }
 
-/// The options that the letters of a word stand for.
-pub fn options_of(letters: &str) -> MatchOptions {
-    MatchOptions {
-        case_sensitive: !letters.contains('i'),
-        require_literal_separator: letters.contains('s'),
-        require_literal_leading_dot: letters.contains('d'),
-    }
+/// The options that the letters of a word stand for: those of `MatchOptions::from_letters`, or `-` for none.
+pub fn options_of(letters: &str) -> io::Result<MatchOptions> {
+    MatchOptions::from_letters(letters.trim_start_matches('-')).ok_or_else(unfit)
 }
 
 /// The number that a word stands for.

@@ -1,7 +1,6 @@
 -- What the calls answer, as numbers.
-use Rattle.std.specs.Prelude.{ℕ, ◌==◌, if◌then◌else◌, List, bit_and, bytes_eq}
+use Rattle.std.specs.Prelude.{ℕ, ◌==◌, if◌then◌else◌, List, bytes_eq}
 use Rattle.glob_pattern.specs.Grammar.Faults.{Fault, wildcards_message, recursive_message, range_message}
-use Rattle.glob_pattern.specs.declared.options.MatchOptions.{MatchOptions}
 
 -- the call did what it is for
 abbrev pub done : ℕ
@@ -62,11 +61,3 @@ number_of m = if bytes_eq m wildcards_message then 0 else if bytes_eq m recursiv
 -- a fault by the number of its message
 abbrev pub fault_of : ℕ → ℕ → Fault
 fault_of place message = record { place = place; message = message_of message }
-
--- the options that three flags say: 1 case-insensitive, 2 the separator rule, 4 the dot rule
-abbrev pub options_of : ℕ → MatchOptions
-options_of flags = record {
-  case_sensitive = bit_and flags 1 == 0;
-  require_literal_separator = bit_and flags 2 == 2;
-  require_literal_leading_dot = bit_and flags 4 == 4;
-}

@@ -2,7 +2,7 @@ ghost use Rattle.std.specs.Prelude.{◌≡◌, ◌≤◌, ℕ, List, IsUtf8, IsS
 ghost use Rattle.std.specs.declared.option.Option.TheVariants.{None, Some};
 ghost use Rattle.glob_pattern.specs.Grammar.Units.{IsAccepted};
 ghost use Rattle.glob_pattern.specs.Grammar.Faults.{IsFault};
-ghost use Rattle.glob_c.specs.Answers.{done, syntax_fault, not_utf8, in_use, fault_of, options_of};
+ghost use Rattle.glob_c.specs.Answers.{done, syntax_fault, not_utf8, in_use, fault_of};
 ghost use Rattle.glob_c.specs.Matches.{Answers, IsPromised};
 ghost use Rattle.glob_c.specs.Slots.{PatternRow};
 ghost use base.Fml.{Lft, Share, fsep, flft};
@@ -103,7 +103,7 @@ fn answer_of(pattern: &Pattern<Global>, text: &[u8], flags: u32) -> u32
     } else {
         unsafe { str::from_utf8_unchecked(text) }
     };
-    match pattern.matches_with(text, options_of(flags)) {
+    match pattern.matches_with(text, MatchOptions::from_bits(flags)) {
         Ok(true) => YES,
         Ok(false) => NO,
         Err(_) => OUT_OF_MEMORY,
@@ -116,15 +116,4 @@ pub extern "C" fn cadmiumdove_pattern_free(alloc: Global, handle: &mut Handle)
     ensures empty { handle.new.slot.text ≡ None }
 {
     drop(handle.take(alloc));
-}
-
-/// The options that the flags say.
-pub(crate) fn options_of(flags: u32) -> MatchOptions
-    ensures { result ≡ options_of flags }
-{
-    MatchOptions {
-        case_sensitive: flags & 1 == 0,
-        require_literal_separator: flags & 2 == 2,
-        require_literal_leading_dot: flags & 4 == 4,
-    }
 }

@@ -3,6 +3,7 @@ ghost use Rattle.std.specs.Prelude.{◌≡◌, ◌≤◌, ◌<◌, ◌++◌, ◌
 ghost use Rattle.std.specs.IoError.{os_error_kind};
 ghost use Rattle.std.specs.declared.option.Option.TheVariants.{None, Some};
 ghost use Rattle.glob_pattern.specs.Grammar.Faults.{Fault as TextFault};
+ghost use Rattle.glob_pattern.specs.Matching.Options.{options_of_bits};
 ghost use Rattle.glob_tree.specs.Content.{Content, DirEntry};
 ghost use Rattle.glob_text.specs.Text.{Text};
 ghost use Rattle.glob_walk.specs.Machines.{AsksList, AsksLook, Says};
@@ -12,18 +13,16 @@ ghost use Rattle.glob_walk.specs.Components.{walk_fault};
 ghost use Rattle.glob_walk.specs.Listing.{listing};
 ghost use Rattle.glob_walk.specs.Marks.{Found, Item, Mark};
 ghost use Rattle.glob_walk.specs.Driven.{HasGiven};
-ghost use Rattle.glob_c.specs.Answers.{done, empty, in_use, not_utf8, number_of, options_of, syntax_fault, too_short};
+ghost use Rattle.glob_c.specs.Answers.{done, empty, in_use, not_utf8, number_of, syntax_fault, too_short};
 ghost use Rattle.glob_c.specs.Sessions.{Replies, Sitting, entries_so_far, error_path, look_of, looked_at};
 ghost use Rattle.glob_c.specs.WalkSlots.{HasEntries, HasLimit, HasListed, HasUnread, IsAdvanced, IsBegun, IsCounted};
 
 use crate::escape::TOO_SHORT;
 use crate::fault::{self, Fault};
-use crate::pattern::{
-    DONE, IN_USE, NOT_UTF8, OUT_OF_MEMORY, SYNTAX_FAULT, UNKNOWN_FLAG, options_of,
-};
+use crate::pattern::{DONE, IN_USE, NOT_UTF8, OUT_OF_MEMORY, SYNTAX_FAULT, UNKNOWN_FLAG};
 use crate::session::Session;
 use crate::walk_handle::WalkHandle;
-use glob_pattern::{PatternError, PatternRefusal};
+use glob_pattern::{MatchOptions, PatternError, PatternRefusal};
 use glob_tree::Look;
 use glob_walk::WalkMachine;
 use std::alloc::Global;
@@ -51,7 +50,7 @@ pub extern "C" fn cadmiumdove_walk_new(
     ensures accepted { result ≡ done → walk_fault pattern.now ≡ None }
     ensures limit { result ≡ done → HasLimit limit handle.new.slot.walk }
     ensures begun { result ≡ done → (c : Content)
-        → IsBegun (listing c (options_of flags) pattern.now) c handle.new.slot.walk }
+        → IsBegun (listing c (options_of_bits flags) pattern.now) c handle.new.slot.walk }
     ensures syntax { result ≡ syntax_fault → (f : TextFault) → walk_fault pattern.now ≡ Some f
         → (fault.new.place ≡ f.place) × (fault.new.message ≡ number_of f.message) }
     ensures faulty { result ≡ syntax_fault → IsSome (walk_fault pattern.now) }
@@ -68,7 +67,7 @@ pub extern "C" fn cadmiumdove_walk_new(
     let Ok(text) = str::from_utf8(pattern) else {
         return NOT_UTF8;
     };
-    match WalkMachine::new(alloc, text, options_of(flags), limit) {
+    match WalkMachine::new(alloc, text, MatchOptions::from_bits(flags), limit) {
         Ok(machine) => match Box::new(alloc, Session::new(machine)) {
             Ok(session) => {
                 handle.fill(session);

@@ -1,6 +1,5 @@
 pub mod Aligned
 pub mod Chosen
-pub mod FirstPaths
 pub mod NameSplits
 pub mod OneFile
 pub mod Refusals

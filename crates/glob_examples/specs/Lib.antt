@@ -1,5 +1,4 @@
 pub mod Copying
-pub mod FirstPaths
 pub mod NameTable
 pub mod Names
 pub mod OneFile

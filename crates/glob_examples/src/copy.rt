@@ -162,8 +162,7 @@ const fn path_options() -> MatchOptions
     ensures { result ≡ path_options }
 {
     MatchOptions {
-        case_sensitive: true,
         require_literal_separator: true,
-        require_literal_leading_dot: false,
+        ..MatchOptions::new()
     }
 }

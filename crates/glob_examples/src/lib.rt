@@ -3,9 +3,9 @@
 
 pub mod copy;
 pub mod faults;
-pub mod first_paths;
 pub mod literals;
 pub mod names;
 pub mod one_file;
+pub mod programs;
 pub mod sources;
 pub mod texts;

@@ -1,6 +1,7 @@
 -- What the calls answer, as numbers.
-use Rattle.std.specs.Prelude.{◌≡◌, ℕ, ◌==◌, List, [], ◌∷◌, bit_and, chars}
+use Rattle.std.specs.Prelude.{◌≡◌, ℕ, List, [], ◌∷◌, chars}
 use Rattle.glob_pattern.specs.Computing.Tokens.{tokens_of}
+use Rattle.glob_pattern.specs.Matching.Options.{options_of_bits}
 use Rattle.glob_pattern.specs.Matching.Texts.{Matches}
 use Rattle.glob_captures.specs.Captures.{AreCaptures}
 use Rattle.glob_captures.specs.Reaching.{IsReached}
@@ -19,18 +20,10 @@ yes = 1
 abbrev pub fault : ℕ
 fault = 2
 
--- the options that three flags say: 1 case-insensitive, 2 the separator rule, 4 the dot rule
-abbrev pub options_of : ℕ → MatchOptions
-options_of flags = record {
-  case_sensitive = bit_and flags 1 == 0;
-  require_literal_separator = bit_and flags 2 == 2;
-  require_literal_leading_dot = bit_and flags 4 == 4;
-}
-
 -- the answers yes and no are those of the definition of a match
 pub record Decides (pattern text : List ℕ) (flags answer : ℕ) : Type 0 where
-  pub yes : answer ≡ yes → Matches (options_of flags) (chars pattern) (chars text)
-  pub no : answer ≡ no → ¬ (Matches (options_of flags) (chars pattern) (chars text))
+  pub yes : answer ≡ yes → Matches (options_of_bits flags) (chars pattern) (chars text)
+  pub no : answer ≡ no → ¬ (Matches (options_of_bits flags) (chars pattern) (chars text))
 
 -- where each piece starts and ends
 abbrev pub numbers_of : List Piece → List ℕ

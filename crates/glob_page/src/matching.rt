@@ -1,9 +1,10 @@
 ghost use Rattle.std.specs.Prelude.{◌≡◌, ◌↔◌, ◌∷◌, IsTrue, IfOk, true, false, chars, take};
 ghost use Rattle.glob_pattern.specs.Computing.Tokens.{tokens_of};
+ghost use Rattle.glob_pattern.specs.Matching.Options.{options_of_bits};
 ghost use Rattle.glob_pattern.specs.Matching.Texts.{Matches};
 ghost use Rattle.glob_captures.specs.Captures.{AreCaptures};
 ghost use Rattle.glob_captures.specs.Reaching.{IsReached};
-ghost use Rattle.glob_page.specs.Answers.{ArePieces, Decides, IsStop, no, numbers_of, options_of, yes};
+ghost use Rattle.glob_page.specs.Answers.{ArePieces, Decides, IsStop, no, numbers_of, yes};
 
 use crate::buffer::{FAULT, NO, NOT_UTF8, OUT_OF_MEMORY, TOO_LARGE, YES, write_numbers};
 use glob_captures::{CapturesError, Piece, Reached, captures, reach};
@@ -26,9 +27,9 @@ pub extern "C" fn page_match(
 ) -> u32
     ensures answer { Decides pattern.now text.now flags result }
     ensures pieces { result ≡ yes
-        → ArePieces (options_of flags) pattern.now text.now (take count.new out.new) }
+        → ArePieces (options_of_bits flags) pattern.now text.now (take count.new out.new) }
     ensures stop { result ≡ no
-        → IsStop (options_of flags) pattern.now text.now (take count.new out.new) }
+        → IsStop (options_of_bits flags) pattern.now text.now (take count.new out.new) }
 {
     let (Ok(pattern), Ok(text)) = (str::from_utf8(pattern), str::from_utf8(text)) else {
         return NOT_UTF8;
@@ -38,7 +39,7 @@ pub extern "C" fn page_match(
         Err(PatternRefusal::Syntax(_)) => return FAULT,
         Err(PatternRefusal::Memory) => return OUT_OF_MEMORY,
     };
-    match decided(alloc, &pattern, text, options_of(flags)) {
+    match decided(alloc, &pattern, text, MatchOptions::from_bits(flags)) {
         Ok((matches, numbers)) => {
             if !write_numbers(numbers.as_slice(), out, count) {
                 TOO_LARGE
@@ -97,15 +98,4 @@ fn stop_numbers(alloc: Global, reached: &Reached<Global>) -> Result<Vec<usize, G
     numbers.push(reached.place)?;
     numbers.extend_from_slice(reached.waiting.as_slice())?;
     Ok(numbers)
-}
-
-/// The options that the flags say.
-pub(crate) fn options_of(flags: u32) -> MatchOptions
-    ensures { result ≡ options_of flags }
-{
-    MatchOptions {
-        case_sensitive: flags & 1 == 0,
-        require_literal_separator: flags & 2 == 2,
-        require_literal_leading_dot: flags & 4 == 4,
-    }
 }

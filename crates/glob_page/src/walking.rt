@@ -3,12 +3,10 @@ ghost use Rattle.glob_walk.specs.Components.{walk_fault};
 ghost use Rattle.glob_page.specs.Answers.{fault, yes};
 
 use crate::buffer::{FAULT, NO_PATH, NOT_UTF8, OUT_OF_MEMORY, TOO_LARGE, YES, write};
-use crate::matching::options_of;
 use crate::story::Story;
-use glob_memory::{MemTree, TreeRefusal};
-use glob_pattern::{PatternError, PatternRefusal};
-use glob_tree::{Entry, ListError, Look, Tree};
-use glob_walk::{GlobResult, Step, WalkMachine};
+use glob_pattern::{MatchOptions, PatternError, PatternRefusal};
+use glob_tree::{Entry, Look, MemTree, TreeRefusal};
+use glob_walk::{Answer, Step, WalkMachine};
 use std::alloc::{AllocError, Global};
 
 /// Walks after the pattern over a tree of these paths, one a line, where that of a directory ends in `/` and each follows its
@@ -44,7 +42,12 @@ pub extern "C" fn page_walk(
             return NO_PATH;
         }
     };
-    let mut machine = match WalkMachine::new(alloc, pattern, options_of(flags), limit) {
+    let mut machine = match WalkMachine::new(
+        alloc,
+        pattern,
+        MatchOptions::from_bits(flags),
+        limit,
+    ) {
         Ok(machine) => machine,
         Err(PatternRefusal::Syntax(error)) => {
             let PatternError { pos, msg } = error;
@@ -58,7 +61,7 @@ pub extern "C" fn page_walk(
         Err(PatternRefusal::Memory) => return OUT_OF_MEMORY,
     };
     let mut story = Story::new(alloc);
-    if tell(&mut machine, &mut tree, &mut story).is_err() {
+    if write_walk(&mut machine, &mut tree, &mut story).is_err() {
         return OUT_OF_MEMORY;
     }
     if write(story.as_bytes(), out, count) {
@@ -99,81 +102,62 @@ fn tree_of(alloc: Global, paths: &str) -> Result<MemTree<Global>, Refusal> {
     Ok(tree)
 }
 
-/// Drives a walk that has asked nothing, with the answers of the tree, and writes each step.
-fn tell(
+/// Drives a walk that has asked nothing, with the answers of the tree, and writes each of them and each step.
+fn write_walk(
     machine: &mut WalkMachine<Global>,
     tree: &mut MemTree<Global>,
     story: &mut Story,
-) -> Result<(), AllocError>
-    requires { machine.old.asked ≡ None }
-{
-    let mut step = machine.next();
+) -> Result<(), AllocError> {
     for _ in 0..u64::MAX {
-        step = match step {
-            Step::Look => {
-                let seen = tree.look(machine.path());
-                tell_look(machine.path(), &seen, machine.spent(), story)?;
-                machine.looked(seen)
-            }
-            Step::List => {
-                let listed = tree.list(machine.path());
-                tell_list("list", machine.path(), &listed, machine.spent(), story)?;
-                machine.listed(listed)
-            }
-            Step::ListNames => {
-                let listed = tree.list_names(machine.path());
-                tell_list("names", machine.path(), &listed, machine.spent(), story)?;
-                machine.listed(listed)
-            }
-            Step::Item(item) => {
-                tell_item(&item, machine.spent(), story)?;
-                machine.next()
-            }
-            Step::Done => return story.line("done", machine.spent(), ""),
-        };
+        let answer = machine.ask(tree);
+        write_answer(&answer, machine.spent(), story)?;
+        let step = machine.resume(answer);
+        write_step(&step, machine, story)?;
+        if let Step::Done = step {
+            break;
+        }
     }
     Ok(())
 }
 
-/// Writes what a path leads to.
-fn tell_look(
-    path: &str,
-    seen: &Result<Look, AllocError>,
-    spent: u64,
-    story: &mut Story,
-) -> Result<(), AllocError> {
-    story.line("look", spent, path)?;
-    let word = match seen {
-        Ok(Look::Dir) => "dir",
-        Ok(Look::Other) => "other",
-        Ok(Look::Missing) | Err(_) => "missing",
-    };
-    story.line(word, spent, "")
+/// Writes what a path leads to, or the entries of a directory.
+fn write_answer(answer: &Answer<Global>, spent: u64, story: &mut Story) -> Result<(), AllocError> {
+    match answer {
+        Answer::Nothing => Ok(()),
+        Answer::Look(Ok(Look::Dir)) => story.line("dir", spent, ""),
+        Answer::Look(Ok(Look::Other)) => story.line("other", spent, ""),
+        Answer::Look(Ok(Look::Missing) | Err(_)) => story.line("missing", spent, ""),
+        Answer::List(Ok(entries)) => write_entries(entries.as_slice(), spent, story),
+        Answer::List(Err(_)) => story.line("unread", spent, ""),
+    }
 }
 
 /// Writes the entries of a directory.
-fn tell_list(
-    word: &str,
-    path: &str,
-    listed: &Result<Vec<Entry<Global>, Global>, ListError>,
+fn write_entries(
+    entries: &[Entry<Global>],
     spent: u64,
     story: &mut Story,
 ) -> Result<(), AllocError> {
-    story.line(word, spent, path)?;
-    let Ok(entries) = listed else {
-        return story.line("unread", spent, "");
-    };
-    for entry in entries.as_slice() {
+    for entry in entries {
         let word = if entry.is_dir { "in-dir" } else { "in-other" };
         story.line(word, spent, entry.name.as_str())?;
     }
     Ok(())
 }
 
-/// Writes an item.
-fn tell_item(item: &GlobResult<Global>, spent: u64, story: &mut Story) -> Result<(), AllocError> {
-    match item {
-        Ok(path) => story.line("item", spent, path.as_str()),
-        Err(error) => story.line("error", spent, error.path().as_str()),
-    }
+/// Writes a question with its path, an item, or the end.
+fn write_step(
+    step: &Step<Global>,
+    machine: &WalkMachine<Global>,
+    story: &mut Story,
+) -> Result<(), AllocError> {
+    let (word, text) = match step {
+        Step::Look => ("look", machine.path()),
+        Step::List => ("list", machine.path()),
+        Step::ListNames => ("names", machine.path()),
+        Step::Item(Ok(path)) => ("item", path.as_str()),
+        Step::Item(Err(error)) => ("error", error.path().as_str()),
+        Step::Done => ("done", ""),
+    };
+    story.line(word, machine.spent(), text)
 }

@@ -1,6 +1,6 @@
 use Rattle.glob_walk.specs.Listing.{listing}
-use Rattle.glob_laws.specs.WalkGoals.{WalksPlainly, FindsGoal, FindsExactly, FindsInOrder}
-use Rattle.glob_laws.proofs.GoalLemmas.Clauses.{plain_walk}
+use Rattle.glob_walk.specs.WalkGoals.{WalksPlainly, FindsGoal, FindsExactly, FindsInOrder}
+use Rattle.glob_walk.proofs.GoalLemmas.Clauses.{plain_walk}
 use Rattle.glob.proofs.WalkClauses.{walk_reaches_goal, walk_gives_goal, walk_is_orderly}
 use Rattle.glob.proofs.Beginning.{if_ok, if_err, of_ok, of_err, begun_within, begun_asked, begun_told, begun_walk}
 use Rattle.glob.proofs.walk.walk_in.Goals as goal
