@@ -1,13 +1,14 @@
 """Comments without what they say of memory."""
 import re
+from textwrap import wrap
 
 from .contracts import without_contracts
 from .memory import without_allocators, without_failures
 from .scan import signature
 
-# What is said of memory, of asks that contracts count, and of crates that Rust's users do not have.
+# What is said of memory, of asks that contracts count, and of what Rust's users do not have.
 SAID = re.compile(r"\b(alloc|[Aa]llocat\w*|AllocError|Memory|OutOfMemory|[Ff]ails only|succeeds)\b"
-    r"|\b(out of|no|their|takes) memory|the crate `glob|its `asks`")
+    r"|\b(out of|no|their|takes) memory|the crate `glob|its `asks`|\[`MemTree`\]|a tree in memory|A call that fails\b")
 # What is said of the error of a function.
 ERROR = re.compile(r"(The|Its) error (is|comes)\b|, (with|and) its errors?\b")
 
@@ -19,7 +20,7 @@ def without_memory(sentence, fails):
         sentence = "" if ERROR.match(sentence) else ERROR.sub("", sentence)
     if not SAID.search(sentence):
         return sentence
-    clauses = [clause for clause in re.split(r"(?<=;) ", sentence)]
+    clauses = re.split(r"(?<=;) ", sentence)
     kept = [clause for clause in clauses if not SAID.search(clause)]
     if not kept:  # what comes before the first that speaks of it
         clauses = re.split(r"(?<=[,:]) (?=(?:or|and|but|where|that)\b)", clauses[0])
@@ -32,18 +33,13 @@ def prose(lines, mark, fails):
     text = " ".join(line.strip()[len(mark):].strip() for line in lines)
     if text.startswith(("Contracts see ", "- `tells` ", "- `asks` ")):
         return []
-    sentences = re.split(r"(?<=[.:]) (?=[A-Z`\[])", text)
+    sentences = re.split(r"(?<=[.:]) (?=[A-Z`\[])(?!Then )", text)
     left = " ".join(filter(None, (without_memory(sentence, fails) for sentence in sentences)))
-    if left == text:
+    if left == text and max(map(len, lines)) <= 120:
         return lines
     indent = lines[0][:len(lines[0]) - len(lines[0].lstrip())] + mark + " "
-    out, line = [], indent
-    indent += "  " if text.startswith("- ") else ""
-    for word in left.split(" ") if left else []:
-        if len(line) + len(word) > 120 and line != indent:
-            out, line = out + [line.rstrip()], indent
-        line += word + " "
-    return out + ([line.rstrip()] if left else [])
+    how = {"initial_indent": indent, "subsequent_indent": indent + "  " * text.startswith("- ")}
+    return wrap(left, 120, break_long_words=False, break_on_hyphens=False, **how)
 
 
 def fails_below(lines, at):
@@ -51,20 +47,17 @@ def fails_below(lines, at):
     while at < len(lines) and re.match(r"\s*(//|#\[)", lines[at]):
         at += 1
     below = "\n".join(lines[at:at + 12])
-    if not re.match(r"\s*(pub(\(\w+\))? )?fn ", below):
-        return True
-    return "Result<" in signature(below, 0)
+    return "Result<" in signature(below, 0) or not re.match(r"\s*(pub(\(\w+\))? )?fn ", below)
 
 
 def comments(text):
     """The text, whose comments say nothing of memory."""
     lines = text.split("\n")
-    out, block, mark, fails, fence = [], [], "", True, False
+    out, block, mark, fails = [], [], "", True
     for at, line in enumerate(lines + [""]):
         found = re.match(r"\s*(///|//!|//)(?: (.*))?$", line)
         words = found[2] or "" if found else ""
-        fence = fence != words.startswith("```")
-        plain = bool(words) and not fence and not re.match(r"[|#]|- |```|\w+:$", words)
+        plain = bool(words) and not re.match(r"[|#]|- |```|\w+:$", words)
         if block and (not plain or found[1] != mark):
             out, block = out + prose(block, mark, fails), []
         if plain or words.startswith("- "):

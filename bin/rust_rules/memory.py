@@ -1,25 +1,25 @@
 """Without what Rust's std has no failures for: allocators, AllocError, and the variants `Memory` of other errors."""
 import re
 
-from .scan import closing, first_at_depth_0, mask, opening, owner, signature, stop
+from .scan import closing, first_at_depth_0, mask, owner, signature, stop
 
 # What allocates in std: Rattle's returns a `Result`.
-ALLOCATES = set("append clone extend extend_from_slice from_slice from_str push push_str vec! with_capacity".split())
+ALLOCATES = {"append", "clone", "extend", "extend_from_slice", "format!", "from_slice", "from_str", "push", "push_str",
+    "to_lowercase", "vec!", "with_capacity"}
 
 
 def without_allocators(text):
     """Without parameters, type arguments, arguments, fields and bounds that are allocators."""
     text = re.sub(r"(?m)^( *///.*\n)*^ *(pub )?alloc: \w+,\n", lambda field: "" if field[2] else field[0], text)
-    text = re.sub(r"\b[AB]: Allocator( \+ Copy)?( = Global)?(, |(?=>))|\b[AB] = Global(, |(?=>))", "", text)
+    text = re.sub(r"\b[AB](: Allocator( \+ Copy)?( = Global)?| = Global)(, |(?=>))|<Alloc = [AB]>", "", text)
     text = re.sub(r"\balloc: (A|B|T::Alloc)(,\s*|(?=\)))", "", text)
     for _ in range(4):
         text = re.sub(r"(, |<)(A|B|T::Alloc|Self::Alloc)>", lambda part: ">" if part[1] == ", " else "", text)
-        text = re.sub(r"<(A|B|T::Alloc|Self::Alloc), ", "<", text)
     text = re.sub(r",? ?<>", "", text).replace(", >", ">")
     text = re.sub(r"(?m)^( *///.*\n)* *type Alloc\b.*;\n", "", text)
     text = re.sub(r"(?m)^ *(let alloc = .*;|alloc,)\n", "", text)
     text = re.sub(r"(?<=\()(\s*)\*?(\w+\.)*(alloc|allocator\(\))(, ?|(?=\)))", r"\1", text)
-    return text.replace("vec![in alloc; ", "vec![")
+    return re.sub(r"(\bvec!\[|\bformat!\()in alloc; ", r"\1", text)
 
 
 class Fallible:
@@ -45,7 +45,7 @@ class Fallible:
             name = re.search(r"\w+$", masked[:end])
             start = max(masked.rfind("fn ", 0, end), 0)
             return bool(name and re.search(rf"\b{name[0]}: Result<[^)]*?AllocError>", signature(text, start)))
-        found = re.search(r"(\.?)((?:\w+::)*)(\w+!?)$", masked[:opening(masked, end - 1)])
+        found = re.search(r"(\.?)((?:\w+::)*)(\w+!?)$", masked[:closing(masked, end - 1)])
         if not found:
             return False
         kind = found[2].split("::")[-2] if found[2] else None
@@ -61,7 +61,9 @@ class Fallible:
 
 
 def without_failures(text, fallible):
-    """Without what hands on a failed allocation."""
+    """Without what hands on a failed allocation, as `write!` to a text does."""
+    text = re.sub(r'\bwriteln!\((?!f\b)(\w+), "(.*)"\)', r'write!(\1, "\2\\n")', text)
+    text = re.sub(r'\bwrite!\((?!f\b)(\w+), (".*")\)', r"\1.push_str(&format!(\2))", text)
     text = without_let_else(text, fallible)
     text = without_arms(text, fallible)
     for at in reversed([found.start() for found in re.finditer(r"(?<=[)\]])\?", mask(text))]):
@@ -155,10 +157,10 @@ def with_plain_answers(text):
         for answer in reversed(list(re.finditer(r"\bOk\(", mask(text)[start:closing(mask(text), start)]))):
             place = start + answer.end() - 1
             close = closing(mask(text), place)
-            if re.match(r"\s*(=>|if\b|\|)", text[close + 1:]):
+            back = place - 2
+            if re.match(r"\s*(=>|if\b|\|)", text[close + 1:]) or text[:back].endswith("let "):  # a pattern
                 continue
             value = text[place + 1:close]
-            back = place - 2
             if value == "()":
                 value = "{}" if text[:back].endswith("=> ") else ""
                 back -= text[:back].endswith("return ")

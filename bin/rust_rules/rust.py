@@ -7,7 +7,9 @@ from .scan import closing, mask, owner
 TRAITS = {"clone": "Clone", "default": "Default", "from_str": "std::str::FromStr"}
 # What Rust says otherwise, by a pattern each.
 REWRITES = [
-    (r"\bfmt<W: fmt::Write>\(&self, f: &mut fmt::Formatter<W>\)", "fmt(&self, f: &mut fmt::Formatter<'_>)"),
+    (r"\b(fn \w+)<W: fmt::Write>\(", r"\1("),
+    (r"\bfmt::Formatter<W>", "fmt::Formatter<'_>"),
+    (r"\bf\.write_char\(", "fmt::Write::write_char(f, "),
     (r"\bf\.write_str\(self\.as_str\(\)\)", "f.pad(self.as_str())"),  # Rust's obeys width and precision
     (r'\.field\("text", (&self\.as_str\(\))\)\s*\.finish\(\)', r'.field("original", \1).finish_non_exhaustive()'),
     (r"\bstd::simd::prelude::\*", "crate::lanes::u8x16"),
@@ -20,6 +22,16 @@ REWRITES = [
     (r"'(sets|kept): ", ""),  # labels that proofs name
     (r"const (\w+): &'static str", r"const \1: &str"),
     (r"\bis refused with `Syntax`: ", "is refused: "),
+    (r"\bAfter the last two only\b", "After that only"),
+    (r" else \{\s*\}\n", "\n"),
+    (r"(?<=\{\n)    pub is_(\w+): bool,", r"    /// Whether it is a \1.\n    pub is_\1: bool,"),
+    # words of programs
+    (r": match has -v, find -x\b", ""),
+    (r"\bfind and match expand\b", "PatternSet::from_braces expands"),
+    (r"\bfind and match take\b", "A PatternSet takes"),
+    (r"(?<=[ `])-i\b", "case_sensitive: false"),
+    (r"(?<=[ `])-s\b", "require_literal_separator"),
+    (r"(?<=[ `])-d\b", "require_literal_leading_dot"),
 ]
 
 
@@ -45,15 +57,12 @@ def without_unused(text, gone, traits):
     """Without what is gone, or never named, in `use` lines, and without modules that are gone. Traits are imported for
     their methods."""
     code = re.sub(r"(?m)^(pub )?use [^;]*;", "", mask(text))
-    seen = set()
 
     def names_in(public, front, names):
-        kept = [name.strip() for name in names.split(",") if name.strip()]
-        kept = [name for name in dict.fromkeys(kept) if name not in gone and (front, name) not in seen]
+        kept = [name for name in dict.fromkeys(re.findall(r"[^\s,]+", names)) if name not in gone]
         if not public:
-            kept = [name for name in kept if name in traits or name == "*"
+            kept = [name for name in kept if name in traits or name == "*" or f"[`{name}`]" in text
                     or re.search(rf"\b{front.split('::')[-2] if name == 'self' else name}\b", code)]
-        seen.update((front, name) for name in kept)
         if not kept or front.split("::")[0] in gone:
             return ""
         if kept == ["self"]:

@@ -15,23 +15,13 @@ def mask(text):
 
 
 def closing(masked, at):
-    """The place of the bracket that closes the one at a place."""
-    level = 0
-    for place in range(at, len(masked)):
+    """The place of the bracket that closes the one at a place, or that the one there closes."""
+    level, places = 0, range(at, len(masked)) if masked[at] in "([{" else range(at, -1, -1)
+    for place in places:
         level += (masked[place] in "([{") - (masked[place] in ")]}")
         if level == 0:
             return place
-    stop("brackets", masked[at:at + 60])
-
-
-def opening(masked, at):
-    """The place of the bracket that the one at a place closes."""
-    level = 0
-    for place in range(at, -1, -1):
-        level += (masked[place] in ")]}") - (masked[place] in "([{")
-        if level == 0:
-            return place
-    stop("brackets", masked[at - 60:at + 1])
+    stop("brackets", masked[at - 60:at + 60])
 
 
 def first_at_depth_0(masked, at, word):
@@ -44,12 +34,11 @@ def first_at_depth_0(masked, at, word):
 def end_of(lines, at, ends):
     """The line after the clause or item that begins at a line."""
     level = 0
-    while True:
-        code = mask(lines[at])
-        level += sum(map(code.count, "([{")) - sum(map(code.count, ")]}"))
-        at += 1
-        if level == 0 and re.search(ends, lines[at - 1]):
-            return at
+    for end in range(at, len(lines)):
+        level += sum(1 if c in "([{" else -1 for c in re.findall(r"[][(){}]", mask(lines[end])))
+        if level == 0 and re.search(ends, lines[end]):
+            return end + 1
+    stop("no end", lines[at])
 
 
 def signature(text, at):

@@ -1,10 +1,11 @@
-//! `Debug` of types whose fields would fill the screen.
+//! `Debug` of types that have none in the sources, without fields that would fill the screen.
 
 use std::fmt;
 
+use crate::explain::Explanation;
 use crate::ignore::IgnoreList;
 use crate::set::PatternSet;
-use crate::walk::{Step, WalkMachine};
+use crate::walk::{Answer, Step, WalkMachine};
 
 impl fmt::Debug for WalkMachine {
     fn fmt(&self, f: &mut fmt::Formatter<'_>) -> fmt::Result {
@@ -24,6 +25,16 @@ impl fmt::Debug for Step {
     }
 }
 
+impl fmt::Debug for Answer {
+    fn fmt(&self, f: &mut fmt::Formatter<'_>) -> fmt::Result {
+        match self {
+            Answer::Nothing => f.write_str("Nothing"),
+            Answer::Look(look) => f.debug_tuple("Look").field(look).finish(),
+            Answer::List(entries) => f.debug_tuple("List").field(entries).finish(),
+        }
+    }
+}
+
 impl fmt::Debug for PatternSet {
     fn fmt(&self, f: &mut fmt::Formatter<'_>) -> fmt::Result {
         f.debug_list().entries(self.patterns().iter().map(|pattern| pattern.as_str())).finish()
@@ -33,5 +44,11 @@ impl fmt::Debug for PatternSet {
 impl fmt::Debug for IgnoreList {
     fn fmt(&self, f: &mut fmt::Formatter<'_>) -> fmt::Result {
         f.debug_struct("IgnoreList").finish_non_exhaustive()
+    }
+}
+
+impl fmt::Debug for Explanation {
+    fn fmt(&self, f: &mut fmt::Formatter<'_>) -> fmt::Result {
+        f.debug_struct("Explanation").field("is_match", &self.is_match).field("lines", &self.lines).finish()
     }
 }

@@ -4,10 +4,12 @@ use std::error::Error;
 use std::fs::{self, DirEntry};
 use std::io;
 
-use crate::walk::{glob_in, Entry, Look, Name, Paths, Tree};
+use crate::walk::{glob_in, Entry, Look, Name, Tree};
+use crate::Paths;
 use crate::{GlobError, MatchOptions, PatternError};
 
-/// The paths that a pattern leads to, from the current directory or from the root, under [`MatchOptions::new`].
+/// The paths that a pattern leads to, from the current directory or from the root, under [`MatchOptions::new`]. Names
+/// are in the order of their bytes. A directory that cannot be listed is an item with an error, and the walk goes on.
 ///
 /// ```
 /// for path in cadmiumdove::glob("src/**/*.rs").unwrap() {
@@ -19,12 +21,14 @@ use crate::{GlobError, MatchOptions, PatternError};
 /// assert_eq!(cadmiumdove::glob("Cargo.tom?").unwrap().count(), 1);
 /// ```
 ///
-/// The error is the first fault of the whole pattern, or else of a component.
+/// The error is the first fault of the whole pattern, or else of a component. Its place is in characters from the start
+/// of that.
 pub fn glob(pattern: &str) -> Result<Paths, PatternError> {
     glob_with(pattern, MatchOptions::new())
 }
 
-/// The paths that a pattern leads to.
+/// The paths that a pattern leads to, as of [`glob()`], under these options. The separator rule has no effect, since a
+/// name has no `/`.
 ///
 /// ```
 /// use cadmiumdove::{glob_with, MatchOptions};
@@ -33,7 +37,8 @@ pub fn glob(pattern: &str) -> Result<Paths, PatternError> {
 /// assert_eq!(glob_with("cargo.TOM[l]", options).unwrap().count(), 1);
 /// ```
 ///
-/// The error is the first fault of the whole pattern, or else of a component.
+/// The error is the first fault of the whole pattern, or else of a component. Its place is in characters from the start
+/// of that.
 pub fn glob_with(pattern: &str, options: MatchOptions) -> Result<Paths, PatternError> {
     glob_in(Disk::new(), pattern, options, u64::MAX)
 }
@@ -55,7 +60,8 @@ impl Disk {
     }
 
     /// Whether symbolic links are followed. One that is not is no directory, so that a walk by `**` does not enter it,
-    /// and ends on a cycle of links. A path through a link is followed all the same, as `link/a`.
+    /// ends on a cycle of links, and finds nothing by `link/*`. A path through a link is followed all the same, as
+    /// `link/a`.
     pub const fn follow_links(self, follow_links: bool) -> Self {
         Disk { follow_links }
     }

@@ -48,3 +48,30 @@ impl BitOr for u8x16 {
         u8x16(std::array::from_fn(|n| self.0[n] | other.0[n]))
     }
 }
+
+#[cfg(test)]
+mod tests {
+    use super::u8x16;
+
+    /// Bytes whose bits are at the ends, and those of texts.
+    const BYTES: [u8; 12] = [0, 1, 0x20, b'A', b'a', 0x7f, 0x80, 0x81, 0xa9, 0xc3, 0xe0, 0xff];
+
+    /// Bit k of the mask is of byte k, whatever its neighbours are.
+    #[test]
+    fn lanes_are_compared_one_by_one() {
+        for (x, y) in BYTES.iter().flat_map(|x| BYTES.iter().map(move |y| (*x, *y))) {
+            for at in 0..16 {
+                let bytes: [u8; 16] = std::array::from_fn(|lane| if lane == at { x } else { y });
+                for z in BYTES {
+                    let mask = |is_one: &dyn Fn(u8) -> bool| {
+                        (0..16).map(|lane| u64::from(is_one(bytes[lane])) << lane).sum::<u64>()
+                    };
+                    let lanes = u8x16::from_slice(&bytes);
+                    assert_eq!(lanes.simd_eq(u8x16::splat(z)).to_bitmask(), mask(&|byte| byte == z));
+                    let either = (lanes | u8x16::splat(0x20)).simd_eq(u8x16::splat(z | 0x20));
+                    assert_eq!(either.to_bitmask(), mask(&|byte| byte | 0x20 == z | 0x20));
+                }
+            }
+        }
+    }
+}

@@ -1,7 +1,7 @@
 //! Shell patterns such as `src/**/*.rs` that match texts and find files, with the API of the crate `glob` 0.3.
 //!
 //! A program that uses `glob` stays as it is, with one line of `Cargo.toml` changed to
-//! `glob = { package = "cadmiumdove", version = "0.3" }`:
+//! `glob = { package = "cadmiumdove", path = "PATH/rust" }`. Here the crate has its own name:
 //!
 //! ```
 //! use cadmiumdove::{glob, Pattern};
@@ -16,15 +16,17 @@
 //! ```
 //!
 //! Beside it, each in a module of its own: walks with a limit, over any tree, or that ask their caller ([`walk`]), sets
-//! of patterns ([`set`]), the rules of ignore files ([`ignore`]), walks that leave out what such say ([`prune`]), and the
-//! pieces of a text that a pattern's wildcards take ([`captures`](mod@captures)). [`recipes`] has examples.
+//! of patterns ([`set`]), the rules of ignore files ([`ignore`]), walks that leave out what such say ([`prune`]), the
+//! pieces of a text that a pattern's wildcards take ([`captures`](mod@captures)), and why a text does not match
+//! ([`explain`]). [`tutorial`] takes one sitting, and [`recipes`] has an example for each task.
 //!
 //! What matches and what goes from path to path is made from sources in which every function is proved to do what its
-//! contract says; README says what that means for this crate. A match takes at most as many steps as the pattern has
-//! characters, times those of the text, whatever the pattern; and nothing here calls itself.
+//! contract says; README says what that means for this crate. The file that an item's source link shows begins with the
+//! path of its source, where its contract is, unless the item is written by hand. A match asks at
+//! most as many questions as the pattern has tokens, times the characters of the text; and nothing here calls itself.
 
 #![forbid(unsafe_code)]
-#![warn(missing_docs)]
+#![warn(missing_debug_implementations, missing_docs)]
 
 #[cfg(windows)]
 compile_error!("paths of Windows have prefixes and `\\`, which no pattern of this crate knows");
@@ -36,10 +38,14 @@ mod pattern;
 mod proved;
 
 pub mod captures;
+pub mod explain;
 pub mod ignore;
 pub mod prune;
 pub mod set;
 pub mod walk;
+
+#[doc = include_str!("../TUTORIAL.md")]
+pub mod tutorial {}
 
 #[doc = include_str!("../RECIPES.md")]
 pub mod recipes {}
@@ -47,4 +53,6 @@ pub mod recipes {}
 pub use disk::{glob, glob_with};
 pub use proved::glob_pattern::{MatchOptions, Pattern, PatternError};
 pub use proved::glob_walk::{GlobError, GlobResult};
-pub use walk::Paths;
+
+/// The items of a walk over the file system.
+pub type Paths = walk::Paths<walk::Disk>;

@@ -16,7 +16,9 @@
 
 use std::io;
 
+use crate::ignore::IgnoreList;
 pub use crate::proved::glob_prune::exclusion::Exclusion;
+use crate::set::PatternSet;
 use crate::walk::{Entry, Look, Tree};
 
 /// So `|path: &str, _is_dir: bool| path == "target"` excludes the directory `target`.
@@ -26,10 +28,31 @@ impl<F: Fn(&str, bool) -> bool> Exclusion for F {
     }
 }
 
+/// A list that several walks share.
+impl Exclusion for &IgnoreList {
+    fn excludes(&self, path: &str, is_dir: bool) -> bool {
+        (**self).excludes(path, is_dir)
+    }
+}
+
+/// A set that several walks share.
+impl Exclusion for &PatternSet {
+    fn excludes(&self, path: &str, is_dir: bool) -> bool {
+        (**self).excludes(path, is_dir)
+    }
+}
+
+/// What one of the two excludes.
+impl<X: Exclusion, Y: Exclusion> Exclusion for (X, Y) {
+    fn excludes(&self, path: &str, is_dir: bool) -> bool {
+        self.0.excludes(path, is_dir) || self.1.excludes(path, is_dir)
+    }
+}
+
 /// A tree without what is excluded and all below it: it is not there, so it is neither looked into nor listed. The
-/// exclusion is asked about paths below the current directory.
-///
-/// Of a path that begins with `/` or has a piece `..` nobody can tell what is above it: it is not there, either.
+/// exclusion is asked about paths below the current directory, so nothing else is there: a pattern that begins with
+/// `/` or has a component `..` finds nothing in a pruned tree, and no error says so. To walk another directory, go there
+/// first, or give a [`Tree`] that has it as its current directory.
 #[derive(Clone, Debug)]
 pub struct Pruned<T, X> {
     tree: T,

@@ -13,6 +13,9 @@
 //! # Ok::<(), cadmiumdove::set::SetRefusal>(())
 //! ```
 //!
+//! As an exclusion of [`Pruned`](crate::prune::Pruned) a pattern is of paths without a `/` at their end: `**/target`, and not
+//! `**/target/**`, leaves out the directory, and all below it.
+//!
 //! Braces are short for their alternatives:
 //!
 //! ```
@@ -23,6 +26,7 @@
 //! assert!(set.is_match("src/a.h"));
 //! assert_eq!(set.first_match("README"), Some(2));
 //! assert_eq!(braces::expand("a{,b{1,2}}[{]"), Ok(vec!["a[{]".into(), "ab1[{]".into(), "ab2[{]".into()]));
+//! assert_eq!(braces::escape("a{b}*"), "a[{]b[}][*]");
 //! assert_eq!(braces::expand("a}"), Err(braces::BraceError::Unmatched(1)));
 //! ```
 

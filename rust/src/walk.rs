@@ -1,8 +1,8 @@
 //! Walks with a limit, over trees of your own, and walks that ask their caller.
 //!
 //! A walk is paid for in units: one for each path that is looked up, one for each directory that is listed, and one for
-//! each of its entries. With a limit it ends in time whatever the pattern and the tree are, also where links make a
-//! cycle:
+//! each of its entries. With a limit it ends whatever the pattern and the tree are, also where links make a cycle. A
+//! directory is read to its end before its entries are charged:
 //!
 //! ```
 //! use cadmiumdove::walk::{glob_in, Disk, GlobCause};
@@ -68,10 +68,6 @@
 //! ```
 
 pub use crate::disk::Disk;
-pub use crate::proved::glob::paths::glob_in;
+pub use crate::proved::glob::paths::{glob_in, Paths};
 pub use crate::proved::glob_tree::{Entry, Look, Name, Tree};
-pub use crate::proved::glob_walk::{is_plain, GlobCause, GlobError, GlobResult, Step, WalkMachine};
-
-/// The items of a walk, over the file system or another tree: an iterator over the paths that a pattern leads to, and
-/// an error for each directory that cannot be listed.
-pub type Paths<T = Disk> = crate::proved::glob::paths::Paths<T>;
+pub use crate::proved::glob_walk::{is_plain, Answer, GlobCause, GlobError, GlobResult, Step, WalkMachine};

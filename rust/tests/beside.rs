@@ -1,13 +1,17 @@
 //! What this crate has beside `glob`: limits, trees, walks that ask, sets, ignore lists, captures and pruned walks.
 
+use std::error::Error;
+use std::fmt::Debug;
 use std::io::{self, ErrorKind};
 use std::path::{Path, PathBuf};
 
-use cadmiumdove::captures::{captures, tokens, CapturesError, TokenKind, MOST_STEPS};
+use cadmiumdove::captures::{captures, tokens, CapturesError, Piece, Reached, TokenKind, Written, MOST_STEPS};
+use cadmiumdove::explain::{explain, Explanation};
 use cadmiumdove::ignore::{IgnoreList, Reason, Rule, RuleRefusal};
 use cadmiumdove::prune::{Exclusion, Pruned};
-use cadmiumdove::set::{PatternSet, SetRefusal};
-use cadmiumdove::walk::{glob_in, is_plain, Disk, Entry, GlobCause, Look, Name, Step, Tree, WalkMachine};
+use cadmiumdove::set::braces::{self, BraceError};
+use cadmiumdove::set::{BraceSetRefusal, PatternSet, SetRefusal};
+use cadmiumdove::walk::{glob_in, is_plain, Answer, Disk, Entry, GlobCause, Look, Name, Step, Tree, WalkMachine};
 use cadmiumdove::{MatchOptions, Pattern};
 
 const NEW: MatchOptions = MatchOptions::new();
@@ -60,6 +64,23 @@ fn walked<T: Tree>(tree: T, pattern: &str, options: MatchOptions) -> (Vec<PathBu
 
 fn paths(texts: &[&str]) -> Vec<PathBuf> {
     texts.iter().map(PathBuf::from).collect()
+}
+
+#[test]
+fn traits() {
+    fn is_shared<T: Debug + Send + Sync + Unpin + 'static>() {}
+    is_shared::<(WalkMachine, Step, Answer, Entry, Name, Look, Disk, GlobCause)>();
+    is_shared::<(PatternSet, IgnoreList, Rule, Pruned<Disk, IgnoreList>, Explanation)>();
+    is_shared::<(Piece, Reached, Written, TokenKind)>();
+    fn is_error<T: Error + Send + Sync + 'static>() {}
+    is_error::<SetRefusal>();
+    is_error::<BraceSetRefusal>();
+    is_error::<BraceError>();
+    is_error::<RuleRefusal>();
+    is_error::<CapturesError>();
+    fn is_copy<T: Copy + Eq>() {}
+    is_copy::<(Look, Disk, GlobCause, Rule, Reason)>();
+    is_copy::<(Piece, Written, TokenKind, BraceError)>();
 }
 
 #[test]
@@ -117,6 +138,23 @@ fn a_machine_asks() {
 }
 
 #[test]
+fn an_answer_to_what_was_not_asked_panics() {
+    let started = || {
+        let mut machine = WalkMachine::new("*", NEW, 100).unwrap();
+        assert!(matches!(machine.next(), Step::Look));
+        machine
+    };
+    assert!(std::panic::catch_unwind(|| started().listed(Ok(Vec::new()))).is_err());
+    assert!(std::panic::catch_unwind(|| WalkMachine::new("*", NEW, 100).unwrap().looked(Look::Dir)).is_err());
+    let late = std::panic::catch_unwind(|| {
+        let mut machine = started();
+        assert!(matches!(machine.looked(Look::Dir), Step::ListNames));
+        machine.looked(Look::Dir)
+    });
+    assert!(late.is_err());
+}
+
+#[test]
 fn names_and_plain_patterns() {
     assert_eq!(
         ["", ".", "..", "a/b", "\0"].map(|text| Name::new(text.to_owned()).unwrap_err()),
@@ -149,7 +187,49 @@ fn sets() {
     let SetRefusal::Syntax(number, error) = PatternSet::from_texts(&["*.o", "[a"], NEW).unwrap_err();
     assert_eq!((number, error.pos), (1, 0));
     let set = PatternSet::new(vec![Pattern::new("A").unwrap()], MatchOptions::default());
-    assert!(set.is_match("a") && format!("{set:?}") == r#"["A"]"#);
+    assert!(set.is_match("a"));
+}
+
+#[cfg(unix)]
+#[test]
+fn a_set_matches_no_path_that_is_no_text() {
+    use std::os::unix::ffi::OsStrExt;
+    let set = PatternSet::from_texts(&["*"], NEW).unwrap();
+    let path = Path::new(std::ffi::OsStr::from_bytes(b"\xff"));
+    let mut numbers = vec![7];
+    set.matches_path_into(path, &mut numbers);
+    assert_eq!(
+        (set.is_match_path(path), set.first_match_path(path), set.last_match_path(path), numbers),
+        (false, None, None, vec![])
+    );
+}
+
+#[test]
+fn a_set_answers_as_its_patterns_do() {
+    let patterns = ["", "*", "a", "*a", "a*", "?B", "**/a", "*/.B", "[!a]*", "*.B/", "a/**", "*aB", ".?", "**", "B**"];
+    let patterns: Vec<Pattern> = patterns.iter().filter_map(|text| Pattern::new(text).ok()).collect();
+    let mut texts = vec![String::new()];
+    for length in 0..4 {
+        let longest: Vec<String> = texts.iter().filter(|text| text.chars().count() == length).cloned().collect();
+        texts.extend(longest.iter().flat_map(|text| ["a", "B", "/", ".", "é"].map(|next| format!("{text}{next}"))));
+    }
+    for bits in 0..8 {
+        let options = MatchOptions::from_bits(bits);
+        let set = PatternSet::new(patterns.clone(), options);
+        let mut numbers = Vec::new();
+        for text in &texts {
+            set.matches_into(text, &mut numbers);
+            let expected = (0..patterns.len()).filter(|&number| patterns[number].matches_with(text, options));
+            assert!(expected.eq(numbers.iter().copied()), "{text} {options:?} {numbers:?}");
+        }
+    }
+}
+
+#[test]
+fn most_alternatives() {
+    let text = |commas| format!("{{{}}}", ",".repeat(commas));
+    assert_eq!(braces::expand(&text(braces::MOST_ALTERNATIVES - 1)).map(|texts| texts.len()), Ok(1000));
+    assert_eq!(braces::expand(&text(braces::MOST_ALTERNATIVES)), Err(BraceError::TooMany));
 }
 
 #[test]
@@ -189,8 +269,13 @@ fn pieces() {
     let pieces = captures(&pattern, text, literal).unwrap().unwrap();
     assert_eq!(pieces.iter().map(|piece| &text[piece.start..piece.end]).collect::<Vec<_>>(), ["é/b/", "c.d", ".", "h"]);
     assert_eq!(captures(&pattern, "a.rs", NEW).unwrap(), None);
+    // `**` takes whole components alone
+    let whole = Pattern::new("**/b*").unwrap();
+    let ends: Vec<usize> = captures(&whole, "xb/b", NEW).unwrap().unwrap().iter().map(|piece| piece.end).collect();
+    assert_eq!(ends, [3, 4, 4]);
     let long = "a".repeat(MOST_STEPS / 4 + 1);
-    assert_eq!(captures(&pattern, &long, NEW).map(drop).map_err(|CapturesError::TooLarge| ()), Err(()));
+    assert!(matches!(captures(&pattern, &long, NEW), Err(CapturesError::TooLarge)));
+    assert!(matches!(explain(&pattern, &long, NEW), Err(CapturesError::TooLarge)));
     let kinds: Vec<_> = tokens(&pattern).iter().map(|token| (token.kind, token.piece.end)).collect();
     assert_eq!(
         kinds,
@@ -209,18 +294,50 @@ fn pruned_walks() {
     assert_eq!(walked(Pruned::new(Files(FILES), list()), "./src/*", NEW).0, paths(&["src/a.rs"]));
     let set = PatternSet::from_texts(&["src", "shut"], NEW).unwrap();
     assert_eq!(walked(Pruned::new(Files(FILES), set), "**/*.rs", NEW).0, paths(&["a.rs", "target/c.rs"]));
-    let mut tree = Pruned::new(Files(FILES), list());
-    assert_eq!(
-        ["target/c.rs", "src/a.rs", "src/../a.rs", "/a.rs"].map(|path| tree.look(path) == Look::Missing),
-        [true, false, true, true]
-    );
-    assert_eq!(tree.list("src/.x").unwrap_err().kind(), ErrorKind::NotFound);
-    assert_eq!(tree.list("src").unwrap().len(), 1);
-    let mut tree = Pruned::new(Files(FILES), |path: &str, _is_dir: bool| path == "target");
-    assert_eq!((tree.look("target/c.rs"), tree.look("src/a.rs")), (Look::Missing, Look::Other));
     let function = |path: &str, is_dir: bool| is_dir && path.starts_with('s');
     assert!(Exclusion::excludes(&function, "src", true));
     assert_eq!(walked(Pruned::new(Files(FILES), function), "*", NEW).0, paths(&["a.rs", "b.c", "target"]));
+}
+
+#[test]
+fn pruned_trees() {
+    let mut tree = Pruned::new(Files(FILES), IgnoreList::new("target/\nb.rs\nb.c/\n.x/\n").unwrap());
+    let seen = ["target", "target/c.rs", "b.c", "src/a.rs", "src/../a.rs", "/a.rs"].map(|path| tree.look(path));
+    assert_eq!(seen, [Look::Missing, Look::Missing, Look::Other, Look::Other, Look::Missing, Look::Missing]);
+    assert_eq!(tree.list("src/.x").unwrap_err().kind(), ErrorKind::NotFound);
+    assert_eq!(tree.list("src").unwrap().len(), 1);
+    let mut tree = Pruned::new(Files(FILES), |path: &str, _is_dir: bool| path == "target");
+    let seen = ["target/c.rs", "./target/c.rs", "src/a.rs", "./src/./a.rs"].map(|path| tree.look(path));
+    assert_eq!(seen, [Look::Missing, Look::Missing, Look::Other, Look::Other]);
+    let mut tree = Pruned::new(Files(FILES), |_: &str, _: bool| true);
+    assert_eq!((tree.look("."), tree.list(".").unwrap().len()), (Look::Dir, 0));
+    let mut tree = Pruned::new(Disk::new(), |_: &str, _: bool| false);
+    let seen = ["src/../Cargo.toml", "src/..", "/", "Cargo.toml"].map(|path| tree.look(path));
+    assert_eq!(seen, [Look::Missing, Look::Missing, Look::Missing, Look::Other]);
+    assert!(tree.list("src/..").is_err() && tree.list("/").is_err());
+    // kinds are asked for where names alone matter to the walk
+    let mut tree = Pruned::new(Disk::new(), |path: &str, is_dir: bool| is_dir && path == "src/proved");
+    for entries in [tree.list("src"), tree.list_names("src")] {
+        let names: Vec<String> = entries.unwrap().iter().map(|entry| entry.name.as_str().to_owned()).collect();
+        assert!(names.contains(&"lib.rs".to_owned()) && !names.contains(&"proved".to_owned()));
+    }
+}
+
+#[test]
+fn what_debug_prints() {
+    let mut machine = WalkMachine::new("*", NEW, 100).unwrap();
+    assert_eq!(format!("{machine:?}"), r#"WalkMachine { path: "", spent: 0, .. }"#);
+    assert_eq!(format!("{:?}", machine.next()), "Look");
+    assert_eq!(format!("{machine:?}"), r#"WalkMachine { path: ".", spent: 1, .. }"#);
+    let steps = [Step::List, Step::ListNames, Step::Done, Step::Item(Ok(PathBuf::from("a")))];
+    assert_eq!(format!("{steps:?}"), r#"[List, ListNames, Done, Item(Ok("a"))]"#);
+    let answers = [Answer::Nothing, Answer::Look(Look::Dir), Answer::List(Ok(Vec::new()))];
+    assert_eq!(format!("{answers:?}"), "[Nothing, Look(Dir), List(Ok([]))]");
+    assert_eq!(format!("{:?}", glob_in(Files(FILES), "*", NEW, 1).unwrap()), "Paths { spent: 0, given: 0 }");
+    assert_eq!(format!("{:?}", PatternSet::from_texts(&["a*", "b"], NEW).unwrap()), r#"["a*", "b"]"#);
+    assert_eq!(format!("{:?}", IgnoreList::new("a").unwrap()), "IgnoreList { .. }");
+    let explanation = explain(&Pattern::new("a").unwrap(), "a", NEW).unwrap();
+    assert_eq!(format!("{explanation:?}"), r#"Explanation { is_match: true, lines: "a\ta\n" }"#);
 }
 
 #[test]
@@ -234,7 +351,8 @@ fn links_may_be_left_alone() {
     let pattern = format!("{}/**/x", root.display());
     let found = walked(Disk::new().follow_links(false), &pattern, NEW).0;
     let through = walked(Disk::new().follow_links(false), &format!("{}/again/d/x", root.display()), NEW).0;
+    let below = walked(Disk::new().follow_links(false), &format!("{}/again/*", root.display()), NEW).0;
     std::fs::remove_dir_all(&root).unwrap();
     assert_eq!(found, [root.join("d/x")]);
-    assert_eq!(through.len(), cfg!(unix) as usize);
+    assert_eq!((through.len(), below.len()), (cfg!(unix) as usize, 0));
 }

@@ -1,5 +1,5 @@
-//! Where releases of `glob` differ: names that are not UTF-8, links that lead nowhere, kinds that come with a listing; and
-//! what it has no test for.
+//! Where releases of `glob` differ: names that are not UTF-8, links that lead nowhere, kinds that come with a listing;
+//! and what it has no test for.
 
 use std::error::Error;
 use std::ffi::OsStr;
@@ -100,6 +100,11 @@ fn a_directory_that_vanishes_after_it_was_listed_is_an_error() {
     assert_eq!(error.reason(), GlobCause::Read);
     let cause = error.source().and_then(|cause| cause.downcast_ref::<io::Error>()).unwrap();
     assert_eq!(cause.kind(), ErrorKind::NotFound);
+    #[allow(deprecated)]
+    let texts = (error.description(), error.cause().map(ToString::to_string));
+    #[allow(deprecated)]
+    let expected = (cause.description(), Some(cause.to_string()));
+    assert_eq!(texts, expected);
     assert_eq!(io::Error::from(error).kind(), ErrorKind::NotFound);
     assert!(paths.next().is_none());
     fs::remove_dir_all(&root).unwrap();

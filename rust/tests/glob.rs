@@ -14,6 +14,7 @@ fn patterns_match() {
     let pattern = Pattern::new("src/**/[!_]*.rs").unwrap();
     assert!(pattern.matches("src/main.rs"));
     assert!(!pattern.matches("src/main.c"));
+    assert!(pattern.matches("src/walk/_x.rs")); // `*` takes `/` too, unless an option says otherwise
     assert!(pattern.matches_path(Path::new("src/a/b.rs")));
     let literal = MatchOptions { require_literal_separator: true, ..MatchOptions::new() };
     assert!(!pattern.matches_with("src/walk/_lines.rs", literal));
@@ -103,6 +104,17 @@ fn threads_share_a_pattern() {
         }
     });
     std::thread::spawn(move || drop(pattern)).join().unwrap();
+}
+
+#[test]
+fn a_text_inside_is_found_wherever_it_is() {
+    let pattern = Pattern::new("*needle*").unwrap();
+    for fill in ["n", "é", "\u{7f}", "\u{10fffe}"] {
+        for (before, after) in (0..40).flat_map(|before| [0, 1, 20].map(|after| (before, after))) {
+            let [found, lost] = ["needle", "nedle"].map(|inside| fill.repeat(before) + inside + &fill.repeat(after));
+            assert!(pattern.matches(&found) && !pattern.matches(&lost), "{found}");
+        }
+    }
 }
 
 /// Each row: a pattern, texts that it matches, and texts that it does not.

@@ -1,9 +1,12 @@
-//! Answers from outside, as the repository has them in tables: `CADMIUMDOVE_ROWS` is the folder, and by default that of the
-//! repository that this crate is in. Outside of it there are none.
+//! Answers from outside, as the repository has them in tables: `CADMIUMDOVE_ROWS` is the folder, and by default that of
+//! the repository that this crate is in. Outside of it there are none.
 
 use std::fs;
 use std::path::{Path, PathBuf};
 
+use cadmiumdove::captures::{captures, reach, tokens, TokenKind};
+use cadmiumdove::explain::explain;
+use cadmiumdove::ignore::IgnoreList;
 use cadmiumdove::set::braces::expand;
 use cadmiumdove::walk::is_plain;
 use cadmiumdove::{MatchOptions, Pattern};
@@ -74,7 +77,8 @@ fn expanded(word: &str) -> String {
     text + rest
 }
 
-/// Checks rows `PATTERNS => ANSWER TEXTS`, under each of the options of the line `options:` before them, and counts them.
+/// Checks rows `PATTERNS => ANSWER TEXTS`, under each of the options of the line `options:` before them, and counts
+/// them.
 fn check_words(path: &Path) -> usize {
     let (mut under, mut count) = (Vec::new(), 0);
     for line in fs::read_to_string(path).unwrap().replace("\n ", " ").lines() {
@@ -106,4 +110,130 @@ fn rows() {
     let words = files.iter().filter(|path| path.ends_with("matches.txt"));
     let count: usize = tables.map(|path| check_table(path)).chain(words.map(|path| check_words(path))).sum();
     assert!(count >= 18_000, "{count} rows");
+}
+
+/// A field of a table in which `\n`, `\t`, `\r`, `\\`, `\x7f` and `\174` are characters.
+fn decoded(field: &str) -> String {
+    let mut parts = field.split('\\');
+    let mut text = parts.next().unwrap().to_owned();
+    while let Some(part) = parts.next() {
+        let number = |from: usize, to: usize, radix| u8::from_str_radix(&part[from..to], radix).unwrap() as char;
+        let (c, after) = match part.as_bytes().first() {
+            None => ('\\', 0),
+            Some(b'n') => ('\n', 1),
+            Some(b't') => ('\t', 1),
+            Some(b'r') => ('\r', 1),
+            Some(b'x') => (number(1, 3, 16), 3),
+            _ => (number(0, 3, 8), 3),
+        };
+        text.push(c);
+        text += if part.is_empty() { parts.next().unwrap() } else { &part[after..] };
+    }
+    text
+}
+
+fn explained(pattern: &str, text: &str, options: MatchOptions) -> (bool, String) {
+    let explanation = explain(&Pattern::new(pattern).unwrap(), text, options).unwrap();
+    (explanation.is_match, explanation.lines)
+}
+
+/// Rows `explain OPTIONS PATTERN TEXT||STATUS|LINES|` of what the program `globs` writes, whose options have letters
+/// and whose sets are of other names. Those of status 2 are no patterns.
+#[test]
+fn explanations() {
+    let Some(folder) = folder() else { return };
+    let names = [
+        (" -i", " case_sensitive: false"),
+        (" -s", " require_literal_separator"),
+        (" -d", " require_literal_leading_dot"),
+        ("find and match expand", "PatternSet::from_braces expands"),
+        ("find and match take", "A PatternSet takes"),
+        (": match has -v, find -x", ""),
+    ];
+    let table = fs::read_to_string(folder.join("../../../tests/rows/explain.txt")).unwrap();
+    let mut count = 0;
+    for row in table.lines().filter(|line| line.contains("||0|") || line.contains("||1|")) {
+        let fields: Vec<&str> = row.split('|').collect();
+        let (letters, words): (Vec<&str>, Vec<&str>) =
+            fields[0].split(' ').skip(1).partition(|word| ["-i", "-s", "-d", "--"].contains(word));
+        let options = MatchOptions {
+            case_sensitive: !letters.contains(&"-i"),
+            require_literal_separator: letters.contains(&"-s"),
+            require_literal_leading_dot: letters.contains(&"-d"),
+        };
+        let lines = names.iter().fold(decoded(fields[3]), |lines, (old, new)| lines.replace(old, new));
+        let explanation = explained(&decoded(words[0]), &decoded(words[1]), options);
+        assert_eq!(explanation, (fields[2] == "0", lines), "{row}");
+        count += 1;
+    }
+    assert!(count > 50, "{count} rows");
+}
+
+/// Rows `PATTERN|LINE`: the last line for a text that does not match. Without a line it is none of what to write.
+#[test]
+fn advice() {
+    let Some(folder) = folder() else { return };
+    let table = fs::read_to_string(folder.join("../../../tests/rows/advice.txt")).unwrap();
+    for row in table.lines().filter(|line| !line.is_empty() && !line.starts_with('#')) {
+        let (pattern, line) = row.split_once('|').map_or((row, None), |(pattern, line)| (pattern, Some(line)));
+        let (_, lines) = explained(&decoded(pattern), "\u{1}\u{1}/\u{1}", MatchOptions::new());
+        let last = lines.lines().last().unwrap();
+        assert!(line.map_or(!last.starts_with("write"), |line| last == decoded(line)), "{row}: {lines}");
+    }
+}
+
+/// Rows `FIELD|OPTIONS|PATTERN|TEXT|WANTED`, as the table says.
+#[test]
+fn pieces() {
+    let Some(folder) = folder() else { return };
+    let table = fs::read_to_string(folder.join("../../../tests/rows/captures.txt")).unwrap();
+    for row in table.lines().filter(|line| !line.starts_with('#')) {
+        let [field, letters, pattern, text, wanted] = row.split('|').collect::<Vec<_>>()[..] else { panic!("{row}") };
+        let text = text.replace("LONGEST", &"\u{10fffe}".repeat(4_194_304));
+        let (pattern, options) = (Pattern::new(pattern).unwrap(), MatchOptions::from_letters(letters).unwrap());
+        let found: Vec<String> = match field {
+            "pieces" => match captures(&pattern, &text, options).unwrap() {
+                Some(pieces) => pieces.iter().map(|piece| piece.end.to_string()).collect(),
+                None => vec!["no".to_owned()],
+            },
+            "reached" => {
+                let reached = reach(&pattern, &text, options).unwrap();
+                [vec![reached.place], reached.waiting].concat().iter().map(usize::to_string).collect()
+            }
+            _ => tokens(&pattern).iter().map(|token| format!("{} {}", kind(token.kind), token.piece.end)).collect(),
+        };
+        assert_eq!(found.join(" "), wanted, "{row}");
+    }
+}
+
+/// The name of a kind in the table of pieces.
+fn kind(kind: TokenKind) -> &'static str {
+    match kind {
+        TokenKind::Literal => "literal",
+        TokenKind::AnyChar => "?",
+        TokenKind::AnySequence => "*",
+        TokenKind::Recursive => "**",
+        TokenKind::OneOf => "[]",
+        TokenKind::NoneOf => "[!]",
+    }
+}
+
+/// What git answers: a NUL ends each list, which is after `L`, and each path, after `d` of a directory and else after `f`.
+/// An answer is the line that decides, or 0, and of a list that is refused `R` and why.
+#[test]
+fn ignore_lists() {
+    let Some(folder) = folder() else { return };
+    let questions = fs::read_to_string(folder.join("../../../tests/rows/git.questions")).unwrap();
+    let answers = fs::read_to_string(folder.join("../../../tests/rows/git.answers")).unwrap();
+    let (mut list, mut found) = (IgnoreList::new(""), Vec::new());
+    for question in questions.split_terminator('\0') {
+        match (question.split_at(1), &list) {
+            (("L", text), _) => list = IgnoreList::new(text),
+            ((kind, path), Ok(list)) => {
+                found.push(list.deciding_rule(path, kind == "d").map_or(0, |rule| rule.line).to_string());
+            }
+            (_, Err(refusal)) => found.push(format!("R {refusal}")),
+        }
+    }
+    assert_eq!(found, answers.lines().collect::<Vec<_>>());
 }

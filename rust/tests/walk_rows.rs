@@ -1,5 +1,5 @@
-//! Walks from outside, as the repository has them in `walks.txt`, over trees in memory: `CADMIUMDOVE_ROWS` is the folder, and
-//! by default that of the repository that this crate is in. Outside of it there are none.
+//! Walks from outside, as the repository has them in `walks.txt`, over trees in memory: `CADMIUMDOVE_ROWS` is the
+//! folder, and by default that of the repository that this crate is in. Outside of it there are none.
 
 use std::collections::BTreeMap;
 use std::fs;

@@ -5,7 +5,7 @@
 #![allow(clippy::byte_char_slices, clippy::let_and_return, clippy::manual_find, clippy::manual_ignore_case_cmp)]
 #![allow(clippy::manual_map, clippy::needless_range_loop, clippy::nonminimal_bool, clippy::ptr_arg)]
 #![allow(clippy::question_mark, clippy::should_implement_trait, clippy::too_many_arguments, clippy::manual_contains)]
-#![allow(clippy::single_match, clippy::vec_init_then_push)]
+#![allow(clippy::single_match, clippy::vec_init_then_push, clippy::redundant_pattern_matching)]
 
 pub mod glob_captures;
 pub mod glob_pattern;
@@ -20,4 +20,16 @@ pub mod glob_prune {
 }
 pub mod glob {
     pub mod paths;
+}
+pub mod globs {
+    pub mod explain {
+        pub mod explanation;
+        pub mod foreign;
+        pub mod hints;
+        pub mod instead;
+        pub mod notes;
+        pub mod rows;
+        pub mod stop;
+    }
+    pub mod visible;
 }

@@ -54,26 +54,14 @@ impl<T: Tree> Iterator for Paths<T> {
     /// `None`.
     ///
     /// An error's cause is `Read` where a directory could not be listed, and the walk goes on; `Limit` where the next
-    /// unit of work does not fit the limit. After the last two only `None` follows.
+    /// unit of work does not fit the limit. After that only `None` follows.
     fn next(&mut self) -> Option<GlobResult> {
-        let mut step = self.machine.next();
         loop {
-            step = match step {
-                Step::Look => {
-                    let seen = self.tree.look(self.machine.path());
-                    self.machine.looked(seen)
-                }
-                Step::List => {
-                    let listed = self.tree.list(self.machine.path());
-                    self.machine.listed(listed)
-                }
-                Step::ListNames => {
-                    let named = self.tree.list_names(self.machine.path());
-                    self.machine.listed(named)
-                }
+            match self.machine.advance(&mut self.tree) {
                 Step::Item(item) => return Some(item),
                 Step::Done => return None,
-            };
+                Step::Look | Step::List | Step::ListNames => {}
+            }
         }
     }
 }

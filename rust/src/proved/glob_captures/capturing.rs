@@ -5,7 +5,7 @@ use crate::proved::glob_captures::error::CapturesError;
 use crate::proved::glob_captures::piece::Piece;
 use crate::proved::glob_captures::rests::{rests_of, Rests};
 use crate::proved::glob_captures::span::{span_of, Span};
-use crate::proved::glob_captures::steps::{bytes_of, form_of, is_too_large, opens};
+use crate::proved::glob_captures::steps::{bytes_of, form_of, is_too_large, opens, MOST_STEPS};
 use crate::proved::glob_pattern::{characters_of, tokens_len, MatchOptions, Pattern};
 
 /// The piece of the text that each token of the pattern takes, as places in bytes, one after another; `None` exactly if
@@ -17,8 +17,8 @@ use crate::proved::glob_pattern::{characters_of, tokens_len, MatchOptions, Patte
 /// A call takes time and memory at most proportional to one more than the tokens, times one more than the bytes of the
 /// text. The errors are:
 ///
-/// - [`CapturesError::TooLarge`]: the tokens times the bytes are more than [`MOST_STEPS`](crate::proved::glob_captures::MOST_STEPS). Nothing was
-///   done.
+/// - [`CapturesError::TooLarge`]: the tokens times the bytes are more than
+///   [`MOST_STEPS`](crate::proved::glob_captures::MOST_STEPS). Nothing was done.
 pub fn captures(pattern: &Pattern, text: &str, options: MatchOptions) -> Result<Option<Vec<Piece>>, CapturesError> {
     if is_too_large(pattern, text) {
         return Err(CapturesError::TooLarge);

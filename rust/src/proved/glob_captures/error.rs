@@ -8,7 +8,8 @@ use std::fmt;
 /// answer.
 #[derive(Debug)]
 pub enum CapturesError {
-    /// The pattern's tokens times the text's bytes are more than [`MOST_STEPS`](crate::proved::glob_captures::MOST_STEPS). Nothing was done.
+    /// The pattern's tokens times the text's bytes are more than
+    /// [`MOST_STEPS`](crate::proved::glob_captures::MOST_STEPS). Nothing was done.
     TooLarge,
 }
 

@@ -2,7 +2,7 @@
 //! Contracts are there, and their proofs in `crates/glob_captures/proofs`; it is changed there alone.
 
 use crate::proved::glob_captures::error::CapturesError;
-use crate::proved::glob_captures::steps::{bytes_of, form_of, is_too_large, opens, takes_at, Form};
+use crate::proved::glob_captures::steps::{bytes_of, form_of, is_too_large, opens, takes_at, Form, MOST_STEPS};
 use crate::proved::glob_pattern::{characters_of, tokens_len, MatchOptions, Pattern};
 
 /// How far a text could be taken.
@@ -14,18 +14,18 @@ pub struct Reached {
     pub waiting: Vec<usize>,
 }
 
-/// How far the text can be taken: up to the last place, in bytes, up to which some first tokens of the pattern take it, and
-/// the numbers of all tokens that wait there for a character. For a text that does not match this is where it stops, and
-/// what was wanted there.
+/// How far the text can be taken: up to the last place, in bytes, up to which some first tokens of the pattern take it,
+/// and the numbers of all tokens that wait there for a character. For a text that does not match this is where it
+/// stops, and what was wanted there.
 ///
-/// So for `*.rs` and `a.rc` it is the end: `*` took all, and it and `.` wait. For `a[0-9]b` and `a1c` it is the place 2,
-/// where token 2, the `b`, waits.
+/// So for `*.rs` and `a.rc` it is the end: `*` took all, and it and `.` wait. For `a[0-9]b` and `a1c` it is the place
+/// 2, where token 2, the `b`, waits.
 ///
 /// A call takes time and memory at most proportional to one more than the tokens, times one more than the bytes of the
 /// text. The errors are:
 ///
-/// - [`CapturesError::TooLarge`]: the tokens times the bytes are more than [`MOST_STEPS`](crate::proved::glob_captures::MOST_STEPS). Nothing was
-///   done.
+/// - [`CapturesError::TooLarge`]: the tokens times the bytes are more than
+///   [`MOST_STEPS`](crate::proved::glob_captures::MOST_STEPS). Nothing was done.
 pub fn reach(pattern: &Pattern, text: &str, options: MatchOptions) -> Result<Reached, CapturesError> {
     if is_too_large(pattern, text) {
         return Err(CapturesError::TooLarge);

@@ -20,8 +20,8 @@ impl Rests {
     }
 }
 
-/// For the tokens after each wildcard but the last one, from where on they take the rest: the last tokens first. For the
-/// tokens after a token that is no wildcard the row is empty.
+/// For the tokens after each wildcard but the last one, from where on they take the rest: the last tokens first. For
+/// the tokens after a token that is no wildcard the row is empty.
 pub fn rests_of(pattern: &Pattern, options: MatchOptions, text: &[char], span: Span) -> Vec<Rests> {
     let mut rows = Vec::with_capacity(span.last - span.first);
     if span.first == span.last {
@@ -66,8 +66,8 @@ fn add_token(pattern: &Pattern, token: usize, options: MatchOptions, text: &[cha
     }
 }
 
-/// Whether a token takes the character at a place, and then its piece ends, where the tokens after it take the rest from
-/// the next place on, or goes on, where more is taken from there.
+/// Whether a token takes the character at a place, and then its piece ends, where the tokens after it take the rest
+/// from the next place on, or goes on, where more is taken from there.
 #[inline(always)]
 fn takes_more(
     pattern: &Pattern,

@@ -5,8 +5,8 @@
 
 use crate::proved::glob_pattern::{token_kind, token_takes, tokens_len, MatchOptions, Pattern, TokenKind};
 
-/// The bound on a call: the pattern's tokens times the text's bytes are at most so many. So a pattern of 8 tokens may be
-/// asked about a text of 8 MiB.
+/// The bound on a call: the pattern's tokens times the text's bytes are at most so many. So a pattern of 8 tokens may
+/// be asked about a text of 8 MiB.
 pub const MOST_STEPS: usize = 1 << 26;
 
 /// Whether the tokens times the bytes are more than [`MOST_STEPS`].

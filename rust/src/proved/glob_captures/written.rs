@@ -4,6 +4,7 @@
 //! How the tokens of a pattern are written.
 
 use crate::proved::glob_captures::piece::Piece;
+use crate::proved::glob_captures::steps::bytes_of;
 use crate::proved::glob_pattern::{characters_of, token_kind, tokens_len, Pattern, TokenKind};
 
 /// A token of a pattern: what kind it is, and where it is written, as places in bytes of the pattern's text.
@@ -19,28 +20,20 @@ pub struct Written {
 /// `AnySequence` up to 6: each is written from where the one before it ends. Neighbouring `**/` are one token, and are
 /// written as one.
 pub fn tokens(pattern: &Pattern) -> Vec<Written> {
-    let text = characters_of(pattern.as_str());
+    let characters = characters_of(pattern.as_str());
+    let text = characters.as_slice();
     let mut list = Vec::new();
     let mut place = 0;
-    let mut start = 0usize;
+    let mut start = 0;
     for token in 0..tokens_len(pattern) {
         let kind = token_kind(pattern, token);
-        let after = token_end(text.as_slice(), place, kind);
-        let end = start.saturating_add(bytes_between(text.as_slice(), place, after));
+        let after = token_end(text, place, kind);
+        let end = start + bytes_of(&text[place..after]);
         list.push(Written { kind, piece: Piece { start, end } });
         place = after;
         start = end;
     }
     list
-}
-
-/// How many bytes the characters between two places have.
-fn bytes_between(text: &[char], start: usize, end: usize) -> usize {
-    let mut bytes = 0usize;
-    for c in &text[start..end] {
-        bytes = bytes.saturating_add(c.len_utf8());
-    }
-    bytes
 }
 
 /// The place after the token of this kind that is written from a place on.
@@ -56,13 +49,23 @@ fn token_end(text: &[char], place: usize, kind: TokenKind) -> usize {
 /// The place after the `**` from a place on, each with the `/` after it.
 fn recursive_end(text: &[char], place: usize) -> usize {
     let mut end = place;
-    while end + 2 <= text.len() && text[end] == '*' && text[end + 1] == '*' {
-        end += 2;
-        if end < text.len() && text[end] == '/' {
-            end += 1;
-        }
+    while has_stars(text, end) {
+        end = after_stars(text, end);
     }
     end
+}
+
+/// Whether two stars are at a place.
+fn has_stars(text: &[char], place: usize) -> bool {
+    text.len() - place >= 2 && text[place] == '*' && text[place + 1] == '*'
+}
+
+/// The place after two stars, and after a `/` that follows.
+fn after_stars(text: &[char], place: usize) -> usize {
+    match text.get(place + 2) {
+        Some('/') => place + 3,
+        _ => place + 2,
+    }
 }
 
 /// The place after the `]` that ends the bracket at a place, of which the first characters end none.

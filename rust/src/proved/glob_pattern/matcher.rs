@@ -5,7 +5,7 @@ mod positions;
 mod shape_word;
 
 pub use positions::{decide, Span};
-pub use shape_word::{shape_words, ShapeWord};
+pub use shape_word::{last_before, shape_words, ShapeWord};
 
 /// How many tokens a word of 64 bits has: there is one more position than tokens.
 pub const WORD: usize = 63;
@@ -52,8 +52,8 @@ pub trait Judge {
 
     /// Which of up to 63 tokens take the character last stepped over. Bit n of `asked` asks token 63 · `word` + n, and
     /// the result has the bits of those that take the character. So `takes_each(1, 0b101)` asks tokens 63 and 65.
-    /// Raises the count by one for each bit of `asked`. `step` must have returned true before, each bit must be below 63
-    /// and of a token in the list, and the count must have room.
+    /// Raises the count by one for each bit of `asked`. `step` must have returned true before, each bit must be below
+    /// 63 and of a token in the list, and the count must have room.
     ///
     /// This body calls [`takes`](Self::takes) for one token after another. A judge that knows many answers at once may
     /// have its own.

@@ -1,8 +1,8 @@
 //! Made by `bin/rust_crate` from `crates/glob_pattern/src/lib.rt`.
 //! Contracts are there, and their proofs in `crates/glob_pattern/proofs`; it is changed there alone.
 //!
-//! Patterns in the syntax of Unix shells: parsing them, and matching texts and paths with them. `src/**/[!t]*.rs` matches
-//! each source below `src` whose name does not begin with `t`.
+//! Patterns in the syntax of Unix shells: parsing them, and matching texts and paths with them. `src/**/[!t]*.rs`
+//! matches each source below `src` whose name does not begin with `t`.
 
 mod error;
 mod grammar;
@@ -16,3 +16,4 @@ pub use grammar::characters_of;
 pub use matcher::{run_positions, Judge, Shape};
 pub use options::MatchOptions;
 pub use pattern::{literal_at, match_trimmed, token_kind, token_takes, tokens_len, trim, Pattern, TokenKind, Trimmed};
+pub use token::taking::is_open;

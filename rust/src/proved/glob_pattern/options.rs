@@ -20,11 +20,43 @@ impl MatchOptions {
     pub const fn new() -> Self {
         MatchOptions { case_sensitive: true, require_literal_separator: false, require_literal_leading_dot: false }
     }
+
+    /// These options with the one that a letter sets, as on a command line: `i` case-insensitive, `s` the separator
+    /// rule, `d` the dot rule. `None` for another letter.
+    pub fn with_letter(self, letter: char) -> Option<Self> {
+        let mut options = self;
+        match letter {
+            'i' => options.case_sensitive = false,
+            's' => options.require_literal_separator = true,
+            'd' => options.require_literal_leading_dot = true,
+            _ => return None,
+        }
+        Some(options)
+    }
+
+    /// The options of `new()` with those that the letters set, in any order: `is` is case-insensitive, with the
+    /// separator rule. `None` if one is no letter of an option.
+    pub fn from_letters(letters: &str) -> Option<Self> {
+        let mut options = MatchOptions::new();
+        for letter in letters.as_bytes() {
+            options = options.with_letter(*letter as char)?;
+        }
+        Some(options)
+    }
+
+    /// The options of three bits: 1 case-insensitive, 2 the separator rule, 4 the dot rule. Other bits are ignored.
+    pub const fn from_bits(bits: u32) -> Self {
+        MatchOptions {
+            case_sensitive: bits & 1 == 0,
+            require_literal_separator: bits & 2 == 2,
+            require_literal_leading_dot: bits & 4 == 4,
+        }
+    }
 }
 
 impl Default for MatchOptions {
     /// Case-insensitive, without the separator rule and the dot rule: so `A*` matches `a/b`.
     fn default() -> Self {
-        MatchOptions { case_sensitive: false, require_literal_separator: false, require_literal_leading_dot: false }
+        MatchOptions { case_sensitive: false, ..MatchOptions::new() }
     }
 }

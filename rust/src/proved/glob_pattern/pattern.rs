@@ -103,8 +103,8 @@ impl Pattern {
     }
 }
 
-/// Whether a text of these bytes may be one that the pattern matches, by its ends and a search for a needle: `None` says
-/// that it is not, so for `*.rs` and the bytes of `main.c`. Otherwise it says how much of the ends is decided, for
+/// Whether a text of these bytes may be one that the pattern matches, by its ends and a search for a needle: `None`
+/// says that it is not, so for `*.rs` and the bytes of `main.c`. Otherwise it says how much of the ends is decided, for
 /// [`match_trimmed`]. The bytes need not be UTF-8.
 #[inline(always)]
 pub fn trim(pattern: &Pattern, bytes: &[u8], options: MatchOptions) -> Option<Trimmed> {

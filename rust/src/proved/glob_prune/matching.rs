@@ -6,8 +6,8 @@
 use crate::proved::glob_prune::exclusion::Exclusion;
 use crate::proved::glob_set::PatternSet;
 
-/// A path is excluded where one of the patterns matches it whole, under the set's own options. So by `**/*.o` and `target`
-/// the files `a.o` and `src/a.o` are excluded, and all below the directory `target`.
+/// A path is excluded where one of the patterns matches it whole, under the set's own options. So by `**/*.o` and
+/// `target` the files `a.o` and `src/a.o` are excluded, and all below the directory `target`.
 impl Exclusion for PatternSet {
     fn excludes(&self, path: &str, _is_dir: bool) -> bool {
         self.is_match(path)

@@ -105,5 +105,5 @@ impl IgnoreList {
 
 /// The options by which a rule's pattern matches: case-sensitive, with the separator rule, and without the dot rule.
 fn rule_options() -> MatchOptions {
-    MatchOptions { case_sensitive: true, require_literal_separator: true, require_literal_leading_dot: false }
+    MatchOptions { require_literal_separator: true, ..MatchOptions::new() }
 }

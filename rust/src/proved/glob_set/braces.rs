@@ -11,16 +11,18 @@
 //! | `a{,b}`, `{a}` | `a` and `ab`, `a` |
 //! | `a,b`, `[{,}]` | themselves: outside of braces a comma is itself, in a bracket each character is |
 //!
-//! A bracket is one of a pattern: `[`, perhaps `!`, one character, further ones that are not `]`, and `]`. A `[` that no
-//! such bracket begins with is itself.
+//! A bracket is one of a pattern: `[`, perhaps `!`, one character, further ones that are not `]`, and `]`. A `[` that
+//! no such bracket begins with is itself.
 
 mod counting;
 mod error;
+mod escaping;
 mod expanding;
 mod lexemes;
 
 use counting::count_of;
 pub use error::BraceError;
+pub use escaping::escape;
 use expanding::expand_all;
 use lexemes::lexemes_of;
 

@@ -6,9 +6,10 @@ use crate::proved::glob_set::braces::BraceError;
 use std::error::Error;
 use std::fmt;
 
-/// Why texts were refused as the patterns of a set, by [`PatternSet::from_texts`](crate::proved::glob_set::PatternSet::from_texts). So
-/// `*.o` and `[a` are refused with `Syntax`, the number 1 and the place 0, and that prints as
-/// `pattern 1: Pattern syntax error near position 0: invalid range pattern`.
+/// Why texts were refused as the patterns of a set, by
+/// [`PatternSet::from_texts`](crate::proved::glob_set::PatternSet::from_texts). So `*.o` and `[a` are refused with
+/// `Syntax`, the number 1 and the place 0, and that prints as `pattern 1: Pattern syntax error near position 0: invalid
+/// range pattern`.
 #[derive(Debug)]
 pub enum SetRefusal {
     /// The first text that is not accepted: its number, counted from 0, and its first fault from the left.
@@ -32,11 +33,11 @@ impl Error for SetRefusal {}
 /// [`PatternSet::from_braces`](crate::proved::glob_set::PatternSet::from_braces). Numbers are counted from 0.
 #[derive(Debug)]
 pub enum BraceSetRefusal {
-    /// The first text with a fault, by its number, and the fault of its braces: of `*.o` and `{a`, 1 and that the `{` at
-    /// place 0 is not closed.
+    /// The first text with a fault, by its number, and the fault of its braces: of `*.o` and `{a`, 1 and that the `{`
+    /// at place 0 is not closed.
     Braces(usize, BraceError),
-    /// The first text with a fault, by its number, the first of its alternatives that is not accepted, by its number among
-    /// them, and that one's first fault from the left: of `*.o` and `{a,[}`, 1, 1 and the place 0 in `[`.
+    /// The first text with a fault, by its number, the first of its alternatives that is not accepted, by its number
+    /// among them, and that one's first fault from the left: of `*.o` and `{a,[}`, 1, 1 and the place 0 in `[`.
     Pattern(usize, usize, PatternError),
 }
 

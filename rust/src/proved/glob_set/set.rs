@@ -16,8 +16,6 @@ use crate::proved::glob_set::reading::{read_braces, read_patterns};
 /// ignored.first_match("src/a.o")    // Some(0)
 /// ignored.is_match("src/a.rs")      // false
 /// ```
-///
-/// A call that fails leaves the set as it was.
 pub struct PatternSet {
     patterns: Vec<Pattern>,
     // for each pattern what each text has that it matches
@@ -67,8 +65,8 @@ impl PatternSet {
     }
 
     /// [`new`](Self::new) of all alternatives of all texts, as from `src/*.{c,h}`: those of the first text first, as
-    /// [`expand`](crate::proved::glob_set::braces::expand) returns them. A text matches exactly if one of the alternatives of one of the
-    /// texts matches it.
+    /// [`expand`](crate::proved::glob_set::braces::expand) returns them. A text matches exactly if one of the
+    /// alternatives of one of the texts matches it.
     ///
     /// The error is that of the first text with a fault, [`Braces`](BraceSetRefusal::Braces) or
     /// [`Pattern`](BraceSetRefusal::Pattern).
@@ -108,8 +106,6 @@ impl PatternSet {
 
     /// Replaces the content of `numbers` by the numbers of all patterns that match the text, in ascending order: by
     /// `a*` and `*b`, 0 and 1 for `ab`, and none for `c`.
-    ///
-    /// Then `numbers` has the first of them, some or none.
     pub fn matches_into(&self, text: &str, numbers: &mut Vec<usize>) {
         numbers.clear();
         let (asked, bits) = self.numbers_for(text);

@@ -1,7 +1,5 @@
 //! Made by `bin/rust_crate` from `crates/glob_tree/src/lib.rt`.
 //! Contracts are there, and their proofs in `crates/glob_tree/proofs`; it is changed there alone.
-//!
-//! Trees of files and directories: what a walk asks of one, the paths in it, and the file system as one.
 
 mod kind;
 mod name;

@@ -26,8 +26,6 @@ pub struct Entry {
 }
 
 /// A tree of files and directories: what a walk asks of it.
-///
-/// `tree.look("/")` returns `Look::Dir`.
 pub trait Tree {
     /// What `path` leads to, from the root if it begins with `/`, and otherwise from the current directory.
     fn look(&mut self, path: &str) -> Look;
@@ -37,11 +35,11 @@ pub trait Tree {
     /// [`io::Error`] is the reason why it cannot be listed.
     fn list(&mut self, path: &str) -> Result<Vec<Entry>, io::Error>;
 
-    /// As [`list`](Tree::list), where the names alone matter: `is_dir` may be `false` at any entry. A tree that would have to
-    /// find out what each entry is can leave that out here.
+    /// As [`list`](Tree::list), where the names alone matter: `is_dir` may be `false` at any entry. A tree that would
+    /// have to find out what each entry is can leave that out here.
     ///
-    /// The provided body is [`list`](Tree::list). So of a directory with the directory `a` and the file `b` it returns the
-    /// names `a` and `b`, and says that `a` is a directory. The errors are those of [`list`](Tree::list).
+    /// The provided body is [`list`](Tree::list). So of a directory with the directory `a` and the file `b` it returns
+    /// the names `a` and `b`, and says that `a` is a directory. The errors are those of [`list`](Tree::list).
     fn list_names(&mut self, path: &str) -> Result<Vec<Entry>, io::Error> {
         self.list(path)
     }

@@ -33,8 +33,8 @@ pub enum Cursor {
 pub struct Frame {
     /// Its path.
     pub path: String,
-    /// The number of the component for which it was listed. One with wildcards is matched with the entries itself. For `**`
-    /// the component after it meets them.
+    /// The number of the component for which it was listed. One with wildcards is matched with the entries itself. For
+    /// `**` the component after it meets them.
     pub component: usize,
     /// Whether that component is `**`.
     pub recursive: bool,
@@ -53,8 +53,8 @@ impl Frame {
         }
     }
 
-    /// Goes to the next cursor, and returns the task that comes of the one before it, if any. Each step leaves fewer steps:
-    /// at most two are left for each entry, and one for each of `..` and `.`.
+    /// Goes to the next cursor, and returns the task that comes of the one before it, if any. Each step leaves fewer
+    /// steps: at most two are left for each entry, and one for each of `..` and `.`.
     pub fn step(&mut self, plan: &Plan) -> Option<Task> {
         match self.cursor {
             Cursor::Parent => {

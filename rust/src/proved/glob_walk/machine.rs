@@ -6,19 +6,20 @@
 use std::io;
 
 use crate::proved::glob_pattern::{MatchOptions, PatternError};
-use crate::proved::glob_tree::{Entry, Look};
+use crate::proved::glob_tree::{Entry, Look, Tree};
 use crate::proved::glob_walk::error::GlobResult;
 use crate::proved::glob_walk::meter::Meter;
 use crate::proved::glob_walk::plan::Plan;
 use crate::proved::glob_walk::stack::Stack;
-use crate::proved::glob_walk::task::{Sight, Task, Wanted};
+use crate::proved::glob_walk::task::{Accepted, Task, TaskState};
 use crate::proved::glob_walk::walker::Walker;
 
 /// What a walk does next.
 pub enum Step {
     /// It asks what [`path`](WalkMachine::path) leads to, and [`looked`](WalkMachine::looked) answers.
     Look,
-    /// It asks for the entries of the directory at [`path`](WalkMachine::path), and [`listed`](WalkMachine::listed) answers.
+    /// It asks for the entries of the directory at [`path`](WalkMachine::path), and [`listed`](WalkMachine::listed)
+    /// answers.
     List,
     /// It asks for the same, where the names alone matter: `is_dir` may be `false` at any entry.
     /// [`listed`](WalkMachine::listed) answers.
@@ -29,13 +30,14 @@ pub enum Step {
     Done,
 }
 
-/// What the caller says between two steps.
-pub(crate) enum Answer {
-    /// No question was open.
+/// The answer to the question that is open, as [`ask`](WalkMachine::ask) returns it. Where a look at the directory `a`
+/// is asked for, that is an `Answer::Look` with `Look::Dir`.
+pub enum Answer {
+    /// No question is open.
     Nothing,
     /// The answer to a look.
     Look(Look),
-    /// The answer to a listing.
+    /// The answer to a listing, of entries or of names alone.
     List(Result<Vec<Entry>, io::Error>),
 }
 
@@ -45,16 +47,16 @@ pub(crate) enum Answer {
 /// ```text
 /// let mut machine = WalkMachine::new("*", MatchOptions::new(), 100)?;
 /// machine.next()                  // Step::Look, where machine.path() is "."
-/// machine.looked(Look::Dir)   // Step::List, where machine.path() is "."
+/// machine.looked(Look::Dir)   // Step::ListNames, where machine.path() is "."
 /// machine.listed(Ok(entries))     // of files `y` and `x`: Step::Item(Ok("x"))
 /// machine.next()                  // Step::Item(Ok("y"))
 /// machine.next()                  // Step::Done; machine.spent() is 4
 /// ```
 ///
 /// As long as each answer is that of one content, its questions and items are those of the written listing, one after
-/// another: the items so far are a beginning of all of them, and at `Done` all. Whatever is answered, it charges a unit for
-/// each question before it asks it, and one for each entry that is answered, gives at most one item more than it charged
-/// units, never charges more than its limit, and so comes to an end.
+/// another: the items so far are a beginning of all of them, and at `Done` all. Whatever is answered, it charges a unit
+/// for each question before it asks it, and one for each entry that is answered, gives at most one item more than it
+/// charged units, never charges more than its limit, and so comes to an end.
 pub struct WalkMachine {
     walker: Walker,
     /// How many items were given: up to one more than the limit, so it may be 2^64.
@@ -77,7 +79,7 @@ impl WalkMachine {
     /// A walk after a plan from its start, which is looked up first.
     fn from_plan(plan: Plan, start: String, limit: u64) -> Self {
         let frames = Vec::new();
-        let next = Some(Task { path: start, component: 0, sight: Sight::Unseen(Wanted::Any) });
+        let next = Some(Task { path: start, component: 0, state: TaskState::Unseen(Accepted::Any) });
         let stack = Stack { plan, next, frames };
         let meter = Meter { limit, spent: 0 };
         WalkMachine { walker: Walker { meter, stack }, given: 0, over: false }
@@ -86,6 +88,30 @@ impl WalkMachine {
     /// The next step, where no question is open: at first, and after an item.
     pub fn next(&mut self) -> Step {
         self.resume(Answer::Nothing)
+    }
+
+    /// The next step, where a tree answers the question that is open, if one is. Calls of it alone make a whole walk:
+    /// over a file `x`, those of `*` return `Look`, `ListNames`, the item `x`, and `Done`.
+    ///
+    /// The tree is asked at most one question.
+    pub fn advance<T: Tree>(&mut self, tree: &mut T) -> Step {
+        let answer = self.ask(tree);
+        self.resume(answer)
+    }
+
+    /// The answer of a tree to the question that is open, and `Nothing` where none is. [`resume`](WalkMachine::resume)
+    /// takes it; [`advance`](WalkMachine::advance) is the two in one.
+    pub fn ask<T: Tree>(&self, tree: &mut T) -> Answer {
+        let Some(task) = &self.walker.stack.next else {
+            return Answer::Nothing;
+        };
+        let path = task.path.as_str();
+        match task.state {
+            TaskState::Looking(_) => Answer::Look(tree.look(path)),
+            TaskState::Listing { kinds: true, .. } => Answer::List(tree.list(path)),
+            TaskState::Listing { kinds: false, .. } => Answer::List(tree.list_names(path)),
+            TaskState::Unseen(_) | TaskState::Seen(_) => Answer::Nothing,
+        }
     }
 
     /// Answers the look that is asked for, and returns the next step.
@@ -100,12 +126,13 @@ impl WalkMachine {
         self.resume(Answer::List(listed))
     }
 
-    /// Takes an answer, and goes on to the next step.
-    fn resume(&mut self, answer: Answer) -> Step {
+    /// Takes the answer to the question that is open, or `Nothing` where none is, and returns the next step, as
+    /// [`looked`](WalkMachine::looked), [`listed`](WalkMachine::listed) and [`next`](WalkMachine::next) do.
+    pub fn resume(&mut self, answer: Answer) -> Step {
         if self.over {
             return Step::Done;
         }
-        let turn = self.walker.resume(answer);
+        let turn = self.walker.proceed(answer);
         self.given += turn.item_count();
         self.over = turn.is_last();
         turn.into_step()
@@ -116,9 +143,9 @@ impl WalkMachine {
     /// The path that is asked for, and the empty text where no question is open.
     pub fn path(&self) -> &str {
         match &self.walker.stack.next {
-            Some(task) => match task.sight {
-                Sight::Looking(_) | Sight::Listing { .. } => task.path.as_str(),
-                Sight::Unseen(_) | Sight::Seen(_) => "",
+            Some(task) => match task.state {
+                TaskState::Looking(_) | TaskState::Listing { .. } => task.path.as_str(),
+                TaskState::Unseen(_) | TaskState::Seen(_) => "",
             },
             None => "",
         }

@@ -3,8 +3,8 @@
 //!
 //! The limit of a walk, and what is charged to it.
 //!
-//! Each unit is charged before the question that it pays for, and a question that the limit does not allow is not asked.
-//! Only the entries of a listing are charged after it, since they cannot be counted before.
+//! Each unit is charged before the question that it pays for, and a question that the limit does not allow is not
+//! asked. Only the entries of a listing are charged after it, since they cannot be counted before.
 
 use crate::proved::glob_tree::Entry;
 

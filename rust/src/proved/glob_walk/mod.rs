@@ -18,5 +18,5 @@ mod walker;
 
 pub use ending::End;
 pub use error::{GlobCause, GlobError, GlobResult};
-pub use machine::{Step, WalkMachine};
+pub use machine::{Answer, Step, WalkMachine};
 pub use plain::is_plain;

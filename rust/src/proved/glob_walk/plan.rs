@@ -3,9 +3,9 @@
 //!
 //! What a walk looks for.
 //!
-//! A plan is a pattern that was read once, before the walk: its components in order, each with its kind, the options, and
-//! whether directories alone are given. Neighbouring `**` mean what one of them means, and are read as one. Nothing of it
-//! changes while the walk goes on.
+//! A plan is a pattern that was read once, before the walk: its components in order, each with its kind, the options,
+//! and whether directories alone are given. Neighbouring `**` mean what one of them means, and are read as one. Nothing
+//! of it changes while the walk goes on.
 
 use crate::proved::glob_pattern::{MatchOptions, PatternError};
 use crate::proved::glob_tree::begins_with_dot;
@@ -62,8 +62,8 @@ impl Plan {
         }
     }
 
-    /// Whether it matters which of the entries that are met are directories, where the component with the number is `**`
-    /// or has wildcards: not where it is the last, is no `**`, and directories are not wanted.
+    /// Whether it matters which of the entries that are met are directories, where the component with the number is
+    /// `**` or has wildcards: not where it is the last, is no `**`, and directories are not wanted.
     pub fn needs_kinds(&self, number: usize, recursive: bool) -> bool {
         recursive || self.directories || number + 1 < self.components.len()
     }

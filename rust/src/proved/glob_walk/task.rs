@@ -7,23 +7,23 @@ use crate::proved::glob_tree::Look;
 
 /// Which answers to a look let the walk go on at the path.
 #[derive(Clone, Copy)]
-pub enum Wanted {
+pub enum Accepted {
     /// Any of them.
     Any,
     /// Those that say that something is there.
     Present,
-    /// None of them. The path is looked up all the same: its unit is part of the written listing, which is the same whether
-    /// `.` and `..` stand after a directory or after a file.
+    /// None of them. The path is looked up all the same: its unit is part of the written listing, which is the same
+    /// whether `.` and `..` stand after a directory or after a file.
     Nothing,
 }
 
 /// What is known of a task's path, and so what the task is.
 #[derive(Clone, Copy)]
-pub enum Sight {
+pub enum TaskState {
     /// Nothing: it is to be looked up.
-    Unseen(Wanted),
+    Unseen(Accepted),
     /// Nothing yet: its look was charged and is asked for, and the answer is awaited.
-    Looking(Wanted),
+    Looking(Accepted),
     /// It is there, and this says whether it is a directory: it is to be entered, or given.
     Seen(bool),
     /// It is a directory, and its listing was charged and is asked for.
@@ -35,39 +35,39 @@ pub enum Sight {
     },
 }
 
-/// One thing to do: a path, and the number of the component that is met at it. Past the last component none is left, and
-/// the path is to be given.
+/// One thing to do: a path, and the number of the component that is met at it. Past the last component none is left,
+/// and the path is to be given.
 pub struct Task {
     /// The path, as the walk gives it.
     pub path: String,
     /// The number of the component.
     pub component: usize,
     /// What is known of the path.
-    pub sight: Sight,
+    pub state: TaskState,
 }
 
-impl Wanted {
-    /// What is wanted of the look at a literal component in a path that is a directory or not: `.` and `..` are there in
+impl Accepted {
+    /// Which looks are accepted at a literal component in a path that is a directory or not: `.` and `..` are there in
     /// a directory, whatever the look says.
-    pub fn of_literal(is_current_or_parent: bool, is_dir: bool) -> Wanted {
+    pub fn of_literal(is_current_or_parent: bool, is_dir: bool) -> Accepted {
         if !is_current_or_parent {
-            Wanted::Present
+            Accepted::Present
         } else if is_dir {
-            Wanted::Any
+            Accepted::Any
         } else {
-            Wanted::Nothing
+            Accepted::Nothing
         }
     }
 
-    /// Whether the walk goes on after this answer.
-    pub fn is_met(self, seen: Look) -> bool {
+    /// Whether the walk goes on after this answer to the look.
+    pub fn accepts(self, seen: Look) -> bool {
         match self {
-            Wanted::Any => true,
-            Wanted::Present => match seen {
+            Accepted::Any => true,
+            Accepted::Present => match seen {
                 Look::Missing => false,
                 Look::Dir | Look::Other => true,
             },
-            Wanted::Nothing => false,
+            Accepted::Nothing => false,
         }
     }
 }
@@ -81,11 +81,11 @@ fn is_directory(seen: Look) -> bool {
 }
 
 /// The task that follows a look: to go on at the path with the same component, or nothing where the answer is not the
-/// one that is wanted.
-pub fn task_after_look(path: String, component: usize, wanted: Wanted, seen: Look) -> Option<Task> {
-    if !wanted.is_met(seen) {
+/// one that is accepted.
+pub fn task_after_look(path: String, component: usize, accepted: Accepted, seen: Look) -> Option<Task> {
+    if !accepted.accepts(seen) {
         return None;
     }
-    let sight = Sight::Seen(is_directory(seen));
-    Some(Task { path, component, sight })
+    let state = TaskState::Seen(is_directory(seen));
+    Some(Task { path, component, state })
 }

@@ -8,10 +8,10 @@ use crate::proved::glob_walk::machine::Step;
 use std::io;
 use std::path::PathBuf;
 
-/// What a turn comes to. After each of them but `Went` the loop of turns stops, and hands it out.
+/// What a turn comes to. After each of them but `Continue` the loop of turns stops, and hands it out.
 pub enum Turn {
     /// Neither a path nor an error: the walk goes on.
-    Went,
+    Continue,
     /// A look at the task's path is asked for, and was charged.
     Look,
     /// A listing of the task's path is asked for, and was charged for the directory itself.
@@ -33,7 +33,7 @@ impl Turn {
     /// How many items it comes to.
     pub fn item_count(&self) -> u128 {
         match self {
-            Turn::Went | Turn::Look | Turn::List { .. } | Turn::Done => 0,
+            Turn::Continue | Turn::Look | Turn::List { .. } | Turn::Done => 0,
             Turn::Path(_) | Turn::Unread(..) | Turn::Limit(_) => 1,
         }
     }
@@ -41,7 +41,7 @@ impl Turn {
     /// Whether no item follows it.
     pub fn is_last(&self) -> bool {
         match self {
-            Turn::Went | Turn::Look | Turn::List { .. } => false,
+            Turn::Continue | Turn::Look | Turn::List { .. } => false,
             Turn::Path(_) | Turn::Unread(..) => false,
             Turn::Done | Turn::Limit(_) => true,
         }
@@ -53,7 +53,7 @@ impl Turn {
             Turn::Look => Step::Look,
             Turn::List { kinds: true } => Step::List,
             Turn::List { kinds: false } => Step::ListNames,
-            Turn::Went | Turn::Done => Step::Done,
+            Turn::Continue | Turn::Done => Step::Done,
             Turn::Path(path) => Step::Item(Ok(PathBuf::from(path))),
             Turn::Unread(path, e) => Step::Item(Err(GlobError::read(PathBuf::from(path), e))),
             Turn::Limit(path) => Step::Item(Err(GlobError::limit(PathBuf::from(path)))),

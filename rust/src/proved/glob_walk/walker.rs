@@ -4,15 +4,16 @@
 //! The turns of a walk.
 //!
 //! A walk has a [`Stack`]: one [`Task`] or none, and below it the directories that it is in, one [`Frame`] for each. A
-//! turn does the task: it asks for a look at one path, or for the listing of one directory, or gives one path. Where there
-//! is no task, a turn takes one step in the directory on top, and that step may make the next task. What a turn asks for,
-//! the [`Meter`] is charged for first. The task that asks stays on the stack until it is answered.
+//! turn does the task: it asks for a look at one path, or for the listing of one directory, or gives one path. Where
+//! there is no task, a turn takes one step in the directory on top, and that step may make the next task. What a turn
+//! asks for, the [`Meter`] is charged for first. The task that asks stays on the stack until it is answered.
 //!
-//! Nothing here reads a file: whoever drives the walk answers. And nothing calls itself: a walk is a loop of turns. It comes
-//! to a question or an item because a turn that does neither leaves less weight in the stack.
+//! Nothing here reads a file: whoever drives the walk answers. And nothing calls itself: a walk is a loop of turns. It
+//! comes to a question or an item because a turn that does neither leaves less weight in the stack.
 //!
-//! The written listing is what a walk does, mark by mark. Each method of [`Walker`] has the same contract, `TurnsTo`: what
-//! was left of the listing begins with what the turn charged and gave, and what the stack then stands for is the rest.
+//! The written listing is what a walk does, mark by mark. Each method of [`Walker`] has the same contract, `TurnsTo`:
+//! what was left of the listing begins with what the turn charged and gave, and what the stack then stands for is the
+//! rest.
 
 use std::io;
 
@@ -23,7 +24,7 @@ use crate::proved::glob_walk::machine::Answer;
 use crate::proved::glob_walk::meter::{sort_entries, Meter};
 use crate::proved::glob_walk::plan::Plan;
 use crate::proved::glob_walk::stack::Stack;
-use crate::proved::glob_walk::task::{task_after_look, Sight, Task, Wanted};
+use crate::proved::glob_walk::task::{task_after_look, Accepted, Task, TaskState};
 use crate::proved::glob_walk::turn::Turn;
 
 /// A limit, and what a walk has still to do.
@@ -34,29 +35,29 @@ pub struct Walker {
 
 impl Walker {
     /// Asks for a look at a path, for one unit.
-    fn look(&mut self, path: String, component: usize, wanted: Wanted) -> Turn {
+    fn look(&mut self, path: String, component: usize, accepted: Accepted) -> Turn {
         if !self.meter.charge() {
             return Turn::Limit(path);
         }
-        let sight = Sight::Looking(wanted);
-        self.stack.next = Some(Task { path, component, sight });
+        let state = TaskState::Looking(accepted);
+        self.stack.next = Some(Task { path, component, state });
         Turn::Look
     }
 
-    /// Asks for the listing of a directory for a component, which is `**` or has wildcards, for one unit. Where no entry's
-    /// kind matters, names alone are asked for.
+    /// Asks for the listing of a directory for a component, which is `**` or has wildcards, for one unit. Where no
+    /// entry's kind matters, names alone are asked for.
     fn list(&mut self, path: String, component: usize, recursive: bool) -> Turn {
         if !self.meter.charge() {
             return Turn::Limit(path);
         }
         let kinds = self.stack.plan.needs_kinds(component, recursive);
-        let sight = Sight::Listing { recursive, kinds };
-        self.stack.next = Some(Task { path, component, sight });
+        let state = TaskState::Listing { recursive, kinds };
+        self.stack.next = Some(Task { path, component, state });
         Turn::List { kinds }
     }
 
-    /// Charges the entries of a directory that was listed, and puts it on the stack with its first cursor. Where names alone
-    /// were asked for, the entries' kinds are not used.
+    /// Charges the entries of a directory that was listed, and puts it on the stack with its first cursor. Where names
+    /// alone were asked for, the entries' kinds are not used.
     fn open(&mut self, path: String, component: usize, recursive: bool, kinds: bool, mut entries: Vec<Entry>) -> Turn {
         if !self.meter.charge_entries(entries.len()) {
             return Turn::Limit(path);
@@ -65,7 +66,7 @@ impl Walker {
         // Before `..` if the component begins with a dot, as `**` never does.
         let cursor = if self.stack.plan.is_dotted(component) { Cursor::Parent } else { Cursor::At(0) };
         self.stack.open(Frame { path, component, recursive, entries, cursor });
-        Turn::Went
+        Turn::Continue
     }
 
     /// Meets the components from this number on at a path that is there. If none is left, the path is given: that of a
@@ -77,35 +78,35 @@ impl Walker {
             if is_dir || !self.stack.plan.directories {
                 return Turn::Path(path);
             }
-            return Turn::Went;
+            return Turn::Continue;
         };
         if component.is_literal() {
             let path = path.as_str();
             let task = literal_task(&self.stack.plan, component, path, number, is_dir);
             self.stack.next = Some(task);
-            return Turn::Went;
+            return Turn::Continue;
         }
         if !is_dir {
-            return Turn::Went;
+            return Turn::Continue;
         }
         let recursive = component.is_recursive();
         self.list(path, number, recursive)
     }
 
-    /// One turn: does the task if there is one, and else takes one step in the directory on top. Where there is neither, the
-    /// walk is done. It calls nothing that calls it.
+    /// One turn: does the task if there is one, and else takes one step in the directory on top. Where there is
+    /// neither, the walk is done. It calls nothing that calls it.
     fn turn(&mut self) -> Turn {
         let Some(task) = self.stack.next.take() else {
-            return match self.stack.go_on() {
-                true => Turn::Went,
+            return match self.stack.step() {
+                true => Turn::Continue,
                 false => Turn::Done,
             };
         };
-        let Task { path, component, sight } = task;
-        match sight {
-            Sight::Unseen(wanted) => self.look(path, component, wanted),
-            Sight::Seen(is_dir) => self.enter(path, component, is_dir),
-            Sight::Looking(_) | Sight::Listing { .. } => unreachable!(),
+        let Task { path, component, state } = task;
+        match state {
+            TaskState::Unseen(accepted) => self.look(path, component, accepted),
+            TaskState::Seen(is_dir) => self.enter(path, component, is_dir),
+            TaskState::Looking(_) | TaskState::Listing { .. } => unreachable!(),
         }
     }
 
@@ -113,54 +114,55 @@ impl Walker {
     fn turns(&mut self) -> Turn {
         loop {
             match self.turn() {
-                Turn::Went => {}
+                Turn::Continue => {}
                 turn => return turn,
             }
         }
     }
 
     /// Takes the answer to the question that is open: what comes of it at once.
-    fn hear(&mut self, answer: Answer) -> Turn {
+    fn take_answer(&mut self, answer: Answer) -> Turn {
         match answer {
-            Answer::Nothing => Turn::Went,
-            Answer::Look(seen) => self.see(seen),
-            Answer::List(listed) => self.read(listed),
+            Answer::Nothing => Turn::Continue,
+            Answer::Look(seen) => self.take_look(seen),
+            Answer::List(listed) => self.take_listing(listed),
         }
     }
 
     /// Takes the answer to a look, and leaves the task that follows, if any.
-    fn see(&mut self, answer: Look) -> Turn {
+    fn take_look(&mut self, answer: Look) -> Turn {
         let seen = answer;
         let Some(task) = self.stack.next.take() else { unreachable!() };
-        let Task { path, component, sight } = task;
-        let Sight::Looking(wanted) = sight else { unreachable!() };
-        self.stack.next = task_after_look(path, component, wanted, seen);
-        Turn::Went
+        let Task { path, component, state } = task;
+        let TaskState::Looking(accepted) = state else { unreachable!() };
+        self.stack.next = task_after_look(path, component, accepted, seen);
+        Turn::Continue
     }
 
     /// Takes the answer to a listing.
-    fn read(&mut self, answer: Result<Vec<Entry>, io::Error>) -> Turn {
+    fn take_listing(&mut self, answer: Result<Vec<Entry>, io::Error>) -> Turn {
         let Some(task) = self.stack.next.take() else { unreachable!() };
-        let Task { path, component, sight } = task;
-        let Sight::Listing { recursive, kinds } = sight else { unreachable!() };
+        let Task { path, component, state } = task;
+        let TaskState::Listing { recursive, kinds } = state else { unreachable!() };
         match answer {
             Ok(entries) => self.open(path, component, recursive, kinds, entries),
             Err(e) => Turn::Unread(path, e),
         }
     }
 
-    /// Takes the answer to the question that is open, or `Nothing` where none is, and goes on to the next question or item.
-    fn go_on(&mut self, answer: Answer) -> Turn {
-        match self.hear(answer) {
-            Turn::Went => self.turns(),
+    /// Takes the answer to the question that is open, or `Nothing` where none is, and goes on to the next question or
+    /// item.
+    fn take_turns(&mut self, answer: Answer) -> Turn {
+        match self.take_answer(answer) {
+            Turn::Continue => self.turns(),
             turn => turn,
         }
     }
 
-    /// The turn that [`go_on`](Walker::go_on) ends with. Where no item follows it, as after a refusal, nothing stays on the
-    /// stack, since a walk that is over may be kept for long.
-    pub fn resume(&mut self, answer: Answer) -> Turn {
-        let turn = self.go_on(answer);
+    /// The turn that [`take_turns`](Walker::take_turns) ends with. Where no item follows it, as after a refusal,
+    /// nothing stays on the stack, since a walk that is over may be kept for long.
+    pub fn proceed(&mut self, answer: Answer) -> Turn {
+        let turn = self.take_turns(answer);
         if turn.is_last() {
             self.stack.clear();
         }
@@ -168,10 +170,10 @@ impl Walker {
     }
 }
 
-/// The task of a literal component at a path: the look at the two joined. `.` and `..` are wanted in a directory alone,
+/// The task of a literal component at a path: the look at the two joined. `.` and `..` are there in a directory alone,
 /// and any other name where something is there.
 fn literal_task(plan: &Plan, component: &Component, path: &str, number: usize, is_dir: bool) -> Task {
     let name = component.as_str();
-    let wanted = Wanted::of_literal(is_current_or_parent(name), is_dir);
-    Task { path: child(path, name), component: number + 1, sight: Sight::Unseen(wanted) }
+    let accepted = Accepted::of_literal(is_current_or_parent(name), is_dir);
+    Task { path: child(path, name), component: number + 1, state: TaskState::Unseen(accepted) }
 }

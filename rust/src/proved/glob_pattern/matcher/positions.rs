@@ -1,9 +1,9 @@
 //! Made by `bin/rust_crate` from `crates/glob_pattern/src/matcher/positions.rt`.
 //! Contracts are there, and their proofs in `crates/glob_pattern/proofs`; it is changed there alone.
 //!
-//! A bit-parallel automaton (NFA). Its states are positions: which numbers of leading tokens may have split the characters
-//! so far. Bit n of a word is set where the tokens before the word's nth are done, or the nth has begun and may go on. A
-//! character moves all positions at once.
+//! A bit-parallel automaton (NFA). Its states are positions: which numbers of leading tokens may have split the
+//! characters so far. Bit n of a word is set where the tokens before the word's nth are done, or the nth has begun and
+//! may go on. A character moves all positions at once.
 
 use super::shape_word::{last_before, ShapeWord};
 use super::{Judge, Shaped, WORD};
@@ -68,8 +68,8 @@ fn run<T: Shaped, J: Judge>(tokens: &[T], words: &[ShapeWord], alive: &mut [u64]
     true
 }
 
-/// Steps over a character and asks the tokens of the first word that are alive. Returns those that take it, or `None` if
-/// no character is left.
+/// Steps over a character and asks the tokens of the first word that are alive. Returns those that take it, or `None`
+/// if no character is left.
 #[inline(always)]
 fn ask_next<T: Shaped, J: Judge>(tokens: &[T], word: ShapeWord, alive: u64, judge: &mut J) -> Option<u64> {
     if !judge.step() {

@@ -4,12 +4,13 @@
 //! What a match reads of a pattern, and how a match goes: the ends of the text are compared, a needle is searched for,
 //! and what is left goes through the position sets.
 
-use crate::proved::glob_pattern::matcher::{decide, shape_words, Judge, ShapeWord, Span, WORD};
+use crate::proved::glob_pattern::matcher::{decide, shape_words, Judge, Shape, ShapeWord, Shaped, Span, WORD};
 use crate::proved::glob_pattern::options::MatchOptions;
 use crate::proved::glob_pattern::pattern::char_masks::{masks_of, CharMasks};
-use crate::proved::glob_pattern::pattern::judge::TextJudge;
+use crate::proved::glob_pattern::pattern::judge::{SpanJudge, TextJudge};
 use crate::proved::glob_pattern::pattern::prefilter::{Prefilter, Trimmed};
 use crate::proved::glob_pattern::token::bracket::Bracket;
+use crate::proved::glob_pattern::token::taking::has_rules;
 use crate::proved::glob_pattern::token::Token;
 use std::slice;
 
@@ -19,7 +20,7 @@ pub struct Compiled {
     // their shapes as bits: those of the first 63 tokens, and if there are more tokens, those of all
     first: ShapeWord,
     words: Vec<ShapeWord>,
-    // none in a pattern without `*` and `**`
+    // none where wildcards alone are between the ends, unless there are more than 63 tokens
     masks: Vec<CharMasks>,
     prefilter: Prefilter,
 }
@@ -53,7 +54,10 @@ impl Compiled {
         let list = tokens.as_slice();
         let prefilter = Prefilter::of(list);
         let words = if list.len() <= WORD { Vec::new() } else { shape_words(list) };
-        let masks = masks_of(list, prefilter.lead < list.len());
+        let between = &list[prefilter.lead..list.len() - prefilter.trail];
+        let listed = between.iter().any(|token| token.shape() == Shape::One);
+        let is_long = !between.is_empty() && list.len() > WORD;
+        let masks = masks_of(list, listed || is_long);
         Compiled { first: ShapeWord::new(list, 0), tokens, words, masks, prefilter }
     }
 
@@ -88,8 +92,7 @@ impl Compiled {
         let front = &text[..text.len() - trimmed.end];
         let end = self.tokens.len() - trimmed.end;
         let span = Span { start: trimmed.start, end, enough: self.enough(end, options) };
-        let (answer, _) = self.run(front, span, options);
-        answer
+        self.run_span(front, span, options)
     }
 
     /// Whether the tokens match the text, and how many questions it took.
@@ -109,6 +112,20 @@ impl Compiled {
         (answer, judge.asked())
     }
 
+    /// [`run`](Self::run) without the count, by a judge that needs no masks where there are none.
+    #[inline(always)]
+    fn run_span(&self, text: &str, span: Span, options: MatchOptions) -> bool {
+        if !self.masks.is_empty() || self.tokens.len() > WORD {
+            let (answer, _) = self.run(text, span, options);
+            return answer;
+        }
+        let tokens = self.tokens.as_slice();
+        let masks = self.masks.as_slice();
+        let judge = TextJudge::new(tokens, masks, text, span.start, options);
+        let mut judge = SpanJudge::new(judge, self.first, span.end);
+        decide(tokens, self.words(), span, &mut judge)
+    }
+
     /// The shapes as bits.
     #[inline(always)]
     fn words(&self) -> &[ShapeWord] {
@@ -119,11 +136,11 @@ impl Compiled {
         }
     }
 
-    /// The bit of the last token before number `end`, if it is a wildcard that takes all that is left of any text: once it
-    /// is alive, these tokens match.
+    /// The bit of the last token before number `end`, if it is a wildcard that takes all that is left of any text: once
+    /// it is alive, these tokens match.
     #[inline(always)]
     fn enough(&self, end: usize, options: MatchOptions) -> u64 {
-        if options.require_literal_separator || options.require_literal_leading_dot || self.tokens.len() > WORD {
+        if has_rules(options) || self.tokens.len() > WORD {
             return 0;
         }
         self.first.free_before(end)

@@ -3,12 +3,15 @@
 //!
 //! The judge of a text's characters and a pattern's tokens.
 
+mod span_judge;
+
 use crate::proved::glob_pattern::matcher::{Judge, WORD};
 use crate::proved::glob_pattern::options::MatchOptions;
 use crate::proved::glob_pattern::pattern::char_masks::{class_of, CharMasks, BEYOND};
 use crate::proved::glob_pattern::token::bracket::Bracket;
 use crate::proved::glob_pattern::token::taking::takes;
 use crate::proved::glob_pattern::token::Token;
+pub use span_judge::SpanJudge;
 use std::str::Chars;
 
 /// A judge of a text's characters and a pattern's tokens.
@@ -18,7 +21,8 @@ pub struct TextJudge<'a> {
     options: MatchOptions,
     text: &'a str,
     rest: Chars<'a>,
-    // the character last stepped over and the one before it: `/` comes before the text, too, since a component starts there
+    // the character last stepped over and the one before it: `/` comes before the text, too, since a component starts
+    // there
     current: char,
     before: char,
     count: u128,
@@ -44,11 +48,10 @@ impl<'a> TextJudge<'a> {
         };
         TextJudge { tokens, masks, options, text, rest: text[start..].chars(), current, before, count: 0 }
     }
-}
 
-impl Judge for TextJudge<'_> {
+    /// Steps over the next character. Returns whether there was one.
     #[inline(always)]
-    fn step(&mut self) -> bool {
+    fn advance(&mut self) -> bool {
         // Named for the proof: what is left is UTF-8.
         let _left = self.rest.as_str();
         let Some(c) = self.rest.next() else {
@@ -59,6 +62,19 @@ impl Judge for TextJudge<'_> {
         true
     }
 
+    /// Whether the token takes the character last stepped over.
+    #[inline(always)]
+    fn is_taken(&self, token: usize) -> bool {
+        takes(&self.tokens[token], self.options, self.before == '/', self.current)
+    }
+}
+
+impl Judge for TextJudge<'_> {
+    #[inline(always)]
+    fn step(&mut self) -> bool {
+        self.advance()
+    }
+
     #[inline(always)]
     fn opens(&self) -> bool {
         self.current == '/'
@@ -67,7 +83,7 @@ impl Judge for TextJudge<'_> {
     #[inline(always)]
     fn takes(&mut self, token: usize) -> bool {
         self.count += 1;
-        takes(&self.tokens[token], self.options, self.before == '/', self.current)
+        self.is_taken(token)
     }
 
     #[inline(always)]
@@ -75,7 +91,7 @@ impl Judge for TextJudge<'_> {
         self.count += u128::from(asked.count_ones());
         let opening = self.before == '/';
         let Some(masks) = self.masks.get(word) else {
-            // A pattern without `*` and `**` has no masks.
+            // Where there are no masks, matches go by `SpanJudge`, and only counted ones come here.
             let options = self.options;
             return take_left(self.tokens, word, asked, options, opening, self.current);
         };

@@ -1,8 +1,8 @@
 //! Made by `bin/rust_crate` from `crates/glob_pattern/src/pattern/prefilter.rt`.
 //! Contracts are there, and their proofs in `crates/glob_pattern/proofs`; it is changed there alone.
 //!
-//! What rejects most texts that do not match before a character is stepped over: the tokens of one character at both ends
-//! of a pattern, and bytes that each matching text contains.
+//! What rejects most texts that do not match before a character is stepped over: the tokens of one character at both
+//! ends of a pattern, and bytes that each matching text contains.
 
 use crate::proved::glob_pattern::matcher::{Shape, Shaped};
 use crate::proved::glob_pattern::options::MatchOptions;

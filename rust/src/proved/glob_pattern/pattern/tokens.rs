@@ -51,8 +51,8 @@ pub fn token_kind(pattern: &Pattern, token: usize) -> TokenKind {
     }
 }
 
-/// Whether the token of this number, counted from 0, takes the character. `opening`: a component starts at its place. So
-/// token 1 of `a*` takes any character.
+/// Whether the token of this number, counted from 0, takes the character. `opening`: a component starts at its place.
+/// So token 1 of `a*` takes any character.
 #[inline(always)]
 pub fn token_takes(pattern: &Pattern, token: usize, options: MatchOptions, opening: bool, c: char) -> bool {
     takes(&tokens_in(pattern)[token], options, opening, c)

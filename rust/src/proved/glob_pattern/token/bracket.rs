@@ -86,8 +86,8 @@ fn read_entries(content: &[char]) -> Vec<Entry> {
     entries
 }
 
-/// Whether `c` and `x` are the same character. Case-insensitively, two of ASCII are also the same if their lowercase forms
-/// are.
+/// Whether `c` and `x` are the same character. Case-insensitively, two of ASCII are also the same if their lowercase
+/// forms are.
 pub fn is_same(case_sensitive: bool, c: char, x: char) -> bool {
     c == x || (!case_sensitive && c.is_ascii() && x.is_ascii() && c.to_ascii_lowercase() == x.to_ascii_lowercase())
 }

@@ -13,11 +13,7 @@ pub fn takes(token: &Token<Bracket>, options: MatchOptions, opening: bool, c: ch
     }
     // The call needs the options in memory. With a copy, which is made on this path alone, those of the caller stay in
     // registers.
-    let copy = MatchOptions {
-        case_sensitive: options.case_sensitive,
-        require_literal_separator: options.require_literal_separator,
-        require_literal_leading_dot: options.require_literal_leading_dot,
-    };
+    let copy = MatchOptions { ..options };
     takes_nonliteral(token, copy, opening, c)
 }
 
@@ -35,11 +31,31 @@ fn takes_nonliteral(token: &Token<Bracket>, options: MatchOptions, opening: bool
 
 /// Whether no rule excludes the character from wildcards.
 fn is_free(options: MatchOptions, opening: bool, c: char) -> bool {
-    !(options.require_literal_separator && c == '/') && !is_excluded_dot(options, opening, c)
+    !is_excluded_separator(options, c) && !is_excluded_dot(options, opening, c)
+}
+
+/// Whether the separator rule excludes the character from wildcards: it is a `/`.
+#[inline(always)]
+pub fn is_excluded_separator(options: MatchOptions, c: char) -> bool {
+    options.require_literal_separator && c == '/'
 }
 
 /// Whether the dot rule excludes the character from wildcards: it is a leading dot at a component start.
 #[inline(always)]
 pub fn is_excluded_dot(options: MatchOptions, opening: bool, c: char) -> bool {
     options.require_literal_leading_dot && opening && c == '.'
+}
+
+/// Whether `**` may take the name: no rule excludes its first character at a component start.
+pub fn is_open(options: MatchOptions, name: &str) -> bool {
+    match name.as_bytes() {
+        [] => true,
+        [first, ..] => !is_excluded_dot(options, true, *first as char),
+    }
+}
+
+/// Whether some rule is set, so that it may exclude characters from wildcards.
+#[inline(always)]
+pub fn has_rules(options: MatchOptions) -> bool {
+    options.require_literal_separator || options.require_literal_leading_dot
 }

@@ -5,12 +5,12 @@
 //!
 //! Each step leaves at most one task, and a child's path is made only with its task.
 
-use crate::proved::glob_pattern::MatchOptions;
-use crate::proved::glob_tree::{begins_with_dot, child, join, Entry};
+use crate::proved::glob_pattern::{is_open, MatchOptions};
+use crate::proved::glob_tree::{child, join, Entry};
 use crate::proved::glob_walk::component::Component;
 use crate::proved::glob_walk::frame::Frame;
 use crate::proved::glob_walk::plan::Plan;
-use crate::proved::glob_walk::task::{Sight, Task, Wanted};
+use crate::proved::glob_walk::task::{Accepted, Task, TaskState};
 
 impl Frame {
     /// The look at `..` or `.` in the directory (joined also to `.`: `./..`), if the component matches that name.
@@ -24,7 +24,7 @@ impl Frame {
         Some(Task {
             path: join(self.path.as_str(), name),
             component: self.component + 1,
-            sight: Sight::Unseen(Wanted::Any),
+            state: TaskState::Unseen(Accepted::Any),
         })
     }
 
@@ -35,7 +35,7 @@ impl Frame {
         let Some(component) = met else {
             return None;
         };
-        Some(Task { path: child(self.path.as_str(), name), component, sight: Sight::Seen(entry.is_dir) })
+        Some(Task { path: child(self.path.as_str(), name), component, state: TaskState::Seen(entry.is_dir) })
     }
 
     /// The task to go on with the same `**` in an entry, if it enters it.
@@ -44,7 +44,7 @@ impl Frame {
         if !self.recursive || !is_entered(plan.options, name, entry.is_dir) {
             return None;
         }
-        Some(Task { path: child(self.path.as_str(), name), component: self.component, sight: Sight::Seen(true) })
+        Some(Task { path: child(self.path.as_str(), name), component: self.component, state: TaskState::Seen(true) })
     }
 }
 
@@ -68,7 +68,7 @@ fn match_at(plan: &Plan, component: &Component, next: usize, name: &str) -> Opti
     }
 }
 
-/// Whether `**` enters an entry: a directory, and under the dot rule no dotted one.
+/// Whether `**` enters an entry: a directory whose name it may take.
 fn is_entered(options: MatchOptions, name: &str, is_dir: bool) -> bool {
-    is_dir && !(options.require_literal_leading_dot && begins_with_dot(name))
+    is_dir && is_open(options, name)
 }

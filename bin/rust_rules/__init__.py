@@ -1,1 +1,0 @@
-"""The rules by which bin/rust_crate makes Rust from proved sources."""
