@@ -1,6 +1,6 @@
 #!/usr/bin/env bash
-# Runs the static library for C: calls from C under valgrind and the sanitizers, and the example. What is not installed is
-# left out, and said. Its last line is 'N passed, M failed'.
+# Runs the static library for C: calls from C under valgrind and the sanitizers, and the example. What is not installed
+# is left out, and said. Its last line is 'N passed, M failed'.
 set -uo pipefail
 root=$(cd "$(dirname "$(readlink -f "${BASH_SOURCE[0]}")")/.." && pwd)
 . "$root/tests/lib/commands.sh"
@@ -51,14 +51,12 @@ calls_from_c() {
     local cc wrap='-Wl,--wrap=malloc,--wrap=realloc,--wrap=free'
     check 'one prefix' one_prefix
     check 'one version' one_version
-    if has g++; then check 'the header in C++' header_in_cpp; else left_out 'the header in C++, without g++'; fi
-    has valgrind || left_out 'calls from C under valgrind, which is not there'
+    check_with g++ 'the header in C++' header_in_cpp
     for cc in gcc clang; do
         has "$cc" || { left_out "calls from C by $cc"; continue; }
         check "C is compiled by $cc" build "$work/calls" "$root/tests/border/calls.c" "$cc" "$wrap"
-        if has valgrind; then
-            check "calls from C by $cc, under valgrind" valgrind -q --leak-check=full --error-exitcode=9 "$work/calls"
-        fi
+        check_with valgrind "calls from C by $cc, under valgrind" \
+            valgrind -q --leak-check=full --error-exitcode=9 "$work/calls"
         check "C is compiled by $cc, with sanitizers" build "$work/calls" "$root/tests/border/calls.c" "$cc" "$wrap" \
             -fsanitize=address,undefined -fno-sanitize-recover=all
         check "calls from C by $cc, with sanitizers" "$work/calls"
@@ -67,11 +65,5 @@ calls_from_c() {
     done
 }
 
-if "$root/bin/c_library" >"$work/log" 2>&1; then
-    calls_from_c
-else
-    tail -n 40 "$work/log"
-    failed=1
-fi
-echo "$passed passed, $failed failed"
-[ "$failed" = 0 ]
+check 'the library is built' "$root/bin/c_library"
+[ "$failed" != 0 ] || calls_from_c

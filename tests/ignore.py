@@ -1,15 +1,16 @@
 #!/usr/bin/env python3
-"""Compares ignore lists with git: questions whose answers tests/rows/git.answers keeps, as `glob_vectors rules` reads and
-writes them (of git 2.39, and at the end, each with an R, lists that docs/IGNORE.md says are refused); then random lists and
-trees, and which line decides about each path.
+"""Compares ignore lists with git: questions whose answers tests/rows/git.answers keeps, as `glob_vectors rules` reads
+and writes them (of git 2.39, and at the end, each with an R, lists that docs/IGNORE.md says are refused); then random
+lists and trees, and which line decides about each path.
 
-    tests/ignore.py [--seconds N] [--seed N] [--lists N]
+    tests/ignore.py [--seed N] [--lists N]
 
-Goes on for so many seconds, or over so many lists (2,000). Says how many questions there were, which lists were refused,
-and each difference; docs/IGNORE.md has those that are let pass. The last line counts kept answers and lists: 'N passed, M
-failed'. Without git there are the kept answers alone. The program is glob_vectors, as it was last built."""
+Says how many questions there were, which lists were refused, and each difference; docs/IGNORE.md has those that are let
+pass. The last line counts kept answers and lists: 'N passed, M failed'."""
 
 import argparse
+import collections
+import itertools
 import os
 import random
 import re
@@ -17,11 +18,10 @@ import shutil
 import subprocess
 import sys
 import tempfile
-import time
 from pathlib import Path
 
-PROGRAM = Path(__file__).resolve().parent.parent / "crates/glob_vectors/out/glob_vectors"
-KEPT = Path(__file__).resolve().parent / "rows"
+from lib.count import ROOT, Count, left_out
+from lib.sides import ANSWERS
 
 # How many lists one process of git is asked about.
 BATCH = 400
@@ -60,8 +60,8 @@ def rule(rng):
         text = "".join(rng.choice(SOUP) for _ in range(rng.randint(1, 7)))
     else:
         text = "/".join(rng.choice(NAMES) for _ in range(rng.randint(1, 3)))
-    text = rng.choice(["", "", "", "!", "/", "!/"]) + text + rng.choice(["", "", "", "", "/", " ", "  ", "\r", "\\ ", " \\ "])
-    return text
+    front, end = rng.choice(["", "", "", "!", "/", "!/"]), rng.choice(["", "", "", "", "/", " ", "  ", "\r", "\\ ", " \\ "])
+    return front + text + end
 
 
 def file_of(rng):
@@ -88,43 +88,35 @@ def git_says(folder, cases):
     subprocess.run(["git", "init", "-q", folder], check=True)
     asked = []
     for number, (text, paths) in enumerate(cases):
-        top = os.path.join(folder, f"L{number}")
-        os.mkdir(top)
-        with open(os.path.join(top, ".gitignore"), "w", newline="") as out:
-            out.write(text)
+        top = Path(folder, f"L{number}")
+        top.mkdir()
+        (top / ".gitignore").write_text(text, newline="")
         for path, is_dir in paths:
-            whole = os.path.join(top, path)
-            if is_dir:
-                os.makedirs(whole, exist_ok=True)
-            else:
-                os.makedirs(os.path.dirname(whole), exist_ok=True)
-                open(whole, "w").close()
-            asked.append(f"L{number}/{path}")
+            (top / path if is_dir else (top / path).parent).mkdir(parents=True, exist_ok=True)
+            is_dir or (top / path).touch()
+        asked += [f"L{number}/{path}" for path, _ in paths]
     env = {**os.environ, "GIT_CONFIG_NOSYSTEM": "1", "HOME": folder, "XDG_CONFIG_HOME": folder}
     done = subprocess.run(["git", "-C", folder, "check-ignore", "--no-index", "-v", "-n", "-z", "--stdin"],
         input="".join(path + "\0" for path in asked).encode(), capture_output=True, env=env)
-    if done.returncode > 1:
-        sys.exit(f"git: {done.stderr.decode()}")
     fields = done.stdout.decode().split("\0")[:-1]
-    if fields[3::4] != asked:
-        sys.exit("git: other paths")
+    if done.returncode > 1 or fields[3::4] != asked:
+        sys.exit(f"git: {done.stderr.decode()}")
     return [int(line or 0) for line in fields[1::4]]
+
+
+def answers(asked):
+    """The lines that the program answers."""
+    done = subprocess.run([ANSWERS, "rules"], input=asked, stdout=subprocess.PIPE, check=True)
+    return done.stdout.decode().splitlines()
 
 
 def ours(cases):
     """The answers of the program: of each list a refusal or the deciding line of each question."""
-    asked = []
-    for text, paths in cases:
-        asked += ["L" + text] + [("d" if is_dir else "f") + path for path, is_dir in paths]
-    done = subprocess.run([PROGRAM, "rules"], input="\0".join(asked).encode(), capture_output=True)
-    if done.returncode != 0:
-        sys.exit(f"the program: {done.stderr.decode()}")
-    lines = iter(done.stdout.decode().split("\n"))
-    answers = []
+    asked = [word for text, paths in cases for word in ["L" + text, *("fd"[is_dir] + path for path, is_dir in paths)]]
+    lines = iter(answers("\0".join(asked).encode()))
     for _, paths in cases:
         first = next(lines)
-        answers.append(first if first.startswith("R ") else [int(first)] + [int(next(lines)) for _ in paths[1:]])
-    return answers
+        yield first if first.startswith("R ") else [int(first)] + [int(next(lines)) for _ in paths[1:]]
 
 
 # what docs/IGNORE.md says that is refused: an unknown class, a bracket beyond ASCII, stars beside other text, a NUL
@@ -140,33 +132,23 @@ def is_named(text, path):
     return STARS_AT_END.search(text) or not path.isascii() and any(unit in text for unit in ["?", "[!", "[^"])
 
 
-class Count:
+class Comparer:
     """What was asked and found."""
 
     def __init__(self):
-        self.questions = self.decided = self.named = self.passed = self.failed = 0
-        self.refused = {}
+        self.count, self.kinds, self.refused = Count(), collections.Counter(), {}
 
     def refuse(self, text, refusal):
         number, reason = refusal.removeprefix("R line ").split(": ", 1)
         line = text.split("\n")[int(number) - 1]
         self.refused.setdefault(reason, set()).add(line)
-        if not REFUSED.search(line):
-            self.failed += 1
-            print(f"list {text!r}: refused, {reason}")
+        self.count.check(REFUSED.search(line), f"list {text!r}: refused, {reason}")
 
     def compare(self, text, paths, expected, answer):
-        wrong = 0
-        for (path, is_dir), git, we in zip(paths, expected, answer):
-            self.questions += 1
-            self.decided += git != 0
-            if git != we and is_named(text, path):
-                self.named += 1
-            elif git != we:
-                wrong += 1
-                print(f"list {text!r}, {'directory' if is_dir else 'file'} {path!r}: git {git}, ours {we}")
-        self.passed += wrong == 0
-        self.failed += wrong != 0
+        wrong = [(path, git, we) for (path, _), git, we in zip(paths, expected, answer) if git != we]
+        meant = [it for it in wrong if is_named(text, it[0])]
+        self.kinds += {"questions": len(paths), "decided": sum(map(bool, expected)), "meant": len(meant)}
+        self.count.check(wrong == meant, f"list {text!r}, path, line of git, line of ours: {wrong}")
 
     def batch(self, cases):
         with tempfile.TemporaryDirectory() as folder:
@@ -179,35 +161,33 @@ class Count:
                 self.compare(text, paths, lines, answer)
 
     def compare_kept(self):
-        ran = subprocess.run([PROGRAM, "rules"], input=(KEPT / "git.questions").read_bytes(), stdout=subprocess.PIPE)
-        found, kept = (it.decode().splitlines() for it in [ran.stdout, (KEPT / "git.answers").read_bytes()])
-        wrong = [f"kept answer {at}: {git}, ours {we}" for at, (git, we) in enumerate(zip(kept, found), 1) if git != we]
-        print(*wrong[:20], sep="\n", end="\n" * bool(wrong))
-        self.passed += min(len(found), len(kept)) - len(wrong)
-        self.failed += len(wrong) + abs(len(found) - len(kept))
+        kept = (ROOT / "tests/rows/git.answers").read_text(encoding="utf-8").splitlines()
+        found = answers((ROOT / "tests/rows/git.questions").read_bytes())
+        for at, (git, we) in enumerate(itertools.zip_longest(kept, found), 1):
+            self.count.check(git == we, f"kept answer {at}: {git}, ours {we}")
 
     def report(self):
         for reason, found in sorted(self.refused.items()):
             print(f"refused: {reason}, as {sorted(found, key=lambda line: (len(line), line))[:8]}")
-        print(f"{self.questions} questions, of which a line decides {self.decided}; {self.named} differences that docs/IGNORE.md names")
-        print(f"{self.passed} passed, {self.failed} failed")
+        questions, decided, meant = (self.kinds[kind] for kind in ("questions", "decided", "meant"))
+        print(f"{questions} questions, of which a line decides {decided}; {meant} differences that docs/IGNORE.md names")
+        self.count.end()
 
 
 def main():
     options = argparse.ArgumentParser()
-    options.add_argument("--seconds", type=int, default=0)
     options.add_argument("--seed", type=int, default=random.randrange(10**6))
     options.add_argument("--lists", type=int, default=2000)
     options = options.parse_args()
     print(f"--seed {options.seed}")
-    rng, count, end, asked = random.Random(options.seed), Count(), time.time() + options.seconds, 0
-    count.compare_kept()
-    while shutil.which("git") and (time.time() < end if options.seconds else asked < options.lists):
-        cases = [(file_of(rng), tree(rng)) for _ in range(BATCH)]
-        count.batch([(text, paths) for text, paths in cases if paths])
-        asked += BATCH
-    count.report()
-    sys.exit(1 if count.failed else 0)
+    source, comparer = random.Random(options.seed), Comparer()
+    comparer.compare_kept()
+    if not shutil.which("git"):
+        left_out("random ignore lists, since there is no git")
+    for _ in range(options.lists // BATCH if shutil.which("git") else 0):
+        cases = [(file_of(source), tree(source)) for _ in range(BATCH)]
+        comparer.batch([(text, paths) for text, paths in cases if paths])
+    comparer.report()
 
 
 main()

@@ -1,24 +1,23 @@
 #!/usr/bin/env python3
-"""Runs each example of the man pages, and each call of the programs that the README shows. Checks the man pages where
-`mandoc` or `groff` is installed, asks bash, fish and zsh what the completions offer, and installs all of it. Prints what
-is wrong, and last how many checks passed and failed."""
+"""Runs each example of the man pages and of the tutorial, and each call of the programs that the README shows. Checks
+the man pages where `mandoc` or `groff` is installed, asks bash, fish and zsh what the completions offer, and installs
+all of it. Prints what is wrong, and last how many checks passed and failed."""
 
-import contextlib
 import os
-import pty
 import re
 import shutil
 import subprocess
-import sys
 import tempfile
 from pathlib import Path
 
-ROOT = Path(__file__).resolve().parent.parent
+from lib.count import ROOT, Count, left_out
+
+README, TUTORIAL = ((ROOT / name).read_text(encoding="utf-8") for name in ("README.md", "rust/TUTORIAL.md"))
 PROGRAMS = sorted(page.stem for page in ROOT.glob("man/*.1"))
 ROFF = {r"\(aq": "'", r"\(ga": "`", r"\e": "\\", r"\-": "-", r"\&": ""}
 
-# The words of a command line, of which the last is being written, and what is offered for it: by bash, and by fish and zsh
-# where that differs. Neither of them offers `--`, and fish offers options only after a hyphen.
+# The words of a command line, of which the last is being written, and what is offered for it: by bash, and by fish and
+# zsh where that differs. Neither of them offers `--`, and fish offers options only after a hyphen.
 COMPLETIONS = [
     ("globs ", "--help --version escape explain find help ignore match"),
     ("globs m", "match"),
@@ -33,13 +32,23 @@ COMPLETIONS = [
     ("globs ignore -0 fo", "folder"),
     ("globs help f", "find"),
 ]
-FISH = {"globs ": "escape explain find help ignore match", "globs find --m": "--max-depth", "globs find -n 5 fo": "folder/",
-    "globs find --ignore fo": "folder/", "globs ignore -0 fo": "folder/"}
-FISH |= {line: found.removeprefix("-- ") for line, found in COMPLETIONS if found.startswith("-- ")}
-ZSH = {line: found.removeprefix("-- ") for line, found in COMPLETIONS if found.startswith("-- ")}
+NO_DASHES = {line: found.removeprefix("-- ") for line, found in COMPLETIONS}
+OTHERS = {"bash": {}, "zsh": NO_DASHES, "fish": NO_DASHES | {"globs ": "escape explain find help ignore match",
+    "globs find --m": "--max-depth", "globs find -n 5 fo": "folder/", "globs find --ignore fo": "folder/",
+    "globs ignore -0 fo": "folder/"}}
 
-# What zsh reads at its start in a terminal: it completes each line of the file ASKED, and writes a line with all that it
-# offers to the file OFFERED. Then it ends. What is offered goes through `compadd`, which with -O, -A or -D only asks.
+BASH = """
+. "$1"
+read -r -a COMP_WORDS <<<"$2"
+[ "${2% }" = "$2" ] || COMP_WORDS+=('')
+COMP_CWORD=$((${#COMP_WORDS[@]} - 1))
+_globs
+printf '%s\\n' "${COMPREPLY[@]}"
+"""
+
+# What zsh reads at its start in a terminal: it completes each line of the file ASKED, and writes a line with all that
+# it offers to the file OFFERED. Then it ends. What is offered goes through `compadd`, which with -O, -A or -D only
+# asks.
 ZSHRC = """
 fpath=("$SITE" $fpath)
 autoload -Uz compinit && compinit -u -D
@@ -66,150 +75,126 @@ zle -N zle-line-init
 
 MADE = {"bash": "share/bash-completion/completions/globs", "zsh": "share/zsh/site-functions/_globs",
     "fish": "share/fish/vendor_completions.d/globs.fish"}
-INSTALLED = sorted([*MADE.values(), *(file.format(name) for name in PROGRAMS for file in ("bin/{}", "share/man/man1/{}.1"))])
+PAGES = [f"share/man/man1/{name}.1" for name in PROGRAMS]
+INSTALLED = sorted([*MADE.values(), *PAGES, *(f"bin/{name}" for name in PROGRAMS)])
+
+
+def blocks_of(page, kind):
+    return re.findall(rf"^```{kind}\n(.*?)^```$", page, re.M | re.S)
+
+
+def shown(blocks):
+    """The commands after a `$`, each with what it writes."""
+    return [it for block in blocks for it in re.findall(r"^\$ (.*)\n((?:(?!\$ ).*\n)*)", block, re.M)]
 
 
 def examples():
-    """The commands of the man pages, and those that the README shows after a `$`, each with what it writes."""
+    """The commands of the man pages, and those of the README's blocks of text."""
     text = "".join((ROOT / f"man/{name}.1").read_text(encoding="utf-8") for name in PROGRAMS)
     blocks = re.findall(r"^\.EX\n(.*?)^\.EE$", text, re.M | re.S)
     blocks = [re.sub(r"\\\(..|\\.", lambda it: ROFF[it[0]], block) for block in blocks]
-    blocks += re.findall(r"^```text\n(.*?)^```$", (ROOT / "README.md").read_text(encoding="utf-8"), re.M | re.S)
-    return [it for block in blocks for it in re.findall(r"^\$ (.*)\n((?:(?!\$ ).*\n)*)", block, re.M)]
+    return shown(blocks + blocks_of(README, "text"))
 
 
 def shown_calls():
     """The calls of the program in the README, each with what it writes, which is listed at the end of its comment."""
-    text = (ROOT / "README.md").read_text(encoding="utf-8")
-    found = []
-    for block in re.findall(r"^```sh\n(.*?)^```$", text, re.M | re.S):
-        for command, comment in re.findall(r"^(.*bin/glob(?:_run|s) .*?) +# (.*)$", block, re.M):
-            found.append((command, comment.split(": ")[-1].replace(", ", "\n") + "\n"))
-    return found
+    calls = [it for block in blocks_of(README, "sh")
+        for it in re.findall(r"^(.*bin/glob(?:_run|s) .*?) +# (.*)$", block, re.M)]
+    return [(command, comment.split(": ")[-1].replace(", ", "\n") + "\n") for command, comment in calls]
 
 
-def run_example(command, output, folder, path):
-    how = {"cwd": folder, "env": {"PATH": f"{path}:/usr/bin:/bin"}, "stdin": subprocess.DEVNULL, "timeout": 60}
-    ran = subprocess.run(["bash", "-c", command], capture_output=True, text=True, **how)
-    return [] if (ran.stdout, ran.stderr) == (output, "") else [f"{command}: {ran.stdout}{ran.stderr}"]
+class Manual:
+    """The folders where everything is installed, and where programs run."""
 
+    def __init__(self, work):
+        self.prefix, self.folder, self.home, self.count = work / "prefix", work / "here", work, Count()
+        (self.folder / "folder").mkdir(parents=True)
 
-def lint():
-    """What a checker of man pages says of the pages, and None where none is installed."""
-    checkers = (["mandoc", "-Tlint", "-Wwarning"], ["groff", "-man", "-ww", "-z"])
-    for words in checkers:
-        if shutil.which(words[0]):
-            ran = subprocess.run([*words, *ROOT.glob("man/*.1")], capture_output=True, text=True)
-            return [ran.stdout + ran.stderr] if ran.returncode or ran.stdout or ran.stderr else []
-    print("left out: neither mandoc nor groff is installed, so nothing checks the man pages")
-    return None
+    def run(self, words, **how):
+        """The status, the output and the errors of a command."""
+        ran = subprocess.run(words, **{"cwd": self.folder, "capture_output": True, "text": True, **how})
+        return ran.returncode, ran.stdout, ran.stderr
 
+    def check(self, name, found, wanted):
+        self.count.check(found == wanted, f"{name}: {found} in place of {wanted}")
 
-def completion_faults(line, wanted, folder, made):
-    script = """
-        . "$1"
-        read -r -a COMP_WORDS <<<"$2"
-        [ "${2% }" = "$2" ] || COMP_WORDS+=('')
-        COMP_CWORD=$((${#COMP_WORDS[@]} - 1))
-        _globs
-        printf '%s\\n' "${COMPREPLY[@]}"
-    """
-    ran = subprocess.run(["bash", "-c", script, "bash", made, line], cwd=folder, capture_output=True, text=True)
-    offered = " ".join(sorted(ran.stdout.split()))
-    return [] if (offered, ran.stderr) == (wanted, "") else [f"{line}: {offered} {ran.stderr}"]
+    def has(self, tool, what):
+        """Whether a tool is there. If not, it says what is left out."""
+        return shutil.which(tool) or left_out(f"{what}, since there is no {tool}")
 
+    def install(self):
+        """All is installed, of one version, and a wrong call is refused."""
+        status, _, errors = self.run([ROOT / "bin/install", self.prefix])
+        files = sorted(str(it.relative_to(self.prefix)) for it in self.prefix.rglob("*") if it.is_file())
+        self.check(f"bin/install {errors}", (status, files), (0, INSTALLED))
+        version = re.search(r"^## (.*)$", (ROOT / "CHANGELOG.md").read_text(encoding="utf-8"), re.M)[1]
+        self.check("the version", self.run([self.prefix / "bin/globs", "--version"]), (0, f"globs {version}\n", ""))
+        for name in PROGRAMS:
+            page = (ROOT / f"man/{name}.1").read_text(encoding="utf-8")
+            self.count.check(f'"{name} {version}"' in page, f"the version in the man page of {name}")
+        for words in ([], ["--help"]):
+            status, output, errors = self.run([ROOT / "bin/install", *words])
+            self.check(f"bin/install {words}", (status, output, errors.count("\n")), (2, "", 1))
 
-def fish_faults(line, wanted, folder, made):
-    """What fish offers otherwise than it should, and None where it is not installed."""
-    if not shutil.which("fish"):
-        return None
-    script = "source $argv[1]; complete -C $argv[2]"
-    words = ["fish", "--no-config", "-c", script, "--", made, line]
-    ran = subprocess.run(words, cwd=folder, capture_output=True, text=True)
-    offered = " ".join(sorted(it.split("\t")[0] for it in ran.stdout.splitlines()))
-    return [] if (offered, ran.stderr) == (wanted, "") else [f"fish: {line}: {offered} {ran.stderr}"]
+    def pages(self):
+        """What checkers say of the man pages."""
+        for words in (["mandoc", "-Tlint", "-Wwarning"], ["groff", "-man", "-ww", "-z"]):
+            if self.has(words[0], "a check of the man pages"):
+                self.check(words[0], self.run([*words, *ROOT.glob("man/*.1")]), (0, "", ""))
 
+    def completions(self):
+        """What the shells offer, and whether they can read their files."""
+        made = {shell: self.prefix / file for shell, file in MADE.items()}
+        offers = {"bash": self.bash, "fish": self.fish, "zsh": self.zsh}
+        for shell, file in made.items():
+            if self.has(shell, f"completions of {shell}"):
+                self.check(f"{shell} -n", self.run([shell, "-n", file]), (0, "", ""))
+                for (line, wanted), found in zip(COMPLETIONS, offers[shell](file)):
+                    self.check(f"{shell}: {line}", " ".join(sorted(found)), OTHERS[shell].get(line, wanted))
 
-def run_in_terminal(words, **how):
-    """Runs a command in a terminal of its own, for at most a minute, and shows nothing of it."""
-    near, far = pty.openpty()
-    words = ["timeout", "--foreground", "60", *words]
-    ran = subprocess.Popen(words, stdin=far, stdout=far, stderr=far, start_new_session=True, **how)
-    os.close(far)
-    # Once nobody writes to a terminal, reading it is an error.
-    with contextlib.suppress(OSError):
-        while os.read(near, 4096):
-            pass
-    os.close(near)
-    ran.wait()
+    def bash(self, file):
+        for line, _ in COMPLETIONS:
+            yield "".join(self.run(["bash", "-c", BASH, "bash", file, line])[1:]).split()
 
+    def fish(self, file):
+        script = "source $argv[1]; complete -C $argv[2]"
+        for line, _ in COMPLETIONS:
+            offered = "".join(self.run(["fish", "--no-config", "-c", script, "--", file, line])[1:])
+            yield [it.split("\t")[0] for it in offered.splitlines()]
 
-def zsh_faults(folder, home, made):
-    """What zsh offers otherwise than it should, of each line. An empty list where it is not installed."""
-    if not shutil.which("zsh"):
-        print("left out: there is no zsh, so it is not asked what it offers")
-        return []
-    (home / ".zshrc").write_text(ZSHRC, encoding="utf-8")
-    asked, offered = home / "asked", home / "offered"
-    asked.write_text("".join(f"{line}\n" for line, _ in COMPLETIONS), encoding="utf-8")
-    offered.touch()
-    env = {"PATH": os.environ["PATH"], "TERM": "dumb", "HOME": home, "ZDOTDIR": home}
-    env |= {"SITE": made.parent, "ASKED": asked, "OFFERED": offered}
-    run_in_terminal(["zsh", "-d", "-i"], cwd=folder, env=env)
-    found = [" ".join(sorted(it.split())) for it in offered.read_text(encoding="utf-8").splitlines()]
-    found += ["no answer"] * (len(COMPLETIONS) - len(found))
-    wanted = [ZSH.get(line, it) for line, it in COMPLETIONS]
-    rows = zip(COMPLETIONS, wanted, found)
-    return [[] if it == want else [f"zsh: {line}: {it}"] for (line, _), want, it in rows]
+    def zsh(self, file):
+        """Asked in a terminal of its own, for at most a minute, of which nothing is shown."""
+        (self.home / ".zshrc").write_text(ZSHRC, encoding="utf-8")
+        asked, offered = self.home / "asked", self.home / "offered"
+        asked.write_text("".join(f"{line}\n" for line, _ in COMPLETIONS), encoding="utf-8")
+        offered.touch()
+        env = {"PATH": os.environ["PATH"], "TERM": "dumb", "HOME": self.home, "ZDOTDIR": self.home}
+        env |= {"SITE": file.parent, "ASKED": asked, "OFFERED": offered}
+        words = ["script", "-qec", "timeout --foreground 60 zsh -d -i", "/dev/null"]
+        self.run(words, env=env, stdin=subprocess.DEVNULL)
+        found = [it.split() for it in offered.read_text(encoding="utf-8").splitlines()]
+        return found + [["no answer"]] * (len(COMPLETIONS) - len(found))
 
-
-def syntax_faults(shell, file):
-    """What a shell says of a file that it cannot read, and None where the shell is not installed."""
-    if not shutil.which(shell):
-        print(f"left out: there is no {shell}, so its completions are not read")
-        return None
-    ran = subprocess.run([shell, "-n", file], capture_output=True, text=True)
-    return [f"{shell}: {ran.stderr}"] if ran.returncode or ran.stderr else []
-
-
-def install_faults(prefix):
-    ran = subprocess.run([ROOT / "bin/install", prefix], capture_output=True, text=True)
-    found = sorted(str(it.relative_to(prefix)) for it in Path(prefix).rglob("*") if it.is_file())
-    if ran.returncode or found != INSTALLED:
-        return [f"bin/install: {found} {ran.stderr}"]
-    version = re.search(r"^## (.*)$", (ROOT / "CHANGELOG.md").read_text(encoding="utf-8"), re.M)[1]
-    said = subprocess.run([f"{prefix}/bin/globs", "--version"], capture_output=True, text=True).stdout
-    faults = [] if said == f"globs {version}\n" else [f"the installed program is {said}"]
-    for name in PROGRAMS:
-        page = (ROOT / f"man/{name}.1").read_text(encoding="utf-8")
-        faults += [] if f'"{name} {version}"' in page else [f"the version in the man page of {name}"]
-    return faults
-
-
-def refusal_faults(words):
-    ran = subprocess.run([ROOT / "bin/install", *words], capture_output=True, text=True)
-    is_told = ran.returncode == 2 and ran.stdout == "" and ran.stderr.count("\n") == 1
-    return [] if is_told else [f"bin/install {words}: {ran.returncode} {ran.stderr}"]
+    def examples(self):
+        (self.folder / "folder").rmdir()
+        empty = self.home / "tutorial"
+        empty.mkdir()
+        installed = f"{self.prefix}/bin:/usr/bin:/bin"
+        rows = [(self.folder, installed, examples()), (empty, installed, shown(blocks_of(TUTORIAL, "console")))]
+        for folder, path, calls in [*rows, (ROOT, os.environ["PATH"], shown_calls())]:
+            for command, output in calls:
+                _, *found = self.run(["bash", "-c", command], cwd=folder, env={"PATH": path}, stdin=subprocess.DEVNULL)
+                self.check(command, found, [output, ""])
 
 
 def main():
     with tempfile.TemporaryDirectory() as work:
-        prefix, folder = Path(work, "prefix"), Path(work, "here")
-        (folder / "folder").mkdir(parents=True)
-        checks = [install_faults(prefix), lint(), refusal_faults([]), refusal_faults(["--help"])]
-        checks += [completion_faults(*it, folder, prefix / MADE["bash"]) for it in COMPLETIONS]
-        checks += [fish_faults(line, FISH.get(line, it), folder, prefix / MADE["fish"]) for line, it in COMPLETIONS]
-        checks += zsh_faults(folder, Path(work), prefix / MADE["zsh"])
-        checks += [syntax_faults(shell, prefix / file) for shell, file in MADE.items()]
-        (folder / "folder").rmdir()
-        checks += [run_example(*it, folder, prefix / "bin") for it in examples()]
-        checks += [run_example(*it, ROOT, os.environ["PATH"]) for it in shown_calls()]
-    done = [faults for faults in checks if faults is not None]
-    failed = sum(bool(faults) for faults in done)
-    for fault in (fault for faults in done for fault in faults):
-        print(f"failed: {fault}")
-    print(f"{len(done) - failed} passed, {failed} failed")
-    sys.exit(bool(failed))
+        manual = Manual(Path(work))
+        manual.install()
+        manual.pages()
+        manual.completions()
+        manual.examples()
+    manual.count.end()
 
 
 main()

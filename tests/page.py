@@ -1,22 +1,21 @@
 #!/usr/bin/env python3
-"""Checks the page of docs/page: that it is made of the present sources, and, where Chromium is installed, that it answers
-as `globs explain` does on 200 patterns and lines from a seeded generator, piece by piece, and that it walks a
-tree as `find` does. It drives the page's own fields in a headless browser, without a network. Its last line is 'N passed,
-M failed'."""
+"""Checks the page of docs/page: that it is made of the present sources, and, where Chromium is installed, that it
+answers as `globs explain` does on 200 patterns and lines from a seeded generator, piece by piece, and that it walks a
+tree as `find` does. It drives the page's own fields in a headless browser, without a network. Its last line is 'N
+passed, M failed'."""
 
 import json
 import random
 import re
 import shutil
 import subprocess
-import sys
 import tempfile
 from pathlib import Path
 from urllib.parse import unquote
 
-ROOT = Path(__file__).resolve().parent.parent
+from lib.count import ROOT, Count, left_out
+
 PAGE = ROOT / "docs/page/index.html"
-PROGRAM, GLOBS = str(ROOT / "bin/glob_run"), str(ROOT / "bin/globs")
 CASES = 200
 TREE = ["src/main.rs", "src/walk/lines.rs", "src/walk/_x.rs", "src/walk/.hidden.rs", "src/empty/", "docs/A.md", "README.md"]
 WALKS = ["*", "**", "src/**/[!_]*.rs", "**/*.rs", "*/", "src/*/*", "docs/A*.md", "missing/*", "**/empty", "[R-S]*"]
@@ -25,31 +24,30 @@ WALKS = ["*", "**", "src/**/[!_]*.rs", "**/*.rs", "*/", "src/*/*", "docs/A*.md",
 DRIVER = """<script>
 async function drive(cases, walks, tree) {
   await ready;
-  const said = [], walked = [];
+  const said = [], walked = [], options = ["ignore", "separator", "dot"];
   const fill = (id, value) => { $(id).value = value; };
-  const shown = () => $("reading").querySelector(".wrong");
+  const changed = (id) => $(id).dispatchEvent(new Event("input"));
   for (const [pattern, flags, line] of cases) {
     fill("pattern", pattern); fill("lines", line);
-    ["ignore", "separator", "dot"].forEach((id, i) => ($(id).checked = Boolean(flags & (1 << i))));
-    $("pattern").dispatchEvent(new Event("input"));
-    const item = $("answers").firstChild;
-    const runs = item ? [...item.querySelectorAll(":scope > .chips .run")].map((it) => it.textContent.replace("∅", "")) : [];
+    options.forEach((id, i) => ($(id).checked = Boolean(flags & (1 << i))));
+    changed("pattern");
+    const item = $("answers").firstChild, wrong = $("reading").querySelector(".wrong");
+    const chips = item ? [...item.querySelectorAll(":scope > .chips .run")] : [];
+    const runs = chips.map((it) => it.textContent.replace("∅", ""));
     const stop = item && item.querySelector(".caret .stop");
     const before = stop ? [...(stop.previousSibling ? stop.previousSibling.textContent : "")].length : null;
-    said.push([shown() ? shown().textContent : null, item ? item.className : "", runs, before]);
+    said.push([wrong ? wrong.textContent : null, item ? item.className : "", runs, before]);
   }
   fill("tree", tree.join("\\n"));
-  ["ignore", "separator", "dot"].forEach((id) => ($(id).checked = false));
+  options.forEach((id) => ($(id).checked = false));
   for (const pattern of walks) {
-    fill("pattern", pattern);
-    $("pattern").dispatchEvent(new Event("input"));
-    fill("step", $("step").max);
-    $("step").dispatchEvent(new Event("input"));
+    fill("pattern", pattern); changed("pattern");
+    fill("step", $("step").max); changed("step");
     walked.push([...$("steps").querySelectorAll(".item")].map((it) => it.firstChild.textContent.slice(7)));
   }
-  document.body.replaceChildren(make("pre", { id: "said" }, encodeURIComponent(JSON.stringify({ said, walked }))));
+  document.body.replaceChildren(make("pre", { id: "said" }, encodeURIComponent(JSON.stringify([said, walked]))));
 }
-drive(@CASES@, @WALKS@, @TREE@);
+drive(@ASKED@);
 </script>"""
 
 
@@ -59,16 +57,18 @@ def cases():
     lexemes = ["a", "b", ".", "/", "?", "*", "*", "[ab]", "[!a]", "[a-c]", "**/", "ä", "A", "_", "[", "**", "{a}"]
     made = []
     while len(made) < CASES:
-        pattern = "".join(chance.choice(lexemes) for _ in range(chance.randint(1, 6)))
-        line = re.sub(r"\*\*/|\*|\?|\[[^]]*\]", lambda _: chance.choice(["", "a", "b", "c", "a/", "ab", ".", "ä"]), pattern)
-        line = line if chance.random() < 0.8 else line + chance.choice("ab/._")
-        if line.strip() and "\n" not in line:
+        pattern = "".join(chance.choices(lexemes, k=chance.randint(1, 6)))
+        pieces = ["", "a", "b", "c", "a/", "ab", ".", "ä"]
+        line = re.sub(r"\*\*/|\*|\?|\[[^]]*\]", lambda _: chance.choice(pieces), pattern)
+        line += chance.choice("ab/._") if chance.random() < 0.2 else ""
+        if line.strip():
             made.append((pattern, chance.randrange(8), line))
     return made
 
 
-def run(words, text="", folder=None, program=PROGRAM):
-    done = subprocess.run([program, *words], input=text, capture_output=True, text=True, cwd=folder, check=False)
+def run(program, words, folder=None):
+    program = ROOT / f"crates/{program}/out/{program}"
+    done = subprocess.run([program, *words], capture_output=True, text=True, cwd=folder)
     return done.returncode, done.stdout, done.stderr
 
 
@@ -76,10 +76,11 @@ def expected(pattern, flags, line):
     """What the page has to show: a fault; or that the line matches, and the pieces, those of neighbouring characters as
     one; or that it does not, and after how many characters it stops."""
     options = [word for i, word in enumerate(("-i", "-s", "-d")) if flags & (1 << i)]
-    status, out, error = run(["explain", *options, "--", pattern, line], program=GLOBS)
+    status, out, error = run("globs", ["explain", *options, "--", pattern, line])
     if status == 2:
-        fault = re.match(r"globs: Pattern syntax error near position (\d+): (.*)\n", error)
-        return [f"Refused at character {fault[1]}: {fault[2]}", "", [], None]
+        message, _, caret = error.removeprefix("globs: ").split("\n")[:3]
+        message = message.replace("unclosed [", "invalid range pattern")
+        return [f"Refused at character {caret.index('^')}: {message}", "", [], None]
     if status == 1:
         return [None, "no", [], out.split("\n")[1].index("^")]
     runs, was_character = [], False
@@ -94,61 +95,46 @@ def expected(pattern, flags, line):
     return [None, "yes", runs, None]
 
 
-def tree_in(folder):
-    for path in TREE:
-        at = Path(folder) / path
-        (at if path.endswith("/") else at.parent).mkdir(parents=True, exist_ok=True)
-        if not path.endswith("/"):
-            at.touch()
-
-
 def shown(browser, made):
-    """What the page shows, by a copy of it with the driver."""
-    driver = DRIVER
-    for name, value in (("@CASES@", made), ("@WALKS@", WALKS), ("@TREE@", TREE)):
-        driver = driver.replace(name, json.dumps(value).replace("<", "\\u003c"))
+    """What the page shows of cases and of walks, by a copy of it with the driver."""
+    asked = json.dumps([made, WALKS, TREE])[1:-1].replace("<", "\\u003c")
     with tempfile.TemporaryDirectory() as folder:
         copy = Path(folder) / "page.html"
-        copy.write_text(PAGE.read_text(encoding="utf-8").replace("</body>", driver + "</body>"), encoding="utf-8")
-        words = ["--headless", "--no-sandbox", "--disable-gpu", f"--user-data-dir={folder}/user", "--virtual-time-budget=60000"]
-        done = subprocess.run([browser, *words, "--dump-dom", copy.as_uri()], capture_output=True, text=True, timeout=300, check=False)
+        page = PAGE.read_text(encoding="utf-8").replace("</body>", DRIVER.replace("@ASKED@", asked) + "</body>")
+        copy.write_text(page, encoding="utf-8")
+        words = [browser, "--headless", "--no-sandbox", "--disable-gpu", f"--user-data-dir={folder}/user"]
+        words += ["--virtual-time-budget=60000", "--dump-dom", copy.as_uri()]
+        done = subprocess.run(words, capture_output=True, text=True, timeout=300)
     found = re.search(r'<pre id="said">([^<]*)</pre>', done.stdout)
-    return json.loads(unquote(found[1])) if found else {"said": [], "walked": []}
+    return json.loads(unquote(found[1])) if found else [[], []]
 
 
 def main():
-    faults = []
-    passed = 0
-
-    def check(name, is_so):
-        nonlocal passed
-        passed += bool(is_so)
-        if not is_so:
-            faults.append(name)
-
+    count = Count()
     sources = subprocess.run([ROOT / "bin/page", "--sources"], capture_output=True, text=True, check=True).stdout.strip()
     text = PAGE.read_text(encoding="utf-8")
-    check("docs/page/index.html is not made of these sources: call bin/page", f'name="sources" content="{sources}"' in text)
-    check("the page has an address of another host", not re.search(r'(src|href)="(https?:)?//', text))
+    count.check(f'content="{sources}"' in text, "docs/page/index.html is not of these sources: call bin/page")
+    count.check(not re.search(r'(src|href)="(https?:)?//', text), "the page has an address of another host")
     browser = shutil.which("chromium") or shutil.which("chromium-browser") or shutil.which("google-chrome")
     if not browser:
-        print("left out: there is no Chromium, so the page's answers are not compared")
-    else:
-        made = cases()
-        found = shown(browser, made)
-        check(f"the page answered {len(found['said'])} cases of {CASES}", len(found["said"]) == CASES)
-        for case, said in zip(made, found["said"]):
-            wanted = expected(*case)
-            check(f"{case}: the page shows {said}, the program {wanted}", said == wanted)
-        with tempfile.TemporaryDirectory() as folder:
-            tree_in(folder)
-            for pattern, said in zip(WALKS, found["walked"]):
-                wanted = run(["find", "--", pattern], folder=folder)[1].splitlines()
-                check(f"the walk {pattern} shows {said}, the program {wanted}", said == wanted)
-    for fault in faults:
-        print(f"failed: {fault}")
-    print(f"{passed} passed, {len(faults)} failed")
-    return 1 if faults else 0
+        left_out("the page's answers, since there is no Chromium")
+        count.end()
+    made = cases()
+    said, walked = shown(browser, made)
+    is_whole = (len(said), len(walked)) == (CASES, len(WALKS))
+    count.check(is_whole, f"the page answered {len(said)} cases and {len(walked)} walks")
+    for case, found in zip(made, said):
+        wanted = expected(*case)
+        count.check(found == wanted, f"{case}: the page shows {found}, the program {wanted}")
+    with tempfile.TemporaryDirectory() as folder:
+        for path in TREE:
+            at = Path(folder) / path
+            (at if path.endswith("/") else at.parent).mkdir(parents=True, exist_ok=True)
+            at.is_dir() or at.touch()
+        for pattern, found in zip(WALKS, walked):
+            wanted = run("glob_run", ["find", "--", pattern], folder)[1].splitlines()
+            count.check(found == wanted, f"the walk {pattern} shows {found}, the program {wanted}")
+    count.end()
 
 
-sys.exit(main())
+main()

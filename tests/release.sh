@@ -5,15 +5,6 @@ set -uo pipefail
 root=$(cd "$(dirname "$(readlink -f "${BASH_SOURCE[0]}")")/.." && pwd)
 . "$root/tests/lib/commands.sh"
 
-# if_there TOOL NAME COMMAND..: a row that needs a tool
-if_there() {
-    if has "$1"; then
-        check "${@:2}"
-    else
-        left_out "$2, since there is no $1"
-    fi
-}
-
 # alone COMMAND..: in the unpacked folder, without `rt` and the toolchain on PATH
 alone() {
     (cd "$work"/there/* && PATH=$(tr : '\n' <<<"$PATH" | while read -r folder; do
@@ -67,9 +58,7 @@ check 'it is unpacked' tar -C "$work/there" -xf "$work/made"/*.tar.gz
 check 'the program' alone program
 check 'the filter' alone bash -c '[ "$(printf "a.o\nb.c\n" | bin/globs ignore <(echo "*.o"))" = b.c ]'
 check 'man pages' alone test -s share/man/man1/glob_run.1 -a -s share/man/man1/globs.1
-if_there pkg-config 'from C' alone from_c
-if_there cargo 'from Rust' alone from_rust
+check_with pkg-config 'from C' alone from_c
+check_with cargo 'from Rust' alone from_rust
 check 'what it was made from' alone built
 check 'licences and the page' alone test -s LICENSE-MIT -a -s rust/LICENSE-APACHE -a -s README.md
-echo "$passed passed, $failed failed"
-[ "$failed" = 0 ]

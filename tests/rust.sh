@@ -1,8 +1,7 @@
 #!/usr/bin/env bash
-# Checks the Rust crate in rust/: it is what bin/rust_crate makes of the sources, its tests, the tables of answers, and the
-# package alone in a folder; and beside the original crate `glob`, of the Debian package librust-glob-dev, the same tests, a
-# million random matches, 5,000 walks (or WALKS) and programs of users. What is not installed is left out, and said. Its
-# last line is 'N passed, M failed'.
+# Checks the Rust crate in rust/: it is what bin/rust_crate makes of the sources, its tests, the tables of answers, and
+# the package alone in a folder; and over the original crate `glob`, of the Debian package librust-glob-dev, the same
+# tests and programs of users. What is not installed is left out, and said. Its last line is 'N passed, M failed'.
 set -uo pipefail
 root=$(cd "$(dirname "$(readlink -f "${BASH_SOURCE[0]}")")/.." && pwd)
 . "$root/tests/lib/commands.sh"
@@ -15,19 +14,10 @@ cargo_in() {
     (cd "$1" && export CARGO_NET_OFFLINE=true && cargo "$2" -q "${@:3}")
 }
 
-# The generated files are those of the sources now, and generating stops where a contract is of no known form.
+# The generated files are those of the sources now.
 made_anew() {
     "$root/bin/rust_crate" "$root/crates" "$work/proved" && diff -r "$work/proved" "$root/rust/src/proved"
 }
-
-stops() {
-    cp -r "$root/crates" "$work/crates" && "$1" "$work/crates/glob_pattern/src/grammar.rt" &&
-        ! "$root/bin/rust_crate" "$work/crates" "$work/wrong" && rm -r "$work/crates"
-}
-
-odd_clause() { sed -i '0,/ensures/s//promises/' "$1"; }
-
-made_failure() { sed -i '0,/let mut place = 0;/s//return Err(AllocError);/' "$1"; }
 
 # The package is all that a user gets: its tests and examples run in a folder of its own.
 packed() {
@@ -44,7 +34,6 @@ original() {
 # The programs of users over both crates, which differ by a line of Cargo.toml, print the same.
 programs() {
     local side at
-    cp -r "$root/tests/rust/programs" "$work/programs" && chmod -R a+rX "$work/programs" || return
     for side in theirs ours; do
         [ "$side" = theirs ] ||
             sed -i 's|^glob = .*|glob = { package = "cadmiumdove", path = "../rust" }|' "$work/programs/Cargo.toml"
@@ -57,18 +46,15 @@ programs() {
 }
 
 beside_the_original() {
-    local file beside=$work/beside
-    cp -r "$root/tests/rust/beside" "$beside"
+    local file
     cp -r "$(original)" "$work/glob"
-    mkdir "$beside/tests"
+    cp -r "$root/tests/rust/programs" "$work/programs" && mkdir "$work/programs/tests"
+    # What the tests look for in the folder of their package.
+    touch "$work/programs"/src/{a,b}.rs && chmod -R a+rX "$work/programs"
     for file in glob walks; do
-        sed 's/^use cadmiumdove::/use glob::/' "$root/rust/tests/$file.rs" >"$beside/tests/$file.rs"
+        sed 's/^use cadmiumdove::/use glob::/' "$root/rust/tests/$file.rs" >"$work/programs/tests/$file.rs"
     done
-    check 'the same tests over the original' cargo_in "$beside" test
-    check 'beside is built' cargo_in "$beside" build --release
-    cp "$CARGO_TARGET_DIR/release/beside" "$work/run"
-    check 'beside the original' "${as[@]}" "$work/run" 1000000 "${WALKS:-5000}"
-    grep -E ' matches, | walks, ' "$work/log"
+    check 'the same tests over the original' cargo_in "$work/programs" test
     check 'programs of users' programs
 }
 
@@ -82,25 +68,16 @@ elif [ "$(id -u)" = 0 ]; then
     left_out 'directories that are shut, since root has no setpriv'
 fi
 
-if has rustfmt; then
-    check 'made anew it is the same' made_anew
-    check 'an unknown clause stops' stops odd_clause
-    check 'a failure that is made stops' stops made_failure
-else
-    left_out 'making the crate anew, since there is no rustfmt'
-fi
+check_with rustfmt 'made anew it is the same' made_anew
 if has cargo; then
     cp -rL "$root/rust" "$crate" && chmod -R a+rX "$crate"
     check 'the layout' cargo_in "$crate" fmt --check
     check 'the tests' cargo_in "$crate" test
     [ "${#as[@]}" = 0 ] ||
-        check 'the tests as another user' cargo_in "$crate" test --tests --config "target.'cfg(unix)'.runner = '${as[*]}'"
+        check 'the tests as another user' \
+            cargo_in "$crate" test --tests --config "target.'cfg(unix)'.runner = '${as[*]}'"
     check 'the package alone' packed
-    if cargo clippy --version >/dev/null 2>&1; then
-        check 'clippy' cargo_in "$crate" clippy --all-targets -- -D warnings
-    else
-        left_out 'clippy, which is not there'
-    fi
+    check_with cargo-clippy 'clippy' cargo_in "$crate" clippy --all-targets -- -D warnings
     if [ -n "$(original)" ]; then
         beside_the_original
     else
@@ -109,5 +86,3 @@ if has cargo; then
 else
     left_out 'the tests of the crate, since there is no cargo'
 fi
-echo "$passed passed, $failed failed"
-[ "$failed" = 0 ]

@@ -1,19 +1,23 @@
-# What the rows of border.sh and release.sh are made of, each a command that has to end well. Sourced with $root set. Sets
-# $work, a folder that goes when the script ends; $passed and $failed, how many rows did.
+# What the rows of border.sh, release.sh and rust.sh are made of, each a command that has to end well. Sourced with
+# $root set. Sets $work, a folder that goes when the script ends, which says how many rows passed and failed.
 
 work=$(mktemp -d) || exit 2
-trap 'rm -rf "$work"' EXIT
 passed=0 failed=0
+
+finish() {
+    rm -rf "$work"
+    echo "$passed passed, $failed failed"
+    [ "$failed" = 0 ] || exit 1
+}
+trap finish EXIT
 
 # check NAME COMMAND..: one more row, which passes if the command does
 check() {
-    local name=$1
-    shift
-    if "$@" >"$work/log" 2>&1; then
+    if "${@:2}" >"$work/log" 2>&1; then
         passed=$((passed + 1))
     else
         failed=$((failed + 1))
-        echo "failed: $name"
+        echo "failed: $1"
         tail -n 40 "$work/log"
     fi
 }
@@ -24,4 +28,9 @@ left_out() {
 
 has() {
     command -v "$1" >/dev/null
+}
+
+# check_with TOOL NAME COMMAND..: a row that needs a tool
+check_with() {
+    if has "$1"; then check "${@:2}"; else left_out "$2, since there is no $1"; fi
 }

@@ -1,0 +1,224 @@
+"""Makes patterns, texts and trees from a source of random numbers."""
+
+import itertools
+import os
+import re
+import shutil
+from dataclasses import dataclass
+
+from lib.reference import LEXEME
+
+# Of what patterns and texts are made. Few characters, so that they meet. Some lie where case or a range may err: beside
+# the letters of ASCII, and beyond ASCII where another case has more or fewer bytes, or is a letter of ASCII.
+ALPHABETS = ["ab", "aAbB", "ab/.", "aB/.-", "aéÉ𝒳/", "@AZ[`az{", "kK\u212asS\u017f", "09-!]^", "ab*?[]!-"]
+ALPHABETS += ["\u0301e\x01\x7f{,}\\"]
+SPECIAL = "[]!*?-/."
+# Stars for which the crate, which tries one way after another, still ends soon.
+STARS, STARS_OF_LONG_PATTERN = 4, 2
+LONGEST_SHORT = 12
+# Around the numbers of units that fill a word of the matcher.
+LONG = (60, 130)
+
+NAME_PIECES = [*"aaabbABB...-![]*?éÉ𝒳", "ab", "a.b", "..", "[a]", "[!a]", "**"]
+NODES = 24
+DEEPEST = 4
+
+# A few names, and components for them: those that come more often stand here more often. Some have a fault. By most of
+# the plain ones the whole pattern says what a walk finds.
+FEW_NAMES = ["a", "b", "ab", "A", ".a", ".b", "a.b", "é", "-"]
+FEW_COMPONENTS = ["**"] * 4 + ["*"] * 3 + ["?", "a", "a*", "*b", ".*", ".?", "[ab]", "[!a]*", ".", "..", "", "A", ".a"]
+FEW_COMPONENTS += ["é", "a[b]", "[b", "]*", "é**", "***", "??", "*.*", "[!.]*", "[.]*", "*[ab]", ".[.]", "*a*b*"]
+PLAIN_COMPONENTS = ["**"] * 4 + ["*"] * 4 + ["?"] * 2 + ["a", "b", "a*", "*b", "[ab]", "[!a]*", "*.*", ".a", ".*"]
+PLAIN_COMPONENTS += [".[a-z]"]
+COMPONENTS_OF_WALKS = [FEW_COMPONENTS, PLAIN_COMPONENTS]
+
+# In a pattern, the path of the folder that the tree's folder, `tree`, is in.
+ABOVE = "\0"
+# The kinds of directories that cannot be listed, with what is left to do there: nothing, or to look names up.
+MODES = {"shut": 0, "blind": 0o111}
+SETTINGS = ["", "d", "s", "sd", "i", "id", "is", "isd"]
+
+
+def bracket(source, alphabet):
+    """A bracket with characters and ranges; now and then one that is not closed."""
+    entries = []
+    for _ in range(source.choice([1, 1, 1, 2, 2, 3, 4])):
+        first, last = source.choice(alphabet), source.choice(alphabet)
+        entries.append(source.choice([first, first, f"{first}-{last}", source.choice(SPECIAL)]))
+    return "[" + source.choice(["", "", "!"]) + "".join(entries) + source.choice(["]"] * 15 + [""])
+
+
+def lexeme(source, alphabet):
+    """A piece of a pattern."""
+    stars = source.choice(["**/", "/**/", "/**"])
+    made = [source.choice(alphabet), "?", "*", stars, bracket(source, alphabet), source.choice(SPECIAL)]
+    return source.choices(made, [50, 10, 10, 8, 14, 8])[0]
+
+
+def with_few_stars(pattern, most):
+    """The pattern, with an `a` in the place of each further run of stars."""
+    runs = itertools.count(1)
+    return re.sub(r"\*+", lambda found: found[0] if next(runs) <= most else "a", pattern)
+
+
+def pattern(source, alphabet):
+    """A pattern. Many are no patterns, since they have a fault."""
+    if source.random() < 0.02:
+        length, stars = source.randint(*LONG), STARS_OF_LONG_PATTERN
+    else:
+        length, stars = min(round(source.gammavariate(2, 2)), LONGEST_SHORT), STARS
+    return with_few_stars("".join(lexeme(source, alphabet) for _ in range(length)), stars)
+
+
+def text_of(source, alphabet, most=6):
+    """A text of any characters of an alphabet, `/` and `.`."""
+    return "".join(source.choices(alphabet + "/.", k=source.randint(0, most)))
+
+
+def piece(source, alphabet, found):
+    """What a unit of a pattern may be."""
+    if found == "**/":
+        return source.choice(["", "", "a/", "a/b/", ".a/", "/"])
+    if found[0] == "*":
+        return text_of(source, alphabet, 3)
+    if found == "?" or found.startswith("[!"):
+        return source.choice(alphabet + "/.")
+    if found[0] == "[" and len(found) > 1:
+        return source.choice(found[1:-1])
+    return found.swapcase() if source.random() < 0.1 else found
+
+
+def text(source, alphabet, lexemes):
+    """A text. Half of them are such that a pattern of these lexemes may match, and some of those but for a character
+    that is taken out, put in or replaced."""
+    if source.random() < 0.4:
+        return text_of(source, alphabet)
+    found = "".join(piece(source, alphabet, it) for it in lexemes)
+    if source.random() < 0.7:
+        return found
+    at = source.randint(0, len(found))
+    return found[:at] + source.choice(["", source.choice(alphabet + "/.")]) + found[at + source.choice([0, 1]) :]
+
+
+def match_case(source, texts):
+    """A pattern and some texts."""
+    alphabet = source.choice(ALPHABETS)
+    made = pattern(source, alphabet)
+    lexemes = re.findall(rf"\*\*/|{LEXEME.pattern}", made, re.S)
+    return made, [text(source, alphabet, lexemes) for _ in range(texts)]
+
+
+def name(source):
+    """A name of any pieces."""
+    found = "".join(source.choices(NAME_PIECES, k=source.choice([1, 1, 2, 2, 3])))
+    return found if found not in (".", "..") else "a"
+
+
+def few_name(source):
+    """One of a few names."""
+    return source.choice(FEW_NAMES)
+
+
+@dataclass(frozen=True)
+class Tree:
+    """What is below a folder: paths with kinds, each after the one that it is in. A kind is `dir`, `file`, one of
+    MODES, or `link ` and the target."""
+
+    nodes: tuple
+
+    def paths(self):
+        return [path for path, _ in self.nodes]
+
+    def texts_below(self, directory):
+        """The text of each file and directory below a directory, in directories that links lead to as well."""
+        kinds = dict(self.nodes)
+        for path, kind in self.nodes:
+            above, _, name = path.rpartition("/")
+            if above == directory:
+                yield name
+                is_link = kind.startswith("link ")
+                target = os.path.normpath(os.path.join(above, kind.removeprefix("link "))) if is_link else path
+                if kinds.get(target) == "dir" or kinds.get(target) in MODES:
+                    yield from (f"{name}/{rest}" for rest in self.texts_below(target))
+
+    def build(self, folder):
+        """Makes the nodes in a folder that is not there yet."""
+        os.makedirs(folder)
+        for path, kind in self.nodes:
+            place = os.path.join(folder, path)
+            if kind == "dir" or kind in MODES:
+                os.mkdir(place)
+            elif kind == "file":
+                open(place, "x").close()
+            else:
+                os.symlink(kind.removeprefix("link "), place)
+        for path, kind in reversed(self.nodes):
+            if kind in MODES:
+                os.chmod(os.path.join(folder, path), MODES[kind])
+
+    def remove(self, folder):
+        """Removes the folder."""
+        for path, kind in self.nodes:
+            if kind in MODES:
+                os.chmod(os.path.join(folder, path), 0o700)
+        shutil.rmtree(folder)
+
+
+def links(source, directories, files, name):
+    """Links: to a file or a directory without links, to nothing, and to themselves. So none leads around in a cycle."""
+    targets = [path for path in directories if source.random() < 0.5]
+    inner = tuple(f"{target}/" for target in targets)
+    places = [path for path in ["", *directories] if not f"{path}/".startswith(inner)]
+    for _ in range(source.choice([0, 0, 1, 2, 3])):
+        place, own = source.choice(places), name(source)
+        up = "../" * (place.count("/") + 1 if place else 0)
+        goals = [up + target for target in [*targets, *files]] + ["missing", own]
+        yield (f"{place}/{own}" if place else own), f"link {source.choice(goals)}"
+
+
+def tree(source, may_shut, name=name):
+    """A tree of directories, files, links and, where it can be made, a directory that cannot be listed."""
+    nodes, directories = {}, []
+    for _ in range(source.randint(1, NODES)):
+        place = source.choice(["", *directories[-4:]])
+        path = f"{place}/{name(source)}" if place else name(source)
+        if path in nodes:
+            continue
+        nodes[path] = source.choice(["dir", "file"])
+        if nodes[path] == "dir" and path.count("/") + 1 < DEEPEST:
+            directories.append(path)
+    files = [path for path, kind in nodes.items() if kind == "file"]
+    for path, kind in links(source, directories, files, name):
+        nodes.setdefault(path, kind)
+    if may_shut and directories and source.random() < 0.3:
+        nodes[source.choice(directories)] = source.choice(list(MODES))
+    return Tree(tuple(nodes.items()))
+
+
+def framed(source, parts):
+    """A pattern for a walk, of these components. One that begins with `/` would walk the whole machine."""
+    start = source.choice([""] * 12 + ["./", f"{ABOVE}/tree/", f"{ABOVE}/tr?e/"])
+    return (start + "/".join(parts) + source.choice(["", "", "", "", "/"])).lstrip("/")
+
+
+def few_components(source, components):
+    """A pattern of one to three of these components."""
+    return framed(source, source.choices(components, k=source.randint(1, 3)))
+
+
+def component(source, own):
+    """A component for a name: mostly one that matches it."""
+    at = source.randrange(len(own))
+    inner = source.choice(["?", f"[{own[at]}]", f"[!{own[at]}]", f"[.{own[at]}]"])
+    escaped = re.sub(r"[][?*]", r"[\g<0>]", own)
+    widened = [own[:at] + inner + own[at + 1 :], own[:at] + "*" + own[source.randint(at, len(own)) :]]
+    other = source.choice(FEW_COMPONENTS)
+    return source.choice([escaped, escaped, own.swapcase(), *widened, *widened, "*", "**", other])
+
+
+def walk_pattern(source, paths):
+    """A pattern by the path of something that is there, with its components widened."""
+    parts = [component(source, own) for own in source.choice(paths or ["a"]).split("/")]
+    if source.random() < 0.4:
+        parts.insert(source.randint(0, len(parts)), source.choice(["**", "**", "*", ".", "..", ".*"]))
+    return framed(source, parts)

@@ -1,0 +1,346 @@
+"""The rules of docs/DEFINITIONS.md once more, in the plainest form: which texts are patterns, which characters a token
+takes, how it splits a text, and what a walk of a disk gives, charges and is to find. Options are letters: i for
+case-insensitive, s for the separator rule, d for the dot rule."""
+
+import functools
+import itertools
+import os
+import re
+from dataclasses import dataclass
+
+LEXEME = re.compile(r"\*+|\?|\[!.[^]]*\]|\[[^!][^]]*\]|.", re.S)
+TOKEN = re.compile(r"(?:\*\*/)*\*\*\Z|(?:\*\*/)+|" + LEXEME.pattern, re.S)
+# A unit of work, a path, a directory that cannot be listed, and a limit's refusal: each is written before its path.
+WORK, FOUND, UNREAD, REFUSED = ".", "=", "!", "^"
+
+
+# Patterns
+
+
+def stars_fault(text, at, stars):
+    """The place and the message of what is wrong with so many stars there, or None."""
+    after = at + stars
+    recursive = "recursive wildcards must form a single path component"
+    if stars > 2:
+        return at + 2, "wildcards are either regular `*` or recursive `**`"
+    if stars == 2 and at > 0 and text[at - 1] != "/":
+        return at - 1, recursive
+    return (after, recursive) if stars == 2 and text[after : after + 1] not in ("", "/") else None
+
+
+def fault_of(text):
+    """The place and the message of the first fault of a text, or None where the grammar accepts it."""
+    for found in LEXEME.finditer(text):
+        fault = stars_fault(text, found.start(), len(found[0])) if found[0][0] == "*" else None
+        if fault or found[0] == "[":
+            return fault or (found.start(), "invalid range pattern")
+    return None
+
+
+def components_of(pattern):
+    """The components of a pattern. A separator at the end does not count."""
+    return pattern.removeprefix("/").removesuffix("/").split("/")
+
+
+def walk_fault(pattern):
+    """The fault for which a walk refuses a pattern: that of the whole, or of its first component with one. Or None."""
+    return next(filter(None, map(fault_of, [pattern, *components_of(pattern)])), None)
+
+
+@dataclass(frozen=True)
+class Token:
+    """A token as it is written, its kind, and the ranges that a bracket lists."""
+
+    written: str
+    kind: str
+    ranges: tuple = ()
+    is_last: bool = False
+
+
+def ranges_of(content):
+    """The ranges of a bracket. A single character is one from itself to itself."""
+    found = re.findall(r"(.)-(.)|(.)", content, re.S)
+    return tuple((first, last) if first else (single, single) for first, last, single in found)
+
+
+@functools.cache
+def tokens_of(pattern):
+    """The tokens of a pattern without a fault. Neighbouring `**` are one."""
+    found = TOKEN.findall(pattern)
+    made = []
+    for number, it in enumerate(found):
+        if it in ("?", "*") or it.startswith("**"):
+            kind, ranges = it[:2], ()
+        elif len(it) == 1:
+            kind, ranges = "literal", ((it, it),)
+        else:
+            kind = "[!]" if it[1] == "!" else "[]"
+            ranges = ranges_of(it[len(kind) - 1 : -1])
+        made.append(Token(it, kind, ranges, number + 1 == len(found)))
+    return made
+
+
+# Matches
+
+
+def folded(c):
+    return c.lower() if c.isascii() else c
+
+
+def holds(first, last, c, letters):
+    """Whether the range from `first` to `last` holds a character."""
+    if first <= c <= last:
+        return True
+    low, high, middle = folded(first), folded(last), folded(c)
+    if "i" not in letters or not (first + last + c).isascii():
+        return False
+    return low == high == middle or (low.isalpha() and high.isalpha() and low <= middle <= high)
+
+
+def takes(token, text, place, letters):
+    """Whether a token takes the character at the place."""
+    c = text[place]
+    is_listed = any(holds(*it, c, letters) for it in token.ranges)
+    if token.kind == "literal":
+        return is_listed
+    if "d" in letters and c == "." and (place == 0 or text[place - 1] == "/"):
+        return False
+    if token.kind == "**":
+        return True
+    return not ("s" in letters and c == "/") and (token.kind in "?*" or is_listed == (token.kind == "[]"))
+
+
+@functools.lru_cache(100_000)
+def taken(token, text, letters):
+    """For each place, up to where the token takes all characters from there on."""
+    found = [len(text)] * (len(text) + 1)
+    for place in reversed(range(len(text))):
+        found[place] = found[place + 1] if takes(token, text, place, letters) else place
+    return found
+
+
+@functools.lru_cache(100_000)
+def ends(token, text, letters):
+    """For each place, where a piece of the token that starts there may end, in order."""
+    found = []
+    for start, most in enumerate(taken(token, text, letters)):
+        if token.kind in ("*", "**"):
+            is_whole = token.kind == "*" or token.is_last
+            found.append([end for end in range(start, most + 1) if is_whole or end == start or text[end - 1] == "/"])
+        else:
+            found.append([start + 1] if most > start else [])
+    return found
+
+
+def fronts(tokens, text, letters):
+    """For each number of first tokens, up to which places they take the text."""
+    found = [{0}]
+    for token in tokens:
+        found.append({end for start in found[-1] for end in ends(token, text, letters)[start]})
+    return found
+
+
+def matches(pattern, text, letters):
+    """Whether a pattern matches a text."""
+    return len(text) in fronts(tokens_of(pattern), text, letters)[-1]
+
+
+def shortest(tokens, text, letters, start=0):
+    """Where the pieces of the tokens end in the first split, where splits with a shorter first piece are before others,
+    then those with a shorter second one, and so on; or None."""
+    if not tokens:
+        return [] if start == len(text) else None
+    for end in ends(tokens[0], text, letters)[start]:
+        rest = shortest(tokens[1:], text, letters, end)
+        if rest is not None:
+            return [end, *rest]
+    return None
+
+
+def reached(tokens, text, letters):
+    """The last place up to which some first tokens take the text, and the numbers of the tokens that wait there: those
+    before it take the text up to there, or up to where it takes all characters from, if its piece may have any
+    number."""
+    found = fronts(tokens, text, letters)
+    place = max(itertools.chain(*found))
+    waiting = []
+    for number, token in enumerate(tokens):
+        far = taken(token, text, letters)
+        grows = token.kind in ("*", "**")
+        if any(start == place or (grows and start < place <= far[start]) for start in found[number]):
+            waiting.append(number)
+    return [place, *waiting]
+
+
+# Walks
+
+
+@dataclass(frozen=True)
+class Rules:
+    """What releases of the crate have otherwise in a walk."""
+
+    drops_dotted: bool = False  # under the dot rule no wildcard finds a dotted name, not even `.*`
+    enters_dotted: bool = False  # under the dot rule `**` finds and enters dotted directories
+    follows_literals: bool = False  # no component without wildcards finds a link to what is missing
+
+
+OURS, RELEASE_0_3_0, CRATE = Rules(), Rules(enters_dotted=True, follows_literals=True), Rules(drops_dotted=True)
+
+
+def join(path, name):
+    return path + ("" if not path or path.endswith("/") else "/") + name
+
+
+def child(path, name):
+    first, *others = path.split("/")
+    is_here = first == "." and all(piece in ("", ".") for piece in others)
+    return name if is_here else join(path, name)
+
+
+class Walk:
+    """A walk by the components of a pattern, from a folder. It yields marks: items, and units of work, each before what
+    is done for it."""
+
+    def __init__(self, pattern, letters, folder, rules=OURS):
+        self.folder, self.letters, self.rules = folder, letters, rules
+        self.start = "/" if pattern.startswith("/") else "."
+        self.parts = components_of(pattern)
+        self.wants_directories = pattern.endswith("/")
+
+    def marks(self):
+        yield WORK + self.start
+        yield from self.enter(0, self.start, self.is_dir(self.start))
+
+    def is_dir(self, path):
+        return path != "" and os.path.isdir(os.path.join(self.folder, path))
+
+    def exists(self, path):
+        is_there = os.path.exists if self.rules.follows_literals else os.path.lexists
+        return path != "" and is_there(os.path.join(self.folder, path))
+
+    def hides(self, name):
+        return "d" in self.letters and name.startswith(".")
+
+    def enter(self, part, path, is_dir):
+        text = self.parts[part]
+        if not set(text) & set("?*["):
+            found = child(path, text)
+            yield WORK + found
+            if is_dir if text in (".", "..") else self.exists(found):
+                yield from self.reach(part, found, self.is_dir(found))
+        elif is_dir:
+            yield from self.search(part, path, text)
+
+    def search(self, part, path, text):
+        yield WORK + path
+        try:
+            names = sorted(os.listdir(os.path.join(self.folder, path)), key=str.encode)
+        except OSError:
+            yield UNREAD + path
+            return
+        yield from [WORK + path] * len(names)
+        for name in ("..", ".") if text.startswith(".") else ():
+            if matches(text, name, self.letters):
+                yield WORK + join(path, name)
+                yield from self.reach(part, join(path, name), self.is_dir(join(path, name)))
+        for name in names:
+            if not (self.rules.drops_dotted and self.hides(name)):
+                found = child(path, name)
+                yield from self.meet(part, found, name, self.is_dir(found))
+
+    def reach(self, part, path, is_dir):
+        if part + 1 < len(self.parts):
+            yield from self.enter(part + 1, path, is_dir)
+        elif is_dir or not self.wants_directories:
+            yield FOUND + path
+
+    def meet(self, part, path, name, is_dir):
+        if self.parts[part] != "**":
+            yield from self.match_at(part, path, name, is_dir)
+            return
+        while self.parts[part + 1 : part + 2] == ["**"]:
+            part += 1
+        is_last = part + 1 == len(self.parts)
+        if not is_last:
+            yield from self.match_at(part + 1, path, name, is_dir)
+        if is_dir and (self.rules.enters_dotted or not self.hides(name)):
+            if is_last:
+                yield FOUND + path
+            yield from self.enter(part, path, True)
+
+    def match_at(self, part, path, name, is_dir):
+        if matches(self.parts[part], name, self.letters):
+            yield from self.reach(part, path, is_dir)
+
+
+def within(marks, limit):
+    """The items of a walk within a limit, and how many units of work it charges. The refusal comes at the path of the
+    first unit that does not fit."""
+    items, spent = [], 0
+    for mark in marks:
+        if mark[0] != WORK:
+            items.append(mark)
+        elif spent == limit:
+            return [*items, REFUSED + mark[1:]], spent
+        else:
+            spent += 1
+    return items, spent
+
+
+# What a walk of a plain pattern is to find
+
+
+def is_plain(pattern):
+    """Whether the undivided pattern says what a walk finds."""
+    before = None
+    for component in components_of(pattern):
+        is_dotted = component.startswith(".") and set(component) & set("?*[")
+        if component in ("", ".", "..") or (is_dotted and before != "**"):
+            return False
+        before = component
+    return walk_fault(pattern) is None
+
+
+@dataclass(frozen=True)
+class Key:
+    """A text of something that is there below the start, whether it is a directory, and whether that cannot be
+    listed. The start itself has the text `.`, or of the root `/`."""
+
+    text: str
+    is_dir: bool
+    is_shut: bool
+
+
+def key_of(place, text):
+    """The key of a place on the disk, as the current user sees it."""
+    is_dir = os.path.isdir(place)
+    return Key(text, is_dir, is_dir and not os.access(place, os.R_OK, effective_ids=True))
+
+
+def goals_of(pattern, keys, letters):
+    """The texts that a walk is to find: those of keys that the whole pattern matches, and whose kind it gives."""
+    wants_directories = pattern.endswith("/") or components_of(pattern)[-1] == "**"
+    given = (key.text for key in keys if key.text != "." and (key.is_dir or not wants_directories))
+    return {text for text in given if matches(pattern.removesuffix("/"), text, "s" + letters)}
+
+
+def is_ordered(pattern):
+    """Whether no path comes twice, and whether the paths are in order, if all can be read."""
+    runs = re.split(r"(?:^|/)\*\*(?:/\*\*)*(?:/|$)", pattern.strip("/"))
+    return len(runs) <= 2, len(runs) == 1 or (len(runs) == 2 and "/" not in runs[1])
+
+
+def goal_fault(pattern, keys, goals, items):
+    """What is wrong with a walk of a plain pattern that gave these items, or None. `keys` are the start and what is
+    below it, and `goals` the texts of those that the walk is to find."""
+    paths, unread, refused = ([item[1:] for item in items if item[0] == sign] for sign in (FOUND, UNREAD, REFUSED))
+    shut = {key.text for key in keys if key.is_shut}
+    below = tuple("" if path in (".", "/") else f"{path}/" for path in unread)
+    missed = {text for text in goals - set(paths) if not text.startswith(below)} if not refused else set()
+    if wrong := (set(paths) - goals) | (set(unread) - shut) | missed:
+        return f"{sorted(wrong)}: no goals, or directories that can be listed, or goals that are not found"
+    is_once, is_sorted = is_ordered(pattern)
+    lists = [path.split("/") for path in paths]
+    if not shut and ((is_once and len(set(paths)) < len(paths)) or (is_sorted and lists != sorted(lists))):
+        return "a path comes twice, or they are not in order"
+    return None

@@ -1,0 +1,68 @@
+"""The programs that answer the same cases, line by line, and the user by whom they are run."""
+
+import os
+import re
+import shutil
+import subprocess
+from contextlib import contextmanager
+from pathlib import Path
+
+from lib.count import ROOT
+
+ANSWERS = ROOT / "crates/glob_vectors/out/glob_vectors"
+NOBODY = 65534
+SECONDS = 600
+
+
+def unprivileged_user():
+    """The user by whom programs are run, which is nobody in the place of root, and whether a directory can be shut."""
+    if os.geteuid() != 0:
+        return None, True
+    try:
+        subprocess.run(["true"], user=NOBODY, group=NOBODY, extra_groups=[], check=True)
+        return NOBODY, True
+    except (OSError, subprocess.CalledProcessError):
+        return None, False
+
+
+USER, MAY_SHUT = unprivileged_user()
+AS_USER = {"user": USER, "group": USER, "extra_groups": []} if USER else {}
+
+
+@contextmanager
+def as_user():
+    """Reads the disk as the programs do."""
+    own = os.geteuid()
+    os.seteuid(USER or own)
+    try:
+        yield
+    finally:
+        os.seteuid(own)
+
+
+def ask(words, lines, folder=None):
+    """An answer for each line. Where a folder is given, its user asks from there."""
+    how = {"cwd": folder, **AS_USER} if folder else {}
+    asked = "".join(f"{line}\n" for line in lines).encode()
+    done = subprocess.run(words, input=asked, capture_output=True, timeout=SECONDS, **how)
+    answers = done.stdout.decode().split("\n")[:-1]
+    if done.returncode or len(answers) != len(lines):
+        said = f"status {done.returncode}, {len(answers)} answers of {len(lines)} {done.stderr.decode()}"
+        raise SystemExit(f"failed: {words}: {said}\n0 passed, 1 failed")
+    return answers
+
+
+def original():
+    """The folder with the sources of the original crate, as its Debian package has them, and its version; or None."""
+    found = sorted(Path("/usr/share/cargo/registry").glob("glob-0.3.*"))
+    return (found[-1], found[-1].name.removeprefix("glob-")) if found else (None, None)
+
+
+def built_over(crate, sources, folder, package=""):
+    """Builds the programs of a package in a folder, over the crate in another one. Cargo asks no registry."""
+    shutil.copytree(sources, folder)
+    manifest = folder / "Cargo.toml"
+    line = f'glob = {{ {package}path = "{crate}" }}'
+    manifest.write_text(re.sub(r"(?m)^glob = .*", line, manifest.read_text(encoding="utf-8")), encoding="utf-8")
+    env = {**os.environ, "CARGO_TARGET_DIR": str(folder / "target"), "RUSTFLAGS": "--cap-lints allow"}
+    subprocess.run(["cargo", "build", "-q", "--release", "--offline"], cwd=folder, env=env, check=True)

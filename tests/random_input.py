@@ -1,0 +1,238 @@
+#!/usr/bin/env python3
+"""Compares answers on random input: those of `glob_vectors answer`, of the Rust crate, of the original crate, where its
+Debian package librust-glob-dev is installed, and of tests/lib/reference.py: matches under each setting of the options,
+sets of patterns, and walks of trees with links and directories that cannot be listed, with their units of work, within
+limits, and beside what the undivided pattern matches.
+
+    tests/random_input.py [--rounds N] [--seed N]
+
+A round has 1,000 patterns with four texts each, 20 sets, and 30 trees. Prints each difference, then how many cases of
+each kind there were, and last 'N passed, M failed'. A kind that is rare is a failure."""
+
+import argparse
+import collections
+import os
+import random
+import re
+import shutil
+import tempfile
+import time
+from pathlib import Path
+
+from lib import make, reference
+from lib.count import ROOT, Count, left_out
+from lib.reference import FOUND, REFUSED, UNREAD
+from lib.sides import ANSWERS, MAY_SHUT, as_user, ask, built_over, original
+
+PATTERNS, TEXTS, SETS, TREES = 1000, 4, 20, 30
+# One of so many patterns is also compared with the reference, which is slower.
+RULES_IN = 4
+# Of a set at most, and for a set.
+SET_PATTERNS, SET_TEXTS = 70, 100
+SHARE_WITH_LIMIT, HIGHEST_LIMIT, NO_LIMIT = 0.3, 30, 2**64 - 1
+# One walk in so many is repeated within each limit, if it charges at most so many units.
+EACH_LIMIT_IN, MOST_UNITS = 16, 120
+# How many cases of each kind there are at least in 20 rounds.
+LEAST = {"matches": 150_000, "no matches": 200_000, "refused patterns": 2000, "sets": 200, "refused walks": 100}
+LEAST |= {"empty": 400, "limited": 400, "unread": 100, "found": 1500, "each limit": 150}
+LEAST |= {"goals, all found": 500, "no goals": 150, "goals, limited": 100, "goals, unread": 50}
+# So far below a folder of our own that no pattern leads out of it by `..`.
+BELOW = "1/2/3/4/5/6"
+
+
+def matches_by_rules(pattern, texts):
+    """The answer of the reference."""
+    escaped = re.sub(r"[][?*]", r"[\g<0>]", pattern)
+    if fault := reference.fault_of(pattern):
+        return "\t".join([escaped, "fault", *map(str, fault)])
+    found = (reference.matches(pattern, text, letters) for text in texts for letters in make.SETTINGS)
+    return "\t".join([escaped, "ok", "".join("ny"[it] for it in found)])
+
+
+def set_field(numbers):
+    """What a set is to say of a text that the patterns of these numbers match."""
+    ends = f"true Some({numbers[0]}) Some({numbers[-1]})" if numbers else "false None None"
+    return f"\t{ends} {numbers}"
+
+
+def starts_in(tree):
+    """The directories of a tree in which a walk may begin, as paths: those in which names can be looked up."""
+    shut = tuple(f"{path}/" for path, kind in tree.nodes if kind == "shut")
+    return [""] + [path for path, kind in tree.nodes if kind in ("dir", "blind") and not f"{path}/".startswith(shut)]
+
+
+def items_of(answer):
+    """The units and items of a walk, or no units and the fault. What cannot be listed is shut: that kind is left
+    out."""
+    word, *rest = answer.split("\t")
+    return (int(rest[0]), [it.removesuffix(":PermissionDenied") for it in rest[1:]]) if word == "ok" else (None, rest)
+
+
+class Comparer:
+    """Asks all sides, and counts. Trees are made one at a time."""
+
+    def __init__(self, base, sides, rules):
+        self.above, self.sides, self.rules = base / BELOW, sides, rules
+        self.above.mkdir(parents=True)
+        self.count, self.kinds = Count(), collections.Counter()
+
+    # Matches and sets
+
+    def matches(self, source):
+        cases = [make.match_case(source, TEXTS) for _ in range(PATTERNS)]
+        lines = ["\t".join(["match", pattern, *texts]) for pattern, texts in cases]
+        answers = {name: ask(words, lines) for name, words in self.sides.items()}
+        for number, case in enumerate(cases):
+            given = {name: of[number] for name, of in answers.items()}
+            if number % RULES_IN == 0:
+                given["the rules"] = matches_by_rules(*case)
+            self.count.check(len(set(given.values())) == 1, f"{case}: {given}")
+            letters = given["ours"].rpartition("\t")[2] if "\tok\t" in given["ours"] else ""
+            self.kinds["refused patterns"] += not letters
+            self.kinds["matches"] += letters.count("y")
+            self.kinds["no matches"] += letters.count("n")
+
+    def sets(self, source):
+        """Sets are to match what their patterns match."""
+        for _ in range(SETS):
+            size = source.randint(1, SET_PATTERNS)
+            cases = [make.match_case(source, SET_TEXTS // size + 1) for _ in range(size)]
+            texts = [text for _, some in cases for text in some][:SET_TEXTS]
+            answers = ask(self.sides["ours"], ["\t".join(["match", pattern, *texts]) for pattern, _ in cases])
+            rows = [answer.split("\t") for answer in answers]
+            kept = [(pattern, row[2]) for (pattern, _), row in zip(cases, rows) if row[1] == "ok"]
+            if not kept or not texts:
+                continue
+            self.kinds["sets"] += 1
+            patterns = [pattern for pattern, _ in kept]
+            asked = [["set", letters, str(len(kept)), *patterns, *texts] for letters in make.SETTINGS]
+            for at, answer in enumerate(ask(self.sides["ours"], ["\t".join(it) for it in asked])):
+                places = [len(make.SETTINGS) * text + at for text in range(len(texts))]
+                numbers = [[n for n, (_, row) in enumerate(kept) if row[place] == "y"] for place in places]
+                wanted = "".join(map(set_field, numbers))
+                self.count.check(answer == wanted, f"{asked[at]}: {answer} in place of {wanted}")
+
+    # Walks
+
+    def walks(self, source):
+        """Some walks of a random tree, from its top or a directory of it."""
+        tree = make.tree(source, MAY_SHUT, source.choice([make.few_name, make.few_name, make.name]))
+        top = self.above / "tree"
+        tree.build(top)
+        start = source.choice(starts_in(tree)) if source.random() < 0.3 else ""
+        patterns = [make.few_components(source, some) for _ in range(3) for some in make.COMPONENTS_OF_WALKS]
+        patterns += [make.walk_pattern(source, tree.paths()) for _ in range(3)]
+        cases = [(pattern.replace(make.ABOVE, str(self.above)), source.choice(make.SETTINGS)) for pattern in patterns]
+        with as_user():
+            marks = [self.marks(*case, top / start) for case in cases]
+        asked = [(case, limit) for case, of in zip(cases, marks) for limit in self.limits(source, of)]
+        lines = [f"walk\t{letters}\t{limit}\t{pattern}" for (pattern, letters), limit in asked]
+        answers = dict(zip(asked, map(items_of, ask(self.sides["ours"], lines, top / start))))
+        for (case, limit), answer in answers.items():
+            of = marks[cases.index(case)]
+            self.check_walk("ours", tree, start, case, limit, answer, of)
+            if of is not None:
+                self.goals(tree, start, case, answer[1])
+        for name in self.rules:
+            with as_user():
+                marks = [self.marks(*case, top / start, self.rules[name]) for case in cases]
+            lines = [f"walk\t{letters}\t{NO_LIMIT}\t{pattern}" for pattern, letters in cases]
+            for case, of, answer in zip(cases, marks, ask(self.sides[name], lines, top / start)):
+                self.check_walk(name, tree, start, case, NO_LIMIT, (None, items_of(answer)[1]), of)
+        tree.remove(top)
+
+    def marks(self, pattern, letters, folder, rules=reference.OURS):
+        """What a walk does by the rules, or None where its pattern is refused."""
+        return None if reference.walk_fault(pattern) else list(reference.Walk(pattern, letters, folder, rules).marks())
+
+    def limits(self, source, marks):
+        """The limits within which a walk is asked: none, now and then a low one, or each."""
+        units = reference.within(marks or [], NO_LIMIT)[1]
+        if marks and units <= MOST_UNITS and source.randrange(EACH_LIMIT_IN) == 0:
+            self.kinds["each limit"] += 1
+            return [NO_LIMIT, *range(units + 2)]
+        return [NO_LIMIT, source.randint(0, HIGHEST_LIMIT)] if source.random() < SHARE_WITH_LIMIT else [NO_LIMIT]
+
+    def check_walk(self, name, tree, start, case, limit, answer, marks):
+        """Compares a walk with the reference. The other sides count no units."""
+        if marks is None:
+            units, items = None, [*map(str, reference.walk_fault(case[0]))]
+        else:
+            items, units = reference.within(marks, limit)
+        wanted = (units if name == "ours" else None), items
+        what = f"{name}: {case} within {limit} from {start or '.'} over {tree.nodes}"
+        self.count.check(answer == wanted, f"{what}: {answer} in place of {wanted}")
+        if name == "ours":
+            signs = {it[0] for it in items} if marks is not None else set("refused")
+            self.kinds["refused walks"] += marks is None
+            self.kinds["empty"] += not items
+            for kind, sign in (("limited", REFUSED), ("unread", UNREAD), ("found", FOUND)):
+                self.kinds[kind] += marks is not None and sign in signs
+
+    def goals(self, tree, start, case, items):
+        """Compares a walk with what its undivided pattern matches, if that says what it finds."""
+        pattern, letters = case
+        if "i" in letters or not reference.is_plain(pattern):
+            return
+        keys = self.keys(tree, start, pattern.startswith("/"))
+        wanted = reference.goals_of(pattern, keys, letters.replace("s", ""))
+        fault = reference.goal_fault(pattern, keys, wanted, items)
+        self.count.check(fault is None, f"{case} from {start or '.'} over {tree.nodes}: {fault}")
+        signs = {it[0] for it in items}
+        kind = "goals, all found" if wanted else "no goals"
+        self.kinds["goals, limited" if REFUSED in signs else "goals, unread" if UNREAD in signs else kind] += 1
+
+    def keys(self, tree, start, is_absolute):
+        """What is there below the start, and the start, as the program sees it."""
+        top = self.above / "tree"
+        below = tree.texts_below("" if is_absolute else start)
+        texts = [(top / text, f"{top}/{text}") for text in below] + [(top, str(top))] if is_absolute else \
+            [(top / start / text, text) for text in below] + [(top / start, ".")]
+        with as_user():
+            return [reference.key_of(place, text) for place, text in texts if os.path.lexists(place)]
+
+
+def sides_in(folder):
+    """The programs that are asked, and by which rules each of those in Rust walks."""
+    sides, rules, crates = {"ours": [shutil.copy(ANSWERS, folder), "answer"]}, {}, []
+    crate, version = original()
+    if not shutil.which("cargo"):
+        left_out("random input to the Rust crate, since there is no cargo")
+        return sides, rules
+    crates = [("rust/", ROOT / "rust", 'package = "cadmiumdove", ', reference.OURS)]
+    if crate:
+        crates.append(("the crate", crate, "", reference.RELEASE_0_3_0 if version == "0.3.0" else reference.CRATE))
+    else:
+        left_out("random input beside the original crate, since librust-glob-dev is not installed")
+    for number, (name, path, package, walks) in enumerate(crates):
+        built_over(path, ROOT / "tests/rust/programs", folder / str(number), package)
+        sides[name], rules[name] = [folder / str(number) / "target/release/answer"], walks
+    return sides, rules
+
+
+def main():
+    options = argparse.ArgumentParser()
+    options.add_argument("--rounds", type=int, default=40)
+    options.add_argument("--seed", type=int, default=int(time.time()))
+    options = options.parse_args()
+    os.umask(0o022)
+    print(f"--seed {options.seed}", flush=True)
+    with tempfile.TemporaryDirectory() as work, tempfile.TemporaryDirectory(dir="/dev/shm") as base:
+        # The user by whom programs are run may not reach the repository.
+        os.chmod(work, 0o755), os.chmod(base, 0o755)
+        comparer = Comparer(Path(base), *sides_in(Path(work)))
+        for seed in range(options.seed, options.seed + options.rounds):
+            source = random.Random(seed)
+            comparer.matches(source)
+            comparer.sets(source)
+            for _ in range(TREES):
+                comparer.walks(source)
+    for kind, least in LEAST.items():
+        found = comparer.kinds[kind]
+        is_rare = found < least * options.rounds / 20 and ("unread" not in kind or MAY_SHUT)
+        print(f"{found:9,} {kind}")
+        comparer.count.check(not is_rare, f"{kind}: {found} is rare")
+    comparer.count.end()
+
+
+main()
