@@ -1,9 +1,21 @@
-"""What is measured, a list for each kind of work."""
+"""What is measured: a row for each case, in the tables of each report. In the words of a row `paths` and `stars` are
+files; after them comes how many times over it is done."""
 
+from collections import namedtuple
 from dataclasses import dataclass
 
 # What an option's letter means.
 RULES = {"i": "case-insensitive", "s": "separator rule", "d": "dot rule"}
+
+
+@dataclass(frozen=True)
+class Row:
+    """A case: its name, the words for the programs, and how many times over ours and the crate's do it."""
+
+    name: str
+    words: tuple
+    times: int = 1
+    times_of_crate: int = 0
 
 
 def said(letters):
@@ -11,105 +23,106 @@ def said(letters):
     return "".join(f", {RULES[letter]}" for letter in letters)
 
 
-@dataclass(frozen=True)
-class Match:
-    """Counts the lines that a pattern matches, `times` times over; a row has the time of one pass."""
-
-    pattern: str
-    options: str = ""
-    times: int = 1
-
-    def name(self):
-        return f"match `{self.pattern}`{said(self.options)}"
-
-
-MATCHES = [
-    Match("*.rs"),
-    Match("**/*.rs"),
-    Match("src/**/mod.rs"),
-    Match("**/test*/**/*.rs"),
-    Match("src/walk/mod.rs", times=10),
-    Match("=never/*.rs", times=10),
-    Match("*[0-9][a-f]*"),
-    Match("*/[!.]*_?ath*.[ch]"),
-    Match("*"),
-    Match("*readme*", "i"),
-    Match("src/*/[A-Z]*.RS", "i"),
-    Match("*/*/*.rs", "s"),
-    Match("**/*.rs", "d"),
-    Match("**/.*", "sd"),
+# A pattern, its options, and how many times over it is matched with a million paths.
+PATTERNS = [
+    ("*.rs", "", 1),
+    ("**/*.rs", "", 1),
+    ("src/**/mod.rs", "", 1),
+    ("**/test*/**/*.rs", "", 1),
+    ("src/walk/mod.rs", "", 10),
+    ("=never/*.rs", "", 10),
+    ("*[0-9][a-f]*", "", 1),
+    ("*/[!.]*_?ath*.[ch]", "", 1),
+    ("*", "", 1),
+    ("*readme*", "i", 1),
+    ("src/*/[A-Z]*.RS", "i", 1),
+    ("*/*/*.rs", "s", 1),
+    ("**/*.rs", "d", 1),
+    ("**/.*", "sd", 1),
 ]
+MATCHES = [Row(f"match `{it}`{said(letters)}", ("match", letters or "-", it, "paths"), times)
+    for it, letters, times in PATTERNS]
+
+# The text ends as the pattern does, so that its end does not decide. The crate's time grows about tenfold with each
+# star.
+STARS = [Row(f"match `*a` {stars} times and `b`, with `a` 60 times and `/ab`, separator rule",
+    ("match", "s", "*a" * stars + "b", "stars"), 1000, 1) for stars in (4, 5, 6)]
+
+# Ten characters or a pattern, and how many times it is in the text that is parsed.
+TEXTS = [(ten, often) for ten in ("a*b[c-e]?/", "abcdefgh*/", "*?a?*?b?*?") for often in (1, 10, 1_000)]
+TEXTS += [(it, 1) for it in ("*.rs", "*", "?", "src/**/*.rs", "**/node_modules/**", "[a-z]*/[!.]*", "src/config.toml")]
 
 
-@dataclass(frozen=True)
-class Hostile:
-    """Matches `*a` `stars` times and `b` with a text of `letters` times `a` and `/ab`, under the separator rule. The text
-    ends as the pattern does, so that its end does not decide."""
-
-    stars: int
-    letters: int
-    times: int
-
-    def pattern(self):
-        return "*a" * self.stars + "b"
-
-    def text(self):
-        return "a" * self.letters + "/ab\n"
-
-    def name(self):
-        return f"match `*a` {self.stars} times and `b`, with `a` {self.letters} times and `/ab`, separator rule"
+def of_texts(command, verb):
+    """A row for each text, done so often that some million characters are read."""
+    return [Row(f"{verb} `{it}` {often:,} times" if often > 1 else f"{verb} `{it}`", (command, it * often),
+        10_000_000 // (len(it) * often)) for it, often in TEXTS]
 
 
-# The crate's time grows about tenfold with each star, so it is asked once.
-HOSTILE = [Hostile(stars, 60, 1000) for stars in (4, 5, 6)]
+PARSES, COPIES = of_texts("compile", "parse"), of_texts("clone", "copy")
 
-# The crate would not end on these.
-GROWTH = [
-    Hostile(stars, letters, max(1, 20_000_000 // (stars * letters)))
-    for letters in (1_000, 10_000, 100_000)
-    for stars in (10, 100, 1_000)
+# The programs, whose standard input is the paths.
+FILTERS = [Row(f"program `{it}`{said(letters)}", ("match", *(f"-{letter}" for letter in letters), it))
+    for it, letters, _ in PATTERNS]
+
+# Trees of bench/inputs.py, and patterns, how deep each leads, and whether no entry of the last level is looked up.
+TREES = ["wide", "flat", "chain"]
+WALKS = [("**/*.txt", 9999, False), ("*", 1, True), ("*.rs", 1, True), ("**", 9999, False), ("*/*/*.rs", 3, True)]
+
+# How each finder is told to leave two directories out, to give the names with an ending, and to use one thread.
+OTHERS = ["target", "node_modules"]
+FINDERS = {
+    "ours": ["globs", "find", *(word for name in OTHERS for word in ("-x", name)), "**/*.rs"],
+    "fd -I": ["fd", "-I", "--threads", "1", *(word for name in OTHERS for word in ("-E", name)), "--glob", "*.rs"],
+    "rg --files": ["rg", "--files", "--no-ignore", "-j1", "-g", "*.rs",
+        *(word for name in OTHERS for word in ("-g", f"!{name}"))],
+}
+
+# How many patterns a set has, and how many paths it is asked about: globset takes milliseconds for one with 5,000.
+SETS = {125: 100_000, 482: 2_000, 5_000: 200}
+QUESTIONS = ["all", "first", "last", "any"]
+# About how many paths ours is asked in one run, and how many patterns are read while sets are made.
+ASKED, MADE = 500_000, 50_000
+
+
+# Work of a size n, which is to be in proportion to it: the words of the program, of which long ones are a Text.
+Text = namedtuple("Text", "content mark")
+Growth = namedtuple("Growth", "name size words")
+
+
+def parse(unit):
+    return Growth(f"parse `{unit}` over and over, n characters", 10**6,
+        lambda n: ("compile", Text(unit * (n // len(unit)), "@")))
+
+
+def match(name, size, pattern, text, letters="-"):
+    """Matches what is made of n."""
+    return Growth(f"match {name}", size, lambda n: ("match", letters, Text(pattern(n), "@"), Text(text(n) + "\n", "")))
+
+
+def walk(name, pattern):
+    """Walks a directory in memory, by a pattern that is longer than a path can be."""
+    return Growth(f"walk {name} n times", 10**5, lambda n: ("walk", Text(pattern * n, "@"), "1"))
+
+
+def same(it):
+    return lambda n: it
+
+
+THOUSAND = "a" * 1000
+SPANS = "".join(f"{chr(it)}-{chr(it)}" for it in range(0x10000, 0x10000 + 20_000, 2))
+GROWTHS = [
+    *map(parse, ("a", "?", "*a", "**/", "**/a/", "[a]", "[!a]", "[a-z]")),
+    match("n `a` with n letters", 10**6, lambda n: "a" * n, lambda n: "a" * n),
+    match("n `[a]` with n letters", 10**6, lambda n: "[a]" * n, lambda n: "a" * n),
+    match("n `*a` and `b` with 1,000 letters", 10**5, lambda n: "*a" * n + "b", same(THOUSAND + "b")),
+    match("n `*a` and `b`, separator rule, with `/ab` at the end", 10**5, lambda n: "*a" * n + "b", same(THOUSAND + "/ab"),
+        "s"),
+    match("n `**/a/` with 500 components", 10**5, lambda n: "**/a/" * n, same("a/" * 500)),
+    match("n `*/`, separator rule, with 500", 10**5, lambda n: "*/" * n, same("a/" * 500), "s"),
+    match("`*` and n ranges with 1,000 letters", 10_000, lambda n: f"*[{SPANS[:3 * n]}]", same("é" * 1000)),
+    match("`*a` 1,000 times and `b` with n `a` and `b`", 10**6, same("*a" * 1000 + "b"), lambda n: "a" * n + "b"),
+    match("`**/*.rs`, both rules, n `a` and `.rs`", 10**6, same("**/*.rs"), lambda n: "a" * n + ".rs", "sd"),
+    match("`*[!a]*`, case-insensitive, n letters", 10**6, same("*[!a]*"), lambda n: "a" * n, "i"),
+    *(walk(f"`{unit}`", unit) for unit in ("./", "*/", "**/")),
 ]
-
-
-@dataclass(frozen=True)
-class Compile:
-    """Parses ten characters so often, `times` times over; a row has the time of all of them."""
-
-    ten: str
-    often: int
-    times: int
-
-    def pattern(self):
-        return self.ten * self.often
-
-    def name(self):
-        return f"parse `{self.ten}` {self.often:,} times, {self.times:,} times over"
-
-
-COMPILES = [
-    Compile(ten, often, 1_000_000 // often)
-    for ten in ("a*b[c-e]?/", "abcdefgh*/", "*?a?*?b?*?")
-    for often in (1, 10, 1_000)
-]
-
-
-@dataclass(frozen=True)
-class Filter:
-    """Runs the program with the lines of a file as its standard input: those that `of` says, or the paths."""
-
-    pattern: str
-    options: str = ""
-    of: str = ""
-
-    def words(self):
-        return ["match", *(f"-{letter}" for letter in self.options), self.pattern]
-
-    def name(self):
-        return f"program `{self.pattern}`{said(self.options)}{self.of}"
-
-
-FILTERS = [Filter(case.pattern, case.options) for case in MATCHES]
-
-
-def hostile_filter(case):
-    return Filter(case.pattern(), "s", f", with `a` {case.letters} times and `/ab`")

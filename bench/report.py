@@ -1,136 +1,107 @@
 #!/usr/bin/env python3
-"""Makes data of what `run` prints, and writes what pages say of them: the table of docs/PERFORMANCE.md, and README's
-sentence and the words for its chart.
+"""Writes what pages say of the reports in results/: the table of docs/PERFORMANCE.md, and README's sentence and the
+words for its chart, which gnuplot draws.
 
-usage: report.py                          writes them
-       report.py --check                  writes nothing, and fails where a page says something else
-       report.py keep NAME COMMIT FILE    prints a report that it reads, and writes it into FILE
-       report.py chart                    prints a ratio and a name for each pattern of results/instructions.json, the
-                                          last one first, since gnuplot counts upwards
-
-A report has blocks with blank lines between: lines about it, then tables of Markdown, each after its title, if it has
-one, which ends in `:`. A column has ratios if its head begins with `to `, as in `to the crate`.
-"""
+    bench/report.py [--check | --plot]    --check writes nothing, and fails where a page says something else"""
 
 import json
 import re
 import statistics
+import subprocess
 import sys
 from pathlib import Path
 
 BENCH = Path(__file__).resolve().parent
 README, PAGE = BENCH.parent / "README.md", BENCH.parent / "docs/PERFORMANCE.md"
 MARK = "<!-- bench/report.py writes this table -->\n"
-HEADS = ["Command", "What", "Ratio", "Cases", "Least", "Median", "Most", "Commit"]
-
+HEADS = ["Report", "What", "Ratio", "Cases", "Least", "Median", "Most", "Commit"]
 CHART = 'alt="{} patterns: from {:.2f} to {:.2f}"'
 SENTENCE = """From Rust parsing takes {:.2g} to {:.2g} times the crate's [time](docs/PERFORMANCE.md#measured), walks {:.2g} to {:.2g};
 sets take at most {:.2g} of `globset`'s.
 """
+PLOT = """
+set terminal svg size 720,{height} font "sans-serif,13"
+set output "{output}"
+set datafile separator "\\t"
+set border 0 linecolor rgb "{text}"
+set tics nomirror scale 0 textcolor rgb "{text}"
+set xlabel "instructions, where the crate takes 1" textcolor rgb "{text}"
+set xrange [0:*]
+set arrow from 1, graph 0 to 1, graph 1 nohead dashtype 2 linecolor rgb "{text}"
+set style fill solid noborder
+set termoption noenhanced
+$rows << EOD
+{rows}
+EOD
+plot $rows using 1:0:(0):1:($0-0.35):($0+0.35):ytic(2) with boxxyerror linecolor rgb "{bar}" notitle, \\
+    "" using 1:0:(sprintf(" %.2f", $1)) with labels left textcolor rgb "{text}" notitle
+"""
 
 
-def cells(line):
-    return [cell.strip() for cell in line.strip("|").split("|")]
-
-
-def read_report(text):
-    """What is said about the report, and its tables."""
-    about, tables, title = [], [], ""
-    for block in text.strip().split("\n\n"):
-        lines = block.split("\n")
-        if lines[0].startswith("|"):
-            heads, _, *rows = map(cells, lines)
-            tables.append({"title": title, "heads": heads, "rows": rows})
-            title = ""
-        elif block.endswith(":"):
-            title = block.removesuffix(":")
-        else:
-            about += lines
-    return {"about": about, "tables": tables}
-
-
-def keep(name, commit, file):
-    """Writes the report that is read, each row into a line."""
-    lines = []
-    for line in sys.stdin:
-        print(line, end="", flush=True)
-        lines.append(line)
-    report = {"name": name, "commit": commit, **read_report("".join(lines))}
-    text = json.dumps(report, indent=1, ensure_ascii=False)
-    # a list of texts alone is a row
-    text = re.sub(r'\[\n\s+("(?:[^\n]*",\n\s+)*[^\n]*")\n\s+\]', lambda it: "[" + re.sub(r",\n\s+", ", ", it[1]) + "]", text)
-    Path(file).write_text(text + "\n", encoding="utf-8")
-
-
-def kept():
+def reports():
     """Each report."""
     return [json.loads(path.read_text(encoding="utf-8")) for path in sorted(BENCH.glob("results/*.json"))]
 
 
 def ratios(table):
-    """The ratios of each column that has them, by its head. `-` stands where there is none."""
-    columns = {head: [row[at] for row in table["rows"]] for at, head in enumerate(table["heads"]) if head.startswith("to ")}
-    return {head: [float(cell.replace(",", "")) for cell in found if cell != "-"] for head, found in columns.items()}
+    """The ratios of each column that has them, by its head. `-` is where there is none."""
+    heads = {at: head for at, head in enumerate(table["heads"]) if head.startswith("to ")}
+    cells = {head: [row[at] for row in table["rows"] if row[at] != "-"] for at, head in heads.items()}
+    return {head: [float(cell.replace(",", "")) for cell in found] for head, found in cells.items()}
 
 
-def rows_of(report):
-    """A row of the table for each column with ratios."""
-    command = "".join(f" --{it}" for it in report["name"].split() if it != "match")
-    for table in report["tables"]:
-        for head, found in ratios(table).items():
-            some = [f"{it:.2g}" for it in (min(found), statistics.median(found), max(found))]
-            title = table["title"].split(":")[0]
-            yield [f"`bench/run{command}`", title, head, str(len(found)), *some, f"`{report['commit']}`"]
+def rows():
+    """A row of the page's table for each column with ratios."""
+    for report in reports():
+        for table in report["tables"]:
+            for head, found in ratios(table).items():
+                some = [f"{it:.2g}" for it in (min(found), statistics.median(found), max(found))]
+                title = table["title"].split(":")[0]
+                yield [f"`{report['name']}`", title, head, str(len(found)), *some, f"`{report['commit']}`"]
 
 
 def with_table(page):
-    rows = [HEADS, ["---"] * 3 + ["--:"] * 4 + ["---"], *(row for report in kept() for row in rows_of(report))]
+    lines = [HEADS, ["---"] * 3 + ["--:"] * 4 + ["---"], *rows()]
     before, _, after = page.partition(MARK)
-    return before + MARK + "".join(f"| {' | '.join(row)} |\n" for row in rows) + re.sub(r"\A(\|.*\n)*", "", after)
+    return before + MARK + "".join(f"| {' | '.join(row)} |\n" for row in lines) + re.sub(r"\A(\|.*\n)*", "", after)
 
 
 def found_in(name, title, head):
     """The ratios of a column, by the beginning of its table's title."""
-    [report] = [it for it in kept() if it["name"] == name]
+    [report] = [it for it in reports() if it["name"] == name]
     [table] = [it for it in report["tables"] if it["title"].startswith(title)]
     return ratios(table)[head]
 
 
 def with_sentence(page):
     chart = found_in("instructions", "Matching", "to the crate")
-    parsing, walks = found_in("process", "Parsing", "to the crate"), found_in("process walks", "Walks", "to the crate")
+    parsing, walks = found_in("process", "Parsing", "to the crate"), found_in("process-walks", "Walks", "to the crate")
     sets = found_in("sets", "Sets", "to globset")
     sentence = SENTENCE.format(min(parsing), max(parsing), min(walks), max(walks), max(sets))
     page = re.sub(r'alt="\d+ patterns: [^"]*"', CHART.format(len(chart), min(chart), max(chart)), page)
     return re.sub(r"^From Rust parsing takes (.+\n)+", lambda _: sentence, page, flags=re.M)
 
 
-def write_pages(is_checked):
-    for file, changed in ((PAGE, with_table), (README, with_sentence)):
-        page = file.read_text(encoding="utf-8")
-        if not is_checked:
-            file.write_text(changed(page), encoding="utf-8")
-        elif changed(page) != page:
-            sys.exit(f"{file.name} does not say what the reports say. Run bench/report.py.")
-
-
-def print_chart():
-    report = json.loads((BENCH / "results/instructions.json").read_text(encoding="utf-8"))
-    for name, *_, ratio in reversed(report["tables"][0]["rows"]):
-        if ratio != "-":
-            print(f"{ratio}\t{name.removeprefix('match ').replace('`', '')}")
+def plot():
+    """Draws a bar for each pattern, the last one first, since gnuplot counts upwards."""
+    [report] = [it for it in reports() if it["name"] == "instructions"]
+    rows_of = reversed(report["tables"][0]["rows"])
+    found = [f"{row[-1]}\t{row[0].removeprefix('match ').replace('`', '')}" for row in rows_of]
+    for shade, text, bar in (("light", "#24292f", "#0969da"), ("dark", "#e6edf3", "#58a6ff")):
+        output = BENCH / f"results/instructions-{shade}.svg"
+        script = PLOT.format(height=60 + 24 * len(found), output=output, text=text, bar=bar, rows="\n".join(found))
+        subprocess.run(["gnuplot"], input=script, text=True, check=True)
 
 
 def main():
-    match sys.argv[1:]:
-        case ["keep", name, commit, file]:
-            keep(name, commit, file)
-        case ["chart"]:
-            print_chart()
-        case [] | ["--check"]:
-            write_pages("--check" in sys.argv)
-        case _:
-            sys.exit(__doc__)
+    for file, changed in ((PAGE, with_table), (README, with_sentence)):
+        page = file.read_text(encoding="utf-8")
+        if "--check" not in sys.argv:
+            file.write_text(changed(page), encoding="utf-8")
+        elif changed(page) != page:
+            sys.exit(f"{file.name} does not say what the reports say. Run bench/report.py.")
+    if "--plot" in sys.argv:
+        plot()
 
 
 main()

@@ -1,10 +1,11 @@
-//! `crates/glob_bench`, over the Rust crate: the same words, work and output.
+//! `crates/glob_bench`, over the Rust crate: the same words, work and output, and `clone PATTERN TIMES`.
 
 use glob::{MatchOptions, Pattern};
 use original::options_of;
 use std::env;
 use std::error::Error;
 use std::fs;
+use std::hint::black_box;
 use std::time::Instant;
 
 type Result<T> = std::result::Result<T, Box<dyn Error>>;
@@ -32,6 +33,12 @@ fn compile(text: &str, times: u32) -> Result<u64> {
     Ok(count)
 }
 
+/// How many bytes of patterns are copied, `times` times over.
+fn copy(text: &str, times: u32) -> Result<u64> {
+    let pattern = Pattern::new(text)?;
+    Ok((0..times).map(|_| black_box(&pattern).clone().as_str().len() as u64).sum())
+}
+
 /// The pattern of a word: its own text, or for `@FILE` that of the file.
 fn pattern_text(word: &str) -> Result<String> {
     match word.strip_prefix('@') {
@@ -52,14 +59,14 @@ fn run(words: &[&str]) -> Result<(u64, u128)> {
             let count = count_matches(&pattern, options_of(letters), &lines, times);
             Ok((count, start.elapsed().as_nanos()))
         }
-        ["compile", pattern, times] => {
+        [command @ ("compile" | "clone"), pattern, times] => {
             let pattern = pattern_text(pattern)?;
             let times = times.parse::<u32>()?;
             let start = Instant::now();
-            let count = compile(&pattern, times)?;
+            let count = if *command == "compile" { compile(&pattern, times) } else { copy(&pattern, times) }?;
             Ok((count, start.elapsed().as_nanos()))
         }
-        _ => Err("usage: library match OPTIONS PATTERN FILE TIMES | compile PATTERN TIMES".into()),
+        _ => Err("usage: library match OPTIONS PATTERN FILE TIMES | compile PATTERN TIMES | clone PATTERN TIMES".into()),
     }
 }
 

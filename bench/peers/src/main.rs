@@ -3,10 +3,13 @@
 
 use globset::{GlobBuilder, GlobSet, GlobSetBuilder};
 use std::env;
+use std::error::Error;
 use std::fs;
 use std::time::Instant;
 
-fn set_of(letters: &str, patterns: &[&str]) -> peers::Result<GlobSet> {
+type Result<T> = std::result::Result<T, Box<dyn Error>>;
+
+fn set_of(letters: &str, patterns: &[&str]) -> Result<GlobSet> {
     let mut builder = GlobSetBuilder::new();
     for pattern in patterns {
         builder.add(
@@ -21,7 +24,7 @@ fn set_of(letters: &str, patterns: &[&str]) -> peers::Result<GlobSet> {
 
 /// The sum of what the question answers for each line: 1 if a pattern matches, or the numbers of those that do, counted
 /// from 1.
-fn sum(set: &GlobSet, question: &str, lines: &[&str]) -> peers::Result<u64> {
+fn sum(set: &GlobSet, question: &str, lines: &[&str]) -> Result<u64> {
     let mut numbers = Vec::new();
     let mut sum = 0u64;
     let mut add = |number: Option<&usize>| sum += number.map_or(0, |number| *number as u64 + 1);
@@ -44,7 +47,7 @@ fn sum(set: &GlobSet, question: &str, lines: &[&str]) -> peers::Result<u64> {
     Ok(sum)
 }
 
-fn main() -> peers::Result<()> {
+fn main() -> Result<()> {
     let arguments = env::args().skip(1).collect::<Vec<String>>();
     let words = arguments.iter().map(String::as_str).collect::<Vec<&str>>();
     let texts = fs::read_to_string(words.get(2).ok_or("no patterns")?)?;
