@@ -42,9 +42,9 @@
 #include <stdint.h>
 
 #define CADMIUMDOVE_VERSION_MAJOR 0
-#define CADMIUMDOVE_VERSION_MINOR 3
+#define CADMIUMDOVE_VERSION_MINOR 4
 #define CADMIUMDOVE_VERSION_PATCH 0
-#define CADMIUMDOVE_VERSION "0.3.0"
+#define CADMIUMDOVE_VERSION "0.4.0"
 
 #ifdef __cplusplus
 extern "C" {
