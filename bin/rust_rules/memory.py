@@ -23,7 +23,7 @@ def without_allocators(text):
 
 
 class Fallible:
-    """Which functions fail for want of memory alone, by their types and names."""
+    """Which functions fail for lack of memory alone, by their types and names."""
 
     def __init__(self, texts):
         self.known = {(kind, name): True for kind in ("Vec", "String", None) for name in ALLOCATES}
@@ -40,7 +40,7 @@ class Fallible:
                         stop(found[1], "functions of this name fail in several ways")
 
     def call(self, text, masked, end):
-        """Whether what ends at a place is a call, or a parameter, that fails for want of memory alone."""
+        """Whether what ends at a place is a call, or a parameter, that fails for lack of memory alone."""
         if masked[end - 1] not in ")]":
             name = re.search(r"\w+$", masked[:end])
             start = max(masked.rfind("fn ", 0, end), 0)
@@ -77,7 +77,7 @@ def without_failures(text, fallible):
 
 
 def without_let_else(text, fallible):
-    """With `let x = f();` for a `let Ok(x) = f() else` where `f` failed for want of memory alone."""
+    """With `let x = f();` for a `let Ok(x) = f() else` where `f` failed for lack of memory alone."""
     at = 0
     while found := re.compile(r"let Ok\(").search(mask(text), at):
         masked, at = mask(text), found.end()
@@ -148,7 +148,7 @@ def match_of(text, at, value, arms):
 
 
 def with_plain_answers(text):
-    """In functions that failed for want of memory alone: `x` for `Ok(x)`."""
+    """In functions that failed for lack of memory alone: `x` for `Ok(x)`."""
     for at in reversed([found.start() for found in re.finditer(r"\bfn \w+", text)]):
         head = signature(text, at)
         if not re.search(r"-> Result<.*\bAllocError>\s*\{$", head, re.S):
