@@ -1,3 +1,2 @@
 pub mod CallerLemmas
-pub mod Examples
 pub mod LineLemmas

@@ -1,7 +1,7 @@
 pub mod Ascending
 pub mod CallerLemmas
 pub mod ComponentLemmas
-pub mod Examples
+mod Premises
 pub mod GoalLemmas
 pub mod ListingLemmas
 pub mod MatchLemmas

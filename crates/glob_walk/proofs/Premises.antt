@@ -1,15 +1,57 @@
--- What each premise of a plain walk's goal is for: a small content at which the goal is missed without it.
-use Rattle.std.specs.Prelude.{◌≡◌, true, false, List, [], ◌∷◌, map, codes, refl}
+-- What each premise of a headline promise is for: a small content at which the promise fails without it, computed from
+-- the definitions.
+use Rattle.std.specs.Prelude.{◌≡◌, true, false, Bool, List, [], ◌∷◌, map, codes, refl}
 use Prim.Native.String.{String}
-use Rattle.glob_tree.specs.Content.{Content}
+use Rattle.std.specs.Str.{chars, is_utf8}
+use lib.Utf8.{encode}
+use Rattle.std.specs.declared.io.ErrorKind.{ErrorKind}
 use Rattle.std.specs.declared.io.ErrorKind.TheVariants.{PermissionDenied}
-use Rattle.glob_walk.specs.Marks.{Found, Unread, items, front, paths}
-use Rattle.glob_walk.specs.Listing.{listing}
-use Rattle.glob_walk.specs.Goal.{goal, is_plain, is_readable}
-use Rattle.glob_walk.specs.Order.{has_one_recursive, keeps_order}
+use Rattle.glob_text.specs.Pieces.{pieces}
+use Rattle.glob_tree.specs.Content.{Content, Key, is_content, kind_at, children, resolve, look_result, list_result}
+use Rattle.glob_tree.specs.Paths.{join, child}
+use Rattle.glob_tree.specs.declared.kind.Kind.{Kind}
+use Rattle.glob_tree.specs.declared.kind.Kind.TheVariants.{Dir, Shut, Other}
+use Rattle.glob_pattern.specs.Computing.Deciding.{is_match, tokens_match}
+use Rattle.glob_pattern.specs.Computing.Reading.{units_from}
+use Rattle.glob_pattern.specs.Matching.Components.{takes_names}
+use Rattle.glob_pattern.specs.Matching.Options.{new_options, default_options}
 use Rattle.glob_pattern.specs.declared.options.MatchOptions.{MatchOptions}
-use Rattle.glob_walk.proofs.Examples.Options.{new, dot_rule, no_case}
-use Rattle.glob_walk.proofs.Examples.Trees.{computed, at_root, dir, file, shut}
+use Rattle.glob_walk.specs.Components.{components, matches_name, walk_fault}
+use Rattle.glob_walk.specs.Goal.{goal, is_plain, is_readable, matches_undivided, text_below}
+use Rattle.glob_walk.specs.Listing.{listing, descent, enter, meet}
+use Rattle.glob_walk.specs.Marks.{Found, Unread, items, front, paths}
+use Rattle.glob_walk.specs.Order.{has_one_recursive, keeps_order}
+
+-- opens the definitions by which the rows compute
+unfoldable computed : Unit {0}
+unfolding chars is_utf8 encode units_from is_match tokens_match join child kind_at children resolve look_result list_result is_content descent enter meet listing walk_fault is_plain goal
+computed = tt
+
+abbrev new : MatchOptions
+new = new_options
+
+abbrev dot_rule : MatchOptions
+dot_rule = record new { require_literal_leading_dot = true }
+
+abbrev no_case : MatchOptions
+no_case = default_options
+
+-- a key is written as its names joined by separators
+abbrev key : String → Key
+key names = pieces (codes names)
+
+abbrev dir : String → Key × Kind
+dir names = (key names, Dir)
+
+abbrev file : String → Key × Kind
+file names = (key names, Other)
+
+abbrev shut : ErrorKind → String → Key × Kind
+shut kind names = (key names, Shut kind)
+
+-- a content whose current directory is its root
+abbrev at_root : List (Key × Kind) → Content
+at_root entries = record { kinds = ([], Dir) ∷ entries; current = [] }
 
 -- the paths that the walk gives, and the goal
 abbrev IsGiven : Content → MatchOptions → (pattern : String) → List String → Type 0
@@ -89,7 +131,8 @@ unfolding computed
 literal_counts = refl
 
 -- a run may give the error of one directory twice
-repeated_error : items (listing (at_root (shut PermissionDenied "d" ∷ [])) new (codes "**/*/*")) ≡ Unread (codes "d") PermissionDenied ∷ Unread (codes "d") PermissionDenied ∷ []
+repeated_error : items (listing (at_root (shut PermissionDenied "d" ∷ [])) new (codes "**/*/*"))
+    ≡ Unread (codes "d") PermissionDenied ∷ Unread (codes "d") PermissionDenied ∷ []
 unfolding computed
 repeated_error = refl
 
@@ -99,3 +142,35 @@ whole_counts :
     × IsGoal crossed new "**" ("a" ∷ "a/c" ∷ [])
 unfolding computed
 whole_counts = (refl, refl)
+
+-- over a list of keys that is no content, since `a` is missing, a walk does not find what the pattern matches
+abbrev no_content : Content
+no_content = at_root (file "a/b" ∷ [])
+
+content_counts : (is_content no_content ≡ false) × IsGiven no_content new "*/*" [] × IsGoal no_content new "*/*" ("a/b" ∷ [])
+unfolding computed
+content_counts = (refl, refl, refl)
+
+-- of names joined by `/`: whether the undivided pattern matches, whether the components take them, and whether it is plain
+abbrev row : MatchOptions → String → List String → List Bool
+row o pattern names =
+    matches_undivided o (codes pattern) (text_below (codes pattern) (map codes names))
+    ∷ takes_names o (matches_name o) (components (codes pattern)) (map codes names)
+    ∷ is_plain (codes pattern) ∷ []
+
+-- the start is no goal, though `**` matches the empty text
+names_count : row new "**" [] ≡ true ∷ false ∷ true ∷ []
+unfolding computed
+names_count = refl
+
+-- a bracket that holds `/`, and an empty component after a run
+components_count : (row new "[a/b]" ("a" ∷ []) ≡ true ∷ false ∷ false ∷ []) × (row new "**//" ("a" ∷ []) ≡ true ∷ false ∷ false ∷ [])
+unfolding computed
+components_count = (refl, refl)
+
+-- without the separator rule `*` takes a path of two names
+separators_count :
+    (is_match new (codes "*") (codes "a/b") ≡ true)
+    × (takes_names new (is_match new) (codes "*" ∷ []) (codes "a" ∷ codes "b" ∷ []) ≡ false)
+unfolding computed
+separators_count = (refl, refl)
