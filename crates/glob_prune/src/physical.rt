@@ -14,15 +14,15 @@ use std::marker::Model;
 pub enum Links {
     /// They are no directories: a walk by `**` does not enter one, and ends on a cycle of links.
     Kept,
-    /// They are what they point to, or no directory where that is missing. In a listing, a link to a directory that is on the
-    /// way down to the link is none either, and the [`Strays`] receive it: so a walk by `**` ends on a cycle of links, as
-    /// at `a/up` that points to `a`. Where the system numbers no files, it ends once the system follows no more of them.
+    /// They are what they point to, or no directory where that is missing. A link to a directory that is on the way down to
+    /// the link is none either, and the [`Strays`] receive it: so a walk by `**` ends on a cycle of links, as at `a/up` that
+    /// points to `a`. Where the system numbers no files, it ends once the system follows no more of them.
     Followed,
 }
 
 /// The real file system, as a tree with no known content, where a symbolic link is no directory unless links are
-/// [`Followed`](Links::Followed). Relative paths begin at the current directory of the process. A path through a link is
-/// followed, as `link/a`.
+/// [`Followed`](Links::Followed): nothing is below it, so `link/a` is missing. Relative paths begin at the current
+/// directory of the process.
 ///
 /// A walk over it is complete, or the [`Strays`] receive what is missing: each name that is not UTF-8, which costs only
 /// itself, and each path where the system does not say what is there, as below a directory that may be listed and not
@@ -34,13 +34,12 @@ pub enum Links {
 /// walk_in(alloc, disk, "**/*.rs", options, u64::MAX)?    // `a/b.rs`, and not `link/b.rs` where `link` points to `a`
 /// ```
 ///
-/// A look makes one system call, and a listing one for each entry, besides those that open, read and close the directory.
-/// Where links are followed, each link costs a second one, and a link to a directory in a listing one more for each
-/// directory on the way down to it.
+/// A look makes one system call, and one for each directory above the path that is not above the last such path, too. A
+/// listing makes one for each entry, besides those that open, read and close the directory. Where links are followed,
+/// each link costs a second one, and a link to a directory one more for each directory on the way down to it.
 #[derive(Drop)]
 pub struct PhysicalDisk<R: Files, S: Strays, A: Allocator = Global> {
-    system: System<R, S>,
-    alloc: A,
+    system: System<R, S, A>,
     asks: Asks,
 }
 
@@ -53,7 +52,7 @@ impl<R: Files, S: Strays, A: Allocator> Model for PhysicalDisk<R, S, A> {
     ghost view = { λ disk. disk.asks };
 }
 
-impl<R: Files, S: Strays, A: Allocator> PhysicalDisk<R, S, A> {
+impl<R: Files, S: Strays, A: Allocator + Copy> PhysicalDisk<R, S, A> {
     /// The file system that `rt` reaches. Its listings are allocated from `alloc`. This call takes no memory.
     pub fn new(rt: R, strays: S, alloc: A) -> Self
         ensures { result ≡ 0 }
@@ -66,8 +65,7 @@ impl<R: Files, S: Strays, A: Allocator> PhysicalDisk<R, S, A> {
         ensures { result ≡ 0 }
     {
         PhysicalDisk {
-            system: System { rt, links, strays },
-            alloc,
+            system: System::new(rt, links, strays, alloc),
             asks: Asks::new(),
         }
     }
@@ -80,9 +78,9 @@ impl<R: Files + Drop, S: Strays, A: Allocator + Copy> Tree for PhysicalDisk<R, S
 
     ghost asks = { λ disk. disk };
 
-    /// A symbolic link that is not followed is `Other`; with a `/` at its end the path is that of its target. A
-    /// path that cannot be looked up is `Missing`, and the strays receive it unless the system says that nothing is there.
-    /// The error comes only where the I/O error's kind is `OutOfMemory`.
+    /// A symbolic link that is not followed is `Other`, and what is below it `Missing`. A path that cannot be looked up is
+    /// `Missing`, and the strays receive it unless the system says that nothing is there. The error comes only where the
+    /// I/O error's kind is `OutOfMemory`, or an allocation fails.
     fn look(&mut self, path: &str) -> Result<Look, AllocError>
         ensures asks { self.new ≡ self.old + 1 }
     {
@@ -96,7 +94,7 @@ impl<R: Files + Drop, S: Strays, A: Allocator + Copy> Tree for PhysicalDisk<R, S
         ensures asks { self.new ≡ self.old + 1 + entry_count result }
     {
         self.asks = self.asks.after(1);
-        let entries = self.system.entries(self.alloc, path)?;
+        let entries = self.system.entries(path)?;
         self.asks = self.asks.after(entries.len());
         Ok(entries)
     }

@@ -19,43 +19,81 @@ use std::path::Path;
 
 /// The calls of the system, whether they follow links, and who receives what they leave unsettled.
 #[derive(Drop)]
-pub(crate) struct System<R: Files, S: Strays> {
-    pub rt: R,
-    pub links: Links,
-    pub strays: S,
+pub(crate) struct System<R: Files, S: Strays, A: Allocator> {
+    rt: R,
+    links: Links,
+    strays: S,
+    /// The last path all of whose directories were looked at, so that those of its neighbours need not be.
+    way: String<A>,
 }
 
-impl<R: Files, S: Strays> System<R, S> {
-    /// What is at a path: at a link's target, unless links are not followed or it has none.
+impl<R: Files, S: Strays, A: Allocator + Copy> System<R, S, A> {
+    /// The calls of `rt`.
+    pub fn new(rt: R, links: Links, strays: S, alloc: A) -> Self {
+        System {
+            rt,
+            links,
+            strays,
+            way: String::new(alloc),
+        }
+    }
+
+    /// What is at a path. Nothing is below what is no directory, so what is behind a link that is none is missing, too.
     pub fn look(&mut self, path: &str) -> Result<Look, AllocError> {
+        if self.has_way(path)? {
+            self.look_at(path)
+        } else {
+            Ok(Look::Missing)
+        }
+    }
+
+    /// Whether each directory above a path is one.
+    fn has_way(&mut self, path: &str) -> Result<bool, AllocError> {
+        let Some((above, _)) = path.rsplit_once('/') else {
+            return Ok(true);
+        };
+        if is_on_way(above, self.way.as_str()) {
+            return Ok(true);
+        }
+        for directory in Path::new(above).ancestors() {
+            if is_on_way(directory.as_str(), self.way.as_str()) {
+                break;
+            }
+            if !self.is_dir(directory.as_str())? {
+                return Ok(false);
+            }
+        }
+        self.way.clear();
+        self.way.push_str(above)?;
+        Ok(true)
+    }
+
+    /// What is at a path that has a way: at a link's target, unless links are not followed or it has none.
+    fn look_at(&mut self, path: &str) -> Result<Look, AllocError>
+        ensures strays { S.names self.new.strays ≡ S.names self.old.strays }
+    {
         let Some(found) = self.found(path)? else {
             return Ok(Look::Missing);
         };
-        if !self.is_followed(&found) {
-            return Ok(look_of(&found));
-        }
-        Ok(match self.target(path)? {
-            Some(target) => look_of(&target),
-            None => Look::Other,
-        })
+        let is_dir = if self.is_followed(&found) {
+            self.leads_on(path)?
+        } else {
+            found.is_dir()
+        };
+        Ok(if is_dir { Look::Dir } else { Look::Other })
     }
 
     /// The entries of the directory at a path.
-    pub fn entries<A: Allocator + Copy>(
-        &mut self,
-        alloc: A,
-        path: &str,
-    ) -> Result<Vec<Entry<A>, A>, ListError> {
+    pub fn entries(&mut self, path: &str) -> Result<Vec<Entry<A>, A>, ListError> {
         // The separator at its end, so that a link there is followed.
-        let mut path = join(alloc, path, "")?;
+        let mut path = join(*self.way.allocator(), path, "")?;
         let mut directory = self.rt.open_dir(path.as_str())?;
-        self.read_entries(alloc, &mut path, &mut directory)
+        self.read_entries(&mut path, &mut directory)
     }
 
     /// The entries of a directory that is open. The path is its own, with a separator at the end.
-    fn read_entries<D: Read, A: Allocator + Copy>(
+    fn read_entries<D: Read>(
         &mut self,
-        alloc: A,
         path: &mut String<A>,
         directory: &mut D,
     ) -> Result<Vec<Entry<A>, A>, ListError>
@@ -66,14 +104,13 @@ impl<R: Files, S: Strays> System<R, S> {
             ≡ and_then (S.names self.old.strays) (strays_of (names_of_bytes bytes)))) }
         ensures end { OnOk result (IsAtEnd (D.remaining directory.new)) }
     {
-        let bytes = read_directory(alloc, directory)?;
-        self.named_entries(alloc, path, bytes.as_slice())
+        let bytes = read_directory(*self.way.allocator(), directory)?;
+        self.named_entries(path, bytes.as_slice())
     }
 
     /// The entries of the names in the bytes of a directory.
-    fn named_entries<A: Allocator + Copy>(
+    fn named_entries(
         &mut self,
-        alloc: A,
         path: &mut String<A>,
         bytes: &[u8],
     ) -> Result<Vec<Entry<A>, A>, ListError>
@@ -82,10 +119,11 @@ impl<R: Files, S: Strays> System<R, S> {
         ensures strays { OnOk result (S.names self.new.strays
             ≡ and_then (S.names self.old.strays) (strays_of (names_of_bytes bytes.now))) }
     {
+        let alloc = *self.way.allocator();
         let mut entries = Vec::new(alloc);
         for name in names_in(alloc, bytes)? {
             match std::str::from_utf8(name) {
-                Ok(name) => entries.push(self.entry(alloc, path, name)?)?,
+                Ok(name) => entries.push(self.entry(path, name)?)?,
                 Err(_) => self.strays.stray(path.as_str(), name),
             }
         }
@@ -93,12 +131,7 @@ impl<R: Files, S: Strays> System<R, S> {
     }
 
     /// The entry of a name in a directory.
-    fn entry<A: Allocator>(
-        &mut self,
-        alloc: A,
-        path: &mut String<A>,
-        name: &str,
-    ) -> Result<Entry<A>, ListError>
+    fn entry(&mut self, path: &mut String<A>, name: &str) -> Result<Entry<A>, ListError>
         ensures name { IfOk result (λ entry. entry.name ≡ name.now) }
         ensures strays { S.names self.new.strays ≡ S.names self.old.strays }
     {
@@ -106,16 +139,12 @@ impl<R: Files, S: Strays> System<R, S> {
             return Err(ListError::Read(io::Error::from(ErrorKind::InvalidFilename)));
         }
         let is_dir = self.is_dir_in(path, name)?;
-        let name = name_from_proper(alloc, name)?;
+        let name = name_from_proper(*self.way.allocator(), name)?;
         Ok(Entry { name, is_dir })
     }
 
     /// Whether a name in a directory is that of one.
-    fn is_dir_in<A: Allocator>(
-        &mut self,
-        path: &mut String<A>,
-        name: &str,
-    ) -> Result<bool, AllocError>
+    fn is_dir_in(&mut self, path: &mut String<A>, name: &str) -> Result<bool, AllocError>
         ensures strays { S.names self.new.strays ≡ S.names self.old.strays }
     {
         let length = path.len();
@@ -129,14 +158,7 @@ impl<R: Files, S: Strays> System<R, S> {
     fn is_dir(&mut self, path: &str) -> Result<bool, AllocError>
         ensures strays { S.names self.new.strays ≡ S.names self.old.strays }
     {
-        let Some(found) = self.found(path)? else {
-            return Ok(false);
-        };
-        if self.is_followed(&found) {
-            self.leads_on(path)
-        } else {
-            Ok(found.is_dir())
-        }
+        Ok(matches!(self.look_at(path)?, Look::Dir))
     }
 
     /// Whether a link points to a directory that is not on the way down to it: one that is would be entered for ever.
@@ -233,11 +255,13 @@ fn settle<S: Strays>(
     }
 }
 
-/// What has this metadata.
-fn look_of(found: &Metadata) -> Look {
-    if found.is_dir() {
-        Look::Dir
-    } else {
-        Look::Other
+/// Whether a directory is the last one on a way, or above it.
+fn is_on_way(directory: &str, way: &str) -> bool {
+    if directory.is_empty() {
+        return true;
+    }
+    match way.strip_prefix(directory) {
+        Some(rest) => rest.is_empty() || rest.starts_with('/') || directory.ends_with('/'),
+        None => false,
     }
 }
