@@ -1,15 +1,18 @@
-//! Which paths of a walk are written.
+//! Which paths of a walk are written, and how its errors are.
 ghost use Rattle.std.specs.Prelude.{◌≡◌, Bool, IfOk};
 ghost use Rattle.glob_console.specs.FoundPaths.{every};
 ghost use Rattle.glob_text.specs.Text.{Text};
 ghost use Rattle.glob_tree.specs.Answers.{IsTold};
 ghost use Rattle.glob_tree.specs.Content.{Content};
 
+use crate::error_lines::ErrorLines;
 use glob_tree::Tree;
-use std::alloc::AllocError;
+use glob_walk::GlobError;
+use std::alloc::{AllocError, Allocator};
+use std::io::Write;
 
-/// What says which paths of a walk are written, and may look them up in the tree that is walked. The same choice gives
-/// the same answer for the same path and content.
+/// What says which paths of a walk are written, and may look them up in the tree that is walked, and how errors of the
+/// walk are. The same choice gives the same answer for the same path and content.
 ///
 /// ```text
 /// struct Directories;
@@ -19,6 +22,14 @@ use std::alloc::AllocError;
 ///
 ///     fn wants<T: Tree>(&self, tree: &mut T, path: &str) -> Result<bool, AllocError> {
 ///         Ok(matches!(tree.look(path)?, Look::Dir))
+///     }
+///
+///     fn report<A: Allocator + Copy, E: Write>(
+///         &self,
+///         error: &GlobError<A>,
+///         errors: &mut ErrorLines<'_, A, E>,
+///     ) {
+///         errors.write(error);
 ///     }
 /// }
 /// ```
@@ -30,9 +41,17 @@ pub trait Choice {
         ensures content { T.tells tree.new ≡ T.tells tree.old }
         ensures wanted { (c : Content) → IsTold (T.tells tree.old) c
             → IfOk result (λ yes. yes ≡ wanted self.now c path.now) };
+
+    /// Writes what is said of an error of the walk: of a directory that cannot be listed, or, as the last item, of the limit
+    /// or an allocation failure.
+    fn report<A: Allocator + Copy, E: Write>(
+        &self,
+        error: &GlobError<A>,
+        errors: &mut ErrorLines<'_, A, E>,
+    );
 }
 
-/// Each path is written.
+/// Each path is written, and each error is the line that it prints.
 pub struct Every;
 
 impl Choice for Every {
@@ -40,5 +59,13 @@ impl Choice for Every {
 
     fn wants<T: Tree>(&self, _tree: &mut T, _path: &str) -> Result<bool, AllocError> {
         Ok(true)
+    }
+
+    fn report<A: Allocator + Copy, E: Write>(
+        &self,
+        error: &GlobError<A>,
+        errors: &mut ErrorLines<'_, A, E>,
+    ) {
+        errors.write(error);
     }
 }

@@ -37,8 +37,8 @@ pub struct WalkSettings<'a> {
     pub end: u8,
 }
 
-/// Walks the tree: each path that the choice wants is a record of `output`, and each error a line of `errors`, after
-/// the paths before it. A path waits for others before it is written, but not for long: after 8 KiB or a hundred units
+/// Walks the tree: each path that the choice wants is a record of `output`, and each error is what the choice says of it
+/// in `errors`, after the paths before it. A path waits for others before it is written, but not for long: after 8 KiB or a hundred units
 /// of the walk.
 ///
 /// Over files `x` and `y`, `*` writes the lines `x` and `y`, where every path is wanted. With the limit 3 it writes
@@ -155,7 +155,7 @@ fn write_step<T: Tree, C: Choice, W: Write, E: Write>(
             Err(error) => {
                 findings.note(item);
                 lines.flush(output)?;
-                errors.write(error);
+                choice.report(error, errors);
                 Ok(())
             }
         },

@@ -65,7 +65,7 @@ globs help shows what a PATTERN may have: ?, *, **, brackets and braces.
   -i             ASCII letters in either case are the same
   -d             neither wildcards nor brackets take a . at the start of a name
   -L             a symbolic link to a directory is one, and is entered. One that leads back up is
-                 reported, and is not entered
+                 reported, and is none. Without -L nothing is below a link: link/a is not found
   -n LIMIT       the walk spends at most LIMIT units: one for each lookup, listing and entry. At the
                  limit the output is incomplete, and a line says so
   -t KIND        -t d writes only directories. -t f writes all else: files, pipes, devices, and
@@ -135,7 +135,8 @@ takes a byte, case counts, and a line with an unknown class, as [[:word:]], is r
 Paths: a path is the names from that directory on, with a / between them, as git ls-files -z writes
 them. One that ends in / is that of a directory. A ./ at its start is passed over; . and the empty
 path are copied. Other paths are asked as they are written: by the rule a/b, a//b is not ignored. A
-path that is not UTF-8 is not copied. The disk is not looked at, but for the files.
+path that is not UTF-8 is left out, and a line on standard error says how many are. The disk is not
+looked at, but for the files.
 
 Paths are written as they come, before more input is read. A line ends before a line feed, which the
 last may lack. A carriage return belongs to its line.
@@ -143,7 +144,8 @@ last may lack. A carriage return belongs to its line.
 Status:
   0         a path was copied
   1         no path was copied
-  2         a fault. A line of FILE that is refused is named by its number
+  2         a fault, as a line of FILE that is refused, which is named by its number, or a path that
+            is not UTF-8
 ";
 
 /// The page of `explain`.

@@ -1,7 +1,7 @@
 //! `globs ignore`: the paths of the input that the rules of ignore files do not ignore.
 ghost use Rattle.std.specs.Prelude.{◌≡◌, ◌≤◌, false, map};
 ghost use Rattle.globs.specs.Copying.{input_of};
-ghost use Rattle.globs.specs.Unignored.{CopiesUnignored};
+ghost use Rattle.globs.specs.Unignored.{CopiesList, CopiesUnignored};
 
 mod unignored;
 
@@ -10,13 +10,16 @@ use crate::files::IgnoreFiles;
 use crate::ignoring::read_list;
 use glob_console::ErrorLines;
 use glob_lines::Watch;
+use glob_rules::IgnoreList;
 use std::alloc::Allocator;
+use std::cell::Cell;
+use std::fmt::{self, Display};
 use std::io::{Read, Write};
 use unignored::Unignored;
 
 /// Copies the paths of the input that the rules of the files do not ignore, and returns the status. Of several files
 /// the later rules decide. They are read whole before the input. A list that is refused is a fault, before anything is
-/// read of the input or written.
+/// read of the input or written. Paths that are not UTF-8 are left out: then the status is 2, and a line says how many.
 ///
 /// Over the input `"a.o\na.c\n"` a file `*.o` writes `"a.c\n"`.
 pub fn run_ignore<A: Allocator + Copy, F: IgnoreFiles, R: Read, W: Write, E: Write>(
@@ -34,14 +37,44 @@ pub fn run_ignore<A: Allocator + Copy, F: IgnoreFiles, R: Read, W: Write, E: Wri
         (input_of R.remaining input.old input.new) output.old output.new result }
 {
     match read_list(alloc, files, names, &[]) {
-        Ok(list) => copy(
-            alloc,
-            &Unignored { list: &list },
-            end,
-            input,
-            output,
-            errors,
-        ),
+        Ok(list) => copy_unignored(alloc, &list, end, input, output, errors),
         Err(rules_fault) => errors.fault(rules_fault),
+    }
+}
+
+/// Copies the paths of the input that the list does not ignore, and returns the status.
+fn copy_unignored<A: Allocator + Copy, R: Read, W: Write, E: Write>(
+    alloc: A,
+    list: &IgnoreList<A>,
+    end: u8,
+    input: &mut Watch<R>,
+    output: &mut W,
+    errors: &mut ErrorLines<'_, A, E>,
+) -> u8
+    requires { input.old.failed ≡ false }
+    ensures most { result ≤ 2 }
+    ensures copied { CopiesList list.now end (input_of R.remaining input.old input.new)
+        (W.contents output.old) (W.contents output.new) result }
+{
+    let unignored = Unignored {
+        list,
+        strays: Cell::new(0),
+    };
+    let status = copy(alloc, &unignored, end, input, output, errors);
+    match unignored.strays.get() {
+        0 => status,
+        strays => errors.fault(StraysLine { strays }),
+    }
+}
+
+/// The line of paths that were left out.
+#[derive(Clone, Copy)]
+struct StraysLine {
+    strays: u64,
+}
+
+impl Display for StraysLine {
+    fn fmt<W: fmt::Write>(&self, f: &mut fmt::Formatter<W>) -> fmt::Result {
+        write!(f, "left out, since they are not UTF-8: {}", self.strays)
     }
 }

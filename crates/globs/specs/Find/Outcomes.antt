@@ -1,6 +1,6 @@
 -- What a search comes to: its status, and what its output gained.
 use Rattle.std.specs.Prelude.{◌≢◌, ◌⊎◌, ℕ, List, Option, IsTrue}
-use Rattle.glob_console.specs.FoundPaths.{IsFindStatus}
+use Rattle.glob_console.specs.FoundPaths.{IsFindStatus, WritesFound}
 use Rattle.glob_console.specs.Outcomes.{IsRefused}
 use Rattle.glob_prune.specs.Pruning.{pruned}
 use Rattle.glob_rules.specs.Lists.{Ignores}
@@ -19,8 +19,8 @@ use Rattle.globs.specs.Ignoring.{HasRules}
 use Rattle.globs.specs.Patterns.{set_of}
 use Rattle.globs.specs.declared.options.Settings.{Settings}
 
--- The words are refused; or, of a known content, the status is that of the walk, and where that could read all and ended,
--- just the paths were written that one of the alternatives of the words finds.
+-- The words are refused; or, of a known content, the status is that of the walk, what is written is a beginning of what it
+-- finds, and where it could read all and ended, just the paths were written that one of the alternatives of the words finds.
 unfoldable pub Finds : {W : Type 0} → (contents : W → Option (List ℕ)) → (told : Option Content) → Settings → Ignores
     → (words : List Text) → (old new : W) → (status : ℕ) → Type 0
 Finds contents told settings list words old new status =
@@ -29,7 +29,9 @@ Finds contents told settings list words old new status =
     × ((c : Content) → IsTold told c
     → let x = is_skipped list settings.depth in let set = set_of settings.options patterns in
     let left = pruned x (opened settings.depth c) in
-    IsFindStatus (is_wanted set settings.kind left) (walk_listing left settings.options patterns) settings.limit status
+    let wanted = is_wanted set settings.kind left in let marks = walk_listing left settings.options patterns in
+    IsFindStatus wanted marks settings.limit status
+    × WritesFound settings.end wanted marks settings.limit (contents old) (contents new) status
     × (IsTrue (is_readable left (walk_text settings.options patterns)) → status ≢ 2
     → WritesExactly settings.end (IsFound x set settings.kind c) (contents old) (contents new))))
 

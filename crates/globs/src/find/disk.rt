@@ -7,6 +7,7 @@ use glob_console::FAULT;
 use glob_prune::{Links, PhysicalDisk};
 use std::alloc::{Allocator, Global};
 use std::cell::Cell;
+use std::collections::BTreeSet;
 use std::fs::Files;
 use std::io::Write;
 
@@ -49,6 +50,7 @@ pub fn disk_of<'a, R: Files + AllocGlobal + Copy + Drop, E: Write>(
         errors,
         has_any: has_stray,
         rules,
+        reported: BTreeSet::new(rt.alloc()),
     };
     PhysicalDisk::with_links(rt, strays, rt.alloc(), links)
 }

@@ -2,12 +2,15 @@
 ghost use Rattle.std.specs.Prelude.{◌≡◌};
 ghost use Rattle.globs.specs.Find.Filtering.{is_kind, is_wanted};
 
+use crate::find::strays::UnsettledLine;
 use crate::options::Kind;
 use crate::patterns::is_any_match;
-use glob_console::Choice;
+use glob_console::{Choice, ErrorLines};
 use glob_set::PatternSet;
 use glob_tree::{Look, Tree};
+use glob_walk::{GlobCause, GlobError};
 use std::alloc::{AllocError, Allocator};
+use std::io::Write;
 
 /// The paths that one of the patterns matches and that are of a kind.
 #[derive(Drop)]
@@ -30,6 +33,23 @@ impl<A: Allocator + Copy> Choice for Filter<A> {
         }
         let seen = tree.look(path)?;
         Ok(is_of_kind(self.kind, seen))
+    }
+
+    /// A directory that cannot be listed is a line with its path and the reason. Of the limit more is said once the walk
+    /// ended.
+    fn report<B: Allocator + Copy, E: Write>(
+        &self,
+        error: &GlobError<B>,
+        errors: &mut ErrorLines<'_, B, E>,
+    ) {
+        match error.cause() {
+            GlobCause::Read => errors.write(&UnsettledLine {
+                path: error.path().as_str(),
+                error: error.error(),
+            }),
+            GlobCause::Memory => errors.write(&"out of memory"),
+            GlobCause::Limit => (),
+        }
     }
 }
 

@@ -12,17 +12,19 @@ use glob_console::ErrorLines;
 use glob_prune::Strays;
 use std::alloc::Allocator;
 use std::cell::Cell;
+use std::collections::BTreeSet;
 use std::fmt::{self, Display};
 use std::io::{self, Write};
 
 /// Writes a line for each name that is not UTF-8 and each path that could not be looked up, unless the rules ignore it,
-/// and notes that there was one.
+/// and notes that there was one. A path has one line, however often it is looked up.
 #[derive(Drop)]
 pub struct StrayLines<'a, A: Allocator, E> {
     pub alloc: A,
     pub errors: &'a mut E,
     pub has_any: &'a Cell<bool>,
     pub rules: &'a SharedRules<A>,
+    pub reported: BTreeSet<String<A>, A>,
 }
 
 impl<A: Allocator + Copy, E: Write> Strays for StrayLines<'_, A, E> {
@@ -33,7 +35,8 @@ impl<A: Allocator + Copy, E: Write> Strays for StrayLines<'_, A, E> {
     }
 
     fn unsettled(&mut self, path: &str, error: &io::Error) {
-        if is_ignored(self.rules, path) {
+        let path = without_here(path).unwrap_or(path);
+        if is_ignored(self.rules, path) || !is_new(self.alloc, &mut self.reported, path) {
             return;
         }
         self.has_any.set(true);
@@ -44,18 +47,29 @@ impl<A: Allocator + Copy, E: Write> Strays for StrayLines<'_, A, E> {
 
 /// Whether the rules ignore what is at a path, which is taken for no directory. Without memory to tell they do not.
 fn is_ignored<A: Allocator + Copy>(rules: &SharedRules<A>, path: &str) -> bool {
-    let path = without_here(path).unwrap_or(path);
     match rules.get() {
         Some(list) => list.is_ignored(path, false).unwrap_or(false),
         None => false,
     }
 }
 
-/// The line of a path, with the reason why it could not be looked up.
+/// Whether a path was not reported before, as far as there is memory to know it. It is from now on.
+fn is_new<A: Allocator + Copy>(
+    alloc: A,
+    reported: &mut BTreeSet<String<A>, A>,
+    path: &str,
+) -> bool {
+    match String::from_str(alloc, path) {
+        Ok(path) => reported.insert(path).unwrap_or(true),
+        Err(_) => true,
+    }
+}
+
+/// The line of a path, with the reason why it could not be looked up or listed.
 #[derive(Clone, Copy)]
-struct UnsettledLine<'a> {
-    path: &'a str,
-    error: &'a io::Error,
+pub struct UnsettledLine<'a> {
+    pub path: &'a str,
+    pub error: &'a io::Error,
 }
 
 impl Display for UnsettledLine<'_> {

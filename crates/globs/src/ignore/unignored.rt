@@ -6,16 +6,19 @@ ghost use Rattle.glob_text.specs.Text.{has};
 use glob_lines::Selection;
 use glob_rules::IgnoreList;
 use std::alloc::{AllocError, Allocator};
+use std::cell::Cell;
 use std::str;
 
 /// Selects the records that the list does not ignore.
 ///
 /// A record is a path, and that of a directory if it ends in `/`. A `./` at its start is passed over: by `/a` neither
 /// `a` nor `./a` is selected. The list's own directory, as `.`, `./`, `/` or an empty record, is always selected, and a
-/// path that is not UTF-8 never.
+/// path that is not UTF-8 never: it is counted.
 #[derive(Drop)]
 pub struct Unignored<'l, A: Allocator> {
     pub list: &'l IgnoreList<A>,
+    /// How many paths were not UTF-8.
+    pub strays: Cell<u64>,
 }
 
 impl<A: Allocator + Copy> Selection for Unignored<'_, A> {
@@ -25,7 +28,10 @@ impl<A: Allocator + Copy> Selection for Unignored<'_, A> {
         match str::from_utf8(path_of(bytes)) {
             Ok(path) if is_here(path) => Ok(true),
             Ok(path) => Ok(!self.list.is_ignored(path, is_directory(bytes))?),
-            Err(_) => Ok(false),
+            Err(_) => {
+                self.strays.set(self.strays.get().saturating_add(1));
+                Ok(false)
+            }
         }
     }
 }

@@ -4,7 +4,7 @@ use Rattle.globs.proofs.ignore.run_ignore.Goals as goal
 
 pub returns-in-Ok-clause-copied : goal.returns-in-Ok-clause-copied
 unfolding CopiesUnignored
-returns-in-Ok-clause-copied g c = inr (c.in-Ok.list, c.in-Ok.ensures, c.copy.ensures.copied)
+returns-in-Ok-clause-copied g c = inr (c.in-Ok.list, c.in-Ok.ensures, c.copy_unignored.ensures.copied)
 
 pub returns-in-Err-clause-copied : goal.returns-in-Err-clause-copied
 unfolding CopiesUnignored
