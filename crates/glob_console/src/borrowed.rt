@@ -22,8 +22,4 @@ impl<W: Write> Write for Borrowed<'_, W> {
     fn flush(&mut self) -> io::Result<()> {
         self.writer.flush()
     }
-
-    fn write_all(&mut self, buf: &[u8]) -> io::Result<()> {
-        self.writer.write_all(buf)
-    }
 }

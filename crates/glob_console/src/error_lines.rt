@@ -25,7 +25,9 @@ pub struct ErrorLines<'e, A: Allocator, E> {
 
 impl<'e, A: Allocator + Copy, E: Write> ErrorLines<'e, A, E> {
     /// Lines of the writer that begin with `prefix`.
-    pub fn new(alloc: A, prefix: &'e str, writer: &'e mut E) -> Self {
+    pub fn new(alloc: A, prefix: &'e str, writer: &'e mut E) -> Self
+        ensures { result.prefix.now ≡ prefix.entry.now }
+    {
         ErrorLines {
             alloc,
             prefix,
@@ -35,7 +37,9 @@ impl<'e, A: Allocator + Copy, E: Write> ErrorLines<'e, A, E> {
     }
 
     /// The same lines, but none for a write whose reader went away.
-    pub fn quiet(alloc: A, prefix: &'e str, writer: &'e mut E) -> Self {
+    pub fn quiet(alloc: A, prefix: &'e str, writer: &'e mut E) -> Self
+        ensures { result.prefix.now ≡ prefix.entry.now }
+    {
         ErrorLines {
             is_quiet: true,
             ..Self::new(alloc, prefix, writer)

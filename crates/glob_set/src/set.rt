@@ -2,7 +2,7 @@ ghost use Rattle.std.specs.Prelude.{◌≡◌, ℕ, List, ◌<◌, ◌↔◌, le
 ghost use Rattle.std.specs.Path.{path_bytes};
 ghost use Rattle.glob_set.specs.Private.Buckets.{IsBucket};
 ghost use Rattle.glob_set.specs.Private.Pairs.{text_bits, text_class};
-ghost use Rattle.glob_set.specs.BraceSets.{AnyAlternativeMatches, AreAlternativesOf, RefusesBraceTexts};
+ghost use Rattle.glob_set.specs.BraceSets.{AnyAlternativeMatches, AreAccepted, AreAlternativesOf, RefusesBraceTexts};
 ghost use Rattle.glob_set.specs.Sets.{MatchesAt, AnyMatch, FirstMatch, LastMatch, all_matches, AreFirstMatches, AreShort, RefusesTexts};
 
 use crate::buckets::{Bucket, buckets_of};
@@ -105,6 +105,7 @@ impl<A: Allocator + Copy> PatternSet<A> {
     pub fn from_texts(alloc: A, texts: &[&str], options: MatchOptions) -> Result<Self, SetRefusal>
         ensures set { IfOk result
             (λ set. set ≡ record { patterns = map (λ t. t.now) texts.now; options = options }) }
+        ensures accepted { IfOk result (λ _. AreAccepted (map (λ t. t.now) texts.now)) }
         ensures refused { IfErr result (RefusesTexts (map (λ t. t.now) texts.now)) }
     {
         let patterns = read_patterns(alloc, texts)?;

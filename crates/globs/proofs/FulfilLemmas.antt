@@ -1,5 +1,5 @@
 -- What fulfils a request.
-use Rattle.std.proofs.Common.{◌≡◌, ℕ, ◌<◌, ◌≤◌, List, [], ◌∷◌, Option, length, get_or, map, inl, refl, arith, Bor}
+use Rattle.std.proofs.Common.{◌≡◌, ℕ, ◌<◌, ◌≤◌, false, List, [], ◌∷◌, Option, length, get_or, map, inl, refl, arith, Bor}
 use Rattle.std.specs.Str.{chars}
 use Rattle.std.proofs.KnownBytes.{Keeps-refl}
 use Rattle.glob_console.specs.Outcomes.{IsRefused}
@@ -36,13 +36,13 @@ module _ {W : Type 0} (contents : W → Option (List ℕ)) (known : W) (status :
   answers_refused o (p ∷ t ∷ x ∷ more) = (is, refl)
 
   -- a fault before anything was done with the output fulfils each request
-  pub fulfils_refused : (world : World) (request : Request) → Fulfils contents world request known known status
+  pub fulfils_refused : (world : World) (request : Request) → world.input.failed ≡ false → Fulfils contents world request known known status
   unfolding Fulfils FindsUnignored CopiesMatches CopiesUnignored WritesEscaped
-  fulfils_refused world (Runs Find o operands) = inl (is, refl)
-  fulfils_refused world (Runs Match o operands) = inl (is, refl)
-  fulfils_refused world (Runs Ignore o operands) = inl (is, refl)
-  fulfils_refused world (Runs Explain o operands) = answers_refused o.settings.options operands
-  fulfils_refused world (Runs Escape o operands) = inl (is, Keeps-refl (contents known))
-  fulfils_refused world (Helps name) = text_at_fault _ (contents known) status is
-  fulfils_refused world VersionLine = text_at_fault _ (contents known) status is
-  fulfils_refused world (Refused name why word) = (is, refl)
+  fulfils_refused world (Runs Find o operands) unread = inl (is, refl)
+  fulfils_refused world (Runs Match o operands) unread = inl (unread, (is, refl))
+  fulfils_refused world (Runs Ignore o operands) unread = inl (unread, (is, refl))
+  fulfils_refused world (Runs Explain o operands) unread = answers_refused o.settings.options operands
+  fulfils_refused world (Runs Escape o operands) unread = inl (is, Keeps-refl (contents known))
+  fulfils_refused world (Helps name) unread = text_at_fault _ (contents known) status is
+  fulfils_refused world VersionLine unread = text_at_fault _ (contents known) status is
+  fulfils_refused world (Refused name why word) unread = (is, refl)

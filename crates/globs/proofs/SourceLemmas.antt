@@ -3,7 +3,7 @@ use Rattle.std.proofs.Common.{◌≡◌, ℕ, ◌+◌, ◌<◌, ◌≤◌, List,
 use Rattle.std.proofs.lemmas.List.{drop_all, drop_more, map_more, take_all}
 use Rattle.glob_text.specs.Text.{Text}
 use Rattle.glob_lines.specs.Lines.{line_feed, with_ends}
-use Rattle.glob_rules.specs.Lists.{Ignores, rules_of}
+use Rattle.glob_rules.specs.Lists.{AreTaken, Ignores, rules_of}
 use Rattle.globs.specs.Ignoring.{AreRead, HasRules, IsRead, IsUnmarked}
 
 abbrev now : Bor Text → Text
@@ -70,7 +70,8 @@ files_done holds names i before so_far end (texts, are, same) =
 
 -- the list of the rules of files and single ones
 pub has_rules : (holds : Text → Option Text) (names rules after all : List Text) (list : Ignores) → (texts : List Text) × AreRead holds names texts × (after ≡ [] ++ texts)
-    → all ≡ after ++ rules → list ≡ rules_of (with_ends line_feed all) → HasRules holds names rules list
+    → all ≡ after ++ rules → AreTaken (with_ends line_feed all) → list ≡ rules_of (with_ends line_feed all) → HasRules holds names rules list
 unfolding HasRules
-has_rules holds names rules after all list (texts, are, same) more is =
-    (texts, are, is ∙ ap (λ ts. rules_of (with_ends line_feed ts)) (more ∙ ap (λ ts. ts ++ rules) same))
+has_rules holds names rules after all list (texts, are, same) more taken is =
+    let whole : all ≡ texts ++ rules = more ∙ ap (λ ts. ts ++ rules) same in
+    (texts, are, subst (λ ts. AreTaken (with_ends line_feed ts)) whole taken, is ∙ ap (λ ts. rules_of (with_ends line_feed ts)) whole)

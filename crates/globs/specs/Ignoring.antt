@@ -4,7 +4,7 @@ use Rattle.std.specs.IoError.{error_kind}
 use Rattle.std.specs.declared.io.Error.{Error}
 use Rattle.std.specs.declared.io.ErrorKind.TheVariants.{OutOfMemory, InvalidData}
 use Rattle.glob_lines.specs.Lines.{line_feed, with_ends}
-use Rattle.glob_rules.specs.Lists.{Ignores, rules_of}
+use Rattle.glob_rules.specs.Lists.{AreTaken, Ignores, rules_of}
 use Rattle.glob_text.specs.Text.{Text}
 use Rattle.globs.specs.declared.ignoring.RulesFault.{RulesFault}
 use Rattle.globs.specs.declared.ignoring.RulesFault.TheVariants.{NoText, Unread, Refused, Memory}
@@ -34,10 +34,11 @@ AreRead holds [] (text ∷ texts) = ⊥
 AreRead holds (name ∷ names) [] = ⊥
 AreRead holds (name ∷ names) (text ∷ texts) = IsRead (holds name) text × AreRead holds names texts
 
--- the list has the rules of the files of these names, and then the single ones
+-- the list has the rules of the files of these names, and then the single ones, of which none is refused
 unfoldable pub HasRules : (holds : Text → Option Text) → (names rules : List Text) → Ignores → Type 0
 HasRules holds names rules list =
-    (texts : List Text) × AreRead holds names texts × (list ≡ rules_of (with_ends line_feed (texts ++ rules)))
+    (texts : List Text) × AreRead holds names texts × AreTaken (with_ends line_feed (texts ++ rules))
+    × (list ≡ rules_of (with_ends line_feed (texts ++ rules)))
 
 -- what an error of a read of the file means: out of memory, a file that is not UTF-8, or the error of the system
 abbrev pub IsReadFault : (file : Text) → Error → RulesFault → Type 0

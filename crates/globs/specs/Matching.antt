@@ -1,8 +1,8 @@
 -- Which records some patterns match.
-use Rattle.std.specs.Prelude.{Bool, ◌&&◌, ◌⊎◌, not, if◌then◌else◌, List, Option, ℕ}
+use Rattle.std.specs.Prelude.{◌≡◌, ◌≢◌, Bool, false, ◌&&◌, ◌⊎◌, not, if◌then◌else◌, List, Option, ℕ}
 use Rattle.std.specs.Str.{is_utf8}
 use Rattle.glob_console.specs.Outcomes.{IsRefused}
-use Rattle.glob_set.specs.BraceSets.{AreAlternativesOf}
+use Rattle.glob_set.specs.BraceSets.{AreAccepted, AreAlternativesOf}
 use Rattle.glob_set.specs.Sets.{Set}
 use Rattle.glob_text.specs.Text.{Text}
 use Rattle.globs.specs.Copying.{Copies, Input}
@@ -17,10 +17,11 @@ is_record_match set bytes = is_utf8 bytes && is_any_match set bytes
 abbrev pub is_chosen : Set → (inverts : Bool) → (bytes : List ℕ) → Bool
 is_chosen set inverts bytes = if inverts then not (is_record_match set bytes) else is_record_match set bytes
 
--- The words are refused; or the records were copied that one of their alternatives matches or, inverted, that none does.
+-- The words are refused before anything is read; or the records were copied that one of their alternatives matches or,
+-- inverted, that none does. Where the status is not 2, each alternative is a pattern.
 unfoldable pub CopiesMatches : {W : Type 0} → (contents : W → Option (List ℕ)) → Settings → (words : List Text) → Input
     → (old new : W) → (status : ℕ) → Type 0
 CopiesMatches contents settings words input old new status =
-    IsRefused old new status
-    ⊎ ((patterns : List Text) × AreAlternativesOf words patterns
+    ((input.failed ≡ false) × IsRefused old new status)
+    ⊎ ((patterns : List Text) × AreAlternativesOf words patterns × (status ≢ 2 → AreAccepted patterns)
     × Copies settings.end (is_chosen (set_of settings.options patterns) settings.inverts) input (contents old) (contents new) status)

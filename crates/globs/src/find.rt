@@ -1,8 +1,9 @@
 //! `globs find`: the paths below the current directory that one of the patterns matches and nothing excludes.
-ghost use Rattle.std.specs.Prelude.{◌≡◌, ◌≢◌, ◌≤◌, false, map, IsTrue};
+ghost use Rattle.std.specs.Prelude.{◌≡◌, ◌≢◌, ◌≤◌, false, true, map, IsTrue};
 ghost use Rattle.glob_console.specs.FoundPaths.{IsFindStatus, WritesFound};
 ghost use Rattle.glob_console.specs.Outcomes.{IsRefused};
 ghost use Rattle.glob_prune.specs.Pruning.{pruned};
+ghost use Rattle.glob_set.specs.BraceSets.{AreAccepted};
 ghost use Rattle.glob_tree.specs.Answers.{IsTold};
 ghost use Rattle.glob_tree.specs.Content.{Content};
 ghost use Rattle.glob_walk.specs.Goal.{is_readable};
@@ -175,6 +176,8 @@ fn run_find<T: Tree, W: Write, E: Write>(
     ensures most { result ≤ 2 }
     ensures refused { are_below (map (λ p. p.now) patterns.now) ≡ false
         → IsRefused output.old output.new result }
+    ensures accepted { result ≢ 2 → AreAccepted (map (λ p. p.now) patterns.now) }
+    ensures below { result ≢ 2 → are_below (map (λ p. p.now) patterns.now) ≡ true }
     ensures status { (c : Content) → IsTold (T.tells tree) c → IsFindStatus
         (is_wanted (set_of settings.options (map (λ p. p.now) patterns.now)) settings.kind
         (pruned (is_skipped list.value settings.depth) (opened settings.depth c)))

@@ -1,6 +1,7 @@
 //! `globs match`: the records of the input that one of the patterns matches, or those that none matches.
-ghost use Rattle.std.specs.Prelude.{◌≡◌, ◌≤◌, ◌↔◌, false, map, IfOk, IsTrue};
+ghost use Rattle.std.specs.Prelude.{◌≡◌, ◌≢◌, ◌≤◌, ◌↔◌, false, map, IfOk, IsTrue};
 ghost use Rattle.std.specs.Str.{chars};
+ghost use Rattle.glob_set.specs.BraceSets.{AreAccepted};
 ghost use Rattle.globs.specs.Copying.{Copies, input_of};
 ghost use Rattle.globs.specs.Matching.{CopiesMatches, is_chosen, is_record_match};
 ghost use Rattle.globs.specs.Patterns.{set_of};
@@ -62,6 +63,7 @@ fn run_match<A: Allocator + Copy, R: Read, W: Write, E: Write>(
 ) -> u8
     requires { input.old.failed ≡ false }
     ensures most { result ≤ 2 }
+    ensures accepted { result ≢ 2 → AreAccepted (map (λ p. p.now) patterns.now) }
     ensures copied { Copies settings.end
         (is_chosen (set_of settings.options (map (λ p. p.now) patterns.now)) settings.inverts)
         (input_of R.remaining input.old input.new)

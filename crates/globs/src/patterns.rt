@@ -3,6 +3,7 @@ ghost use Rattle.std.specs.Prelude.{◌≡◌, Some, IfOk, IfErr, map};
 ghost use Rattle.std.specs.Fmt.{WritesOnOk};
 ghost use Rattle.globs.specs.Faults.{brace_lines, fault_words, message_words};
 ghost use Rattle.globs.specs.Patterns.{IsPatternFault, is_any_match, set_of};
+ghost use Rattle.glob_set.specs.BraceSets.{AreAccepted};
 ghost use Rattle.glob_set.specs.Sets.{RefusesTexts};
 
 use crate::name::Name;
@@ -116,6 +117,7 @@ pub fn read_set<'a, A: Allocator + Copy>(
     options: MatchOptions,
 ) -> Result<PatternSet<A>, PatternFault<'a>>
     ensures set { IfOk result (λ set. set ≡ set_of options (map (λ p. p.now) patterns.now)) }
+    ensures accepted { IfOk result (λ _. AreAccepted (map (λ p. p.now) patterns.now)) }
     ensures refused { IfErr result (IsPatternFault (map (λ p. p.now) patterns.now)) }
 {
     match PatternSet::from_texts(alloc, patterns, options) {

@@ -11,4 +11,4 @@ unfolding Fulfils
 returns-in-Ok-Version-clause-request g c = rw (c.in-Ok-Version.ensures.asked, c.in-Ok-Version.field-0-is) c.write_text-in-Ok-Version.ensures.written
 
 pub returns-in-Err-clause-request : goal.returns-in-Err-clause-request
-returns-in-Err-clause-request g c = fulfils_refused g.W.Write.contents c.args.output.now c.fault.result c.fault.ensures.status _ _
+returns-in-Err-clause-request g c = fulfils_refused g.W.Write.contents c.args.output.now c.fault.result c.fault.ensures.status _ _ c.requires

@@ -2,6 +2,7 @@
 ghost use Rattle.std.specs.Prelude.{◌≡◌, ◌≢◌, ◌≤◌, true, false, IfOk, IfErr, is_none, map, string_bytes};
 ghost use Rattle.glob_console.specs.FoundPaths.{IsFindStatus, WritesFound};
 ghost use Rattle.glob_console.specs.Outcomes.{IsRefused};
+ghost use Rattle.glob_set.specs.BraceSets.{AreAccepted};
 ghost use Rattle.glob_tree.specs.Answers.{IsTold};
 ghost use Rattle.glob_tree.specs.Content.{Content};
 ghost use Rattle.globs.specs.Find.Filtering.{is_wanted};
@@ -33,6 +34,7 @@ pub fn run_patterns<T: Tree, W: Write, E: Write>(
     ensures most { result ≤ 2 }
     ensures refused { are_below (map (λ p. p.now) patterns.now) ≡ false
         → IsRefused output.old output.new result }
+    ensures accepted { result ≢ 2 → AreAccepted (map (λ p. p.now) patterns.now) }
     ensures utf8 { result ≢ 2 → IsOneText (map (λ p. p.now) patterns.now) }
     ensures status { (c : Content) → IsTold (T.tells tree) c → IsFindStatus
         (is_wanted (set_of settings.options (map (λ p. p.now) patterns.now)) settings.kind c)
@@ -66,6 +68,7 @@ fn read_patterns<'a, A: Allocator + Copy>(
     patterns: &[&'a str],
     settings: Settings,
 ) -> Result<(Plan<A>, Filter<A>), PatternFault<'a>>
+    ensures accepted { IfOk result (λ _. AreAccepted (map (λ p. p.now) patterns.now)) }
     ensures below { IfOk result (λ _. are_below (map (λ p. p.now) patterns.now) ≡ true) }
     ensures utf8 { IfOk result (λ _. IsOneText (map (λ p. p.now) patterns.now)) }
     ensures text { IfOk result (λ r. string_bytes r.0.text

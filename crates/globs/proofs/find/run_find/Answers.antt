@@ -59,3 +59,6 @@ returns-clause-exact g c c' told readable whole =
     (writes_exactly x (opened depth c') (is_content-opened depth c' ∙ told.1) o ps c.args.settings.kind (walk_options o ps) (walk_text o ps)
     (walk_reaches o ps (c.run_patterns.ensures.utf8 whole) (are_taken ps _ c.run_patterns.result whole c.run_patterns.ensures.refused))
     c.args.settings.end c.args.settings.limit _ _ c.run_patterns.result readable whole (returns-clause-written g c c' told))
+
+pub returns-clause-below : goal.returns-clause-below
+returns-clause-below g c whole = are_taken (map (λ p. p.now) c.args.patterns.now) _ c.run_patterns.result whole c.run_patterns.ensures.refused
