@@ -1,19 +1,23 @@
 -- What a pruned tree answers, where its content is known.
-use Rattle.std.proofs.Common.{◌≡◌, Bool, true, false, cond, not, ◌||◌, List, Option, Some, None, refl, sym, ap, subst, ◌∙◌}
-use Rattle.std.specs.Prelude.{if◌then◌else◌}
+use Rattle.std.proofs.Common.{◌≡◌, Bool, true, false, cond, not, ◌||◌, List, Option, Some, None, refl, sym, ap, subst, ◌∙◌, arith}
+use Rattle.std.specs.Prelude.{ℕ, ◌+◌, if◌then◌else◌, Vec, vec_len}
 use Rattle.std.specs.List.{filter}
 use Rattle.std.specs.declared.io.ErrorKind.{ErrorKind}
 use Rattle.std.proofs.lemmas.Bool.{both_ways}
+use Rattle.std.proofs.lemmas.List.{length-map}
+use Rattle.std.proofs.lemmas.List.Sorted.{length_permutation}
 use Rattle.std.proofs.lemmas.Option.{none-some, same_Some}
 use Rattle.glob_text.specs.Text.{Text}
-use Rattle.glob_tree.specs.Answers.{IsTold, IsListAnswer, IsListError, IsListFault}
+use Rattle.glob_tree.specs.Answers.{IsTold, IsListAnswer, IsListError, IsListFault, entries_of}
 use Rattle.glob_tree.specs.Content.{Content, is_content, DirEntry, look_result, list_result, ListAnswer, Entries, Fails, NoDirectory}
 use Rattle.glob_tree.specs.Looks.{is_directory}
+use Rattle.glob_tree.specs.declared.tree.Entry.{Entry}
 use Rattle.glob_tree.specs.declared.tree.Look.{Look}
 use Rattle.glob_tree.specs.declared.tree.Look.TheVariants as look
 use Rattle.glob_tree.specs.declared.tree.ListError.{ListError}
 use Rattle.glob_tree.specs.declared.tree.ListError.TheVariants.{Read, Memory}
 use Rattle.glob_tree.proofs.ContentLemmas.Contents.{IsContent, IsContent-from_test}
+use Rattle.glob_prune.specs.Asking.{ListsAtMostOnce}
 use Rattle.glob_prune.specs.Entering.{is_entry_kept, is_path_excluded}
 use Rattle.glob_prune.specs.Pruning.{Exclusion, path_of, is_excluded, is_above_excluded, pruned, pruned_told, names_of_path, is_downward}
 use Rattle.glob_prune.proofs.ExclusionLemmas.{is_excluded_parts}
@@ -108,8 +112,14 @@ module _ (x : Exclusion) (told : Option Content) (d : Content) (t : IsTold (prun
         of_answer (Fails kind) h = h
         of_answer NoDirectory h = h
 
+-- a tree that was listed, with these entries, was listed at most once
+pub lists_at_most_once : {A : Type 0} (answer : ListAnswer) (v : Vec (Entry A) A) (old new : ℕ) → IsListAnswer answer (entries_of v.items) → new ≡ old + 1 + vec_len v → ListsAtMostOnce answer old new
+lists_at_most_once (Entries es) v old new said asks = omega (arith, v.ok.0, asks, simp length-map at (length_permutation {X = DirEntry} es (entries_of v.items) said))
+lists_at_most_once (Fails kind) v old new said asks = absurd said
+lists_at_most_once NoDirectory v old new said asks = tt
+
 -- what a look answers
 pub ruleset look_answers = (look_above, look_excluded, look_kept)
 
--- what a listing answers
-pub ruleset list_answers = (list_gone, list_error, list_kept)
+-- what a listing answers, and how often it asks
+pub ruleset list_answers = (list_gone, list_error, list_kept, lists_at_most_once)

@@ -3,6 +3,7 @@ ghost use Rattle.std.specs.Prelude.{◌≡◌, ◌+◌, ◌≤◌, true, IfOk, I
 ghost use Rattle.glob_tree.specs.Answers.{IsTold, IsListAnswer, IsListError, entries_of, entry_count};
 ghost use Rattle.glob_tree.specs.Content.{Content, look_result, list_result};
 ghost use Rattle.glob_tree.specs.Looks.{is_directory};
+ghost use Rattle.glob_prune.specs.Asking.{ListsAtMostOnce};
 ghost use Rattle.glob_prune.specs.Pruning.{is_above_excluded, is_excluded, names_of_path, pruned_told};
 
 use crate::entering::{enter, is_entered, is_path_excluded, kept_entries};
@@ -97,6 +98,9 @@ impl<T: Tree, X: Exclusion> Tree for Pruned<T, X> {
         ensures content { pruned_told (X.excludes self.new.exclusion) (T.tells self.new.tree)
             ≡ pruned_told (X.excludes self.old.exclusion) (T.tells self.old.tree) }
         ensures exclusion { self.new.exclusion ≡ self.old.exclusion }
+        ensures few { (c : Content) → IsTold (T.tells self.old.tree) c
+            → ListsAtMostOnce (list_result c path.now)
+            (T.asks self.old.tree) (T.asks self.new.tree) }
         ensures spared { is_excluded (X.excludes self.old.exclusion)
             (names_of_path path.now) true ≡ true → self.new.tree ≡ self.old.tree }
         ensures entries { (c : Content)
@@ -148,6 +152,8 @@ fn list_kept<T: Tree, X: Exclusion>(
     path: &str,
 ) -> Result<Vec<Entry<T::Alloc>, T::Alloc>, ListError>
     ensures content { T.tells tree.new ≡ T.tells tree.old }
+    ensures few { (c : Content) → IsTold (T.tells tree.old) c
+        → ListsAtMostOnce (list_result c path.now) (T.asks tree.old) (T.asks tree.new) }
     ensures spared { is_excluded (X.excludes exclusion.now) (names_of_path path.now) true ≡ true
         → tree.new ≡ tree.old }
     ensures entries { (c : Content)
