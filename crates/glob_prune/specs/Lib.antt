@@ -1,3 +1,4 @@
+pub mod Asking
 pub mod Entering
 pub mod Laws
 pub mod Pruning

@@ -1,9 +1,10 @@
 //! A tree without what is excluded.
-ghost use Rattle.std.specs.Prelude.{◌≡◌, ◌≢◌, ◌+◌, ◌≤◌, ℕ, Bool, true, false, not, filter, IfOk, IfErr, OnOk, string_bytes};
+ghost use Rattle.std.specs.Prelude.{◌≡◌, ◌+◌, ◌≤◌, true, IfOk, IfErr};
 ghost use Rattle.glob_tree.specs.Answers.{IsTold, IsListAnswer, IsListError, entries_of, entry_count};
 ghost use Rattle.glob_tree.specs.Content.{Content, look_result, list_result};
 ghost use Rattle.glob_tree.specs.Looks.{is_directory};
-ghost use Rattle.glob_prune.specs.Pruning.{is_above_excluded, is_downward, is_excluded, names_of_path, path_of, pruned_told};
+ghost use Rattle.glob_prune.specs.Asking.{ListsAtMostOnce};
+ghost use Rattle.glob_prune.specs.Pruning.{is_above_excluded, is_excluded, names_of_path, pruned_told};
 
 use crate::entering::{enter, is_entered, is_path_excluded, kept_entries};
 use crate::exclusion::Exclusion;
@@ -87,14 +88,7 @@ impl<T: Tree, X: Exclusion> Tree for Pruned<T, X> {
             → IfOk result (λ seen. seen ≡ look_result c path.now) }
     {
         self.asks = self.asks.after(1);
-        if !enter(&self.exclusion, &mut self.names, path)? {
-            return Ok(Look::Missing);
-        }
-        let seen = self.tree.look(path)?;
-        if is_path_excluded(&self.exclusion, self.names.as_str(), is_dir(seen))? {
-            return Ok(Look::Missing);
-        }
-        Ok(seen)
+        look_kept(&mut self.tree, &self.exclusion, &mut self.names, path)
     }
 
     /// The entries that are kept. A directory that is excluded is not there: the error's kind is `NotFound`, and the tree in
@@ -104,6 +98,9 @@ impl<T: Tree, X: Exclusion> Tree for Pruned<T, X> {
         ensures content { pruned_told (X.excludes self.new.exclusion) (T.tells self.new.tree)
             ≡ pruned_told (X.excludes self.old.exclusion) (T.tells self.old.tree) }
         ensures exclusion { self.new.exclusion ≡ self.old.exclusion }
+        ensures few { (c : Content) → IsTold (T.tells self.old.tree) c
+            → ListsAtMostOnce (list_result c path.now)
+            (T.asks self.old.tree) (T.asks self.new.tree) }
         ensures spared { is_excluded (X.excludes self.old.exclusion)
             (names_of_path path.now) true ≡ true → self.new.tree ≡ self.old.tree }
         ensures entries { (c : Content)
@@ -114,14 +111,63 @@ impl<T: Tree, X: Exclusion> Tree for Pruned<T, X> {
             → IfErr result (λ e. IsListError (list_result c path.now) e) }
     {
         self.asks = self.asks.after(1);
-        if !is_entered(&self.exclusion, &mut self.names, path)? {
-            return Err(ListError::Read(io::Error::from(ErrorKind::NotFound)));
-        }
-        let entries = self.tree.list(path)?;
-        let kept = kept_entries(&self.exclusion, &mut self.names, entries)?;
+        let kept = list_kept(&mut self.tree, &self.exclusion, &mut self.names, path)?;
         self.asks = self.asks.after(kept.len());
         Ok(kept)
     }
+}
+
+/// What is at a path, where that is kept.
+#[tactic(auto, using(crate::proofs::AnsweringLemmas::look_answers))]
+fn look_kept<T: Tree, X: Exclusion>(
+    tree: &mut T,
+    exclusion: &X,
+    names: &mut String<T::Alloc>,
+    path: &str,
+) -> Result<Look, AllocError>
+    ensures content { T.tells tree.new ≡ T.tells tree.old }
+    ensures few { T.asks tree.new ≤ T.asks tree.old + 1 }
+    ensures spared { is_above_excluded (X.excludes exclusion.now) (names_of_path path.now) ≡ true
+        → tree.new ≡ tree.old }
+    ensures seen { (c : Content)
+        → IsTold (pruned_told (X.excludes exclusion.now) (T.tells tree.old)) c
+        → IfOk result (λ seen. seen ≡ look_result c path.now) }
+{
+    if !enter(exclusion, names, path)? {
+        return Ok(Look::Missing);
+    }
+    let seen = tree.look(path)?;
+    if is_path_excluded(exclusion, names.as_str(), is_dir(seen))? {
+        return Ok(Look::Missing);
+    }
+    Ok(seen)
+}
+
+/// The entries that are kept of the directory at a path.
+#[tactic(auto, using(crate::proofs::AnsweringLemmas::list_answers))]
+fn list_kept<T: Tree, X: Exclusion>(
+    tree: &mut T,
+    exclusion: &X,
+    names: &mut String<T::Alloc>,
+    path: &str,
+) -> Result<Vec<Entry<T::Alloc>, T::Alloc>, ListError>
+    ensures content { T.tells tree.new ≡ T.tells tree.old }
+    ensures few { (c : Content) → IsTold (T.tells tree.old) c
+        → ListsAtMostOnce (list_result c path.now) (T.asks tree.old) (T.asks tree.new) }
+    ensures spared { is_excluded (X.excludes exclusion.now) (names_of_path path.now) true ≡ true
+        → tree.new ≡ tree.old }
+    ensures entries { (c : Content)
+        → IsTold (pruned_told (X.excludes exclusion.now) (T.tells tree.old)) c
+        → IfOk result (λ v. IsListAnswer (list_result c path.now) (entries_of v.items)) }
+    ensures fails { (c : Content)
+        → IsTold (pruned_told (X.excludes exclusion.now) (T.tells tree.old)) c
+        → IfErr result (λ e. IsListError (list_result c path.now) e) }
+{
+    if !is_entered(exclusion, names, path)? {
+        return Err(ListError::Read(io::Error::from(ErrorKind::NotFound)));
+    }
+    let entries = tree.list(path)?;
+    Ok(kept_entries(exclusion, names, entries)?)
 }
 
 /// Whether a look found a directory.
