@@ -19,6 +19,8 @@ REWRITES = [
     (r"\bVec::from_slice\(", "Vec::from("),
     (r"\bString::from_str\(", "String::from("),
     (r"(pub trait \w+): Drop \{", r"\1 {"),
+    (r"(?m)^pub struct (PatternSet|Bucket|IgnoreList) \{", r"#[derive(Clone)]\npub struct \1 {"),
+    (r"\bpub fn from_(texts|braces)\(", r"pub(crate) fn of_\1("),  # by hand they take all kinds of lists
     (r"'(sets|kept): ", ""),  # labels that proofs name
     (r"const (\w+): &'static str", r"const \1: &str"),
     (r"\bis refused with `Syntax`: ", "is refused: "),
