@@ -20,6 +20,10 @@ REWRITES = [
     (r"\bString::from_str\(", "String::from("),
     (r"(pub trait \w+): Drop \{", r"\1 {"),
     (r"(?m)^pub struct (PatternSet|Bucket|IgnoreList) \{", r"#[derive(Clone)]\npub struct \1 {"),
+    # what copies of a pattern share
+    (r"\bmasks: Vec<CharMasks>", "masks: crate::shared::Shared<CharMasks>"),
+    (r"\blet masks = (masks_of\(.*\));", r"let masks = crate::shared::Shared::new(\1);"),
+    (r"\bmasks: Vec::new\(\)", "masks: crate::shared::Shared::new(Vec::new())"),
     (r"\bpub fn from_(texts|braces)\(", r"pub(crate) fn of_\1("),  # by hand they take all kinds of lists
     (r"'(sets|kept): ", ""),  # labels that proofs name
     (r"const (\w+): &'static str", r"const \1: &str"),

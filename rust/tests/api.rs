@@ -61,6 +61,28 @@ fn texts_are_kept() {
     assert_eq!(Pattern::escape(" [a] "), " [[]a[]] ");
 }
 
+/// Copies of patterns without masks, with those of one word, and of several, once the pattern is gone.
+#[test]
+fn copies() {
+    for (unit, often) in [("", 1), ("src/*.rs", 1), ("*a[!b-d]*", 1), ("*?", 40), ("[a-c]b?d*/", 30)] {
+        let text = unit.repeat(often);
+        let pattern = Pattern::new(&text).unwrap();
+        let copy = Pattern::new(&text).unwrap().clone();
+        assert_eq!((copy.as_str(), &copy), (text.as_str(), &pattern));
+        for letters in ["", "i", "s", "d", "isd"] {
+            let options = MatchOptions {
+                case_sensitive: !letters.contains('i'),
+                require_literal_separator: letters.contains('s'),
+                require_literal_leading_dot: letters.contains('d'),
+            };
+            for text in ["", "src/a.rs", "xaxe", "xAb", &"x".repeat(40), &"abcd/".repeat(30)] {
+                let wanted = pattern.matches_with(text, options);
+                assert_eq!(copy.matches_with(text, options), wanted, "{pattern} {text} {letters}");
+            }
+        }
+    }
+}
+
 #[test]
 #[allow(deprecated)]
 fn errors() {

@@ -21,7 +21,7 @@ pub struct Compiled {
     first: ShapeWord,
     words: Vec<ShapeWord>,
     // none where wildcards alone are between the ends, unless there are more than 63 tokens
-    masks: Vec<CharMasks>,
+    masks: crate::shared::Shared<CharMasks>,
     prefilter: Prefilter,
 }
 
@@ -57,7 +57,7 @@ impl Compiled {
         let between = &list[prefilter.lead..list.len() - prefilter.trail];
         let listed = between.iter().any(|token| token.shape() == Shape::One);
         let is_long = !between.is_empty() && list.len() > WORD;
-        let masks = masks_of(list, listed || is_long);
+        let masks = crate::shared::Shared::new(masks_of(list, listed || is_long));
         Compiled { first: ShapeWord::new(list, 0), tokens, words, masks, prefilter }
     }
 
@@ -67,7 +67,7 @@ impl Compiled {
             tokens: Vec::new(),
             first: ShapeWord::NONE,
             words: Vec::new(),
-            masks: Vec::new(),
+            masks: crate::shared::Shared::new(Vec::new()),
             prefilter: Prefilter::NONE,
         }
     }
