@@ -1,5 +1,6 @@
 //! What this crate has beside `glob`: limits, trees, walks that ask, sets, ignore lists, captures and pruned walks.
 
+use std::cell::RefCell;
 use std::error::Error;
 use std::fmt::Debug;
 use std::io::{self, ErrorKind};
@@ -8,7 +9,7 @@ use std::path::{Path, PathBuf};
 use cadmiumdove::captures::{captures, tokens, CapturesError, Piece, Reached, TokenKind, Written, MOST_STEPS};
 use cadmiumdove::explain::{explain, Explanation};
 use cadmiumdove::ignore::{IgnoreList, Reason, Rule, RuleRefusal};
-use cadmiumdove::prune::{Exclusion, Pruned};
+use cadmiumdove::prune::{first_excluded, Exclusion, Pruned};
 use cadmiumdove::set::braces::{self, BraceError};
 use cadmiumdove::set::{BraceSetRefusal, PatternSet, SetRefusal};
 use cadmiumdove::walk::{glob_in, is_plain, Answer, Disk, Entry, GlobCause, Look, Name, Step, Tree, WalkMachine};
@@ -357,6 +358,26 @@ fn pruned_trees() {
         let names: Vec<String> = entries.unwrap().iter().map(|entry| entry.name.as_str().to_owned()).collect();
         assert!(names.contains(&"lib.rs".to_owned()) && !names.contains(&"proved".to_owned()));
     }
+}
+
+#[test]
+fn what_excludes_a_path() {
+    let list = IgnoreList::new("target/\nb.rs\n.x/\n").unwrap();
+    for file in FILES {
+        let is_missing = Pruned::new(Files(FILES), &list).look(file) == Look::Missing;
+        assert_eq!(first_excluded(&list, file, false).is_some(), is_missing, "{file}");
+    }
+    assert_eq!(first_excluded(&list, "src/.x/y.rs", false), Some("src/.x"));
+    assert_eq!(first_excluded(&list, "src/b.rs", false), Some("src/b.rs"));
+    assert_eq!([true, false].map(|is_dir| first_excluded(&list, "src/target", is_dir)), [Some("src/target"), None]);
+    let asked = RefCell::new(Vec::new());
+    let asks = |path: &str, is_dir: bool| {
+        asked.borrow_mut().push((path.to_owned(), is_dir));
+        false
+    };
+    assert_eq!(first_excluded(&asks, "a/b/c", false), None);
+    assert_eq!(asked.take(), [("a".into(), true), ("a/b".into(), true), ("a/b/c".into(), false)]);
+    assert_eq!(first_excluded(&|_: &str, _: bool| true, "", true), None);
 }
 
 #[test]
