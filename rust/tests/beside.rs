@@ -100,7 +100,8 @@ fn lists_of_texts() {
     );
     assert_eq!(numbers(PatternSet::from_braces(texts, NEW).unwrap()), [Some(0), None, Some(2)]);
     let braces = |texts: &[&str]| PatternSet::from_braces(texts, NEW).unwrap_err().number();
-    assert_eq!((braces(&["{a,b}", "c}"]), braces(&["{a,b}", "c", "{d,e,[}"])), (1, 2));
+    assert_eq!((braces(&["{a,b}", "c}"]), braces(&["{a,b}", "{d,[}", "e"]), braces(&["a", "b", "{[}"])), (1, 1, 2));
+    assert!(!PatternSet::from_braces(["{a,b}"], NEW).unwrap().is_match("A"));
     assert_eq!(PatternSet::from_texts(["a", "b", "***"], NEW).unwrap_err().number(), 2);
 }
 
