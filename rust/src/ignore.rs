@@ -10,5 +10,28 @@
 //! assert_eq!(list.deciding_rule("src/keep.o", false).map(|rule| rule.line), Some(3));
 //! # Ok::<(), cadmiumdove::ignore::RuleRefusal>(())
 //! ```
+//!
+//! Threads and walks share a list by a reference or an `Arc`; a copy is one of its own:
+//!
+//! ```
+//! use cadmiumdove::ignore::IgnoreList;
+//!
+//! let list = IgnoreList::new("*.o\n")?;
+//! let copy = list.clone();
+//! drop(list);
+//! assert!(copy.is_ignored("src/a.o", false));
+//! # Ok::<(), cadmiumdove::ignore::RuleRefusal>(())
+//! ```
 
 pub use crate::proved::glob_rules::{IgnoreList, Reason, Rule, RuleRefusal};
+
+/// No rules: nothing is ignored.
+///
+/// ```
+/// assert!(!cadmiumdove::ignore::IgnoreList::default().is_ignored("a", false));
+/// ```
+impl Default for IgnoreList {
+    fn default() -> Self {
+        IgnoreList::new("").expect("no line is refused")
+    }
+}

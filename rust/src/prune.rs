@@ -49,6 +49,27 @@ impl<X: Exclusion, Y: Exclusion> Exclusion for (X, Y) {
     }
 }
 
+/// The outermost part of a path that is excluded: the first directory above it that is, or else the path itself. `None`
+/// if a pruned tree has the path. `path` is as [`excludes`](Exclusion::excludes) takes it: names below the current
+/// directory, joined by `/`.
+///
+/// ```
+/// use cadmiumdove::prune::first_excluded;
+/// use cadmiumdove::set::PatternSet;
+/// use cadmiumdove::MatchOptions;
+///
+/// let set = PatternSet::from_texts(["**/target", "**/*.o"], MatchOptions::new())?;
+/// assert_eq!(first_excluded(&set, "app/target/x/y.o", false), Some("app/target"));
+/// assert_eq!(first_excluded(&set, "app/y.o", false), Some("app/y.o"));
+/// assert_eq!(first_excluded(&set, "app/y.c", false), None);
+/// # Ok::<(), cadmiumdove::set::SetRefusal>(())
+/// ```
+pub fn first_excluded<'a, X: Exclusion + ?Sized>(exclusion: &X, path: &'a str, is_dir: bool) -> Option<&'a str> {
+    let above = path.match_indices('/').map(|(end, _)| (&path[..end], true));
+    let mut parts = above.chain([(path, is_dir)]);
+    parts.find(|(part, is_dir)| !part.is_empty() && exclusion.excludes(part, *is_dir)).map(|(part, _)| part)
+}
+
 /// A tree without what is excluded and all below it: it is not there, so it is neither looked into nor listed. The
 /// exclusion is asked about paths below the current directory, so nothing else is there: a pattern that begins with
 /// `/` or has a component `..` finds nothing in a pruned tree, and no error says so. To walk another directory, go there

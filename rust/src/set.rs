@@ -4,12 +4,26 @@
 //! use cadmiumdove::set::PatternSet;
 //! use cadmiumdove::MatchOptions;
 //!
-//! let set = PatternSet::from_texts(&["**/*.o", "**/target/**"], MatchOptions::new())?;
+//! let set = PatternSet::from_texts(["**/*.o", "**/target/**"], MatchOptions::new())?;
 //! assert_eq!(set.first_match("src/a.o"), Some(0));
 //! assert!(!set.is_match("src/a.rs"));
 //! let mut numbers = Vec::new();
 //! set.matches_into("target/a.o", &mut numbers);
 //! assert_eq!(numbers, [0, 1]);
+//! # Ok::<(), cadmiumdove::set::SetRefusal>(())
+//! ```
+//!
+//! A set is never changed by asking it, so threads share one by a reference or an `Arc`. A copy costs less than making
+//! the set anew, since nothing is parsed:
+//!
+//! ```
+//! use cadmiumdove::set::PatternSet;
+//! use cadmiumdove::MatchOptions;
+//!
+//! let set = PatternSet::from_texts(["*.o", "*.a"], MatchOptions::new())?;
+//! let copy = set.clone();
+//! assert!(std::thread::spawn(move || copy.is_match("x.a")).join().unwrap());
+//! assert!(set.is_match("x.o"));
 //! # Ok::<(), cadmiumdove::set::SetRefusal>(())
 //! ```
 //!
@@ -22,7 +36,7 @@
 //! use cadmiumdove::set::{PatternSet, braces};
 //! use cadmiumdove::MatchOptions;
 //!
-//! let set = PatternSet::from_braces(&["src/*.{c,h}", "README"], MatchOptions::new()).unwrap();
+//! let set = PatternSet::from_braces(["src/*.{c,h}", "README"], MatchOptions::new()).unwrap();
 //! assert!(set.is_match("src/a.h"));
 //! assert_eq!(set.first_match("README"), Some(2));
 //! assert_eq!(braces::expand("a{,b{1,2}}[{]"), Ok(vec!["a[{]".into(), "ab1[{]".into(), "ab2[{]".into()]));
@@ -33,8 +47,65 @@
 use std::path::Path;
 
 pub use crate::proved::glob_set::{braces, BraceSetRefusal, PatternSet, SetRefusal};
+use crate::MatchOptions;
 
 impl PatternSet {
+    /// [`new`](Self::new) of the patterns that are parsed from the texts, in their order. The texts may be an array, a
+    /// `&[String]`, the lines of a file, or what else gives `&str` or `String`.
+    ///
+    /// ```
+    /// use cadmiumdove::set::PatternSet;
+    /// use cadmiumdove::MatchOptions;
+    ///
+    /// let file = "*.o\ntarget/[a\n";
+    /// let refusal = PatternSet::from_texts(file.lines(), MatchOptions::new()).unwrap_err();
+    /// assert_eq!(refusal.number(), 1);
+    /// assert_eq!(refusal.to_string(), "pattern 1: Pattern syntax error near position 7: invalid range pattern");
+    ///
+    /// let texts: Vec<String> = vec!["*.o".into(), "target/**".into()];
+    /// assert_eq!(PatternSet::from_texts(&texts, MatchOptions::new())?.len(), 2);
+    /// # Ok::<(), cadmiumdove::set::SetRefusal>(())
+    /// ```
+    ///
+    /// The error is [`Syntax`](SetRefusal::Syntax) with the number, counted from 0, and the fault of the first text
+    /// that is no pattern.
+    pub fn from_texts<I, T>(texts: I, options: MatchOptions) -> Result<Self, SetRefusal>
+    where
+        I: IntoIterator<Item = T>,
+        T: AsRef<str>,
+    {
+        let texts: Vec<T> = texts.into_iter().collect();
+        Self::of_texts(&strs_of(&texts), options)
+    }
+
+    /// [`new`](Self::new) of all alternatives of all texts, those of the first text first, as
+    /// [`expand`](braces::expand) returns them. The texts may be what [`from_texts`](Self::from_texts) takes. Numbers
+    /// of patterns count alternatives, and those of errors texts.
+    ///
+    /// ```
+    /// use cadmiumdove::set::PatternSet;
+    /// use cadmiumdove::MatchOptions;
+    ///
+    /// let set = PatternSet::from_braces(["src/*.{c,h}", "README"], MatchOptions::new())?;
+    /// assert_eq!(set.first_match("README"), Some(2));
+    ///
+    /// let refusal = PatternSet::from_braces(["README", "src/*.{c,h"], MatchOptions::new()).unwrap_err();
+    /// assert_eq!(refusal.number(), 1);
+    /// # Ok::<(), cadmiumdove::set::BraceSetRefusal>(())
+    /// ```
+    ///
+    /// The error is of the first text that has a fault: [`Braces`](BraceSetRefusal::Braces) if its braces are not
+    /// closed or stand for more than [`MOST_ALTERNATIVES`](braces::MOST_ALTERNATIVES), and
+    /// [`Pattern`](BraceSetRefusal::Pattern) if one of its alternatives is no pattern.
+    pub fn from_braces<I, T>(texts: I, options: MatchOptions) -> Result<Self, BraceSetRefusal>
+    where
+        I: IntoIterator<Item = T>,
+        T: AsRef<str>,
+    {
+        let texts: Vec<T> = texts.into_iter().collect();
+        Self::of_braces(&strs_of(&texts), options)
+    }
+
     /// [`is_match`](Self::is_match) of the path's text. A path that is not UTF-8 is never matched.
     pub fn is_match_path(&self, path: &Path) -> bool {
         path.to_str().is_some_and(|text| self.is_match(text))
@@ -57,4 +128,51 @@ impl PatternSet {
             self.matches_into(text, numbers);
         }
     }
+}
+
+/// No patterns, under [`MatchOptions::new`]: nothing is matched.
+///
+/// ```
+/// assert!(!cadmiumdove::set::PatternSet::default().is_match(""));
+/// ```
+impl Default for PatternSet {
+    fn default() -> Self {
+        PatternSet::new(Vec::new(), MatchOptions::new())
+    }
+}
+
+impl SetRefusal {
+    /// The number of the text that is no pattern, counted from 0.
+    ///
+    /// ```
+    /// use cadmiumdove::set::PatternSet;
+    /// use cadmiumdove::MatchOptions;
+    ///
+    /// assert_eq!(PatternSet::from_texts(["a", "[", "***"], MatchOptions::new()).unwrap_err().number(), 1);
+    /// ```
+    pub fn number(&self) -> usize {
+        let SetRefusal::Syntax(number, _) = self;
+        *number
+    }
+}
+
+impl BraceSetRefusal {
+    /// The number of the text that is refused, counted from 0. Its alternatives do not count.
+    ///
+    /// ```
+    /// use cadmiumdove::set::PatternSet;
+    /// use cadmiumdove::MatchOptions;
+    ///
+    /// assert_eq!(PatternSet::from_braces(["{a,b}", "{c,[}"], MatchOptions::new()).unwrap_err().number(), 1);
+    /// ```
+    pub fn number(&self) -> usize {
+        match self {
+            BraceSetRefusal::Braces(number, _) | BraceSetRefusal::Pattern(number, _, _) => *number,
+        }
+    }
+}
+
+/// The texts, borrowed.
+fn strs_of<T: AsRef<str>>(texts: &[T]) -> Vec<&str> {
+    texts.iter().map(AsRef::as_ref).collect()
 }

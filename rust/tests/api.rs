@@ -61,6 +61,39 @@ fn texts_are_kept() {
     assert_eq!(Pattern::escape(" [a] "), " [[]a[]] ");
 }
 
+/// Which of some texts a pattern matches, under several options.
+fn answers(pattern: &Pattern) -> Vec<bool> {
+    let texts = ["".into(), "src/a.rs".into(), "xaxe".into(), "xAb".into(), "x".repeat(40), "abcd/".repeat(30)];
+    let options = ["", "i", "s", "d", "isd"].map(|letters| MatchOptions {
+        case_sensitive: !letters.contains('i'),
+        require_literal_separator: letters.contains('s'),
+        require_literal_leading_dot: letters.contains('d'),
+    });
+    texts.iter().flat_map(|text| options.map(|options| pattern.matches_with(text, options))).collect()
+}
+
+/// Of patterns without masks, with those of one word, and of several: the masks are made by the first match, which may
+/// be one of several at once, and copies are made before and after it.
+#[test]
+fn copies_and_threads() {
+    let mut seen = HashSet::new();
+    for (unit, often) in [("", 1), ("src/*.rs", 1), ("*a[!b-d]*", 1), ("*?", 40), ("[a-c]b?d*/", 30)] {
+        let pattern = Pattern::new(&unit.repeat(often)).unwrap();
+        let early = pattern.clone();
+        let wanted = std::thread::scope(|scope| {
+            let threads = [(); 4].map(|()| scope.spawn(|| answers(&pattern)));
+            threads.map(|thread| thread.join().unwrap())
+        });
+        let late = pattern.clone().clone();
+        assert_eq!((early.as_str(), &early), (pattern.as_str(), &pattern));
+        drop(pattern);
+        for answers in [answers(&early), answers(&late)].iter().chain(&wanted) {
+            assert_eq!(answers, &wanted[0], "{early}");
+        }
+        assert!(wanted[0].contains(&true) && seen.insert(wanted[0].clone()));
+    }
+}
+
 #[test]
 #[allow(deprecated)]
 fn errors() {

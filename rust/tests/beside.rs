@@ -1,5 +1,6 @@
 //! What this crate has beside `glob`: limits, trees, walks that ask, sets, ignore lists, captures and pruned walks.
 
+use std::cell::RefCell;
 use std::error::Error;
 use std::fmt::Debug;
 use std::io::{self, ErrorKind};
@@ -8,7 +9,7 @@ use std::path::{Path, PathBuf};
 use cadmiumdove::captures::{captures, tokens, CapturesError, Piece, Reached, TokenKind, Written, MOST_STEPS};
 use cadmiumdove::explain::{explain, Explanation};
 use cadmiumdove::ignore::{IgnoreList, Reason, Rule, RuleRefusal};
-use cadmiumdove::prune::{Exclusion, Pruned};
+use cadmiumdove::prune::{first_excluded, Exclusion, Pruned};
 use cadmiumdove::set::braces::{self, BraceError};
 use cadmiumdove::set::{BraceSetRefusal, PatternSet, SetRefusal};
 use cadmiumdove::walk::{glob_in, is_plain, Answer, Disk, Entry, GlobCause, Look, Name, Step, Tree, WalkMachine};
@@ -81,6 +82,43 @@ fn traits() {
     fn is_copy<T: Copy + Eq>() {}
     is_copy::<(Look, Disk, GlobCause, Rule, Reason)>();
     is_copy::<(Piece, Written, TokenKind, BraceError)>();
+    fn is_value<T: Clone + Default>() {}
+    is_value::<(PatternSet, IgnoreList, Disk)>();
+}
+
+#[test]
+fn lists_of_texts() {
+    let texts: Vec<String> = vec!["*.o".into(), "{a,b}".into()];
+    let numbers = |set: PatternSet| ["x.o", "{a,b}", "b"].map(|text| set.first_match(text));
+    let plain = [Some(0), Some(1), None];
+    assert_eq!(numbers(PatternSet::from_texts(&texts, NEW).unwrap()), plain);
+    assert_eq!(numbers(PatternSet::from_texts(&texts[..], NEW).unwrap()), plain);
+    assert_eq!(numbers(PatternSet::from_texts("*.o\n{a,b}".lines(), NEW).unwrap()), plain);
+    assert_eq!(
+        numbers(PatternSet::from_braces(texts.iter().map(String::as_str), NEW).unwrap()),
+        [Some(0), None, Some(2)]
+    );
+    assert_eq!(numbers(PatternSet::from_braces(texts, NEW).unwrap()), [Some(0), None, Some(2)]);
+    let braces = |texts: &[&str]| PatternSet::from_braces(texts, NEW).unwrap_err().number();
+    assert_eq!((braces(&["{a,b}", "c}"]), braces(&["{a,b}", "{d,[}", "e"]), braces(&["a", "b", "{[}"])), (1, 1, 2));
+    assert!(!PatternSet::from_braces(["{a,b}"], NEW).unwrap().is_match("A"));
+    assert_eq!(PatternSet::from_texts(["a", "b", "***"], NEW).unwrap_err().number(), 2);
+}
+
+#[test]
+fn copies_of_lists() {
+    let any_case = MatchOptions { case_sensitive: false, ..NEW };
+    let set = PatternSet::from_texts(["*.o", "a*", "[é]"], any_case).unwrap();
+    let copy = set.clone();
+    assert_eq!((format!("{copy:?}"), copy.options(), copy.len()), (format!("{set:?}"), any_case, 3));
+    drop(set);
+    assert_eq!(["x.O", "Ab", "é", "b"].map(|text| copy.last_match(text)), [Some(0), Some(1), Some(2), None]);
+    assert!(PatternSet::default().is_empty() && !PatternSet::default().is_match(""));
+    let list = IgnoreList::new("# rules\n*.o\n!keep.o\n").unwrap();
+    let copy = list.clone();
+    drop(list);
+    assert_eq!(copy.deciding_rule("a/keep.o", false).map(|rule| (rule.line, rule.negative)), Some((3, true)));
+    assert!(copy.is_ignored("b.o", false) && IgnoreList::default().deciding_rule("b.o", false).is_none());
 }
 
 #[test]
@@ -167,7 +205,7 @@ fn names_and_plain_patterns() {
 
 #[test]
 fn sets() {
-    let set = PatternSet::from_texts(&["a*", "*b", "**/*.O"], NEW).unwrap();
+    let set = PatternSet::from_texts(["a*", "*b", "**/*.O"], NEW).unwrap();
     let mut numbers = vec![7];
     for (text, expected) in [("ab", &[0, 1][..]), ("a", &[0]), ("b", &[1]), ("c", &[]), ("x/y.O", &[2]), ("", &[])] {
         set.matches_into(text, &mut numbers);
@@ -184,7 +222,7 @@ fn sets() {
         assert_eq!(ends, (expected.first().copied(), expected.last().copied()));
     }
     assert_eq!((set.len(), set.is_empty(), set.options()), (3, false, NEW));
-    let SetRefusal::Syntax(number, error) = PatternSet::from_texts(&["*.o", "[a"], NEW).unwrap_err();
+    let SetRefusal::Syntax(number, error) = PatternSet::from_texts(["*.o", "[a"], NEW).unwrap_err();
     assert_eq!((number, error.pos), (1, 0));
     let set = PatternSet::new(vec![Pattern::new("A").unwrap()], MatchOptions::default());
     assert!(set.is_match("a"));
@@ -194,7 +232,7 @@ fn sets() {
 #[test]
 fn a_set_matches_no_path_that_is_no_text() {
     use std::os::unix::ffi::OsStrExt;
-    let set = PatternSet::from_texts(&["*"], NEW).unwrap();
+    let set = PatternSet::from_texts(["*"], NEW).unwrap();
     let path = Path::new(std::ffi::OsStr::from_bytes(b"\xff"));
     let mut numbers = vec![7];
     set.matches_path_into(path, &mut numbers);
@@ -292,7 +330,7 @@ fn pruned_walks() {
     assert_eq!(found, (paths(&[]), paths(&[])));
     assert_eq!(walked(Pruned::new(Files(FILES), list()), "src/b.rs", NEW).0, paths(&[]));
     assert_eq!(walked(Pruned::new(Files(FILES), list()), "./src/*", NEW).0, paths(&["src/a.rs"]));
-    let set = PatternSet::from_texts(&["src", "shut"], NEW).unwrap();
+    let set = PatternSet::from_texts(["src", "shut"], NEW).unwrap();
     assert_eq!(walked(Pruned::new(Files(FILES), set), "**/*.rs", NEW).0, paths(&["a.rs", "target/c.rs"]));
     let function = |path: &str, is_dir: bool| is_dir && path.starts_with('s');
     assert!(Exclusion::excludes(&function, "src", true));
@@ -324,6 +362,26 @@ fn pruned_trees() {
 }
 
 #[test]
+fn what_excludes_a_path() {
+    let list = IgnoreList::new("target/\nb.rs\n.x/\n").unwrap();
+    for file in FILES {
+        let is_missing = Pruned::new(Files(FILES), &list).look(file) == Look::Missing;
+        assert_eq!(first_excluded(&list, file, false).is_some(), is_missing, "{file}");
+    }
+    assert_eq!(first_excluded(&list, "src/.x/y.rs", false), Some("src/.x"));
+    assert_eq!(first_excluded(&list, "src/b.rs", false), Some("src/b.rs"));
+    assert_eq!([true, false].map(|is_dir| first_excluded(&list, "src/target", is_dir)), [Some("src/target"), None]);
+    let asked = RefCell::new(Vec::new());
+    let asks = |path: &str, is_dir: bool| {
+        asked.borrow_mut().push((path.to_owned(), is_dir));
+        false
+    };
+    assert_eq!(first_excluded(&asks, "a/b/c", false), None);
+    assert_eq!(asked.take(), [("a".into(), true), ("a/b".into(), true), ("a/b/c".into(), false)]);
+    assert_eq!(first_excluded(&|_: &str, _: bool| true, "", true), None);
+}
+
+#[test]
 fn what_debug_prints() {
     let mut machine = WalkMachine::new("*", NEW, 100).unwrap();
     assert_eq!(format!("{machine:?}"), r#"WalkMachine { path: "", spent: 0, .. }"#);
@@ -334,7 +392,7 @@ fn what_debug_prints() {
     let answers = [Answer::Nothing, Answer::Look(Look::Dir), Answer::List(Ok(Vec::new()))];
     assert_eq!(format!("{answers:?}"), "[Nothing, Look(Dir), List(Ok([]))]");
     assert_eq!(format!("{:?}", glob_in(Files(FILES), "*", NEW, 1).unwrap()), "Paths { spent: 0, given: 0 }");
-    assert_eq!(format!("{:?}", PatternSet::from_texts(&["a*", "b"], NEW).unwrap()), r#"["a*", "b"]"#);
+    assert_eq!(format!("{:?}", PatternSet::from_texts(["a*", "b"], NEW).unwrap()), r#"["a*", "b"]"#);
     assert_eq!(format!("{:?}", IgnoreList::new("a").unwrap()), "IgnoreList { .. }");
     let explanation = explain(&Pattern::new("a").unwrap(), "a", NEW).unwrap();
     assert_eq!(format!("{explanation:?}"), r#"Explanation { is_match: true, lines: "a\ta\n" }"#);

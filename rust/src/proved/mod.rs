@@ -6,6 +6,7 @@
 #![allow(clippy::manual_map, clippy::needless_range_loop, clippy::nonminimal_bool, clippy::ptr_arg)]
 #![allow(clippy::question_mark, clippy::should_implement_trait, clippy::too_many_arguments, clippy::manual_contains)]
 #![allow(clippy::single_match, clippy::vec_init_then_push, clippy::redundant_pattern_matching)]
+#![allow(clippy::slow_vector_initialization)]
 
 pub mod glob_captures;
 pub mod glob_pattern;

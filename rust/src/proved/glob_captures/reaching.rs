@@ -67,7 +67,8 @@ fn waiting_at(pattern: &Pattern, options: MatchOptions, text: &[char], place: us
 
 /// For no tokens, at each place, whether they take the text up to there: at the start alone.
 fn fronts_at_start(text: &[char]) -> Vec<bool> {
-    let mut places = vec![false; text.len() + 1];
+    let mut places = Vec::with_capacity(text.len() + 1);
+    places.resize(text.len() + 1, false);
     places[0] = true;
     places
 }

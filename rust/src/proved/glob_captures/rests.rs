@@ -46,7 +46,8 @@ fn row_after(pattern: &Pattern, token: usize, row: &[bool]) -> Rests {
 /// For the tokens after the last wildcard, each of which takes one character: at one place alone.
 fn rests_after_span(pattern: &Pattern, options: MatchOptions, text: &[char], span: Span) -> Vec<bool> {
     let _options = options;
-    let mut row = vec![false; text.len() + 1];
+    let mut row = Vec::with_capacity(text.len() + 1);
+    row.resize(text.len() + 1, false);
     row[text.len() - (tokens_len(pattern) - 1 - span.last)] = true;
     row
 }

@@ -16,7 +16,8 @@ pub fn read_tokens(pattern: &str) -> Result<Vec<Token<Bracket>>, PatternError> {
 
 /// The characters of a text.
 pub fn characters_of(text: &str) -> Vec<char> {
-    let mut characters = vec!['\0'; text.len()];
+    let mut characters = Vec::with_capacity(text.len());
+    characters.resize(text.len(), '\0');
     if widen(text.as_bytes(), characters.as_mut_slice()) {
         return characters;
     }

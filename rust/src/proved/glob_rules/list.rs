@@ -18,6 +18,7 @@ use crate::proved::glob_set::PatternSet;
 /// ```
 ///
 /// A path is the names from the list's directory on, with `/` between them and none at its start or its end.
+#[derive(Clone)]
 pub struct IgnoreList {
     lines: usize,
     rules: Vec<Rule>,

@@ -10,6 +10,7 @@ use crate::proved::glob_set::pairs::Need;
 pub const CLASSES: u8 = 128;
 
 /// Numbers of patterns, in ascending order.
+#[derive(Clone)]
 pub struct Bucket {
     numbers: Vec<usize>,
 }

@@ -16,6 +16,7 @@ use crate::proved::glob_set::reading::{read_braces, read_patterns};
 /// ignored.first_match("src/a.o")    // Some(0)
 /// ignored.is_match("src/a.rs")      // false
 /// ```
+#[derive(Clone)]
 pub struct PatternSet {
     patterns: Vec<Pattern>,
     // for each pattern what each text has that it matches
@@ -59,7 +60,7 @@ impl PatternSet {
     ///
     /// The error is [`Syntax`](SetRefusal::Syntax) with the number and the fault of the first text that is not
     /// accepted.
-    pub fn from_texts(texts: &[&str], options: MatchOptions) -> Result<Self, SetRefusal> {
+    pub(crate) fn of_texts(texts: &[&str], options: MatchOptions) -> Result<Self, SetRefusal> {
         let patterns = read_patterns(texts)?;
         Ok(Self::new(patterns, options))
     }
@@ -70,7 +71,7 @@ impl PatternSet {
     ///
     /// The error is that of the first text with a fault, [`Braces`](BraceSetRefusal::Braces) or
     /// [`Pattern`](BraceSetRefusal::Pattern).
-    pub fn from_braces(texts: &[&str], options: MatchOptions) -> Result<Self, BraceSetRefusal> {
+    pub(crate) fn of_braces(texts: &[&str], options: MatchOptions) -> Result<Self, BraceSetRefusal> {
         let patterns = read_braces(texts)?;
         Ok(Self::new(patterns, options))
     }

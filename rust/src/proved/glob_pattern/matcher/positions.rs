@@ -35,7 +35,8 @@ pub fn decide<T: Shaped, J: Judge>(tokens: &[T], words: &[ShapeWord], span: Span
     if words.len() == 1 {
         run(tokens, words, &mut [0], span, judge)
     } else {
-        let mut alive = vec![0; words.len()];
+        let mut alive = Vec::with_capacity(words.len());
+        alive.resize(words.len(), 0);
         run(tokens, words, alive.as_mut_slice(), span, judge)
     }
 }

@@ -19,9 +19,9 @@ pub struct Compiled {
     tokens: Vec<Token<Bracket>>,
     // their shapes as bits: those of the first 63 tokens, and if there are more tokens, those of all
     first: ShapeWord,
-    words: Vec<ShapeWord>,
+    words: crate::late::Late<ShapeWord>,
     // none where wildcards alone are between the ends, unless there are more than 63 tokens
-    masks: Vec<CharMasks>,
+    masks: crate::late::Late<CharMasks>,
     prefilter: Prefilter,
 }
 
@@ -53,11 +53,11 @@ impl Compiled {
     pub fn new(tokens: Vec<Token<Bracket>>) -> Self {
         let list = tokens.as_slice();
         let prefilter = Prefilter::of(list);
-        let words = if list.len() <= WORD { Vec::new() } else { shape_words(list) };
+        let words = crate::late::Late::new(list.len() > WORD);
         let between = &list[prefilter.lead..list.len() - prefilter.trail];
         let listed = between.iter().any(|token| token.shape() == Shape::One);
         let is_long = !between.is_empty() && list.len() > WORD;
-        let masks = masks_of(list, listed || is_long);
+        let masks = crate::late::Late::new(listed || is_long);
         Compiled { first: ShapeWord::new(list, 0), tokens, words, masks, prefilter }
     }
 
@@ -66,8 +66,8 @@ impl Compiled {
         Compiled {
             tokens: Vec::new(),
             first: ShapeWord::NONE,
-            words: Vec::new(),
-            masks: Vec::new(),
+            words: crate::late::Late::new(false),
+            masks: crate::late::Late::new(false),
             prefilter: Prefilter::NONE,
         }
     }
@@ -106,7 +106,7 @@ impl Compiled {
     #[inline(always)]
     fn run(&self, text: &str, span: Span, options: MatchOptions) -> (bool, u128) {
         let tokens = self.tokens.as_slice();
-        let masks = self.masks.as_slice();
+        let masks = self.masks.get(|| masks_of(tokens, true));
         let mut judge = TextJudge::new(tokens, masks, text, span.start, options);
         let answer = decide(tokens, self.words(), span, &mut judge);
         (answer, judge.asked())
@@ -120,7 +120,7 @@ impl Compiled {
             return answer;
         }
         let tokens = self.tokens.as_slice();
-        let masks = self.masks.as_slice();
+        let masks = self.masks.get(|| masks_of(tokens, true));
         let judge = TextJudge::new(tokens, masks, text, span.start, options);
         let mut judge = SpanJudge::new(judge, self.first, span.end);
         decide(tokens, self.words(), span, &mut judge)
@@ -132,7 +132,7 @@ impl Compiled {
         if self.tokens.len() <= WORD {
             slice::from_ref(&self.first)
         } else {
-            self.words.as_slice()
+            self.words.get(|| shape_words(self.tokens()))
         }
     }
 
