@@ -11,6 +11,9 @@ use crate::proved::glob_pattern::token::bracket::Bracket;
 use crate::proved::glob_pattern::token::taking::{is_excluded_dot, takes};
 use crate::proved::glob_pattern::token::Token;
 
+/// Of how many tokens between the ends the needle may be: a run of literals behind them seldom rejects more texts.
+const SEARCHED: usize = 128;
+
 /// What each matching text has at its ends and between them.
 #[derive(Clone, Copy)]
 pub struct Prefilter {
@@ -20,7 +23,7 @@ pub struct Prefilter {
     pub trail: usize,
     /// The first token with the bit of lower case set, if it is a literal of ASCII, and otherwise 0.
     pub first: u8,
-    /// Bytes of the tokens between.
+    /// Bytes of the first tokens between.
     pub needle: Needle,
 }
 
@@ -41,7 +44,8 @@ impl Prefilter {
     pub fn of(tokens: &[Token<Bracket>]) -> Self {
         let lead = leading_ones(tokens);
         let trail = trailing_ones(tokens, lead);
-        let needle = Needle::of(&tokens[lead..tokens.len() - trail]);
+        let end = (tokens.len() - trail).min(lead.saturating_add(SEARCHED));
+        let needle = Needle::of(&tokens[lead..end]);
         Prefilter { lead, trail, first: folded_first(tokens), needle }
     }
 

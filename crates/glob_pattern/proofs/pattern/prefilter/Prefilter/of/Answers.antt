@@ -16,10 +16,10 @@ pub overflow_sub-tokens : goal.overflow_sub-tokens
 overflow_sub-tokens g c = omega (arith, ends_within g c)
 
 pub offset_bounds-tokens-lead : goal.offset_bounds-tokens-lead
-offset_bounds-tokens-lead g c = omega (arith, ends_within g c)
+offset_bounds-tokens-lead g c = omega (arith, c.trailing_ones-trail.ensures.within, length-map c.args.tokens.now shape_of, c.min-end.ensures, c.saturating_add.ensures)
 
 pub slice_bounds-of-count : goal.slice_bounds-of-count
-slice_bounds-of-count g c = omega (arith, ends_within g c)
+slice_bounds-of-count g c = omega (arith, c.trailing_ones-trail.ensures.within, length-map c.args.tokens.now shape_of, c.min-end.ensures, c.saturating_add.ensures)
 
 pub returns : goal.returns
 returns g c = record {
@@ -29,7 +29,7 @@ returns g c = record {
 }
 
 pub slice_bounds-of-start : goal.slice_bounds-of-start
-slice_bounds-of-start g c = omega (arith, ends_within g c)
+slice_bounds-of-start g c = omega (arith, c.trailing_ones-trail.ensures.within, length-map c.args.tokens.now shape_of, c.min-end.ensures, c.saturating_add.ensures)
 
 pub slice_bounds-of-end : goal.slice_bounds-of-end
-slice_bounds-of-end g c = omega arith
+slice_bounds-of-end g c = omega (arith, c.trailing_ones-trail.ensures.within, length-map c.args.tokens.now shape_of, c.min-end.ensures, c.saturating_add.ensures)
