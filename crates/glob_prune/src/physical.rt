@@ -1,6 +1,7 @@
 //! The real file system, where a symbolic link is no directory.
 ghost use Rattle.std.specs.Prelude.{◌≡◌, ◌+◌, None};
 ghost use Rattle.glob_tree.specs.Answers.{entry_count};
+ghost use Rattle.glob_prune.specs.declared.physical.Links.TheVariants.{Kept};
 
 use crate::strays::Strays;
 use crate::system::System;
@@ -43,26 +44,28 @@ pub struct PhysicalDisk<R: Files, S: Strays, A: Allocator = Global> {
     asks: Asks,
 }
 
-/// How much was asked of it.
+/// How much was asked of it, and how it takes links.
 impl<R: Files, S: Strays, A: Allocator> Model for PhysicalDisk<R, S, A> {
-    ghost use Rattle.std.specs.Prelude.{ℕ};
+    ghost use Rattle.glob_prune.specs.Trees.{Physical};
 
-    ghost Value = { ℕ };
+    ghost Value = { Physical };
 
-    ghost view = { λ disk. disk.asks };
+    ghost view = { λ disk. record { asks = disk.asks; links = disk.system.links } };
 }
 
 impl<R: Files, S: Strays, A: Allocator + Copy> PhysicalDisk<R, S, A> {
     /// The file system that `rt` reaches. Its listings are allocated from `alloc`. This call takes no memory.
     pub fn new(rt: R, strays: S, alloc: A) -> Self
-        ensures { result ≡ 0 }
+        ensures asks { result.asks ≡ 0 }
+        ensures links { result.links ≡ Kept }
     {
         PhysicalDisk::with_links(rt, strays, alloc, Links::Kept)
     }
 
     /// As [`new`](Self::new), where links are as `links` says.
     pub fn with_links(rt: R, strays: S, alloc: A, links: Links) -> Self
-        ensures { result ≡ 0 }
+        ensures asks { result.asks ≡ 0 }
+        ensures links { result.links ≡ links }
     {
         PhysicalDisk {
             system: System::new(rt, links, strays, alloc),
@@ -76,13 +79,13 @@ impl<R: Files + Drop, S: Strays, A: Allocator + Copy> Tree for PhysicalDisk<R, S
 
     ghost tells = { λ disk. None };
 
-    ghost asks = { λ disk. disk };
+    ghost asks = { λ disk. disk.asks };
 
     /// A symbolic link that is not followed is `Other`, and what is below it `Missing`. A path that cannot be looked up is
     /// `Missing`, and the strays receive it unless the system says that nothing is there. The error comes only where the
     /// I/O error's kind is `OutOfMemory`, or an allocation fails.
     fn look(&mut self, path: &str) -> Result<Look, AllocError>
-        ensures asks { self.new ≡ self.old + 1 }
+        ensures asks { self.new.asks ≡ self.old.asks + 1 }
     {
         self.asks = self.asks.after(1);
         self.system.look(path)
@@ -91,7 +94,7 @@ impl<R: Files + Drop, S: Strays, A: Allocator + Copy> Tree for PhysicalDisk<R, S
     /// An entry whose kind cannot be learned is no directory, and the strays receive its path. The error is `Memory` at an
     /// allocation failure, and else `Read` with the I/O error of the system, as `PermissionDenied` or `NotFound`.
     fn list(&mut self, path: &str) -> Result<Vec<Entry<A>, A>, ListError>
-        ensures asks { self.new ≡ self.old + 1 + entry_count result }
+        ensures asks { self.new.asks ≡ self.old.asks + 1 + entry_count result }
     {
         self.asks = self.asks.after(1);
         let entries = self.system.entries(path)?;

@@ -29,7 +29,9 @@ pub(crate) struct System<R: Files, S: Strays, A: Allocator> {
 
 impl<R: Files, S: Strays, A: Allocator + Copy> System<R, S, A> {
     /// The calls of `rt`.
-    pub fn new(rt: R, links: Links, strays: S, alloc: A) -> Self {
+    pub fn new(rt: R, links: Links, strays: S, alloc: A) -> Self
+        ensures { result.links ≡ links }
+    {
         System {
             rt,
             links,
