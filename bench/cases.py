@@ -2,20 +2,13 @@
 files; after them comes how many times over it is done."""
 
 from collections import namedtuple
-from dataclasses import dataclass
 
 # What an option's letter means.
 RULES = {"i": "case-insensitive", "s": "separator rule", "d": "dot rule"}
 
 
-@dataclass(frozen=True)
-class Row:
-    """A case: its name, the words for the programs, and how many times over ours and the crate's do it."""
-
-    name: str
-    words: tuple
-    times: int = 1
-    times_of_crate: int = 0
+# A case: its name, the words for the programs, and how many times over ours and the crate's do it.
+Row = namedtuple("Row", "name words times times_of_crate", defaults=(1, 0))
 
 
 def said(letters):

@@ -39,8 +39,8 @@ plot $rows using 1:0:(0):1:($0-0.35):($0+0.35):ytic(2) with boxxyerror linecolor
 
 
 def reports():
-    """Each report."""
-    return [json.loads(path.read_text(encoding="utf-8")) for path in sorted(BENCH.glob("results/*.json"))]
+    """Each report, by its name."""
+    return {path.stem: json.loads(path.read_text(encoding="utf-8")) for path in sorted(BENCH.glob("results/*.json"))}
 
 
 def ratios(table):
@@ -52,7 +52,7 @@ def ratios(table):
 
 def rows():
     """A row of the page's table for each column with ratios."""
-    for report in reports():
+    for report in reports().values():
         for table in report["tables"]:
             for head, found in ratios(table).items():
                 some = [f"{it:.2g}" for it in (min(found), statistics.median(found), max(found))]
@@ -68,8 +68,7 @@ def with_table(page):
 
 def found_in(name, title, head):
     """The ratios of a column, by the beginning of its table's title."""
-    [report] = [it for it in reports() if it["name"] == name]
-    [table] = [it for it in report["tables"] if it["title"].startswith(title)]
+    [table] = [it for it in reports()[name]["tables"] if it["title"].startswith(title)]
     return ratios(table)[head]
 
 
@@ -85,8 +84,7 @@ def with_sentence(page):
 
 def plot():
     """Draws a bar for each pattern, the last one first, since gnuplot counts upwards."""
-    [report] = [it for it in reports() if it["name"] == "instructions"]
-    rows_of = reversed(report["tables"][0]["rows"])
+    rows_of = reversed(reports()["instructions"]["tables"][0]["rows"])
     found = [f"{row[-1]}\t{row[0].removeprefix('match ').replace('`', '')}" for row in rows_of]
     for shade, text, bar in (("light", "#24292f", "#0969da"), ("dark", "#e6edf3", "#58a6ff")):
         output = BENCH / f"results/instructions-{shade}.svg"

@@ -8,7 +8,7 @@ import random
 
 from lib import reference
 from lib.count import ROOT, Count
-from lib.make import SETTINGS
+from lib.make import SETTINGS, some
 from lib.sides import ANSWERS, ask
 
 # The kinds of tokens as the program names them, and in the reference.
@@ -34,8 +34,7 @@ def small_cases():
 def random_cases(source):
     """Patterns of up to six tokens with texts of up to eight characters."""
     for _ in range(8000):
-        pattern = "".join(source.choices(MIXED, k=source.randint(0, 6)))
-        yield pattern, "".join(source.choices(MIXED_TEXT, k=source.randint(0, 8)))
+        yield some(source, 0, 6, MIXED), some(source, 0, 8, MIXED_TEXT)
 
 
 def expected(pattern, text, letters):
@@ -70,7 +69,7 @@ def compare(count, found):
     for (letters, pattern, text), answer in zip(cases, answers(cases)):
         wanted = expected(pattern, text, letters)
         matches += wanted[1] != "no"
-        count.check(answer == wanted, f"{pattern!r} {text!r} {letters}: {answer} in place of {wanted}")
+        count.same(f"{pattern!r} {text!r} {letters}", answer, wanted)
     print(f"{len(cases)} cases, {matches} of them matches")
     count.check(0.05 < matches / len(cases) < 0.5, "matches are rare, or all there is")
 
@@ -81,8 +80,7 @@ def compare_rows(count):
     rows = [line.split("|") for line in lines if not line.startswith("#")]
     cases = [(letters, pattern, text.replace("LONGEST", LONGEST)) for _, letters, pattern, text, _ in rows]
     for (field, _, *case, wanted), answer in zip(rows, answers(cases)):
-        found = answer[FIELDS.index(field)]
-        count.check(found == wanted, f"{field} of {case}: {found} in place of {wanted}")
+        count.same(f"{field} of {case}", answer[FIELDS.index(field)], wanted)
 
 
 def main():

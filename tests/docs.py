@@ -4,10 +4,9 @@ the sources, and code that a page quotes. Prints what is wrong, and last how man
 
 import functools
 import re
-import subprocess
 from pathlib import Path
 
-from lib.count import ROOT, Count
+from lib.count import ROOT, Count, run
 
 PATHS = (path.relative_to(ROOT) for path in ROOT.rglob("*.*") if path.is_file())
 FILES = [str(path) for path in PATHS if not {"out", ".git"} & set(path.parts)]
@@ -154,12 +153,21 @@ def unknown_tests():
 def stale():
     """Whether pages do not say what the reports of the benchmark say, and whether README, or `rt` itself, has another
     toolchain."""
-    pages = subprocess.run([ROOT / "bench/report.py", "--check"], capture_output=True, text=True)
-    version = subprocess.run(["rt", "version"], capture_output=True, text=True).stdout.strip()
-    toolchain = read("TOOLCHAIN").strip()
-    found = [pages.stderr.strip()] if pages.returncode else []
+    status, _, errors = run([ROOT / "bench/report.py", "--check"])
+    version, toolchain = run(["rt", "version"])[1].strip(), read("TOOLCHAIN").strip()
+    found = [errors.strip()] if status else []
     found += [] if f"`{toolchain}`" in read("README.md") else [f"README.md: not {toolchain}"]
     return found + ([] if version.endswith(toolchain) else [f"TOOLCHAIN: rt version is {version}"])
+
+
+def other_versions():
+    """The files that do not have the version of the changelog."""
+    version = re.search(r"^## (.*)$", read("CHANGELOG.md"), re.M)[1]
+    numbers = zip(["_MAJOR", "_MINOR", "_PATCH", ""], [*version.split("."), f'"{version}"'])
+    said = {f"man/{name}.1": f' "{name} {version}" ' for name in ("glob_run", "globs")}
+    said["rust/Cargo.toml"] = f'\nversion = "{version}"\n'
+    said["include/cadmiumdove.h"] = "".join(f"#define CADMIUMDOVE_VERSION{name} {it}\n" for name, it in numbers)
+    return [name for name, text in said.items() if text not in read(name)]
 
 
 # What is checked of each page.
@@ -183,6 +191,7 @@ def main():
     check("docs/DEFINITIONS.md: no clause", unknown_clauses())
     check("docs/FAULTS.md: no test", unknown_tests())
     check("out of date:", stale())
+    check("not of the changelog's version:", other_versions())
     count.end()
 
 

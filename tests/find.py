@@ -5,36 +5,18 @@ several patterns with braces, excluded paths, kinds and depths. Order and repeat
 
 import itertools
 import random
-import subprocess
 import tempfile
-from pathlib import Path
 
-from lib import reference
-from lib.count import ROOT, Count
+from lib import make, reference
+from lib.count import Count, built, run
 
-PROGRAM = ROOT / "crates/globs/out/globs"
 SEARCHES = 600
-NAMES = ["a", "b", "ab", ".a", "é", "A"]
-# Some are here more than once, so that they come more often.
-COMPONENTS = ["**", "**", "**", "*", "*", "?", "a", "b", "a*", "[!a]*", ".a", "[ab]", "é"]
 OPTIONS = [[], [], ["-i"], ["-d"], ["-i", "-d"], ["-t", "f"], ["-t", "d"], ["--max-depth", "1"], ["--max-depth", "2"]]
-
-
-def grow(source, top):
-    """Makes a tree, and gives its paths, each with whether it is a directory."""
-    found = {}
-    for _ in range(source.randint(0, 30)):
-        folder = source.choice(["", *(path + "/" for path, is_dir in found.items() if is_dir)])
-        path = folder + source.choice(NAMES)
-        if path not in found:
-            found[path] = source.random() < 0.7
-            (top / path).mkdir() if found[path] else (top / path).touch()
-    return found
 
 
 def some_patterns(source):
     """One to three patterns, each of up to four components, as alternatives for each."""
-    return [[source.choices(COMPONENTS, k=source.choice([1, 1, 1, 2])) for _ in range(source.randint(1, 4))]
+    return [[source.choices(make.PLAIN_COMPONENTS, k=source.choice([1, 1, 1, 2])) for _ in range(source.randint(1, 4))]
         for _ in range(source.choice([1, 1, 2, 3]))]
 
 
@@ -57,7 +39,9 @@ def is_wanted(path, is_dir, options):
 
 def compare(count, source, top):
     """Compares one search, and gives whether any path is wanted, and whether any is not."""
-    tree, options, patterns = grow(source, top), source.choice(OPTIONS), some_patterns(source)
+    tree = make.grown(source, source.randint(0, 30), make.few_name, 0.7)
+    make.place(top, [path + "/" * is_dir for path, is_dir in tree.items()])
+    options, patterns = source.choice(OPTIONS), some_patterns(source)
     rules = [(source.choice([*tree] or ["b"]), source.random() < 0.5) for _ in range(source.randint(0, 3))]
     plain = ["/".join(it) for pattern in patterns for it in itertools.product(*pattern)]
     letters = "s" + "".join(word[1] for word in options if word in ("-i", "-d"))
@@ -66,9 +50,8 @@ def compare(count, source, top):
     wanted.sort(key=lambda path: [name.encode() for name in path.split("/")])
     excluded = [word for rule, only in rules for word in ("-x", f"/{rule}" + "/" * only)]
     words = [*excluded, *options, *map(written, patterns)]
-    done = subprocess.run([PROGRAM, "find", *words], cwd=top, capture_output=True, encoding="utf-8")
-    found = done.stdout.splitlines(), done.stderr, done.returncode
-    count.check(found == (wanted, "", not wanted), f"{sorted(tree)} {words}: {found} in place of {wanted}")
+    status, output, errors = run([built("globs"), "find", *words], cwd=top)
+    count.same(f"{sorted(tree)} {words}", (output.splitlines(), errors, status), (wanted, "", not wanted))
     return wanted != [], len(wanted) < len(tree)
 
 
@@ -77,7 +60,7 @@ def main():
     kinds = []
     for _ in range(SEARCHES):
         with tempfile.TemporaryDirectory() as top:
-            kinds.append(compare(count, source, Path(top)))
+            kinds.append(compare(count, source, top))
     finding, dropping = map(sum, zip(*kinds))
     print(f"{finding} searches find something, {dropping} leave something out")
     count.check(finding > SEARCHES * 0.3 and dropping > SEARCHES * 0.1, "one of them is rare")

@@ -14,13 +14,12 @@ import itertools
 import os
 import random
 import re
-import shutil
 import subprocess
 import sys
 import tempfile
-from pathlib import Path
 
-from lib.count import ROOT, Count, left_out
+from lib.count import ROOT, Count, has, run
+from lib.make import grown, place, some
 from lib.sides import ANSWERS
 
 # How many lists one process of git is asked about.
@@ -42,8 +41,7 @@ REAL = ["*.o", "*.[oa]", "!keep.o", "/build", "/build/", "a/", "!a/", "b/", "/a/
 
 def bracket(rng):
     """A bracket that may have classes, or what looks like one."""
-    items = "".join(rng.choice(ITEMS) for _ in range(rng.randint(1, 4)))
-    return "[" + rng.choice(["", "", "!", "^", "]", "^]"]) + items + "]"
+    return "[" + rng.choice(["", "", "!", "^", "]", "^]"]) + some(rng, 1, 4, ITEMS) + "]"
 
 
 def rule(rng):
@@ -53,13 +51,13 @@ def rule(rng):
     if kind < 0.4:
         text = rng.choice(["", "", "a", "*", "*/"]) + bracket(rng) + rng.choice(["", "", "", "*", "/b", bracket(rng)])
     elif kind < 0.7:
-        text = "".join(rng.choice(PIECES) for _ in range(rng.randint(1, 5)))
+        text = some(rng, 1, 5, PIECES)
     elif kind < 0.73:
         text = rng.choice(ODD) + rng.choice(["", "a", "/b", "*"])
     elif kind < 0.9:
-        text = "".join(rng.choice(SOUP) for _ in range(rng.randint(1, 7)))
+        text = some(rng, 1, 7, SOUP)
     else:
-        text = "/".join(rng.choice(NAMES) for _ in range(rng.randint(1, 3)))
+        text = "/".join(rng.choices(NAMES, k=rng.randint(1, 3)))
     front, end = rng.choice(["", "", "", "!", "/", "!/"]), rng.choice(["", "", "", "", "/", " ", "  ", "\r", "\\ ", " \\ "])
     return front + text + end
 
@@ -69,38 +67,22 @@ def file_of(rng):
     return rng.choice(["", "", "", "", "\ufeff"]) + "\n".join(lines) + rng.choice(["", "\n", "\n", "\r\n"])
 
 
-def tree(rng):
-    """The paths of a tree, each with whether it is a directory."""
-    found = {}
-    for _ in range(rng.randint(4, 14)):
-        names = [rng.choice(NAMES[:12] if rng.random() < 0.7 else NAMES) for _ in range(rng.randint(1, 4))]
-        paths = ["/".join(names[:n]) for n in range(1, len(names) + 1)]
-        if any(found.get(path) is False for path in paths[:-1]) or found.get(paths[-1]):
-            continue
-        for path in paths[:-1]:
-            found[path] = True
-        found[paths[-1]] = rng.random() < 0.3
-    return sorted(found.items())
+def name(rng):
+    return rng.choice(NAMES[:12] if rng.random() < 0.7 else NAMES)
 
 
 def git_says(folder, cases):
     """The deciding line of each question, 0 for none."""
     subprocess.run(["git", "init", "-q", folder], check=True)
-    asked = []
     for number, (text, paths) in enumerate(cases):
-        top = Path(folder, f"L{number}")
-        top.mkdir()
-        (top / ".gitignore").write_text(text, newline="")
-        for path, is_dir in paths:
-            (top / path if is_dir else (top / path).parent).mkdir(parents=True, exist_ok=True)
-            is_dir or (top / path).touch()
-        asked += [f"L{number}/{path}" for path, _ in paths]
+        place(f"{folder}/L{number}", [f".gitignore={text}", *(path + "/" * is_dir for path, is_dir in paths)])
+    asked = [f"L{number}/{path}" for number, (_, paths) in enumerate(cases) for path, _ in paths]
     env = {**os.environ, "GIT_CONFIG_NOSYSTEM": "1", "HOME": folder, "XDG_CONFIG_HOME": folder}
-    done = subprocess.run(["git", "-C", folder, "check-ignore", "--no-index", "-v", "-n", "-z", "--stdin"],
-        input="".join(path + "\0" for path in asked).encode(), capture_output=True, env=env)
-    fields = done.stdout.decode().split("\0")[:-1]
-    if done.returncode > 1 or fields[3::4] != asked:
-        sys.exit(f"git: {done.stderr.decode()}")
+    words = ["git", "-C", folder, "check-ignore", "--no-index", "-v", "-n", "-z", "--stdin"]
+    status, output, errors = run(words, input="\0".join(asked).encode(), env=env, text=False)
+    fields = output.decode().split("\0")[:-1]
+    if status > 1 or fields[3::4] != asked:
+        sys.exit(f"git: {errors.decode()}")
     return [int(line or 0) for line in fields[1::4]]
 
 
@@ -164,7 +146,7 @@ class Comparer:
         kept = (ROOT / "tests/rows/git.answers").read_text(encoding="utf-8").splitlines()
         found = answers((ROOT / "tests/rows/git.questions").read_bytes())
         for at, (git, we) in enumerate(itertools.zip_longest(kept, found), 1):
-            self.count.check(git == we, f"kept answer {at}: {git}, ours {we}")
+            self.count.same(f"kept answer {at}", we, git)
 
     def report(self):
         for reason, found in sorted(self.refused.items()):
@@ -182,11 +164,9 @@ def main():
     print(f"--seed {options.seed}")
     source, comparer = random.Random(options.seed), Comparer()
     comparer.compare_kept()
-    if not shutil.which("git"):
-        left_out("random ignore lists, since there is no git")
-    for _ in range(options.lists // BATCH if shutil.which("git") else 0):
-        cases = [(file_of(source), tree(source)) for _ in range(BATCH)]
-        comparer.batch([(text, paths) for text, paths in cases if paths])
+    for _ in range(options.lists // BATCH if has("git", "random ignore lists") else 0):
+        trees = [grown(source, source.randint(8, 30), name, 0.6) for _ in range(BATCH)]
+        comparer.batch([(file_of(source), sorted(tree.items())) for tree in trees])
     comparer.report()
 
 

@@ -5,12 +5,11 @@ all of it. Prints what is wrong, and last how many checks passed and failed."""
 
 import os
 import re
-import shutil
 import subprocess
 import tempfile
 from pathlib import Path
 
-from lib.count import ROOT, Count, left_out
+from lib.count import ROOT, Count, has, run
 
 README, TUTORIAL = ((ROOT / name).read_text(encoding="utf-8") for name in ("README.md", "rust/TUTORIAL.md"))
 PROGRAMS = sorted(page.stem for page in ROOT.glob("man/*.1"))
@@ -34,23 +33,31 @@ COMPLETIONS = [
 ]
 NO_DASHES = {line: found.removeprefix("-- ") for line, found in COMPLETIONS}
 OTHERS = {"bash": {}, "zsh": NO_DASHES, "fish": NO_DASHES | {"globs ": "escape explain find help ignore match",
-    "globs find --m": "--max-depth", "globs find -n 5 fo": "folder/", "globs find --ignore fo": "folder/",
-    "globs ignore -0 fo": "folder/"}}
+    "globs find -n 5 fo": "folder/", "globs find --ignore fo": "folder/", "globs ignore -0 fo": "folder/"}}
 
+# What a shell does: it reads the file MADE, completes each line of the file ASKED, and writes a line with all that it
+# offers to the file OFFERED.
 BASH = """
-. "$1"
-read -r -a COMP_WORDS <<<"$2"
-[ "${2% }" = "$2" ] || COMP_WORDS+=('')
-COMP_CWORD=$((${#COMP_WORDS[@]} - 1))
-_globs
-printf '%s\\n' "${COMPREPLY[@]}"
+. "$MADE"
+while IFS= read -r line; do
+    read -r -a COMP_WORDS <<<"$line"
+    [ "${line% }" = "$line" ] || COMP_WORDS+=('')
+    COMP_CWORD=$((${#COMP_WORDS[@]} - 1))
+    _globs
+    echo "${COMPREPLY[*]}"
+done <"$ASKED" >"$OFFERED" 2>&1
+"""
+FISH = """
+source $MADE
+while read -d \\n line
+    echo -- (complete -C $line | string split -f1 \\t)
+end <$ASKED >$OFFERED 2>&1
 """
 
-# What zsh reads at its start in a terminal: it completes each line of the file ASKED, and writes a line with all that
-# it offers to the file OFFERED. Then it ends. What is offered goes through `compadd`, which with -O, -A or -D only
-# asks.
+# zsh does so at its start in a terminal, where what is offered goes through `compadd`, which with -O, -A or -D only
+# asks. Then it ends.
 ZSHRC = """
-fpath=("$SITE" $fpath)
+fpath=("${MADE:h}" $fpath)
 autoload -Uz compinit && compinit -u -D
 compadd() {
     local -a found options=("${(@)argv[1,(i)(-|--)]}")
@@ -72,6 +79,8 @@ zle-line-init() {
 }
 zle -N zle-line-init
 """
+SHELLS = {"bash": ["bash", "-c", BASH], "fish": ["fish", "--no-config", "-c", FISH],
+    "zsh": ["script", "-qec", "timeout --foreground 60 zsh -d -i", "/dev/null"]}
 
 MADE = {"bash": "share/bash-completion/completions/globs", "zsh": "share/zsh/site-functions/_globs",
     "fish": "share/fish/vendor_completions.d/globs.fish"}
@@ -112,68 +121,45 @@ class Manual:
 
     def run(self, words, **how):
         """The status, the output and the errors of a command."""
-        ran = subprocess.run(words, **{"cwd": self.folder, "capture_output": True, "text": True, **how})
-        return ran.returncode, ran.stdout, ran.stderr
-
-    def check(self, name, found, wanted):
-        self.count.check(found == wanted, f"{name}: {found} in place of {wanted}")
-
-    def has(self, tool, what):
-        """Whether a tool is there. If not, it says what is left out."""
-        return shutil.which(tool) or left_out(f"{what}, since there is no {tool}")
+        return run(words, **{"cwd": self.folder, **how})
 
     def install(self):
-        """All is installed, of one version, and a wrong call is refused."""
+        """All is installed, of the changelog's version, and a wrong call is refused."""
         status, _, errors = self.run([ROOT / "bin/install", self.prefix])
         files = sorted(str(it.relative_to(self.prefix)) for it in self.prefix.rglob("*") if it.is_file())
-        self.check(f"bin/install {errors}", (status, files), (0, INSTALLED))
+        self.count.same(f"bin/install {errors}", (status, files), (0, INSTALLED))
         version = re.search(r"^## (.*)$", (ROOT / "CHANGELOG.md").read_text(encoding="utf-8"), re.M)[1]
-        self.check("the version", self.run([self.prefix / "bin/globs", "--version"]), (0, f"globs {version}\n", ""))
-        for name in PROGRAMS:
-            page = (ROOT / f"man/{name}.1").read_text(encoding="utf-8")
-            self.count.check(f'"{name} {version}"' in page, f"the version in the man page of {name}")
+        self.count.same("the version", self.run([self.prefix / "bin/globs", "--version"]), (0, f"globs {version}\n", ""))
         for words in ([], ["--help"]):
             status, output, errors = self.run([ROOT / "bin/install", *words])
-            self.check(f"bin/install {words}", (status, output, errors.count("\n")), (2, "", 1))
+            self.count.same(f"bin/install {words}", (status, output, errors.count("\n")), (2, "", 1))
 
     def pages(self):
         """What checkers say of the man pages."""
         for words in (["mandoc", "-Tlint", "-Wwarning"], ["groff", "-man", "-ww", "-z"]):
-            if self.has(words[0], "a check of the man pages"):
-                self.check(words[0], self.run([*words, *ROOT.glob("man/*.1")]), (0, "", ""))
+            if has(words[0], "a check of the man pages"):
+                self.count.same(words[0], self.run([*words, *ROOT.glob("man/*.1")]), (0, "", ""))
 
     def completions(self):
         """What the shells offer, and whether they can read their files."""
-        made = {shell: self.prefix / file for shell, file in MADE.items()}
-        offers = {"bash": self.bash, "fish": self.fish, "zsh": self.zsh}
-        for shell, file in made.items():
-            if self.has(shell, f"completions of {shell}"):
-                self.check(f"{shell} -n", self.run([shell, "-n", file]), (0, "", ""))
-                for (line, wanted), found in zip(COMPLETIONS, offers[shell](file)):
-                    self.check(f"{shell}: {line}", " ".join(sorted(found)), OTHERS[shell].get(line, wanted))
+        for shell, file in MADE.items():
+            if has(shell, f"completions of {shell}"):
+                made = self.prefix / file
+                self.count.same(f"{shell} -n", self.run([shell, "-n", made]), (0, "", ""))
+                offered = dict(zip(dict(COMPLETIONS), self.offered(shell, made)))
+                for line, wanted in COMPLETIONS:
+                    found = " ".join(sorted(offered.get(line, ["no answer"])))
+                    self.count.same(f"{shell}: {line}", found, OTHERS[shell].get(line, wanted))
 
-    def bash(self, file):
-        for line, _ in COMPLETIONS:
-            yield "".join(self.run(["bash", "-c", BASH, "bash", file, line])[1:]).split()
-
-    def fish(self, file):
-        script = "source $argv[1]; complete -C $argv[2]"
-        for line, _ in COMPLETIONS:
-            offered = "".join(self.run(["fish", "--no-config", "-c", script, "--", file, line])[1:])
-            yield [it.split("\t")[0] for it in offered.splitlines()]
-
-    def zsh(self, file):
-        """Asked in a terminal of its own, for at most a minute, of which nothing is shown."""
+    def offered(self, shell, made):
+        """What a shell offers for each line."""
         (self.home / ".zshrc").write_text(ZSHRC, encoding="utf-8")
         asked, offered = self.home / "asked", self.home / "offered"
         asked.write_text("".join(f"{line}\n" for line, _ in COMPLETIONS), encoding="utf-8")
-        offered.touch()
+        offered.write_text("")
         env = {"PATH": os.environ["PATH"], "TERM": "dumb", "HOME": self.home, "ZDOTDIR": self.home}
-        env |= {"SITE": file.parent, "ASKED": asked, "OFFERED": offered}
-        words = ["script", "-qec", "timeout --foreground 60 zsh -d -i", "/dev/null"]
-        self.run(words, env=env, stdin=subprocess.DEVNULL)
-        found = [it.split() for it in offered.read_text(encoding="utf-8").splitlines()]
-        return found + [["no answer"]] * (len(COMPLETIONS) - len(found))
+        self.run(SHELLS[shell], env=env | {"MADE": made, "ASKED": asked, "OFFERED": offered}, stdin=subprocess.DEVNULL)
+        return [it.split() for it in offered.read_text(encoding="utf-8").splitlines()]
 
     def examples(self):
         (self.folder / "folder").rmdir()
@@ -184,7 +170,7 @@ class Manual:
         for folder, path, calls in [*rows, (ROOT, os.environ["PATH"], shown_calls())]:
             for command, output in calls:
                 _, *found = self.run(["bash", "-c", command], cwd=folder, env={"PATH": path}, stdin=subprocess.DEVNULL)
-                self.check(command, found, [output, ""])
+                self.count.same(command, found, [output, ""])
 
 
 def main():

@@ -8,12 +8,12 @@ import json
 import random
 import re
 import shutil
-import subprocess
 import tempfile
 from pathlib import Path
 from urllib.parse import unquote
 
-from lib.count import ROOT, Count, left_out
+from lib.count import ROOT, Count, built, left_out, run
+from lib.make import place, some
 
 PAGE = ROOT / "docs/page/index.html"
 CASES = 200
@@ -57,7 +57,7 @@ def cases():
     lexemes = ["a", "b", ".", "/", "?", "*", "*", "[ab]", "[!a]", "[a-c]", "**/", "ä", "A", "_", "[", "**", "{a}"]
     made = []
     while len(made) < CASES:
-        pattern = "".join(chance.choices(lexemes, k=chance.randint(1, 6)))
+        pattern = some(chance, 1, 6, lexemes)
         pieces = ["", "a", "b", "c", "a/", "ab", ".", "ä"]
         line = re.sub(r"\*\*/|\*|\?|\[[^]]*\]", lambda _: chance.choice(pieces), pattern)
         line += chance.choice("ab/._") if chance.random() < 0.2 else ""
@@ -66,17 +66,11 @@ def cases():
     return made
 
 
-def run(program, words, folder=None):
-    program = ROOT / f"crates/{program}/out/{program}"
-    done = subprocess.run([program, *words], capture_output=True, text=True, cwd=folder)
-    return done.returncode, done.stdout, done.stderr
-
-
 def expected(pattern, flags, line):
     """What the page has to show: a fault; or that the line matches, and the pieces, those of neighbouring characters as
     one; or that it does not, and after how many characters it stops."""
     options = [word for i, word in enumerate(("-i", "-s", "-d")) if flags & (1 << i)]
-    status, out, error = run("globs", ["explain", *options, "--", pattern, line])
+    status, out, error = run([built("globs"), "explain", *options, "--", pattern, line])
     if status == 2:
         message, _, caret = error.removeprefix("globs: ").split("\n")[:3]
         message = message.replace("unclosed [", "invalid range pattern")
@@ -104,16 +98,16 @@ def shown(browser, made):
         copy.write_text(page, encoding="utf-8")
         words = [browser, "--headless", "--no-sandbox", "--disable-gpu", f"--user-data-dir={folder}/user"]
         words += ["--virtual-time-budget=60000", "--dump-dom", copy.as_uri()]
-        done = subprocess.run(words, capture_output=True, text=True, timeout=300)
-    found = re.search(r'<pre id="said">([^<]*)</pre>', done.stdout)
+        _, dumped, _ = run(words, timeout=300)
+    found = re.search(r'<pre id="said">([^<]*)</pre>', dumped)
     return json.loads(unquote(found[1])) if found else [[], []]
 
 
 def main():
     count = Count()
-    sources = subprocess.run([ROOT / "bin/page", "--sources"], capture_output=True, text=True, check=True).stdout.strip()
+    _, sources, _ = run([ROOT / "bin/page", "--sources"])
     text = PAGE.read_text(encoding="utf-8")
-    count.check(f'content="{sources}"' in text, "docs/page/index.html is not of these sources: call bin/page")
+    count.check(f'content="{sources.strip()}"' in text, "docs/page/index.html is not of these sources: call bin/page")
     count.check(not re.search(r'(src|href)="(https?:)?//', text), "the page has an address of another host")
     browser = shutil.which("chromium") or shutil.which("chromium-browser") or shutil.which("google-chrome")
     if not browser:
@@ -121,19 +115,14 @@ def main():
         count.end()
     made = cases()
     said, walked = shown(browser, made)
-    is_whole = (len(said), len(walked)) == (CASES, len(WALKS))
-    count.check(is_whole, f"the page answered {len(said)} cases and {len(walked)} walks")
+    count.same("answers to cases and to walks", (len(said), len(walked)), (CASES, len(WALKS)))
     for case, found in zip(made, said):
-        wanted = expected(*case)
-        count.check(found == wanted, f"{case}: the page shows {found}, the program {wanted}")
+        count.same(f"the page on {case}", found, expected(*case))
     with tempfile.TemporaryDirectory() as folder:
-        for path in TREE:
-            at = Path(folder) / path
-            (at if path.endswith("/") else at.parent).mkdir(parents=True, exist_ok=True)
-            at.is_dir() or at.touch()
+        place(folder, TREE)
         for pattern, found in zip(WALKS, walked):
-            wanted = run("glob_run", ["find", "--", pattern], folder)[1].splitlines()
-            count.check(found == wanted, f"the walk {pattern} shows {found}, the program {wanted}")
+            _, wanted, _ = run([built("glob_run"), "find", "--", pattern], cwd=folder)
+            count.same(f"the page's walk {pattern}", found, wanted.splitlines())
     count.end()
 
 

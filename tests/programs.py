@@ -11,7 +11,8 @@ import subprocess
 import tempfile
 from pathlib import Path
 
-from lib.count import ROOT, Count, left_out
+from lib.count import ROOT, Count, built, has, left_out, run
+from lib.make import place
 from lib.sides import AS_USER, MAY_SHUT
 
 ROWS = ROOT / "tests/rows"
@@ -23,18 +24,6 @@ def decoded(text):
     return codecs.escape_decode(text.encode())[0]
 
 
-def place(folder, words):
-    """Makes directories, whose paths end in /, links NAME->TARGET, files NAME=TEXT, and empty files."""
-    for word in words:
-        path, sign, value = re.match(rb"(.*?)(?:(->|=)(.*))?$", decoded(word), re.S).groups()
-        path = os.path.join(os.fsencode(folder), path)
-        os.makedirs(os.path.dirname(path), exist_ok=True)
-        if sign == b"->":
-            os.symlink(value, path)
-        elif not path.endswith(b"/"):
-            Path(os.fsdecode(path)).write_bytes(value or b"")
-
-
 class Programs:
     """The folder of both programs and of all that is made for them."""
 
@@ -42,7 +31,7 @@ class Programs:
         self.work, self.count = folder, Count()
         (folder / "bin").mkdir()
         for name in ("glob_run", "globs"):
-            shutil.copy(ROOT / f"crates/{name}/out/{name}", folder / "bin")
+            shutil.copy(built(name), folder / "bin")
         self.env = {**os.environ, "PATH": f"{folder}/bin:{os.environ['PATH']}", "root": str(ROOT), "LC_ALL": "C.UTF-8"}
 
     def folder(self):
@@ -52,11 +41,7 @@ class Programs:
     def run(self, program, words, text=b"", folder=None, **env):
         """The status, the output and the errors of a program."""
         words = [self.work / "bin" / program, *words]
-        done = subprocess.run(words, input=text, cwd=folder, env={**self.env, **env}, capture_output=True)
-        return done.returncode, done.stdout, done.stderr
-
-    def check(self, name, found, wanted):
-        self.count.check(found == wanted, f"{name}: {found} in place of {wanted}")
+        return run(words, input=text, cwd=folder, env={**self.env, **env}, text=False)
 
     # Tables
 
@@ -64,12 +49,17 @@ class Programs:
         """A row is WORDS|INPUT|STATUS|OUTPUT|ERRORS, with a blank between each two words; words alone are a usage
         fault. A line that begins with + has the paths that are made; alone it stands for an empty folder. # begins a
         comment."""
-        for table in ("find", "match", "ignore", "explain"):
-            self.replay("globs", (ROWS / f"{table}.txt").read_text(encoding="utf-8").splitlines(), self.row)
-        self.replay("glob_run", (ROWS / "patterns.txt").read_text(encoding="utf-8").splitlines(), self.row)
         self.replay("glob_run", self.rows_of_test(), self.row)
-        self.replay("glob_run", (ROWS / "links.txt").read_text(encoding="utf-8").splitlines(), self.finds)
-        self.replay("globs", (ROWS / "advice.txt").read_text(encoding="utf-8").splitlines(), self.advises)
+        for program, table, row in (
+            ("globs", "find", self.row),
+            ("globs", "match", self.row),
+            ("globs", "ignore", self.row),
+            ("globs", "explain", self.row),
+            ("globs", "advice", self.advises),
+            ("glob_run", "patterns", self.row),
+            ("glob_run", "links", self.finds),
+        ):
+            self.replay(program, (ROWS / f"{table}.txt").read_text(encoding="utf-8").splitlines(), row)
 
     def rows_of_test(self):
         """The rows of glob_run's test, but for failing streams, directories that cannot be listed, and absolute
@@ -89,14 +79,14 @@ class Programs:
             if line == "+":
                 folder = self.folder()
             elif line.startswith("+"):
-                place(folder, line[1:].split())
+                place(folder, map(decoded, line[1:].split()))
             elif line and not line.startswith("#"):
                 row(program, folder, line.split("|"))
 
     def row(self, program, folder, fields):
         words, text, status, output, errors = [*fields, "", ""][:5] if len(fields) > 1 else [*fields, "a\n", "2", "", USAGE]
         found = self.run(program, [decoded(it) for it in words.split(" ")] if words else [], decoded(text), folder)
-        self.check(f"{program} {words}", found, (int(status), decoded(output), decoded(errors)))
+        self.count.same(f"{program} {words}", found, (int(status), decoded(output), decoded(errors)))
 
     def finds(self, program, folder, fields):
         """PATTERNS|PATHS: what find writes for each pattern, as it is and below the absolute path of the folder."""
@@ -104,7 +94,7 @@ class Programs:
             for front in ("", f"{folder}/"):
                 lines = "".join(f"{front}{path}\n" for path in fields[1].split())
                 found = self.run(program, ["find", front + pattern], folder=folder)
-                self.check(f"find {front}{pattern}", found, (int(not lines), lines.encode(), b""))
+                self.count.same(f"find {front}{pattern}", found, (int(not lines), lines.encode(), b""))
 
     def advises(self, program, _folder, fields):
         """PATTERN|LINE: the last line that explain writes for a text that does not match. Without LINE it says nothing
@@ -127,14 +117,14 @@ class Programs:
             if (need == "user" and not MAY_SHUT) or (need not in ("", "user") and not shutil.which(need)):
                 left_out(f"{name}: it needs {need}")
                 continue
-            how = {"cwd": folder, "env": self.env, "stdin": subprocess.DEVNULL, "capture_output": True}
+            how = {"cwd": folder, "env": self.env, "stdin": subprocess.DEVNULL, "text": False}
             how |= AS_USER if need == "user" else {}
-            done = subprocess.run(["bash", "-o", "pipefail", "-c", command], **how)
-            found = done.stdout.decode(errors="replace")
-            found += re.sub("^", "! ", done.stderr.decode(errors="replace"), flags=re.M).removesuffix("! ")
-            found += f"[{done.returncode}]\n" if done.returncode else ""
+            status, *written = run(["bash", "-o", "pipefail", "-c", command], **how)
+            found, errors = (it.decode(errors="replace") for it in written)
+            found += re.sub("^", "! ", errors, flags=re.M).removesuffix("! ")
+            found += f"[{status}]\n" if status else ""
             pattern = ".*".join(map(re.escape, wanted.split("…")))
-            self.count.check(re.fullmatch(pattern, found), lambda: f"{name}: {found[:500]} in place of {wanted}")
+            self.count.check(re.fullmatch(pattern, found), f"{name}: {found[:500]} in place of {wanted}")
 
     # Help
 
@@ -146,7 +136,7 @@ class Programs:
             is_short = all(len(line) <= 100 for line in found[1].splitlines())
             self.count.check(found[0] == 0 and found[1] and is_short, f"the page of {page or 'all'}: {found}")
             for option in ("--help", "-h"):
-                self.check(f"the page by {page} {option}", self.run("globs", [*words, option]), found)
+                self.count.same(f"the page by {page} {option}", self.run("globs", [*words, option]), found)
 
     # Memory
 
@@ -154,12 +144,11 @@ class Programs:
         """With ample memory a program ends with a status. Then each of its requests for memory is refused in turn: it
         ends in the same way, or with status 2, a line that ends in `out of memory`, and the first lines of the output,
         each whole. No block is left."""
-        if not shutil.which("gcc"):
-            left_out("each request for memory, since there is no gcc")
+        if not has("gcc", "each request for memory"):
             return
         library, folder = self.work / "refusing.so", self.folder()
         subprocess.run(["gcc", "-shared", "-fPIC", "-O1", ROOT / "tests/lib/refusing.c", "-o", library], check=True)
-        place(folder, ["src/a.rs", "src/deep/b.rs", "docs/x/A.md", "a.o", "rules=*.o\\n/target/\\n", "beyond=a\\n[é]\\n"])
+        place(folder, ["src/a.rs", "src/deep/b.rs", "docs/x/A.md", "a.o", "rules=*.o\n/target/\n", "beyond=a\n[é]\n"])
         lines = "a.rs\nb.c\n" + "a" * 70 + ".rs\na.o\n"
         for number, (status, program, *words) in enumerate(REFUSED):
             text = (lines + ("a.rs\n" * 20_000 + "b" * 200_000 + ".rs\n") * (number == 0)).encode()
@@ -183,15 +172,15 @@ class Programs:
     def little(self):
         """From too little memory to start a program to enough: it is not started, or is out of memory, or ends well."""
         for words, text in (["glob_run match *.rs", b"a.rs\nb.c\n"], ["glob_run escape " + "?" * 60_000, b""]):
-            words = words.split()
-            limits = range(512, 16_384, 64)
-            how = {"input": text, "env": self.env, "capture_output": True}
-            done = [subprocess.run(["prlimit", f"--as={it * 1024}", *words], **how) for it in limits]
-            ends = {("ends well" if it.returncode == 0 and it.stdout and not it.stderr else
-                "out of memory" if (it.returncode, it.stdout, it.stderr) == (2, b"", b"out of memory\n") else
-                "not started" if it.returncode not in (0, 1, 2) and not it.stdout else str(it)[-300:]) for it in done}
-            wanted = {"ends well", "out of memory", "not started"}
-            self.check(f"just too little memory, and just enough: {words[1]}", ends, wanted)
+            words, ends = words.split(), set()
+            for limit in range(512, 16_384, 64):
+                found = run(["prlimit", f"--as={limit * 1024}", *words], input=text, env=self.env, text=False)
+                is_well = found[0] == 0 and found[1] and not found[2]
+                is_memory = found == (2, b"", b"out of memory\n")
+                is_none = found[0] not in (0, 1, 2) and not found[1]
+                ends.add("well" if is_well else "out of memory" if is_memory else "not started" if is_none else found)
+            name = f"just too little memory, and just enough: {words[1]}"
+            self.count.same(name, ends, {"well", "out of memory", "not started"})
 
 
 # Status, program and words.

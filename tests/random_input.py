@@ -13,14 +13,13 @@ import argparse
 import collections
 import os
 import random
-import re
 import shutil
 import tempfile
 import time
 from pathlib import Path
 
 from lib import make, reference
-from lib.count import ROOT, Count, left_out
+from lib.count import ROOT, Count, has, left_out
 from lib.reference import FOUND, REFUSED, UNREAD
 from lib.sides import ANSWERS, MAY_SHUT, as_user, ask, built_over, original
 
@@ -42,7 +41,7 @@ BELOW = "1/2/3/4/5/6"
 
 def matches_by_rules(pattern, texts):
     """The answer of the reference."""
-    escaped = re.sub(r"[][?*]", r"[\g<0>]", pattern)
+    escaped = reference.escaped(pattern)
     if fault := reference.fault_of(pattern):
         return "\t".join([escaped, "fault", *map(str, fault)])
     found = (reference.matches(pattern, text, letters) for text in texts for letters in make.SETTINGS)
@@ -55,12 +54,6 @@ def set_field(numbers):
     return f"\t{ends} {numbers}"
 
 
-def starts_in(tree):
-    """The directories of a tree in which a walk may begin, as paths: those in which names can be looked up."""
-    shut = tuple(f"{path}/" for path, kind in tree.nodes if kind == "shut")
-    return [""] + [path for path, kind in tree.nodes if kind in ("dir", "blind") and not f"{path}/".startswith(shut)]
-
-
 def items_of(answer):
     """The units and items of a walk, or no units and the fault. What cannot be listed is shut: that kind is left
     out."""
@@ -71,9 +64,8 @@ def items_of(answer):
 class Comparer:
     """Asks all sides, and counts. Trees are made one at a time."""
 
-    def __init__(self, base, sides, rules):
-        self.above, self.sides, self.rules = base / BELOW, sides, rules
-        self.above.mkdir(parents=True)
+    def __init__(self, base, sides):
+        self.above, self.sides = base / BELOW, sides
         self.count, self.kinds = Count(), collections.Counter()
 
     # Matches and sets
@@ -81,7 +73,7 @@ class Comparer:
     def matches(self, source):
         cases = [make.match_case(source, TEXTS) for _ in range(PATTERNS)]
         lines = ["\t".join(["match", pattern, *texts]) for pattern, texts in cases]
-        answers = {name: ask(words, lines) for name, words in self.sides.items()}
+        answers = {name: ask(words, lines) for name, (words, _) in self.sides.items()}
         for number, case in enumerate(cases):
             given = {name: of[number] for name, of in answers.items()}
             if number % RULES_IN == 0:
@@ -94,11 +86,12 @@ class Comparer:
 
     def sets(self, source):
         """Sets are to match what their patterns match."""
+        ours, _ = self.sides["ours"]
         for _ in range(SETS):
             size = source.randint(1, SET_PATTERNS)
             cases = [make.match_case(source, SET_TEXTS // size + 1) for _ in range(size)]
             texts = [text for _, some in cases for text in some][:SET_TEXTS]
-            answers = ask(self.sides["ours"], ["\t".join(["match", pattern, *texts]) for pattern, _ in cases])
+            answers = ask(ours, ["\t".join(["match", pattern, *texts]) for pattern, _ in cases])
             rows = [answer.split("\t") for answer in answers]
             kept = [(pattern, row[2]) for (pattern, _), row in zip(cases, rows) if row[1] == "ok"]
             if not kept or not texts:
@@ -106,108 +99,97 @@ class Comparer:
             self.kinds["sets"] += 1
             patterns = [pattern for pattern, _ in kept]
             asked = [["set", letters, str(len(kept)), *patterns, *texts] for letters in make.SETTINGS]
-            for at, answer in enumerate(ask(self.sides["ours"], ["\t".join(it) for it in asked])):
+            for at, answer in enumerate(ask(ours, ["\t".join(it) for it in asked])):
                 places = [len(make.SETTINGS) * text + at for text in range(len(texts))]
                 numbers = [[n for n, (_, row) in enumerate(kept) if row[place] == "y"] for place in places]
-                wanted = "".join(map(set_field, numbers))
-                self.count.check(answer == wanted, f"{asked[at]}: {answer} in place of {wanted}")
+                self.count.same(asked[at], answer, "".join(map(set_field, numbers)))
 
     # Walks
 
     def walks(self, source):
-        """Some walks of a random tree, from its top or a directory of it."""
+        """Some walks of a random tree, from its top or a directory of it, by all sides, of which ours alone counts units
+        and knows limits."""
         tree = make.tree(source, MAY_SHUT, source.choice([make.few_name, make.few_name, make.name]))
         top = self.above / "tree"
-        tree.build(top)
-        start = source.choice(starts_in(tree)) if source.random() < 0.3 else ""
+        below = tree.build(top)
+        start = source.choice(tree.starts()) if source.random() < 0.3 else ""
         patterns = [make.few_components(source, some) for _ in range(3) for some in make.COMPONENTS_OF_WALKS]
-        patterns += [make.walk_pattern(source, tree.paths()) for _ in range(3)]
+        patterns += [make.walk_pattern(source, list(tree.ends)) for _ in range(3)]
         cases = [(pattern.replace(make.ABOVE, str(self.above)), source.choice(make.SETTINGS)) for pattern in patterns]
-        with as_user():
-            marks = [self.marks(*case, top / start) for case in cases]
-        asked = [(case, limit) for case, of in zip(cases, marks) for limit in self.limits(source, of)]
-        lines = [f"walk\t{letters}\t{limit}\t{pattern}" for (pattern, letters), limit in asked]
-        answers = dict(zip(asked, map(items_of, ask(self.sides["ours"], lines, top / start))))
-        for (case, limit), answer in answers.items():
-            of = marks[cases.index(case)]
-            self.check_walk("ours", tree, start, case, limit, answer, of)
-            if of is not None:
-                self.goals(tree, start, case, answer[1])
-        for name in self.rules:
+        for name, (words, rules) in self.sides.items():
             with as_user():
-                marks = [self.marks(*case, top / start, self.rules[name]) for case in cases]
-            lines = [f"walk\t{letters}\t{NO_LIMIT}\t{pattern}" for pattern, letters in cases]
-            for case, of, answer in zip(cases, marks, ask(self.sides[name], lines, top / start)):
-                self.check_walk(name, tree, start, case, NO_LIMIT, (None, items_of(answer)[1]), of)
+                marks = {case: self.marks(*case, top / start, rules) for case in cases}
+            asked = [(case, limit) for case in cases for limit in self.limits(source, name, marks[case])]
+            lines = [f"walk\t{letters}\t{limit}\t{pattern}" for (pattern, letters), limit in asked]
+            for (case, limit), answer in zip(asked, map(items_of, ask(words, lines, top / start))):
+                what = f"{case} from {start or '.'} over {tree}"
+                self.check_walk(name, what, case, limit, answer, marks[case])
+                if name == "ours" and marks[case] is not None:
+                    self.goals(what, start, below, case, answer[1])
         tree.remove(top)
 
-    def marks(self, pattern, letters, folder, rules=reference.OURS):
+    def marks(self, pattern, letters, folder, rules):
         """What a walk does by the rules, or None where its pattern is refused."""
         return None if reference.walk_fault(pattern) else list(reference.Walk(pattern, letters, folder, rules).marks())
 
-    def limits(self, source, marks):
+    def limits(self, source, name, marks):
         """The limits within which a walk is asked: none, now and then a low one, or each."""
+        if name != "ours":
+            return [NO_LIMIT]
         units = reference.within(marks or [], NO_LIMIT)[1]
         if marks and units <= MOST_UNITS and source.randrange(EACH_LIMIT_IN) == 0:
             self.kinds["each limit"] += 1
             return [NO_LIMIT, *range(units + 2)]
         return [NO_LIMIT, source.randint(0, HIGHEST_LIMIT)] if source.random() < SHARE_WITH_LIMIT else [NO_LIMIT]
 
-    def check_walk(self, name, tree, start, case, limit, answer, marks):
-        """Compares a walk with the reference. The other sides count no units."""
+    def check_walk(self, name, what, case, limit, answer, marks):
+        """Compares a walk with the reference."""
         if marks is None:
-            units, items = None, [*map(str, reference.walk_fault(case[0]))]
+            wanted = None, [*map(str, reference.walk_fault(case[0]))]
         else:
             items, units = reference.within(marks, limit)
-        wanted = (units if name == "ours" else None), items
-        what = f"{name}: {case} within {limit} from {start or '.'} over {tree.nodes}"
-        self.count.check(answer == wanted, f"{what}: {answer} in place of {wanted}")
+            wanted = (units if name == "ours" else 0), items
+        self.count.same(f"{name}: {what} within {limit}", answer, wanted)
         if name == "ours":
-            signs = {it[0] for it in items} if marks is not None else set("refused")
+            signs = {it[0] for it in wanted[1]}
             self.kinds["refused walks"] += marks is None
-            self.kinds["empty"] += not items
+            self.kinds["empty"] += not wanted[1]
             for kind, sign in (("limited", REFUSED), ("unread", UNREAD), ("found", FOUND)):
-                self.kinds[kind] += marks is not None and sign in signs
+                self.kinds[kind] += sign in signs
 
-    def goals(self, tree, start, case, items):
+    def goals(self, what, start, below, case, items):
         """Compares a walk with what its undivided pattern matches, if that says what it finds."""
         pattern, letters = case
         if "i" in letters or not reference.is_plain(pattern):
             return
-        keys = self.keys(tree, start, pattern.startswith("/"))
-        wanted = reference.goals_of(pattern, keys, letters.replace("s", ""))
-        fault = reference.goal_fault(pattern, keys, wanted, items)
-        self.count.check(fault is None, f"{case} from {start or '.'} over {tree.nodes}: {fault}")
-        signs = {it[0] for it in items}
-        kind = "goals, all found" if wanted else "no goals"
-        self.kinds["goals, limited" if REFUSED in signs else "goals, unread" if UNREAD in signs else kind] += 1
-
-    def keys(self, tree, start, is_absolute):
-        """What is there below the start, and the start, as the program sees it."""
-        top = self.above / "tree"
-        below = tree.texts_below("" if is_absolute else start)
-        texts = [(top / text, f"{top}/{text}") for text in below] + [(top, str(top))] if is_absolute else \
-            [(top / start / text, text) for text in below] + [(top / start, ".")]
+        top = str(self.above / "tree" / start)
+        there = {os.path.relpath(path, top): path for path in [top, *below] if f"{path}/".startswith(f"{top}/")}
+        if pattern.startswith("/"):
+            there = {path: path for path in [str(self.above / "tree"), *below]}
         with as_user():
-            return [reference.key_of(place, text) for place, text in texts if os.path.lexists(place)]
+            there = {text: path for text, path in there.items() if os.path.lexists(path)}
+            fault = reference.goal_fault(pattern, letters.replace("s", ""), there, items)
+        self.count.check(fault is None, f"{what}: {fault}")
+        signs = {it[0] for it in items}
+        kind = "goals, all found" if FOUND in signs else "no goals"
+        self.kinds["goals, limited" if REFUSED in signs else "goals, unread" if UNREAD in signs else kind] += 1
 
 
 def sides_in(folder):
-    """The programs that are asked, and by which rules each of those in Rust walks."""
-    sides, rules, crates = {"ours": [shutil.copy(ANSWERS, folder), "answer"]}, {}, []
-    crate, version = original()
-    if not shutil.which("cargo"):
-        left_out("random input to the Rust crate, since there is no cargo")
-        return sides, rules
-    crates = [("rust/", ROOT / "rust", 'package = "cadmiumdove", ', reference.OURS)]
-    if crate:
-        crates.append(("the crate", crate, "", reference.RELEASE_0_3_0 if version == "0.3.0" else reference.CRATE))
+    """The programs that are asked, each with the rules by which it walks."""
+    sides = {"ours": ([shutil.copy(ANSWERS, folder), "answer"], reference.OURS)}
+    if not has("cargo", "random input to the Rust crate"):
+        return sides
+    crates = [("rust/", ROOT / "rust", reference.OURS)]
+    if crate := original():
+        rules = reference.RELEASE_0_3_0 if crate.name == "glob-0.3.0" else reference.CRATE
+        crates.append(("the crate", crate, rules))
     else:
         left_out("random input beside the original crate, since librust-glob-dev is not installed")
-    for number, (name, path, package, walks) in enumerate(crates):
-        built_over(path, ROOT / "tests/rust/programs", folder / str(number), package)
-        sides[name], rules[name] = [folder / str(number) / "target/release/answer"], walks
-    return sides, rules
+    for number, (name, crate, rules) in enumerate(crates):
+        programs = built_over(crate, ROOT / "tests/rust/programs", folder / str(number))
+        sides[name] = [programs / "answer"], rules
+    return sides
 
 
 def main():
@@ -220,7 +202,7 @@ def main():
     with tempfile.TemporaryDirectory() as work, tempfile.TemporaryDirectory(dir="/dev/shm") as base:
         # The user by whom programs are run may not reach the repository.
         os.chmod(work, 0o755), os.chmod(base, 0o755)
-        comparer = Comparer(Path(base), *sides_in(Path(work)))
+        comparer = Comparer(Path(base), sides_in(Path(work)))
         for seed in range(options.seed, options.seed + options.rounds):
             source = random.Random(seed)
             comparer.matches(source)

@@ -2,8 +2,7 @@
 # Makes a release, unpacks it in an empty folder, and uses each part of it there, with neither the repository nor `rt`
 # in reach. What is not installed is left out, and said. Its last line is 'N passed, M failed'.
 set -uo pipefail
-root=$(cd "$(dirname "$(readlink -f "${BASH_SOURCE[0]}")")/.." && pwd)
-. "$root/tests/lib/commands.sh"
+. "$(dirname "$(realpath "$0")")/lib/commands.sh"
 
 # alone COMMAND..: in the unpacked folder, without `rt` and the toolchain on PATH
 alone() {
@@ -24,16 +23,11 @@ from_c() {
         [ "$("$work/find" 'inclu*/*.h')" = include/cadmiumdove.h ]
 }
 
+# A user's package, with the line of the README.
 from_rust() {
-    mkdir -p "$work/user/src" && cat >"$work/user/Cargo.toml" <<EOF && cat >"$work/user/src/main.rs" <<'EOF2'
-[package]
-name = "user"
-version = "0.0.0"
-edition = "2021"
-
-[dependencies]
-glob = { package = "cadmiumdove", path = "$PWD/rust" }
-EOF
+    cargo -q init --vcs none --name user "$work/user" &&
+        echo "glob = { package = \"cadmiumdove\", path = \"$PWD/rust\" }" >>"$work/user/Cargo.toml" &&
+        cat >"$work/user/src/main.rs" <<'EOF'
 use glob::{glob, Pattern};
 
 fn main() {
@@ -42,7 +36,7 @@ fn main() {
         println!("{}", path.display());
     }
 }
-EOF2
+EOF
     [ "$(CARGO_TARGET_DIR="$work/target" cargo run -q --offline --manifest-path "$work/user/Cargo.toml")" = \
         include/cadmiumdove.h ]
 }

@@ -7,26 +7,22 @@
 
 #include "cadmiumdove.h"
 
-#define CHECK(fact)                                    \
-    do {                                               \
-        if (!(fact)) {                                 \
+#define CHECK(fact)                                            \
+    do {                                                       \
+        if (!(fact)) {                                         \
             fprintf(stderr, "line %d: %s\n", __LINE__, #fact); \
-            return 1;                                  \
-        }                                              \
+            exit(1);                                           \
+        }                                                      \
     } while (0)
 
-/* How many requests for memory succeed before the others fail, or -1 for all. The linker puts these three in the place
- * of malloc, realloc and free. */
-static int allowed = -1;
-
-/* How many blocks are held. */
-static int blocks = 0;
+/* How many requests for memory succeed before the others fail, or -1 for all, and how many blocks are held. The linker
+ * puts these three in the place of malloc, realloc and free. */
+static int allowed = -1, blocks = 0;
 
 static bool is_refused(void) {
-    if (allowed > 0)
-        allowed--;
-    else
+    if (allowed <= 0)
         return allowed == 0;
+    allowed--;
     return false;
 }
 
@@ -64,7 +60,7 @@ static uint32_t parse(const char *text, struct cadmiumdove_fault *fault) {
     return answer;
 }
 
-static int matching(void) {
+static void matching(void) {
     struct cadmiumdove_pattern pattern = {0};
     struct cadmiumdove_fault fault = {7, 7};
     CHECK(cadmiumdove_pattern_new(&pattern, "A*", 2, &fault) == CADMIUMDOVE_DONE);
@@ -95,10 +91,9 @@ static int matching(void) {
     CHECK(cadmiumdove_pattern_new(&moved, "b", 1, &fault) == CADMIUMDOVE_DONE);
     CHECK(matches(&moved, "a", 0) == CADMIUMDOVE_NO);
     cadmiumdove_pattern_free(&moved);
-    return 0;
 }
 
-static int faults(void) {
+static void faults(void) {
     struct cadmiumdove_fault fault;
     CHECK(parse("", &fault) == CADMIUMDOVE_DONE);
     CHECK(parse("a/**b", &fault) == CADMIUMDOVE_SYNTAX_FAULT && fault.place == 4
@@ -112,10 +107,9 @@ static int faults(void) {
     CHECK(!strcmp(cadmiumdove_message_text(1), "recursive wildcards must form a single path component"));
     CHECK(!strcmp(cadmiumdove_message_text(2), "invalid range pattern"));
     CHECK(parse("a\xff", &fault) == CADMIUMDOVE_NOT_UTF8);
-    return 0;
 }
 
-static int escaping(void) {
+static void escaping(void) {
     char out[16];
     size_t needed = 0;
     memset(out, '.', sizeof out);
@@ -130,23 +124,10 @@ static int escaping(void) {
     CHECK(cadmiumdove_pattern_escape("", 0, out, 0, &needed) == CADMIUMDOVE_DONE && needed == 0);
     CHECK(memcmp(out, "a[[]1[]].", 9) == 0);
     CHECK(cadmiumdove_pattern_escape("\xff", 1, out, 16, &needed) == CADMIUMDOVE_NOT_UTF8);
-    return 0;
 }
 
-/* A pattern holds some blocks until it is freed, and then none. */
-static int blocks_of_a_pattern(void) {
-    struct cadmiumdove_pattern pattern = {0};
-    struct cadmiumdove_fault fault;
-    CHECK(blocks == 0);
-    CHECK(cadmiumdove_pattern_new(&pattern, "a/**/[b-d]*", 11, &fault) == CADMIUMDOVE_DONE);
-    CHECK(blocks > 0);
-    cadmiumdove_pattern_free(&pattern);
-    CHECK(blocks == 0);
-    return 0;
-}
-
-/* Each request for memory fails in turn, and nothing is lost by it. */
-static int memory(void) {
+/* Each request for memory fails in turn, and nothing is lost by it. A pattern holds some blocks until it is freed. */
+static void memory(void) {
     char longest[401] = {0};
     struct cadmiumdove_pattern pattern = {0};
     struct cadmiumdove_fault fault;
@@ -160,6 +141,7 @@ static int memory(void) {
         CHECK(answer == CADMIUMDOVE_DONE || answer == CADMIUMDOVE_OUT_OF_MEMORY);
     } while (answer != CADMIUMDOVE_DONE);
     CHECK(requests >= 4);
+    CHECK(blocks > 0);
     allowed = 0;
     CHECK(matches(&pattern, "a/x/c", 0) == CADMIUMDOVE_YES);
     CHECK(cadmiumdove_pattern_escape("a", 1, out, 16, &needed) == CADMIUMDOVE_OUT_OF_MEMORY);
@@ -173,7 +155,6 @@ static int memory(void) {
     allowed = -1;
     CHECK(matches(&pattern, longest, 0) == CADMIUMDOVE_YES);
     cadmiumdove_pattern_free(&pattern);
-    return 0;
 }
 
 /* Answers as a tree of a directory `d` with a file `x`, and of a directory `shut` that cannot be listed, until the walk
@@ -183,8 +164,7 @@ static uint32_t drive(struct cadmiumdove_walk *walk, int *found, int *unread) {
     size_t length;
     uint32_t step, answer = CADMIUMDOVE_DONE;
     while ((step = cadmiumdove_walk_next(walk)) != CADMIUMDOVE_END && step != CADMIUMDOVE_EMPTY) {
-        if (cadmiumdove_walk_path(walk, path, sizeof path - 1, &length) != CADMIUMDOVE_DONE)
-            return 100;
+        CHECK(cadmiumdove_walk_path(walk, path, sizeof path - 1, &length) == CADMIUMDOVE_DONE);
         path[length] = 0;
         if (step == CADMIUMDOVE_LOOK)
             answer = cadmiumdove_walk_looked(walk, strchr(path, 'x') ? CADMIUMDOVE_OTHER : CADMIUMDOVE_DIRECTORY);
@@ -196,14 +176,11 @@ static uint32_t drive(struct cadmiumdove_walk *walk, int *found, int *unread) {
             answer = step;
         else if (strstr(path, "shut"))
             answer = cadmiumdove_walk_unread(walk, 13);
-        else if (!strcmp(path, ".")) {
-            answer = cadmiumdove_walk_entry(walk, "shut", 4, true);
-            if (answer == CADMIUMDOVE_DONE)
-                answer = cadmiumdove_walk_entry(walk, "d", 1, true);
-            if (answer == CADMIUMDOVE_DONE)
-                answer = cadmiumdove_walk_listed(walk);
-        } else {
-            answer = cadmiumdove_walk_entry(walk, "x", 1, false);
+        else {
+            bool is_top = !strcmp(path, ".");
+            answer = cadmiumdove_walk_entry(walk, is_top ? "d" : "x", 1, is_top);
+            if (answer == CADMIUMDOVE_DONE && is_top)
+                answer = cadmiumdove_walk_entry(walk, "shut", 4, true);
             if (answer == CADMIUMDOVE_DONE)
                 answer = cadmiumdove_walk_listed(walk);
         }
@@ -218,7 +195,7 @@ static uint32_t begin(struct cadmiumdove_walk *walk, const char *pattern, uint64
     return cadmiumdove_walk_new(walk, pattern, strlen(pattern), 0, limit, &fault);
 }
 
-static int walking(void) {
+static void walking(void) {
     struct cadmiumdove_walk walk = {0};
     struct cadmiumdove_fault fault = {7, 7};
     int found = 0, unread = 0;
@@ -237,11 +214,10 @@ static int walking(void) {
     CHECK(fault.place == 2 && fault.message == CADMIUMDOVE_RECURSIVE);
     CHECK(cadmiumdove_walk_new(&walk, "a", 1, 8, 9, &fault) == CADMIUMDOVE_UNKNOWN_FLAG);
     CHECK(cadmiumdove_walk_new(&walk, "\xff", 1, 0, 9, &fault) == CADMIUMDOVE_NOT_UTF8);
-    return 0;
 }
 
 /* A driver that answers what was not asked, or not in full, and stops in the middle. */
-static int wrong_answers(void) {
+static void wrong_answers(void) {
     struct cadmiumdove_walk walk = {0};
     char path[2];
     size_t length = 0;
@@ -275,12 +251,11 @@ static int wrong_answers(void) {
     CHECK(cadmiumdove_walk_next(&walk) == CADMIUMDOVE_PATH);
     CHECK(cadmiumdove_walk_path(&walk, path, 2, &length) == CADMIUMDOVE_DONE && length == 1 && path[0] == 'x');
     cadmiumdove_walk_free(&walk);
-    return 0;
 }
 
 /* Of several answers the last counts, and a number that is no look is MISSING. The path is empty before the first step
  * and at the end. */
-static int last_answers(void) {
+static void last_answers(void) {
     struct cadmiumdove_walk walk = {0};
     char path[2];
     size_t length = 7;
@@ -307,11 +282,10 @@ static int last_answers(void) {
     CHECK(cadmiumdove_walk_looked(&walk, 77) == CADMIUMDOVE_DONE);
     CHECK(cadmiumdove_walk_next(&walk) == CADMIUMDOVE_END);
     cadmiumdove_walk_free(&walk);
-    return 0;
 }
 
 /* Each request for memory of a walk fails in turn, and nothing is lost by it. */
-static int memory_of_a_walk(void) {
+static void memory_of_a_walk(void) {
     struct cadmiumdove_walk walk = {0};
     uint32_t answer = CADMIUMDOVE_OUT_OF_MEMORY;
     int requests = 0, found = 0, unread = 0;
@@ -327,19 +301,15 @@ static int memory_of_a_walk(void) {
     }
     allowed = -1;
     CHECK(requests >= 10 && found == 1 && unread == 1);
-    return 0;
-}
-
-/* The calls leave no block behind. */
-static int leave_nothing(int calls(void)) {
-    if (calls())
-        return 1;
-    CHECK(blocks == 0);
-    return 0;
 }
 
 int main(void) {
-    return leave_nothing(blocks_of_a_pattern) || leave_nothing(matching) || leave_nothing(faults)
-        || leave_nothing(escaping) || leave_nothing(memory) || leave_nothing(walking) || leave_nothing(wrong_answers)
-        || leave_nothing(last_answers) || leave_nothing(memory_of_a_walk);
+    void (*const all[])(void) = {matching, faults,        escaping,     memory,
+                                 walking,  wrong_answers, last_answers, memory_of_a_walk};
+    for (size_t i = 0; i < sizeof all / sizeof *all; i++) {
+        all[i]();
+        /* The calls leave no block behind. */
+        CHECK(blocks == 0);
+    }
+    return 0;
 }

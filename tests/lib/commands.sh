@@ -1,6 +1,7 @@
-# What the rows of border.sh, release.sh and rust.sh are made of, each a command that has to end well. Sourced with
-# $root set. Sets $work, a folder that goes when the script ends, which says how many rows passed and failed.
+# What the rows of border.sh, release.sh and rust.sh are made of, each a command that has to end well. Sets $root, the
+# repository, and $work, a folder that goes when the script ends, which says how many rows passed and failed.
 
+root=$(realpath "$(dirname "${BASH_SOURCE[0]}")/../..")
 work=$(mktemp -d) || exit 2
 passed=0 failed=0
 

@@ -1,5 +1,7 @@
-"""What each part counts and says at its end."""
+"""How each part runs programs, and what it counts and says."""
 
+import shutil
+import subprocess
 import sys
 from pathlib import Path
 
@@ -14,11 +16,15 @@ class Count:
         self.passed = self.failed = 0
 
     def check(self, is_right, what):
-        """One more check. `what` says, or is called to say, what is wrong; the first are printed."""
+        """One more check. Of those that fail the first are printed, each with what is wrong."""
         self.passed += bool(is_right)
         self.failed += not is_right
         if not is_right and self.failed <= MOST_SHOWN:
-            print(f"failed: {what() if callable(what) else what}", flush=True)
+            print(f"failed: {what}", flush=True)
+
+    def same(self, name, found, wanted):
+        """One more check, which passes if what was found is what is wanted."""
+        self.check(found == wanted, f"{name}: {found} in place of {wanted}")
 
     def end(self):
         """Prints the sum, and ends the program."""
@@ -29,3 +35,19 @@ class Count:
 def left_out(what):
     """Says what is not run."""
     print(f"left out: {what}", flush=True)
+
+
+def has(tool, what):
+    """Where a tool is. If it is nowhere, says that what needs it is not run."""
+    return shutil.which(tool) or left_out(f"{what}, since there is no {tool}")
+
+
+def built(name):
+    """A program that `rt ci` built."""
+    return ROOT / f"crates/{name}/out/{name}"
+
+
+def run(words, **how):
+    """The status, the output and the errors of a program."""
+    done = subprocess.run(words, **{"capture_output": True, "text": True, **how})
+    return done.returncode, done.stdout, done.stderr

@@ -5,8 +5,9 @@ import os
 import re
 import shutil
 from dataclasses import dataclass
+from pathlib import Path
 
-from lib.reference import LEXEME
+from lib.reference import LEXEME, escaped, join
 
 # Of what patterns and texts are made. Few characters, so that they meet. Some lie where case or a range may err: beside
 # the letters of ASCII, and beyond ASCII where another case has more or fewer bytes, or is a letter of ASCII.
@@ -21,7 +22,7 @@ LONG = (60, 130)
 
 NAME_PIECES = [*"aaabbABB...-![]*?éÉ𝒳", "ab", "a.b", "..", "[a]", "[!a]", "**"]
 NODES = 24
-DEEPEST = 4
+DEEPEST = 5
 
 # A few names, and components for them: those that come more often stand here more often. Some have a fault. By most of
 # the plain ones the whole pattern says what a walk finds.
@@ -29,14 +30,19 @@ FEW_NAMES = ["a", "b", "ab", "A", ".a", ".b", "a.b", "é", "-"]
 FEW_COMPONENTS = ["**"] * 4 + ["*"] * 3 + ["?", "a", "a*", "*b", ".*", ".?", "[ab]", "[!a]*", ".", "..", "", "A", ".a"]
 FEW_COMPONENTS += ["é", "a[b]", "[b", "]*", "é**", "***", "??", "*.*", "[!.]*", "[.]*", "*[ab]", ".[.]", "*a*b*"]
 PLAIN_COMPONENTS = ["**"] * 4 + ["*"] * 4 + ["?"] * 2 + ["a", "b", "a*", "*b", "[ab]", "[!a]*", "*.*", ".a", ".*"]
-PLAIN_COMPONENTS += [".[a-z]"]
+PLAIN_COMPONENTS += [".[a-z]", "é"]
 COMPONENTS_OF_WALKS = [FEW_COMPONENTS, PLAIN_COMPONENTS]
 
 # In a pattern, the path of the folder that the tree's folder, `tree`, is in.
 ABOVE = "\0"
-# The kinds of directories that cannot be listed, with what is left to do there: nothing, or to look names up.
-MODES = {"shut": 0, "blind": 0o111}
+# The modes of directories that cannot be listed, with what is left to do there: nothing, or to look names up.
+MODES = [0, 0o111]
 SETTINGS = ["", "d", "s", "sd", "i", "id", "is", "isd"]
+
+
+def some(source, least, most, pieces):
+    """A text of so many pieces."""
+    return "".join(source.choices(pieces, k=source.randint(least, most)))
 
 
 def bracket(source, alphabet):
@@ -70,17 +76,12 @@ def pattern(source, alphabet):
     return with_few_stars("".join(lexeme(source, alphabet) for _ in range(length)), stars)
 
 
-def text_of(source, alphabet, most=6):
-    """A text of any characters of an alphabet, `/` and `.`."""
-    return "".join(source.choices(alphabet + "/.", k=source.randint(0, most)))
-
-
 def piece(source, alphabet, found):
     """What a unit of a pattern may be."""
     if found == "**/":
         return source.choice(["", "", "a/", "a/b/", ".a/", "/"])
     if found[0] == "*":
-        return text_of(source, alphabet, 3)
+        return some(source, 0, 3, alphabet + "/.")
     if found == "?" or found.startswith("[!"):
         return source.choice(alphabet + "/.")
     if found[0] == "[" and len(found) > 1:
@@ -92,7 +93,7 @@ def text(source, alphabet, lexemes):
     """A text. Half of them are such that a pattern of these lexemes may match, and some of those but for a character
     that is taken out, put in or replaced."""
     if source.random() < 0.4:
-        return text_of(source, alphabet)
+        return some(source, 0, 6, alphabet + "/.")
     found = "".join(piece(source, alphabet, it) for it in lexemes)
     if source.random() < 0.7:
         return found
@@ -119,49 +120,53 @@ def few_name(source):
     return source.choice(FEW_NAMES)
 
 
+def place(folder, paths):
+    """Makes directories, whose paths end in /, links PATH->TARGET, files PATH=TEXT, and empty files."""
+    for path in paths:
+        path, *rest = re.split(b"(->|=)", os.fsencode(path), maxsplit=1)
+        path = os.path.join(os.fsencode(folder), path)
+        os.makedirs(os.path.dirname(path), exist_ok=True)
+        if rest[:1] == [b"->"]:
+            os.symlink(rest[1], path)
+        elif not path.endswith(b"/"):
+            Path(os.fsdecode(path)).write_bytes(b"".join(rest[1:]))
+
+
+def grown(source, nodes, name, share=0.5):
+    """The paths of a tree, each after the directory that it is in, with whether it is a directory itself."""
+    found = {}
+    for _ in range(nodes):
+        above = [path for path, is_dir in found.items() if is_dir and path.count("/") + 1 < DEEPEST]
+        found.setdefault(join(source.choice(["", *above[-4:]]), name(source)), source.random() < share)
+    return found
+
+
 @dataclass(frozen=True)
 class Tree:
-    """What is below a folder: paths with kinds, each after the one that it is in. A kind is `dir`, `file`, one of
-    MODES, or `link ` and the target."""
+    """What is below a folder: paths, each with what `place` wants behind it, and the modes of directories that cannot be
+    listed."""
 
-    nodes: tuple
-
-    def paths(self):
-        return [path for path, _ in self.nodes]
-
-    def texts_below(self, directory):
-        """The text of each file and directory below a directory, in directories that links lead to as well."""
-        kinds = dict(self.nodes)
-        for path, kind in self.nodes:
-            above, _, name = path.rpartition("/")
-            if above == directory:
-                yield name
-                is_link = kind.startswith("link ")
-                target = os.path.normpath(os.path.join(above, kind.removeprefix("link "))) if is_link else path
-                if kinds.get(target) == "dir" or kinds.get(target) in MODES:
-                    yield from (f"{name}/{rest}" for rest in self.texts_below(target))
+    ends: dict
+    modes: dict
 
     def build(self, folder):
-        """Makes the nodes in a folder that is not there yet."""
-        os.makedirs(folder)
-        for path, kind in self.nodes:
-            place = os.path.join(folder, path)
-            if kind == "dir" or kind in MODES:
-                os.mkdir(place)
-            elif kind == "file":
-                open(place, "x").close()
-            else:
-                os.symlink(kind.removeprefix("link "), place)
-        for path, kind in reversed(self.nodes):
-            if kind in MODES:
-                os.chmod(os.path.join(folder, path), MODES[kind])
+        """Makes all in a folder, and gives the path of each, also in directories that links lead to."""
+        place(folder, [path + end for path, end in self.ends.items()])
+        below = [os.path.join(at, name) for at, *names in os.walk(folder, followlinks=True) for name in sum(names, [])]
+        for path, mode in self.modes.items():
+            os.chmod(os.path.join(folder, path), mode)
+        return below
 
     def remove(self, folder):
         """Removes the folder."""
-        for path, kind in self.nodes:
-            if kind in MODES:
-                os.chmod(os.path.join(folder, path), 0o700)
+        for path in self.modes:
+            os.chmod(os.path.join(folder, path), 0o700)
         shutil.rmtree(folder)
+
+    def starts(self):
+        """The directories in which a walk may begin: those in which names can be looked up."""
+        shut = tuple(f"{path}/" for path, mode in self.modes.items() if mode == 0)
+        return ["", *(path for path, end in self.ends.items() if end == "/" and not f"{path}/".startswith(shut))]
 
 
 def links(source, directories, files, name):
@@ -173,26 +178,17 @@ def links(source, directories, files, name):
         place, own = source.choice(places), name(source)
         up = "../" * (place.count("/") + 1 if place else 0)
         goals = [up + target for target in [*targets, *files]] + ["missing", own]
-        yield (f"{place}/{own}" if place else own), f"link {source.choice(goals)}"
+        yield join(place, own), f"->{source.choice(goals)}"
 
 
 def tree(source, may_shut, name=name):
     """A tree of directories, files, links and, where it can be made, a directory that cannot be listed."""
-    nodes, directories = {}, []
-    for _ in range(source.randint(1, NODES)):
-        place = source.choice(["", *directories[-4:]])
-        path = f"{place}/{name(source)}" if place else name(source)
-        if path in nodes:
-            continue
-        nodes[path] = source.choice(["dir", "file"])
-        if nodes[path] == "dir" and path.count("/") + 1 < DEEPEST:
-            directories.append(path)
-    files = [path for path, kind in nodes.items() if kind == "file"]
-    for path, kind in links(source, directories, files, name):
-        nodes.setdefault(path, kind)
-    if may_shut and directories and source.random() < 0.3:
-        nodes[source.choice(directories)] = source.choice(list(MODES))
-    return Tree(tuple(nodes.items()))
+    found = grown(source, source.randint(1, NODES), name)
+    directories = [path for path, is_dir in found.items() if is_dir]
+    files = [path for path, is_dir in found.items() if not is_dir]
+    made = dict(links(source, directories, files, name)) | {path: "/" * is_dir for path, is_dir in found.items()}
+    is_shut = may_shut and directories and source.random() < 0.3
+    return Tree(made, {source.choice(directories): source.choice(MODES)} if is_shut else {})
 
 
 def framed(source, parts):
@@ -210,10 +206,9 @@ def component(source, own):
     """A component for a name: mostly one that matches it."""
     at = source.randrange(len(own))
     inner = source.choice(["?", f"[{own[at]}]", f"[!{own[at]}]", f"[.{own[at]}]"])
-    escaped = re.sub(r"[][?*]", r"[\g<0>]", own)
     widened = [own[:at] + inner + own[at + 1 :], own[:at] + "*" + own[source.randint(at, len(own)) :]]
     other = source.choice(FEW_COMPONENTS)
-    return source.choice([escaped, escaped, own.swapcase(), *widened, *widened, "*", "**", other])
+    return source.choice([escaped(own), escaped(own), own.swapcase(), *widened, *widened, "*", "**", other])
 
 
 def walk_pattern(source, paths):

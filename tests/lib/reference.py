@@ -37,6 +37,11 @@ def fault_of(text):
     return None
 
 
+def escaped(text):
+    """The pattern of a text alone."""
+    return re.sub(r"[][?*]", r"[\g<0>]", text)
+
+
 def components_of(pattern):
     """The components of a pattern. A separator at the end does not count."""
     return pattern.removeprefix("/").removesuffix("/").split("/")
@@ -83,17 +88,13 @@ def tokens_of(pattern):
 # Matches
 
 
-def folded(c):
-    return c.lower() if c.isascii() else c
-
-
 def holds(first, last, c, letters):
     """Whether the range from `first` to `last` holds a character."""
     if first <= c <= last:
         return True
-    low, high, middle = folded(first), folded(last), folded(c)
     if "i" not in letters or not (first + last + c).isascii():
         return False
+    low, high, middle = (first + last + c).lower()
     return low == high == middle or (low.isalpha() and high.isalpha() and low <= middle <= high)
 
 
@@ -192,9 +193,7 @@ def join(path, name):
 
 
 def child(path, name):
-    first, *others = path.split("/")
-    is_here = first == "." and all(piece in ("", ".") for piece in others)
-    return name if is_here else join(path, name)
+    return name if re.fullmatch(r"\.(/\.?)*", path) else join(path, name)
 
 
 class Walk:
@@ -204,12 +203,13 @@ class Walk:
     def __init__(self, pattern, letters, folder, rules=OURS):
         self.folder, self.letters, self.rules = folder, letters, rules
         self.start = "/" if pattern.startswith("/") else "."
-        self.parts = components_of(pattern)
+        parts = components_of(pattern)
+        self.parts = [part for at, part in enumerate(parts) if parts[at : at + 2] != ["**", "**"]]
         self.wants_directories = pattern.endswith("/")
 
     def marks(self):
         yield WORK + self.start
-        yield from self.enter(0, self.start, self.is_dir(self.start))
+        yield from self.enter(0, self.start)
 
     def is_dir(self, path):
         return path != "" and os.path.isdir(os.path.join(self.folder, path))
@@ -221,14 +221,14 @@ class Walk:
     def hides(self, name):
         return "d" in self.letters and name.startswith(".")
 
-    def enter(self, part, path, is_dir):
+    def enter(self, part, path):
         text = self.parts[part]
         if not set(text) & set("?*["):
             found = child(path, text)
             yield WORK + found
-            if is_dir if text in (".", "..") else self.exists(found):
-                yield from self.reach(part, found, self.is_dir(found))
-        elif is_dir:
+            if self.is_dir(path) if text in (".", "..") else self.exists(found):
+                yield from self.reach(part, found)
+        elif self.is_dir(path):
             yield from self.search(part, path, text)
 
     def search(self, part, path, text):
@@ -242,35 +242,26 @@ class Walk:
         for name in ("..", ".") if text.startswith(".") else ():
             if matches(text, name, self.letters):
                 yield WORK + join(path, name)
-                yield from self.reach(part, join(path, name), self.is_dir(join(path, name)))
+                yield from self.reach(part, join(path, name))
         for name in names:
             if not (self.rules.drops_dotted and self.hides(name)):
-                found = child(path, name)
-                yield from self.meet(part, found, name, self.is_dir(found))
+                yield from self.meet(part, child(path, name), name)
 
-    def reach(self, part, path, is_dir):
-        if part + 1 < len(self.parts):
-            yield from self.enter(part + 1, path, is_dir)
-        elif is_dir or not self.wants_directories:
-            yield FOUND + path
-
-    def meet(self, part, path, name, is_dir):
-        if self.parts[part] != "**":
-            yield from self.match_at(part, path, name, is_dir)
-            return
-        while self.parts[part + 1 : part + 2] == ["**"]:
-            part += 1
-        is_last = part + 1 == len(self.parts)
-        if not is_last:
-            yield from self.match_at(part + 1, path, name, is_dir)
-        if is_dir and (self.rules.enters_dotted or not self.hides(name)):
-            if is_last:
+    def meet(self, part, path, name):
+        is_recursive = self.parts[part] == "**"
+        number = part + 1 if is_recursive else part
+        if number < len(self.parts) and matches(self.parts[number], name, self.letters):
+            yield from self.reach(number, path)
+        if is_recursive and self.is_dir(path) and (self.rules.enters_dotted or not self.hides(name)):
+            if number == len(self.parts):
                 yield FOUND + path
-            yield from self.enter(part, path, True)
+            yield from self.enter(part, path)
 
-    def match_at(self, part, path, name, is_dir):
-        if matches(self.parts[part], name, self.letters):
-            yield from self.reach(part, path, is_dir)
+    def reach(self, part, path):
+        if part + 1 < len(self.parts):
+            yield from self.enter(part + 1, path)
+        elif not self.wants_directories or self.is_dir(path):
+            yield FOUND + path
 
 
 def within(marks, limit):
@@ -292,36 +283,12 @@ def within(marks, limit):
 
 def is_plain(pattern):
     """Whether the undivided pattern says what a walk finds."""
-    before = None
-    for component in components_of(pattern):
+    components = components_of(pattern)
+    for before, component in zip([None, *components], components):
         is_dotted = component.startswith(".") and set(component) & set("?*[")
         if component in ("", ".", "..") or (is_dotted and before != "**"):
             return False
-        before = component
     return walk_fault(pattern) is None
-
-
-@dataclass(frozen=True)
-class Key:
-    """A text of something that is there below the start, whether it is a directory, and whether that cannot be
-    listed. The start itself has the text `.`, or of the root `/`."""
-
-    text: str
-    is_dir: bool
-    is_shut: bool
-
-
-def key_of(place, text):
-    """The key of a place on the disk, as the current user sees it."""
-    is_dir = os.path.isdir(place)
-    return Key(text, is_dir, is_dir and not os.access(place, os.R_OK, effective_ids=True))
-
-
-def goals_of(pattern, keys, letters):
-    """The texts that a walk is to find: those of keys that the whole pattern matches, and whose kind it gives."""
-    wants_directories = pattern.endswith("/") or components_of(pattern)[-1] == "**"
-    given = (key.text for key in keys if key.text != "." and (key.is_dir or not wants_directories))
-    return {text for text in given if matches(pattern.removesuffix("/"), text, "s" + letters)}
 
 
 def is_ordered(pattern):
@@ -330,11 +297,16 @@ def is_ordered(pattern):
     return len(runs) <= 2, len(runs) == 1 or (len(runs) == 2 and "/" not in runs[1])
 
 
-def goal_fault(pattern, keys, goals, items):
-    """What is wrong with a walk of a plain pattern that gave these items, or None. `keys` are the start and what is
-    below it, and `goals` the texts of those that the walk is to find."""
+def goal_fault(pattern, letters, there, items):
+    """What is wrong with a walk of a plain pattern that gave these items, or None. `there` has the texts of the start,
+    as `.`, and of what is below it, each with its path on the disk. Of these a walk is to find those that the whole
+    pattern matches, and whose kind it gives."""
+    directories = {text for text, path in there.items() if os.path.isdir(path)}
+    wants_directories = pattern.endswith("/") or components_of(pattern)[-1] == "**"
+    given = directories if wants_directories else set(there)
+    goals = {text for text in given - {"."} if matches(pattern.removesuffix("/"), text, "s" + letters)}
+    shut = {text for text in directories if not os.access(there[text], os.R_OK, effective_ids=True)}
     paths, unread, refused = ([item[1:] for item in items if item[0] == sign] for sign in (FOUND, UNREAD, REFUSED))
-    shut = {key.text for key in keys if key.is_shut}
     below = tuple("" if path in (".", "/") else f"{path}/" for path in unread)
     missed = {text for text in goals - set(paths) if not text.startswith(below)} if not refused else set()
     if wrong := (set(paths) - goals) | (set(unread) - shut) | missed:

@@ -7,9 +7,9 @@ import subprocess
 from contextlib import contextmanager
 from pathlib import Path
 
-from lib.count import ROOT
+from lib.count import ROOT, built, run
 
-ANSWERS = ROOT / "crates/glob_vectors/out/glob_vectors"
+ANSWERS = built("glob_vectors")
 NOBODY = 65534
 SECONDS = 600
 
@@ -44,25 +44,27 @@ def ask(words, lines, folder=None):
     """An answer for each line. Where a folder is given, its user asks from there."""
     how = {"cwd": folder, **AS_USER} if folder else {}
     asked = "".join(f"{line}\n" for line in lines).encode()
-    done = subprocess.run(words, input=asked, capture_output=True, timeout=SECONDS, **how)
-    answers = done.stdout.decode().split("\n")[:-1]
-    if done.returncode or len(answers) != len(lines):
-        said = f"status {done.returncode}, {len(answers)} answers of {len(lines)} {done.stderr.decode()}"
+    status, output, errors = run(words, input=asked, timeout=SECONDS, text=False, **how)
+    answers = output.decode().split("\n")[:-1]
+    if status or len(answers) != len(lines):
+        said = f"status {status}, {len(answers)} answers of {len(lines)} {errors.decode()}"
         raise SystemExit(f"failed: {words}: {said}\n0 passed, 1 failed")
     return answers
 
 
 def original():
-    """The folder with the sources of the original crate, as its Debian package has them, and its version; or None."""
-    found = sorted(Path("/usr/share/cargo/registry").glob("glob-0.3.*"))
-    return (found[-1], found[-1].name.removeprefix("glob-")) if found else (None, None)
+    """The folder with the sources of the original crate, as its Debian package has them, or None."""
+    return max(Path("/usr/share/cargo/registry").glob("glob-0.3.*"), default=None)
 
 
-def built_over(crate, sources, folder, package=""):
-    """Builds the programs of a package in a folder, over the crate in another one. Cargo asks no registry."""
+def built_over(crate, sources, folder):
+    """Builds the programs of a package in a folder, over the crate in another one, and gives the folder of the programs.
+    Cargo asks no registry."""
     shutil.copytree(sources, folder)
     manifest = folder / "Cargo.toml"
+    package = 'package = "cadmiumdove", ' if crate == ROOT / "rust" else ""
     line = f'glob = {{ {package}path = "{crate}" }}'
     manifest.write_text(re.sub(r"(?m)^glob = .*", line, manifest.read_text(encoding="utf-8")), encoding="utf-8")
     env = {**os.environ, "CARGO_TARGET_DIR": str(folder / "target"), "RUSTFLAGS": "--cap-lints allow"}
     subprocess.run(["cargo", "build", "-q", "--release", "--offline"], cwd=folder, env=env, check=True)
+    return folder / "target/release"

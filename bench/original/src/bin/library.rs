@@ -1,14 +1,11 @@
 //! `crates/glob_bench`, over the Rust crate: the same words, work and output, and `clone PATTERN TIMES`.
 
 use glob::{MatchOptions, Pattern};
-use original::options_of;
+use original::{options_of, Result};
 use std::env;
-use std::error::Error;
 use std::fs;
 use std::hint::black_box;
 use std::time::Instant;
-
-type Result<T> = std::result::Result<T, Box<dyn Error>>;
 
 /// How many of the lines the pattern matches, `times` times over.
 fn count_matches(pattern: &Pattern, options: MatchOptions, lines: &[&str], times: u32) -> u64 {

@@ -2,8 +2,8 @@
 //! UTF-8 never matches. The exit status is 0 where a line matched, 1 where none did, 2 at a fault.
 
 use glob::{MatchOptions, Pattern};
+use original::{options_of, status, Result};
 use std::env;
-use std::error::Error;
 use std::io::{self, BufRead, BufWriter, Write};
 use std::process::ExitCode;
 use std::str;
@@ -32,36 +32,16 @@ fn filter_lines(
     Ok(count)
 }
 
-/// Does what the words after the program's name say, and answers how many lines matched.
-fn run(words: &[String]) -> Result<u64, Box<dyn Error>> {
-    let [command, letters @ .., pattern] = words else {
+/// Does what the words `match [-i] [-s] [-d] PATTERN` say, and answers how many lines matched.
+fn run(words: &[String]) -> Result<u64> {
+    let [_, letters @ .., pattern] = words else {
         return Err("usage: program match [-i] [-s] [-d] PATTERN".into());
     };
-    let mut options = MatchOptions::new();
-    for letter in letters {
-        match letter.as_str() {
-            "-i" => options.case_sensitive = false,
-            "-s" => options.require_literal_separator = true,
-            "-d" => options.require_literal_leading_dot = true,
-            _ => return Err(format!("no option: {letter}").into()),
-        }
-    }
-    if command != "match" {
-        return Err(format!("no command: {command}").into());
-    }
     let pattern = Pattern::new(pattern)?;
     let writer = BufWriter::new(io::stdout().lock());
-    Ok(filter_lines(&pattern, options, io::stdin().lock(), writer)?)
+    Ok(filter_lines(&pattern, options_of(&letters.concat()), io::stdin().lock(), writer)?)
 }
 
 fn main() -> ExitCode {
-    let words = env::args().skip(1).collect::<Vec<String>>();
-    match run(&words) {
-        Ok(0) => ExitCode::from(1),
-        Ok(_) => ExitCode::SUCCESS,
-        Err(error) => {
-            eprintln!("{error}");
-            ExitCode::from(2)
-        }
-    }
+    status(run(&env::args().skip(1).collect::<Vec<String>>()))
 }
