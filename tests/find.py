@@ -1,9 +1,10 @@
 #!/usr/bin/env python3
-"""Compares what `globs find` writes with a filter of all paths by tests/lib/reference.py: random trees on the disk,
-several patterns with braces, excluded paths, kinds and depths. Order and repeats count. The last line counts searches:
-'N passed, M failed'."""
+"""Compares what `globs find` writes with a filter of all paths by tests/lib/reference.py: random trees on the disk, with
+symbolic links, which are no directories, several patterns with braces, excluded paths, kinds and depths. Order and
+repeats count. The last line counts searches: 'N passed, M failed'."""
 
 import itertools
+import os
 import random
 import tempfile
 
@@ -37,10 +38,18 @@ def is_wanted(path, is_dir, options):
     return (kind == "" or (kind == "d") == is_dir) and path.count("/") < depth
 
 
+def some_end(source, path, tree):
+    """What `place` wants behind a path: it is a directory, a file, or a link to what may be a directory, also above."""
+    if tree[path]:
+        return "/"
+    target = os.path.relpath(source.choice([*tree, "."]), os.path.dirname(path) or ".")
+    return source.choice(["", f"->{target}"])
+
+
 def compare(count, source, top):
     """Compares one search, and gives whether any path is wanted, and whether any is not."""
     tree = make.grown(source, source.randint(0, 30), make.few_name, 0.7)
-    make.place(top, [path + "/" * is_dir for path, is_dir in tree.items()])
+    make.place(top, [path + some_end(source, path, tree) for path in tree])
     options, patterns = source.choice(OPTIONS), some_patterns(source)
     rules = [(source.choice([*tree] or ["b"]), source.random() < 0.5) for _ in range(source.randint(0, 3))]
     plain = ["/".join(it) for pattern in patterns for it in itertools.product(*pattern)]
