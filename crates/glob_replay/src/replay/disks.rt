@@ -165,7 +165,7 @@ static PATHS: &[Planted] = &[
     ("filling/", Torn(&[b"a\0"], OutOfMemory)),
     ("latin/", Dir(&[b"x\0", b"y\xffz\0d\0"])),
     ("odd/", Dir(&[b"a\0b/c\0"])),
-    ("unseen/ fills/", Dir(&[b"a\0"])),
+    ("unseen unseen/ fills/", Dir(&[b"a\0"])),
     ("c/", Dir(&[b"f\0one\0two\0"])),
     ("c/one/", Dir(&[b"f\0one\0"])),
     ("p/ ./p/./", Dir(BLOCKS)),
