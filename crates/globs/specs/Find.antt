@@ -3,6 +3,7 @@ pub mod Finding
 pub mod Order
 pub mod Outcomes
 pub mod Planning
+pub mod Searching
 pub mod Shallow
 pub mod ShallowTrees
 pub mod Skipping

@@ -2,7 +2,6 @@
 ghost use Rattle.std.specs.Prelude.{◌≡◌, ◌≢◌, ◌≤◌, false, true, map, IsTrue};
 ghost use Rattle.glob_console.specs.FoundPaths.{IsFindStatus, WritesFound};
 ghost use Rattle.glob_console.specs.Outcomes.{IsRefused};
-ghost use Rattle.glob_prune.specs.Pruning.{pruned};
 ghost use Rattle.glob_set.specs.BraceSets.{AreAccepted};
 ghost use Rattle.glob_tree.specs.Answers.{IsTold};
 ghost use Rattle.glob_tree.specs.Content.{Content};
@@ -11,7 +10,7 @@ ghost use Rattle.globs.specs.Find.Filtering.{is_wanted};
 ghost use Rattle.globs.specs.Find.Finding.{IsFound, WritesExactly};
 ghost use Rattle.globs.specs.Find.Outcomes.{Finds, FindsUnignored};
 ghost use Rattle.globs.specs.Find.Planning.{are_below, walk_listing, walk_text};
-ghost use Rattle.globs.specs.Find.Shallow.{opened};
+ghost use Rattle.globs.specs.Find.Searching.{searched};
 ghost use Rattle.globs.specs.Find.Skipping.{is_skipped};
 ghost use Rattle.globs.specs.Patterns.{set_of};
 
@@ -180,17 +179,17 @@ fn run_find<T: Tree, W: Write, E: Write>(
     ensures below { result ≢ 2 → are_below (map (λ p. p.now) patterns.now) ≡ true }
     ensures status { (c : Content) → IsTold (T.tells tree) c → IsFindStatus
         (is_wanted (set_of settings.options (map (λ p. p.now) patterns.now)) settings.kind
-        (pruned (is_skipped list.value settings.depth) (opened settings.depth c)))
-        (walk_listing (pruned (is_skipped list.value settings.depth) (opened settings.depth c))
+        (searched list.value settings c))
+        (walk_listing (searched list.value settings c)
         settings.options (map (λ p. p.now) patterns.now)) settings.limit result }
     ensures written { (c : Content) → IsTold (T.tells tree) c → WritesFound settings.end
         (is_wanted (set_of settings.options (map (λ p. p.now) patterns.now)) settings.kind
-        (pruned (is_skipped list.value settings.depth) (opened settings.depth c)))
-        (walk_listing (pruned (is_skipped list.value settings.depth) (opened settings.depth c))
+        (searched list.value settings c))
+        (walk_listing (searched list.value settings c)
         settings.options (map (λ p. p.now) patterns.now)) settings.limit
         (W.contents output.old) (W.contents output.new) result }
     ensures exact { (c : Content) → IsTold (T.tells tree) c
-        → IsTrue (is_readable (pruned (is_skipped list.value settings.depth) (opened settings.depth c))
+        → IsTrue (is_readable (searched list.value settings c)
         (walk_text settings.options (map (λ p. p.now) patterns.now)))
         → result ≢ 2 → WritesExactly settings.end
         (IsFound (is_skipped list.value settings.depth)

@@ -2,7 +2,6 @@
 use Rattle.std.specs.Prelude.{◌≡◌, ◌≢◌, ◌⊎◌, ℕ, true, List, Option, IsTrue}
 use Rattle.glob_console.specs.FoundPaths.{IsFindStatus, WritesFound}
 use Rattle.glob_console.specs.Outcomes.{IsRefused}
-use Rattle.glob_prune.specs.Pruning.{pruned}
 use Rattle.glob_rules.specs.Lists.{Ignores}
 use Rattle.glob_set.specs.BraceSets.{AreAccepted, AreAlternativesOf}
 use Rattle.glob_text.specs.Text.{Text}
@@ -13,7 +12,7 @@ use Rattle.globs.specs.Chosen.{Chosen}
 use Rattle.globs.specs.Find.Filtering.{is_wanted}
 use Rattle.globs.specs.Find.Finding.{IsFound, WritesExactly}
 use Rattle.globs.specs.Find.Planning.{are_below, walk_listing, walk_text}
-use Rattle.globs.specs.Find.Shallow.{opened}
+use Rattle.globs.specs.Find.Searching.{searched}
 use Rattle.globs.specs.Find.Skipping.{is_skipped}
 use Rattle.globs.specs.Ignoring.{HasRules}
 use Rattle.globs.specs.Patterns.{set_of}
@@ -30,7 +29,7 @@ Finds contents told settings list words old new status =
     × (status ≢ 2 → AreAccepted patterns × (are_below patterns ≡ true))
     × ((c : Content) → IsTold told c
     → let x = is_skipped list settings.depth in let set = set_of settings.options patterns in
-    let left = pruned x (opened settings.depth c) in
+    let left = searched list settings c in
     let wanted = is_wanted set settings.kind left in let marks = walk_listing left settings.options patterns in
     IsFindStatus wanted marks settings.limit status
     × WritesFound settings.end wanted marks settings.limit (contents old) (contents new) status
