@@ -73,7 +73,8 @@ impl Found {
         Ok(found)
     }
 
-    /// The items, and where the walk ended before it was done `~`, for want of memory, or `^` and the path of the refusal.
+    /// The items, and where the walk ended before it was done: `~` where an allocation failed, or `^` and the path of
+    /// the refusal.
     pub fn text(&self) -> Result<String, AllocError> {
         let (alloc, items, refused) = (*self.items.allocator(), &self.items, &self.refused);
         match self.end {
