@@ -1,8 +1,9 @@
 //! The lines of names that are not UTF-8, and of paths that could not be looked up.
-ghost use Rattle.std.specs.Prelude.{◌≡◌, Some};
+ghost use Rattle.std.specs.Prelude.{◌≡◌, ◌++◌, Some, codes};
 ghost use Rattle.std.specs.Fmt.{WritesOnOk};
 ghost use Rattle.std.specs.List.{flat_map};
 ghost use Rattle.globs.specs.Find.Strays.{byte_words, is_shown, stray_words};
+ghost use Rattle.globs.specs.Visible.{visible};
 
 use crate::PREFIX;
 use crate::explain::hints::without_here;
@@ -74,9 +75,17 @@ pub struct UnsettledLine<'a> {
 
 impl Display for UnsettledLine<'_> {
     fn fmt<W: fmt::Write>(&self, f: &mut fmt::Formatter<W>) -> fmt::Result {
-        let path = Visible { text: self.path };
-        write!(f, "{path}: {}", self.error)
+        write_path(f, self.path)?;
+        write!(f, "{}", self.error)
     }
+}
+
+/// Writes a path, in which control characters are seen, and what is between it and the reason.
+fn write_path<W: fmt::Write>(f: &mut fmt::Formatter<W>, path: &str) -> fmt::Result
+    ensures { WritesOnOk W.write_str_gives f.old result (visible path.now ++ codes ": ") f.new }
+{
+    let path = Visible { text: path };
+    write!(f, "{path}: ")
 }
 
 /// The line of a name. Bytes that are no printable ASCII are written as `\xff`, so that no escape reaches a
