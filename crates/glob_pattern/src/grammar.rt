@@ -1,10 +1,12 @@
-ghost use Rattle.std.specs.Prelude.{◌≡◌, ◌+◌, ◌<◌, ◌≤◌, List, [], ◌∷◌, ◌++◌, length, IsTrue, IfSome, IfOk, IfErr, OnOk};
+ghost use Rattle.std.specs.Prelude.{◌≡◌, ◌+◌, ◌<◌, ◌≤◌, List, [], ◌∷◌, ◌++◌, length, Some, IsTrue, IfSome, IfOk, IfErr, OnOk};
 ghost use Rattle.std.specs.Str.{chars, IsAscii};
-ghost use Rattle.glob_text.specs.Text.{has, opens};
+ghost use Rattle.glob_text.specs.Text.{Has, has, opens};
+ghost use Rattle.glob_pattern.specs.Grammar.Characters.{star, open_bracket};
 ghost use Rattle.glob_pattern.specs.Grammar.Tokens.{Token as Kept, is_recursive, ends_recursive, tokens_of_units};
 ghost use Rattle.glob_pattern.specs.Grammar.Units.{HasTokens};
-ghost use Rattle.glob_pattern.specs.Grammar.Faults.{Refuses, fault_at};
-ghost use Rattle.glob_pattern.specs.Computing.Reading.{stars_at, close_from, content_from, bracket_at, unit_at};
+ghost use Rattle.glob_pattern.specs.Grammar.Faults.{Refuses};
+ghost use Rattle.glob_pattern.specs.Computing.Reading.{close_from, unit_at, RefusesAt};
+ghost use Rattle.glob_pattern.specs.declared.error.PatternRefusal.TheVariants.{Syntax};
 
 use crate::error::{PatternError, PatternRefusal};
 use crate::token::Token;
@@ -66,17 +68,32 @@ fn read_text<A: Allocator + Copy>(
     let mut tokens = Vec::with_capacity(alloc, text.len().min(FEW))?;
     let mut place = 0;
     while place < text.len() {
-        let Some((token, end)) = unit_at(alloc, text, place)? else {
-            return Err(PatternRefusal::Syntax(fault_at(text, place)));
-        };
-        push_unit(&mut tokens, token)?;
-        place = end;
+        match text[place] {
+            '?' => {
+                tokens.push(Token::AnyChar)?;
+                place += 1;
+            }
+            '*' => {
+                let (token, end) = stars_at(text, place)?;
+                push_stars(&mut tokens, token)?;
+                place = end;
+            }
+            '[' => {
+                let (token, end) = bracket_at(alloc, text, place)?;
+                tokens.push(token)?;
+                place = end;
+            }
+            c => {
+                tokens.push(Token::Literal(c))?;
+                place += 1;
+            }
+        }
     }
     Ok(tokens)
 }
 
-/// Puts the token of the next unit at the end. Neighbouring recursive wildcards become one.
-fn push_unit<A: Allocator>(
+/// Puts the token of stars at the end. Neighbouring recursive wildcards become one.
+fn push_stars<A: Allocator>(
     tokens: &mut Vec<Token<Bracket<A>>, A>,
     token: Token<Bracket<A>>,
 ) -> Result<(), AllocError>
@@ -101,73 +118,50 @@ fn ends_recursive<A: Allocator>(tokens: &[Token<Bracket<A>>]) -> bool
     }
 }
 
-/// The unit at a place, as its token and the place after it, or `None`.
-fn unit_at<A: Allocator + Copy>(
-    alloc: A,
+/// The stars at a place as a unit: its token, and the place after it.
+fn stars_at<A: Allocator>(
     text: &[char],
     place: usize,
-) -> Result<Option<(Token<Bracket<A>>, usize)>, AllocError>
-    requires { place < length text.now }
-    ensures { IfOk result (λ unit. unit ≡ unit_at text.now place) }
-{
-    match text[place] {
-        '?' => Ok(Some((Token::AnyChar, place + 1))),
-        '*' => Ok(stars_at(text, place)),
-        '[' => bracket_at(alloc, text, place),
-        c => Ok(Some((Token::Literal(c), place + 1))),
-    }
-}
-
-/// The stars at a place as a unit.
-fn stars_at<A: Allocator>(text: &[char], place: usize) -> Option<(Token<Bracket<A>>, usize)>
-    requires { place < length text.now }
-    ensures { result ≡ stars_at text.now place }
+) -> Result<(Token<Bracket<A>>, usize), PatternRefusal>
+    requires { Has text.now place star }
+    ensures unit { IfOk result (λ unit. unit_at text.now place ≡ Some unit) }
+    ensures fault { IfErr result (RefusesAt text.now place) }
 {
     if !has(text, place + 1, '*') {
-        Some((Token::AnySequence, place + 1))
-    } else if has(text, place + 2, '*') || !opens(text, place) {
-        None
+        Ok((Token::AnySequence, place + 1))
+    } else if has(text, place + 2, '*') {
+        Err(fault(place + 2, WILDCARDS))
+    } else if !opens(text, place) {
+        Err(fault(place - 1, RECURSIVE))
     } else if has(text, place + 2, '/') {
-        Some((Token::Recursive, place + 3))
+        Ok((Token::Recursive, place + 3))
     } else if place + 2 == text.len() {
-        Some((Token::Recursive, place + 2))
+        Ok((Token::Recursive, place + 2))
     } else {
-        None
+        Err(fault(place + 2, RECURSIVE))
     }
 }
 
-/// The bracket at a place as a unit.
+/// The bracket at a place as a unit: its token, and the place after it. The first character is never its `]`.
 fn bracket_at<A: Allocator + Copy>(
     alloc: A,
     text: &[char],
     place: usize,
-) -> Result<Option<(Token<Bracket<A>>, usize)>, AllocError>
-    requires { place < length text.now }
-    ensures { IfOk result (λ unit. unit ≡ bracket_at text.now place) }
+) -> Result<(Token<Bracket<A>>, usize), PatternRefusal>
+    requires { Has text.now place open_bracket }
+    ensures unit { IfOk result (λ unit. unit_at text.now place ≡ Some unit) }
+    ensures fault { IfErr result (RefusesAt text.now place) }
 {
-    if has(text, place + 1, '!') {
-        let found = content_from(alloc, text, place + 2)?;
-        Ok(found.map(|(bracket, end)| (Token::NoneOf(bracket), end)))
-    } else {
-        let found = content_from(alloc, text, place + 1)?;
-        Ok(found.map(|(bracket, end)| (Token::OneOf(bracket), end)))
-    }
-}
-
-/// A bracket's content from a place on, and the place after its `]`. The first character is never that `]`.
-fn content_from<A: Allocator>(
-    alloc: A,
-    text: &[char],
-    start: usize,
-) -> Result<Option<(Bracket<A>, usize)>, AllocError>
-    requires { start ≤ length text.now + 1 }
-    ensures { IfOk result (λ found. found ≡ content_from text.now start) }
-{
-    let Some(close) = close_from(text, start + 1) else {
-        return Ok(None);
-    };
+    let is_inverted = has(text, place + 1, '!');
+    let start = if is_inverted { place + 2 } else { place + 1 };
+    let close = close_from(text, start + 1).ok_or(fault(place, RANGE))?;
     let bracket = Bracket::read(alloc, &text[start..close])?;
-    Ok(Some((bracket, close + 1)))
+    let token = if is_inverted {
+        Token::NoneOf(bracket)
+    } else {
+        Token::OneOf(bracket)
+    };
+    Ok((token, close + 1))
 }
 
 /// The place of the first `]` from a place on.
@@ -185,33 +179,11 @@ fn close_from(text: &[char], start: usize) -> Option<usize>
     None
 }
 
-/// The fault at a place where no unit starts: where it is, in characters, and what it is.
-fn fault_at(text: &[char], place: usize) -> PatternError
-    requires { place < length text.now }
-    ensures place { result.pos ≡ (fault_at text.now place).place }
-    ensures message { result.msg.now ≡ (fault_at text.now place).message }
+/// A fault: where it is, in characters, and what it is.
+fn fault(pos: usize, msg: &'static str) -> PatternRefusal
+    ensures { result ≡ Syntax (record { pos = pos; msg = msg.entry }) }
 {
-    if !has(text, place, '*') {
-        PatternError {
-            pos: place,
-            msg: RANGE,
-        }
-    } else if has(text, place + 2, '*') {
-        PatternError {
-            pos: place + 2,
-            msg: WILDCARDS,
-        }
-    } else if !opens(text, place) {
-        PatternError {
-            pos: place - 1,
-            msg: RECURSIVE,
-        }
-    } else {
-        PatternError {
-            pos: place + 2,
-            msg: RECURSIVE,
-        }
-    }
+    PatternRefusal::Syntax(PatternError { pos, msg })
 }
 
 const WILDCARDS: &'static str = "wildcards are either regular `*` or recursive `**`";

@@ -1,11 +1,16 @@
 -- Reading by the computation answers what the grammar says.
-use Rattle.std.proofs.Common.{◌≡◌, ℕ, zero, suc, ◌+◌, ◌<◌, ◌≤◌, leb, List, [], ◌∷◌, ◌++◌, length, Option, Some, None, Result, Ok, Err, refl, ap, sym, ◌∙◌, subst, arith}
-use Rattle.std.proofs.lemmas.Bool.{cond_both, leb-true, leb-false, le-leb, lt-leb}
-use Rattle.glob_text.specs.Text.{Text}
-use Rattle.glob_pattern.specs.Grammar.Tokens.{Token, tokens_of_units}
+use Rattle.std.proofs.Common.{◌≡◌, ℕ, zero, suc, ◌+◌, ◌<◌, ◌≤◌, false, leb, List, [], ◌∷◌, ◌++◌, length, Option, Some, None, Result, Ok, Err, refl, ap, sym, ◌∙◌, subst, arith}
+use Rattle.std.proofs.lemmas.Bool.{cond_both, leb-true, leb-false, le-leb, lt-leb, and_left}
+use Rattle.glob_text.specs.Text.{Text, Has}
+use Rattle.glob_pattern.specs.Grammar.Characters.{open_bracket}
+use Rattle.glob_pattern.specs.Grammar.Tokens.{Token, is_recursive, ends_recursive, tokens_of_units}
 use Rattle.glob_pattern.specs.Grammar.Units.{UnitAt, UnitsBetween, HasTokens}
-use Rattle.glob_pattern.specs.Grammar.Faults.{Fault, fault_at, NoUnitAt, IsFault}
-use Rattle.glob_pattern.specs.Computing.Reading.{unit_at, reading_with_first, reading_after_unit, units_from, tokens_of_reading, reading_of}
+use Rattle.glob_pattern.specs.Grammar.Faults.{Fault, fault_at, NoUnitAt, IsFault, Refuses}
+use Rattle.glob_pattern.specs.Computing.Reading.{unit_at, RefusesAt, reading_with_first, reading_after_unit, units_from, tokens_of_reading, reading_of}
+use Rattle.glob_pattern.specs.declared.token.Token.TheVariants.{Literal, AnyChar, AnySequence, Recursive, OneOf, NoneOf}
+use Rattle.glob_pattern.specs.declared.error.PatternRefusal.{PatternRefusal}
+use Rattle.glob_pattern.specs.declared.error.PatternRefusal.TheVariants.{Syntax, Memory}
+use Rattle.glob_pattern.proofs.GrammarLemmas.Folding.{tokens_of_units-push_other}
 use Rattle.glob_pattern.proofs.GrammarLemmas.Units.{IsClear, UnitAt-within, IsClear-after, Stands, Stands-unit_at, unit_at-UnitAt, NoUnitAt-None}
 
 -- Units reach on, and not past the end.
@@ -136,17 +141,44 @@ reading_of-IsFault text fault is =
 
 -- The tokens are those of the units up to place f.
 abbrev pub HasRead : Text → List Token → ℕ → Type 0
-HasRead text tokens f = (units : List Token) × UnitsBetween text 0 units f × (tokens ≡ tokens_of_units units)
+HasRead text tokens f =
+    (f ≤ length text) × IsClear text f × (units : List Token) × UnitsBetween text 0 units f × (tokens ≡ tokens_of_units units)
+
+-- nothing so far
+pub HasRead-start : (text : Text) → HasRead text [] 0
+HasRead-start text = (omega arith, IsClear-start text, [], refl, refl)
 
 -- one more unit
 pub HasRead-more : (text : Text) (tokens more : List Token) (f : ℕ) (t : Token) (e : ℕ) → HasRead text tokens f → UnitAt text f t e → ((units : List Token) → tokens ≡ tokens_of_units units → more ≡ tokens_of_units (units ++ t ∷ [])) → HasRead text more e
 HasRead-more text tokens more f t e has unit pushed =
-    (has.0 ++ t ∷ [], UnitsBetween-push text 0 has.0 f t e has.1 unit, pushed has.0 has.2)
+    ((UnitAt-within text f t e unit).1, IsClear-after text f t e unit, has.2 ++ t ∷ [], UnitsBetween-push text 0 has.2 f t e has.3 unit, pushed has.2 has.4)
 
--- no unit is found
-pub IsFault-HasRead : (text : Text) (tokens : List Token) (f place : ℕ) (message : List ℕ) → HasRead text tokens f → f < length text → unit_at text f ≡ None → place ≡ (fault_at text f).place → message ≡ (fault_at text f).message → IsFault text (record { place = place; message = message })
+-- one more unit that is not recursive
+pub HasRead-push : (text : Text) (tokens : List Token) (f : ℕ) (t : Token) (e : ℕ) → HasRead text tokens f → UnitAt text f t e → is_recursive t ≡ false → HasRead text (tokens ++ t ∷ []) e
+HasRead-push text tokens f t e has unit other =
+    HasRead-more text tokens (tokens ++ t ∷ []) f t e has unit
+    (λ units same. tokens_of_units-push_other tokens units t (and_left (is_recursive t) (ends_recursive tokens) other) same)
+
+-- A unit that begins with a bracket is not recursive.
+pub UnitAt-bracket : (text : Text) (f : ℕ) (t : Token) (e : ℕ) → UnitAt text f t e → Has text f open_bracket → is_recursive t ≡ false
+UnitAt-bracket text f (Literal c) e unit at = refl
+UnitAt-bracket text f AnyChar e unit at = refl
+UnitAt-bracket text f AnySequence e unit at = refl
+UnitAt-bracket text f Recursive e unit at =
+    let stars = unit.0.0 f (omega arith) (omega arith) in
+    absurd (omega (arith, at.1, stars.1))
+UnitAt-bracket text f (OneOf entries) e unit at = refl
+UnitAt-bracket text f (NoneOf entries) e unit at = refl
+
+-- all units
+pub HasTokens-HasRead : (text : Text) (tokens : List Token) → HasRead text tokens (length text) → HasTokens text tokens
+HasTokens-HasRead text tokens has = (has.2, has.3, has.4)
+
+-- A refusal where no unit is found, after those that were read, is one of the text.
+pub Refuses-HasRead : (text : Text) (tokens : List Token) (f : ℕ) (refusal : PatternRefusal) → HasRead text tokens f → f < length text → RefusesAt text f refusal → Refuses text refusal
 unfolding IsFault
-IsFault-HasRead text tokens f place message has within none same_place same_message =
+Refuses-HasRead text tokens f (Syntax e) has within at =
     let told = fault_at text f in
     let made : ℕ → List ℕ → Fault = λ p m. record { place = p; message = m } in
-    (f, has.0, has.1, within, NoUnitAt-None text f none, ap (λ p. made p message) same_place ∙ ap (made told.place) same_message)
+    (f, has.2, has.3, within, NoUnitAt-None text f at.0, ap (λ p. made p e.msg.now) at.1 ∙ ap (made told.place) at.2)
+Refuses-HasRead text tokens f Memory has within at = tt

@@ -1,6 +1,7 @@
 -- The unit that the computation finds at a place is the one that is there.
 use Rattle.std.proofs.Common.{◌≡◌, ◌≢◌, ℕ, ◌+◌, ◌-◌, ◌<◌, ◌≤◌, Bool, true, false, not, ◌||◌, cond, eqb, List, length, get_or, Option, Some, None, refl, ap, sym, ◌∙◌, subst, inl, inr, arith}
 use Rattle.std.specs.Option.{option_map}
+use Rattle.std.proofs.lemmas.Grind.{get_or_default_zero}
 use Rattle.std.proofs.lemmas.Bool.{cond_both, cases_lt, eqb-true, eqb-false, eq-eqb, ne_eqb, or_from, or_parts, not-true, not-false, not_from_true, not_from_false, false_from_ne_true, both_ways}
 use Rattle.glob_text.specs.Characters.{slash}
 use Rattle.glob_pattern.specs.Grammar.Characters.{star, question_mark, open_bracket, close_bracket, exclamation_mark}
@@ -22,6 +23,10 @@ IsClear text f = Has text f star → 0 < f → ¬ (Has text (f - 1) star)
 -- equal places have the same character
 Has-at : (text : Text) (k j c : ℕ) → k ≡ j → Has text k c → Has text j c
 Has-at text k j c e at = subst (λ i. Has text i c) e at
+
+-- the character that is read at a place
+pub Has-read : (text : Text) (k c : ℕ) → k < length text → c ≡ get_or text k c → Has text k c
+Has-read text k c within read = (within, sym (read ∙ get_or_default_zero text k c within))
 
 -- one place has one character
 Has-same : (text : Text) (k c d : ℕ) → Has text k c → Has text k d → c ≡ d

@@ -1,5 +1,5 @@
 -- Reading a pattern, as a computation: its tokens or its fault.
-use Rattle.std.specs.Prelude.{ℕ, zero, suc, ◌+◌, ◌||◌, not, nat_le, ◌==◌, if◌then◌else◌, List, [], ◌∷◌, length, drop, slice_index, Option, Some, None, Result, Ok, Err, option_map}
+use Rattle.std.specs.Prelude.{◌≡◌, ℕ, zero, suc, ◌+◌, ◌||◌, not, nat_le, ◌==◌, if◌then◌else◌, List, [], ◌∷◌, length, drop, slice_index, Option, Some, None, Result, Ok, Err, option_map, ⊤}
 use Rattle.std.specs.List.{position_from}
 use Rattle.glob_text.specs.Characters.{slash}
 use Rattle.glob_pattern.specs.Grammar.Characters.{star, question_mark, open_bracket, close_bracket, exclamation_mark}
@@ -7,6 +7,8 @@ use Rattle.glob_text.specs.Text.{Text, has, opens, between}
 use Rattle.glob_pattern.specs.Grammar.Brackets.{entries_of}
 use Rattle.glob_pattern.specs.Grammar.Tokens.{Token, tokens_of_units}
 use Rattle.glob_pattern.specs.Grammar.Faults.{Fault, fault_at}
+use Rattle.glob_pattern.specs.declared.error.PatternRefusal.{PatternRefusal}
+use Rattle.glob_pattern.specs.declared.error.PatternRefusal.TheVariants.{Syntax, Memory}
 use Rattle.glob_pattern.specs.declared.token.bracket.Entry.{Entry}
 use Rattle.glob_pattern.specs.declared.token.Token.TheVariants.{Literal, AnyChar, AnySequence, Recursive, OneOf, NoneOf}
 
@@ -22,11 +24,6 @@ stars_at text f =
 -- the place of the first `]` from place i on
 abbrev pub close_from : Text → ℕ → Option ℕ
 close_from text i = position_from (λ c. c == close_bracket) i (drop i text)
-
--- the entries of a bracket whose content begins at place i, and the place after its `]`
-abbrev pub content_from : Text → ℕ → Option (List Entry × ℕ)
-content_from text i =
-    option_map (λ k. (entries_of (between text i k), k + 1)) (close_from text (i + 1))
 
 -- a bracket whose content begins at place i
 abbrev pub bracket_from : (List Entry → Token) → Text → ℕ → Option (Token × ℕ)
@@ -46,6 +43,12 @@ unit_at text f =
     else if slice_index text f == star then stars_at text f
     else if slice_index text f == open_bracket then bracket_at text f
     else Some (Literal (slice_index text f), f + 1)
+
+-- what a refusal reports where no unit is found at place f: the fault there, or a failed allocation
+abbrev pub RefusesAt : Text → ℕ → PatternRefusal → Type 0
+RefusesAt text f (Syntax e) =
+    (unit_at text f ≡ None) × (e.pos ≡ (fault_at text f).place) × (e.msg.now ≡ (fault_at text f).message)
+RefusesAt text f Memory = ⊤
 
 -- a token before those that were read
 abbrev pub reading_with_first : Token → Result (List Token) Fault → Result (List Token) Fault

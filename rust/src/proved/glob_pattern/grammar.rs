@@ -42,17 +42,32 @@ fn read_text(text: &[char]) -> Result<Vec<Token<Bracket>>, PatternError> {
     let mut tokens = Vec::with_capacity(text.len().min(FEW));
     let mut place = 0;
     while place < text.len() {
-        let Some((token, end)) = unit_at(text, place) else {
-            return Err(fault_at(text, place));
-        };
-        push_unit(&mut tokens, token);
-        place = end;
+        match text[place] {
+            '?' => {
+                tokens.push(Token::AnyChar);
+                place += 1;
+            }
+            '*' => {
+                let (token, end) = stars_at(text, place)?;
+                push_stars(&mut tokens, token);
+                place = end;
+            }
+            '[' => {
+                let (token, end) = bracket_at(text, place)?;
+                tokens.push(token);
+                place = end;
+            }
+            c => {
+                tokens.push(Token::Literal(c));
+                place += 1;
+            }
+        }
     }
     Ok(tokens)
 }
 
-/// Puts the token of the next unit at the end. Neighbouring recursive wildcards become one.
-fn push_unit(tokens: &mut Vec<Token<Bracket>>, token: Token<Bracket>) {
+/// Puts the token of stars at the end. Neighbouring recursive wildcards become one.
+fn push_stars(tokens: &mut Vec<Token<Bracket>>, token: Token<Bracket>) {
     if token.is_recursive() && ends_recursive(tokens.as_slice()) {
         return;
     }
@@ -67,49 +82,31 @@ fn ends_recursive(tokens: &[Token<Bracket>]) -> bool {
     }
 }
 
-/// The unit at a place, as its token and the place after it, or `None`.
-fn unit_at(text: &[char], place: usize) -> Option<(Token<Bracket>, usize)> {
-    match text[place] {
-        '?' => Some((Token::AnyChar, place + 1)),
-        '*' => stars_at(text, place),
-        '[' => bracket_at(text, place),
-        c => Some((Token::Literal(c), place + 1)),
-    }
-}
-
-/// The stars at a place as a unit.
-fn stars_at(text: &[char], place: usize) -> Option<(Token<Bracket>, usize)> {
+/// The stars at a place as a unit: its token, and the place after it.
+fn stars_at(text: &[char], place: usize) -> Result<(Token<Bracket>, usize), PatternError> {
     if !has(text, place + 1, '*') {
-        Some((Token::AnySequence, place + 1))
-    } else if has(text, place + 2, '*') || !opens(text, place) {
-        None
+        Ok((Token::AnySequence, place + 1))
+    } else if has(text, place + 2, '*') {
+        Err(fault(place + 2, WILDCARDS))
+    } else if !opens(text, place) {
+        Err(fault(place - 1, RECURSIVE))
     } else if has(text, place + 2, '/') {
-        Some((Token::Recursive, place + 3))
+        Ok((Token::Recursive, place + 3))
     } else if place + 2 == text.len() {
-        Some((Token::Recursive, place + 2))
+        Ok((Token::Recursive, place + 2))
     } else {
-        None
+        Err(fault(place + 2, RECURSIVE))
     }
 }
 
-/// The bracket at a place as a unit.
-fn bracket_at(text: &[char], place: usize) -> Option<(Token<Bracket>, usize)> {
-    if has(text, place + 1, '!') {
-        let found = content_from(text, place + 2);
-        found.map(|(bracket, end)| (Token::NoneOf(bracket), end))
-    } else {
-        let found = content_from(text, place + 1);
-        found.map(|(bracket, end)| (Token::OneOf(bracket), end))
-    }
-}
-
-/// A bracket's content from a place on, and the place after its `]`. The first character is never that `]`.
-fn content_from(text: &[char], start: usize) -> Option<(Bracket, usize)> {
-    let Some(close) = close_from(text, start + 1) else {
-        return None;
-    };
+/// The bracket at a place as a unit: its token, and the place after it. The first character is never its `]`.
+fn bracket_at(text: &[char], place: usize) -> Result<(Token<Bracket>, usize), PatternError> {
+    let is_inverted = has(text, place + 1, '!');
+    let start = if is_inverted { place + 2 } else { place + 1 };
+    let close = close_from(text, start + 1).ok_or(fault(place, RANGE))?;
     let bracket = Bracket::read(&text[start..close]);
-    Some((bracket, close + 1))
+    let token = if is_inverted { Token::NoneOf(bracket) } else { Token::OneOf(bracket) };
+    Ok((token, close + 1))
 }
 
 /// The place of the first `]` from a place on.
@@ -122,17 +119,9 @@ fn close_from(text: &[char], start: usize) -> Option<usize> {
     None
 }
 
-/// The fault at a place where no unit starts: where it is, in characters, and what it is.
-fn fault_at(text: &[char], place: usize) -> PatternError {
-    if !has(text, place, '*') {
-        PatternError { pos: place, msg: RANGE }
-    } else if has(text, place + 2, '*') {
-        PatternError { pos: place + 2, msg: WILDCARDS }
-    } else if !opens(text, place) {
-        PatternError { pos: place - 1, msg: RECURSIVE }
-    } else {
-        PatternError { pos: place + 2, msg: RECURSIVE }
-    }
+/// A fault: where it is, in characters, and what it is.
+fn fault(pos: usize, msg: &'static str) -> PatternError {
+    PatternError { pos, msg }
 }
 
 const WILDCARDS: &str = "wildcards are either regular `*` or recursive `**`";
