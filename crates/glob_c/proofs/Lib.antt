@@ -1,5 +1,5 @@
 pub mod LooseValues
 pub mod Messages
+pub mod SlotBoxes
 pub mod SlotValues
-pub mod WalkSlotValues
 pub mod Written

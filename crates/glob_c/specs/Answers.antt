@@ -38,10 +38,6 @@ empty = 7
 abbrev pub not_asked : ℕ
 not_asked = 9
 
--- the text is no name
-abbrev pub no_name : ℕ
-no_name = 10
-
 -- the text does not match
 abbrev pub no : ℕ
 no = 0

@@ -1,29 +1,13 @@
--- What a slot of a walk owns, and what a call does to its walk.
+-- What a call does to the walk of a slot.
 use Rattle.std.specs.Prelude.{◌≡◌, ℕ, List, []}
 use Rattle.std.specs.declared.io.ErrorKind.{ErrorKind}
 use Rattle.glob_tree.specs.Content.{Content, DirEntry}
 use Rattle.glob_walk.specs.Machines.{Ends}
 use Rattle.glob_walk.specs.Marks.{Item, Mark}
 use Rattle.glob_walk.specs.Driven.{HasGiven, GivesNext}
-use base.Fml.{Fml, ftrue}
-use denote.RattleType.{RattleType}
-use denote.RawPtr.{Ptr}
-use Rattle.std.specs.contracts.impls.GlobalAllocator.TheImpl.{ghosts}
 use Rattle.std.specs.declared.option.Option.{Option}
 use Rattle.std.specs.declared.option.Option.TheVariants.{None, Some}
-use Rattle.std_alloc.specs.Box.Ownership.{box_owns}
-use Rattle.glob_c.specs.Slots.{c_heap}
 use Rattle.glob_c.specs.Sessions.{Sitting, Counts, entries_so_far, kind_of, AreListed, IsUnread}
-use Rattle.glob_c.specs.contracts.session.Session as session
-
--- a walk over the heap of the C library
-abbrev pub SessionRow : RattleType
-SessionRow = session.the_row
-
--- an empty slot owns nothing, and one with a walk its box
-abbrev pub walk_owns : Ptr → Option Sitting → Fml
-walk_owns p None = ftrue
-walk_owns p (Some walk) = box_owns (ghosts.dealloc_token c_heap) SessionRow p walk
 
 -- the slot has a walk that has done nothing yet, over this listing
 abbrev pub IsBegun : List Mark → Content → Option Sitting → Type 0

@@ -14,6 +14,7 @@ pub struct Handle {
     /// Whether the slot has a pattern.
     full: bool,
     ghost tied: { full ≡ is_some slot.text },
+    ghost no_walk: { slot.walk ≡ None },
 }
 
 impl Handle {
@@ -32,7 +33,7 @@ impl Handle {
         let Handle { slot, full: _ } = mem::replace(
             self,
             Handle {
-                slot: Slot::of(Loose::of(pattern)),
+                slot: Slot::of_pattern(Loose::of(pattern)),
                 full: true,
             },
         );
@@ -53,7 +54,7 @@ impl Handle {
             },
         );
         if full {
-            Some(slot.into_loose(alloc).into_box())
+            Some(slot.into_pattern(alloc).into_box())
         } else {
             slot.close();
             None

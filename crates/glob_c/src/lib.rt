@@ -10,4 +10,3 @@ mod session;
 mod slot;
 mod walk;
 mod walk_handle;
-mod walk_slot;

@@ -1,32 +1,35 @@
 ghost use Rattle.std.specs.Prelude.{◌≡◌, ℕ, List, IsSome};
 ghost use Rattle.std.specs.declared.option.Option.{Option};
 ghost use Rattle.std.specs.declared.option.Option.TheVariants.{None, Some};
+ghost use Rattle.glob_c.specs.Sessions.{Sitting};
 ghost use Rattle.glob_c.specs.Slots.{slot_owns};
 
 use crate::loose::Loose;
+use crate::session::Session;
 use glob_pattern::Pattern;
 use std::alloc::Global;
 use std::marker::Model;
 use std::ptr;
 
-/// A pointer to nothing, or to the pattern of a text, whose memory it owns.
+/// A pointer to nothing, to the pattern of a text, or to a walk, whose memory it owns.
 #[repr(C)]
 pub struct Slot {
     at: *mut u8,
     pub ghost text: { Option (List ℕ) },
+    pub ghost walk: { Option Sitting },
 }
 
 impl Model for Slot {
-    ghost also_owns = { λ s. slot_owns s.at s.text };
+    ghost also_owns = { λ s. slot_owns s.at s.text s.walk };
 }
 
-/// A slot may go to another thread, since its pattern may.
+/// A slot may go to another thread, since a pattern and a walk may.
 unsafe impl Send for Slot {}
 
 impl Slot {
-    /// A slot with no pattern.
+    /// A slot with nothing.
     pub(crate) fn empty() -> Slot
-        ensures { result.text ≡ None }
+        ensures { (result.text ≡ None) × (result.walk ≡ None) }
     {
         Slot {
             at: ptr::null_mut(),
@@ -34,15 +37,23 @@ impl Slot {
     }
 
     /// A slot with the pattern of the box.
-    pub(crate) fn of(pattern: Loose<Pattern<Global>, Global>) -> Slot
-        ensures { result.text ≡ Some pattern.value }
+    pub(crate) fn of_pattern(pattern: Loose<Pattern<Global>, Global>) -> Slot
+        ensures { (result.text ≡ Some pattern.value) × (result.walk ≡ None) }
     {
         let Loose { at, alloc: _ } = pattern;
         Slot { at: at as *mut u8 }
     }
 
+    /// A slot with the walk of the box.
+    pub(crate) fn of_walk(session: Loose<Session, Global>) -> Slot
+        ensures { (result.text ≡ None) × (result.walk ≡ Some session.value) }
+    {
+        let Loose { at, alloc: _ } = session;
+        Slot { at: at as *mut u8 }
+    }
+
     /// The box of the slot's pattern.
-    pub(crate) fn into_loose(self, alloc: Global) -> Loose<Pattern<Global>, Global>
+    pub(crate) fn into_pattern(self, alloc: Global) -> Loose<Pattern<Global>, Global>
         requires { IsSome self.text }
         ensures { self.text ≡ Some result.value }
     {
@@ -53,9 +64,21 @@ impl Slot {
         }
     }
 
-    /// Lets an empty slot go, so that no pattern is lost.
+    /// The box of the slot's walk.
+    pub(crate) fn into_walk(self, alloc: Global) -> Loose<Session, Global>
+        requires { IsSome self.walk }
+        ensures { self.walk ≡ Some result.value }
+    {
+        let Slot { at } = self;
+        Loose {
+            at: at as *mut Session,
+            alloc,
+        }
+    }
+
+    /// Lets an empty slot go, so that nothing is lost.
     pub(crate) fn close(self)
-        requires { self.text ≡ None }
+        requires { (self.text ≡ None) × (self.walk ≡ None) }
     {
         let Slot { at: _ } = self;
     }

@@ -3,17 +3,18 @@ ghost use Rattle.std.specs.declared.option.Option.TheVariants.{None, Some};
 
 use crate::loose::Loose;
 use crate::session::Session;
-use crate::walk_slot::WalkSlot;
+use crate::slot::Slot;
 use std::alloc::Global;
 use std::mem;
 
 /// Where a C program keeps a walk, or none.
 #[repr(C)]
 pub struct WalkHandle {
-    pub(crate) slot: WalkSlot,
+    pub(crate) slot: Slot,
     /// Whether the slot has a walk.
     full: bool,
     ghost tied: { full ≡ is_some slot.walk },
+    ghost no_pattern: { slot.text ≡ None },
 }
 
 impl WalkHandle {
@@ -32,7 +33,7 @@ impl WalkHandle {
         let WalkHandle { slot, full: _ } = mem::replace(
             self,
             WalkHandle {
-                slot: WalkSlot::of(Loose::of(walk)),
+                slot: Slot::of_walk(Loose::of(walk)),
                 full: true,
             },
         );
@@ -48,12 +49,12 @@ impl WalkHandle {
         let WalkHandle { slot, full } = mem::replace(
             self,
             WalkHandle {
-                slot: WalkSlot::empty(),
+                slot: Slot::empty(),
                 full: false,
             },
         );
         if full {
-            Some(slot.into_loose(alloc).into_box())
+            Some(slot.into_walk(alloc).into_box())
         } else {
             slot.close();
             None

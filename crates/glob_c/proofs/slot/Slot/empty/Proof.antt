@@ -11,7 +11,7 @@ use denote.Steps.{nothing}
 use denote.Triple.Entry.{on_entry}
 use denote.Triple.Walked.{Stays, walk_of, says, ends_at}
 use Rattle.std.specs.declared.option.Option.TheVariants.{None}
-use Rattle.glob_c.proofs.SlotValues.{slot_val, slot_in}
+use Rattle.glob_c.proofs.SlotValues.{slot_val, empty_in}
 use Rattle.glob_c.specs.contracts.slot.Slot.empty as f
 use Rattle.glob_c.proofs.slot.Slot.empty.Statement.{statement}
 use Rattle.glob_c.proofs.slot.Slot.empty.Code as code
@@ -29,7 +29,7 @@ empty_spec 𝓤 𝓛 𝓜 𝓡 wired =
     qed 𝓛 (raw (on_entry 𝓛 f.signature κs qs a y.0.4) ∷ ‵ ftrue ∷ []) ∵ drop ! $ drop ! $
     enter ! _ _ _ _ _ $ alloc_all ! (λ l. pass_all ! refl tt $
     sets ! (agg ! (and_then ! (lit ! tt) (no_more !))) refl (tt, (record { fits = lit< tt }, tt)) $
-    nothing ! $ slot_in ! null_ptr None $
+    empty_in ! null_ptr $
     returns ! (look_at ! 0 refl) $ free_all ! refl $
-    suffices ! _ (ends_at 𝓛 f.ended stayed c y (slot_val null_ptr) (record { at = null_ptr; text = None }) tt tt) $ says ! refl $
+    suffices ! _ (ends_at 𝓛 f.ended stayed c y (slot_val null_ptr) (record { at = null_ptr; text = None; walk = None }) tt tt) $ says ! (refl, refl) $
     nothing ! $ nothing ! $ done !))
