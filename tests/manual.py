@@ -97,19 +97,6 @@ def shown(blocks):
     return [it for block in blocks for it in re.findall(r"^\$ (.*)\n((?:(?!\$ ).*\n)*)", block, re.M)]
 
 
-def options_of(page):
-    """The options of a page of help: words after two blanks, at the start of a line."""
-    return set(re.findall(r"^  (--?\w[\w-]*)", page, re.M))
-
-
-def sections():
-    """The options that each section of the man page of globs names."""
-    page = (ROOT / "man/globs.1").read_text(encoding="utf-8").replace("\\-", "-")
-    page = re.sub(r"\\f[BRI]", " ", page)
-    parts = re.findall(r"^\.SH ([A-Z ]+)\n((?:(?!\.SH ).*\n)*)", page, re.M)
-    return {name.lower(): set(re.findall(r"(?<![\w-])--?[a-zA-Z0-9][\w-]*", text)) for name, text in parts}
-
-
 def examples():
     """The commands of the man pages, and those of the README's blocks of text."""
     text = "".join((ROOT / f"man/{name}.1").read_text(encoding="utf-8") for name in PROGRAMS)
@@ -137,25 +124,16 @@ class Manual:
         return run(words, **{"cwd": self.folder, **how})
 
     def install(self):
-        """All is installed, of the changelog's version, and a wrong call is refused."""
+        """All is installed."""
         status, _, errors = self.run([ROOT / "bin/install", self.prefix])
         files = sorted(str(it.relative_to(self.prefix)) for it in self.prefix.rglob("*") if it.is_file())
         self.count.same(f"bin/install {errors}", (status, files), (0, INSTALLED))
-        version = re.search(r"^## (.*)$", (ROOT / "CHANGELOG.md").read_text(encoding="utf-8"), re.M)[1]
-        self.count.same("the version", self.run([self.prefix / "bin/globs", "--version"]), (0, f"globs {version}\n", ""))
-        for words in ([], ["--help"]):
-            status, output, errors = self.run([ROOT / "bin/install", *words])
-            self.count.same(f"bin/install {words}", (status, output, errors.count("\n")), (2, "", 1))
 
     def pages(self):
         """What checkers say of the man pages."""
         for words in (["mandoc", "-Tlint", "-Wwarning"], ["groff", "-man", "-ww", "-z"]):
             if has(words[0], "a check of the man pages"):
-                self.count.same(words[0], self.run([*words, *ROOT.glob("man/*.1")]), (0, "", ""))
-        named = sections()
-        for command in "find match ignore explain escape".split():
-            _, page, _ = self.run([self.prefix / "bin/globs", "help", command])
-            self.count.same(f"the options of {command}", named[command], options_of(page))
+                self.count.same(words[0], self.run([*words, *(self.prefix / page for page in PAGES)]), (0, "", ""))
 
     def completions(self):
         """What the shells offer, and whether they can read their files."""
