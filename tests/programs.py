@@ -1,7 +1,6 @@
 #!/usr/bin/env python3
 """Runs `glob_run` and `globs` as they were built: replays the tables of tests/rows and the rows of glob_run's own test,
-has each request for memory refused in turn, and gives them just too little. Prints each row that fails, and last 'N
-passed, M failed'."""
+and has each request for memory refused in turn. Prints each row that fails, and last 'N passed, M failed'."""
 
 import codecs
 import os
@@ -129,14 +128,11 @@ class Programs:
     # Help
 
     def pages(self):
-        """The pages of help: lines of at most 100 bytes, and one for each way to ask."""
-        for page in ("", "find", "match", "ignore", "explain", "escape"):
-            words = page.split()
-            found = self.run("globs", ["help", *words])
-            is_short = all(len(line) <= 100 for line in found[1].splitlines())
-            self.count.check(found[0] == 0 and found[1] and is_short, f"the page of {page or 'all'}: {found}")
-            for option in ("--help", "-h"):
-                self.count.same(f"the page by {page} {option}", self.run("globs", [*words, option]), found)
+        """The pages of help have lines of at most 100 bytes."""
+        for name in ("", "find", "match", "ignore", "explain", "escape"):
+            status, page, _ = self.run("globs", ["help", *name.split()])
+            is_short = all(len(line) <= 100 for line in page.splitlines())
+            self.count.check(status == 0 and page and is_short, f"the page of {name or 'all'}: {page}")
 
     # Memory
 
@@ -168,19 +164,6 @@ class Programs:
         env = {"REFUSED": str(request), "COUNTED": str(counted), "LD_PRELOAD": str(library)}
         found = self.run(program, words, text, folder, **env)
         return found, *map(int, counted.read_text().split())
-
-    def little(self):
-        """From too little memory to start a program to enough: it is not started, or is out of memory, or ends well."""
-        for words, text in (["glob_run match *.rs", b"a.rs\nb.c\n"], ["glob_run escape " + "?" * 60_000, b""]):
-            words, ends = words.split(), set()
-            for limit in range(512, 16_384, 64):
-                found = run(["prlimit", f"--as={limit * 1024}", *words], input=text, env=self.env, text=False)
-                is_well = found[0] == 0 and found[1] and not found[2]
-                is_memory = found == (2, b"", b"out of memory\n")
-                is_none = found[0] not in (0, 1, 2) and not found[1]
-                ends.add("well" if is_well else "out of memory" if is_memory else "not started" if is_none else found)
-            name = f"just too little memory, and just enough: {words[1]}"
-            self.count.same(name, ends, {"well", "out of memory", "not started"})
 
 
 # Status, program and words.
@@ -216,7 +199,6 @@ def main():
         programs.transcript()
         programs.pages()
         programs.refused()
-        programs.little()
     finally:
         # Some of it is shut, or deeper than Python's own way to remove a folder can go.
         subprocess.run(f"chmod -R u+rwx {work}; rm -r {work}", shell=True, check=True)
