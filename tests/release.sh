@@ -1,58 +1,54 @@
 #!/usr/bin/env bash
-# Makes a release, unpacks it in an empty folder, and uses each part of it there, with neither the repository nor `rt`
-# in reach. What is not installed is left out, and said. Its last line is 'N passed, M failed'.
+# Makes a release, unpacks it in an empty folder, and uses it there: a program, and the library from C, under valgrind and
+# the sanitizers. What is not installed is left out, and said. Its last line is 'N passed, M failed'.
 set -uo pipefail
 . "$(dirname "$(realpath "$0")")/lib/commands.sh"
+warnings=(-Wall -Wextra -pedantic -Werror)
 
-# alone COMMAND..: in the unpacked folder, without `rt` and the toolchain on PATH
-alone() {
-    (cd "$work"/there/* && PATH=$(tr : '\n' <<<"$PATH" | while read -r folder; do
-        [ -e "$folder/rt" ] || printf '%s:' "$folder"
-    done) && export PATH && "$@")
+filters() {
+    [ "$(printf 'a.o\nb.c\n' | bin/globs ignore <(echo '*.o'))" = b.c ]
 }
 
-program() {
-    [ "$(printf 'src/a.rs\nb.c\n' | bin/glob_run match '*.rs')" = src/a.rs ] && bin/glob_run escape a
+# The symbols of the library have one prefix.
+one_prefix() {
+    nm -g --defined-only lib/libcadmiumdove.a >"$work/symbols" &&
+        grep -q ' T cadmiumdove_pattern_new$' "$work/symbols" &&
+        ! grep -E ' [A-Z] ' "$work/symbols" | grep -v ' T cadmiumdove_'
 }
 
-# By the flags of pkg-config.
-from_c() {
+# By the flags of pkg-config. The example finds what `find` does, and says what is wrong with a pattern.
+example() {
     local flags
     read -ra flags < <(PKG_CONFIG_PATH=lib/pkgconfig pkg-config --cflags --libs cadmiumdove) &&
-        cc -Wall -Wextra -pedantic -Werror share/doc/cadmiumdove/find.c "${flags[@]}" -o "$work/find" &&
-        [ "$("$work/find" 'inclu*/*.h')" = include/cadmiumdove.h ]
+        cc "${warnings[@]}" share/doc/cadmiumdove/find.c "${flags[@]}" -o "$work/find" &&
+        "$work/find" 'rust/**/*.rs' | sort >"$work/found" && find rust -name '*.rs' | sort | cmp - "$work/found" &&
+        [ "$("$work/find" 'a/b[' 2>&1)" = '3: invalid range pattern' ] &&
+        [ "$("$work/find" $'a\xff' 2>&1)" = 'the pattern is not UTF-8' ]
 }
 
-# A user's package, with the line of the README.
-from_rust() {
-    cargo -q init --vcs none --name user "$work/user" &&
-        echo "glob = { package = \"cadmiumdove\", path = \"$PWD/rust\" }" >>"$work/user/Cargo.toml" &&
-        cat >"$work/user/src/main.rs" <<'EOF'
-use glob::{glob, Pattern};
-
-fn main() {
-    assert!(Pattern::new("*.rs").unwrap().matches("main.rs"));
-    for path in glob("inclu*/*.h").unwrap().flatten() {
-        println!("{}", path.display());
-    }
-}
-EOF
-    [ "$(CARGO_TARGET_DIR="$work/target" cargo run -q --offline --manifest-path "$work/user/Cargo.toml")" = \
-        include/cadmiumdove.h ]
+# calls CC OPTION..: compiles calls of each function
+calls() {
+    "$@" -std=c11 "${warnings[@]}" -g -Iinclude "$root/tests/lib/calls.c" lib/libcadmiumdove.a \
+        -Wl,--wrap=malloc,--wrap=realloc,--wrap=free -o "$work/calls"
 }
 
-# The commit and the toolchain.
-built() {
-    grep -q "^commit $(git -C "$root" rev-parse HEAD)" BUILT && grep -q '^toolchain ' BUILT
+uses() {
+    local cc
+    check 'a program' filters
+    check 'one prefix' one_prefix
+    check_with g++ 'the header in C++' g++ -x c++ -std=c++11 "${warnings[@]}" -fsyntax-only include/cadmiumdove.h
+    check_with pkg-config 'the example' example
+    for cc in gcc clang; do
+        has "$cc" || { left_out "calls from C by $cc"; continue; }
+        check "C is compiled by $cc" calls "$cc"
+        check_with valgrind "calls from C by $cc, under valgrind" \
+            valgrind -q --leak-check=full --error-exitcode=9 "$work/calls"
+        check "C is compiled by $cc, with sanitizers" calls "$cc" -fsanitize=address,undefined -fno-sanitize-recover=all
+        check "calls from C by $cc, with sanitizers" "$work/calls"
+    done
 }
 
 check 'a release' "$root/bin/release" "$work/made"
 mkdir "$work/there"
-check 'it is unpacked' tar -C "$work/there" -xf "$work/made"/*.tar.gz
-check 'the program' alone program
-check 'the filter' alone bash -c '[ "$(printf "a.o\nb.c\n" | bin/globs ignore <(echo "*.o"))" = b.c ]'
-check 'man pages' alone test -s share/man/man1/glob_run.1 -a -s share/man/man1/globs.1
-check_with pkg-config 'from C' alone from_c
-check_with cargo 'from Rust' alone from_rust
-check 'what it was made from' alone built
-check 'licences and the page' alone test -s LICENSE-MIT -a -s rust/LICENSE-APACHE -a -s README.md
+check 'it is unpacked' tar -C "$work/there" --strip-components=1 -xf "$work/made"/*.tar.gz
+[ "$failed" != 0 ] || { cd "$work/there" && uses; }

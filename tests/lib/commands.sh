@@ -1,4 +1,4 @@
-# What the rows of border.sh, release.sh and rust.sh are made of, each a command that has to end well. Sets $root, the
+# What the rows of release.sh and rust.sh are made of, each a command that has to end well. Sets $root, the
 # repository, and $work, a folder that goes when the script ends, which says how many rows passed and failed.
 
 root=$(realpath "$(dirname "${BASH_SOURCE[0]}")/../..")
