@@ -1,13 +1,12 @@
 #!/usr/bin/env python3
 """Compares answers on random input: those of `glob_vectors answer`, of the Rust crate, of the original crate, where its
 Debian package librust-glob-dev is installed, and of tests/lib/reference.py: matches under each setting of the options,
-sets of patterns, and walks of trees with links and directories that cannot be listed, with their units of work, within
-limits, and beside what the undivided pattern matches.
+and walks of trees with links and directories that cannot be listed, with their units of work and within limits.
 
     tests/random_input.py [--rounds N] [--seed N]
 
-A round has 1,000 patterns with four texts each, 20 sets, and 30 trees. Prints each difference, then how many cases of
-each kind there were, and last 'N passed, M failed'. A kind that is rare is a failure."""
+A round has 1,000 patterns with four texts each, and 30 trees. Prints each difference, then how many cases of each kind
+there were, and last 'N passed, M failed'. A kind that is rare is a failure."""
 
 import argparse
 import collections
@@ -23,18 +22,15 @@ from lib.count import ROOT, Count, has, left_out
 from lib.reference import FOUND, REFUSED, UNREAD
 from lib.sides import ANSWERS, MAY_SHUT, as_user, ask, built_over, original
 
-PATTERNS, TEXTS, SETS, TREES = 1000, 4, 20, 30
+PATTERNS, TEXTS, TREES = 1000, 4, 30
 # One of so many patterns is also compared with the reference, which is slower.
 RULES_IN = 4
-# Of a set at most, and for a set.
-SET_PATTERNS, SET_TEXTS = 70, 100
 SHARE_WITH_LIMIT, HIGHEST_LIMIT, NO_LIMIT = 0.3, 30, 2**64 - 1
 # One walk in so many is repeated within each limit, if it charges at most so many units.
 EACH_LIMIT_IN, MOST_UNITS = 16, 120
 # How many cases of each kind there are at least in 20 rounds.
-LEAST = {"matches": 150_000, "no matches": 200_000, "refused patterns": 2000, "sets": 200, "refused walks": 100}
+LEAST = {"matches": 150_000, "no matches": 200_000, "refused patterns": 2000, "refused walks": 100}
 LEAST |= {"empty": 400, "limited": 400, "unread": 100, "found": 1500, "each limit": 150}
-LEAST |= {"goals, all found": 500, "no goals": 150, "goals, limited": 100, "goals, unread": 50}
 # So far below a folder of our own that no pattern leads out of it by `..`.
 BELOW = "1/2/3/4/5/6"
 
@@ -46,12 +42,6 @@ def matches_by_rules(pattern, texts):
         return "\t".join([escaped, "fault", *map(str, fault)])
     found = (reference.matches(pattern, text, letters) for text in texts for letters in make.SETTINGS)
     return "\t".join([escaped, "ok", "".join("ny"[it] for it in found)])
-
-
-def set_field(numbers):
-    """What a set is to say of a text that the patterns of these numbers match."""
-    ends = f"true Some({numbers[0]}) Some({numbers[-1]})" if numbers else "false None None"
-    return f"\t{ends} {numbers}"
 
 
 def items_of(answer):
@@ -68,7 +58,7 @@ class Comparer:
         self.above, self.sides = base / BELOW, sides
         self.count, self.kinds = Count(), collections.Counter()
 
-    # Matches and sets
+    # Matches
 
     def matches(self, source):
         cases = [make.match_case(source, TEXTS) for _ in range(PATTERNS)]
@@ -84,26 +74,6 @@ class Comparer:
             self.kinds["matches"] += letters.count("y")
             self.kinds["no matches"] += letters.count("n")
 
-    def sets(self, source):
-        """Sets are to match what their patterns match."""
-        ours, _ = self.sides["ours"]
-        for _ in range(SETS):
-            size = source.randint(1, SET_PATTERNS)
-            cases = [make.match_case(source, SET_TEXTS // size + 1) for _ in range(size)]
-            texts = [text for _, some in cases for text in some][:SET_TEXTS]
-            answers = ask(ours, ["\t".join(["match", pattern, *texts]) for pattern, _ in cases])
-            rows = [answer.split("\t") for answer in answers]
-            kept = [(pattern, row[2]) for (pattern, _), row in zip(cases, rows) if row[1] == "ok"]
-            if not kept or not texts:
-                continue
-            self.kinds["sets"] += 1
-            patterns = [pattern for pattern, _ in kept]
-            asked = [["set", letters, str(len(kept)), *patterns, *texts] for letters in make.SETTINGS]
-            for at, answer in enumerate(ask(ours, ["\t".join(it) for it in asked])):
-                places = [len(make.SETTINGS) * text + at for text in range(len(texts))]
-                numbers = [[n for n, (_, row) in enumerate(kept) if row[place] == "y"] for place in places]
-                self.count.same(asked[at], answer, "".join(map(set_field, numbers)))
-
     # Walks
 
     def walks(self, source):
@@ -111,9 +81,9 @@ class Comparer:
         and knows limits."""
         tree = make.tree(source, MAY_SHUT, source.choice([make.few_name, make.few_name, make.name]))
         top = self.above / "tree"
-        below = tree.build(top)
+        tree.build(top)
         start = source.choice(tree.starts()) if source.random() < 0.3 else ""
-        patterns = [make.few_components(source, some) for _ in range(3) for some in make.COMPONENTS_OF_WALKS]
+        patterns = [make.few_components(source, some) for _ in range(3) for some in (make.FEW_COMPONENTS, make.PLAIN_COMPONENTS)]
         patterns += [make.walk_pattern(source, list(tree.ends)) for _ in range(3)]
         cases = [(pattern.replace(make.ABOVE, str(self.above)), source.choice(make.SETTINGS)) for pattern in patterns]
         for name, (words, rules) in self.sides.items():
@@ -124,8 +94,6 @@ class Comparer:
             for (case, limit), answer in zip(asked, map(items_of, ask(words, lines, top / start))):
                 what = f"{case} from {start or '.'} over {tree}"
                 self.check_walk(name, what, case, limit, answer, marks[case])
-                if name == "ours" and marks[case] is not None:
-                    self.goals(what, start, below, case, answer[1])
         tree.remove(top)
 
     def marks(self, pattern, letters, folder, rules):
@@ -156,23 +124,6 @@ class Comparer:
             self.kinds["empty"] += not wanted[1]
             for kind, sign in (("limited", REFUSED), ("unread", UNREAD), ("found", FOUND)):
                 self.kinds[kind] += sign in signs
-
-    def goals(self, what, start, below, case, items):
-        """Compares a walk with what its undivided pattern matches, if that says what it finds."""
-        pattern, letters = case
-        if "i" in letters or not reference.is_plain(pattern):
-            return
-        top = str(self.above / "tree" / start)
-        there = {os.path.relpath(path, top): path for path in [top, *below] if f"{path}/".startswith(f"{top}/")}
-        if pattern.startswith("/"):
-            there = {path: path for path in [str(self.above / "tree"), *below]}
-        with as_user():
-            there = {text: path for text, path in there.items() if os.path.lexists(path)}
-            fault = reference.goal_fault(pattern, letters.replace("s", ""), there, items)
-        self.count.check(fault is None, f"{what}: {fault}")
-        signs = {it[0] for it in items}
-        kind = "goals, all found" if FOUND in signs else "no goals"
-        self.kinds["goals, limited" if REFUSED in signs else "goals, unread" if UNREAD in signs else kind] += 1
 
 
 def sides_in(folder):
@@ -206,7 +157,6 @@ def main():
         for seed in range(options.seed, options.seed + options.rounds):
             source = random.Random(seed)
             comparer.matches(source)
-            comparer.sets(source)
             for _ in range(TREES):
                 comparer.walks(source)
     for kind, least in LEAST.items():

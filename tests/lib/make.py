@@ -24,14 +24,13 @@ NAME_PIECES = [*"aaabbABB...-![]*?éÉ𝒳", "ab", "a.b", "..", "[a]", "[!a]", "
 NODES = 24
 DEEPEST = 5
 
-# A few names, and components for them: those that come more often stand here more often. Some have a fault. By most of
-# the plain ones the whole pattern says what a walk finds.
+# A few names, and components for them: those that come more often are here more often. Some have a fault, and no plain one
+# has.
 FEW_NAMES = ["a", "b", "ab", "A", ".a", ".b", "a.b", "é", "-"]
 FEW_COMPONENTS = ["**"] * 4 + ["*"] * 3 + ["?", "a", "a*", "*b", ".*", ".?", "[ab]", "[!a]*", ".", "..", "", "A", ".a"]
 FEW_COMPONENTS += ["é", "a[b]", "[b", "]*", "é**", "***", "??", "*.*", "[!.]*", "[.]*", "*[ab]", ".[.]", "*a*b*"]
 PLAIN_COMPONENTS = ["**"] * 4 + ["*"] * 4 + ["?"] * 2 + ["a", "b", "a*", "*b", "[ab]", "[!a]*", "*.*", ".a", ".*"]
 PLAIN_COMPONENTS += [".[a-z]", "é"]
-COMPONENTS_OF_WALKS = [FEW_COMPONENTS, PLAIN_COMPONENTS]
 
 # In a pattern, the path of the folder that the tree's folder, `tree`, is in.
 ABOVE = "\0"
@@ -150,12 +149,10 @@ class Tree:
     modes: dict
 
     def build(self, folder):
-        """Makes all in a folder, and gives the path of each, also in directories that links lead to."""
+        """Makes all in a folder."""
         place(folder, [path + end for path, end in self.ends.items()])
-        below = [os.path.join(at, name) for at, *names in os.walk(folder, followlinks=True) for name in sum(names, [])]
         for path, mode in self.modes.items():
             os.chmod(os.path.join(folder, path), mode)
-        return below
 
     def remove(self, folder):
         """Removes the folder."""

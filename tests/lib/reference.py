@@ -1,5 +1,5 @@
 """The rules of docs/DEFINITIONS.md once more, in the plainest form: which texts are patterns, which characters a token
-takes, how it splits a text, and what a walk of a disk gives, charges and is to find. Options are letters: i for
+takes, how it splits a text, and what a walk of a disk gives and charges. Options are letters: i for
 case-insensitive, s for the separator rule, d for the dot rule."""
 
 import functools
@@ -276,43 +276,3 @@ def within(marks, limit):
         else:
             spent += 1
     return items, spent
-
-
-# What a walk of a plain pattern is to find
-
-
-def is_plain(pattern):
-    """Whether the undivided pattern says what a walk finds."""
-    components = components_of(pattern)
-    for before, component in zip([None, *components], components):
-        is_dotted = component.startswith(".") and set(component) & set("?*[")
-        if component in ("", ".", "..") or (is_dotted and before != "**"):
-            return False
-    return walk_fault(pattern) is None
-
-
-def is_ordered(pattern):
-    """Whether no path comes twice, and whether the paths are in order, if all can be read."""
-    runs = re.split(r"(?:^|/)\*\*(?:/\*\*)*(?:/|$)", pattern.strip("/"))
-    return len(runs) <= 2, len(runs) == 1 or (len(runs) == 2 and "/" not in runs[1])
-
-
-def goal_fault(pattern, letters, there, items):
-    """What is wrong with a walk of a plain pattern that gave these items, or None. `there` has the texts of the start,
-    as `.`, and of what is below it, each with its path on the disk. Of these a walk is to find those that the whole
-    pattern matches, and whose kind it gives."""
-    directories = {text for text, path in there.items() if os.path.isdir(path)}
-    wants_directories = pattern.endswith("/") or components_of(pattern)[-1] == "**"
-    given = directories if wants_directories else set(there)
-    goals = {text for text in given - {"."} if matches(pattern.removesuffix("/"), text, "s" + letters)}
-    shut = {text for text in directories if not os.access(there[text], os.R_OK, effective_ids=True)}
-    paths, unread, refused = ([item[1:] for item in items if item[0] == sign] for sign in (FOUND, UNREAD, REFUSED))
-    below = tuple("" if path in (".", "/") else f"{path}/" for path in unread)
-    missed = {text for text in goals - set(paths) if not text.startswith(below)} if not refused else set()
-    if wrong := (set(paths) - goals) | (set(unread) - shut) | missed:
-        return f"{sorted(wrong)}: no goals, or directories that can be listed, or goals that are not found"
-    is_once, is_sorted = is_ordered(pattern)
-    lists = [path.split("/") for path in paths]
-    if not shut and ((is_once and len(set(paths)) < len(paths)) or (is_sorted and lists != sorted(lists))):
-        return "a path comes twice, or they are not in order"
-    return None
