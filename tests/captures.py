@@ -63,15 +63,10 @@ def answers(cases):
 
 
 def compare(count, found):
-    """Compares answers with the search, and sees to it that neither a match nor none is rare."""
+    """Compares answers with the search."""
     cases = [(letters, *case) for case in found if reference.fault_of(case[0]) is None for letters in SETTINGS]
-    matches = 0
     for (letters, pattern, text), answer in zip(cases, answers(cases)):
-        wanted = expected(pattern, text, letters)
-        matches += wanted[1] != "no"
-        count.same(f"{pattern!r} {text!r} {letters}", answer, wanted)
-    print(f"{len(cases)} cases, {matches} of them matches")
-    count.check(0.05 < matches / len(cases) < 0.5, "matches are rare, or all there is")
+        count.same(f"{pattern!r} {text!r} {letters}", answer, expected(pattern, text, letters))
 
 
 def compare_rows(count):

@@ -47,7 +47,7 @@ def some_end(source, path, tree):
 
 
 def compare(count, source, top):
-    """Compares one search, and gives whether any path is wanted, and whether any is not."""
+    """Compares one search."""
     tree = make.grown(source, source.randint(0, 30), make.few_name, 0.7)
     make.place(top, [path + some_end(source, path, tree) for path in tree])
     options, patterns = source.choice(OPTIONS), some_patterns(source)
@@ -61,18 +61,13 @@ def compare(count, source, top):
     words = [*excluded, *options, *map(written, patterns)]
     status, output, errors = run([built("globs"), "find", *words], cwd=top)
     count.same(f"{sorted(tree)} {words}", (output.splitlines(), errors, status), (wanted, "", not wanted))
-    return wanted != [], len(wanted) < len(tree)
 
 
 def main():
     source, count = random.Random(1), Count()
-    kinds = []
     for _ in range(SEARCHES):
         with tempfile.TemporaryDirectory() as top:
-            kinds.append(compare(count, source, top))
-    finding, dropping = map(sum, zip(*kinds))
-    print(f"{finding} searches find something, {dropping} leave something out")
-    count.check(finding > SEARCHES * 0.3 and dropping > SEARCHES * 0.1, "one of them is rare")
+            compare(count, source, top)
     count.end()
 
 

@@ -5,11 +5,10 @@ lists and trees, and which line decides about each path.
 
     tests/ignore.py [--seed N] [--lists N]
 
-Says how many questions there were, which lists were refused, and each difference; docs/IGNORE.md has those that are let
-pass. The last line counts kept answers and lists: 'N passed, M failed'."""
+Prints each difference; docs/IGNORE.md has those that are let pass. The last line counts kept answers and lists: 'N
+passed, M failed'."""
 
 import argparse
-import collections
 import itertools
 import os
 import random
@@ -114,46 +113,34 @@ def is_named(text, path):
     return STARS_AT_END.search(text) or not path.isascii() and any(unit in text for unit in ["?", "[!", "[^"])
 
 
-class Comparer:
-    """What was asked and found."""
+def compare_refusal(count, text, refusal):
+    """A list that is refused has a line of which docs/IGNORE.md says so."""
+    number, reason = refusal.removeprefix("R line ").split(": ", 1)
+    count.check(REFUSED.search(text.split("\n")[int(number) - 1]), f"list {text!r}: refused, {reason}")
 
-    def __init__(self):
-        self.count, self.kinds, self.refused = Count(), collections.Counter(), {}
 
-    def refuse(self, text, refusal):
-        number, reason = refusal.removeprefix("R line ").split(": ", 1)
-        line = text.split("\n")[int(number) - 1]
-        self.refused.setdefault(reason, set()).add(line)
-        self.count.check(REFUSED.search(line), f"list {text!r}: refused, {reason}")
+def compare(count, text, paths, expected, answer):
+    wrong = [(path, git, we) for (path, _), git, we in zip(paths, expected, answer)
+        if git != we and not is_named(text, path)]
+    count.check(not wrong, f"list {text!r}, path, line of git, line of ours: {wrong}")
 
-    def compare(self, text, paths, expected, answer):
-        wrong = [(path, git, we) for (path, _), git, we in zip(paths, expected, answer) if git != we]
-        meant = [it for it in wrong if is_named(text, it[0])]
-        self.kinds += {"questions": len(paths), "decided": sum(map(bool, expected)), "meant": len(meant)}
-        self.count.check(wrong == meant, f"list {text!r}, path, line of git, line of ours: {wrong}")
 
-    def batch(self, cases):
-        with tempfile.TemporaryDirectory() as folder:
-            expected = iter(git_says(folder, cases))
-        for (text, paths), answer in zip(cases, ours(cases)):
-            lines = [next(expected) for _ in paths]
-            if isinstance(answer, str):
-                self.refuse(text, answer)
-            else:
-                self.compare(text, paths, lines, answer)
+def compare_batch(count, cases):
+    with tempfile.TemporaryDirectory() as folder:
+        expected = iter(git_says(folder, cases))
+    for (text, paths), answer in zip(cases, ours(cases)):
+        lines = [next(expected) for _ in paths]
+        if isinstance(answer, str):
+            compare_refusal(count, text, answer)
+        else:
+            compare(count, text, paths, lines, answer)
 
-    def compare_kept(self):
-        kept = (ROOT / "tests/rows/git.answers").read_text(encoding="utf-8").splitlines()
-        found = answers((ROOT / "tests/rows/git.questions").read_bytes())
-        for at, (git, we) in enumerate(itertools.zip_longest(kept, found), 1):
-            self.count.same(f"kept answer {at}", we, git)
 
-    def report(self):
-        for reason, found in sorted(self.refused.items()):
-            print(f"refused: {reason}, as {sorted(found, key=lambda line: (len(line), line))[:8]}")
-        questions, decided, meant = (self.kinds[kind] for kind in ("questions", "decided", "meant"))
-        print(f"{questions} questions, of which a line decides {decided}; {meant} differences that docs/IGNORE.md names")
-        self.count.end()
+def compare_kept(count):
+    kept = (ROOT / "tests/rows/git.answers").read_text(encoding="utf-8").splitlines()
+    found = answers((ROOT / "tests/rows/git.questions").read_bytes())
+    for at, (git, we) in enumerate(itertools.zip_longest(kept, found), 1):
+        count.same(f"kept answer {at}", we, git)
 
 
 def main():
@@ -162,12 +149,12 @@ def main():
     options.add_argument("--lists", type=int, default=2000)
     options = options.parse_args()
     print(f"--seed {options.seed}")
-    source, comparer = random.Random(options.seed), Comparer()
-    comparer.compare_kept()
+    source, count = random.Random(options.seed), Count()
+    compare_kept(count)
     for _ in range(options.lists // BATCH if has("git", "random ignore lists") else 0):
         trees = [grown(source, source.randint(8, 30), name, 0.6) for _ in range(BATCH)]
-        comparer.batch([(file_of(source), sorted(tree.items())) for tree in trees])
-    comparer.report()
+        compare_batch(count, [(file_of(source), sorted(tree.items())) for tree in trees])
+    count.end()
 
 
 main()
