@@ -1,12 +1,13 @@
 #!/usr/bin/env python3
 """Compares answers on random input: those of `glob_vectors answer`, of the Rust crate, of the original crate, where its
 Debian package librust-glob-dev is installed, and of tests/lib/reference.py: matches under each setting of the options,
-and walks of trees with links and directories that cannot be listed, with their units of work and within limits.
+sets of patterns, and walks of trees with links and directories that cannot be listed, with their units of work and
+within limits.
 
     tests/random_input.py [--rounds N] [--seed N]
 
-A round has 1,000 patterns with four texts each, and 30 trees. Prints each difference, then how many cases of each kind
-there were, and last 'N passed, M failed'. A kind that is rare is a failure."""
+A round has 1,000 patterns with four texts each, 20 sets, and 30 trees. Prints each difference, then how many cases of
+each kind there were, and last 'N passed, M failed'. A kind that is rare is a failure."""
 
 import argparse
 import collections
@@ -22,14 +23,16 @@ from lib.count import ROOT, Count, has, left_out
 from lib.reference import FOUND, REFUSED, UNREAD
 from lib.sides import ANSWERS, MAY_SHUT, as_user, ask, built_over, original
 
-PATTERNS, TEXTS, TREES = 1000, 4, 30
+PATTERNS, TEXTS, SETS, TREES = 1000, 4, 20, 30
 # One of so many patterns is also compared with the reference, which is slower.
 RULES_IN = 4
+# Of a set at most, and for a set.
+SET_PATTERNS, SET_TEXTS = 70, 100
 SHARE_WITH_LIMIT, HIGHEST_LIMIT, NO_LIMIT = 0.3, 30, 2**64 - 1
 # One walk in so many is repeated within each limit, if it charges at most so many units.
 EACH_LIMIT_IN, MOST_UNITS = 16, 120
 # How many cases of each kind there are at least in 20 rounds.
-LEAST = {"matches": 150_000, "no matches": 200_000, "refused patterns": 2000, "refused walks": 100}
+LEAST = {"matches": 150_000, "no matches": 200_000, "refused patterns": 2000, "sets": 200, "refused walks": 100}
 LEAST |= {"empty": 400, "limited": 400, "unread": 100, "found": 1500, "each limit": 150}
 # So far below a folder of our own that no pattern leads out of it by `..`.
 BELOW = "1/2/3/4/5/6"
@@ -42,6 +45,12 @@ def matches_by_rules(pattern, texts):
         return "\t".join([escaped, "fault", *map(str, fault)])
     found = (reference.matches(pattern, text, letters) for text in texts for letters in make.SETTINGS)
     return "\t".join([escaped, "ok", "".join("ny"[it] for it in found)])
+
+
+def set_field(numbers):
+    """What a set is to say of a text that the patterns of these numbers match."""
+    ends = f"true Some({numbers[0]}) Some({numbers[-1]})" if numbers else "false None None"
+    return f"\t{ends} {numbers}"
 
 
 def items_of(answer):
@@ -58,7 +67,7 @@ class Comparer:
         self.above, self.sides = base / BELOW, sides
         self.count, self.kinds = Count(), collections.Counter()
 
-    # Matches
+    # Matches and sets
 
     def matches(self, source):
         cases = [make.match_case(source, TEXTS) for _ in range(PATTERNS)]
@@ -73,6 +82,26 @@ class Comparer:
             self.kinds["refused patterns"] += not letters
             self.kinds["matches"] += letters.count("y")
             self.kinds["no matches"] += letters.count("n")
+
+    def sets(self, source):
+        """Sets are to match what their patterns match."""
+        ours, _ = self.sides["ours"]
+        for _ in range(SETS):
+            size = source.randint(1, SET_PATTERNS)
+            cases = [make.match_case(source, SET_TEXTS // size + 1) for _ in range(size)]
+            texts = [text for _, some in cases for text in some][:SET_TEXTS]
+            answers = ask(ours, ["\t".join(["match", pattern, *texts]) for pattern, _ in cases])
+            rows = [answer.split("\t") for answer in answers]
+            kept = [(pattern, row[2]) for (pattern, _), row in zip(cases, rows) if row[1] == "ok"]
+            if not kept or not texts:
+                continue
+            self.kinds["sets"] += 1
+            patterns = [pattern for pattern, _ in kept]
+            asked = [["set", letters, str(len(kept)), *patterns, *texts] for letters in make.SETTINGS]
+            for at, answer in enumerate(ask(ours, ["\t".join(it) for it in asked])):
+                places = [len(make.SETTINGS) * text + at for text in range(len(texts))]
+                numbers = [[n for n, (_, row) in enumerate(kept) if row[place] == "y"] for place in places]
+                self.count.same(asked[at], answer, "".join(map(set_field, numbers)))
 
     # Walks
 
@@ -157,6 +186,7 @@ def main():
         for seed in range(options.seed, options.seed + options.rounds):
             source = random.Random(seed)
             comparer.matches(source)
+            comparer.sets(source)
             for _ in range(TREES):
                 comparer.walks(source)
     for kind, least in LEAST.items():

@@ -21,7 +21,7 @@ made_anew() {
 
 # The package is all that a user gets: its tests and examples run in a folder of its own.
 packed() {
-    cargo_in "$crate" package --allow-dirty --no-verify && mkdir "$work/alone" &&
+    cargo_in "$crate" package --allow-dirty && mkdir "$work/alone" &&
         tar -C "$work/alone" -xf "$CARGO_TARGET_DIR"/package/cadmiumdove-*.crate &&
         env -u CADMIUMDOVE_ROWS -C "$work/alone"/cadmiumdove-* cargo test -q --offline
 }
