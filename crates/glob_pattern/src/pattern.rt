@@ -1,4 +1,4 @@
-ghost use Rattle.std.specs.Prelude.{◌≡◌, ◌*◌, ◌≤◌, ◌↔◌, [], length, IsTrue, IsOk, IfOk, IfErr, IfSome, MatchOption, chars};
+ghost use Rattle.std.specs.Prelude.{◌≡◌, ℕ, ◌*◌, ◌≤◌, ◌↔◌, [], length, IsTrue, IsOk, IfOk, IfErr, IfNone, IfSome, MatchOption, chars};
 ghost use Rattle.std.specs.Str.{is_utf8};
 ghost use Rattle.glob_pattern.specs.Matching.Trims.{IsTrimmed};
 ghost use Rattle.glob_pattern.specs.Matching.Literals.{HasLiteral};
@@ -223,7 +223,8 @@ pub fn match_trimmed<A: Allocator + Copy>(
 /// The character that the token of this number is, counted from 0, or `None` if it is a wildcard or a bracket, or there
 /// is none: of `a*.rs` it is `.` at 2.
 pub fn literal_at<A: Allocator>(pattern: &Pattern<A>, number: usize) -> Option<char>
-    ensures { IfSome result (HasLiteral (chars pattern.now) number) }
+    ensures literal { IfSome result (HasLiteral (chars pattern.now) number) }
+    ensures none { IfNone result ((c : ℕ) → ¬ (HasLiteral (chars pattern.now) number c)) }
 {
     pattern.compiled.literal_at(number)
 }

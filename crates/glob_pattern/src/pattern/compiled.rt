@@ -1,6 +1,6 @@
 //! What a match reads of a pattern, and how a match goes: the ends of the text are compared, a needle is searched for,
 //! and what is left goes through the position sets.
-ghost use Rattle.std.specs.Prelude.{◌≡◌, ℕ, suc, ◌+◌, ◌-◌, ◌*◌, ◌<◌, ◌≤◌, ◌↔◌, List, [], length, map, take, IsTrue, IsOk, IfOk, IfSome, MatchOption, chars, slice_index_or};
+ghost use Rattle.std.specs.Prelude.{◌≡◌, ℕ, suc, ◌+◌, ◌-◌, ◌*◌, ◌<◌, ◌≤◌, ◌↔◌, List, [], length, map, take, IsTrue, IsOk, IfOk, IfNone, IfSome, MatchOption, chars, slice_index_or};
 ghost use Rattle.std.specs.Str.{is_utf8, IsAscii};
 ghost use Rattle.std.specs.Int.{IsBitSet};
 ghost use Rattle.glob_pattern.specs.Grammar.Tokens.{shape_of};
@@ -72,7 +72,9 @@ impl<A: Allocator> Compiled<A> {
 
     /// The character of the token of this number, if there is one and it is a literal.
     pub fn literal_at(&self, number: usize) -> Option<char>
-        ensures { IfSome result (λ c. slice_index_or self.now number AnyChar ≡ Literal c) }
+        ensures literal { IfSome result (λ c. slice_index_or self.now number AnyChar ≡ Literal c) }
+        ensures none { IfNone result
+            ((c : ℕ) → ¬ (slice_index_or self.now number AnyChar ≡ Literal c)) }
     {
         match self.tokens.get(number) {
             Some(Token::Literal(c)) => Some(*c),
