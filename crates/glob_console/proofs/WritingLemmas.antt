@@ -1,6 +1,6 @@
 -- Bytes of which the first were written.
-use Rattle.std.proofs.Common.{◌≡◌, ℕ, ◌-◌, Option, None, Some, List, [], ◌++◌, inr, take, drop, length, Result, Ok, Err, OnErr, OnOk, sym, ap, subst, ◌∙◌, append-nil, append_assoc}
-use Rattle.std.proofs.lemmas.List.{take-append-drop, take_rest}
+use Rattle.std.proofs.Common.{◌≡◌, ℕ, Option, None, Some, List, [], ◌++◌, inr, take, drop, length, Result, Ok, Err, OnErr, OnOk, sym, ap, subst, ◌∙◌, append-nil, append_assoc}
+use Rattle.std.proofs.lemmas.List.{take-append-drop}
 use lib.Seq.{take-append_seam}
 use Rattle.std.specs.Io.KnownBytes.{Appends, Keeps}
 use Rattle.std.proofs.KnownBytes.{Appends-trans, Appends-kept, Keeps-refl}
@@ -23,15 +23,6 @@ AppendsFront-more a b c all done bytes rest split before (n, wrote) =
 -- some of the bytes were written, and then none
 pub AppendsFront-kept : (a b c : Option (List ℕ)) (all done rest : List ℕ) → all ≡ done ++ rest → Appends a b done → Keeps b c → AppendsFront a c all
 AppendsFront-kept a b c all done rest split before same = AppendsFront-front a c all done rest split (Appends-kept a b c done before same)
-
--- one more write took n of the bytes that were left
-pub Appends-more : (a b c : Option (List ℕ)) (all done rest : List ℕ) (n : ℕ) → all ≡ done ++ rest → Appends a b done → Appends b c (take n rest)
-    → (more : List ℕ) × (all ≡ more ++ take (length rest - n) (drop n rest)) × Appends a c more
-Appends-more a b c all done rest n split before wrote = (
-  done ++ take n rest,
-  split ∙ ap (λ l. done ++ l) (sym (take-append-drop n rest) ∙ ap (λ l. take n rest ++ l) (sym (take_rest rest n))) ∙ sym (append_assoc done (take n rest) _),
-  Appends-trans a b c done (take n rest) before wrote,
-)
 
 -- it is one of more bytes
 pub AppendsFront-longer : (old new : Option (List ℕ)) (bytes rest : List ℕ) → AppendsFront old new bytes → AppendsFront old new (bytes ++ rest)

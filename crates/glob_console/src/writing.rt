@@ -1,14 +1,14 @@
 //! Writes of whole texts.
 ghost use Rattle.std.specs.Prelude.{◌≤◌, OnErr, OnOk};
-ghost use Rattle.std.specs.Io.{WritesAtMost};
-ghost use Rattle.std.specs.Io.KnownBytes.{Appends, WriteAppends};
+ghost use Rattle.std.specs.Io.KnownBytes.{Appends};
 ghost use Rattle.glob_console.specs.Outcomes.{WritesText};
 ghost use Rattle.glob_lines.specs.Lines.{AppendsFront};
 
 use crate::error_lines::ErrorLines;
 use crate::status::FOUND;
+use glob_lines::{OnInterrupt, write_bytes};
 use std::alloc::Allocator;
-use std::io::{self, ErrorKind, Write};
+use std::io::{self, Write};
 
 /// Writes the whole text, and returns the status: 0, or 2 after the line of a write that failed.
 #[tactic(auto, unfolding(crate::specs::Outcomes::WritesText))]
@@ -35,27 +35,5 @@ pub fn write_whole<W: Write>(writer: &mut W, bytes: &[u8]) -> io::Result<()>
     ensures some { OnErr result
         (AppendsFront (W.contents writer.old) (W.contents writer.new) bytes.now) }
 {
-    let mut rest = bytes;
-    // A bound that no run reaches: each write may be interrupted, and the proof has to know that this ends.
-    for _ in 0..u64::MAX {
-        if rest.is_empty() {
-            return Ok(());
-        }
-        let len = write_some(writer, rest)?;
-        rest = &rest[len..];
-    }
-    Err(io::Error::from(ErrorKind::Interrupted))
-}
-
-/// One write, and how many of the bytes it wrote: none if it was interrupted. A writer that takes none is an error.
-#[inline(always)]
-fn write_some<W: Write>(writer: &mut W, bytes: &[u8]) -> io::Result<usize>
-    ensures bound { WritesAtMost result bytes.now }
-    ensures bytes { WriteAppends (W.contents writer.old) (W.contents writer.new) result bytes.now }
-{
-    match writer.write(bytes) {
-        Ok(0) => Err(io::Error::from(ErrorKind::WriteZero)),
-        Err(error) if error.kind() == ErrorKind::Interrupted => Ok(0),
-        answer => answer,
-    }
+    write_bytes(writer, bytes, OnInterrupt::Retry)
 }

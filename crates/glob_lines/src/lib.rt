@@ -8,9 +8,11 @@ mod matching;
 mod record_ends;
 mod selection;
 mod watch;
+mod writing;
 
 pub use copying::copy_selected;
 pub use fault::LineFault;
-pub use lines::{filter_lines, filter_records, write_all};
+pub use lines::{filter_lines, filter_records};
 pub use selection::Selection;
 pub use watch::Watch;
+pub use writing::{OnInterrupt, write_bytes};

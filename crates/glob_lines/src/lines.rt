@@ -12,7 +12,7 @@ use crate::selection::Selection;
 use crate::watch::Watch;
 use glob_pattern::{MatchOptions, Pattern};
 use std::alloc::{AllocError, Allocator};
-use std::io::{self, Read, Write};
+use std::io::{Read, Write};
 
 /// How many bytes one read may return: the room for them grows by so many.
 const READ_LEN: usize = 64 * 1024;
@@ -181,7 +181,7 @@ pub(crate) fn write_records<A: Allocator, S: Selection, W: Write>(
         }
         rest = after;
     }
-    write_all(writer, output).map_err(LineFault::Write)?;
+    writer.write_all(output).map_err(LineFault::Write)?;
     Ok(count)
 }
 
@@ -217,7 +217,7 @@ fn keep_record<A: Allocator, W: Write>(
 {
     push_record(bytes, end, output)?;
     if output.len() >= WRITE_LEN {
-        write_all(writer, output).map_err(LineFault::Write)?;
+        writer.write_all(output).map_err(LineFault::Write)?;
         output.clear();
     }
     Ok(())
@@ -234,23 +234,5 @@ fn push_record<A: Allocator>(
 {
     output.extend_from_slice(bytes)?;
     output.push(end)?;
-    Ok(())
-}
-
-/// Writes all of the bytes, in as many writes as it takes: to a writer that accepts two bytes a call, `abc` is two
-/// writes. The first error is returned, also `Interrupted`. Then the first bytes were written, some or none of them.
-pub fn write_all<W: Write>(writer: &mut Watch<W>, bytes: &[u8]) -> io::Result<()>
-    requires { writer.old.failed ≡ false }
-    ensures ok { OnOk result
-        (Appends (W.contents writer.old.inner) (W.contents writer.new.inner) bytes.now) }
-    ensures err { OnErr result
-        (AppendsFront (W.contents writer.old.inner) (W.contents writer.new.inner) bytes.now) }
-    ensures failed { IsTrue writer.new.failed ↔ IsErr result }
-{
-    let mut rest = bytes;
-    while !rest.is_empty() {
-        let len = writer.write(rest)?;
-        rest = &rest[len..];
-    }
     Ok(())
 }

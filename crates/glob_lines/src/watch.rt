@@ -1,8 +1,10 @@
-ghost use Rattle.std.specs.Prelude.{◌≡◌, ◌↔◌, ◌⊎◌, ◌<◌, false, length, IsTrue, IsErr, IfOk};
+ghost use Rattle.std.specs.Prelude.{◌≡◌, ◌↔◌, ◌⊎◌, ◌<◌, false, length, IsTrue, IsErr, IfOk, OnOk, OnErr};
 ghost use Rattle.std.specs.Io.{ReadsAtMost, WritesAtMost};
-ghost use Rattle.std.specs.Io.KnownBytes.{ReadConsumes, WriteAppends};
+ghost use Rattle.std.specs.Io.KnownBytes.{Appends, ReadConsumes, WriteAppends};
+ghost use Rattle.glob_lines.specs.Lines.{AppendsFront};
 
-use std::io::{self, ErrorKind, Read, Write};
+use crate::writing::{OnInterrupt, write_bytes, write_some};
+use std::io::{self, Read, Write};
 use std::marker::Model;
 
 /// A reader or writer, and whether a call of it has failed.
@@ -89,10 +91,21 @@ impl<S: Write> Watch<S> {
         ensures some { IfOk result (λ n. 0 < length buf.now → 0 < n) }
         ensures failed { IsTrue self.new.failed ↔ (IsTrue self.old.failed ⊎ IsErr result) }
     {
-        let answer = match self.inner.write(buf) {
-            Ok(0) if !buf.is_empty() => Err(io::Error::from(ErrorKind::WriteZero)),
-            answer => answer,
-        };
+        let answer = write_some(&mut self.inner, buf);
+        self.failed |= answer.is_err();
+        answer
+    }
+
+    /// Writes all of the bytes, in as many writes as it takes: `abc` in two, where the inner writer takes two bytes a
+    /// call. The first error is returned, also `Interrupted`. Then the first bytes were written, some or none of them.
+    pub(crate) fn write_all(&mut self, bytes: &[u8]) -> io::Result<()>
+        ensures ok { OnOk result
+            (Appends (S.contents self.old.inner) (S.contents self.new.inner) bytes.now) }
+        ensures err { OnErr result
+            (AppendsFront (S.contents self.old.inner) (S.contents self.new.inner) bytes.now) }
+        ensures failed { IsTrue self.new.failed ↔ (IsTrue self.old.failed ⊎ IsErr result) }
+    {
+        let answer = write_bytes(&mut self.inner, bytes, OnInterrupt::Fail);
         self.failed |= answer.is_err();
         answer
     }

@@ -12,10 +12,14 @@ pub Consumes-filled : (a b c : Option (List ℕ)) (xs ys : List ℕ) (filled n :
 Consumes-filled a b c xs ys filled n front before read =
     subst (Consumes a c) (ap (λ l. l ++ take n (drop filled ys)) (sym front) ∙ sym (take-add filled n ys)) (Consumes-trans a b c _ _ before read)
 
+-- what was written is a beginning of the bytes
+pub Appends-front : (a b : Option (List ℕ)) (all done rest : List ℕ) → all ≡ done ++ rest → Appends a b done → (n : ℕ) × Appends a b (take n all)
+Appends-front a b all done rest split appended =
+    (length done, subst (Appends a b) (sym (ap (take (length done)) split ∙ take-append_seam done rest)) appended)
+
 -- some of the bytes were written, and then none
 pub Appends-cut : (a b c : Option (List ℕ)) (all done rest : List ℕ) → all ≡ done ++ rest → Appends a b done → Keeps b c → (n : ℕ) × Appends a c (take n all)
-Appends-cut a b c all done rest split appended kept =
-    (length done, subst (Appends a c) (sym (ap (take (length done)) split ∙ take-append_seam done rest)) (Appends-kept a b c done appended kept))
+Appends-cut a b c all done rest split appended kept = Appends-front a c all done rest split (Appends-kept a b c done appended kept)
 
 -- one more write took n of the bytes that were left
 pub Appends-more : (a b c : Option (List ℕ)) (all done rest : List ℕ) (n : ℕ) → all ≡ done ++ rest → Appends a b done → Appends b c (take n rest)
