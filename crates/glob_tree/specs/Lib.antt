@@ -5,3 +5,4 @@ pub mod Looks
 pub mod Memory
 pub mod Paths
 pub mod Private
+pub mod Words

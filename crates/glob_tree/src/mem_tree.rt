@@ -52,7 +52,8 @@ impl<A: Allocator> Model for MemTree<A> {
 impl<A: Allocator + Copy> MemTree<A> {
     /// A tree of the root alone, which is the current directory. `alloc` serves all that the tree holds and lists.
     ///
-    /// The error would be an allocation failure. This version allocates nothing here, and does not fail.
+    /// The error is an allocation failure, as it is of each change. Memory is taken by changes alone, so no caller has
+    /// to expect it of a new tree.
     pub fn new(alloc: A) -> Result<Self, AllocError>
         ensures empty { IfOk result (λ tree. tree.content ≡ empty_content) }
         ensures content { IfOk result (λ tree. is_content tree.content ≡ true) }

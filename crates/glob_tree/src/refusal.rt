@@ -1,7 +1,12 @@
+ghost use Rattle.std.specs.Prelude.{Some};
+ghost use Rattle.glob_tree.specs.Words.{tree_refusal_words};
+
 use std::alloc::AllocError;
+use std::error::Error;
+use std::fmt;
 
 /// Why a tree in memory refused a change. Where several reasons hold, the first of them is reported. So in an empty
-/// tree `add_dir("/a/..")` is `Improper`, and `add_dir("/a/b")` is `NoParent`.
+/// tree `add_dir("/a/..")` is `Improper`, and `add_dir("/a/b")` is `NoParent`, which prints as `no parent directory`.
 #[derive(Clone, Copy, PartialEq, Eq, Debug)]
 pub enum TreeRefusal {
     /// The path is not `/` and one or more proper names joined by `/`.
@@ -15,6 +20,22 @@ pub enum TreeRefusal {
     /// The memory for the change could not be allocated.
     Memory,
 }
+
+impl fmt::Display for TreeRefusal {
+    ghost output = { λ refusal. Some (tree_refusal_words refusal) };
+
+    fn fmt<W: fmt::Write>(&self, f: &mut fmt::Formatter<W>) -> fmt::Result {
+        f.write_str(match self {
+            TreeRefusal::Improper => "improper path",
+            TreeRefusal::NoParent => "no parent directory",
+            TreeRefusal::Taken => "path already exists",
+            TreeRefusal::NoDirectory => "not a directory",
+            TreeRefusal::Memory => "out of memory",
+        })
+    }
+}
+
+impl Error for TreeRefusal {}
 
 /// A failed allocation.
 impl From<AllocError> for TreeRefusal {

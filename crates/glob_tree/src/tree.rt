@@ -1,9 +1,12 @@
 ghost use Rattle.std.specs.Prelude.{◌≡◌, ℕ, ◌+◌, Option, IfOk, IfErr};
 ghost use Rattle.glob_tree.specs.Content.{Content, look_result, list_result};
 ghost use Rattle.glob_tree.specs.Answers.{IsTold, IsListAnswer, IsListError, IsNamesAnswer, entries_of, entry_count};
+ghost use Rattle.glob_tree.specs.Words.{list_error_words};
 
 use crate::name::Name;
 use std::alloc::{AllocError, AllocFailed, Allocator, Global};
+use std::error::Error;
+use std::fmt;
 use std::io::{self, ErrorKind};
 
 /// What a path leads to. Where `a` is a directory with the file `b`, `a` leads to `Dir`, `a/b` to `Other`, and `a/c` to
@@ -29,6 +32,8 @@ pub struct Entry<A: Allocator = Global> {
 }
 
 /// Why a listing failed. That of a file in a tree in memory has `Read`, with an I/O error of the kind `NotADirectory`.
+///
+/// `Read` prints the words of its I/O error, and `Memory` is printed as `out of memory`.
 #[derive(Debug, Drop)]
 pub enum ListError {
     /// The directory cannot be read, or there is none, for this reason.
@@ -36,6 +41,19 @@ pub enum ListError {
     /// Out of memory: the entries could not be allocated.
     Memory,
 }
+
+impl fmt::Display for ListError {
+    ghost output = { list_error_words };
+
+    fn fmt<W: fmt::Write>(&self, f: &mut fmt::Formatter<W>) -> fmt::Result {
+        match self {
+            ListError::Read(error) => fmt::Display::fmt(error, f),
+            ListError::Memory => f.write_str("out of memory"),
+        }
+    }
+}
+
+impl Error for ListError {}
 
 /// A failed allocation.
 impl From<AllocError> for ListError {
@@ -96,7 +114,9 @@ pub trait Tree: Drop {
 
     ghost asks: { Self → ℕ };
 
-    /// What `path` leads to, from the root if it begins with `/`, and otherwise from the current directory.
+    /// What `path` leads to, from the root if it begins with `/`, and otherwise from the current directory. Where the
+    /// directory `a` is the current one and has the file `b`, both `look("b")` and `look("/a/b")` return `Look::Other`,
+    /// and `look("b/c")` returns `Look::Missing`. It is one question.
     ///
     /// [`AllocError`] is an allocation failure, and says nothing of the path.
     fn look(&mut self, path: &str) -> Result<Look, AllocError>
@@ -105,9 +125,12 @@ pub trait Tree: Drop {
         ensures seen { (c : Content) → IsTold (tells self.old) c
             → IfOk result (λ seen. seen ≡ look_result c path.now) };
 
-    /// The entries of the directory to which `path` leads, each once, in any order.
+    /// The entries of the directory to which `path` leads, each once, in any order: of a directory with the file `b` and
+    /// the directory `c`, `b` with `is_dir` as `false` and `c` with `true`. `.` and `..` are none. It is one question
+    /// more than there are entries.
     ///
-    /// [`ListError::Read`] is the reason why it cannot be listed, and [`ListError::Memory`] an allocation failure.
+    /// [`ListError::Read`] is the reason why it cannot be listed, as that `path` leads to a file or to nothing, and
+    /// [`ListError::Memory`] an allocation failure.
     fn list(&mut self, path: &str) -> Result<Vec<Entry<Self::Alloc>, Self::Alloc>, ListError>
         ensures asks { asks self.new ≡ asks self.old + 1 + entry_count result }
         ensures content { tells self.new ≡ tells self.old }

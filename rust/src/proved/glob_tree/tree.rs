@@ -2,6 +2,7 @@
 //! Contracts are there, and their proofs in `crates/glob_tree/proofs`; it is changed there alone.
 
 use crate::proved::glob_tree::name::Name;
+use std::error::Error;
 use std::io;
 
 /// What a path leads to. Where `a` is a directory with the file `b`, `a` leads to `Dir`, `a/b` to `Other`, and `a/c` to
@@ -27,12 +28,16 @@ pub struct Entry {
 
 /// A tree of files and directories: what a walk asks of it.
 pub trait Tree {
-    /// What `path` leads to, from the root if it begins with `/`, and otherwise from the current directory.
+    /// What `path` leads to, from the root if it begins with `/`, and otherwise from the current directory. Where the
+    /// directory `a` is the current one and has the file `b`, both `look("b")` and `look("/a/b")` return `Look::Other`,
+    /// and `look("b/c")` returns `Look::Missing`. It is one question.
     fn look(&mut self, path: &str) -> Look;
 
-    /// The entries of the directory to which `path` leads, each once, in any order.
+    /// The entries of the directory to which `path` leads, each once, in any order: of a directory with the file `b`
+    /// and the directory `c`, `b` with `is_dir` as `false` and `c` with `true`. `.` and `..` are none. It is one
+    /// question more than there are entries.
     ///
-    /// [`io::Error`] is the reason why it cannot be listed.
+    /// [`io::Error`] is the reason why it cannot be listed, as that `path` leads to a file or to nothing.
     fn list(&mut self, path: &str) -> Result<Vec<Entry>, io::Error>;
 
     /// As [`list`](Tree::list), where the names alone matter: `is_dir` may be `false` at any entry. A tree that would
