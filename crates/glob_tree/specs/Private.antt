@@ -1,3 +1,4 @@
+pub mod Gathering
 pub mod Nodes
 pub mod Numbers
 pub mod Places

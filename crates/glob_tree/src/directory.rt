@@ -1,11 +1,13 @@
 //! The names of an opened directory.
-ghost use Rattle.std.specs.Prelude.{◌≡◌, ◌++◌, ◌<◌, ℕ, List, length, map, true, IfOk, OnOk, IfSome};
-ghost use Rattle.std.specs.Io.KnownBytes.{Consumes, IsAtEnd};
-ghost use Rattle.glob_tree.specs.Directories.{is_listed as is_listed_piece, names_in as names_of_bytes};
+ghost use Rattle.std.specs.Prelude.{◌≡◌, ◌+◌, ◌<◌, length, map, vec_len, IfOk, OnOk, IfSome};
+ghost use Rattle.std.specs.Io.KnownBytes.{IsAtEnd};
+ghost use Rattle.glob_tree.specs.Directories.{names_in as names_of_bytes};
+ghost use Rattle.glob_tree.specs.Private.Gathering.{Gathers};
 
+use crate::name::names_entry;
 use crate::tree::ListError;
 use std::alloc::{AllocError, Allocator};
-use std::io::{self, ErrorKind, Read};
+use std::io::Read;
 
 /// How many bytes of a directory are read at once by its first two reads. The names of some hundred entries fit. A block
 /// is cleared at each listing, so a larger one would cost a small directory more than it saves in system calls.
@@ -29,38 +31,44 @@ pub fn read_directory<D: Read, A: Allocator>(
 {
     let mut bytes = Vec::new(alloc);
     let mut block = [0; BLOCK];
-    if read_blocks(directory, &mut block, 2, &mut bytes)? {
-        return Ok(bytes);
+    for _ in 0..2 {
+        if read_block(directory, &mut block, &mut bytes)? == 0 {
+            return Ok(bytes);
+        }
     }
-    let mut block = [0; LARGE_BLOCK];
-    if read_blocks(directory, &mut block, u64::MAX, &mut bytes)? {
-        return Ok(bytes);
-    }
-    Err(ListError::Read(io::Error::from(ErrorKind::TimedOut)))
+    read_rest(directory, &mut bytes)?;
+    Ok(bytes)
 }
 
-/// Adds what at most so many reads give. Returns whether the directory has ended, which it has at the first empty read.
-/// There is a bound because nothing says that a reader has an end.
-fn read_blocks<D: Read, A: Allocator>(
+/// Adds all that is left of the directory.
+fn read_rest<D: Read, A: Allocator>(
+    directory: &mut D,
+    bytes: &mut Vec<u8, A>,
+) -> Result<(), ListError>
+    ensures bytes { OnOk result (Gathers (D.remaining directory.old) (D.remaining directory.new)
+        bytes.old.items bytes.new.items) }
+    ensures end { OnOk result (IsAtEnd (D.remaining directory.new)) }
+{
+    let mut block = [0; LARGE_BLOCK];
+    while read_block(directory, &mut block, bytes)? > 0 {}
+    Ok(())
+}
+
+/// Adds what one read gives, and returns how many bytes that is: 0 where the directory has ended.
+fn read_block<D: Read, A: Allocator>(
     directory: &mut D,
     block: &mut [u8],
-    reads: u64,
     bytes: &mut Vec<u8, A>,
-) -> Result<bool, ListError>
+) -> Result<usize, ListError>
     requires { 0 < length block.old }
-    ensures bytes { OnOk result ((read : List ℕ)
-        × Consumes (D.remaining directory.old) (D.remaining directory.new) read
-        × (bytes.new.items ≡ bytes.old.items ++ read)) }
-    ensures end { IfOk result (λ ended. ended ≡ true → IsAtEnd (D.remaining directory.new)) }
+    ensures bytes { OnOk result (Gathers (D.remaining directory.old) (D.remaining directory.new)
+        bytes.old.items bytes.new.items) }
+    ensures count { IfOk result (λ n. vec_len bytes.new ≡ vec_len bytes.old + n) }
+    ensures end { IfOk result (λ n. n ≡ 0 → IsAtEnd (D.remaining directory.new)) }
 {
-    for _ in 0..reads {
-        let count = directory.read(block)?;
-        if count == 0 {
-            return Ok(true);
-        }
-        bytes.extend_from_slice(&block[..count])?;
-    }
-    Ok(false)
+    let count = directory.read(block)?;
+    bytes.extend_from_slice(&block[..count])?;
+    Ok(count)
 }
 
 /// The names of the entries in the bytes of a directory, in order, as `a` and `b` in `a\0..\0b\0`. The error is an
@@ -71,13 +79,6 @@ pub fn names_in<A: Allocator>(alloc: A, bytes: &[u8]) -> Result<Vec<&[u8], A>, A
 {
     bytes
         .split(|&byte| byte == 0)
-        .filter(|name| is_listed(name))
+        .filter(|name| names_entry(name))
         .collect(alloc)
-}
-
-/// Whether a piece between NULs is the name of an entry: not the empty one after the last NUL, nor `.` or `..`.
-fn is_listed(piece: &[u8]) -> bool
-    ensures { result ≡ is_listed_piece piece.now }
-{
-    !piece.is_empty() && piece != b".".as_slice() && piece != b"..".as_slice()
 }

@@ -1,5 +1,6 @@
 ghost use Rattle.std.specs.Prelude.{◌≡◌, true, is_ok, IfOk, IfErr, string_bytes};
 ghost use Rattle.std.specs.List.{list_any};
+ghost use Rattle.glob_tree.specs.Directories.{is_listed as names_entry_bytes};
 ghost use Rattle.glob_tree.specs.Paths.{is_barred, is_proper as is_proper_text};
 
 use std::alloc::{AllocError, Allocator, Global};
@@ -26,9 +27,9 @@ impl<A: Allocator> Model for Name<A> {
 }
 
 impl<A: Allocator> Name<A> {
-    /// The name `text`. It allocates nothing.
+    /// The name `text`, as `a.rs`. It allocates nothing.
     ///
-    /// The error is `text` itself, where it is no proper name.
+    /// The error is `text` itself, where it is no proper name: `Name::new(text)` is `Err(text)` for `..` and for `a/b`.
     pub fn new(text: String<A>) -> Result<Self, String<A>>
         ensures proper { is_ok result ≡ is_proper_text (string_bytes text) }
         ensures name { IfOk result (λ name. name ≡ string_bytes text) }
@@ -71,10 +72,14 @@ pub fn name_from_proper<A: Allocator>(alloc: A, text: &str) -> Result<Name<A>, A
 pub fn is_proper(text: &str) -> bool
     ensures { result ≡ is_proper_text text.now }
 {
-    if text.is_empty() || text == "." || text == ".." {
-        return false;
-    }
-    !has_barred(text)
+    names_entry(text.as_bytes()) && !has_barred(text)
+}
+
+/// Whether the bytes are neither empty nor `.` or `..`, which lead to no entry of the directory.
+pub(crate) fn names_entry(bytes: &[u8]) -> bool
+    ensures { result ≡ names_entry_bytes bytes.now }
+{
+    !bytes.is_empty() && bytes != b".".as_slice() && bytes != b"..".as_slice()
 }
 
 /// Whether some byte is `/` or NUL, which no name holds.

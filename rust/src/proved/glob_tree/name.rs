@@ -10,9 +10,9 @@ pub struct Name {
 }
 
 impl Name {
-    /// The name `text`.
+    /// The name `text`, as `a.rs`.
     ///
-    /// The error is `text` itself, where it is no proper name.
+    /// The error is `text` itself, where it is no proper name: `Name::new(text)` is `Err(text)` for `..` and for `a/b`.
     pub fn new(text: String) -> Result<Self, String> {
         if is_proper(text.as_str()) {
             Ok(Name { text })
@@ -41,10 +41,12 @@ pub fn name_from_proper(text: &str) -> Name {
 
 /// Whether the text is a proper name: `a.rs` is, and `..` is not.
 pub fn is_proper(text: &str) -> bool {
-    if text.is_empty() || text == "." || text == ".." {
-        return false;
-    }
-    !has_barred(text)
+    names_entry(text.as_bytes()) && !has_barred(text)
+}
+
+/// Whether the bytes are neither empty nor `.` or `..`, which lead to no entry of the directory.
+pub(crate) fn names_entry(bytes: &[u8]) -> bool {
+    !bytes.is_empty() && bytes != b".".as_slice() && bytes != b"..".as_slice()
 }
 
 /// Whether some byte is `/` or NUL, which no name holds.

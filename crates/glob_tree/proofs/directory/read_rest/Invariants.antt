@@ -1,10 +1,13 @@
-use Rattle.std.proofs.Common.{◌≡◌, ◌++◌, ◌<◌, ℕ, List, length}
-use Rattle.std.specs.Io.KnownBytes.{Consumes}
-use Rattle.glob_tree.proofs.directory.read_blocks.Given as goal
+-- The block has room, and what was read so far was gathered.
+use Rattle.std.proofs.Common.{◌<◌, ◌-◌, ◌^◌, length, vec_len}
+use Rattle.glob_tree.specs.Private.Gathering.{Gathers}
+use Rattle.glob_tree.proofs.directory.read_rest.Given as goal
 
--- what was read so far, in a block with room
 abbrev pub invariant-loop : goal.invariant-loop
 invariant-loop g l = record {
   room : 0 < length l.block;
-  read : (read : List ℕ) × Consumes (g.D.Read.remaining l.initial.directory) (g.D.Read.remaining l.directory) read × (l.bytes.items ≡ l.initial.bytes.items ++ read);
+  read : Gathers (g.D.Read.remaining l.initial.directory) (g.D.Read.remaining l.directory) l.initial.bytes.items l.bytes.items;
 }
+
+abbrev pub decreases-loop : goal.decreases-loop
+decreases-loop g l = 2 ^ 64 - vec_len l.bytes

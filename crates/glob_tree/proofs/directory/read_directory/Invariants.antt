@@ -1,0 +1,10 @@
+-- What was read so far was gathered.
+use Rattle.std.proofs.Common.{[], ◌<◌, length}
+use Rattle.glob_tree.specs.Private.Gathering.{Gathers}
+use Rattle.glob_tree.proofs.directory.read_directory.Given as goal
+
+abbrev pub invariant-loop : goal.invariant-loop
+invariant-loop g l = record {
+  room : 0 < length l.block;
+  read : Gathers (g.D.Read.remaining l.initial.directory) (g.D.Read.remaining l.directory) [] l.bytes.items;
+}
