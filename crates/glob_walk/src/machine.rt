@@ -148,7 +148,8 @@ impl<A: Allocator + Copy> WalkMachine<A> {
         }
     }
 
-    /// The next step, where no question is open: at first, and after an item.
+    /// The next step, where no question is open: at first, and after an item. The first step of each walk is
+    /// `Step::Look`, at the path `.` or `/`, or the refusal of its unit by a limit of 0.
     pub fn next(&mut self) -> Step<A>
         requires free { self.old.asked ≡ None }
         ensures steps { StepGoes IsSomeContent 0 self.old (saying result) self.new }
@@ -199,8 +200,9 @@ impl<A: Allocator + Copy> WalkMachine<A> {
         }
     }
 
-    /// Answers the look that is asked for, and returns the next step. `Err` says that there was no memory to look: the step
-    /// is then an error with the cause `Memory`, and the walk is over.
+    /// Answers the look that is asked for, and returns the next step. Where `*` looks at `.`, `looked(Ok(Look::Dir))` is
+    /// `Step::ListNames`, and `looked(Ok(Look::Missing))` is `Step::Done`. `Err` says that there was no memory to look:
+    /// the step is then an error with the cause `Memory`, and the walk is over.
     pub fn looked(&mut self, seen: Result<Look, AllocError>) -> Step<A>
         requires asked { IsLook self.old.asked }
         ensures failed { IfErr seen (λ _. saying result ≡ Says NoMemory) }
@@ -214,7 +216,8 @@ impl<A: Allocator + Copy> WalkMachine<A> {
     }
 
     /// Answers the listing that is asked for, of entries or of names alone, with its entries in any order, and returns the
-    /// next step. After `Err(ListError::Read(e))` that is an error with the path, the kind of `e` and the cause `Read`, and
+    /// next step, for one unit of work an entry. Where `*` lists `.`, `listed` of the files `y` and `x` gives the item `x`.
+    /// After `Err(ListError::Read(e))` that is an error with the path, the kind of `e` and the cause `Read`, and
     /// the walk goes on; after `Err(ListError::Memory)` it is one with the cause `Memory`, and the walk is over.
     pub fn listed(&mut self, listed: Result<Vec<Entry<A>, A>, ListError>) -> Step<A>
         requires asked { IsList self.old.asked }
@@ -230,7 +233,8 @@ impl<A: Allocator + Copy> WalkMachine<A> {
     }
 
     /// Takes the answer to the question that is open, or `Nothing` where none is, and returns the next step, as
-    /// [`looked`](WalkMachine::looked), [`listed`](WalkMachine::listed) and [`next`](WalkMachine::next) do.
+    /// [`looked`](WalkMachine::looked), [`listed`](WalkMachine::listed) and [`next`](WalkMachine::next) do: with
+    /// `Answer::Look(seen)` it is `looked(seen)`.
     pub fn resume(&mut self, answer: Answer<A>) -> Step<A>
         requires answer { IsAnswer self.old.asked answer }
         ensures failed { IfFailed answer (question_path self.old.asked)
@@ -252,7 +256,8 @@ impl<A: Allocator + Copy> WalkMachine<A> {
 }
 
 impl<A: Allocator> WalkMachine<A> {
-    /// The path that is asked for, and the empty text where no question is open.
+    /// The path that is asked for, as `a` where the entries of the directory `a` are, and the empty text where no question
+    /// is open.
     pub fn path(&self) -> &str
         ensures { result.now ≡ question_path self.now.asked }
     {
@@ -265,7 +270,8 @@ impl<A: Allocator> WalkMachine<A> {
         }
     }
 
-    /// How many units of work were charged, that of an open question too: never more than the limit.
+    /// How many units of work were charged, that of an open question too: never more than the limit. It is 1 at the first
+    /// question, and 4 where `*` has looked at a directory, and listed it with two entries.
     pub fn spent(&self) -> u64
         ensures spent { result ≡ self.now.spent }
         ensures within { result ≤ self.now.limit }
@@ -273,7 +279,8 @@ impl<A: Allocator> WalkMachine<A> {
         self.walker.meter.spent
     }
 
-    /// How many items were given, a refusal too: at most one more than `spent`.
+    /// How many items were given, a refusal too: at most one more than `spent`. It is 2 where `*` has given two files, and
+    /// 1 where a limit of 0 refused the first unit.
     pub fn given(&self) -> u128
         ensures given { result ≡ self.now.given }
         ensures few { result ≤ self.now.spent + 1 }

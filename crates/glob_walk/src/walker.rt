@@ -16,7 +16,7 @@ ghost use Rattle.glob_walk.specs.Machines.{Says, list_error_outcome};
 ghost use Rattle.glob_walk.specs.Walks.{NoMemory};
 ghost use Rattle.glob_walk.specs.Components.{is_literal};
 ghost use Rattle.glob_tree.specs.Answers.{entry_count};
-ghost use Rattle.glob_walk.specs.Questions.{IsSomeContent, IsLook, IsList, IsSeenIn, IsListedIn, question_path};
+ghost use Rattle.glob_walk.specs.Questions.{IsSomeContent, IsSeenIn, IsListedIn, ListAt, LookAt, question_path};
 ghost use Rattle.glob_walk.specs.Private.Tasks.{task_marks, enter_from, IsListedFor, IsOpened, next_ready, IsNextSound, IsNextOpened, question_of};
 ghost use Rattle.glob_walk.specs.Private.Stacks.{next_weight, weight, IsWithin};
 ghost use Rattle.glob_walk.specs.Private.Walking.{is_last_turn, turn_saying};
@@ -218,7 +218,7 @@ impl<A: Allocator + Copy> Walker<A> {
         }
     }
 
-    /// Takes the answer to the question that is open: what comes of it at once.
+    /// Takes the answer to the question that is open, and the task that asked it: what comes of it at once.
     fn take_answer(&mut self, answer: Answer<A>) -> Turn<A>
         requires limit { self.old.meter.spent ≤ self.old.meter.limit }
         requires within { IsWithin self.old.stack }
@@ -231,27 +231,9 @@ impl<A: Allocator + Copy> Walker<A> {
             self.old.meter self.old.stack result
             self.new.meter self.new.stack }
     {
-        match answer {
-            Answer::Nothing => Turn::Continue,
-            Answer::Look(seen) => self.take_look(seen),
-            Answer::List(listed) => self.take_listing(listed),
+        if let Answer::Nothing = answer {
+            return Turn::Continue;
         }
-    }
-
-    /// Takes the answer to a look, and leaves the task that follows, if any.
-    fn take_look(&mut self, answer: Result<Look, AllocError>) -> Turn<A>
-        requires limit { self.old.meter.spent ≤ self.old.meter.limit }
-        requires within { IsWithin self.old.stack }
-        requires asked { IsLook (question_of self.old.stack.next) }
-        ensures failed { IfErr answer (λ _. turn_saying result ≡ Says NoMemory) }
-        ensures seen { IfOk answer (λ _. result ≡ Turn.Continue) }
-        ensures turn { TurnsTo (IsSeenIn (question_of self.old.stack.next) answer) 0
-            self.old.meter self.old.stack result
-            self.new.meter self.new.stack }
-    {
-        let Ok(seen) = answer else {
-            return Turn::Memory;
-        };
         let Some(task) = self.stack.next.take() else {
             unreachable!()
         };
@@ -260,37 +242,62 @@ impl<A: Allocator + Copy> Walker<A> {
             component,
             state,
         } = task;
-        let TaskState::Looking(accepted) = state else {
-            unreachable!()
+        match (state, answer) {
+            (TaskState::Looking(accepted), Answer::Look(seen)) => {
+                self.take_look(path, component, accepted, seen)
+            }
+            (TaskState::Listing { recursive, kinds }, Answer::List(listed)) => {
+                self.take_listing(path, component, recursive, kinds, listed)
+            }
+            _ => unreachable!(),
+        }
+    }
+
+    /// Takes the answer to a look, and leaves the task that follows, if any.
+    fn take_look(
+        &mut self,
+        path: String<A>,
+        component: usize,
+        accepted: Accepted,
+        answer: Result<Look, AllocError>,
+    ) -> Turn<A>
+        requires limit { self.old.meter.spent ≤ self.old.meter.limit }
+        requires none { self.old.stack.next ≡ None }
+        requires within { IsWithin self.old.stack }
+        ensures failed { IfErr answer (λ _. turn_saying result ≡ Says NoMemory) }
+        ensures seen { IfOk answer (λ _. result ≡ Turn.Continue) }
+        ensures turn { TurnsTo (IsSeenIn (Some (LookAt (string_bytes path))) answer) 0
+            self.old.meter (with_task path component (TaskState.Looking accepted) self.old.stack) result
+            self.new.meter self.new.stack }
+    {
+        let Ok(seen) = answer else {
+            return Turn::Memory;
         };
         self.stack.next = task_after_look(path, component, accepted, seen);
         Turn::Continue
     }
 
     /// Takes the answer to a listing.
-    fn take_listing(&mut self, answer: Result<Vec<Entry<A>, A>, ListError>) -> Turn<A>
+    fn take_listing(
+        &mut self,
+        path: String<A>,
+        component: usize,
+        recursive: bool,
+        kinds: bool,
+        answer: Result<Vec<Entry<A>, A>, ListError>,
+    ) -> Turn<A>
         requires limit { self.old.meter.spent ≤ self.old.meter.limit }
+        requires none { self.old.stack.next ≡ None }
         requires within { IsWithin self.old.stack }
-        requires opened { IsNextOpened self.old.stack.plan self.old.stack.next }
-        requires asked { IsList (question_of self.old.stack.next) }
-        ensures failed { IfErr answer (λ e. turn_saying result
-            ≡ Says (list_error_outcome (question_path (question_of self.old.stack.next)) e)) }
-        ensures turn { TurnsTo (IsListedIn (question_of self.old.stack.next) answer)
+        requires listed { IsListedFor self.old.stack.plan component recursive kinds }
+        ensures failed { IfErr answer
+            (λ e. turn_saying result ≡ Says (list_error_outcome (string_bytes path) e)) }
+        ensures turn { TurnsTo (IsListedIn (Some (ListAt kinds (string_bytes path))) answer)
             (entry_count answer)
-            self.old.meter self.old.stack result
+            self.old.meter
+            (with_task path component (TaskState.Listing recursive kinds) self.old.stack) result
             self.new.meter self.new.stack }
     {
-        let Some(task) = self.stack.next.take() else {
-            unreachable!()
-        };
-        let Task {
-            path,
-            component,
-            state,
-        } = task;
-        let TaskState::Listing { recursive, kinds } = state else {
-            unreachable!()
-        };
         match answer {
             Ok(entries) => self.open(path, component, recursive, kinds, entries),
             Err(ListError::Read(e)) => Turn::Unread(path, e),

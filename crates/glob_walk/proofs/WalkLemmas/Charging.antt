@@ -1,5 +1,5 @@
 -- What is left where nothing was charged, and turns after one another.
-use Rattle.std.proofs.Common.{◌≡◌, ℕ, ◌+◌, ◌≤◌, Bool, true, false, cond, List, [], ◌∷◌, ◌++◌, Option, None, Some, refl, ap, ◌∙◌, arith}
+use Rattle.std.proofs.Common.{◌≡◌, ℕ, ◌+◌, ◌≤◌, Bool, true, false, cond, List, [], ◌∷◌, ◌++◌, Option, None, Some, refl, ap, sym, subst, ◌∙◌, arith}
 use Rattle.std.proofs.lemmas.Bool.{cond-true, cond-false}
 use Rattle.std.specs.Prelude.{string_bytes}
 use Rattle.std.specs.IoError.{error_kind}
@@ -22,7 +22,7 @@ use Rattle.glob_walk.specs.Machines.{AsksNext}
 use Rattle.glob_walk.specs.Private.Tasks.{question_of, state_question, IsNextOpened, IsStateOpened}
 use Rattle.glob_walk.specs.Private.Stacks.{left, ready, IsWithin}
 use Rattle.glob_walk.specs.Answers.{IsAnswered}
-use Rattle.glob_walk.specs.Private.Turns.{TurnOf, TurnCounts, IfGoing, TurnsTo, listed_items}
+use Rattle.glob_walk.specs.Private.Turns.{TurnOf, TurnCounts, IfGoing, TurnsTo, listed_items, with_task}
 use Rattle.glob_walk.specs.Walks.{Charges, BreaksOff, works}
 
 pub uncharged : (left new : List Mark) (spent : ℕ) → left ≡ new → Charges left spent new spent
@@ -100,6 +100,44 @@ TurnsTo-none Fits m s fits within free = record {
   ready = omega arith;
   sound = λ c f h. h;
   takes = λ c f h. uncharged (left c s) (left c s) m.spent refl;
+}
+
+-- a turn for which more is known of the contents
+pub TurnsTo-fits : {A : Type 0} (Fits Fits' : Content → Type 0) (n : ℕ) (a b : Meter) (s s' : Stack A) (t : Turn A)
+    → ((c : Content) → Fits' c → Fits c) → TurnsTo Fits n a s t b s' → TurnsTo Fits' n a s t b s'
+TurnsTo-fits Fits Fits' n a b s s' t fit h = record {
+  limit = h.limit;
+  fits = h.fits;
+  counts = h.counts;
+  plan = h.plan;
+  within = h.within;
+  asks = h.asks;
+  ready = h.ready;
+  sound = IfGoing-map t (λ going c w. going c (fit c w)) h.sound;
+  takes = λ c w x. h.takes c (fit c w) x;
+}
+
+-- the turn of a task that was taken off is one of the stack
+pub TurnsTo-task : {A : Type 0} (Fits : Option Question → Content → Type 0) (n : ℕ) (a b : Meter) (s s' : Stack A) (t : Task A) (x : TaskState) (r : Turn A)
+    → s.next ≡ Some t → t.state ≡ x
+    → TurnsTo (Fits (state_question (string_bytes t.path) x)) n a (with_task t.path t.component x s) r b s' → TurnsTo (Fits (question_of s.next)) n a s r b s'
+TurnsTo-task {A} Fits n a b s s' t x r next is h =
+    let same : with_task t.path t.component x s ≡ s =
+    ap (λ y. with_task t.path t.component y s) (sym is) ∙ ap (λ o. record { plan = s.plan; next = o; frames = s.frames }) (sym next) in
+    subst (λ (z : Stack A). TurnsTo (Fits (question_of z.next)) n a z r b s') same h
+
+-- memory was not found, and nothing was charged
+pub TurnsTo-memory : {A : Type 0} (Fits : Content → Type 0) (n : ℕ) (m : Meter) (s s' : Stack A) → m.spent ≤ m.limit → n ≡ 0 → s'.plan ≡ s.plan → TurnsTo Fits n m s turn.Memory m s'
+TurnsTo-memory Fits n m s s' fits none plan = record {
+  limit = refl;
+  fits = fits;
+  counts = omega (arith, none);
+  plan = plan;
+  within = tt;
+  asks = tt;
+  ready = tt;
+  sound = tt;
+  takes = λ c w h. breaks_off (left c s) m.spent m.spent refl;
 }
 
 -- a turn after one that went on

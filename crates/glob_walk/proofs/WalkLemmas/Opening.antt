@@ -1,6 +1,6 @@
 -- What comes of a directory that is listed.
 use Rattle.std.proofs.Common.{◌≡◌, ℕ, zero, suc, ◌+◌, ◌-◌, ◌<◌, ◌≤◌, Bool, true, false, cond, List, [], ◌∷◌, ◌++◌, length, drop, replicate, refl, ap, sym, subst, ◌∙◌, arith, append_assoc}
-use Rattle.std.specs.Prelude.{flat_map, Option, Some, string_bytes}
+use Rattle.std.specs.Prelude.{flat_map, Some, string_bytes}
 use Rattle.std.specs.Path.{cur_dir, parent_dir}
 use Rattle.std.specs.declared.io.ErrorKind.{ErrorKind}
 use Rattle.glob_text.specs.Text.{Text}
@@ -18,12 +18,11 @@ use Rattle.glob_walk.proofs.ListingLemmas.Descending.{enter-wild, enter-recursiv
 use Rattle.glob_walk.specs.declared.plan.Plan.{Plan}
 use Rattle.glob_walk.specs.declared.frame.Cursor.{Cursor}
 use Rattle.glob_walk.specs.declared.frame.Cursor.TheVariants.{Parent, At}
-use Rattle.glob_walk.specs.Private.Tasks.{enter_from, state_marks, next_marks, state_question, question_of, IsOpened, IsStateOpened, IsNextOpened, IsStateSound, IsNextSound}
+use Rattle.glob_walk.specs.Private.Tasks.{enter_from, state_marks, next_marks, IsOpened, IsStateOpened, IsNextOpened, IsStateSound, IsNextSound}
 use Rattle.glob_walk.specs.Private.Stacks.{left, frames_marks}
 use Rattle.glob_walk.specs.declared.stack.Stack.{Stack}
 use Rattle.glob_walk.specs.declared.task.Task.{Task}
 use Rattle.glob_walk.specs.declared.task.TaskState.TheVariants.{Listing}
-use Rattle.glob_walk.specs.Questions.{Question, ListAt}
 use Rattle.glob_walk.specs.Private.Frames.{take_at, first_of, entries_marks, special_marks, special_after, cursor_marks, cursor_unmet, first_cursor, IsEntrySound}
 use Rattle.glob_walk.specs.Private.Meters.{IsInOrder, IsHeld, IsCut}
 use Rattle.glob_tree.specs.Answers.{IsListFault}
@@ -247,9 +246,6 @@ listed_fault c w plan recursive component path opens d kind fault = ap (drop 1) 
 
 -- the task of a stack awaits a listing
 module _ {A : Type 0} (c : Content) (s : Stack A) (t : Task A) (recursive kinds : Bool) (next : s.next ≡ Some t) (listing : t.state ≡ Listing recursive kinds) where
-  pub listed_answer : (P : Option Question → Type 0) → P (question_of s.next) → P (Some (ListAt kinds (string_bytes t.path)))
-  listed_answer P h = subst P (ap question_of next ∙ ap (state_question (string_bytes t.path)) listing) h
-
   pub unread_left : IsContent c → IsNextOpened s.plan s.next → IsNextSound c s.next → (kind : ErrorKind) → IsListFault (list_result c (string_bytes t.path)) kind
       → left c s ≡ Give (Unread (string_bytes t.path) kind) ∷ frames_marks c s.plan s.frames.items
   unread_left w opened sound kind fault =

@@ -85,7 +85,8 @@ impl WalkMachine {
         WalkMachine { walker: Walker { meter, stack }, given: 0, over: false }
     }
 
-    /// The next step, where no question is open: at first, and after an item.
+    /// The next step, where no question is open: at first, and after an item. The first step of each walk is
+    /// `Step::Look`, at the path `.` or `/`, or the refusal of its unit by a limit of 0.
     pub fn next(&mut self) -> Step {
         self.resume(Answer::Nothing)
     }
@@ -114,20 +115,23 @@ impl WalkMachine {
         }
     }
 
-    /// Answers the look that is asked for, and returns the next step.
+    /// Answers the look that is asked for, and returns the next step. Where `*` looks at `.`, `looked(Look::Dir)` is
+    /// `Step::ListNames`, and `looked(Look::Missing)` is `Step::Done`.
     pub fn looked(&mut self, seen: Look) -> Step {
         self.resume(Answer::Look(seen))
     }
 
     /// Answers the listing that is asked for, of entries or of names alone, with its entries in any order, and returns
-    /// the next step. After `Err(e)` that is an error with the path, the kind of `e` and the cause `Read`, and the walk
-    /// goes on.
+    /// the next step, for one unit of work an entry. Where `*` lists `.`, `listed` of the files `y` and `x` gives the
+    /// item `x`. After `Err(e)` that is an error with the path, the kind of `e` and the cause `Read`, and the walk goes
+    /// on.
     pub fn listed(&mut self, listed: Result<Vec<Entry>, io::Error>) -> Step {
         self.resume(Answer::List(listed))
     }
 
     /// Takes the answer to the question that is open, or `Nothing` where none is, and returns the next step, as
-    /// [`looked`](WalkMachine::looked), [`listed`](WalkMachine::listed) and [`next`](WalkMachine::next) do.
+    /// [`looked`](WalkMachine::looked), [`listed`](WalkMachine::listed) and [`next`](WalkMachine::next) do: with
+    /// `Answer::Look(seen)` it is `looked(seen)`.
     pub fn resume(&mut self, answer: Answer) -> Step {
         if self.over {
             return Step::Done;
@@ -140,7 +144,8 @@ impl WalkMachine {
 }
 
 impl WalkMachine {
-    /// The path that is asked for, and the empty text where no question is open.
+    /// The path that is asked for, as `a` where the entries of the directory `a` are, and the empty text where no
+    /// question is open.
     pub fn path(&self) -> &str {
         match &self.walker.stack.next {
             Some(task) => match task.state {
@@ -151,12 +156,14 @@ impl WalkMachine {
         }
     }
 
-    /// How many units of work were charged, that of an open question too: never more than the limit.
+    /// How many units of work were charged, that of an open question too: never more than the limit. It is 1 at the
+    /// first question, and 4 where `*` has looked at a directory, and listed it with two entries.
     pub fn spent(&self) -> u64 {
         self.walker.meter.spent
     }
 
-    /// How many items were given, a refusal too: at most one more than `spent`.
+    /// How many items were given, a refusal too: at most one more than `spent`. It is 2 where `*` has given two files,
+    /// and 1 where a limit of 0 refused the first unit.
     pub fn given(&self) -> u128 {
         self.given
     }

@@ -120,30 +120,38 @@ impl Walker {
         }
     }
 
-    /// Takes the answer to the question that is open: what comes of it at once.
+    /// Takes the answer to the question that is open, and the task that asked it: what comes of it at once.
     fn take_answer(&mut self, answer: Answer) -> Turn {
-        match answer {
-            Answer::Nothing => Turn::Continue,
-            Answer::Look(seen) => self.take_look(seen),
-            Answer::List(listed) => self.take_listing(listed),
+        if let Answer::Nothing = answer {
+            return Turn::Continue;
+        }
+        let Some(task) = self.stack.next.take() else { unreachable!() };
+        let Task { path, component, state } = task;
+        match (state, answer) {
+            (TaskState::Looking(accepted), Answer::Look(seen)) => self.take_look(path, component, accepted, seen),
+            (TaskState::Listing { recursive, kinds }, Answer::List(listed)) => {
+                self.take_listing(path, component, recursive, kinds, listed)
+            }
+            _ => unreachable!(),
         }
     }
 
     /// Takes the answer to a look, and leaves the task that follows, if any.
-    fn take_look(&mut self, answer: Look) -> Turn {
+    fn take_look(&mut self, path: String, component: usize, accepted: Accepted, answer: Look) -> Turn {
         let seen = answer;
-        let Some(task) = self.stack.next.take() else { unreachable!() };
-        let Task { path, component, state } = task;
-        let TaskState::Looking(accepted) = state else { unreachable!() };
         self.stack.next = task_after_look(path, component, accepted, seen);
         Turn::Continue
     }
 
     /// Takes the answer to a listing.
-    fn take_listing(&mut self, answer: Result<Vec<Entry>, io::Error>) -> Turn {
-        let Some(task) = self.stack.next.take() else { unreachable!() };
-        let Task { path, component, state } = task;
-        let TaskState::Listing { recursive, kinds } = state else { unreachable!() };
+    fn take_listing(
+        &mut self,
+        path: String,
+        component: usize,
+        recursive: bool,
+        kinds: bool,
+        answer: Result<Vec<Entry>, io::Error>,
+    ) -> Turn {
         match answer {
             Ok(entries) => self.open(path, component, recursive, kinds, entries),
             Err(e) => Turn::Unread(path, e),

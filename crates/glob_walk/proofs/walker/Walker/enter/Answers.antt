@@ -4,7 +4,7 @@ use Rattle.glob_walk.specs.Marks.{Give, Found}
 use Rattle.glob_walk.specs.Components.{is_literal, is_recursive}
 use Rattle.glob_walk.specs.Private.Tasks.{enter_from, next_ready, question_of, IsOpened, IsNextSound}
 use Rattle.glob_walk.specs.Private.Stacks.{frames_marks}
-use Rattle.glob_walk.proofs.WalkLemmas.Charging.{breaks_off, uncharged, if_given, if_not_given}
+use Rattle.glob_walk.proofs.WalkLemmas.Charging.{TurnsTo-memory, uncharged, if_given, if_not_given}
 use Rattle.glob_walk.proofs.WalkLemmas.Naming.{ended, opened_none}
 use Rattle.glob_walk.proofs.WalkLemmas.Merging.{opened_for}
 use Rattle.glob_walk.proofs.WalkLemmas.Stacking.{left_none}
@@ -110,14 +110,4 @@ returns-in_default-clause-turn g c =
     }
 
 pub returns-in_default-literal_task-clause-turn : goal.returns-in_default-literal_task-clause-turn
-returns-in_default-literal_task-clause-turn g c = record {
-  limit = refl;
-  fits = c.requires.limit;
-  counts = unchanged c.args.self.now.meter.spent;
-  plan = refl;
-  within = tt;
-  asks = tt;
-  ready = tt;
-  sound = tt;
-  takes = λ c' w h. breaks_off _ _ _ (search rules);
-}
+returns-in_default-literal_task-clause-turn g c = TurnsTo-memory _ _ _ _ _ c.requires.limit refl refl

@@ -1,24 +1,10 @@
 use Rattle.std.proofs.Common.{rules, refl, ◌≡◌, ◌++◌, None, Some, ap, subst, sym, ◌∙◌, arith}
 use Rattle.glob_walk.specs.Questions.{IsSomeContent}
-use Rattle.glob_walk.specs.declared.meter.Meter.{Meter}
-use Rattle.glob_walk.specs.declared.stack.Stack.{Stack}
-use Rattle.glob_walk.specs.declared.task.TaskState.{TaskState}
 use Rattle.glob_walk.specs.declared.task.TaskState.TheVariants.{Seen, Unseen}
-use Rattle.glob_walk.specs.declared.task.Task.{Task}
-use Rattle.glob_walk.specs.declared.turn.Turn.{Turn}
 use Rattle.glob_walk.specs.Private.Tasks.{next_marks, IsNextSound}
 use Rattle.glob_walk.specs.Private.Stacks.{frames_marks, next_weight, state_weight}
-use Rattle.glob_walk.specs.Private.Turns.{TurnsTo, with_task}
-use Rattle.glob_walk.proofs.WalkLemmas.Charging.{breaks_off, uncharged}
+use Rattle.glob_walk.proofs.WalkLemmas.Charging.{TurnsTo-memory, TurnsTo-task, uncharged}
 use Rattle.glob_walk.proofs.walker.Walker.turn.Goals as goal
-
--- the turn of a task that was taken off is one of the stack
-takes_task : {A : Type 0} (old new : Meter) (s s' : Stack A) (t : Task A) (x : TaskState) (turn : Turn A) → s.next ≡ Some t → t.state ≡ x
-    → TurnsTo IsSomeContent 0 old (with_task t.path t.component x s) turn new s' → TurnsTo IsSomeContent 0 old s turn new s'
-takes_task {A} old new s s' t x turn next is h =
-    let same : with_task t.path t.component x s ≡ s =
-    ap (λ y. with_task t.path t.component y s) (sym is) ∙ ap (λ n. record { plan = s.plan; next = n; frames = s.frames }) (sym next) in
-    subst (λ (z : Stack A). TurnsTo IsSomeContent 0 old z turn new s') same h
 
 pub step-requires-clause-none : goal.step-requires-clause-none
 step-requires-clause-none g c = c.take.ensures.after
@@ -55,7 +41,7 @@ returns-in-Unseen-clause-idle g c = λ none _. let next : c.args.self.now.stack.
 
 pub returns-in-Unseen-clause-turn : goal.returns-in-Unseen-clause-turn
 returns-in-Unseen-clause-turn g c =
-    takes_task c.args.self.now.meter c.look.new.self.meter c.args.self.now.stack c.look.new.self.stack c.in-Some.task (Unseen c.in-Unseen.accepted)
+    TurnsTo-task (λ _. IsSomeContent) 0 c.args.self.now.meter c.look.new.self.meter c.args.self.now.stack c.look.new.self.stack c.in-Some.task (Unseen c.in-Unseen.accepted)
     c.look.result (sym c.take.ensures.value ∙ c.in-Some.is) c.in-Unseen.is c.look.ensures.turn
 
 pub returns-in-Seen-clause-falls : goal.returns-in-Seen-clause-falls
@@ -69,7 +55,7 @@ returns-in-Seen-clause-idle g c = λ none _. let next : c.args.self.now.stack.ne
 
 pub returns-in-Seen-clause-turn : goal.returns-in-Seen-clause-turn
 returns-in-Seen-clause-turn g c =
-    takes_task c.args.self.now.meter c.enter.new.self.meter c.args.self.now.stack c.enter.new.self.stack c.in-Some.task (Seen c.in-Seen.is_dir)
+    TurnsTo-task (λ _. IsSomeContent) 0 c.args.self.now.meter c.enter.new.self.meter c.args.self.now.stack c.enter.new.self.stack c.in-Some.task (Seen c.in-Seen.is_dir)
     c.enter.result (sym c.take.ensures.value ∙ c.in-Some.is) c.in-Seen.is c.enter.ensures.turn
 
 pub returns-in-Ok-true-clause-turn : goal.returns-in-Ok-true-clause-turn
@@ -110,14 +96,4 @@ returns-in-Ok-false-clause-turn g c =
     }
 
 pub returns-in-Err-clause-turn : goal.returns-in-Err-clause-turn
-returns-in-Err-clause-turn g c = record {
-  limit = refl;
-  fits = c.requires.limit;
-  counts = omega arith;
-  plan = c.step.ensures.plan;
-  within = tt;
-  asks = tt;
-  ready = tt;
-  sound = tt;
-  takes = λ c' w h. breaks_off _ _ _ refl;
-}
+returns-in-Err-clause-turn g c = TurnsTo-memory _ _ _ _ _ c.requires.limit refl c.step.ensures.plan
