@@ -16,6 +16,7 @@ REWRITES = [
     (r"-> Path<'_>", "-> &Path"),
     (r"\*self\.error\(\)", "self.error"),  # an I/O error is no Copy
     (r"\bpub fn cause\(&self\)", "pub fn reason(&self)"),  # `cause` is a method of Rust's trait Error
+    (r"\be\.cause\(\)", "e.reason()"),
     (r"\bVec::from_slice\(", "Vec::from("),
     (r"\bString::from_str\(", "String::from("),
     (r"(pub trait \w+): Drop \{", r"\1 {"),

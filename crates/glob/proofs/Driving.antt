@@ -1,16 +1,16 @@
 -- A walk over a tree, which answers the questions.
-use Rattle.std.proofs.Common.{◌≡◌, ℕ, ◌+◌, ◌≤◌, ◌<◌, ◌-◌, Bool, true, false, List, [], ◌∷◌, ◌++◌, Option, Some, None, refl, ap, sym, subst, ◌∙◌, arith, append_assoc}
+use Rattle.std.proofs.Common.{◌≡◌, ℕ, ◌+◌, ◌≤◌, Bool, true, false, List, [], ◌∷◌, ◌++◌, Option, Some, None, refl, ap, sym, subst, ◌∙◌, arith, append_assoc}
 use Rattle.std.specs.Prelude.{option_map}
 use Rattle.std.proofs.lemmas.Bool.{both_ways}
 use Rattle.glob_tree.specs.Content.{Content}
 use Rattle.glob_tree.specs.Answers.{IsTold}
 use Rattle.glob_walk.specs.Aims.{listing_of}
 use Rattle.glob_walk.specs.Marks.{Mark, Work, Give, Item}
-use Rattle.glob_walk.specs.Questions.{Question, question_path, question_units}
+use Rattle.glob_walk.specs.Questions.{question_path, question_units}
 use Rattle.glob_walk.specs.Machines.{MachineState, Agrees, Saying, AsksLook, AsksList, Says, Ends, StepGoes, TakesStep, IsAskedAfter, IsCharged, left_of, step_outcome, is_last_step, step_units, StepTakes}
 use Rattle.glob_walk.specs.Walks.{Gives, LimitAt, NoMemory, Walking, Charges, IsUpTo, TakesFront, IsAsked, Takes, Goes, is_last, item_number, works}
 use Rattle.glob.specs.Private.Walking.{IsDriven}
-use Rattle.glob_walk.proofs.WalkLemmas.Charging.{Charges-trans, Charges-asked, uncharged}
+use Rattle.glob_walk.proofs.WalkLemmas.Charging.{Charges-trans, Charges-asked}
 use Rattle.glob_walk.proofs.ListingLemmas.Marks.{cost-append}
 use Rattle.glob_walk.proofs.WalkLemmas.Driving.{asked_units}
 use Rattle.glob_walk.proofs.WalkLemmas.Works.{cost-works}

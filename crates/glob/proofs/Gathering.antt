@@ -7,8 +7,8 @@ use Rattle.glob_walk.specs.Marks.{Mark, Work, Give, Item, items, cost, front, Is
 use Rattle.std.proofs.lemmas.Option.{same_Some}
 use Rattle.glob_tree.specs.Content.{Content}
 use Rattle.glob_tree.specs.Answers.{IsTold}
-use Rattle.glob.specs.Private.Walking.{refusal_end}
-use Rattle.glob_walk.specs.Walks.{Outcome, Gives, LimitAt, NoMemory, outcome, AreItems, Charges, StopsAt, BreaksOff, works, IsWalk, IsWalkAsked, HasNoRefusal, Walking, IsFresh, Goes, TakesFront}
+use Rattle.glob.specs.Private.Walking.{EndsAs}
+use Rattle.glob_walk.specs.Walks.{Outcome, Gives, LimitAt, NoMemory, outcome, refusal_end, AreItems, Charges, StopsAt, BreaksOff, works, IsWalk, IsWalkAsked, HasNoRefusal, Walking, IsFresh, Goes, TakesFront}
 use Rattle.glob_walk.specs.declared.ending.End.{End}
 use Rattle.glob_walk.specs.declared.error.GlobError.{GlobError}
 use Rattle.glob_walk.specs.declared.ending.End.TheVariants as end
@@ -125,15 +125,6 @@ pub record Gathers {X A : Type 0} (asks : X → ℕ) (tells : X → Option Conte
   pub walk : (c : Content) → IsTold (tells first.tree) c → (ms : List Mark) → first.left ≡ Some ms
       → (rest : List Mark) × (now.left ≡ Some rest) × Gathered ms now.spent answers rest
 
--- a walk that ended
-pub record Ends {X A : Type 0} (asks : X → ℕ) (tells : X → Option Content) (first : Walking X) (e : End) (answers : List (Result (PathBuf A) (GlobError A))) (last : Walking X) : Type 0 where
-  pub within : last.spent ≤ first.limit
-  pub asked : IsWalkAsked first.limit (asks first.tree) e last.spent (asks last.tree)
-  pub told : tells last.tree ≡ tells first.tree
-  pub plain : HasNoRefusal answers
-  pub few : length answers ≤ last.spent + 1
-  pub walk : (c : Content) → IsTold (tells first.tree) c → (ms : List Mark) → first.left ≡ Some ms → IsWalk ms first.limit e last.spent answers
-
 pub Gathers-none : {X A : Type 0} (asks : X → ℕ) (tells : X → Option Content) (first : Walking X) → IsFresh first.tree first.limit first → Gathers {A = A} asks tells first [] first
 unfolding HasNoRefusal
 Gathers-none {A = A} asks tells first fresh = record {
@@ -181,13 +172,13 @@ module _ {X A : Type 0} (asks : X → ℕ) (tells : X → Option Content) (first
             ∙ sym (map-append Gives g.plain.0 (item ∷ [])),
       )
 
-  pub Ends-done : Goes asks tells now None new → Ends asks tells first end.Done answers new
+  pub Ends-done : Goes asks tells now None new → EndsAs asks tells first end.Done new.spent answers new.tree
   unfolding IsWalkAsked
   Ends-done goes = record {
     within = omega (arith, goes.counts.within, goes.counts.limit, g.same);
     asked = omega (arith, goes.counts.asked, g.asked);
     told = goes.told ∙ g.told;
-    plain = g.plain;
+    items = g.plain;
     few = omega (arith, g.few, goes.counts.grows);
     walk = λ c h ms is.
         let (rest, had, got) = g.walk c h ms is in
@@ -196,13 +187,13 @@ module _ {X A : Type 0} (asks : X → ℕ) (tells : X → Option Content) (first
   }
 
   -- an item that was not kept
-  pub Ends-memory : (o : Outcome) → asks new.tree + now.spent ≡ asks now.tree + new.spent → Goes asks tells now (Some o) new → Ends asks tells first end.Memory answers new
+  pub Ends-memory : (o : Outcome) → asks new.tree + now.spent ≡ asks now.tree + new.spent → Goes asks tells now (Some o) new → EndsAs asks tells first end.Memory new.spent answers new.tree
   unfolding IsWalkAsked
   Ends-memory o asked goes = record {
     within = omega (arith, goes.counts.within, goes.counts.limit, g.same);
     asked = omega (arith, asked, g.asked);
     told = goes.told ∙ g.told;
-    plain = g.plain;
+    items = g.plain;
     few = omega (arith, g.few, goes.counts.grows);
     walk = λ c h ms is.
         let (rest, had, got) = g.walk c h ms is in
@@ -217,13 +208,13 @@ module _ {X A : Type 0} (asks : X → ℕ) (tells : X → Option Content) (first
           IsWalk-memory ms now.spent new.spent answers rest got first.limit (record { rest = Work path ∷ k.rest; charges = k.charges })
       by_outcome NoMemory ms rest next got k = IsWalk-memory ms now.spent new.spent answers rest got first.limit k
 
-  ends_limit : (path : Text) → Goes asks tells now (Some (LimitAt path)) new → Ends asks tells first end.Limit answers new
+  ends_limit : (path : Text) → Goes asks tells now (Some (LimitAt path)) new → EndsAs asks tells first end.Limit new.spent answers new.tree
   unfolding IsWalkAsked
   ends_limit path goes = record {
     within = omega (arith, goes.counts.within, goes.counts.limit, g.same);
     asked = (goes.counts.asked.0 ∙ goes.counts.limit ∙ g.same, omega (arith, goes.counts.asked.1, g.asked));
     told = goes.told ∙ g.told;
-    plain = g.plain;
+    items = g.plain;
     few = omega (arith, g.few, goes.counts.grows);
     walk = λ c h ms is.
         let (rest, had, got) = g.walk c h ms is in
@@ -231,10 +222,10 @@ module _ {X A : Type 0} (asks : X → ℕ) (tells : X → Option Content) (first
         IsWalk-limit ms now.spent new.spent answers rest got first.limit path (goes.counts.asked.0 ∙ goes.counts.limit ∙ g.same) takes;
   }
 
-  pub Ends-refusal : (o : Outcome) (e : End) → refusal_end o ≡ Some e → Goes asks tells now (Some o) new → Ends asks tells first e answers new
+  pub Ends-refusal : (o : Outcome) (e : End) → refusal_end o ≡ Some e → Goes asks tells now (Some o) new → EndsAs asks tells first e new.spent answers new.tree
   Ends-refusal (Gives item) e h goes = absurd (cc)
-  Ends-refusal (LimitAt path) e h goes = subst (λ x. Ends asks tells first x answers new) (same_Some end.Limit e h) (ends_limit path goes)
-  Ends-refusal NoMemory e h goes = subst (λ x. Ends asks tells first x answers new) (same_Some end.Memory e h) (Ends-memory NoMemory goes.counts.asked goes)
+  Ends-refusal (LimitAt path) e h goes = subst (λ x. EndsAs asks tells first x new.spent answers new.tree) (same_Some end.Limit e h) (ends_limit path goes)
+  Ends-refusal NoMemory e h goes = subst (λ x. EndsAs asks tells first x new.spent answers new.tree) (same_Some end.Memory e h) (Ends-memory NoMemory goes.counts.asked goes)
 
 -- an answer that ends nothing is an item
 pub item_from_no_end : (o : Outcome) → refusal_end o ≡ None → (item : Item) × (o ≡ Gives item)

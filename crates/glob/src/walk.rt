@@ -4,15 +4,14 @@ ghost use Rattle.glob_tree.specs.Content.{Content};
 ghost use Rattle.glob_tree.specs.Answers.{IsTold};
 ghost use Rattle.glob_walk.specs.Components.{walk_fault};
 ghost use Rattle.glob_walk.specs.Listing.{listing};
-ghost use Rattle.glob.specs.Private.Walking.{EndsAs, refusal_end};
+ghost use Rattle.glob.specs.Private.Walking.{EndsAs};
 ghost use Rattle.glob_walk.specs.WalkGoals.{FindsGoal, FindsExactly, FindsInOrder};
-ghost use Rattle.glob_walk.specs.Walks.{outcome, HasNoRefusal, IsFresh, IsWalk, IsWalkAsked, RefusesWith, Walking};
+ghost use Rattle.glob_walk.specs.Walks.{HasNoRefusal, IsFresh, IsWalk, IsWalkAsked, RefusesWith, Walking};
 
 use crate::paths::{Paths, glob_in};
 use glob_pattern::{MatchOptions, PatternRefusal};
 use glob_tree::Tree;
-use glob_walk::{End, GlobCause, GlobResult};
-use std::alloc::Allocator;
+use glob_walk::{End, GlobResult, end_of};
 
 /// A whole walk. That of `*` over a file `x` has the item `x`, the end `Done`, and 3 units spent: for the lookup of the
 /// start, its listing, and the entry.
@@ -124,19 +123,5 @@ fn gather<T: Tree>(paths: &mut Paths<T>, items: &mut Vec<GlobResult<T::Alloc>, T
         if items.push(item).is_err() {
             return End::Memory;
         }
-    }
-}
-
-/// How a walk ended that gave the item, if that is a refusal.
-fn end_of<A: Allocator>(item: &GlobResult<A>) -> Option<End>
-    ensures { result ≡ refusal_end (outcome item.now) }
-{
-    match item {
-        Ok(_) => None,
-        Err(e) => match e.cause() {
-            GlobCause::Read => None,
-            GlobCause::Memory => Some(End::Memory),
-            GlobCause::Limit => Some(End::Limit),
-        },
     }
 }

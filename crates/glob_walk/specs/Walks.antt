@@ -39,6 +39,12 @@ abbrev pub outcome : {A : Type 0} → Result (PathBuf A) (GlobError A) → Outco
 outcome (Ok path) = Gives (Found (path_buf_bytes path))
 outcome (Err e) = error_outcome (cause_of e) e
 
+-- the end of a walk that gave a refusal
+abbrev pub refusal_end : Outcome → Option End
+refusal_end (Gives item) = None
+refusal_end (LimitAt path) = Some end.Limit
+refusal_end NoMemory = Some end.Memory
+
 -- these are the items, one for one, and no refusal is among them
 abbrev pub AreItems : {A : Type 0} → List (Result (PathBuf A) (GlobError A)) → List Item → Type 0
 AreItems answers is = map outcome answers ≡ map Gives is

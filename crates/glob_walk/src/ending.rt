@@ -1,4 +1,9 @@
 //! How a walk ended.
+ghost use Rattle.std.specs.Prelude.{◌≡◌};
+ghost use Rattle.glob_walk.specs.Walks.{outcome, refusal_end};
+
+use crate::error::{GlobCause, GlobResult};
+use std::alloc::Allocator;
 
 /// How a walk ended. Over a file `x`, `*` needs 3 units: with the limit 3 it ends with `Done`, and with 2 with `Limit`.
 #[derive(Clone, Copy, Debug, PartialEq, Eq)]
@@ -9,4 +14,19 @@ pub enum End {
     Memory,
     /// A further unit of work did not fit the limit.
     Limit,
+}
+
+/// How a walk ended that gave this item, if that is a refusal: `None` for a path and for a directory that could not be
+/// listed, and `End::Limit` for an error with the cause `Limit`.
+pub fn end_of<A: Allocator>(item: &GlobResult<A>) -> Option<End>
+    ensures { result ≡ refusal_end (outcome item.now) }
+{
+    match item {
+        Ok(_) => None,
+        Err(e) => match e.cause() {
+            GlobCause::Read => None,
+            GlobCause::Memory => Some(End::Memory),
+            GlobCause::Limit => Some(End::Limit),
+        },
+    }
 }

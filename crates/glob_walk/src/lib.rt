@@ -15,7 +15,7 @@ mod task;
 mod turn;
 mod walker;
 
-pub use ending::End;
+pub use ending::{End, end_of};
 pub use error::{GlobCause, GlobError, GlobResult};
 pub use machine::{Answer, Step, WalkMachine};
 pub use plain::is_plain;

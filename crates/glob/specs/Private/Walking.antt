@@ -5,10 +5,9 @@ use Rattle.glob_tree.specs.Content.{Content}
 use Rattle.glob_tree.specs.Answers.{IsTold}
 use Rattle.glob_walk.specs.Aims.{listing_of}
 use Rattle.glob_walk.specs.Marks.{Mark}
-use Rattle.glob_walk.specs.Walks.{Outcome, Gives, LimitAt, NoMemory, IsUpTo, Walking, HasNoRefusal, IsWalk, IsWalkAsked}
+use Rattle.glob_walk.specs.Walks.{IsUpTo, Walking, HasNoRefusal, IsWalk, IsWalkAsked}
 use Rattle.glob_walk.specs.declared.error.GlobError.{GlobError}
 use Rattle.glob_walk.specs.declared.ending.End.{End}
-use Rattle.glob_walk.specs.declared.ending.End.TheVariants as end
 use Rattle.glob_walk.specs.Machines.{MachineState, Agrees, left_of}
 
 -- What is true of a walk over a tree between two items: no question is open, and each answer so far was that of the tree's
@@ -18,12 +17,6 @@ pub record IsDriven {X A : Type 0} (tells : X → Option Content) (tree : X) (ma
   pub agrees : (c : Content) → IsTold (tells tree) c → machine.over ≡ false → Agrees c machine
   pub upto : (c : Content) → IsTold (tells tree) c → machine.over ≡ false
       → IsUpTo (listing_of c machine.aim) machine.spent (left_of c machine)
-
--- the end of a walk that gave a refusal
-abbrev pub refusal_end : Outcome → Option End
-refusal_end (Gives item) = None
-refusal_end (LimitAt path) = Some end.Limit
-refusal_end NoMemory = Some end.Memory
 
 -- A walk that has done nothing yet, from its beginning to its end: its items, its units and its questions, and the tree.
 pub record EndsAs {X A : Type 0} (asks : X → ℕ) (tells : X → Option Content) (first : Walking X) (e : End) (spent : ℕ)

@@ -16,7 +16,7 @@ mod task;
 mod turn;
 mod walker;
 
-pub use ending::End;
+pub use ending::{end_of, End};
 pub use error::{GlobCause, GlobError, GlobResult};
 pub use machine::{Answer, Step, WalkMachine};
 pub use plain::is_plain;

@@ -1,9 +1,9 @@
 use Rattle.std.proofs.Common.{rules, ◌≡◌, ◌∙◌, ◌++◌, ◌∷◌, [], Some, None, sym, subst}
 use Rattle.std.specs.Prelude.{option_map}
-use Rattle.glob.specs.Private.Walking.{refusal_end}
-use Rattle.glob_walk.specs.Walks.{Goes, outcome}
+use Rattle.glob_walk.specs.Walks.{Goes, outcome, refusal_end}
 use Rattle.glob_walk.specs.declared.ending.End.TheVariants as end
-use Rattle.glob.proofs.Gathering.{Gathers, Ends, Gathers-none, Gathers-item, Ends-done, Ends-refusal, Ends-memory, item_from_no_end}
+use Rattle.glob.specs.Private.Walking.{EndsAs}
+use Rattle.glob.proofs.Gathering.{Gathers, Gathers-none, Gathers-item, Ends-done, Ends-refusal, Ends-memory, item_from_no_end}
 use Rattle.glob.proofs.walk.gather.Goals as goal
 
 pub loop-item-init : goal.loop-item-init
@@ -12,15 +12,13 @@ loop-item-init g c = subst (λ xs. Gathers g.T.Tree.asks g.T.Tree.tells c.args.p
 pub returns-in_default : goal.returns-in_default
 returns-in_default g c =
     let goes : Goes g.T.Tree.asks g.T.Tree.tells c.loop-item.paths None c.next.new.self = subst (λ r. Goes g.T.Tree.asks g.T.Tree.tells c.loop-item.paths (option_map outcome r) c.next.new.self) c.in_default.is c.next.ensures.steps in
-    let e = Ends-done g.T.Tree.asks g.T.Tree.tells c.args.paths.now c.loop-item.paths c.next.new.self c.loop-item.items.items c.loop-item.invariant goes in
-    record { within = e.within; asked = e.asked; told = e.told; items = e.plain; few = e.few; walk = e.walk }
+    Ends-done g.T.Tree.asks g.T.Tree.tells c.args.paths.now c.loop-item.paths c.next.new.self c.loop-item.items.items c.loop-item.invariant goes
 
 pub returns-in-Some-end_of : goal.returns-in-Some-end_of
 returns-in-Some-end_of g c =
     let goes : Goes g.T.Tree.asks g.T.Tree.tells c.loop-item.paths (Some (outcome c.in-Some.item)) c.next.new.self = subst (λ r. Goes g.T.Tree.asks g.T.Tree.tells c.loop-item.paths (option_map outcome r) c.next.new.self) c.in-Some.is c.next.ensures.steps in
-    let e = Ends-refusal g.T.Tree.asks g.T.Tree.tells c.args.paths.now c.loop-item.paths c.next.new.self c.loop-item.items.items c.loop-item.invariant
-    (outcome c.in-Some.item) c.in-Some-end_of.end (sym c.end_of.ensures ∙ c.in-Some-end_of.is) goes in
-    record { within = e.within; asked = e.asked; told = e.told; items = e.plain; few = e.few; walk = e.walk }
+    Ends-refusal g.T.Tree.asks g.T.Tree.tells c.args.paths.now c.loop-item.paths c.next.new.self c.loop-item.items.items c.loop-item.invariant
+    (outcome c.in-Some.item) c.in-Some-end_of.end (sym c.end_of.ensures ∙ c.in-Some-end_of.is) goes
 
 pub returns-then-is_err : goal.returns-then-is_err
 returns-then-is_err g c =
@@ -29,9 +27,8 @@ returns-then-is_err g c =
     let goes = subst (λ r. Goes g.T.Tree.asks g.T.Tree.tells c.loop-item.paths (option_map outcome r) c.next.new.self) c.in-Some.is c.next.ensures.steps in
     let goes' = subst (λ o. Goes g.T.Tree.asks g.T.Tree.tells c.loop-item.paths (Some o) c.next.new.self) says goes in
     let kept : c.loop-item.items.items ≡ c.push.new.self.items = search rules in
-    let e = subst (λ xs. Ends g.T.Tree.asks g.T.Tree.tells c.args.paths.now end.Memory xs c.next.new.self) kept
-    (Ends-memory g.T.Tree.asks g.T.Tree.tells c.args.paths.now c.loop-item.paths c.next.new.self c.loop-item.items.items c.loop-item.invariant _ goes'.counts.asked goes') in
-    record { within = e.within; asked = e.asked; told = e.told; items = e.plain; few = e.few; walk = e.walk }
+    subst (λ xs. EndsAs g.T.Tree.asks g.T.Tree.tells c.args.paths.now end.Memory c.next.new.self.spent xs c.next.new.self.tree) kept
+    (Ends-memory g.T.Tree.asks g.T.Tree.tells c.args.paths.now c.loop-item.paths c.next.new.self c.loop-item.items.items c.loop-item.invariant _ goes'.counts.asked goes')
 
 pub loop-item-preserved : goal.loop-item-preserved
 loop-item-preserved g c =
