@@ -1,7 +1,6 @@
 mod Beginning
 pub mod Computing
 mod Driving
-pub mod EscapedFolders
 pub mod FoundPaths
 mod Gathering
 pub mod KeptTexts

@@ -1,4 +1,3 @@
-pub mod PathOptions
 pub mod Private
 pub mod Types
 pub mod Variants
@@ -19,6 +18,7 @@ pub use Rattle.glob_tree.specs.Content
 pub use Rattle.glob_tree.specs.Looks
 pub use Rattle.glob_tree.specs.Memory
 pub use Rattle.glob_tree.specs.Paths
+pub use Rattle.glob_tree.specs.Words as TreeWords
 pub use Rattle.glob_walk.specs.Answers as WalkAnswers
 pub use Rattle.glob_walk.specs.Components
 pub use Rattle.glob_walk.specs.Driven

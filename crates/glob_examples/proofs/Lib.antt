@@ -1,5 +1,6 @@
 pub mod Aligned
 pub mod Chosen
+pub mod EscapedFolders
 pub mod NameSplits
 pub mod OneFile
 pub mod Refusals

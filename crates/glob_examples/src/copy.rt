@@ -8,7 +8,7 @@ ghost use Rattle.glob.specs.Content.{Content};
 ghost use Rattle.glob.specs.Goal.{is_plain};
 ghost use Rattle.glob.specs.Lines.{AreKept};
 ghost use Rattle.glob.specs.Matching.Texts.{Matches};
-ghost use Rattle.glob.specs.PathOptions.{path_options};
+ghost use Rattle.glob_examples.specs.PathOptions.{path_options};
 ghost use Rattle.glob.specs.Text.{Text};
 ghost use Rattle.glob_set.specs.Sets.{RefusesTexts};
 ghost use Rattle.glob_examples.specs.Copying.{AreToCopy, Copies, IsBelow};

@@ -5,9 +5,9 @@ use Rattle.std.proofs.lemmas.Str.{chars-append, IsUtf8-string_bytes}
 use Rattle.glob.specs.Escaping.{escaped_text}
 use Rattle.glob.specs.Matching.Texts.{Matches}
 use Rattle.glob.specs.Text.{Text}
-use Rattle.glob.proofs.EscapedFolders.{all_below, Matches-below}
+use Rattle.glob_examples.proofs.EscapedFolders.{all_below, Matches-below}
 use Rattle.glob_examples.specs.Copying.{IsBelow}
-use Rattle.glob.specs.PathOptions.{path_options}
+use Rattle.glob_examples.specs.PathOptions.{path_options}
 use Rattle.glob_examples.proofs.copy.pattern_below.Goals as goal
 
 written : chars (codes "/**/*") ≡ all_below

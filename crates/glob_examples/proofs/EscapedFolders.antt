@@ -1,8 +1,8 @@
 -- A folder's name that is escaped, and the pattern of all that is below it.
 use Rattle.std.proofs.Common.{◌≡◌, ◌≢◌, ℕ, ◌+◌, ◌-◌, ◌<◌, ◌≤◌, ◌↔◌, inr, ⊎_elim, Bool, true, false, not, ◌&&◌, ◌||◌, ◌==◌, List, [], ◌∷◌, ◌++◌, length, drop, map, slice_index, refl, sym, ap, subst, ◌∙◌, arith, append_assoc}
 use Rattle.std.proofs.lemmas.Bool.{false≢true, and_parts, and_from, or_cases, or_right, eqb-true, eq-eqb, cases_lt, cond_both}
-use Rattle.glob_text.specs.Characters.{slash}
-use Rattle.glob_text.specs.Text.{Text, Has}
+use Rattle.glob.specs.Characters.{slash}
+use Rattle.glob.specs.Text.{Text, Has}
 use Rattle.glob_pattern.specs.Escaping.{is_special, escaped_character, escaped_text}
 use Rattle.glob_pattern.specs.Grammar.Characters.{star}
 use Rattle.glob_pattern.specs.Grammar.Tokens.{Token}
@@ -11,7 +11,7 @@ use Rattle.glob_pattern.specs.Computing.Deciding.{is_match}
 use Rattle.glob_pattern.specs.Matching.Texts.{Matches}
 use Rattle.glob_pattern.specs.Matching.Taking.{takes}
 use Rattle.glob_pattern.specs.Grammar.Brackets.{is_same}
-use Rattle.glob.specs.PathOptions.{path_options}
+use Rattle.glob_examples.specs.PathOptions.{path_options}
 use Rattle.glob_pattern.specs.declared.token.bracket.Entry.TheVariants.{Single}
 use Rattle.glob_pattern.specs.declared.token.Token.TheVariants.{Literal, AnySequence, Recursive, OneOf}
 use Rattle.glob_pattern.proofs.Places.{get_or-from_drop, length-at_drop, drop-after_piece, length-after_piece}
