@@ -34,7 +34,7 @@ impl<S> Model for Watch<S> {
 }
 
 impl<S> Watch<S> {
-    /// Watches `inner`. No call of it has failed yet.
+    /// Watches `inner`, as `Watch::new(stdin)` does. No call of it has failed yet.
     pub fn new(inner: S) -> Self
         ensures inner { result.inner ≡ inner }
         ensures failed { result.failed ≡ false }
@@ -52,7 +52,8 @@ impl<S> Watch<S> {
         self.inner
     }
 
-    /// Whether some call has returned an error.
+    /// Whether some call has returned an error: so after a read that was `Interrupted`, also where the next one returns
+    /// bytes.
     pub fn failed(&self) -> bool
         ensures { result ≡ self.now.failed }
     {
@@ -62,7 +63,7 @@ impl<S> Watch<S> {
 
 impl<S: Read> Watch<S> {
     /// One read of the inner reader, to the start of `buf`. It returns how many bytes were read: 0 only at the end of
-    /// the input, or where `buf` is empty.
+    /// the input, or where `buf` is empty. So with `abc` left and room for two bytes it may return 2, and then 1.
     ///
     /// The error is the inner reader's, also `Interrupted`. No byte was read then.
     pub fn read(&mut self, buf: &mut [u8]) -> io::Result<usize>
