@@ -6,7 +6,7 @@ ghost use Rattle.glob_console.specs.FoundPaths.{status_of};
 ghost use Rattle.glob_console.specs.Private.Writing.{noting};
 
 use crate::status::{FAULT, FOUND, UNFOUND};
-use glob_walk::{End, GlobCause, GlobResult};
+use glob_walk::{End, GlobResult, end_of};
 use std::alloc::Allocator;
 
 /// What a walk came to whose paths were written.
@@ -35,16 +35,14 @@ impl Findings {
     }
 
     /// Takes one more item of the walk into account.
+    #[tactic(auto, using(crate::proofs::NotingLemmas::noting_end, crate::proofs::NotingLemmas::noting_path, crate::proofs::NotingLemmas::noting_error))]
     pub(crate) fn note<A: Allocator>(&mut self, item: &GlobResult<A>)
         ensures { self.new ≡ noting self.old (outcome item.now) }
     {
-        match item {
-            Ok(_) => self.has_path = true,
-            Err(error) => match error.cause() {
-                GlobCause::Read => self.has_error = true,
-                GlobCause::Limit => self.end = End::Limit,
-                GlobCause::Memory => self.end = End::Memory,
-            },
+        match end_of(item) {
+            Some(end) => self.end = end,
+            None if item.is_ok() => self.has_path = true,
+            None => self.has_error = true,
         }
     }
 
