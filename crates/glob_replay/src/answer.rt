@@ -11,11 +11,12 @@
 //!   matches, the numbers of the first and the last that do, and those of all, as `Debug` writes them.
 //! - A pattern with a fault is answered by `fault`, its place and its message in place of `ok` and what follows.
 
-use crate::rationing::{Memory, Rationed};
+use crate::rationing::Rationed;
+use crate::replay::calls::Calls;
 use crate::replay::walking::taken;
 use crate::words::{add_fault, number_of, options_of, out_of_memory, pattern_of, unfit};
 use glob::{Disk, Pattern, glob_in};
-use glob_captures::{Piece, captures, reach, tokens};
+use glob_captures::{captures, reach, tokens};
 use glob_set::{PatternSet, SetRefusal};
 use std::io::{self, Write};
 use std::path::Path;
@@ -25,156 +26,108 @@ pub fn answer_lines(rt: HostRuntime) -> io::Result<()> {
     let ample = Rationed::ample(rt.alloc());
     let mut writer = io::writer(&rt);
     for line in rt.lines(rt.alloc()) {
-        let mut answer = String::new(rt.alloc());
-        add_answer(rt, &ample, &mut answer, &line?)?;
-        answer.push('\n')?;
-        writer.write_all(answer.as_bytes())?;
+        let (line, mut calls) = (line?, Calls::new(&ample));
+        let fields = line.split('\t').collect::<Vec<&str>>(rt.alloc())?;
+        match fields.as_slice() {
+            ["match", pattern, texts @ ..] => add_matches(&mut calls, pattern, texts)?,
+            ["captures", fields @ ..] => add_captures(&mut calls, fields)?,
+            ["walk", fields @ ..] => add_walk(&mut calls, rt, fields)?,
+            ["set", fields @ ..] => add_set(&mut calls, fields)?,
+            _ => return Err(unfit()),
+        }
+        calls.words.push('\n')?;
+        writer.write_all(calls.words.as_bytes())?;
     }
     Ok(())
 }
 
-/// Adds the answer to a line.
-fn add_answer(
-    rt: HostRuntime,
-    alloc: Memory<'_>,
-    answer: &mut String,
-    line: &str,
-) -> io::Result<()> {
-    let fields = line.split('\t').collect::<Vec<&str>>(rt.alloc())?;
-    match fields.as_slice() {
-        ["match", pattern, texts @ ..] => add_matches(alloc, answer, pattern, texts),
-        ["captures", fields @ ..] => add_captures(alloc, answer, fields),
-        ["walk", fields @ ..] => add_walk(rt, alloc, answer, fields),
-        ["set", fields @ ..] => add_set(alloc, answer, fields),
-        _ => Err(unfit()),
-    }
-}
-
-/// Adds the answer to `match`.
-fn add_matches(
-    alloc: Memory<'_>,
-    answer: &mut String,
-    text: &str,
-    texts: &[&str],
-) -> io::Result<()> {
-    let escaped = Pattern::escape(alloc, text)?;
-    write!(answer, "{}\t", escaped.as_str())?;
-    match Pattern::new(alloc, text) {
-        Ok(pattern) => {
-            answer.push_str("ok\t")?;
-            for text in texts {
-                add_settings(answer, &pattern, text)?;
-            }
-            Ok(())
+/// Adds the answer to `match`: for each text whether the pattern matches it, under each of the eight settings of the options.
+fn add_matches(calls: &mut Calls<'_>, pattern: &str, texts: &[&str]) -> io::Result<()> {
+    let escaped = Pattern::escape(calls.alloc, pattern)?;
+    write!(calls.words, "{}\t", escaped.as_str())?;
+    let pattern = match Pattern::new(calls.alloc, pattern) {
+        Ok(pattern) => pattern,
+        Err(refusal) => return add_fault(refusal, "fault\t", &mut calls.words),
+    };
+    calls.words.push_str("ok\t")?;
+    for text in texts {
+        for letters in ["", "d", "s", "sd", "i", "id", "is", "isd"] {
+            let is_match = pattern.matches_with(text, options_of(letters)?)?;
+            calls.words.push(if is_match { 'y' } else { 'n' })?;
         }
-        Err(refusal) => {
-            answer.push_str("fault\t")?;
-            add_fault(refusal, answer)
-        }
-    }
-}
-
-/// Adds whether a pattern matches a text, under each of the eight settings of the options.
-fn add_settings(answer: &mut String, pattern: &Pattern<Memory<'_>>, text: &str) -> io::Result<()> {
-    for letters in ["", "d", "s", "sd", "i", "id", "is", "isd"] {
-        let found = pattern.matches_with(text, options_of(letters)?)?;
-        answer.push(if found { 'y' } else { 'n' })?;
     }
     Ok(())
 }
 
 /// Adds the answer to `captures`.
-pub fn add_captures(alloc: Memory<'_>, answer: &mut String, fields: &[&str]) -> io::Result<()> {
+pub fn add_captures(calls: &mut Calls<'_>, fields: &[&str]) -> io::Result<()> {
     let [letters, pattern, text] = fields else {
         return Err(unfit());
     };
+    let (alloc, words) = (calls.alloc, &mut calls.words);
     let (pattern, options) = (pattern_of(alloc, pattern)?, options_of(letters)?);
     for token in tokens(alloc, &pattern)?.iter() {
-        write!(answer, "{:?} {} ", token.kind, token.piece.end)?;
+        write!(words, "{:?} {} ", token.kind, token.piece.end)?;
     }
-    let pieces = captures(alloc, &pattern, text, options).map_err(|_| out_of_memory())?;
-    add_pieces(answer, &pieces)?;
+    match captures(alloc, &pattern, text, options).map_err(|_| out_of_memory())? {
+        Some(pieces) => {
+            words.push_str("| ")?;
+            for piece in pieces.iter() {
+                write!(words, "{} ", piece.end)?;
+            }
+        }
+        None => words.push_str("| no ")?,
+    }
     let reached = reach(alloc, &pattern, text, options).map_err(|_| out_of_memory())?;
-    write!(answer, "| {}", reached.place)?;
+    write!(words, "| {}", reached.place)?;
     for token in reached.waiting.iter() {
-        write!(answer, " {token}")?;
-    }
-    Ok(())
-}
-
-/// Adds where each piece ends, or `no`.
-fn add_pieces(answer: &mut String, pieces: &Option<Vec<Piece, Memory<'_>>>) -> io::Result<()> {
-    let Some(pieces) = pieces else {
-        return Ok(answer.push_str("| no ")?);
-    };
-    answer.push_str("| ")?;
-    for piece in pieces.iter() {
-        write!(answer, "{} ", piece.end)?;
+        write!(words, " {token}")?;
     }
     Ok(())
 }
 
 /// Adds the answer to `walk`.
-fn add_walk(
-    rt: HostRuntime,
-    alloc: Memory<'_>,
-    answer: &mut String,
-    fields: &[&str],
-) -> io::Result<()> {
+fn add_walk(calls: &mut Calls<'_>, rt: HostRuntime, fields: &[&str]) -> io::Result<()> {
     let [letters, limit, pattern] = fields else {
         return Err(unfit());
     };
-    let (limit, disk) = (number_of(limit)? as u64, Disk::new(rt, alloc));
-    match glob_in(alloc, disk, pattern, options_of(letters)?, limit) {
+    let (limit, disk) = (number_of(limit)? as u64, Disk::new(rt, calls.alloc));
+    match glob_in(calls.alloc, disk, pattern, options_of(letters)?, limit) {
         Ok(paths) => {
-            let found = taken(alloc, paths)?;
-            Ok(write!(answer, "ok\t{}{}", found.spent, found.text()?)?)
+            let found = taken(calls.alloc, paths)?;
+            Ok(write!(calls.words, "ok\t{}{}", found.spent, found.text()?)?)
         }
-        Err(refusal) => {
-            answer.push_str("fault\t")?;
-            add_fault(refusal, answer)
-        }
+        Err(refusal) => add_fault(refusal, "fault\t", &mut calls.words),
     }
 }
 
 /// Adds the answer to `set`, or the number of the pattern that has a fault. About the text as a path each answer is the
 /// same.
-pub fn add_set(alloc: Memory<'_>, answer: &mut String, fields: &[&str]) -> io::Result<()> {
+pub fn add_set(calls: &mut Calls<'_>, fields: &[&str]) -> io::Result<()> {
     let [letters, many, fields @ ..] = fields else {
         return Err(unfit());
     };
+    let (alloc, words) = (calls.alloc, &mut calls.words);
     let (patterns, texts) = fields.split_at_checked(number_of(many)?).ok_or(unfit())?;
     let set = match PatternSet::from_texts(alloc, patterns, options_of(letters)?) {
         Ok(set) => set,
-        Err(SetRefusal::Syntax(number, _)) => return Ok(write!(answer, "\tfault {number}")?),
+        Err(SetRefusal::Syntax(number, _)) => return Ok(write!(words, "\tfault {number}")?),
         Err(SetRefusal::Memory) => return Err(out_of_memory()),
     };
     let (mut all, mut by_path) = (Vec::new(alloc), Vec::new(alloc));
     for text in texts {
+        let path = Path::new(text);
         set.matches_into(text, &mut all)?;
-        set.matches_path_into(Path::new(text), &mut by_path)?;
-        add_found(answer, &set, text, all == by_path)?;
-        write!(answer, " {all:?}")?;
-    }
-    Ok(())
-}
-
-/// Adds whether a pattern of a set matches a text, and the first and the last that does.
-fn add_found(
-    answer: &mut String,
-    set: &PatternSet<Memory<'_>>,
-    text: &str,
-    is_alike: bool,
-) -> io::Result<()> {
-    let path = Path::new(text);
-    let (is_match, first) = (set.is_match(text)?, set.first_match(text)?);
-    let last = set.last_match(text)?;
-    write!(answer, "\t{is_match} {first:?} {last:?}")?;
-    let is_by_path = set.is_match_path(path)? == is_match
-        && set.first_match_path(path)? == first
-        && set.last_match_path(path)? == last;
-    if !is_by_path || !is_alike {
-        answer.push_str(" otherwise as a path")?;
+        set.matches_path_into(path, &mut by_path)?;
+        let (is_match, first) = (set.is_match(text)?, set.first_match(text)?);
+        let last = set.last_match(text)?;
+        write!(words, "\t{is_match} {first:?} {last:?} {all:?}")?;
+        let is_by_path = set.is_match_path(path)? == is_match
+            && set.first_match_path(path)? == first
+            && set.last_match_path(path)? == last;
+        if !is_by_path || all != by_path {
+            words.push_str(" otherwise as a path")?;
+        }
     }
     Ok(())
 }

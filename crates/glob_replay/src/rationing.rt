@@ -1,26 +1,16 @@
 //! An allocator that counts the requests for memory, their bytes and the blocks that are held, and refuses a chosen
 //! request.
-ghost use Rattle.std.specs.Prelude.{◌≡◌, false, Option, None, Some, ℕ};
-
 use std::alloc::{AllocError, Allocator, Global};
 use std::cell::Cell;
-use std::marker::Model;
 
 /// The number of requests for memory so far and of their bytes, how many blocks were given back, and which request is
-/// refused, if any.
+/// refused: none, if it is 0.
 #[derive(Debug, Drop)]
 pub struct Ration {
     asked: Cell<u64>,
     given_back: Cell<u64>,
     bytes: Cell<u64>,
-    refused: Option<u64>,
-}
-
-// A clause sees the number of the refused request, and not the count, which a cell hides.
-impl Model for Ration {
-    ghost Value = { Option ℕ };
-
-    ghost view = { λ ration. ration.refused };
+    refused: u64,
 }
 
 impl Ration {
@@ -36,10 +26,7 @@ impl Ration {
 
     /// Whether a request was refused.
     pub fn has_refused(&self) -> bool {
-        match self.refused {
-            Some(number) => 0 < number && number <= self.asked.get(),
-            None => false,
-        }
+        0 < self.refused && self.refused <= self.asked.get()
     }
 
     /// How many blocks are held: those that were asked for and not refused, without those that were given back.
@@ -55,13 +42,11 @@ impl Ration {
     }
 
     /// Counts a request for so many bytes, and says whether it is the refused one.
-    fn refuses_next(&self, size: usize) -> bool
-        ensures { self.now ≡ None → result ≡ false }
-    {
+    fn refuses_next(&self, size: usize) -> bool {
         let number = self.asked.get().saturating_add(1);
         self.asked.set(number);
         self.bytes.set(self.bytes.get().saturating_add(size as u64));
-        self.refused == Some(number)
+        self.refused == number
     }
 }
 
@@ -83,14 +68,12 @@ impl<A> Rationed<A> {
     }
 
     /// The allocator `inner`, whose request of this number, counted from 1, is refused. At 0 none is.
-    pub fn refusing(number: u64, inner: A) -> Self
-        ensures { result.ration ≡ Some number }
-    {
+    pub fn refusing(number: u64, inner: A) -> Self {
         let ration = Ration {
             asked: Cell::new(0),
             given_back: Cell::new(0),
             bytes: Cell::new(0),
-            refused: Some(number),
+            refused: number,
         };
         Rationed { ration, inner }
     }

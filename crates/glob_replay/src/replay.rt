@@ -3,7 +3,7 @@
 //! The head of each file says how its lines are read. A table begins with a line `= NAME`. Of each table its name is
 //! printed, how many cases were compared and how many disagree, after each case that disagrees with what was found.
 pub mod asked_tree;
-mod calls;
+pub mod calls;
 mod contents;
 mod copies;
 mod disk;

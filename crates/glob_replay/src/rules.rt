@@ -18,19 +18,14 @@ pub fn ask_lists(rt: &HostRuntime) -> io::Result<()> {
                     println!(rt; "R {refusal}")?;
                 }
             },
-            Some(("f", path)) => ask(rt, &list, path, false)?,
-            Some(("d", path)) => ask(rt, &list, path, true)?,
-            _ => {}
+            Some((kind, path)) => {
+                if let Some(list) = &list {
+                    let rule = list.deciding_rule(path, kind == "d")?;
+                    rt.println(rule.map_or(0, |rule| rule.line))?;
+                }
+            }
+            None => {}
         }
     }
     Ok(())
-}
-
-/// Writes which line of the list decides about a path, if it was not refused.
-fn ask(rt: &HostRuntime, list: &Option<IgnoreList>, path: &str, is_dir: bool) -> io::Result<()> {
-    let Some(list) = list else {
-        return Ok(());
-    };
-    let rule = list.deciding_rule(path, is_dir)?;
-    rt.println(rule.map_or(0, |rule| rule.line))
 }

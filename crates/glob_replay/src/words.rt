@@ -56,10 +56,10 @@ pub fn pattern_of<A: Allocator + Copy>(alloc: A, text: &str) -> io::Result<Patte
     Pattern::new(alloc, text).map_err(refused)
 }
 
-/// Adds the place of a pattern's fault and, after a tab, its message.
-pub fn add_fault(refusal: PatternRefusal, words: &mut String) -> io::Result<()> {
+/// Adds, after the front, the place of a pattern's fault and, after a tab, its message.
+pub fn add_fault(refusal: PatternRefusal, front: &str, words: &mut String) -> io::Result<()> {
     match refusal {
-        PatternRefusal::Syntax(error) => Ok(write!(words, "{}\t{}", error.pos, error.msg)?),
+        PatternRefusal::Syntax(error) => Ok(write!(words, "{front}{}\t{}", error.pos, error.msg)?),
         PatternRefusal::Memory => Err(out_of_memory()),
     }
 }
@@ -76,16 +76,6 @@ pub fn are_same(alloc: Global, one: &io::Error, other: &io::Error) -> Result<boo
     Ok(is_kind && words == other_words)
 }
 
-/// Adds the part of a word after a `<`, as `3:a/>b`.
-fn push_part(text: &mut String, part: &str) -> io::Result<()> {
-    let (times, rest) = cut(part, ":")?;
-    let (repeated, after) = cut(rest, ">")?;
-    for _ in 0..number_of(times)? {
-        text.push_str(repeated)?;
-    }
-    Ok(text.push_str(after)?)
-}
-
 /// The text that a word stands for: `''` is the empty text, `<3:a/>b` is `a/a/a/b`, `⏎` a line feed, and `␍`
 /// a carriage return.
 pub fn text_of(alloc: Global, word: &str) -> io::Result<String> {
@@ -94,7 +84,10 @@ pub fn text_of(alloc: Global, word: &str) -> io::Result<String> {
     }
     let mut text = String::from_str(alloc, word.split('<').next().unwrap_or(""))?;
     for part in word.split('<').skip(1) {
-        push_part(&mut text, part)?;
+        let (times, rest) = cut(part, ":")?;
+        let (repeated, after) = cut(rest, ">")?;
+        text.push_str(&repeated.repeat(alloc, number_of(times)?)?)?;
+        text.push_str(after)?;
     }
     Ok(text.replace(alloc, "⏎", "\n")?.replace(alloc, "␍", "\r")?)
 }

@@ -8,8 +8,6 @@ mod large;
 mod printing;
 mod readme;
 
-use glob_replay::words::are_same;
-use std::io;
 use std::process::Abort;
 
 /// What is compared is right. The row says what it was.
@@ -23,10 +21,4 @@ fn made<T, E: Drop>(rt: &impl Abort, answer: Result<T, E>) -> T {
         Ok(value) => value,
         Err(_) => panic!(rt; "an error"),
     }
-}
-
-/// Both errors have the same kind, the same code of the system and the same words.
-fn check_same(rt: &(impl Abort + AllocGlobal), one: io::Error, other: io::Error) {
-    let is_same = made(rt, are_same(rt.alloc(), &one, &other));
-    check(rt, is_same, "the error");
 }

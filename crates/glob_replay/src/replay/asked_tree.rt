@@ -16,25 +16,16 @@ pub type Listed<'a> = Result<Vec<Entry<Memory<'a>>, Memory<'a>>, ListError>;
 pub enum Source<'a> {
     /// What is in a tree in memory.
     Known(MemTree<Memory<'a>>),
-    /// The answers of the lookups, and those of the listings, in words: the first word is the answer of the first call,
-    /// and so on. The last word is the answer of all later calls.
-    Written {
-        alloc: Memory<'a>,
-        looks: &'a str,
-        lists: &'a str,
-    },
+    /// In this memory the answers of the lookups, and those of the listings, in words: the first word is the answer of the
+    /// first call, and so on. The last word is the answer of all later calls.
+    Written(Memory<'a>, &'a str, &'a str),
 }
 
 impl<'a> Source<'a> {
-    /// A tree in memory of a content.
-    pub fn of(alloc: Memory<'a>, content: &str) -> io::Result<Self> {
-        Ok(Source::Known(tree_of(alloc, ("", ""), content)?))
-    }
-
     fn look(&mut self, path: &str) -> Result<Look, AllocError> {
         match self {
             Source::Known(tree) => tree.look(path),
-            Source::Written { looks, .. } => match next_word(looks) {
+            Source::Written(_, looks, _) => match next_word(looks) {
                 "Dir" => Ok(Look::Dir),
                 "Other" => Ok(Look::Other),
                 "Missing" => Ok(Look::Missing),
@@ -46,7 +37,7 @@ impl<'a> Source<'a> {
     fn list(&mut self, path: &str) -> Listed<'a> {
         match self {
             Source::Known(tree) => tree.list(path),
-            Source::Written { alloc, lists, .. } => match next_word(lists) {
+            Source::Written(alloc, _, lists) => match next_word(lists) {
                 "!InvalidData" => Err(ListError::Read(ErrorKind::InvalidData.into())),
                 "!NotFound" => Err(ListError::Read(ErrorKind::NotFound.into())),
                 "~" => Err(ListError::Memory),
@@ -85,6 +76,14 @@ pub struct Counts {
     pub namings: Cell<u64>,
 }
 
+impl Counts {
+    /// How often entries were listed, and how often names alone.
+    pub fn listed(&self) -> (u64, u64) {
+        let namings = self.namings.get();
+        (self.listings.get().saturating_sub(namings), namings)
+    }
+}
+
 /// Adds to a count.
 pub fn raise(count: &Cell<u64>, more: usize) {
     count.set(count.get().saturating_add(more as u64));
@@ -94,7 +93,7 @@ pub fn raise(count: &Cell<u64>, more: usize) {
 #[derive(Drop)]
 pub struct AskedTree<'a> {
     source: Source<'a>,
-    counts: &'a Counts,
+    pub counts: &'a Counts,
     asks: Asks,
 }
 
@@ -106,6 +105,12 @@ impl<'a> AskedTree<'a> {
             counts,
             asks: Asks::new(),
         }
+    }
+
+    /// A tree in memory of a content, which counts there.
+    pub fn of(alloc: Memory<'a>, content: &str, counts: &'a Counts) -> io::Result<Self> {
+        let tree = tree_of(alloc, ("", ""), content)?;
+        Ok(AskedTree::new(Source::Known(tree), counts))
     }
 
     /// Counts so many lookups, listings or entries.

@@ -2,35 +2,46 @@
 //! name of its file or of its calls, and the others are its fields.
 
 use super::rows::make;
-use crate::rationing::Rationed;
-use glob::MatchOptions;
+use crate::rationing::{Memory, Rationed};
 use std::alloc::Global;
 use std::io::{self, ErrorKind, Write};
 
-/// The most requests for memory, and the most bytes of these, where a row names none.
-pub const FREELY: (u64, u64) = (u64::MAX, u64::MAX);
+/// The most requests for memory, and the most bytes of these.
+pub type Most = (u64, u64);
+
+/// Where a row names none.
+pub const FREELY: Most = (u64::MAX, u64::MAX);
+
+/// The calls of a row: the memory that they take, which is counted, and what they have answered.
+#[derive(Drop)]
+pub struct Calls<'a> {
+    pub alloc: Memory<'a>,
+    pub words: String,
+}
+
+impl<'a> Calls<'a> {
+    /// Calls that have answered nothing yet. Their words are in memory that is not counted.
+    pub fn new(alloc: Memory<'a>) -> Self {
+        Calls {
+            alloc,
+            words: String::new(alloc.inner),
+        }
+    }
+}
 
 /// What calls answer with ample memory, and what is wrong with their requests: that they or their bytes are more than the
-/// most, or that a block is held in the end.
-pub fn found_by(
-    alloc: Global,
-    options: MatchOptions,
-    row: &[&str],
-    (most, room): (u64, u64),
-) -> io::Result<(String, u64)> {
+/// most, or that a block is held in the end. And how many requests there are.
+pub fn found_by(alloc: Global, row: &[&str], (most, room): Most) -> io::Result<(String, u64)> {
     let ample = Rationed::ample(alloc);
-    let mut found = String::new(alloc);
-    make(&ample, options, row, &mut found)?;
-    let (asked, bytes, held) = (
-        ample.ration.asked(),
-        ample.ration.bytes(),
-        ample.ration.held(),
-    );
+    let mut calls = Calls::new(&ample);
+    if let Err(error) = make(&mut calls, row) {
+        write!(calls.words, ", and then {error}")?;
+    }
+    let ration = &ample.ration;
+    let (asked, bytes, held) = (ration.asked(), ration.bytes(), ration.held());
+    let mut found = calls.words;
     if asked > most || bytes > room || held != 0 {
-        write!(
-            found,
-            ", by {asked} requests for {bytes} bytes, holding {held}"
-        )?;
+        write!(found, ", by {asked} requests, {bytes} bytes, {held} held")?;
     }
     Ok((found, asked))
 }
@@ -38,17 +49,14 @@ pub fn found_by(
 /// What calls answer with ample memory, and what is wrong where one of their requests is refused: they answer so, or a
 /// first part of it and are then out of memory, and hold no block in the end. Only where a call asks again, as `collect`
 /// does, is the answer whole although a request was refused.
-pub fn found_if_refused(
-    alloc: Global,
-    options: MatchOptions,
-    row: &[&str],
-    most: (u64, u64),
-) -> io::Result<String> {
-    let (answer, asked) = found_by(alloc, options, row, most)?;
+pub fn found_if_refused(alloc: Global, row: &[&str], most: Most) -> io::Result<String> {
+    let (answer, asked) = found_by(alloc, row, most)?;
     for number in 1..=asked {
         let scarce = Rationed::refusing(number, alloc);
-        let mut words = String::new(alloc);
-        let is_right = match make(&scarce, options, row, &mut words) {
+        let mut calls = Calls::new(&scarce);
+        let made = make(&mut calls, row);
+        let words = calls.words;
+        let is_right = match made {
             Ok(()) => words == answer,
             Err(error) => {
                 error.kind() == ErrorKind::OutOfMemory && answer.starts_with(words.as_str())

@@ -3,6 +3,7 @@
 
 use crate::rationing::Memory;
 use crate::words::{number_of, out_of_memory, unfit};
+use ErrorKind::PermissionDenied;
 use glob::{MemTree, TreeRefusal};
 use std::io::{self, ErrorKind};
 
@@ -18,25 +19,36 @@ pub fn tree_of<'a>(
         tree.set_current(folder).map_err(fault_of)?;
     }
     for word in content.split_whitespace() {
-        plant_all(&mut tree, alloc, (folder, shut), word)?;
+        let is_shut = word.starts_with('#') || name_of(word) == shut;
+        let Some((name, times)) = word.split_once('×') else {
+            let path = format!(in alloc.inner; "{folder}/{}", word.trim_start_matches('#'))?;
+            plant(&mut tree, &path, is_shut)?;
+            continue;
+        };
+        let end = if is_directory(times) { "/" } else { "" };
+        for number in 0..number_of(name_of(times))? {
+            let path = format!(in alloc.inner; "{folder}/{name}{number}{end}")?;
+            plant(&mut tree, &path, is_shut)?;
+        }
     }
     Ok(tree)
 }
 
-/// Adds what a word of a content writes, also a number of times.
-fn plant_all(
-    tree: &mut MemTree<Memory<'_>>,
-    alloc: Memory<'_>,
-    place: (&str, &str),
-    word: &str,
-) -> io::Result<()> {
-    let Some((name, times)) = word.split_once('×') else {
-        return plant(tree, alloc, place, word);
-    };
-    let end = if times.ends_with('/') { "/" } else { "" };
-    for number in 0..number_of(times.trim_end_matches('/'))? {
-        let word = format!(in alloc.inner; "{name}{number}{end}")?;
-        plant(tree, alloc, place, &word)?;
+/// Adds what is at a path: each directory of one with `/` at its end, or else a file.
+fn plant(tree: &mut MemTree<Memory<'_>>, path: &str, is_shut: bool) -> io::Result<()> {
+    let name = name_of(path);
+    if is_shut {
+        return tree.add_shut(name, PermissionDenied).map_err(fault_of);
+    }
+    if !is_directory(path) {
+        return tree.add_other(name).map_err(fault_of);
+    }
+    for (end, _) in path.match_indices('/').skip(1) {
+        let (directory, _) = path.split_at_checked(end).ok_or(unfit())?;
+        match tree.add_dir(directory) {
+            Ok(()) | Err(TreeRefusal::Taken) => {}
+            Err(refusal) => return Err(fault_of(refusal)),
+        }
     }
     Ok(())
 }
@@ -47,45 +59,6 @@ fn fault_of(refusal: TreeRefusal) -> io::Error {
         TreeRefusal::Memory => out_of_memory(),
         _ => unfit(),
     }
-}
-
-/// Adds what a word of a content writes.
-fn plant(
-    tree: &mut MemTree<Memory<'_>>,
-    alloc: Memory<'_>,
-    (folder, shut): (&str, &str),
-    word: &str,
-) -> io::Result<()> {
-    let name = name_of(word);
-    let path = format!(in alloc.inner; "{folder}/{name}")?;
-    let path = path.as_str();
-    let added = if word.starts_with('#') || name == shut {
-        tree.add_shut(path, ErrorKind::PermissionDenied)
-    } else if word.ends_with('/') {
-        return plant_each(tree, alloc, folder, name);
-    } else {
-        tree.add_other(path)
-    };
-    added.map_err(fault_of)
-}
-
-/// Adds each directory of a path that is not there.
-fn plant_each(
-    tree: &mut MemTree<Memory<'_>>,
-    alloc: Memory<'_>,
-    folder: &str,
-    names: &str,
-) -> io::Result<()> {
-    let mut path = String::from_str(alloc.inner, folder)?;
-    for name in names.split('/') {
-        path.push('/')?;
-        path.push_str(name)?;
-        match tree.add_dir(path.as_str()) {
-            Ok(()) | Err(TreeRefusal::Taken) => {}
-            Err(refusal) => return Err(fault_of(refusal)),
-        }
-    }
-    Ok(())
 }
 
 /// The path that a word of a content writes: `#a` and `a/` write `a`.

@@ -2,6 +2,7 @@
 //! reader and of the writer there are.
 ghost use Rattle.std.specs.Prelude.{◌==◌, slice_index_or};
 
+use super::calls::Calls;
 use crate::rationing::Memory;
 use crate::streams::{Stream, Trouble};
 use crate::words::{are_same, out_of_memory, pattern_of, unfit};
@@ -26,26 +27,26 @@ impl Selection for Marked {
     }
 }
 
-/// What a copy of records came to: its answer, whether the reader and the writer failed, and both.
+/// What a copy of records came to: its answer, of how many bytes, whether the reader and the writer failed, and both.
 #[derive(Drop)]
 struct Copied<'a> {
     answer: Result<u64, LineFault>,
+    len: usize,
     failed: (bool, bool),
     reader: Stream<'a>,
     writer: Stream<'a>,
 }
 
-/// Copies records from the reader to the writer: those that are `marked`, or else that the pattern matches. The ones that
-/// a line feed ends are lines.
-fn copy<'a>(
-    alloc: Memory<'_>,
-    (selection, end): (&str, u8),
-    reader: Stream<'a>,
-    writer: Stream<'a>,
-) -> io::Result<Copied<'a>> {
-    let mut reader = Watch::new(reader);
-    let mut writer = Watch::new(writer);
-    let answer = if selection == "marked" {
+/// Copies records from the reader to the writer of a row: those that are `marked`, or else that the pattern matches. The ones
+/// that a line feed ends are lines.
+fn copy<'a>(alloc: Memory<'_>, row: &[&'a str]) -> io::Result<Copied<'a>> {
+    let [selection, end, reading, writing, input] = row else {
+        return Err(unfit());
+    };
+    let end = end.bytes().next().ok_or(unfit())?;
+    let mut reader = Watch::new(Stream::new(alloc.inner, input.as_bytes(), reading)?);
+    let mut writer = Watch::new(Stream::new(alloc.inner, b"", writing)?);
+    let answer = if *selection == "marked" {
         copy_selected(alloc, &Marked, end, &mut reader, &mut writer)
     } else {
         let (pattern, options) = (pattern_of(alloc, selection)?, MatchOptions::new());
@@ -56,6 +57,7 @@ fn copy<'a>(
     };
     Ok(Copied {
         answer,
+        len: input.len(),
         failed: (reader.failed(), writer.failed()),
         reader: reader.into_inner(),
         writer: writer.into_inner(),
@@ -64,14 +66,9 @@ fn copy<'a>(
 
 /// Copies by a row. Adds the output and the number of records or what fails, and after few bytes a call also how many
 /// reads and writes there are.
-pub fn add_copy(alloc: Memory<'_>, fields: &[&str], words: &mut String) -> io::Result<()> {
-    let [selection, end, reading, writing, input] = fields else {
-        return Err(unfit());
-    };
-    let end = end.bytes().next().ok_or(unfit())?;
-    let reader = Stream::new(alloc.inner, input.as_bytes(), reading)?;
-    let writer = Stream::new(alloc.inner, b"", writing)?;
-    let copied = copy(alloc, (selection, end), reader, writer)?;
+pub fn add_copy(calls: &mut Calls<'_>, row: &[&str]) -> io::Result<()> {
+    let (alloc, words) = (calls.alloc, &mut calls.words);
+    let copied = copy(alloc, row)?;
     words.push_str(copied.writer.text()?)?;
     match &copied.answer {
         Ok(count) => write!(words, " {count}")?,
@@ -81,7 +78,7 @@ pub fn add_copy(alloc: Memory<'_>, fields: &[&str], words: &mut String) -> io::R
     if !is_its_fault(alloc.inner, &copied)? {
         words.push_str(" otherwise")?;
     }
-    add_calls(&copied, input.len(), words)
+    add_calls(&copied, words)
 }
 
 /// Whether the stream alone failed that the answer names, with the error of its trouble.
@@ -99,9 +96,9 @@ fn is_its_fault(alloc: Global, copied: &Copied<'_>) -> Result<bool, AllocError> 
 }
 
 /// Adds how many reads and writes of few bytes there were, and of others where they are more than needed.
-fn add_calls(copied: &Copied<'_>, len: usize, words: &mut String) -> io::Result<()> {
+fn add_calls(copied: &Copied<'_>, words: &mut String) -> io::Result<()> {
     let (reader, writer) = (&copied.reader, &copied.writer);
-    let are_few = reader.calls <= most_calls(len, reader.most)
+    let are_few = reader.calls <= most_calls(copied.len, reader.most)
         && writer.calls <= most_calls(writer.written.len(), writer.most);
     if reader.most >= 100 && are_few {
         return Ok(());

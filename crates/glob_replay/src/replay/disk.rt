@@ -38,10 +38,10 @@ fn make(rt: &HostRuntime, settings: &Settings) -> io::Result<()> {
     Ok(())
 }
 
-/// Replays a walk below the folder. Each name in the folder's path is a look more, unless it is escaped.
+/// Replays a walk below the folder by `glob_with`, and under the usual options also by `glob`. Each name in the folder's path
+/// is a look more, unless it is escaped.
 pub fn replay(report: &Report, job: Job<'_>, (_, items, units): Wanted<'_>) -> io::Result<()> {
-    let rt = report.rt;
-    let alloc = rt.alloc();
+    let (rt, alloc, ample) = (report.rt, report.alloc(), Rationed::ample(report.alloc()));
     make(&rt, &report.settings)?;
     let current = env::current_dir(&rt)?;
     let folder = format!(in alloc; "{}/{FOLDER}/", current.as_path().as_str())?;
@@ -52,20 +52,9 @@ pub fn replay(report: &Report, job: Job<'_>, (_, items, units): Wanted<'_>) -> i
     let units = units.filter(|_| front.as_str() == folder.as_str());
     let units = units.map(|units| units.saturating_add(looks));
     let wanted = (folder.as_str(), items, units);
-    replay_at(report, pattern, job.options, wanted)
-}
-
-/// Replays a walk by `glob_with`, and under the usual options also by `glob`.
-fn replay_at(
-    report: &Report,
-    pattern: &str,
-    options: MatchOptions,
-    wanted: Wanted<'_>,
-) -> io::Result<()> {
-    let (rt, ample) = (report.rt, Rationed::ample(report.alloc()));
-    let paths = glob_with(rt, &ample, pattern, options).map_err(refused)?;
+    let paths = glob_with(rt, &ample, pattern, job.options).map_err(refused)?;
     compare(report, pattern, &taken(&ample, paths)?, wanted)?;
-    if options != MatchOptions::new() {
+    if job.options != MatchOptions::new() {
         return Ok(());
     }
     let paths = glob(rt, &ample, pattern).map_err(refused)?;

@@ -4,6 +4,7 @@ ghost use Rattle.std.specs.Prelude.{bytes_eq};
 
 pub mod files;
 
+use super::calls::Calls;
 use super::trees::add_entries;
 use super::walking::Found;
 use crate::rationing::Memory;
@@ -32,28 +33,24 @@ impl Exclusion for Named {
     }
 }
 
+/// A disk, the question that it is asked, and the path that the question is about.
+pub type Asked<'a> = (&'a str, &'a str, &'a str);
+
 /// Adds what a disk of the files answers. The disk is a `disk`, which follows links, one that is `pruned` of `p/s`, or a
 /// `PhysicalDisk` with links `kept` or `followed`.
-pub fn ask(
-    alloc: Memory<'_>,
-    (paths, calls): (&[Planted<'_>], &SystemCalls),
-    (disk, question, path): (&str, &str, &str),
-    words: &mut String,
-) -> io::Result<()> {
-    let (files, noted) = (Written { paths, calls }, Noted { calls });
-    match disk {
-        "disk" => add_answer(words, alloc, Disk::new(files, alloc), question, path),
+pub fn ask(calls: &mut Calls<'_>, files: &Written<'_>, asked: Asked<'_>) -> io::Result<()> {
+    let (alloc, words, files) = (calls.alloc, &mut calls.words, *files);
+    let noted = Noted { calls: files.calls };
+    match asked.0 {
+        "disk" => add_answer(words, alloc, Disk::new(files, alloc), asked),
         "followed" => {
             let disk = PhysicalDisk::with_links(files, noted, alloc, Links::Followed);
-            add_answer(words, alloc, disk, question, path)
+            add_answer(words, alloc, disk, asked)
         }
-        "kept" => {
-            let disk = PhysicalDisk::new(files, noted, alloc);
-            add_answer(words, alloc, disk, question, path)
-        }
+        "kept" => add_answer(words, alloc, PhysicalDisk::new(files, noted, alloc), asked),
         _ => {
             let disk = Pruned::new(alloc, Disk::new(files, alloc), Named { path: "p/s" });
-            add_answer(words, alloc, disk, question, path)
+            add_answer(words, alloc, disk, asked)
         }
     }
 }
@@ -64,11 +61,9 @@ pub fn ask(
 fn add_answer<T: Tree>(
     words: &mut String,
     alloc: T::Alloc,
-    tree: T,
-    question: &str,
-    path: &str,
+    mut tree: T,
+    (_, question, path): Asked<'_>,
 ) -> io::Result<()> {
-    let mut tree = tree;
     match question {
         "look" => Ok(write!(words, "{:?} ", tree.look(path)?)?),
         "list" => add_entries(words, tree.list(path)),
@@ -83,20 +78,15 @@ fn add_answer<T: Tree>(
 
 /// Asks the disks in the first field the question in the second about the paths in the third. The words are the answer,
 /// which is the same for all.
-pub fn ask_each(
-    alloc: Memory<'_>,
-    disks: &str,
-    question: &str,
-    paths: &str,
-    words: &mut String,
-) -> io::Result<()> {
+pub fn ask_each(calls: &mut Calls<'_>, disks: &str, question: &str, paths: &str) -> io::Result<()> {
     for disk in disks.split(' ') {
         for path in paths.split(' ') {
-            let answer = answer_of(alloc, (disk, question, path))?;
-            if words.is_empty() {
-                words.push_str(&answer)?;
-            } else if *words != answer {
-                write!(words, ", and {disk} {path}: {answer}")?;
+            let path = if path == "''" { "" } else { path };
+            let answer = answer_of(calls.alloc, (disk, question, path))?;
+            if calls.words.is_empty() {
+                calls.words.push_str(&answer)?;
+            } else if calls.words != answer {
+                write!(calls.words, ", and {disk} {path}: {answer}")?;
             }
         }
     }
@@ -104,25 +94,21 @@ pub fn ask_each(
 }
 
 /// The answer of a disk, `$` if the system is out of memory, and its calls. The error is memory that was refused.
-fn answer_of(alloc: Memory<'_>, (disk, question, path): (&str, &str, &str)) -> io::Result<String> {
-    let path = if path == "''" { "" } else { path };
-    let (calls, mut answer) = (SystemCalls::default(), String::new(alloc.inner));
-    match ask(alloc, (PATHS, &calls), (disk, question, path), &mut answer) {
+fn answer_of(alloc: Memory<'_>, asked: Asked<'_>) -> io::Result<String> {
+    let (paths, calls, mut found) = (PATHS, &SystemCalls::default(), Calls::new(alloc));
+    match ask(&mut found, &Written { paths, calls }, asked) {
         Err(error) if alloc.ration.has_refused() => return Err(error),
-        Err(_) => answer = String::from_str(alloc.inner, "$ ")?,
+        Err(_) => found.words = String::from_str(alloc.inner, "$ ")?,
         Ok(()) => {}
     }
-    add_calls(&mut answer, &calls, (disk, question))?;
-    Ok(answer)
+    add_calls(&mut found.words, calls, asked)?;
+    Ok(found.words)
 }
 
 /// Adds how often a path was looked up for a look, or else a directory opened, and whether something was reported. Nothing
 /// is opened for a look, each entry of a listing is looked up once, and none for its name alone.
-fn add_calls(
-    answer: &mut String,
-    calls: &SystemCalls,
-    (disk, question): (&str, &str),
-) -> Result<(), AllocError> {
+fn add_calls(answer: &mut String, calls: &SystemCalls, asked: Asked<'_>) -> Result<(), AllocError> {
+    let (disk, question, _) = asked;
     let (lookups, opens) = (calls.lookups.get(), calls.opens.get());
     let entries = answer.split_terminator(' ').count() as u64;
     let is_listed = disk == "disk" && !answer.contains(['!', '$']);

@@ -6,7 +6,7 @@ use super::asked_tree::Counts;
 use super::contents::{is_directory, name_of};
 use super::settings::Settings;
 use super::walking::{Found, Job, gathered};
-use super::walks::source_of;
+use super::walks::asked_tree;
 use crate::rationing::Rationed;
 use crate::words::{options_in_order, pattern_of};
 use glob::{MatchOptions, is_plain};
@@ -16,6 +16,7 @@ use std::io;
 /// Compares a walk under each setting, if its pattern is plain, and case and the limit are the usual ones.
 pub fn replay(report: &Report, job: Job<'_>) -> io::Result<()> {
     let (alloc, settings) = (report.alloc(), &report.settings);
+    let ample = Rationed::ample(alloc);
     let is_content = settings.get("tree").is_empty();
     let is_usual = is_content && job.limit == u64::MAX && job.options.case_sensitive;
     if !is_usual || !matches!(is_plain(alloc, job.pattern), Ok(true)) {
@@ -24,10 +25,9 @@ pub fn replay(report: &Report, job: Job<'_>) -> io::Result<()> {
     for letters in ["tff", "tft", "ttf", "ttt"] {
         let options = options_in_order(letters)?;
         let job = Job { options, ..job };
-        let (goals, walk) = (
-            goals_of(alloc, settings, job)?,
-            walk_of(alloc, settings, job)?,
-        );
+        let goals = goals_of(alloc, settings, job)?;
+        let counts = Counts::default();
+        let walk = gathered(&ample, asked_tree(&ample, settings, &counts)?, job)?;
         let is_right = are_goals(&walk, &goals) && is_orderly(alloc, job.pattern, &walk)?;
         if is_right {
             report.compare(job.pattern, "its goals", "its goals")?;
@@ -36,14 +36,6 @@ pub fn replay(report: &Report, job: Job<'_>) -> io::Result<()> {
         }
     }
     Ok(())
-}
-
-/// The walk in memory.
-fn walk_of(alloc: Global, settings: &Settings, job: Job<'_>) -> io::Result<Found> {
-    let ample = Rationed::ample(alloc);
-    let source = source_of(&ample, settings)?;
-    let counts = Counts::default();
-    gathered(&ample, (source, &counts), job)
 }
 
 /// The paths of a content that the whole pattern matches: of directories alone, if it ends in `/` or `**`.

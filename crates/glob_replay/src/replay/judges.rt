@@ -2,7 +2,7 @@
 ghost use Rattle.std.specs.Prelude.{◌&&◌, ◌==◌, ◌≡◌, ◌≤◌, not};
 ghost use Rattle.std.specs.List.{list_any};
 
-use crate::rationing::Memory;
+use super::calls::Calls;
 use crate::words::{cut, number_of, unfit};
 use glob::{Judge, Shape, run_positions};
 use std::io::{self, Write};
@@ -58,19 +58,17 @@ impl Judge for WrittenJudge<'_> {
 
 /// Adds whether the characters split into pieces of these shapes, in words, and what is wrong with the questions: more
 /// than shapes times characters, or for a split fewer than the characters.
-pub fn split(
-    alloc: Memory<'_>,
-    (shapes, characters): (&str, &str),
-    opening: &str,
-    taken: &str,
-    words: &mut String,
-) -> io::Result<()> {
+pub fn split(calls: &mut Calls<'_>, fields: &[&str]) -> io::Result<()> {
+    let [shapes, characters, opening, taken] = fields else {
+        return Err(unfit());
+    };
+    let alloc = calls.alloc.inner;
     let named = shapes.split_whitespace().filter(|word| *word != "none");
-    let shapes: Vec<Shape> = named.map(|word| shape_of(word)).try_collect(alloc.inner)?;
+    let shapes: Vec<Shape> = named.map(|word| shape_of(word)).try_collect(alloc)?;
     let places = opening.split_whitespace();
-    let opening: Vec<usize> = places.map(|word| number_of(word)).try_collect(alloc.inner)?;
+    let opening: Vec<usize> = places.map(|word| number_of(word)).try_collect(alloc)?;
     let pairs = taken.split_whitespace().filter(|word| word.contains('.'));
-    let refused: Vec<(usize, usize)> = pairs.map(|word| pair_of(word)).try_collect(alloc.inner)?;
+    let refused: Vec<(usize, usize)> = pairs.map(|word| pair_of(word)).try_collect(alloc)?;
     let mut judge = WrittenJudge {
         tokens: shapes.len(),
         characters: number_of(characters)?,
@@ -79,12 +77,12 @@ pub fn split(
         place: 0,
         count: 0,
     };
-    let found = run_positions(alloc, shapes.as_slice(), &mut judge)?;
+    let found = run_positions(calls.alloc, shapes.as_slice(), &mut judge)?;
     let least = if found { judge.characters } else { 0 };
     let most = judge.tokens.saturating_mul(judge.characters);
-    words.push_str(if found { "yes" } else { "no" })?;
+    calls.words.push_str(if found { "yes" } else { "no" })?;
     if judge.count < least as u128 || judge.count > most as u128 {
-        write!(words, ", with {} questions", judge.count)?;
+        write!(calls.words, ", with {} questions", judge.count)?;
     }
     Ok(())
 }

@@ -2,9 +2,9 @@
 //! and the most questions that this takes may follow.
 
 use super::Report;
-use super::calls::{FREELY, found_by, found_if_refused};
+use super::calls::{Calls, FREELY, found_by, found_if_refused};
 use crate::rationing::Memory;
-use crate::words::{cut, number_of, options_in_order, pattern_of, refused, text_of};
+use crate::words::{cut, number_of, options_in_order, pattern_of, refused, text_of, unfit};
 use glob::{MatchOptions, Pattern};
 use glob_captures::tokens;
 use std::alloc::{AllocError, Global};
@@ -15,77 +15,57 @@ use std::path::Path;
 const SHORT: usize = 63;
 
 /// A pattern, a text and the options of a match.
-pub type Asked<'a> = (&'a str, &'a str, MatchOptions);
+type Asked<'a> = (&'a str, &'a str, MatchOptions);
 
 /// Replays a row of fields, of which the options are the first.
 pub fn replay_fields(report: &Report, letters: &str, fields: &str) -> io::Result<()> {
     let (pattern, rest) = cut(fields, "\t")?;
     let (text, answer) = cut(rest, "\t")?;
-    let row = ["matches.txt", pattern, text, ""];
-    let (found, _) = found_by(report.alloc(), options_in_order(letters)?, &row, FREELY)?;
+    let row = ["matches.txt", letters, pattern, text, ""];
+    let (found, _) = found_by(report.alloc(), &row, FREELY)?;
     report.compare(fields, if answer == "y" { "yes" } else { "no" }, &found)
 }
 
 /// Replays a row of words, with each request for memory refused in turn.
-pub fn replay(report: &Report, patterns: &str, outcome: &str) -> io::Result<()> {
+pub fn replay<'a>(report: &'a Report, patterns: &'a str, outcome: &'a str) -> io::Result<()> {
     let alloc = report.alloc();
     let (outcome, most) = outcome.split_once(" ; ").unwrap_or((outcome, ""));
     let (answer, texts) = cut(outcome, " ")?;
-    for &(options, word) in report.settings.cases(patterns)?.as_slice() {
+    for &(letters, word) in report.settings.cases(patterns)?.as_slice() {
         let pattern = text_of(alloc, word)?;
         for word in texts.split_whitespace() {
             let text = text_of(alloc, word)?;
-            let asked = (pattern.as_str(), text.as_str(), options);
-            replay_one(report, asked, answer, most)?;
+            let row: [&str; 5] = ["matches.txt", letters, &pattern, &text, most];
+            let found = found_if_refused(alloc, &row, FREELY)?;
+            let name = format!(in alloc; "{pattern} on {text}")?;
+            report.compare(&name, answer, &found)?;
         }
     }
     Ok(())
 }
 
-/// Replays a match.
-fn replay_one(
-    report: &Report,
-    (pattern, text, options): Asked<'_>,
-    answer: &str,
-    most: &str,
-) -> io::Result<()> {
-    let (alloc, row) = (report.alloc(), ["matches.txt", pattern, text, most]);
-    let found = found_if_refused(alloc, options, &row, FREELY)?;
-    let name = format!(in alloc; "{pattern} on {text}")?;
-    report.compare(&name, answer, &found)
-}
-
-/// Adds `yes` or `no`, and what is wrong: a call that answers otherwise, another number of questions, and memory that is
-/// asked for though the pattern is short. `most` is the most questions, or empty.
-pub fn add_match(
-    alloc: Memory<'_>,
-    asked: Asked<'_>,
-    most: &str,
-    words: &mut String,
-) -> io::Result<()> {
-    let (source, text, options) = asked;
+/// Matches by a row of the options, a pattern, a text, and the most questions, or an empty field. Adds `yes` or `no`, and what
+/// is wrong: a call that answers otherwise, another number of questions, and memory that is asked for though the pattern is
+/// short.
+pub fn add_match(calls: &mut Calls<'_>, fields: &[&str]) -> io::Result<()> {
+    let [letters, source, text, most] = fields else {
+        return Err(unfit());
+    };
+    let asked = (*source, *text, options_in_order(letters)?);
+    let (alloc, words) = (calls.alloc, &mut calls.words);
     let (pattern, other) = (pattern_of(alloc, source)?, read_again(alloc, source)?);
     let tokens = tokens(alloc, &pattern)?.len();
     let requests = alloc.ration.asked();
-    let (is_match, questions) = pattern.matches_counted(text, options)?;
+    let (is_match, questions) = pattern.matches_counted(text, asked.2)?;
     words.push_str(if is_match { "yes" } else { "no" })?;
-    if !is_answer(is_match, (&pattern, &other), asked)? {
+    if !is_answer(&pattern, asked, is_match)? || !is_answer(&other, asked, is_match)? {
         words.push_str(", and otherwise by another call")?;
     }
     if tokens <= SHORT && alloc.ration.asked() != requests {
         words.push_str(", with memory")?;
     }
     let (least, usual) = bounds(alloc.inner, asked, (is_match, tokens))?;
-    add_questions((questions, least, usual), most, words)
-}
-
-/// Adds the number of questions, if it is less than the least, or more than the most.
-fn add_questions(
-    (questions, least, usual): (u128, usize, usize),
-    most: &str,
-    words: &mut String,
-) -> io::Result<()> {
-    let most = match most {
+    let most = match *most {
         "" => usual,
         most => number_of(most)?,
     };
@@ -95,30 +75,22 @@ fn add_questions(
     Ok(())
 }
 
-/// Whether each other call, too, answers so.
-fn is_answer(
-    answer: bool,
-    (pattern, other): (&Pattern<Memory<'_>>, &Pattern<Memory<'_>>),
-    (_, text, options): Asked<'_>,
-) -> Result<bool, AllocError> {
-    let path = Path::new(text);
+/// Whether each other call of a pattern, too, answers so.
+fn is_answer(pattern: &Pattern<Memory<'_>>, asked: Asked<'_>, answer: bool) -> io::Result<bool> {
+    let ((_, text, options), path) = (asked, Path::new(asked.1));
     let is_usual = options == MatchOptions::new();
     Ok(
         pattern.matches_with(text, options)? == answer
-            && other.matches_with(text, options)? == answer
-            && other.matches_path_with(path, options)? == answer
-            && (!is_usual || other.matches(text)? == answer)
-            && (!is_usual || other.matches_path(path)? == answer),
+            && pattern.matches_path_with(path, options)? == answer
+            && (!is_usual || pattern.matches(text)? == answer)
+            && (!is_usual || pattern.matches_path(path)? == answer),
     )
 }
 
 /// The fewest and the most questions: exactly those that are counted, where only literals, `?` and `*` decide. Else a match
 /// takes as many as there are characters, and at most the tokens times the characters are asked.
-fn bounds(
-    alloc: Global,
-    (pattern, text, options): Asked<'_>,
-    (is_match, tokens): (bool, usize),
-) -> Result<(usize, usize), AllocError> {
+fn bounds(alloc: Global, asked: Asked<'_>, found: (bool, usize)) -> io::Result<(usize, usize)> {
+    let ((pattern, text, options), (is_match, tokens)) = (asked, found);
     if options == MatchOptions::new() && !pattern.contains('[') && !pattern.contains("**") {
         let count = questions(alloc, pattern, text)?;
         return Ok((count, count));
@@ -137,38 +109,27 @@ fn questions(alloc: Global, pattern: &str, text: &str) -> Result<usize, AllocErr
     for _ in text.chars() {
         reached.push(false)?;
     }
-    let characters = text.chars().count();
     let mut count = 0usize;
     for token in pattern.chars() {
-        if token == '*' {
-            extend(&mut reached);
-        }
-        let asking = reached.iter().take(characters);
-        count = count.saturating_add(asking.filter(|reaches| **reaches).count());
-        if token != '*' {
-            step(&mut reached, token, text);
-        }
+        count = count.saturating_add(step(&mut reached, token, text));
     }
     Ok(count)
 }
 
-/// Goes on by `*`, which takes any number of characters.
-fn extend(reached: &mut [bool]) {
-    let mut before = false;
-    for reaches in reached.iter_mut() {
-        *reaches = *reaches || before;
-        before = *reaches;
-    }
-}
-
-/// Goes on by a token that takes one character.
-fn step(reached: &mut [bool], token: char, text: &str) {
-    let mut before = false;
+/// Goes on by a token, and returns about how many characters it is asked.
+fn step(reached: &mut [bool], token: char, text: &str) -> usize {
+    let (mut count, mut before) = (0usize, false);
     for (reaches, character) in reached.iter_mut().zip("\0".chars().chain(text.chars())) {
-        let old = *reaches;
-        *reaches = before && (token == '?' || character == token);
-        before = old;
+        count = count.saturating_add(usize::from(before));
+        let is_asked = *reaches || before && token == '*';
+        *reaches = match token {
+            '*' => is_asked,
+            '?' => before,
+            _ => before && character == token,
+        };
+        before = is_asked;
     }
+    count
 }
 
 /// The pattern of a text by other calls than `new`.

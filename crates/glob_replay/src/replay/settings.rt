@@ -1,7 +1,6 @@
 //! What the lines before a row have set.
 
-use crate::words::{cut, options_in_order, unfit};
-use glob::MatchOptions;
+use crate::words::{cut, unfit};
 use std::alloc::{AllocError, Global};
 use std::collections::BTreeMap;
 use std::io;
@@ -48,15 +47,14 @@ impl Settings {
         format!(in self.alloc; "{content} {more} {extra}")
     }
 
-    /// The words of a row, each with each of the settings of the options.
-    pub fn cases<'a>(&self, words: &'a str) -> io::Result<Vec<(MatchOptions, &'a str)>> {
+    /// The words of a row, each with the letters of each setting of the options.
+    pub fn cases<'a>(&'a self, words: &'a str) -> Result<Vec<(&'a str, &'a str)>, AllocError> {
         let letters = self.get("options");
         let letters = if letters.is_empty() { "tff" } else { letters };
         let mut cases = Vec::new(self.alloc);
         for letters in letters.split_whitespace() {
-            let options = options_in_order(letters)?;
             for word in words.split_whitespace() {
-                cases.push((options, word))?;
+                cases.push((letters, word))?;
             }
         }
         Ok(cases)

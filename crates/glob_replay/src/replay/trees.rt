@@ -1,8 +1,8 @@
 //! Rows of calls of a tree in memory: `CALL PATHS => ANSWER`, each over what the ones before have left.
 
 use super::Report;
+use super::calls::Calls;
 use super::contents::tree_of;
-use crate::rationing::Memory;
 use crate::words::{cut, has_word, out_of_memory, text_of, unfit};
 use glob::{Entry, ListError, MemTree, Tree, TreeRefusal};
 use std::alloc::Allocator;
@@ -14,7 +14,7 @@ pub fn replay(report: &mut Report, asked: &str, answer: &str) -> io::Result<()> 
     for word in paths.split_whitespace() {
         let path = text_of(report.alloc(), word)?;
         let mut found = String::new(report.alloc());
-        add_answer(&mut report.tree, call, path.as_str(), &mut found)?;
+        add_answer(&mut report.tree, call, &path, &mut found)?;
         let is_alike = are_same_words(found.as_str(), answer);
         let found = if is_alike { answer } else { found.as_str() };
         report.compare(asked, answer, found)?;
@@ -29,25 +29,26 @@ fn are_same_words(found: &str, answer: &str) -> bool {
 }
 
 /// Makes the calls of a new tree, and adds what they answer.
-pub fn change(alloc: Memory<'_>, changes: &[&str], words: &mut String) -> io::Result<()> {
-    let mut tree = MemTree::new(alloc)?;
+pub fn change(calls: &mut Calls<'_>, changes: &[&str]) -> io::Result<()> {
+    let mut tree = MemTree::new(calls.alloc)?;
     for change in changes {
         let (call, path) = cut(change, " ")?;
-        add_answer(&mut tree, call, path, words)?;
+        add_answer(&mut tree, call, path, &mut calls.words)?;
     }
     Ok(())
 }
 
 /// Adds how many entries the root of a content has. A look asks for no memory.
-pub fn list(alloc: Memory<'_>, content: &str, words: &mut String) -> io::Result<()> {
-    let mut tree = tree_of(alloc, ("", ""), content)?;
-    let asked = alloc.ration.asked();
+pub fn list(calls: &mut Calls<'_>, content: &str) -> io::Result<()> {
+    let ration = &calls.alloc.ration;
+    let mut tree = tree_of(calls.alloc, ("", ""), content)?;
+    let asked = ration.asked();
     tree.look("./f0")?;
-    if alloc.ration.asked() != asked {
-        words.push_str("looks with memory ")?;
+    if ration.asked() != asked {
+        calls.words.push_str("looks with memory ")?;
     }
     match tree.list("/") {
-        Ok(entries) => Ok(write!(words, "{}", entries.len())?),
+        Ok(entries) => Ok(write!(calls.words, "{}", entries.len())?),
         Err(_) => Err(out_of_memory()),
     }
 }

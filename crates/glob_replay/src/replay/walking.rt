@@ -1,6 +1,6 @@
 //! A walk, item by item and whole, and what it gives in words.
 
-use super::asked_tree::{AskedTree, Counts, Source};
+use super::asked_tree::AskedTree;
 use crate::rationing::Memory;
 use crate::words::out_of_memory;
 use glob::{
@@ -19,17 +19,13 @@ pub struct Job<'a> {
 }
 
 impl<'a> Job<'a> {
-    pub fn new(pattern: &'a str, options: MatchOptions, limit: u64) -> Self {
-        Job {
-            pattern,
-            options,
-            limit,
-        }
-    }
-
     /// The walk by a pattern, under the usual options and without a limit.
     pub fn of(pattern: &'a str) -> Self {
-        Job::new(pattern, MatchOptions::new(), u64::MAX)
+        Job {
+            pattern,
+            options: MatchOptions::new(),
+            limit: u64::MAX,
+        }
     }
 }
 
@@ -105,7 +101,7 @@ impl Found {
         }
     }
 
-    /// Adds an error.
+    /// Adds an error, and what is printed of it, if it is wrong.
     fn add_error<A: Allocator>(&mut self, error: &GlobError<A>) -> Result<(), AllocError> {
         let alloc = *self.items.allocator();
         let path = String::from_str(alloc, error.path().as_str())?;
@@ -114,7 +110,11 @@ impl Found {
             GlobCause::Limit => ("walk limit reached", End::Limit),
             GlobCause::Read => ("", End::Done),
         };
-        self.check_printed(error, &path, tail)?;
+        let printed = format!(in alloc; "{error}")?;
+        let known = format!(in alloc; "attempting to read `{path}` resulted in an error: {tail}")?;
+        if !printed.starts_with(known.as_str()) {
+            write!(self.items, "\tprints {printed}")?;
+        }
         self.end = end;
         if end != End::Done {
             self.refused = path;
@@ -122,22 +122,6 @@ impl Found {
         }
         write!(self.items, "\t!{path}:{:?}", error.error().kind())?;
         Ok(self.lost.push(path)?)
-    }
-
-    /// Adds what is printed of an error, if it is wrong.
-    fn check_printed<A: Allocator>(
-        &mut self,
-        error: &GlobError<A>,
-        path: &str,
-        tail: &str,
-    ) -> Result<(), AllocError> {
-        let alloc = *self.items.allocator();
-        let printed = format!(in alloc; "{error}")?;
-        let known = format!(in alloc; "attempting to read `{path}` resulted in an error: {tail}")?;
-        if printed.starts_with(known.as_str()) {
-            return Ok(());
-        }
-        write!(self.items, "\tprints {printed}")
     }
 
     /// Adds what is wrong with what a tree was asked: each unit is a question, and where the limit refuses one, the
@@ -148,10 +132,10 @@ impl Found {
             End::Limit => asked >= spent && spent == limit,
             _ => asked == spent,
         };
-        if is_right {
-            return Ok(());
+        if !is_right {
+            write!(self.items, "\tspent {spent} asked {asked}")?;
         }
-        write!(self.items, "\tspent {spent} asked {asked}")
+        Ok(())
     }
 }
 
@@ -166,12 +150,8 @@ fn fault(alloc: Global, refusal: PatternRefusal) -> io::Result<Found> {
 }
 
 /// Walks by `walk_in`. The path of a refusal is not known.
-pub fn gathered<'a>(
-    alloc: Memory<'a>,
-    (source, counts): (Source<'a>, &'a Counts),
-    job: Job<'_>,
-) -> io::Result<Found> {
-    let tree = AskedTree::new(source, counts);
+pub fn gathered<'a>(alloc: Memory<'a>, tree: AskedTree<'a>, job: Job<'_>) -> io::Result<Found> {
+    let counts = tree.counts;
     let mut found = match walk_in(alloc, tree, job.pattern, job.options, job.limit) {
         Ok(walk) => Found::of(alloc.inner, walk)?,
         Err(refusal) => fault(alloc.inner, refusal)?,
@@ -181,12 +161,8 @@ pub fn gathered<'a>(
 }
 
 /// Walks by `next`. Before the first item is wanted nothing is asked.
-pub fn stepped<'a>(
-    alloc: Memory<'a>,
-    (source, counts): (Source<'a>, &'a Counts),
-    job: Job<'_>,
-) -> io::Result<Found> {
-    let tree = AskedTree::new(source, counts);
+pub fn stepped<'a>(alloc: Memory<'a>, tree: AskedTree<'a>, job: Job<'_>) -> io::Result<Found> {
+    let counts = tree.counts;
     let paths = glob_in(alloc, tree, job.pattern, job.options, job.limit);
     let early = counts.asked.get();
     let mut found = match paths {

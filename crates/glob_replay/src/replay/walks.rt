@@ -1,32 +1,36 @@
 //! Rows of walks: `PATTERNS => ITEMS`, after which units of work may follow, as in `PATTERNS => ITEMS ; 13`. Other
 //! lines say what holds for the rows after them.
 
-use super::asked_tree::{Counts, Source};
+use super::asked_tree::{AskedTree, Counts, Source};
 use super::contents::tree_of;
 use super::settings::Settings;
 use super::walking::{Found, Job, gathered, stepped};
 use super::{Report, disk, goals};
 use crate::rationing::{Memory, Rationed};
-use crate::words::{in_words, number_of, text_of};
+use crate::words::{in_words, number_of, options_in_order, text_of};
 use std::io::{self, Write};
 
 /// What a row wants: what comes before each path, the items, and the units, if it has some.
 pub type Wanted<'a> = (&'a str, &'a str, Option<usize>);
 
 /// Replays a row.
-pub fn replay(report: &Report, words: &str, outcome: &str) -> io::Result<()> {
+pub fn replay<'a>(report: &'a Report, words: &'a str, outcome: &str) -> io::Result<()> {
     let (items, units) = match outcome.split_once(" ; ") {
         Some((items, units)) => (items, Some(number_of(units)?)),
         None => (outcome, None),
     };
     let limited = text_of(report.alloc(), report.settings.get("limits of"))?;
-    for &(options, word) in report.settings.cases(words)?.as_slice() {
+    for &(letters, word) in report.settings.cases(words)?.as_slice() {
         let text = text_of(report.alloc(), word)?;
         let (pattern, limit) = match limited.as_str() {
             "" => (text.as_str(), u64::MAX),
             pattern => (pattern, number_of(word)? as u64),
         };
-        let job = Job::new(pattern, options, limit);
+        let job = Job {
+            pattern,
+            options: options_in_order(letters)?,
+            limit,
+        };
         replay_walk(report, job, ("", items, units))?;
     }
     Ok(())
@@ -50,8 +54,8 @@ fn replay_walk(report: &Report, job: Job<'_>, wanted: Wanted<'_>) -> io::Result<
 fn replay_in_memory(report: &Report, job: Job<'_>, wanted: Wanted<'_>) -> io::Result<()> {
     let (ample, settings) = (Rationed::ample(report.alloc()), &report.settings);
     let (counts, others) = (Counts::default(), Counts::default());
-    let mut found = stepped(&ample, (source_of(&ample, settings)?, &counts), job)?;
-    let other = gathered(&ample, (source_of(&ample, settings)?, &others), job)?;
+    let mut found = stepped(&ample, asked_tree(&ample, settings, &counts)?, job)?;
+    let other = gathered(&ample, asked_tree(&ample, settings, &others)?, job)?;
     let (items, spent) = (&other.items, other.spent);
     if *items != found.items || spent != found.spent || other.end != found.end {
         write!(found.items, "\tby walk_in {items}\t; {spent}")?;
@@ -60,13 +64,8 @@ fn replay_in_memory(report: &Report, job: Job<'_>, wanted: Wanted<'_>) -> io::Re
 }
 
 /// Compares what was found with what a row wants.
-pub fn compare(
-    report: &Report,
-    pattern: &str,
-    found: &Found,
-    (front, items, units): Wanted<'_>,
-) -> io::Result<()> {
-    let alloc = report.alloc();
+pub fn compare(report: &Report, name: &str, found: &Found, wanted: Wanted<'_>) -> io::Result<()> {
+    let (alloc, (front, items, units)) = (report.alloc(), wanted);
     let mut known = String::new(alloc);
     for item in items.split_whitespace() {
         write!(known, " {front}{}", text_of(alloc, item)?)?;
@@ -76,18 +75,19 @@ pub fn compare(
         write!(known, " ; {units}")?;
         write!(words, " ; {}", found.spent)?;
     }
-    report.compare(pattern, &known, &words)
+    report.compare(name, &known, &words)
 }
 
-/// What answers the walks of a row.
-pub fn source_of<'a>(alloc: Memory<'a>, settings: &'a Settings) -> io::Result<Source<'a>> {
-    if let Some((looks, lists)) = settings.get("tree").split_once(" | ") {
-        return Ok(Source::Written {
-            alloc,
-            looks,
-            lists,
-        });
-    }
+/// The tree of the walks of a row, which counts there.
+pub fn asked_tree<'a>(
+    alloc: Memory<'a>,
+    settings: &'a Settings,
+    counts: &'a Counts,
+) -> io::Result<AskedTree<'a>> {
     let place = (settings.get("in"), settings.get("shut"));
-    Ok(Source::Known(tree_of(alloc, place, &settings.content()?)?))
+    let source = match settings.get("tree").split_once(" | ") {
+        None => Source::Known(tree_of(alloc, place, &settings.content()?)?),
+        Some((looks, lists)) => Source::Written(alloc, looks, lists),
+    };
+    Ok(AskedTree::new(source, counts))
 }

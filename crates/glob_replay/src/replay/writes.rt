@@ -1,6 +1,7 @@
 //! Rows of what programs write: `JOB | CONTENT | OUTPUT | ERRORS`, where the last two are writers.
 
-use super::asked_tree::{AskedTree, Counts, Source};
+use super::asked_tree::{AskedTree, Counts};
+use super::calls::Calls;
 use super::walking::{Job, gathered};
 use crate::rationing::Memory;
 use crate::streams::{Stream, Trouble, error_of};
@@ -17,15 +18,14 @@ pub struct Ran<'a> {
     pub errors: Stream<'a>,
 }
 
-/// Does a job as the program `name` over a tree of this content: `text`, `fault` or `arguments`, and what is written or
+/// Does a row's job as the program `name` over a tree of its content: `text`, `fault` or `arguments`, and what is written or
 /// reported, or `find` and a pattern. The writers show how much was asked. The error is memory that was refused.
-pub fn run<'a>(
-    alloc: Memory<'a>,
-    job: &str,
-    content: &str,
-    (mut output, mut errors): (Stream<'a>, Stream<'a>),
-    counts: &'a Counts,
-) -> io::Result<Ran<'a>> {
+pub fn run<'a>(alloc: Memory<'a>, row: &[&str], counts: &'a Counts) -> io::Result<Ran<'a>> {
+    let [job, content, output, errors] = row else {
+        return Err(unfit());
+    };
+    let mut output = Stream::new(alloc.inner, b"", output)?;
+    let mut errors = Stream::new(alloc.inner, b"", errors)?;
     output.clock = Some(&counts.asked);
     errors.clock = Some(&counts.asked);
     let lines = &mut ErrorLines::quiet(alloc, "name: ", &mut errors);
@@ -34,7 +34,7 @@ pub fn run<'a>(
         ("fault", line) => lines.fault(line),
         ("arguments", error) => lines.arguments_fault(&error_of(error)?, "not UTF-8"),
         ("find", pattern) => {
-            let tree = AskedTree::new(Source::of(alloc, content)?, counts);
+            let tree = AskedTree::of(alloc, content, counts)?;
             let walk = WalkSettings {
                 pattern,
                 options: MatchOptions::new(),
@@ -60,19 +60,12 @@ pub fn run<'a>(
 
 /// Does a row's job: adds the status, and of each writer what was written, and before it how many writes of many bytes there
 /// were. None that fails is flushed twice.
-pub fn add_run(alloc: Memory<'_>, fields: &[&str], words: &mut String) -> io::Result<()> {
-    let [job, content, output, errors] = fields else {
-        return Err(unfit());
-    };
-    let (counts, inner) = (Counts::default(), alloc.inner);
-    let writers = (
-        Stream::new(inner, b"", output)?,
-        Stream::new(inner, b"", errors)?,
-    );
-    let ran = run(alloc, job, content, writers, &counts)?;
-    write!(words, "{}", ran.status)?;
-    add_written(&ran.output, words)?;
-    add_written(&ran.errors, words)
+pub fn add_run(calls: &mut Calls<'_>, row: &[&str]) -> io::Result<()> {
+    let counts = Counts::default();
+    let ran = run(calls.alloc, row, &counts)?;
+    write!(calls.words, "{}", ran.status)?;
+    add_written(&ran.output, &mut calls.words)?;
+    add_written(&ran.errors, &mut calls.words)
 }
 
 fn add_written(writer: &Stream<'_>, words: &mut String) -> io::Result<()> {
@@ -87,40 +80,15 @@ fn add_written(writer: &Stream<'_>, words: &mut String) -> io::Result<()> {
     Ok(words.push_str(writer.text()?)?)
 }
 
-/// Finds by a pattern in a content, with willing writers.
-pub fn find<'a>(
-    alloc: Memory<'a>,
-    pattern: &str,
-    content: &str,
-    counts: &'a Counts,
-) -> io::Result<Ran<'a>> {
-    let (inner, most) = (alloc.inner, "1000000");
-    let job = format!(in inner; "find {pattern}")?;
-    let writers = (
-        Stream::new(inner, b"", most)?,
-        Stream::new(inner, b"", most)?,
-    );
-    run(alloc, &job, content, writers, counts)
-}
-
 /// Adds how often entries are asked for, and how often names alone, by `find_in` and by `walk_in`.
-pub fn add_listings(
-    alloc: Memory<'_>,
-    content: &str,
-    pattern: &str,
-    words: &mut String,
-) -> io::Result<()> {
-    let (counts, others) = (Counts::default(), Counts::default());
-    drop(find(alloc, pattern, content, &counts)?);
-    add_counts(&counts, words)?;
-    let source = Source::of(alloc, content)?;
-    let found = gathered(alloc, (source, &others), Job::of(pattern))?;
-    found.add_to(&mut String::new(alloc.inner))?;
-    add_counts(&others, words)
-}
-
-fn add_counts(counts: &Counts, words: &mut String) -> io::Result<()> {
-    let namings = counts.namings.get();
-    let listings = counts.listings.get().saturating_sub(namings);
-    Ok(write!(words, "{listings} {namings} ")?)
+pub fn add_listings(calls: &mut Calls<'_>, content: &str, pattern: &str) -> io::Result<()> {
+    let (alloc, counts, others) = (calls.alloc, Counts::default(), Counts::default());
+    let job = format!(in alloc.inner; "find {pattern}")?;
+    drop(run(alloc, &[job.as_str(), content, "99", "99"], &counts)?);
+    let (listings, namings) = counts.listed();
+    write!(calls.words, "{listings} {namings}")?;
+    let tree = AskedTree::of(alloc, content, &others)?;
+    gathered(alloc, tree, Job::of(pattern))?.add_to(&mut String::new(alloc.inner))?;
+    let (listings, namings) = others.listed();
+    Ok(write!(calls.words, " {listings} {namings}")?)
 }

@@ -2,34 +2,38 @@
 use super::{check, made};
 use glob_replay::rationing::Rationed;
 use glob_replay::replay::asked_tree::Counts;
-use glob_replay::replay::writes::find;
+use glob_replay::replay::writes::run;
 
-/// A pattern, how many files there are, and the asks before the first path, before the second, and at most before that
+/// A writer that takes all.
+const ALL: &str = "1000000";
+
+/// A job, how many files there are, and the asks before the first path, before the second, and at most before that
 /// is written: a lookup, listings and their entries, the first write, and then a hundred lookups, listings or entries.
 static WAITS: [(&str, u32, u64, u64, u64); 5] = [
-    ("*/f*", 0, 305, 306, 407),
-    ("*/f*", 150, 305, 306, 458),
-    ("*/f1", 2, 303, 304, 406),
-    ("**/f*", 0, 305, 306, 407),
-    ("**/f*", 30, 305, 306, 431),
+    ("find */f*", 0, 305, 306, 407),
+    ("find */f*", 150, 305, 306, 458),
+    ("find */f1", 2, 303, 304, 406),
+    ("find **/f*", 0, 305, 306, 407),
+    ("find **/f*", 30, 305, 306, 431),
 ];
 
 /// The first path is written before the next ask. The second waits for a hundred asks. Many paths of one directory are
 /// written in blocks of 8 KiB, but for the first and the last.
 #[test]
 fn a_path_waits_for_few_asks(rt: HostRuntime) {
-    for &(pattern, files, first, second, most) in &WAITS {
+    for &(job, files, first, second, most) in &WAITS {
         let content = made(&rt, format!(in rt.alloc(); "d×300/ d0/f×2 d1/f×{files}"));
         let (ample, counts) = (Rationed::ample(rt.alloc()), Counts::default());
-        let ran = made(&rt, find(&ample, pattern, &content, &counts));
+        let ran = made(&rt, run(&ample, &[job, &content, ALL, ALL], &counts));
         let is_soon = match ran.output.times.as_slice() {
             [early, late] => *early == first && second < *late && *late <= most,
             _ => false,
         };
-        check(&rt, ran.status == 0 && is_soon, pattern);
+        check(&rt, ran.status == 0 && is_soon, job);
     }
     let (ample, counts) = (Rationed::ample(rt.alloc()), Counts::default());
-    let ran = made(&rt, find(&ample, "d1/f*", "d×2/ d1/f×3000", &counts));
+    let row = ["find d1/f*", "d×2/ d1/f×3000", ALL, ALL];
+    let ran = made(&rt, run(&ample, &row, &counts));
     let blocks = ran.output.written.len() as u64 / 8_192;
     let most = blocks.saturating_add(2);
     let are_few = blocks <= ran.output.calls && ran.output.calls <= most;
@@ -40,10 +44,8 @@ fn a_path_waits_for_few_asks(rt: HostRuntime) {
 #[test]
 fn paths_and_errors_are_in_order(rt: HostRuntime) {
     let (ample, counts) = (Rationed::ample(rt.alloc()), Counts::default());
-    let ran = made(
-        &rt,
-        find(&ample, "*/?", "a/ a/x a/y #b c/ c/x c/y", &counts),
-    );
+    let row = ["find */?", "a/ a/x a/y #b c/ c/x c/y", ALL, ALL];
+    let ran = made(&rt, run(&ample, &row, &counts));
     let is_in_order = match (ran.output.times.as_slice(), ran.errors.times.as_slice()) {
         ([first, second, last], [error]) => first < second && second < error && error < last,
         _ => false,

@@ -3,6 +3,7 @@ use super::{check, made};
 use glob::{Disk, Look, Tree};
 use glob_prune::Pruned;
 use glob_replay::rationing::Rationed;
+use glob_replay::replay::calls::Calls;
 use glob_replay::replay::disks::files::Kind::{Dir, Failing, File, Link, Lost};
 use glob_replay::replay::disks::files::{SystemCalls, Written};
 use glob_replay::replay::disks::{Named, ask};
@@ -29,7 +30,7 @@ fn each_error_of_the_system_is_handed_on(rt: HostRuntime) {
             _ => io::Error::from_raw_os_error(code),
         };
         let kind = error.kind();
-        let paths = [
+        let paths = &[
             ("a e/x", Lost(kind)),
             ("l", Link(kind)),
             ("e/", Dir(&[b"x\0"])),
@@ -39,13 +40,13 @@ fn each_error_of_the_system_is_handed_on(rt: HostRuntime) {
         let fault = made(&rt, format!(in rt.alloc(); "!{error} "));
         for disk in ["disk", "followed", "kept", "pruned"] {
             for &(question, path, known) in &UNSEEN {
-                let (ample, calls) = (Rationed::ample(rt.alloc()), SystemCalls::default());
-                let (row, mut words) = ((disk, question, path), String::new(rt.alloc()));
-                let is_enough = ask(&ample, (&paths, &calls), row, &mut words).is_ok();
+                let (ample, calls) = (Rationed::ample(rt.alloc()), &SystemCalls::default());
+                let (files, mut asked) = (Written { paths, calls }, Calls::new(&ample));
+                let is_enough = ask(&mut asked, &files, (disk, question, path)).is_ok();
                 let known = if known == "!" { fault.as_str() } else { known };
                 let is_short = code == 12 && (disk != "kept" || path != "l");
                 check(&rt, is_enough != is_short, path);
-                check(&rt, is_short || words.as_str() == known, path);
+                check(&rt, is_short || asked.words.as_str() == known, path);
             }
         }
     }
@@ -60,12 +61,12 @@ fn a_large_directory_is_listed_whole(rt: HostRuntime) {
     };
     let mut blocks = [many; 36];
     blocks[0] = name;
-    let paths = [("a/", Dir(&blocks))];
+    let paths = &[("a/", Dir(&blocks))];
     for (question, lookups) in [("list", 70_001), ("names", 0)] {
-        let (ample, calls) = (Rationed::ample(rt.alloc()), SystemCalls::default());
-        let (row, mut words) = (("disk", question, "a"), String::new(rt.alloc()));
-        let is_whole = ask(&ample, (&paths, &calls), row, &mut words).is_ok();
-        check(&rt, is_whole && words.len() == 140_256, "the names");
+        let (ample, calls) = (Rationed::ample(rt.alloc()), &SystemCalls::default());
+        let (files, mut asked) = (Written { paths, calls }, Calls::new(&ample));
+        let is_whole = ask(&mut asked, &files, ("disk", question, "a")).is_ok();
+        check(&rt, is_whole && asked.words.len() == 140_256, "the names");
         let are_calls = calls.lookups.get() == lookups && calls.opens.get() == 1;
         // 4 KiB for each of the first two reads, and 32 KiB for each further one.
         let room = 8_192 + 35 * 32_768;

@@ -1,12 +1,13 @@
 //! What is printed of each public error and of a pattern, and what the calls of an error of a walk give.
-use super::{check, check_same, made};
+use super::{check, made};
 use glob::{
-    Disk, GlobCause, LineFault, MatchOptions, Pattern, PatternError, PatternRefusal, Tree, glob_in,
+    Disk, GlobCause, LineFault, MatchOptions, Pattern, PatternError, PatternRefusal, glob_in,
 };
 use glob_captures::CapturesError;
-use glob_replay::rationing::{Ration, Rationed};
+use glob_replay::rationing::Rationed;
 use glob_replay::replay::disks::files::Kind::{Dir, Failing, Lost};
 use glob_replay::replay::disks::files::{Planted, SystemCalls, Written};
+use glob_replay::words::are_same;
 use glob_set::SetRefusal;
 use std::io::{self, ErrorKind};
 use std::process::Abort;
@@ -37,33 +38,24 @@ fn faults_and_patterns_are_printed(rt: HostRuntime) {
     assert_eq!(rt; made(&rt, printed), made(&rt, known));
 }
 
-/// A walk over the files begins with an error at the path, unless memory ran out, with this one in it.
+/// The first item of a walk over the files is this error, at the path unless memory ran out. It keeps and prints it, and its
+/// calls take no memory.
 fn check_error(
     rt: &(impl AllocGlobal + Abort),
     paths: &[Planted<'_>],
-    walk: (&str, u64),
-    wanted: (&str, GlobCause, io::Error),
-) {
-    let (ample, calls) = (Rationed::ample(rt.alloc()), &SystemCalls::default());
-    let disk = Disk::new(Written { paths, calls }, &ample);
-    check_first(rt, &ample.ration, &ample, disk, walk, wanted);
-}
-
-/// The first item of a walk is this error, which it keeps and prints. Its calls take no memory.
-fn check_first<T: Tree>(
-    rt: &(impl AllocGlobal + Abort),
-    ration: &Ration,
-    alloc: T::Alloc,
-    tree: T,
     (pattern, limit): (&str, u64),
     (path, cause, known): (&str, GlobCause, io::Error),
 ) {
-    let options = MatchOptions::new();
-    let mut items = made(rt, glob_in(alloc, tree, pattern, options, limit));
+    let (ample, calls) = (Rationed::ample(rt.alloc()), &SystemCalls::default());
+    let (disk, options) = (
+        Disk::new(Written { paths, calls }, &ample),
+        MatchOptions::new(),
+    );
+    let mut items = made(rt, glob_in(&ample, disk, pattern, options, limit));
     let Some(Err(error)) = items.next() else {
         panic!(rt; "no error");
     };
-    let requests = ration.asked();
+    let requests = ample.ration.asked();
     let at = error.path().as_str();
     let begin = "attempting to read `";
     let line = format!(in rt.alloc(); "{begin}{at}` resulted in an error: {known}");
@@ -71,9 +63,10 @@ fn check_first<T: Tree>(
     check(rt, made(rt, printed) == made(rt, line), path);
     let is_at_path = cause == GlobCause::Memory || at == path;
     let is_right = is_at_path && error.cause() == cause;
-    check(rt, is_right && ration.asked() == requests, path);
-    check_same(rt, *error.error(), known);
-    check_same(rt, error.into_error(), known);
+    check(rt, is_right && ample.ration.asked() == requests, path);
+    for kept in [*error.error(), error.into_error()] {
+        check(rt, made(rt, are_same(rt.alloc(), &kept, &known)), path);
+    }
 }
 
 #[test]

@@ -64,7 +64,7 @@ impl Strays for Noted<'_> {
 }
 
 /// A file system of some paths. All others are missing. A directory's path ends in a separator where it is opened.
-#[derive(Drop)]
+#[derive(Clone, Copy)]
 pub struct Written<'a> {
     pub paths: &'a [Planted<'a>],
     pub calls: &'a SystemCalls,
