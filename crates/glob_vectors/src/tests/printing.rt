@@ -1,7 +1,8 @@
 //! What is printed of each public error and of a pattern, and what the calls of an error of a walk give.
 use super::{check, made};
 use glob::{
-    Disk, GlobCause, LineFault, MatchOptions, Pattern, PatternError, PatternRefusal, glob_in,
+    Disk, GlobCause, LineFault, ListError, MatchOptions, Pattern, PatternError, PatternRefusal,
+    TreeRefusal, glob_in,
 };
 use glob_captures::CapturesError;
 use glob_replay::rationing::Rationed;
@@ -36,6 +37,24 @@ fn faults_and_patterns_are_printed(rt: HostRuntime) {
         src/**/[!a-\u{e9}]?*.rs/<";
     let known = format!(in rt.alloc(); "{line}{line}pattern 12: {line}{words}");
     assert_eq!(rt; made(&rt, printed), made(&rt, known));
+}
+
+/// The errors of trees are printed by their words, and that of a listing by those of its I/O error.
+#[test]
+fn errors_of_trees_are_printed(rt: HostRuntime) {
+    let printed = format!(in rt.alloc();
+        "{}<{}<{}<{}<{}<{}<{}<",
+        ListError::Read(io::Error::new(ErrorKind::Interrupted, "words")),
+        ListError::Memory,
+        TreeRefusal::Improper,
+        TreeRefusal::NoParent,
+        TreeRefusal::Taken,
+        TreeRefusal::NoDirectory,
+        TreeRefusal::Memory
+    );
+    let known = "words<out of memory<improper path<no parent directory<path already exists<\
+        not a directory<out of memory<";
+    assert_eq!(rt; made(&rt, printed).as_str(), known);
 }
 
 /// The first item of a walk over the files is this error, at the path unless memory ran out. It keeps and prints it, and its
