@@ -46,17 +46,12 @@ impl<'e, A: Allocator + Copy, E: Write> ErrorLines<'e, A, E> {
         }
     }
 
-    /// Writes a line at once, so that no other process writes into it. Where there is no memory for the line, it says
-    /// `out of memory`.
+    /// As [`write_line`], behind the words that the lines begin with.
     pub fn write<D: Display>(&mut self, message: &D)
         ensures { IfSome (D.output message.now) (λ text. WritesLine self.old.prefix.now text
             (E.contents self.old.writer.now) (E.contents self.new.writer.now)) }
     {
-        let prefix = self.prefix;
-        let _ = match format!(in self.alloc; "{prefix}{message}\n") {
-            Ok(line) => write_whole(self.writer, line.as_bytes()),
-            Err(_) => write_scarce(prefix, self.writer),
-        };
+        write_line(self.alloc, self.prefix, message, self.writer);
     }
 
     /// Writes the line of a fault, and returns its status.
@@ -93,6 +88,23 @@ impl<'e, A: Allocator + Copy, E: Write> ErrorLines<'e, A, E> {
             _ => self.fault(message),
         }
     }
+}
+
+/// Writes a line that begins with `prefix`, at once, so that no other process writes into it. Where there is no memory
+/// for the line, it says `out of memory`. A fault of the writer is dropped.
+pub fn write_line<A: Allocator + Copy, D: Display, E: Write>(
+    alloc: A,
+    prefix: &str,
+    message: &D,
+    writer: &mut E,
+)
+    ensures { IfSome (D.output message.now) (λ text. WritesLine prefix.now text
+        (E.contents writer.old) (E.contents writer.new)) }
+{
+    let _ = match format!(in alloc; "{prefix}{message}\n") {
+        Ok(line) => write_whole(writer, line.as_bytes()),
+        Err(_) => write_scarce(prefix, writer),
+    };
 }
 
 /// Writes, piece by piece, the line of a line that there was no memory for.

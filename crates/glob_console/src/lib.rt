@@ -12,7 +12,7 @@ mod writing;
 
 pub use borrowed::Borrowed;
 pub use choice::{Choice, Every};
-pub use error_lines::ErrorLines;
+pub use error_lines::{ErrorLines, write_line};
 pub use find::fault::FindFault;
 pub use find::findings::Findings;
 pub use find::{WalkSettings, find_in};
