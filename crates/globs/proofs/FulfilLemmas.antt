@@ -1,19 +1,29 @@
--- What fulfils a request.
-use Rattle.std.proofs.Common.{◌≡◌, ℕ, ◌<◌, ◌≤◌, false, List, [], ◌∷◌, Option, length, get_or, map, inl, refl, arith, Bor}
+-- What fulfils a request, and what a usage fault writes.
+use Rattle.std.proofs.Common.{◌≡◌, ℕ, ◌<◌, ◌≤◌, false, List, [], ◌∷◌, Option, length, get_or, map, inl, inr, refl, sym, subst, arith, Bor}
+use Rattle.std.specs.Prelude.{codes}
 use Rattle.std.specs.Str.{chars}
 use Rattle.std.proofs.KnownBytes.{Keeps-refl}
+use Rattle.glob_console.specs.Lines.{WritesLine}
 use Rattle.glob_console.specs.Outcomes.{IsRefused}
 use Rattle.glob_console.proofs.CallerLemmas.{text_at_fault}
 use Rattle.glob_pattern.specs.Grammar.Units.{IsAccepted}
 use Rattle.glob_pattern.specs.declared.options.MatchOptions.{MatchOptions}
+use Rattle.glob_text.specs.Text.{Text}
 use Rattle.globs.specs.Escaping.{WritesEscaped}
 use Rattle.globs.specs.Explain.Outcomes.{Answers, Explains}
+use Rattle.globs.specs.Faults.{WritesUsage, usage_words}
 use Rattle.globs.specs.Find.Outcomes.{FindsUnignored}
 use Rattle.globs.specs.Matching.{CopiesMatches}
 use Rattle.globs.specs.Outcomes.{Fulfils, World}
 use Rattle.globs.specs.Reading.{Request, Runs, Helps, VersionLine, Refused}
+use Rattle.globs.specs.Requests.{IsWrongRequest, request_of}
 use Rattle.globs.specs.Unignored.{CopiesUnignored}
+use Rattle.globs.specs.declared.command.Command.{Command}
+use Rattle.globs.specs.declared.command.Command.TheVariants as command
+use Rattle.globs.specs.declared.name.Name as names
 use Rattle.globs.specs.declared.name.Name.TheVariants.{Find, Match, Ignore, Explain, Escape}
+use Rattle.globs.specs.declared.usage.UsageFault.{UsageFault}
+use Rattle.globs.specs.declared.usage.UsageFault.TheVariants.{Word, Memory}
 
 -- a pattern and a text are answered as their question is
 pub answers_two : {W : Type 0} (contents : W → Option (List ℕ)) (o : MatchOptions) (operands : List (Bor (List ℕ))) (none other : Bor (List ℕ)) (old new : W) (status : ℕ)
@@ -46,3 +56,27 @@ module _ {W : Type 0} (contents : W → Option (List ℕ)) (known : W) (status :
   fulfils_refused world (Helps name) unread = text_at_fault _ (contents known) status is
   fulfils_refused world VersionLine unread = text_at_fault _ (contents known) status is
   fulfils_refused world (Refused name why word) unread = (is, refl)
+
+module _ {E : Type 0} (contents : E → Option (List ℕ)) (prefix : Text) (old new : E) where
+  -- of what is no usage fault nothing is said
+  pub no_usage : {A : Type 0} (command : Command A) (request : Request) → request ≡ request_of command → WritesUsage contents prefix request old new
+  unfolding WritesUsage
+  no_usage (command.Run name asked) request is = subst (λ r. WritesUsage contents prefix r old new) (sym is) tt
+  no_usage (command.Help name) request is = subst (λ r. WritesUsage contents prefix r old new) (sym is) tt
+  no_usage command.Version request is = subst (λ r. WritesUsage contents prefix r old new) (sym is) tt
+
+  -- the line that memory was missing
+  memory_usage : (request : Request) → WritesLine prefix (codes "out of memory") (contents old) (contents new) → WritesUsage contents prefix request old new
+  unfolding WritesUsage
+  memory_usage (Runs name o operands) wrote = tt
+  memory_usage (Helps name) wrote = tt
+  memory_usage VersionLine wrote = tt
+  memory_usage (Refused name why word) (inl wrote) = inr wrote
+  memory_usage (Refused name why word) (inr wrote) = inr wrote
+
+  -- the line of a fault
+  pub line_usage : (name : Option names.Name) (fault : UsageFault) (request : Request) → IsWrongRequest request (record { name = name; fault = fault })
+      → WritesLine prefix (usage_words (record { name = name; fault = fault })) (contents old) (contents new) → WritesUsage contents prefix request old new
+  unfolding WritesUsage
+  line_usage name (Word why word) request is wrote = subst (λ r. WritesUsage contents prefix r old new) (sym is) wrote
+  line_usage name Memory request is wrote = memory_usage request wrote

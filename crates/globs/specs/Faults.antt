@@ -1,11 +1,13 @@
 -- The printed texts of faults. What words from outside have of control characters is seen.
-use Rattle.std.specs.Prelude.{◌++◌, ◌∷◌, Option, None, Some, codes, if◌then◌else◌, bytes_eq, decimal}
+use Rattle.std.specs.Prelude.{ℕ, List, ◌++◌, ◌∷◌, Option, None, Some, ⊤, codes, if◌then◌else◌, bytes_eq, decimal}
+use Rattle.glob_console.specs.Lines.{WritesLine}
 use Rattle.glob_pattern.specs.Grammar.Faults.{range_message}
 use Rattle.glob_rules.specs.Words.{reason_words}
 use Rattle.glob_set.specs.Words.{brace_error_words}
 use Rattle.glob_set.specs.declared.braces.error.BraceError.{BraceError}
 use Rattle.glob_set.specs.declared.braces.error.BraceError.TheVariants.{Unmatched, Unclosed, TooMany}
 use Rattle.glob_text.specs.Text.{Text}
+use Rattle.globs.specs.Reading.{Request, Runs, Helps, VersionLine, Refused}
 use Rattle.globs.specs.Visible.{caret_lines, visible}
 use Rattle.globs.specs.declared.ignoring.RulesFault.{RulesFault}
 use Rattle.globs.specs.declared.ignoring.RulesFault.TheVariants as rules
@@ -54,12 +56,26 @@ why_words name why.Extra = codes " is behind the text: quote the pattern"
 why_words name why.Command = codes " is no command"
 why_words name why.Empty = codes "there is no command"
 
+-- what is said of a word that is wrong, of a command or before one
+abbrev pub word_fault_words : Option Name → Why → (word : Text) → Text
+word_fault_words name w word = visible word ++ (why_words name w ++ (codes ": " ++ help_words name))
+
 -- the line of a usage fault
 abbrev pub usage_words : UsageLine → Text
 usage_words line = elim line.fault [
-  | usage.Word w word ↦ visible word.now ++ (why_words line.name w ++ (codes ": " ++ help_words line.name))
+  | usage.Word w word ↦ word_fault_words line.name w word.now
   | usage.Memory ↦ codes "out of memory"
 ]
+
+-- Of words that are refused the line was written that says which is wrong and why, behind the prefix. Of others nothing is
+-- said.
+unfoldable pub WritesUsage : {E : Type 0} → (contents : E → Option (List ℕ)) → (prefix : Text) → Request → (old new : E)
+    → Type 0
+WritesUsage contents prefix (Runs name o operands) old new = ⊤
+WritesUsage contents prefix (Helps name) old new = ⊤
+WritesUsage contents prefix VersionLine old new = ⊤
+WritesUsage contents prefix (Refused name w word) old new =
+    WritesLine prefix (word_fault_words name w word) (contents old) (contents new)
 
 -- what a message of a pattern's fault is here: a bracket that is not closed says so
 abbrev pub message_words : (message : Text) → Text

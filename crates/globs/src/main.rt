@@ -5,8 +5,10 @@
 ghost use Rattle.std.specs.Prelude.{◌≡◌, ◌≤◌, false, if◌then◌else◌, map};
 ghost use Rattle.globs.specs.CommandLine.{request_asked};
 ghost use Rattle.globs.specs.Copying.{input_of};
+ghost use Rattle.globs.specs.Faults.{WritesUsage};
 ghost use Rattle.globs.specs.Outcomes.{Fulfils};
 ghost use Rattle.globs.specs.Reading.{Runs};
+ghost use Rattle.globs.specs.Requests.{request_of};
 
 mod braces;
 mod command;
@@ -32,7 +34,7 @@ use files::{DiskFiles, IgnoreFiles};
 use find::disk::{Disks, disk_of, last_status};
 use find::find_asked;
 use find::skipping::SharedRules;
-use glob_console::{ErrorLines, arguments, words_of, write_text};
+use glob_console::{ErrorLines, FAULT, arguments, words_of, write_line, write_text};
 use glob_lines::Watch;
 use glob_prune::Links;
 use glob_tree::Tree;
@@ -47,8 +49,8 @@ use std::process::ExitCode;
 const PREFIX: &str = "globs: ";
 
 /// Does what the words after the program's name ask, and returns the exit status: 0 where something was written, 1 where
-/// nothing was found, copied or matched, and 2 at a fault, which is lines of `errors`. A usage fault leaves the output as
-/// it was.
+/// nothing was found, copied or matched, and 2 at a fault, which is lines of `errors`. A usage fault is one line, and
+/// leaves the output as it was.
 ///
 /// Over the input `"a.rs\nb.c\n"` the words `match` and `*.rs` write `"a.rs\n"`, and the status is 0.
 pub fn run_words<T: Tree, F: IgnoreFiles, R: Read, W: Write, E: Write>(
@@ -68,15 +70,46 @@ pub fn run_words<T: Tree, F: IgnoreFiles, R: Read, W: Write, E: Write>(
       input = input_of R.remaining input.old input.new;
     })
         (request_asked (map (λ w. w.now) words.now)) output.old output.new result }
+    ensures usage { WritesUsage E.contents PREFIX.now
+        (request_asked (map (λ w. w.now) words.now)) errors.old errors.new }
 {
-    let errors = &mut ErrorLines::quiet(alloc, PREFIX, errors);
     match Command::parse(alloc, words) {
-        Ok(Command::Run(name, asked)) => {
-            run_command(alloc, disks, files, name, &asked, input, output, errors)
+        Ok(command) => {
+            let errors = &mut ErrorLines::quiet(alloc, PREFIX, errors);
+            run_asked(alloc, disks, files, &command, input, output, errors)
         }
-        Ok(Command::Help(name)) => write_text(help::page_of(name), output, errors),
-        Ok(Command::Version) => write_text(help::VERSION, output, errors),
-        Err(usage_line) => errors.fault(usage_line),
+        Err(usage_line) => {
+            write_line(alloc, PREFIX, &usage_line, errors);
+            FAULT
+        }
+    }
+}
+
+/// Does what is asked, and returns the exit status.
+fn run_asked<T: Tree, F: IgnoreFiles, R: Read, W: Write, E: Write>(
+    alloc: T::Alloc,
+    disks: Disks<'_, T, T::Alloc>,
+    files: &F,
+    command: &Command<'_, T::Alloc>,
+    input: &mut Watch<R>,
+    output: &mut W,
+    errors: &mut ErrorLines<'_, T::Alloc, E>,
+) -> u8
+    requires { input.old.failed ≡ false }
+    ensures most { result ≤ 2 }
+    ensures request { Fulfils W.contents (record {
+      told = λ follows. T.tells (if follows then disks.entry.logical else disks.entry.physical);
+      holds = F.holds files.now;
+      input = input_of R.remaining input.old input.new;
+    })
+        (request_of command.now) output.old output.new result }
+{
+    match command {
+        Command::Run(name, asked) => {
+            run_command(alloc, disks, files, *name, asked, input, output, errors)
+        }
+        Command::Help(name) => write_text(help::page_of(*name), output, errors),
+        Command::Version => write_text(help::VERSION, output, errors),
     }
 }
 

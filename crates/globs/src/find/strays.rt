@@ -9,7 +9,7 @@ use crate::PREFIX;
 use crate::explain::hints::without_here;
 use crate::find::skipping::SharedRules;
 use crate::visible::Visible;
-use glob_console::ErrorLines;
+use glob_console::write_line;
 use glob_prune::Strays;
 use std::alloc::Allocator;
 use std::cell::Cell;
@@ -32,7 +32,7 @@ impl<A: Allocator + Copy, E: Write> Strays for StrayLines<'_, A, E> {
     fn stray(&mut self, directory: &str, name: &[u8]) {
         self.has_any.set(true);
         let line = StrayLine { directory, name };
-        ErrorLines::new(self.alloc, PREFIX, self.errors).write(&line);
+        write_line(self.alloc, PREFIX, &line, self.errors);
     }
 
     fn unsettled(&mut self, path: &str, error: &io::Error) {
@@ -42,7 +42,7 @@ impl<A: Allocator + Copy, E: Write> Strays for StrayLines<'_, A, E> {
         }
         self.has_any.set(true);
         let line = UnsettledLine { path, error };
-        ErrorLines::new(self.alloc, PREFIX, self.errors).write(&line);
+        write_line(self.alloc, PREFIX, &line, self.errors);
     }
 }
 
