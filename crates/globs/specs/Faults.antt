@@ -9,6 +9,7 @@ use Rattle.glob_set.specs.declared.braces.error.BraceError.TheVariants.{Unmatche
 use Rattle.glob_text.specs.Text.{Text}
 use Rattle.globs.specs.Reading.{Request, Runs, Helps, VersionLine, Refused}
 use Rattle.globs.specs.Visible.{caret_lines, visible}
+use Rattle.globs.specs.declared.braces.AlternativeLines.{AlternativeLines}
 use Rattle.globs.specs.declared.ignoring.RulesFault.{RulesFault}
 use Rattle.globs.specs.declared.ignoring.RulesFault.TheVariants as rules
 use Rattle.globs.specs.declared.name.Name.{Name}
@@ -97,6 +98,10 @@ fault_words lines = elim lines.fault [
   | pattern.Braces text e ↦ brace_lines text.now e ++ 10 ∷ help_words (Some lines.name)
   | pattern.Memory ↦ codes "out of memory"
 ]
+
+-- those of an alternative of a word
+abbrev pub alternative_words : AlternativeLines → Text
+alternative_words lines = visible lines.word.now ++ (codes ": " ++ fault_words lines.lines)
 
 -- the line of rules that are refused; what the system says of a file is not known
 abbrev pub rules_words : RulesFault → Option Text

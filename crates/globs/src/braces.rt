@@ -1,32 +1,128 @@
 //! The alternatives of the patterns of a command line.
-ghost use Rattle.std.specs.Prelude.{IfOk, map, string_bytes};
+ghost use Rattle.std.specs.Prelude.{◌≡◌, Some, IfOk, IfErr, chars, map, string_bytes};
+ghost use Rattle.glob_set.specs.Braces.{AreAlternatives};
 ghost use Rattle.glob_set.specs.BraceSets.{AreAlternativesOf};
+ghost use Rattle.globs.specs.Faults.{alternative_words};
 
-use crate::patterns::PatternFault;
+use crate::find::plan::{astray_column, is_below};
+use crate::name::Name;
+use crate::patterns::{FaultLines, PatternFault};
+use crate::visible::Visible;
+use glob_console::ErrorLines;
+use glob_pattern::{Pattern, PatternRefusal};
 use glob_set::braces::{BraceRefusal, expand};
 use std::alloc::Allocator;
+use std::fmt::{self, Display};
+use std::io::Write;
 
-/// The fault of a word that is refused.
-fn fault_of(word: &str, refusal: BraceRefusal) -> PatternFault<'_> {
+/// The alternatives of the words, those of the first word first: of `*.{c,h}` and `a`, `*.c`, `*.h` and `a`.
+///
+/// A word whose braces are refused, or one of whose alternatives is, is lines of `errors`, and the error is its status.
+pub fn expand_words<A: Allocator + Copy, E: Write>(
+    alloc: A,
+    name: Name,
+    words: &[&str],
+    errors: &mut ErrorLines<'_, A, E>,
+) -> Result<Vec<String<A>, A>, u8>
+    ensures texts { IfOk result (λ texts.
+        AreAlternativesOf (map (λ w. w.now) words.now) (map string_bytes texts.items)) }
+    ensures status { IfErr result (λ status. status ≡ 2) }
+{
+    let mut texts = Vec::new(alloc);
+    for word in words {
+        let mut alternatives = expand_word(alloc, name, word, errors)?;
+        let Ok(()) = texts.append(&mut alternatives) else {
+            return Err(errors.fault("out of memory"));
+        };
+    }
+    Ok(texts)
+}
+
+/// The alternatives of a word, as [`expand_words`].
+fn expand_word<A: Allocator + Copy, E: Write>(
+    alloc: A,
+    name: Name,
+    word: &str,
+    errors: &mut ErrorLines<'_, A, E>,
+) -> Result<Vec<String<A>, A>, u8>
+    ensures texts { IfOk result (λ texts.
+        AreAlternatives (chars word.now) (map string_bytes texts.items)) }
+    ensures status { IfErr result (λ status. status ≡ 2) }
+{
+    match expand(alloc, word) {
+        Ok(alternatives) => {
+            check_alternatives(alloc, name, word, alternatives.as_slice(), errors)?;
+            Ok(alternatives)
+        }
+        Err(refusal) => {
+            let fault = brace_fault(word, refusal);
+            Err(errors.fault(FaultLines { name, fault }))
+        }
+    }
+}
+
+/// The fault of a word whose braces are refused.
+fn brace_fault(word: &str, refusal: BraceRefusal) -> PatternFault<'_> {
     match refusal {
         BraceRefusal::Syntax(error) => PatternFault::Braces(word, error),
         BraceRefusal::Memory => PatternFault::Memory,
     }
 }
 
-/// The alternatives of the words, those of the first word first: of `*.{c,h}` and `a`, `*.c`, `*.h` and `a`. The error
-/// is that of the first word whose braces are refused.
-pub fn expand_words<'a, A: Allocator + Copy>(
+/// Refuses a word of which an alternative is refused, but for one that is the word itself.
+fn check_alternatives<A: Allocator + Copy, E: Write>(
     alloc: A,
-    words: &[&'a str],
-) -> Result<Vec<String<A>, A>, PatternFault<'a>>
-    ensures { IfOk result (λ texts.
-        AreAlternativesOf (map (λ w. w.now) words.now) (map string_bytes texts.items)) }
+    name: Name,
+    word: &str,
+    alternatives: &[String<A>],
+    errors: &mut ErrorLines<'_, A, E>,
+) -> Result<(), u8>
+    ensures { IfErr result (λ status. status ≡ 2) }
 {
-    let mut texts = Vec::new(alloc);
-    for word in words {
-        let mut alternatives = expand(alloc, word).map_err(|refusal| fault_of(word, refusal))?;
-        texts.append(&mut alternatives)?;
+    for alternative in alternatives {
+        let alternative = alternative.as_str();
+        if alternative != word {
+            if let Some(fault) = pattern_fault(alloc, name, alternative) {
+                return Err(errors.fault(lines_of(name, word, fault)));
+            }
+        }
     }
-    Ok(texts)
+    Ok(())
+}
+
+/// Why the command refuses a pattern, as far as there is memory to know it.
+fn pattern_fault<A: Allocator + Copy>(
+    alloc: A,
+    name: Name,
+    pattern: &str,
+) -> Option<PatternFault<'_>> {
+    if name == Name::Find && !is_below(pattern) {
+        return Some(PatternFault::Astray(pattern, astray_column(pattern)));
+    }
+    match Pattern::new(alloc, pattern) {
+        Err(PatternRefusal::Syntax(error)) => Some(PatternFault::Syntax(pattern, error)),
+        Err(PatternRefusal::Memory) | Ok(_) => None,
+    }
+}
+
+/// The lines of an alternative of a word.
+fn lines_of<'a>(name: Name, word: &'a str, fault: PatternFault<'a>) -> AlternativeLines<'a> {
+    let lines = FaultLines { name, fault };
+    AlternativeLines { word, lines }
+}
+
+/// The lines of an alternative that is refused, behind the word that it is of.
+#[derive(Drop)]
+pub struct AlternativeLines<'a> {
+    pub word: &'a str,
+    pub lines: FaultLines<'a>,
+}
+
+impl Display for AlternativeLines<'_> {
+    ghost output = { λ lines. Some (alternative_words lines) };
+
+    fn fmt<W: fmt::Write>(&self, f: &mut fmt::Formatter<W>) -> fmt::Result {
+        let word = Visible { text: self.word };
+        write!(f, "{word}: {}", self.lines)
+    }
 }

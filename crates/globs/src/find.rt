@@ -1,5 +1,5 @@
 //! `globs find`: the paths below the current directory that one of the patterns matches and nothing excludes.
-ghost use Rattle.std.specs.Prelude.{◌≡◌, ◌≢◌, ◌≤◌, false, true, map, IsTrue};
+ghost use Rattle.std.specs.Prelude.{◌≡◌, ◌≢◌, ◌≤◌, ◌++◌, ◌∷◌, Some, false, true, map, IsTrue};
 ghost use Rattle.glob_console.specs.FoundPaths.{IsFindStatus, WritesFound};
 ghost use Rattle.glob_console.specs.Outcomes.{IsRefused};
 ghost use Rattle.glob_set.specs.BraceSets.{AreAccepted};
@@ -17,7 +17,7 @@ ghost use Rattle.globs.specs.Patterns.{set_of};
 pub mod disk;
 mod filter;
 mod order;
-mod plan;
+pub mod plan;
 mod search;
 mod shallow;
 pub mod skipping;
@@ -31,7 +31,6 @@ use crate::files::IgnoreFiles;
 use crate::ignoring::read_list;
 use crate::name::Name;
 use crate::options::Settings;
-use crate::patterns::FaultLines;
 use glob_console::{ErrorLines, UNFOUND, words_of};
 use glob_prune::Pruned;
 use glob_rules::IgnoreList;
@@ -85,9 +84,9 @@ pub fn find_asked<T: Tree, F: IgnoreFiles, W: Write, E: Write>(
     }
 }
 
-/// As [`run_find`], by the alternatives of the words: `*.{c,h}` as `*.c` and `*.h`. A word whose braces are refused is
-/// lines of `errors`, before anything is looked up or written. Where one pattern finds nothing and has a form of
-/// another tool, a line says what that is here.
+/// As [`run_find`], by the alternatives of the words: `*.{c,h}` as `*.c` and `*.h`. A word that is refused is lines of
+/// `errors`, before anything is looked up or written. Where one pattern finds nothing and has a form of another tool, a
+/// line says what that is here.
 #[tactic(auto, unfolding(crate::specs::Find::Outcomes::Finds))]
 fn find_words<T: Tree, W: Write, E: Write>(
     alloc: T::Alloc,
@@ -102,14 +101,9 @@ fn find_words<T: Tree, W: Write, E: Write>(
     ensures found { Finds W.contents (T.tells tree) settings list.value (map (λ w. w.now) words.now)
         output.old output.new result }
 {
-    let texts = match expand_words(alloc, words) {
+    let texts = match expand_words(alloc, Name::Find, words, errors) {
         Ok(texts) => texts,
-        Err(fault) => {
-            return errors.fault(FaultLines {
-                name: Name::Find,
-                fault,
-            });
-        }
+        Err(status) => return status,
     };
     let Ok(patterns) = words_of(alloc, texts.as_slice()) else {
         return errors.fault("out of memory");
@@ -150,6 +144,8 @@ struct FormLine {
 }
 
 impl Display for FormLine {
+    ghost output = { λ line. Some (line.form.now ++ 32 ∷ line.words.now) };
+
     fn fmt<W: fmt::Write>(&self, f: &mut fmt::Formatter<W>) -> fmt::Result {
         write!(f, "{} {}", self.form, self.words)
     }

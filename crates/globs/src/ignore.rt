@@ -1,5 +1,5 @@
 //! `globs ignore`: the paths of the input that the rules of ignore files do not ignore.
-ghost use Rattle.std.specs.Prelude.{◌≡◌, ◌≤◌, false, map};
+ghost use Rattle.std.specs.Prelude.{◌≡◌, ◌≤◌, ◌++◌, Some, codes, decimal, false, map};
 ghost use Rattle.globs.specs.Copying.{input_of};
 ghost use Rattle.globs.specs.Unignored.{CopiesList, CopiesUnignored};
 
@@ -74,6 +74,8 @@ struct StraysLine {
 }
 
 impl Display for StraysLine {
+    ghost output = { λ line. Some (codes "left out, since they are not UTF-8: " ++ decimal line.strays) };
+
     fn fmt<W: fmt::Write>(&self, f: &mut fmt::Formatter<W>) -> fmt::Result {
         write!(f, "left out, since they are not UTF-8: {}", self.strays)
     }

@@ -18,8 +18,8 @@ use std::alloc::{AllocError, Allocator};
 use std::io::{Read, Write};
 use std::str;
 
-/// As [`run_match`], by the alternatives of the words: `*.{c,h}` as `*.c` and `*.h`. A word whose braces are refused is
-/// a fault, before anything is read or written.
+/// As [`run_match`], by the alternatives of the words: `*.{c,h}` as `*.c` and `*.h`. A word that is refused is a fault,
+/// before anything is read or written.
 #[tactic(auto, unfolding(crate::specs::Matching::CopiesMatches))]
 pub fn match_words<A: Allocator + Copy, R: Read, W: Write, E: Write>(
     alloc: A,
@@ -34,14 +34,9 @@ pub fn match_words<A: Allocator + Copy, R: Read, W: Write, E: Write>(
     ensures copied { CopiesMatches W.contents settings (map (λ w. w.now) words.now)
         (input_of R.remaining input.old input.new) output.old output.new result }
 {
-    let texts = match expand_words(alloc, words) {
+    let texts = match expand_words(alloc, Name::Match, words, errors) {
         Ok(texts) => texts,
-        Err(fault) => {
-            return errors.fault(FaultLines {
-                name: Name::Match,
-                fault,
-            });
-        }
+        Err(status) => return status,
     };
     let Ok(patterns) = words_of(alloc, texts.as_slice()) else {
         return errors.fault("out of memory");
