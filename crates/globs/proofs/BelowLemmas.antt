@@ -15,6 +15,10 @@ pub no_names : (p : Text) → is_below p ≡ true → list_any is_no_name (piece
 unfolding is_below
 no_names p below = not-true (list_any is_no_name (pieces p)) below
 
+pub below_from : (p : Text) → list_any is_no_name (pieces p) ≡ false → is_below p ≡ true
+unfolding is_below
+below_from p named = not_from_false _ named
+
 -- an empty piece is at both sides of a separator
 none_after : (front back : Text) → list_any is_no_name (pieces back) ≡ true → list_any is_no_name (pieces (front ++ slash ∷ back)) ≡ true
 none_after front back h =

@@ -8,6 +8,8 @@ pub mod OpenedLemmas
 pub mod OrderLemmas
 pub mod RequestLemmas
 pub mod ShallowLemmas
+pub mod SharingLemmas
 pub mod SourceLemmas
 pub mod StarLemmas
 pub mod WalkLemmas
+pub mod WalkableLemmas

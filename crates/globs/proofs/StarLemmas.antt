@@ -70,7 +70,8 @@ star_matches o n utf8 flat open' =
     ∙ star_fits o true (chars n) (no_slash-chars n utf8 ∙ flat)
     (ap (λ x. o.require_literal_leading_dot && true && x) (dot-chars n utf8) ∙ at_start o.require_literal_leading_dot (begins_with dot n) (open_start o n open'))
 
-star_takes : (o : MatchOptions) (n : Text) → IsUtf8 n → has_no_slash n ≡ true → is_open o n ≡ true → takes o (star ∷ []) (n ∷ []) ≡ true
+-- `*` takes one name that is open
+pub star_takes : (o : MatchOptions) (n : Text) → IsUtf8 n → has_no_slash n ≡ true → is_open o n ≡ true → takes o (star ∷ []) (n ∷ []) ≡ true
 star_takes o n utf8 flat open' = takes-one o star [] n [] refl ∙ and_from (matches_name o star n) true (star_matches o n utf8 flat open') refl
 
 -- where `**` may take all names, `*` may take the last

@@ -6,5 +6,6 @@ pub mod Planning
 pub mod Searching
 pub mod Shallow
 pub mod ShallowTrees
+pub mod Sharing
 pub mod Skipping
 pub mod Strays

@@ -20,6 +20,7 @@ mod order;
 pub mod plan;
 mod search;
 mod shallow;
+mod shared;
 pub mod skipping;
 mod strays;
 mod walk;

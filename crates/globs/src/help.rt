@@ -84,9 +84,10 @@ Nothing is passed over by itself: neither names that begin with a . (see -d), no
 names (--ignore .gitignore), nor .git (-x .git).
 
 Each path that one of the patterns matches is written once, in ascending byte order of its names.
-What is ignored is never listed, nor what is below it. Without -i one pattern without braces usually
-enters only directories that it can reach. Where one pattern finds nothing and has a form of another
-tool, as ~/ or +(a), a line on standard error says what that is here.
+What is ignored is never listed, nor what is below it. Without -i one pattern usually enters only
+directories that it can reach, and several only those that what all begin with can: 'src/*.{c,h}'
+lists src alone. Where one pattern finds nothing and has a form of another tool, as ~/ or +(a), a
+line on standard error says what that is here.
 
 Status:
   0         a path was written

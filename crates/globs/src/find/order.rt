@@ -41,7 +41,7 @@ pub fn last_place(pattern: &str) -> Option<Place>
 }
 
 /// Whether a component is `**`.
-fn is_recursive(component: &str) -> bool
+pub fn is_recursive(component: &str) -> bool
     ensures { result ≡ is_recursive component.now }
 {
     component == "**"

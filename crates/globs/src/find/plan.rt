@@ -1,12 +1,14 @@
 //! By which pattern the tree is walked.
-ghost use Rattle.std.specs.Prelude.{◌≡◌, [], ◌∷◌, IfOk, codes, string_bytes, map};
-ghost use Rattle.std.specs.List.{list_any};
+ghost use Rattle.std.specs.Prelude.{◌≡◌, [], ◌∷◌, IfOk, string_bytes, map};
+ghost use Rattle.std.specs.List.{list_all, list_any};
 ghost use Rattle.std.specs.Str.{IsUtf8};
 ghost use Rattle.glob_text.specs.Pieces.{pieces};
 ghost use Rattle.glob_walk.specs.Goal.{is_plain};
-ghost use Rattle.globs.specs.Find.Planning.{IsOneText, ends_in_stars, everything_options, is_below, is_no_name, is_single, keeps_order, one_text, walk_options, walk_text};
+ghost use Rattle.globs.specs.Find.Sharing.{shared_text};
+ghost use Rattle.globs.specs.Find.Planning.{are_shared, common_text, ends_in_stars, everything_options, is_below, is_no_name, is_single, is_walkable, keeps_order, one_text, walk_options, walk_text};
 
 use crate::find::order::{Place, last_place};
+use crate::find::shared::shared_text;
 use glob_pattern::{MatchOptions, PatternRefusal};
 use glob_walk::is_plain;
 use std::alloc::{AllocError, Allocator};
@@ -23,17 +25,16 @@ pub struct Plan<A: Allocator> {
 
 impl<A: Allocator + Copy> Plan<A> {
     /// The walk for some patterns. For one that is plain and keeps the order of paths, where case counts, it enters
-    /// only the directories that the pattern names, and else all.
+    /// only the directories that the pattern names, and for others what is below those that all patterns name.
     pub fn new(alloc: A, patterns: &[&str], options: MatchOptions) -> Result<Self, AllocError>
         ensures text { IfOk result (λ plan.
             string_bytes plan.text ≡ walk_text options (map (λ w. w.now) patterns.now)) }
         ensures options { IfOk result (λ plan.
             plan.options ≡ walk_options options (map (λ w. w.now) patterns.now)) }
-        ensures utf8 { IfOk result (λ _. IsOneText (map (λ w. w.now) patterns.now)) }
     {
         match patterns {
             [pattern] => Self::of_one(alloc, pattern, options),
-            [] | [_, _, ..] => Self::of_all(alloc),
+            [] | [_, _, ..] => Self::of_all(alloc, patterns, options),
         }
     }
 
@@ -43,28 +44,86 @@ impl<A: Allocator + Copy> Plan<A> {
             string_bytes plan.text ≡ walk_text options (pattern.now ∷ [])) }
         ensures options { IfOk result (λ plan.
             plan.options ≡ walk_options options (pattern.now ∷ [])) }
-        ensures utf8 { IfOk result (λ _. IsUtf8 pattern.now) }
     {
         let text = text_of(alloc, pattern)?;
         if is_single(alloc, pattern, text.as_str(), options)? {
-            Ok(Plan { text, options })
-        } else {
-            Self::of_all(alloc)
+            return Ok(Plan { text, options });
         }
+        Self::of_all(alloc, &[pattern], options)
     }
 
-    /// The walk that finds each path.
-    fn of_all(alloc: A) -> Result<Self, AllocError>
-        ensures text { IfOk result (λ plan. string_bytes plan.text ≡ codes "**/*") }
+    /// The walk that finds all that some patterns match, and may find more.
+    fn of_all(alloc: A, patterns: &[&str], options: MatchOptions) -> Result<Self, AllocError>
+        ensures text { IfOk result (λ plan.
+            string_bytes plan.text ≡ common_text options (map (λ w. w.now) patterns.now)) }
         ensures options { IfOk result (λ plan. plan.options ≡ everything_options) }
     {
-        Ok(Plan {
-            text: String::from_str(alloc, EVERYTHING)?,
-            options: MatchOptions {
-                require_literal_separator: true,
-                ..MatchOptions::new()
-            },
-        })
+        let text = common_text(alloc, patterns, options)?;
+        let options = MatchOptions {
+            require_literal_separator: true,
+            ..MatchOptions::new()
+        };
+        Ok(Plan { text, options })
+    }
+}
+
+/// A pattern that finds all that some patterns match under the options: by what they share, or else each path.
+fn common_text<A: Allocator + Copy>(
+    alloc: A,
+    patterns: &[&str],
+    options: MatchOptions,
+) -> Result<String<A>, AllocError>
+    ensures { IfOk result (λ text.
+        string_bytes text ≡ common_text options (map (λ p. p.now) patterns.now)) }
+{
+    let text = shared_text(alloc, patterns)?;
+    if are_shared(alloc, patterns, text.as_str(), options)? {
+        return Ok(text);
+    }
+    String::from_str(alloc, EVERYTHING)
+}
+
+/// Whether the walk by what patterns share finds all that they match under the options, each path once and in order.
+#[tactic(auto, unfolding(crate::specs::Find::Planning::are_shared))]
+fn are_shared<A: Allocator + Copy>(
+    alloc: A,
+    patterns: &[&str],
+    shared: &str,
+    options: MatchOptions,
+) -> Result<bool, AllocError>
+    requires { shared.now ≡ shared_text (map (λ p. p.now) patterns.now) }
+    ensures { IfOk result (λ yes. yes ≡ are_shared options (map (λ p. p.now) patterns.now)) }
+{
+    if !options.case_sensitive || !options.require_literal_separator {
+        return Ok(false);
+    }
+    if !are_walkable(alloc, patterns)? {
+        return Ok(false);
+    }
+    Ok(is_plain_walk(alloc, shared)?)
+}
+
+/// Whether a walk by each of the patterns is accepted.
+fn are_walkable<A: Allocator + Copy>(alloc: A, patterns: &[&str]) -> Result<bool, AllocError>
+    ensures { IfOk result (λ yes. yes ≡ list_all is_walkable (map (λ p. p.now) patterns.now)) }
+{
+    for pattern in patterns {
+        if !is_walkable(alloc, pattern)? {
+            return Ok(false);
+        }
+    }
+    Ok(true)
+}
+
+/// Whether a walk by the pattern is accepted.
+#[tactic(auto, unfolding(crate::specs::Find::Planning::is_walkable))]
+fn is_walkable<A: Allocator + Copy>(alloc: A, pattern: &str) -> Result<bool, AllocError>
+    ensures { IfOk result (λ yes. yes ≡ is_walkable pattern.now) }
+{
+    match is_plain(alloc, pattern) {
+        Ok(_) => Ok(true),
+        Err(PatternRefusal::Syntax(_)) => Ok(false),
+        Err(PatternRefusal::Memory) => Err(AllocError),
     }
 }
 
@@ -131,7 +190,8 @@ fn ends_in_stars(pattern: &str) -> bool
 /// Whether each component of a pattern is a name below a directory: none is empty, `.` or `..`.
 #[tactic(auto, unfolding(crate::specs::Find::Planning::is_below))]
 pub fn is_below(pattern: &str) -> bool
-    ensures { result ≡ is_below pattern.now }
+    ensures below { result ≡ is_below pattern.now }
+    ensures utf8 { IsUtf8 pattern.now }
 {
     !leads_elsewhere(pattern)
 }

@@ -6,7 +6,7 @@ ghost use Rattle.glob_set.specs.BraceSets.{AreAccepted};
 ghost use Rattle.glob_tree.specs.Answers.{IsTold};
 ghost use Rattle.glob_tree.specs.Content.{Content};
 ghost use Rattle.globs.specs.Find.Filtering.{is_wanted};
-ghost use Rattle.globs.specs.Find.Planning.{IsOneText, are_below, walk_listing, walk_options, walk_text};
+ghost use Rattle.globs.specs.Find.Planning.{AreTexts, are_below, walk_listing, walk_options, walk_text};
 ghost use Rattle.globs.specs.Patterns.{IsPatternFault, set_of};
 
 use crate::find::filter::Filter;
@@ -35,7 +35,7 @@ pub fn run_patterns<T: Tree, W: Write, E: Write>(
     ensures refused { are_below (map (λ p. p.now) patterns.now) ≡ false
         → IsRefused output.old output.new result }
     ensures accepted { result ≢ 2 → AreAccepted (map (λ p. p.now) patterns.now) }
-    ensures utf8 { result ≢ 2 → IsOneText (map (λ p. p.now) patterns.now) }
+    ensures utf8 { result ≢ 2 → AreTexts (map (λ p. p.now) patterns.now) }
     ensures status { (c : Content) → IsTold (T.tells tree) c → IsFindStatus
         (is_wanted (set_of settings.options (map (λ p. p.now) patterns.now)) settings.kind c)
         (walk_listing c settings.options (map (λ p. p.now) patterns.now)) settings.limit result }
@@ -70,7 +70,7 @@ fn read_patterns<'a, A: Allocator + Copy>(
 ) -> Result<(Plan<A>, Filter<A>), PatternFault<'a>>
     ensures accepted { IfOk result (λ _. AreAccepted (map (λ p. p.now) patterns.now)) }
     ensures below { IfOk result (λ _. are_below (map (λ p. p.now) patterns.now) ≡ true) }
-    ensures utf8 { IfOk result (λ _. IsOneText (map (λ p. p.now) patterns.now)) }
+    ensures utf8 { IfOk result (λ _. AreTexts (map (λ p. p.now) patterns.now)) }
     ensures text { IfOk result (λ r. string_bytes r.0.text
         ≡ walk_text settings.options (map (λ p. p.now) patterns.now)) }
     ensures options { IfOk result (λ r. r.0.options
@@ -93,7 +93,8 @@ fn read_patterns<'a, A: Allocator + Copy>(
 
 /// The first pattern that does not lead below the current directory.
 fn first_astray<'a>(patterns: &[&'a str]) -> Option<&'a str>
-    ensures { is_none result ≡ are_below (map (λ p. p.now) patterns.now) }
+    ensures below { is_none result ≡ are_below (map (λ p. p.now) patterns.now) }
+    ensures utf8 { is_none result ≡ true → AreTexts (map (λ p. p.now) patterns.now) }
 {
     for pattern in patterns {
         if !is_below(pattern) {
