@@ -15,9 +15,15 @@ SEARCHES = 600
 OPTIONS = [[], [], ["-i"], ["-d"], ["-i", "-d"], ["-t", "f"], ["-t", "d"], ["--max-depth", "1"], ["--max-depth", "2"]]
 
 
+def some_components(source, count):
+    """So many components, each as its alternatives."""
+    return [source.choices(make.PLAIN_COMPONENTS, k=source.choice([1, 1, 1, 2])) for _ in range(count)]
+
+
 def some_patterns(source):
-    """One to three patterns, each of up to four components, as alternatives for each."""
-    return [[source.choices(make.PLAIN_COMPONENTS, k=source.choice([1, 1, 1, 2])) for _ in range(source.randint(1, 4))]
+    """One to three patterns, each of up to four components, as alternatives for each. Half of the lists begin alike."""
+    shared = some_components(source, source.choice([0, 0, 1, 2]))
+    return [shared + some_components(source, source.choice([1, 1, source.randint(1, 4 - len(shared))]))
         for _ in range(source.choice([1, 1, 2, 3]))]
 
 
