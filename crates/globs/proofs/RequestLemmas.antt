@@ -1,50 +1,50 @@
 -- What words ask for, once the first of them is read.
-use Rattle.std.proofs.Common.{◌≡◌, ℕ, ◌-◌, ◌≤◌, ◌≢◌, ◌||◌, false, List, [], ◌∷◌, Some, None, length, get_or, take, drop, map, refl, ap, Bor, arith}
+use Rattle.std.proofs.Common.{◌≡◌, ℕ, ◌-◌, ◌<◌, ◌≤◌, ◌≢◌, ◌||◌, false, List, [], ◌∷◌, Some, None, Ok, Err, length, get_or, take, drop, map, refl, sym, subst, ap, Bor, arith}
 use Rattle.std.proofs.lemmas.List.{take_rest}
 use Rattle.std.proofs.lemmas.Bool.{false_from_ne_true}
 use Rattle.std.proofs.lemmas.Slice.Eq.{bytes_eq-Decides}
 use Rattle.std.specs.Prelude.{bytes_eq, codes}
 use Rattle.globs.specs.Chosen.{Chosen}
 use Rattle.globs.specs.CommandLine.{asks_help, command_asked, name_of, operands_asked, reading, request_asked, request_of_reading}
-use Rattle.globs.specs.Reading.{Reading}
+use Rattle.globs.specs.Reading.{Reading, Wrong}
 use Rattle.globs.specs.Requests.{IsWrong, IsWrongRequest}
-use Rattle.globs.specs.Options.{awaiting, new_options, option_asked, value_taken, with_flag}
+use Rattle.globs.specs.Options.{new_options, value_taken, valued_of, with_flag}
 use Rattle.globs.specs.declared.name.Name.{Name}
-use Rattle.globs.specs.declared.options.Opt.{Opt}
+use Rattle.globs.specs.declared.options.Settings.{Settings}
+use Rattle.globs.specs.declared.options.Valued.{Valued}
 use Rattle.globs.specs.declared.usage.UsageFault.{UsageFault}
 use Rattle.globs.specs.declared.usage.UsageFault.TheVariants.{Word, Memory}
+use Rattle.globs.specs.declared.usage.Why.{Why}
+use Rattle.globs.specs.declared.usage.Why.TheVariants.{Valueless}
 
-module _ (name : Name) where
-  at_operands : (o : Chosen) (word : List ℕ) (words : List (List ℕ)) → option_asked name word ≡ None
-      → reading name None o (word ∷ words) ≡ operands_asked o (word ∷ words)
-  at_operands o word words option = rw option refl
+-- the words behind the first one
+abbrev pub behind : List (Bor (List ℕ)) → List (Bor (List ℕ))
+behind words = take (length words - 1) (drop 1 words)
 
-  at_option : (o : Chosen) (v : Opt) (word : List ℕ) (words : List (List ℕ)) → option_asked name word ≡ Some v
-      → reading name None o (word ∷ words) ≡ reading name (awaiting v) (record o { settings = with_flag v o.settings }) words
-  at_option o v word words option = rw option refl
+module _ (name : Name) (o : Chosen) where
+  at_flag : (settings : Settings) (word : List ℕ) (words : List (List ℕ)) → valued_of name word ≡ None → with_flag name word o.settings ≡ Some settings
+      → reading name o (word ∷ words) ≡ reading name (record o { settings = settings }) words
+  at_flag settings word [] valued flag = rw valued (rw flag refl)
+  at_flag settings word (next ∷ words) valued flag = rw (reading, valued) (rw (reading, flag) refl)
 
-  -- at a word that is no option
-  pub reading_operands : (o : Chosen) (none : Bor (List ℕ)) (words : List (Bor (List ℕ))) → 1 ≤ length words
-      → option_asked name (get_or words 0 none).now ≡ None
-      → reading name None o (map (λ w. w.now) words) ≡ operands_asked o (map (λ w. w.now) words)
-  reading_operands o none [] long option = absurd (omega (arith, long))
-  reading_operands o none (word ∷ words) long option = at_operands o word.now (map (λ w. w.now) words) option
+  -- at an option without a value
+  pub reading_flag : (settings : Settings) (none : Bor (List ℕ)) (words : List (Bor (List ℕ))) → 1 ≤ length words
+      → valued_of name (get_or words 0 none).now ≡ None → with_flag name (get_or words 0 none).now o.settings ≡ Some settings
+      → reading name o (map (λ w. w.now) words) ≡ reading name (record o { settings = settings }) (map (λ w. w.now) (behind words))
+  reading_flag settings none [] long valued flag = absurd (omega (arith, long))
+  reading_flag settings none (word ∷ words) long valued flag =
+      rw (take_rest (word ∷ words) 1) (at_flag settings word.now (map (λ w. w.now) words) valued flag)
 
-  -- at an option
-  pub reading_option : (o : Chosen) (v : Opt) (none : Bor (List ℕ)) (words : List (Bor (List ℕ))) → 1 ≤ length words
-      → option_asked name (get_or words 0 none).now ≡ Some v
-      → reading name None o (map (λ w. w.now) words)
-      ≡ reading name (awaiting v) (record o { settings = with_flag v o.settings }) (map (λ w. w.now) (take (length words - 1) (drop 1 words)))
-  reading_option o v none [] long option = absurd (omega (arith, long))
-  reading_option o v none (word ∷ words) long option =
-      rw (take_rest (word ∷ words) 1) (at_option o v word.now (map (λ w. w.now) words) option)
-
-  -- at the value of an option
-  pub reading_value : (o taken : Chosen) (v : Opt) (none : Bor (List ℕ)) (words : List (Bor (List ℕ))) → 1 ≤ length words
-      → value_taken v (get_or words 0 none).now o ≡ Some taken
-      → reading name (Some v) o (map (λ w. w.now) words) ≡ reading name None taken (map (λ w. w.now) (take (length words - 1) (drop 1 words)))
-  reading_value o taken v none [] long value = absurd (omega (arith, long))
-  reading_value o taken v none (word ∷ words) long value = rw (take_rest (word ∷ words) 1) (rw value refl)
+  -- at an option and its value
+  pub reading_value : (v : Valued) (taken : Chosen) (none other : Bor (List ℕ)) (words : List (Bor (List ℕ))) → 1 ≤ length words → 1 ≤ length (behind words)
+      → valued_of name (get_or words 0 none).now ≡ Some v → value_taken v (get_or (behind words) 0 other).now o ≡ Ok taken
+      → reading name o (map (λ w. w.now) words) ≡ reading name taken (map (λ w. w.now) (behind (behind words)))
+  reading_value v taken none other [] long more valued value = absurd (omega (arith, long))
+  reading_value v taken none other (word ∷ []) long more valued value = absurd (omega (arith, more))
+  reading_value v taken none other (word ∷ next ∷ words) long more valued value =
+      let rest : behind (word ∷ next ∷ words) ≡ next ∷ words = take_rest (word ∷ next ∷ words) 1 in
+      subst (λ l. value_taken v (get_or l 0 other).now o ≡ Ok taken → reading name o (map (λ w. w.now) (word ∷ next ∷ words)) ≡ reading name taken (map (λ w. w.now) (behind l)))
+      (sym rest) (λ value. rw (take_rest (next ∷ words) 1) (rw (reading, valued) (rw (reading, value) refl))) value
 
 other : (word literal : List ℕ) → word ≢ literal → bytes_eq word literal ≡ false
 other word literal apart = false_from_ne_true (bytes_eq word literal) (λ same. apart ((bytes_eq-Decides word literal).0 same))
@@ -64,13 +64,13 @@ asked_command none (word ∷ words) long version short page help =
 
 -- what a command does by its words
 pub asked_words : (word : List ℕ) (words : List (List ℕ)) (name : Name) (read : Reading) → name_of word ≡ Some name → asks_help words ≡ false
-    → reading name None (new_options name) words ≡ read → command_asked word words ≡ request_of_reading name read
+    → reading name (new_options name) words ≡ read → command_asked word words ≡ request_of_reading name read
 unfolding command_asked
 asked_words word words name read named help is = rw named (rw help (ap (request_of_reading name) is))
 
 -- what is wrong with the words of a command is wrong with those of the program
 pub wrong_words : (word : List ℕ) (words : List (List ℕ)) (name : Name) (fault : UsageFault) → name_of word ≡ Some name → asks_help words ≡ false
-    → IsWrong (reading name None (new_options name) words) fault → IsWrongRequest (command_asked word words) (record { name = Some name; fault = fault })
+    → IsWrong (reading name (new_options name) words) fault → IsWrongRequest (command_asked word words) (record { name = Some name; fault = fault })
 unfolding command_asked
 wrong_words word words name (Word w text) named help is = rw named (rw help (ap (request_of_reading name) is))
 wrong_words word words name Memory named help is = tt

@@ -1,13 +1,12 @@
 -- What the words of a command line ask for, or the first of them that is wrong.
-use Rattle.std.specs.Prelude.{◌||◌, Bool, false, List, [], ◌∷◌, Option, None, Some, if◌then◌else◌, codes, bytes_eq, option_map, unwrap_or}
+use Rattle.std.specs.Prelude.{◌||◌, Bool, false, List, [], ◌∷◌, Option, None, Some, Ok, Err, is_some, if◌then◌else◌, codes, bytes_eq, option_map, unwrap_or}
 use Rattle.glob_text.specs.Text.{Text}
 use Rattle.glob_console.specs.Words.{is_option}
 use Rattle.globs.specs.Chosen.{Chosen}
-use Rattle.globs.specs.Options.{awaiting, new_options, option_asked, option_word, value_fault, value_taken, with_flag}
+use Rattle.globs.specs.Options.{new_options, value_taken, valued_of, with_flag}
 use Rattle.globs.specs.Reading.{Reading, Asks, Wrong, Request, Runs, Helps, VersionLine, Refused}
 use Rattle.globs.specs.declared.name.Name.{Name}
 use Rattle.globs.specs.declared.name.Name.TheVariants.{Find, Match, Ignore, Explain, Escape}
-use Rattle.globs.specs.declared.options.Opt.{Opt}
 use Rattle.globs.specs.declared.usage.Why.TheVariants as why
 
 -- the command that the word names
@@ -35,18 +34,19 @@ operands_asked o (word ∷ next ∷ words) =
     else (if is_option word then Wrong why.Unknown word
     else unwrap_or (option_map (Wrong why.Late) (first_option (next ∷ words))) (Asks o (word ∷ next ∷ words)))
 
--- the words of a command that are left, after an option that awaits its value, or none, where so much is chosen
-abbrev pub reading : Name → Option Opt → Chosen → List Text → Reading
-reading name None o [] = Wrong why.Bare []
-reading name (Some option) o [] = Wrong why.Valueless (option_word option)
-reading name (Some option) o (word ∷ words) =
-    unwrap_or (option_map (λ taken. reading name None taken words) (value_taken option word o))
-    (Wrong (value_fault option) word)
-reading name None o (word ∷ words) =
-    unwrap_or (option_map
-    (λ option. reading name (awaiting option) (record o { settings = with_flag option o.settings }) words)
-    (option_asked name word))
-    (operands_asked o (word ∷ words))
+-- The words of a command that are left, where so much is chosen. An option with a value takes the word after it.
+abbrev pub reading : Name → Chosen → List Text → Reading
+reading name o [] = Wrong why.Bare []
+reading name o (word ∷ []) =
+    if is_some (valued_of name word) then Wrong why.Valueless word
+    else (if is_some (with_flag name word o.settings) then Wrong why.Bare [] else operands_asked o (word ∷ []))
+reading name o (word ∷ next ∷ words) = elim (valued_of name word) [
+  | Some option ↦ elim (value_taken option next o) [ Ok taken ↦ reading name taken words | Err w ↦ Wrong w next ]
+  | None ↦ elim (with_flag name word o.settings) [
+    | Some settings ↦ reading name (record o { settings = settings }) (next ∷ words)
+    | None ↦ operands_asked o (word ∷ next ∷ words)
+  ]
+]
 
 -- a word that asks for a page
 abbrev pub is_help : Text → Bool
@@ -70,7 +70,7 @@ request_of_reading name (Wrong w word) = Refused (Some name) w word
 
 -- the words after that of a command
 abbrev pub words_asked : Name → List Text → Request
-words_asked name words = request_of_reading name (reading name None (new_options name) words)
+words_asked name words = request_of_reading name (reading name (new_options name) words)
 
 -- a word that is to be that of a command, and those after it
 unfoldable pub command_asked : Text → List Text → Request

@@ -1,16 +1,16 @@
 -- The options of the commands: which there are, which command has each, and what they set.
-use Rattle.std.specs.Prelude.{◌^◌, ◌-◌, Bool, true, false, [], ◌∷◌, ◌++◌, Option, None, Some, if◌then◌else◌, codes, bytes_eq, option_map, option_and_then}
+use Rattle.std.specs.Prelude.{◌^◌, ◌-◌, ◌&&◌, not, Bool, true, false, [], ◌∷◌, ◌++◌, Option, None, Some, Result, Ok, Err, if◌then◌else◌, codes, bytes_eq, ok_or, option_map}
 use Rattle.glob_text.specs.Text.{Text}
 use Rattle.glob_lines.specs.Lines.{line_feed}
-use Rattle.glob_console.specs.Words.{limit_of}
+use Rattle.glob_console.specs.Words.{limit_of, option_set}
 use Rattle.glob_pattern.specs.Matching.Options.{new_options as match_options}
 use Rattle.globs.specs.Chosen.{Chosen}
 use Rattle.globs.specs.declared.name.Name.{Name}
 use Rattle.globs.specs.declared.name.Name.TheVariants.{Find, Match, Ignore, Explain, Escape}
 use Rattle.globs.specs.declared.options.Kind as kinds
 use Rattle.globs.specs.declared.options.Kind.TheVariants as kind
-use Rattle.globs.specs.declared.options.Opt.{Opt}
-use Rattle.globs.specs.declared.options.Opt.TheVariants.{Zero, Case, Separator, Dot, Invert, Follow, Limit, Depth, Kind, Rule, File}
+use Rattle.globs.specs.declared.options.Valued.{Valued}
+use Rattle.globs.specs.declared.options.Valued.TheVariants.{Limit, Depth, Kind, Rule, File}
 use Rattle.globs.specs.declared.options.Settings.{Settings}
 use Rattle.globs.specs.declared.usage.Why.{Why}
 use Rattle.globs.specs.declared.usage.Why.TheVariants as why
@@ -38,108 +38,58 @@ new_settings name = record {
 abbrev pub new_options : Name → Chosen
 new_options name = record { settings = new_settings name; files = []; rules = [] }
 
--- the option that the word names
-abbrev pub option_of : Text → Option Opt
-option_of word =
-    if bytes_eq word (codes "-0") then Some Zero
-    else (if bytes_eq word (codes "-i") then Some Case
-    else (if bytes_eq word (codes "-s") then Some Separator
-    else (if bytes_eq word (codes "-d") then Some Dot
-    else (if bytes_eq word (codes "-v") then Some Invert
-    else (if bytes_eq word (codes "-L") then Some Follow
+-- the command selects records or paths, which `-0` ends in a NUL
+abbrev pub has_records : Name → Bool
+has_records Find = true
+has_records Match = true
+has_records Ignore = true
+has_records Explain = false
+has_records Escape = false
+
+-- the command takes a pattern, and the options of its match
+abbrev pub has_pattern : Name → Bool
+has_pattern Find = true
+has_pattern Match = true
+has_pattern Ignore = false
+has_pattern Explain = true
+has_pattern Escape = false
+
+abbrev pub is_match : Name → Bool
+is_match Find = false
+is_match Match = true
+is_match Ignore = false
+is_match Explain = false
+is_match Escape = false
+
+-- the settings with what the word sets, if it is an option without a value of the command
+abbrev pub with_flag : Name → Text → Settings → Option Settings
+with_flag name word s =
+    if bytes_eq word (codes "-0") && has_records name then Some (record s { end = 0 })
+    else (if bytes_eq word (codes "-v") && is_match name then Some (record s { inverts = true })
+    else (if bytes_eq word (codes "-L") && is_find name then Some (record s { follows = true })
+    else (if bytes_eq word (codes "-s") && is_find name then None
+    else (if has_pattern name then option_map (λ o. record s { options = o }) (option_set word s.options) else None))))
+
+-- the option with a value that the word names, if the command has it
+abbrev pub valued_of : Name → Text → Option Valued
+valued_of name word =
+    if not (is_find name) then None
     else (if bytes_eq word (codes "-n") then Some Limit
     else (if bytes_eq word (codes "-t") then Some Kind
     else (if bytes_eq word (codes "-x") then Some Rule
     else (if bytes_eq word (codes "--max-depth") then Some Depth
-    else (if bytes_eq word (codes "--ignore") then Some File else None))))))))))
-
--- the command has the option
-abbrev pub has_option : Opt → Name → Bool
-has_option Zero name = elim name [ Find ↦ true | Match ↦ true | Ignore ↦ true | Explain ↦ false | Escape ↦ false ]
-has_option Case name = elim name [ Find ↦ true | Match ↦ true | Ignore ↦ false | Explain ↦ true | Escape ↦ false ]
-has_option Separator name = elim name [ Find ↦ false | Match ↦ true | Ignore ↦ false | Explain ↦ true | Escape ↦ false ]
-has_option Dot name = elim name [ Find ↦ true | Match ↦ true | Ignore ↦ false | Explain ↦ true | Escape ↦ false ]
-has_option Invert name = elim name [ Find ↦ false | Match ↦ true | Ignore ↦ false | Explain ↦ false | Escape ↦ false ]
-has_option Follow name = is_find name
-has_option Limit name = is_find name
-has_option Depth name = is_find name
-has_option Kind name = is_find name
-has_option Rule name = is_find name
-has_option File name = is_find name
-
--- the option that the word names, if the command has it
-abbrev pub option_asked : Name → Text → Option Opt
-option_asked name word = option_and_then (λ option. if has_option option name then Some option else None) (option_of word)
-
--- the option itself, if it takes the word after it
-abbrev pub awaiting : Opt → Option Opt
-awaiting Zero = None
-awaiting Case = None
-awaiting Separator = None
-awaiting Dot = None
-awaiting Invert = None
-awaiting Follow = None
-awaiting Limit = Some Limit
-awaiting Depth = Some Depth
-awaiting Kind = Some Kind
-awaiting Rule = Some Rule
-awaiting File = Some File
-
--- the word that names an option with a value
-abbrev pub option_word : Opt → Text
-option_word Zero = []
-option_word Case = []
-option_word Separator = []
-option_word Dot = []
-option_word Invert = []
-option_word Follow = []
-option_word Limit = codes "-n"
-option_word Depth = codes "--max-depth"
-option_word Kind = codes "-t"
-option_word Rule = codes "-x"
-option_word File = codes "--ignore"
-
--- the settings once an option without a value has set its own
-abbrev pub with_flag : Opt → Settings → Settings
-with_flag Zero s = record s { end = 0 }
-with_flag Case s = record s { options = record s.options { case_sensitive = false } }
-with_flag Separator s = record s { options = record s.options { require_literal_separator = true } }
-with_flag Dot s = record s { options = record s.options { require_literal_leading_dot = true } }
-with_flag Invert s = record s { inverts = true }
-with_flag Follow s = record s { follows = true }
-with_flag Limit s = s
-with_flag Depth s = s
-with_flag Kind s = s
-with_flag Rule s = s
-with_flag File s = s
+    else (if bytes_eq word (codes "--ignore") then Some File else None)))))
 
 abbrev pub kind_of : Text → Option kinds.Kind
 kind_of word = if bytes_eq word (codes "f") then Some kind.File else (if bytes_eq word (codes "d") then Some kind.Directory else None)
 
--- what is chosen once an option has taken its value, unless the word is none
-abbrev pub value_taken : Opt → Text → Chosen → Option Chosen
-value_taken Zero word o = None
-value_taken Case word o = None
-value_taken Separator word o = None
-value_taken Dot word o = None
-value_taken Invert word o = None
-value_taken Follow word o = None
-value_taken Limit word o = option_map (λ n. record o { settings = record o.settings { limit = n } }) (limit_of word)
-value_taken Depth word o = option_map (λ n. record o { settings = record o.settings { depth = Some n } }) (limit_of word)
-value_taken Kind word o = option_map (λ k. record o { settings = record o.settings { kind = k } }) (kind_of word)
-value_taken Rule word o = Some (record o { rules = o.rules ++ word ∷ [] })
-value_taken File word o = Some (record o { files = o.files ++ word ∷ [] })
-
--- why a word is no value of an option; each word is a rule, and a file
-abbrev pub value_fault : Opt → Why
-value_fault Zero = why.Valueless
-value_fault Case = why.Valueless
-value_fault Separator = why.Valueless
-value_fault Dot = why.Valueless
-value_fault Invert = why.Valueless
-value_fault Follow = why.Valueless
-value_fault Limit = why.Limit
-value_fault Depth = why.Depth
-value_fault Kind = why.Kind
-value_fault Rule = why.Valueless
-value_fault File = why.Valueless
+-- what is chosen once an option has taken its value, or why the word is none; each word is a rule, and a file
+abbrev pub value_taken : Valued → Text → Chosen → Result Chosen Why
+value_taken Limit word o =
+    ok_or (option_map (λ n. record o { settings = record o.settings { limit = n } }) (limit_of word)) why.Limit
+value_taken Depth word o =
+    ok_or (option_map (λ n. record o { settings = record o.settings { depth = Some n } }) (limit_of word)) why.Depth
+value_taken Kind word o =
+    ok_or (option_map (λ k. record o { settings = record o.settings { kind = k } }) (kind_of word)) why.Kind
+value_taken Rule word o = Ok (record o { rules = o.rules ++ word ∷ [] })
+value_taken File word o = Ok (record o { files = o.files ++ word ∷ [] })

@@ -1,13 +1,13 @@
 -- What the parser of a command line returns.
-use Rattle.std.specs.Prelude.{◌≡◌, None, map, ⊤}
+use Rattle.std.specs.Prelude.{◌≡◌, Err, map, ⊤}
 use Rattle.glob_text.specs.Text.{Text}
 use Rattle.globs.specs.Chosen.{Chosen}
-use Rattle.globs.specs.Options.{value_fault, value_taken}
+use Rattle.globs.specs.Options.{value_taken}
 use Rattle.globs.specs.Reading.{Reading, Asks, Wrong, Request, Runs, Helps, VersionLine, Refused}
 use Rattle.globs.specs.declared.command.Asked.{Asked}
 use Rattle.globs.specs.declared.command.Command.{Command}
 use Rattle.globs.specs.declared.command.Command.TheVariants as command
-use Rattle.globs.specs.declared.options.Opt.{Opt}
+use Rattle.globs.specs.declared.options.Valued.{Valued}
 use Rattle.globs.specs.declared.usage.UsageFault.{UsageFault}
 use Rattle.globs.specs.declared.usage.UsageFault.TheVariants.{Word, Memory}
 use Rattle.globs.specs.declared.usage.UsageLine.{UsageLine}
@@ -34,7 +34,6 @@ IsWrongRequest request line = elim line.fault [
 ]
 
 -- the word is no value of the option, or memory was missing
-abbrev pub IsValueFault : Opt → (word : Text) → Chosen → UsageFault → Type 0
-IsValueFault option text o (Word w word) =
-    (value_taken option text o ≡ None) × (w ≡ value_fault option) × (word.now ≡ text)
+abbrev pub IsValueFault : Valued → (word : Text) → Chosen → UsageFault → Type 0
+IsValueFault option text o (Word w word) = (value_taken option text o ≡ Err w) × (word.now ≡ text)
 IsValueFault option text o Memory = ⊤

@@ -7,7 +7,7 @@ ghost use Rattle.globs.specs.Reading.{Asks};
 ghost use Rattle.globs.specs.Requests.{IsWrong, IsWrongRequest, asked_reading, request_of};
 
 use crate::name::Name;
-use crate::options::{Opt, Options};
+use crate::options::{Options, Valued};
 use crate::usage::{UsageFault, UsageLine, Why};
 use std::alloc::Allocator;
 
@@ -101,33 +101,28 @@ impl<'a, A: Allocator + Copy> Asked<'a, A> {
     /// Reads the options of a command, and the operands behind them.
     pub fn parse(alloc: A, name: Name, words: &'a [&'a str]) -> Result<Self, UsageFault<'a>>
         ensures asked { IfOk result (λ asked.
-            reading name None (new_options name) (map (λ w. w.now) words.now)
+            reading name (new_options name) (map (λ w. w.now) words.now)
             ≡ asked_reading asked) }
         ensures wrong { IfErr result
-            (IsWrong (reading name None (new_options name) (map (λ w. w.now) words.now))) }
+            (IsWrong (reading name (new_options name) (map (λ w. w.now) words.now))) }
     {
         let mut options = Options::new(alloc, name);
-        let mut awaiting: Option<Opt> = None;
         let mut rest = words;
         while let [word, after @ ..] = rest {
-            if let Some(option) = awaiting {
-                options.take(option, word)?;
-                awaiting = None;
+            rest = if let Some(option) = Valued::asked(name, word) {
+                let [value, others @ ..] = after else {
+                    return Err(UsageFault::Word(Why::Valueless, word));
+                };
+                options.take(option, value)?;
+                others
+            } else if let Some(settings) = options.settings.with_flag(name, word) {
+                options.settings = settings;
+                after
             } else {
-                match Opt::asked(name, word) {
-                    Some(option) => {
-                        options.set(option);
-                        awaiting = option.awaiting();
-                    }
-                    None => return Self::with_operands(options, rest),
-                }
-            }
-            rest = after;
+                return Self::with_operands(options, rest);
+            };
         }
-        match awaiting {
-            Some(option) => Err(UsageFault::Word(Why::Valueless, option.word())),
-            None => Err(UsageFault::Word(Why::Bare, "")),
-        }
+        Err(UsageFault::Word(Why::Bare, ""))
     }
 
     /// What is asked by these options and by the operands behind them.

@@ -1,24 +1,18 @@
 //! The options of the commands: which there are, which command has each, and what they set.
-ghost use Rattle.std.specs.Prelude.{◌≡◌, Some, IfErr, OnOk, map};
-ghost use Rattle.globs.specs.Options.{awaiting, has_option, kind_of, new_options, new_settings, option_asked, option_of, option_word, value_taken, with_flag};
+ghost use Rattle.std.specs.Prelude.{◌≡◌, Ok, IfErr, OnOk};
+ghost use Rattle.globs.specs.Options.{kind_of, new_options, new_settings, value_taken, valued_of, with_flag};
 ghost use Rattle.globs.specs.Requests.{IsValueFault};
 
 use crate::name::Name;
 use crate::usage::{UsageFault, Why};
-use glob_console::parse_limit;
+use glob_console::{parse_limit, set_match_option};
 use glob_pattern::MatchOptions;
 use std::alloc::Allocator;
 use std::marker::Model;
 
-/// An option.
-#[derive(Clone, Copy, PartialEq, Eq)]
-pub enum Opt {
-    Zero,
-    Case,
-    Separator,
-    Dot,
-    Invert,
-    Follow,
+/// An option that takes the word after it.
+#[derive(Clone, Copy)]
+pub enum Valued {
     Limit,
     Depth,
     Kind,
@@ -75,75 +69,18 @@ impl<'a, A: Allocator> Model for Options<'a, A> {
     } };
 }
 
-impl Opt {
-    /// The option that the word names, if the command has it.
+impl Valued {
+    /// The option with a value that the word names, if the command has it.
     pub fn asked(name: Name, word: &str) -> Option<Self>
-        ensures { result ≡ option_asked name word.now }
+        ensures { result ≡ valued_of name word.now }
     {
-        let option = Opt::named(word)?;
-        if option.is_of(name) {
-            Some(option)
-        } else {
-            None
-        }
-    }
-
-    /// The option that the word names.
-    fn named(word: &str) -> Option<Self>
-        ensures { result ≡ option_of word.now }
-    {
-        match word {
-            "-0" => Some(Opt::Zero),
-            "-i" => Some(Opt::Case),
-            "-s" => Some(Opt::Separator),
-            "-d" => Some(Opt::Dot),
-            "-v" => Some(Opt::Invert),
-            "-L" => Some(Opt::Follow),
-            "-n" => Some(Opt::Limit),
-            "-t" => Some(Opt::Kind),
-            "-x" => Some(Opt::Rule),
-            "--max-depth" => Some(Opt::Depth),
-            "--ignore" => Some(Opt::File),
+        match (word, name) {
+            ("-n", Name::Find) => Some(Valued::Limit),
+            ("-t", Name::Find) => Some(Valued::Kind),
+            ("-x", Name::Find) => Some(Valued::Rule),
+            ("--max-depth", Name::Find) => Some(Valued::Depth),
+            ("--ignore", Name::Find) => Some(Valued::File),
             _ => None,
-        }
-    }
-
-    /// Whether the command has it.
-    fn is_of(self, name: Name) -> bool
-        ensures { result ≡ has_option self name }
-    {
-        match self {
-            Opt::Zero => matches!(name, Name::Find | Name::Match | Name::Ignore),
-            Opt::Case | Opt::Dot => matches!(name, Name::Find | Name::Match | Name::Explain),
-            Opt::Separator => matches!(name, Name::Match | Name::Explain),
-            Opt::Invert => matches!(name, Name::Match),
-            Opt::Follow | Opt::Limit | Opt::Depth | Opt::Kind | Opt::Rule | Opt::File => {
-                matches!(name, Name::Find)
-            }
-        }
-    }
-
-    /// The option itself, if it takes the word after it.
-    pub fn awaiting(self) -> Option<Self>
-        ensures { result ≡ awaiting self }
-    {
-        match self {
-            Opt::Zero | Opt::Case | Opt::Separator | Opt::Dot | Opt::Invert | Opt::Follow => None,
-            Opt::Limit | Opt::Depth | Opt::Kind | Opt::Rule | Opt::File => Some(self),
-        }
-    }
-
-    /// The word that names an option with a value.
-    pub fn word(self) -> &'static str
-        ensures { result.now ≡ option_word self }
-    {
-        match self {
-            Opt::Limit => "-n",
-            Opt::Depth => "--max-depth",
-            Opt::Kind => "-t",
-            Opt::Rule => "-x",
-            Opt::File => "--ignore",
-            Opt::Zero | Opt::Case | Opt::Separator | Opt::Dot | Opt::Invert | Opt::Follow => "",
         }
     }
 }
@@ -167,19 +104,22 @@ impl Settings {
         }
     }
 
-    /// Sets what an option without a value sets, and nothing for one with a value.
-    fn set(&mut self, option: Opt)
-        ensures { self.new ≡ with_flag option self.old }
+    /// These with what the word sets, if it is an option without a value of the command. Options of matching are those
+    /// of `MatchOptions`.
+    pub fn with_flag(self, name: Name, word: &str) -> Option<Self>
+        ensures { result ≡ with_flag name word.now self }
     {
-        match option {
-            Opt::Zero => self.end = 0,
-            Opt::Case => self.options.case_sensitive = false,
-            Opt::Separator => self.options.require_literal_separator = true,
-            Opt::Dot => self.options.require_literal_leading_dot = true,
-            Opt::Invert => self.inverts = true,
-            Opt::Follow => self.follows = true,
-            Opt::Limit | Opt::Depth | Opt::Kind | Opt::Rule | Opt::File => {}
+        let mut settings = self;
+        match (word, name) {
+            ("-0", Name::Find | Name::Match | Name::Ignore) => settings.end = 0,
+            ("-v", Name::Match) => settings.inverts = true,
+            ("-L", Name::Find) => settings.follows = true,
+            ("-s", Name::Find) => return None,
+            (_, Name::Find | Name::Match | Name::Explain)
+                if set_match_option(&mut settings.options, word) => {}
+            _ => return None,
         }
+        Some(settings)
     }
 }
 
@@ -195,34 +135,24 @@ impl<'a, A: Allocator + Copy> Options<'a, A> {
         }
     }
 
-    /// Sets what an option without a value sets, and nothing for one with a value.
-    pub fn set(&mut self, option: Opt)
-        ensures { self.new ≡ record self.old { settings = with_flag option self.old.settings } }
-    {
-        self.settings.set(option);
-    }
-
     /// Takes the value of an option. The error says why the word is none, or that memory was missing.
-    pub fn take(&mut self, option: Opt, word: &'a str) -> Result<(), UsageFault<'a>>
-        ensures taken { OnOk result (value_taken option word.now self.old ≡ Some self.new) }
+    pub fn take(&mut self, option: Valued, word: &'a str) -> Result<(), UsageFault<'a>>
+        ensures taken { OnOk result (value_taken option word.now self.old ≡ Ok self.new) }
         ensures wrong { IfErr result (IsValueFault option word.now self.old) }
     {
         match option {
-            Opt::Limit => {
+            Valued::Limit => {
                 self.settings.limit = parse_limit(word).ok_or(UsageFault::Word(Why::Limit, word))?;
             }
-            Opt::Depth => {
+            Valued::Depth => {
                 let depth = parse_limit(word).ok_or(UsageFault::Word(Why::Depth, word))?;
                 self.settings.depth = Some(depth);
             }
-            Opt::Kind => {
+            Valued::Kind => {
                 self.settings.kind = parse_kind(word).ok_or(UsageFault::Word(Why::Kind, word))?;
             }
-            Opt::Rule => self.rules.push(word)?,
-            Opt::File => self.files.push(word)?,
-            Opt::Zero | Opt::Case | Opt::Separator | Opt::Dot | Opt::Invert | Opt::Follow => {
-                return Err(UsageFault::Word(Why::Valueless, word));
-            }
+            Valued::Rule => self.rules.push(word)?,
+            Valued::File => self.files.push(word)?,
         }
         Ok(())
     }

@@ -96,33 +96,27 @@ impl Change {
             (λ yes. IsTrue yes ↔ GivesMatch self options pattern.now text.now) }
     {
         match self {
-            Change::EitherCase => is_match(
-                alloc,
-                pattern,
-                text,
-                MatchOptions {
+            Change::EitherCase => {
+                let options = MatchOptions {
                     case_sensitive: false,
                     ..options
-                },
-            ),
-            Change::AnySeparator => is_match(
-                alloc,
-                pattern,
-                text,
-                MatchOptions {
+                };
+                is_match(alloc, pattern, text, options)
+            }
+            Change::AnySeparator => {
+                let options = MatchOptions {
                     require_literal_separator: false,
                     ..options
-                },
-            ),
-            Change::AnyDot => is_match(
-                alloc,
-                pattern,
-                text,
-                MatchOptions {
+                };
+                is_match(alloc, pattern, text, options)
+            }
+            Change::AnyDot => {
+                let options = MatchOptions {
                     require_literal_leading_dot: false,
                     ..options
-                },
-            ),
+                };
+                is_match(alloc, pattern, text, options)
+            }
             Change::PatternHere => match without_here(pattern) {
                 Some(rest) => is_match(alloc, rest, text, options),
                 None => Ok(false),

@@ -76,11 +76,18 @@ impl Change {
     /// Whether the pattern matches the text after the change.
     fn gives_match(self, pattern: &str, text: &str, options: MatchOptions) -> bool {
         match self {
-            Change::EitherCase => is_match(pattern, text, MatchOptions { case_sensitive: false, ..options }),
-            Change::AnySeparator => {
-                is_match(pattern, text, MatchOptions { require_literal_separator: false, ..options })
+            Change::EitherCase => {
+                let options = MatchOptions { case_sensitive: false, ..options };
+                is_match(pattern, text, options)
             }
-            Change::AnyDot => is_match(pattern, text, MatchOptions { require_literal_leading_dot: false, ..options }),
+            Change::AnySeparator => {
+                let options = MatchOptions { require_literal_separator: false, ..options };
+                is_match(pattern, text, options)
+            }
+            Change::AnyDot => {
+                let options = MatchOptions { require_literal_leading_dot: false, ..options };
+                is_match(pattern, text, options)
+            }
             Change::PatternHere => match without_here(pattern) {
                 Some(rest) => is_match(rest, text, options),
                 None => false,
