@@ -1,12 +1,12 @@
 -- What words ask for, once the first of them is read.
-use Rattle.std.proofs.Common.{◌≡◌, ℕ, ◌-◌, ◌<◌, ◌≤◌, ◌≢◌, ◌||◌, false, List, [], ◌∷◌, Some, None, Ok, Err, length, get_or, take, drop, map, refl, sym, subst, ap, Bor, arith}
+use Rattle.std.proofs.Common.{◌≡◌, ℕ, ◌-◌, ◌≤◌, ◌≢◌, ◌||◌, false, List, [], ◌∷◌, Some, None, Ok, length, get_or, take, drop, map, refl, sym, subst, ap, Bor, arith}
 use Rattle.std.proofs.lemmas.List.{take_rest}
 use Rattle.std.proofs.lemmas.Bool.{false_from_ne_true}
 use Rattle.std.proofs.lemmas.Slice.Eq.{bytes_eq-Decides}
 use Rattle.std.specs.Prelude.{bytes_eq, codes}
 use Rattle.globs.specs.Chosen.{Chosen}
-use Rattle.globs.specs.CommandLine.{asks_help, command_asked, name_of, operands_asked, reading, request_asked, request_of_reading}
-use Rattle.globs.specs.Reading.{Reading, Wrong}
+use Rattle.globs.specs.CommandLine.{asks_help, command_asked, name_of, reading, request_asked, request_of_reading}
+use Rattle.globs.specs.Reading.{Reading}
 use Rattle.globs.specs.Requests.{IsWrong, IsWrongRequest}
 use Rattle.globs.specs.Options.{new_options, value_taken, valued_of, with_flag}
 use Rattle.globs.specs.declared.name.Name.{Name}
@@ -14,8 +14,6 @@ use Rattle.globs.specs.declared.options.Settings.{Settings}
 use Rattle.globs.specs.declared.options.Valued.{Valued}
 use Rattle.globs.specs.declared.usage.UsageFault.{UsageFault}
 use Rattle.globs.specs.declared.usage.UsageFault.TheVariants.{Word, Memory}
-use Rattle.globs.specs.declared.usage.Why.{Why}
-use Rattle.globs.specs.declared.usage.Why.TheVariants.{Valueless}
 
 -- the words behind the first one
 abbrev pub behind : List (Bor (List ℕ)) → List (Bor (List ℕ))

@@ -1,5 +1,5 @@
 -- The options of the commands: which there are, which command has each, and what they set.
-use Rattle.std.specs.Prelude.{◌^◌, ◌-◌, ◌&&◌, not, Bool, true, false, [], ◌∷◌, ◌++◌, Option, None, Some, Result, Ok, Err, if◌then◌else◌, codes, bytes_eq, ok_or, option_map}
+use Rattle.std.specs.Prelude.{◌^◌, ◌-◌, ◌&&◌, not, Bool, true, false, [], ◌∷◌, ◌++◌, Option, None, Some, Result, Ok, if◌then◌else◌, codes, bytes_eq, ok_or, option_map}
 use Rattle.glob_text.specs.Text.{Text}
 use Rattle.glob_lines.specs.Lines.{line_feed}
 use Rattle.glob_console.specs.Words.{limit_of, option_set}
@@ -54,6 +54,7 @@ has_pattern Ignore = false
 has_pattern Explain = true
 has_pattern Escape = false
 
+-- the command copies the records that a pattern matches
 abbrev pub is_match : Name → Bool
 is_match Find = false
 is_match Match = true
