@@ -119,6 +119,7 @@ impl Tree for Disk {
     }
 }
 
+/// The text of a [`GlobError`] ends in that of its I/O error, so there is no `source` that would print it again.
 impl Error for GlobError {
     #[allow(deprecated)]
     fn description(&self) -> &str {
@@ -127,10 +128,6 @@ impl Error for GlobError {
 
     #[allow(deprecated)]
     fn cause(&self) -> Option<&dyn Error> {
-        Some(self.error())
-    }
-
-    fn source(&self) -> Option<&(dyn Error + 'static)> {
         Some(self.error())
     }
 }

@@ -98,8 +98,8 @@ fn a_directory_that_vanishes_after_it_was_listed_is_an_error() {
     let error = paths.next().unwrap().unwrap_err();
     assert_eq!((error.path(), error.error().kind()), (&*root.join("b"), ErrorKind::NotFound));
     assert_eq!(error.reason(), GlobCause::Read);
-    let cause = error.source().and_then(|cause| cause.downcast_ref::<io::Error>()).unwrap();
-    assert_eq!(cause.kind(), ErrorKind::NotFound);
+    assert!(error.source().is_none());
+    let cause = error.error();
     #[allow(deprecated)]
     let texts = (error.description(), error.cause().map(ToString::to_string));
     #[allow(deprecated)]

@@ -218,6 +218,7 @@ fn a_directory_that_cannot_be_listed() {
         assert_eq!(error.error().kind(), io::ErrorKind::PermissionDenied);
         let text = format!("attempting to read `{}` resulted in an error: {}", shut.display(), error.error());
         assert_eq!(error.to_string(), text);
+        assert!(error.source().is_none());
         #[allow(deprecated)]
         let cause = error.cause().map(ToString::to_string);
         assert_eq!(cause, Some(error.error().to_string()));
