@@ -7,9 +7,7 @@
 //! let set = PatternSet::from_texts(["**/*.o", "**/target/**"], MatchOptions::new())?;
 //! assert_eq!(set.first_match("src/a.o"), Some(0));
 //! assert!(!set.is_match("src/a.rs"));
-//! let mut numbers = Vec::new();
-//! set.matches_into("target/a.o", &mut numbers);
-//! assert_eq!(numbers, [0, 1]);
+//! assert_eq!(set.matches("target/a.o"), [0, 1]);
 //! # Ok::<(), cadmiumdove::set::SetRefusal>(())
 //! ```
 //!
@@ -106,6 +104,24 @@ impl PatternSet {
         Self::of_braces(&strs_of(&texts), options)
     }
 
+    /// The numbers of all patterns that match the text, in order. Where many texts are asked,
+    /// [`matches_into`](Self::matches_into) fills one list again and again.
+    ///
+    /// ```
+    /// use cadmiumdove::set::PatternSet;
+    /// use cadmiumdove::MatchOptions;
+    ///
+    /// let set = PatternSet::from_texts(["*.rs", "*.c", "a*"], MatchOptions::new())?;
+    /// assert_eq!(set.matches("a.rs"), [0, 2]);
+    /// assert!(set.matches("b.h").is_empty());
+    /// # Ok::<(), cadmiumdove::set::SetRefusal>(())
+    /// ```
+    pub fn matches(&self, text: &str) -> Vec<usize> {
+        let mut numbers = Vec::new();
+        self.matches_into(text, &mut numbers);
+        numbers
+    }
+
     /// [`is_match`](Self::is_match) of the path's text. A path that is not UTF-8 is never matched.
     pub fn is_match_path(&self, path: &Path) -> bool {
         path.to_str().is_some_and(|text| self.is_match(text))
@@ -119,6 +135,21 @@ impl PatternSet {
     /// [`last_match`](Self::last_match) of the path's text. A path that is not UTF-8 is never matched.
     pub fn last_match_path(&self, path: &Path) -> Option<usize> {
         self.last_match(path.to_str()?)
+    }
+
+    /// [`matches`](Self::matches) of the path's text. A path that is not UTF-8 is never matched.
+    ///
+    /// ```
+    /// use cadmiumdove::set::PatternSet;
+    /// use cadmiumdove::MatchOptions;
+    /// use std::path::Path;
+    ///
+    /// let set = PatternSet::from_texts(["src/*", "*.rs"], MatchOptions::new())?;
+    /// assert_eq!(set.matches_path(Path::new("src/lib.rs")), [0, 1]);
+    /// # Ok::<(), cadmiumdove::set::SetRefusal>(())
+    /// ```
+    pub fn matches_path(&self, path: &Path) -> Vec<usize> {
+        path.to_str().map(|text| self.matches(text)).unwrap_or_default()
     }
 
     /// [`matches_into`](Self::matches_into) of the path's text. A path that is not UTF-8 is never matched.

@@ -1,4 +1,4 @@
-//! What this crate has beside `glob`: limits, trees, walks that ask, sets, ignore lists, captures and pruned walks.
+//! What this crate has beside `glob`: limits, trees, walks that ask, ignore lists, captures and pruned walks.
 
 use std::cell::RefCell;
 use std::error::Error;
@@ -10,7 +10,7 @@ use cadmiumdove::captures::{captures, tokens, CapturesError, Piece, Reached, Tok
 use cadmiumdove::explain::{explain, Explanation};
 use cadmiumdove::ignore::{IgnoreList, Reason, Rule, RuleRefusal};
 use cadmiumdove::prune::{first_excluded, Exclusion, Pruned};
-use cadmiumdove::set::braces::{self, BraceError};
+use cadmiumdove::set::braces::BraceError;
 use cadmiumdove::set::{BraceSetRefusal, PatternSet, SetRefusal};
 use cadmiumdove::walk::{glob_in, is_plain, Answer, Disk, Entry, GlobCause, Look, Name, Step, Tree, WalkMachine};
 use cadmiumdove::{MatchOptions, Pattern};
@@ -84,25 +84,6 @@ fn traits() {
     is_copy::<(Piece, Written, TokenKind, BraceError)>();
     fn is_value<T: Clone + Default>() {}
     is_value::<(PatternSet, IgnoreList, Disk)>();
-}
-
-#[test]
-fn lists_of_texts() {
-    let texts: Vec<String> = vec!["*.o".into(), "{a,b}".into()];
-    let numbers = |set: PatternSet| ["x.o", "{a,b}", "b"].map(|text| set.first_match(text));
-    let plain = [Some(0), Some(1), None];
-    assert_eq!(numbers(PatternSet::from_texts(&texts, NEW).unwrap()), plain);
-    assert_eq!(numbers(PatternSet::from_texts(&texts[..], NEW).unwrap()), plain);
-    assert_eq!(numbers(PatternSet::from_texts("*.o\n{a,b}".lines(), NEW).unwrap()), plain);
-    assert_eq!(
-        numbers(PatternSet::from_braces(texts.iter().map(String::as_str), NEW).unwrap()),
-        [Some(0), None, Some(2)]
-    );
-    assert_eq!(numbers(PatternSet::from_braces(texts, NEW).unwrap()), [Some(0), None, Some(2)]);
-    let braces = |texts: &[&str]| PatternSet::from_braces(texts, NEW).unwrap_err().number();
-    assert_eq!((braces(&["{a,b}", "c}"]), braces(&["{a,b}", "{d,[}", "e"]), braces(&["a", "b", "{[}"])), (1, 1, 2));
-    assert!(!PatternSet::from_braces(["{a,b}"], NEW).unwrap().is_match("A"));
-    assert_eq!(PatternSet::from_texts(["a", "b", "***"], NEW).unwrap_err().number(), 2);
 }
 
 #[test]
@@ -201,73 +182,6 @@ fn names_and_plain_patterns() {
     assert_eq!(Name::new("...".to_owned()).unwrap().as_str(), "...");
     assert_eq!(["src/**/*.rs", "src/./*.rs", ".*"].map(|text| is_plain(text).unwrap()), [true, false, false]);
     assert_eq!(is_plain("a**").unwrap_err().pos, 0);
-}
-
-#[test]
-fn sets() {
-    let set = PatternSet::from_texts(["a*", "*b", "**/*.O"], NEW).unwrap();
-    let mut numbers = vec![7];
-    for (text, expected) in [("ab", &[0, 1][..]), ("a", &[0]), ("b", &[1]), ("c", &[]), ("x/y.O", &[2]), ("", &[])] {
-        set.matches_into(text, &mut numbers);
-        assert_eq!(numbers, expected, "{text}");
-        assert_eq!(
-            (set.first_match(text), set.last_match(text)),
-            (expected.first().copied(), expected.last().copied())
-        );
-        assert_eq!(set.is_match(text), !expected.is_empty());
-        let path = Path::new(text);
-        set.matches_path_into(path, &mut numbers);
-        assert_eq!((numbers.as_slice(), set.is_match_path(path)), (expected, !expected.is_empty()));
-        let ends = (set.first_match_path(path), set.last_match_path(path));
-        assert_eq!(ends, (expected.first().copied(), expected.last().copied()));
-    }
-    assert_eq!((set.len(), set.is_empty(), set.options()), (3, false, NEW));
-    let SetRefusal::Syntax(number, error) = PatternSet::from_texts(["*.o", "[a"], NEW).unwrap_err();
-    assert_eq!((number, error.pos), (1, 0));
-    let set = PatternSet::new(vec![Pattern::new("A").unwrap()], MatchOptions::default());
-    assert!(set.is_match("a"));
-}
-
-#[cfg(unix)]
-#[test]
-fn a_set_matches_no_path_that_is_no_text() {
-    use std::os::unix::ffi::OsStrExt;
-    let set = PatternSet::from_texts(["*"], NEW).unwrap();
-    let path = Path::new(std::ffi::OsStr::from_bytes(b"\xff"));
-    let mut numbers = vec![7];
-    set.matches_path_into(path, &mut numbers);
-    assert_eq!(
-        (set.is_match_path(path), set.first_match_path(path), set.last_match_path(path), numbers),
-        (false, None, None, vec![])
-    );
-}
-
-#[test]
-fn a_set_answers_as_its_patterns_do() {
-    let patterns = ["", "*", "a", "*a", "a*", "?B", "**/a", "*/.B", "[!a]*", "*.B/", "a/**", "*aB", ".?", "**", "B**"];
-    let patterns: Vec<Pattern> = patterns.iter().filter_map(|text| Pattern::new(text).ok()).collect();
-    let mut texts = vec![String::new()];
-    for length in 0..4 {
-        let longest: Vec<String> = texts.iter().filter(|text| text.chars().count() == length).cloned().collect();
-        texts.extend(longest.iter().flat_map(|text| ["a", "B", "/", ".", "é"].map(|next| format!("{text}{next}"))));
-    }
-    for bits in 0..8 {
-        let options = MatchOptions::from_bits(bits);
-        let set = PatternSet::new(patterns.clone(), options);
-        let mut numbers = Vec::new();
-        for text in &texts {
-            set.matches_into(text, &mut numbers);
-            let expected = (0..patterns.len()).filter(|&number| patterns[number].matches_with(text, options));
-            assert!(expected.eq(numbers.iter().copied()), "{text} {options:?} {numbers:?}");
-        }
-    }
-}
-
-#[test]
-fn most_alternatives() {
-    let text = |commas| format!("{{{}}}", ",".repeat(commas));
-    assert_eq!(braces::expand(&text(braces::MOST_ALTERNATIVES - 1)).map(|texts| texts.len()), Ok(1000));
-    assert_eq!(braces::expand(&text(braces::MOST_ALTERNATIVES)), Err(BraceError::TooMany));
 }
 
 #[test]
