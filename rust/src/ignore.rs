@@ -11,6 +11,8 @@
 //! # Ok::<(), cadmiumdove::ignore::RuleRefusal>(())
 //! ```
 //!
+//! [`Reason`] has the kinds of lines that are refused, and the error has the number of the first.
+//!
 //! Threads and walks share a list by a reference or an `Arc`; a copy is one of its own:
 //!
 //! ```

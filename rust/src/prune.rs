@@ -15,6 +15,7 @@
 //! ```
 
 use std::io;
+use std::sync::Arc;
 
 use crate::ignore::IgnoreList;
 pub use crate::proved::glob_prune::exclusion::Exclusion;
@@ -37,6 +38,29 @@ impl Exclusion for &IgnoreList {
 
 /// A set that several walks share.
 impl Exclusion for &PatternSet {
+    fn excludes(&self, path: &str, is_dir: bool) -> bool {
+        (**self).excludes(path, is_dir)
+    }
+}
+
+/// What walks of several threads share.
+///
+/// ```
+/// use cadmiumdove::ignore::IgnoreList;
+/// use cadmiumdove::prune::Pruned;
+/// use cadmiumdove::walk::{glob_in, Disk};
+/// use cadmiumdove::MatchOptions;
+/// use std::sync::Arc;
+///
+/// let list = Arc::new(IgnoreList::new("proved/\n").unwrap());
+/// let walks = ["src/*.rs", "src/**/mod.rs"].map(|pattern| {
+///     let tree = Pruned::new(Disk::new(), Arc::clone(&list));
+///     std::thread::spawn(move || glob_in(tree, pattern, MatchOptions::new(), u64::MAX).unwrap().count())
+/// });
+/// let [sources, modules] = walks.map(|walk| walk.join().unwrap());
+/// assert!(sources > 0 && modules == 0);
+/// ```
+impl<X: Exclusion + ?Sized> Exclusion for Arc<X> {
     fn excludes(&self, path: &str, is_dir: bool) -> bool {
         (**self).excludes(path, is_dir)
     }
@@ -74,6 +98,8 @@ pub fn first_excluded<'a, X: Exclusion + ?Sized>(exclusion: &X, path: &'a str, i
 /// exclusion is asked about paths below the current directory, so nothing else is there: a pattern that begins with
 /// `/` or has a component `..` finds nothing in a pruned tree, and no error says so. To walk another directory, go there
 /// first, or give a [`Tree`] that has it as its current directory.
+///
+/// A directory is read whole, but a walk is charged for the entries that are left.
 #[derive(Clone, Debug)]
 pub struct Pruned<T, X> {
     tree: T,
@@ -81,7 +107,17 @@ pub struct Pruned<T, X> {
 }
 
 impl<T: Tree, X: Exclusion> Pruned<T, X> {
-    /// The tree without what the exclusion names.
+    /// The tree without what the exclusion names. A closure needs its types written:
+    ///
+    /// ```
+    /// use cadmiumdove::prune::Pruned;
+    /// use cadmiumdove::walk::{glob_in, Disk};
+    /// use cadmiumdove::MatchOptions;
+    ///
+    /// let tree = Pruned::new(Disk::new(), |path: &str, is_dir: bool| is_dir && path == "src/proved");
+    /// let found: Vec<_> = glob_in(tree, "src/*", MatchOptions::new(), u64::MAX).unwrap().flatten().collect();
+    /// assert!(found.contains(&"src/lib.rs".into()) && !found.contains(&"src/proved".into()));
+    /// ```
     pub fn new(tree: T, exclusion: X) -> Self {
         Pruned { tree, exclusion }
     }

@@ -1,8 +1,9 @@
 //! Walks with a limit, over trees of your own, and walks that ask their caller.
 //!
 //! A walk is paid for in units: one for each path that is looked up, one for each directory that is listed, and one for
-//! each of its entries. With a limit it ends whatever the pattern and the tree are, also where links make a cycle. A
-//! directory is read to its end before its entries are charged:
+//! each of its entries, but for those that a [pruned tree](crate::prune::Pruned) leaves out. With a limit it ends
+//! whatever the pattern and the tree are, also where links make a cycle. A directory is read to its end before its
+//! entries are charged:
 //!
 //! ```
 //! use cadmiumdove::walk::{glob_in, Disk, GlobCause};
@@ -20,7 +21,8 @@
 //! # Ok::<(), cadmiumdove::PatternError>(())
 //! ```
 //!
-//! A [`Tree`] is anything that is looked up and listed, as an archive:
+//! A [`Tree`] is anything that is looked up and listed, as an archive. [`recipes`](crate::recipes) has one of a map of
+//! paths, and says what it is asked:
 //!
 //! ```
 //! use cadmiumdove::walk::{glob_in, Entry, Look, Name, Tree};
@@ -67,7 +69,80 @@
 //! assert_eq!(machine.spent(), 4);
 //! ```
 
+use std::io;
+
 pub use crate::disk::Disk;
 pub use crate::proved::glob::paths::{glob_in, Paths};
 pub use crate::proved::glob_tree::{Entry, Look, Name, Tree};
 pub use crate::proved::glob_walk::{is_plain, Answer, GlobCause, GlobError, GlobResult, Step, WalkMachine};
+
+/// So a walk leaves the tree to its caller.
+///
+/// ```
+/// use cadmiumdove::walk::{glob_in, Disk, Entry, Look, Tree};
+/// use cadmiumdove::MatchOptions;
+///
+/// /// The disk, and how many directories were listed.
+/// struct Counted(Disk, usize);
+///
+/// impl Tree for Counted {
+///     fn look(&mut self, path: &str) -> Look {
+///         self.0.look(path)
+///     }
+///
+///     fn list(&mut self, path: &str) -> std::io::Result<Vec<Entry>> {
+///         self.1 += 1;
+///         self.0.list(path)
+///     }
+/// }
+///
+/// let mut tree = Counted(Disk::new(), 0);
+/// assert!(glob_in(&mut tree, "src/*.rs", MatchOptions::new(), u64::MAX).unwrap().count() > 0);
+/// assert_eq!(tree.1, 1);
+/// ```
+impl<T: Tree + ?Sized> Tree for &mut T {
+    fn look(&mut self, path: &str) -> Look {
+        (**self).look(path)
+    }
+
+    fn list(&mut self, path: &str) -> io::Result<Vec<Entry>> {
+        (**self).list(path)
+    }
+
+    fn list_names(&mut self, path: &str) -> io::Result<Vec<Entry>> {
+        (**self).list_names(path)
+    }
+}
+
+/// A tree that is chosen as the program runs.
+///
+/// ```
+/// use cadmiumdove::prune::Pruned;
+/// use cadmiumdove::set::PatternSet;
+/// use cadmiumdove::walk::{glob_in, Disk, Tree};
+/// use cadmiumdove::MatchOptions;
+///
+/// fn tree(left_out: Option<PatternSet>) -> Box<dyn Tree> {
+///     match left_out {
+///         Some(set) => Box::new(Pruned::new(Disk::new(), set)),
+///         None => Box::new(Disk::new()),
+///     }
+/// }
+///
+/// let count = |tree| glob_in(tree, "src/*.rs", MatchOptions::new(), u64::MAX).unwrap().count();
+/// let set = PatternSet::from_texts(["src/lib.rs"], MatchOptions::new()).unwrap();
+/// assert_eq!(count(tree(None)), count(tree(Some(set))) + 1);
+/// ```
+impl<T: Tree + ?Sized> Tree for Box<T> {
+    fn look(&mut self, path: &str) -> Look {
+        (**self).look(path)
+    }
+
+    fn list(&mut self, path: &str) -> io::Result<Vec<Entry>> {
+        (**self).list(path)
+    }
+
+    fn list_names(&mut self, path: &str) -> io::Result<Vec<Entry>> {
+        (**self).list_names(path)
+    }
+}

@@ -5,6 +5,7 @@ use std::error::Error;
 use std::fmt::Debug;
 use std::io::{self, ErrorKind};
 use std::path::{Path, PathBuf};
+use std::sync::Arc;
 
 use cadmiumdove::captures::{captures, tokens, CapturesError, Piece, Reached, TokenKind, Written, MOST_STEPS};
 use cadmiumdove::explain::{explain, Explanation};
@@ -293,6 +294,8 @@ fn what_excludes_a_path() {
     assert_eq!(first_excluded(&asks, "a/b/c", false), None);
     assert_eq!(asked.take(), [("a".into(), true), ("a/b".into(), true), ("a/b/c".into(), false)]);
     assert_eq!(first_excluded(&|_: &str, _: bool| true, "", true), None);
+    let shared: Arc<dyn Exclusion> = Arc::new(list);
+    assert_eq!(first_excluded(&shared, "src/b.rs", false), Some("src/b.rs"));
 }
 
 #[test]
