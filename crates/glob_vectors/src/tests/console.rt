@@ -17,6 +17,11 @@ static WAITS: [(&str, u32, u64, u64, u64); 5] = [
     ("find **/f*", 30, 305, 306, 431),
 ];
 
+/// The row of a job over a content, for two writers of a kind.
+fn row_of<'a>(job: &'a str, content: &'a str, writer: &'a str) -> [&'a str; 4] {
+    [job, content, writer, writer]
+}
+
 /// The first path is written before the next ask. The second waits for a hundred asks. Many paths of one directory are
 /// written in blocks of 8 KiB, but for the first and the last.
 #[test]
@@ -24,7 +29,7 @@ fn a_path_waits_for_few_asks(rt: HostRuntime) {
     for &(job, files, first, second, most) in &WAITS {
         let content = made(&rt, format!(in rt.alloc(); "d×300/ d0/f×2 d1/f×{files}"));
         let (ample, counts) = (Rationed::ample(rt.alloc()), Counts::default());
-        let ran = made(&rt, run(&ample, &[job, &content, ALL, ALL], &counts));
+        let ran = made(&rt, run(&ample, &row_of(job, &content, ALL), &counts));
         let is_soon = match ran.output.times.as_slice() {
             [early, late] => *early == first && second < *late && *late <= most,
             _ => false,

@@ -2,10 +2,10 @@
 use super::{check, made};
 use glob::{
     Disk, GlobCause, LineFault, ListError, MatchOptions, Pattern, PatternError, PatternRefusal,
-    TreeRefusal, glob_in,
+    Tree, TreeRefusal, glob_in,
 };
 use glob_captures::CapturesError;
-use glob_replay::rationing::Rationed;
+use glob_replay::rationing::{Ration, Rationed};
 use glob_replay::replay::disks::files::Kind::{Dir, Failing, Lost};
 use glob_replay::replay::disks::files::{Planted, SystemCalls, Written};
 use glob_replay::words::are_same;
@@ -57,24 +57,33 @@ fn errors_of_trees_are_printed(rt: HostRuntime) {
     assert_eq!(rt; made(&rt, printed).as_str(), known);
 }
 
-/// The first item of a walk over the files is this error, at the path unless memory ran out. It keeps and prints it, and its
-/// calls take no memory.
+/// A walk over the files begins with an error at the path, unless memory ran out, with this one in it.
 fn check_error(
     rt: &(impl AllocGlobal + Abort),
     paths: &[Planted<'_>],
+    walk: (&str, u64),
+    wanted: (&str, GlobCause, io::Error),
+) {
+    let (ample, calls) = (Rationed::ample(rt.alloc()), &SystemCalls::default());
+    let disk = Disk::new(Written { paths, calls }, &ample);
+    check_first(rt, &ample.ration, &ample, disk, walk, wanted);
+}
+
+/// The first item of a walk is this error, which it keeps and prints. Its calls take no memory.
+fn check_first<T: Tree>(
+    rt: &(impl AllocGlobal + Abort),
+    ration: &Ration,
+    alloc: T::Alloc,
+    tree: T,
     (pattern, limit): (&str, u64),
     (path, cause, known): (&str, GlobCause, io::Error),
 ) {
-    let (ample, calls) = (Rationed::ample(rt.alloc()), &SystemCalls::default());
-    let (disk, options) = (
-        Disk::new(Written { paths, calls }, &ample),
-        MatchOptions::new(),
-    );
-    let mut items = made(rt, glob_in(&ample, disk, pattern, options, limit));
+    let options = MatchOptions::new();
+    let mut items = made(rt, glob_in(alloc, tree, pattern, options, limit));
     let Some(Err(error)) = items.next() else {
         panic!(rt; "no error");
     };
-    let requests = ample.ration.asked();
+    let requests = ration.asked();
     let at = error.path().as_str();
     let begin = "attempting to read `";
     let line = format!(in rt.alloc(); "{begin}{at}` resulted in an error: {known}");
@@ -82,10 +91,15 @@ fn check_error(
     check(rt, made(rt, printed) == made(rt, line), path);
     let is_at_path = cause == GlobCause::Memory || at == path;
     let is_right = is_at_path && error.cause() == cause;
-    check(rt, is_right && ample.ration.asked() == requests, path);
-    for kept in [*error.error(), error.into_error()] {
-        check(rt, made(rt, are_same(rt.alloc(), &kept, &known)), path);
-    }
+    check(rt, is_right && ration.asked() == requests, path);
+    check_same(rt, *error.error(), known);
+    check_same(rt, error.into_error(), known);
+}
+
+/// Both errors have the same kind, the same code of the system and the same words.
+fn check_same(rt: &(impl Abort + AllocGlobal), one: io::Error, other: io::Error) {
+    let is_same = made(rt, are_same(rt.alloc(), &one, &other));
+    check(rt, is_same, "the error");
 }
 
 #[test]
