@@ -35,6 +35,7 @@ calls() {
 uses() {
     local cc
     check 'a program' filters
+    check 'what it was made from' grep -q "^commit $(git -C "$root" rev-parse HEAD)" BUILT
     check 'one prefix' one_prefix
     check_with g++ 'the header in C++' g++ -x c++ -std=c++11 "${warnings[@]}" -fsyntax-only include/cadmiumdove.h
     check_with pkg-config 'the example' example

@@ -22,7 +22,7 @@
 //!
 //! What matches and what goes from path to path is made from sources in which every function is proved to do what its
 //! contract says; README says what that means for this crate. The file that an item's source link shows begins with the
-//! path of its source, where its contract is, unless the item is written by hand. The work of a match is at most in
+//! path of its source, where its contract is, unless the item is written by hand. The questions of a match are at most in
 //! proportion to the tokens of the pattern times the characters of the text; and nothing here calls itself.
 
 #![forbid(unsafe_code)]

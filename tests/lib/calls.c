@@ -203,6 +203,8 @@ static void walking(void) {
     CHECK(begin(&walk, "*", 1) == CADMIUMDOVE_IN_USE);
     CHECK(drive(&walk, &found, &unread) == CADMIUMDOVE_END && found == 1 && unread == 1);
     CHECK(cadmiumdove_walk_next(&walk) == CADMIUMDOVE_END);
+    size_t length = 7;
+    CHECK(cadmiumdove_walk_path(&walk, NULL, 0, &length) == CADMIUMDOVE_DONE && length == 0);
     cadmiumdove_walk_free(&walk);
     cadmiumdove_walk_free(&walk);
     CHECK(cadmiumdove_walk_next(&walk) == CADMIUMDOVE_EMPTY);
