@@ -6,7 +6,7 @@ ghost use Rattle.glob_console.specs.Lines.{WritesLine};
 ghost use Rattle.glob_lines.specs.Lines.{AppendsFront};
 
 use crate::status::FAULT;
-use crate::writing::write_whole;
+use glob_lines::write_whole;
 use std::alloc::Allocator;
 use std::fmt::Display;
 use std::io::{self, Write};

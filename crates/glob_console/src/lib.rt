@@ -18,4 +18,4 @@ pub use find::findings::Findings;
 pub use find::{WalkSettings, find_in};
 pub use status::{FAULT, FOUND, UNFOUND};
 pub use words::{arguments, parse_limit, set_match_option, words_of};
-pub use writing::{write_text, write_whole};
+pub use writing::write_text;

@@ -15,4 +15,4 @@ pub use fault::LineFault;
 pub use lines::{filter_lines, filter_records};
 pub use selection::Selection;
 pub use watch::Watch;
-pub use writing::{OnInterrupt, write_bytes};
+pub use writing::write_whole;

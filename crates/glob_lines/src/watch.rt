@@ -3,7 +3,7 @@ ghost use Rattle.std.specs.Io.{ReadsAtMost, WritesAtMost};
 ghost use Rattle.std.specs.Io.KnownBytes.{Appends, ReadConsumes, WriteAppends};
 ghost use Rattle.glob_lines.specs.Lines.{AppendsFront};
 
-use crate::writing::{OnInterrupt, write_bytes, write_some};
+use crate::writing::write_some;
 use std::io::{self, Read, Write};
 use std::marker::Model;
 
@@ -106,8 +106,11 @@ impl<S: Write> Watch<S> {
             (AppendsFront (S.contents self.old.inner) (S.contents self.new.inner) bytes.now) }
         ensures failed { IsTrue self.new.failed ↔ (IsTrue self.old.failed ⊎ IsErr result) }
     {
-        let answer = write_bytes(&mut self.inner, bytes, OnInterrupt::Fail);
-        self.failed |= answer.is_err();
-        answer
+        let mut rest = bytes;
+        while !rest.is_empty() {
+            let len = self.write(rest)?;
+            rest = &rest[len..];
+        }
+        Ok(())
     }
 }

@@ -6,25 +6,13 @@ ghost use Rattle.glob_lines.specs.Lines.{AppendsFront};
 
 use std::io::{self, ErrorKind, Write};
 
-/// What comes of a write that fails with `Interrupted`, as one does during which a signal comes.
-#[derive(Clone, Copy)]
-pub enum OnInterrupt {
-    /// It is a fault, as any other error.
-    Fail,
-    /// It is tried again.
-    Retry,
-}
-
 /// Writes all of the bytes, in as many writes as it takes: to a writer that accepts two bytes a call, `abc` is two
-/// writes.
+/// writes. A write that fails with `Interrupted`, as one does during which a signal comes, is tried again.
 ///
-/// The error is that of the first write that failed, also `Interrupted` with [`OnInterrupt::Fail`], or of the kind
-/// `WriteZero` where the writer took none of some bytes. Then the first bytes were written, some or none of them.
-pub fn write_bytes<W: Write>(
-    writer: &mut W,
-    bytes: &[u8],
-    on_interrupt: OnInterrupt,
-) -> io::Result<()>
+/// The error is that of the first other write that failed, or of the kind `WriteZero` where the writer took none of some
+/// bytes. Then the first bytes were written, some or none of them, of which the contract of `Write::write_all` says
+/// nothing.
+pub fn write_whole<W: Write>(writer: &mut W, bytes: &[u8]) -> io::Result<()>
     ensures all { OnOk result
         (Appends (W.contents writer.old) (W.contents writer.new) bytes.now) }
     ensures some { OnErr result
@@ -36,26 +24,21 @@ pub fn write_bytes<W: Write>(
         if rest.is_empty() {
             return Ok(());
         }
-        let len = write_or_retry(writer, rest, on_interrupt)?;
+        let len = write_or_retry(writer, rest)?;
         rest = &rest[len..];
     }
     Err(io::Error::from(ErrorKind::Interrupted))
 }
 
-/// One write, and how many of the bytes it wrote: none where it was interrupted and is to be tried again.
+/// One write, and how many of the bytes it wrote: none where it was interrupted.
 #[inline(always)]
-fn write_or_retry<W: Write>(
-    writer: &mut W,
-    bytes: &[u8],
-    on_interrupt: OnInterrupt,
-) -> io::Result<usize>
+fn write_or_retry<W: Write>(writer: &mut W, bytes: &[u8]) -> io::Result<usize>
     ensures bound { WritesAtMost result bytes.now }
     ensures bytes { WriteAppends (W.contents writer.old) (W.contents writer.new) result bytes.now }
 {
-    let answer = write_some(writer, bytes);
-    match (on_interrupt, &answer) {
-        (OnInterrupt::Retry, Err(error)) if error.kind() == ErrorKind::Interrupted => Ok(0),
-        _ => answer,
+    match write_some(writer, bytes) {
+        Err(error) if error.kind() == ErrorKind::Interrupted => Ok(0),
+        answer => answer,
     }
 }
 

@@ -3,7 +3,7 @@ ghost use Rattle.std.specs.Prelude.{◌≡◌, ◌++◌, [], IfOk, OnErr, OnOk};
 ghost use Rattle.glob_lines.specs.Lines.{AppendsFront, ended_record};
 ghost use Rattle.glob_console.specs.Private.Writing.{Queues};
 
-use crate::writing::write_whole;
+use glob_lines::write_whole;
 use std::alloc::{AllocError, Allocator};
 use std::io::{self, Write};
 

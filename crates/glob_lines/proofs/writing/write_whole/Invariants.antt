@@ -1,7 +1,7 @@
 -- What is gone from `rest` was written.
 use Rattle.std.proofs.Common.{◌≡◌, ℕ, List, ◌++◌}
 use Rattle.std.specs.Io.KnownBytes.{Appends}
-use Rattle.glob_lines.proofs.writing.write_bytes.Given as goal
+use Rattle.glob_lines.proofs.writing.write_whole.Given as goal
 
 abbrev pub invariant-loop : goal.invariant-loop
 invariant-loop g l =

@@ -1,5 +1,5 @@
 use Rattle.glob_lines.proofs.LineLemmas.KnownMoves.{Appends-cut, Appends-front, Appends-more, OnErr-from}
-use Rattle.glob_lines.proofs.writing.write_bytes.Goals as goal
+use Rattle.glob_lines.proofs.writing.write_whole.Goals as goal
 
 pub returns-in_err-len-clause-some : goal.returns-in_err-len-clause-some
 returns-in_err-len-clause-some g c =
