@@ -17,8 +17,8 @@ use std::marker::Model;
 /// The items of a walk: the paths that a pattern leads to in a tree, in order, and an error for each directory that
 /// could not be listed. Over files `x` and `y`, `*` gives `x` and then `y`.
 ///
-/// An item may also be a refusal, which is the last one: the limit was reached, and the item's path is where, or there was
-/// an allocation failure. After a refusal, and after the first `None`, only `None` follows.
+/// An item may also be a refusal, which is the last one: the limit was reached, and the item's path is where, or there
+/// was an allocation failure. After a refusal, and after the first `None`, only `None` follows.
 #[derive(Drop)]
 pub struct Paths<T: Tree> {
     tree: T,

@@ -27,9 +27,9 @@ pub struct Walk<T: Tree> {
     pub tree: T,
 }
 
-/// The whole walk of [`glob_in`](crate::glob_in), which alone refuses: so an error comes before the first lookup. A limit
-/// that does not suffice, and an allocation failure during the walk, are in `end` and not in `items`. With `End::Memory`
-/// the items are those of what was charged, but for at most the last one.
+/// The whole walk of [`glob_in`](crate::glob_in), which alone refuses: so an error comes before the first lookup. A
+/// limit that does not suffice, and an allocation failure during the walk, are in `end` and not in `items`. With
+/// `End::Memory` the items are those of what was charged, but for at most the last one.
 ///
 /// A pattern is plain if no component is empty, `.` or `..`, and if each that has a wildcard and begins with a dot is
 /// right after a `**`. For a plain pattern, case-sensitively, over a tree with a known content, and where `end` is
@@ -38,11 +38,11 @@ pub struct Walk<T: Tree> {
 /// - The paths are those below the start that the whole pattern, without a `/` at its end, matches under the separator
 ///   rule, and under the dot rule if that is set. If the pattern ends in `/` or `**`, they are the directories among
 ///   those. What lies below a directory that could not be listed may be missing: then the error is an item.
-/// - Each path comes once if `**` stands in at most one place, where `**/**` is one, and in order if besides at most one
-///   component follows it.
+/// - Each path comes once if `**` stands in at most one place, where `**/**` is one, and in order if besides at most
+///   one component follows it.
 ///
-/// `limit` is in units of work: lookups, listings and entries. Over files `x` and `y`, `walk_in(alloc, tree, "*", options,
-/// 4)` gives both and `End::Done`; with the limit 3 it gives none, and `End::Limit`.
+/// `limit` is in units of work: lookups, listings and entries. Over files `x` and `y`, `walk_in(alloc, tree, "*",
+/// options, 4)` gives both and `End::Done`; with the limit 3 it gives none, and `End::Limit`.
 pub fn walk_in<T: Tree>(
     alloc: T::Alloc,
     tree: T,
@@ -72,8 +72,8 @@ pub fn walk_in<T: Tree>(
     walked(alloc, glob_in(alloc, tree, pattern, options, limit))
 }
 
-/// The whole of a walk that was begun, or the refusal of its pattern. Nothing else is refused, so a refusal comes before
-/// the first lookup.
+/// The whole of a walk that was begun, or the refusal of its pattern. Nothing else is refused, so a refusal comes
+/// before the first lookup.
 fn walked<T: Tree>(
     alloc: T::Alloc,
     begun: Result<Paths<T>, PatternRefusal>,

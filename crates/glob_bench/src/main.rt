@@ -16,8 +16,8 @@
 //!   all rounds, of a match and of captures in turn: of both for all lines, and of both for those that match.
 //!
 //! OPTIONS is a word that has `i` for no case, `s` for the separator rule and `d` for the dot rule, as `sd` or `-`. A
-//! PATTERN `@FILE` is the text of a file, since a word of a command line cannot be long. `@FILE` alone stands for the words
-//! that are the lines of a file.
+//! PATTERN `@FILE` is the text of a file, since a word of a command line cannot be long. `@FILE` alone stands for the
+//! words that are the lines of a file.
 #![tactic(auto)]
 
 mod captures;

@@ -71,10 +71,11 @@ pub extern "C" fn cadmiumdove_pattern_new(
     }
 }
 
-/// Whether the pattern at `at`, which is the `at` of a handle that has one, matches the text, under the options that the
-/// flags say. With the flag 8 the caller promises that the text is UTF-8, and nothing checks it.
+/// Whether the pattern at `at`, which is the `at` of a handle that has one, matches the text, under the options that
+/// the flags say. With the flag 8 the caller promises that the text is UTF-8, and nothing checks it.
 ///
-/// The answer is 0 for no, 1 for yes, 2 if an allocation fails, 3 for bytes that are no UTF-8, and 5 for an unknown flag.
+/// The answer is 0 for no, 1 for yes, 2 if an allocation fails, 3 for bytes that are no UTF-8, and 5 for an unknown
+/// flag.
 #[unsafe(no_mangle)]
 pub extern "C" fn cadmiumdove_pattern_matches_at(at: *const u8, text: &[u8], flags: u32) -> u32
     ghost lent: { List ℕ × Lft × Share }

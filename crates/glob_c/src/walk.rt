@@ -31,9 +31,9 @@ const EMPTY: u32 = 7;
 
 /// Begins a walk after the bytes as a pattern, with at most `limit` units of work, and puts it into the handle.
 ///
-/// The answer is 0; or 1 for bytes that are no pattern, with their first fault in `fault`; or 2 if an allocation fails; or
-/// 3 for bytes that are no UTF-8; or 5 for an unknown flag; or 6 if the handle has a walk. After a refusal the handle is as
-/// it was.
+/// The answer is 0; or 1 for bytes that are no pattern, with their first fault in `fault`; or 2 if an allocation fails;
+/// or 3 for bytes that are no UTF-8; or 5 for an unknown flag; or 6 if the handle has a walk. After a refusal the
+/// handle is as it was.
 #[unsafe(no_mangle)]
 pub extern "C" fn cadmiumdove_walk_new(
     alloc: Global,
@@ -88,8 +88,9 @@ pub extern "C" fn cadmiumdove_walk_new(
 }
 
 /// Goes on to the next step, with what was answered since the last: 0 where it is asked what the path leads to, 1 for a
-/// listing, 2 for names alone, 3 for a path, 4 for a directory that could not be listed, 5 at the limit, 6 if an allocation
-/// failed, 8 where nothing is left; and 7 if the handle is empty. A question that was not answered in full is asked again.
+/// listing, 2 for names alone, 3 for a path, 4 for a directory that could not be listed, 5 at the limit, 6 if an
+/// allocation failed, 8 where nothing is left; and 7 if the handle is empty. A question that was not answered in full
+/// is asked again.
 #[unsafe(no_mangle)]
 pub extern "C" fn cadmiumdove_walk_next(alloc: Global, handle: &mut WalkHandle) -> u32
     ensures empty { handle.old.slot.walk ≡ None → result ≡ empty }
@@ -111,7 +112,8 @@ pub extern "C" fn cadmiumdove_walk_next(alloc: Global, handle: &mut WalkHandle) 
 
 /// Writes the path of the last step to the start of `out`, and its length to `needed`.
 ///
-/// The answer is 0; or 4 if `out` is too short, and then `needed` is the length that would do; or 7 if the handle is empty.
+/// The answer is 0; or 4 if `out` is too short, and then `needed` is the length that would do; or 7 if the handle is
+/// empty.
 #[unsafe(no_mangle)]
 pub extern "C" fn cadmiumdove_walk_path(
     alloc: Global,
@@ -201,8 +203,8 @@ fn look_of(kind: u32) -> Look
 
 /// Answers one entry of the directory, with its name.
 ///
-/// The answer is 0; or 2 if an allocation fails; or 3 for bytes that are no UTF-8; or 7 if the handle is empty; or 9 where no
-/// entries are asked for; or 10 for what is no name. After all but 0 the entries are those of before.
+/// The answer is 0; or 2 if an allocation fails; or 3 for bytes that are no UTF-8; or 7 if the handle is empty; or 9
+/// where no entries are asked for; or 10 for what is no name. After all but 0 the entries are those of before.
 #[unsafe(no_mangle)]
 pub extern "C" fn cadmiumdove_walk_entry(
     alloc: Global,

@@ -1,3 +1,4 @@
+//! The piece of a text that each token of a pattern takes.
 ghost use Rattle.std.specs.Prelude.{◌≡◌, ◌+◌, ◌-◌, ◌<◌, ◌≤◌, length, IfOk, chars, ◌*◌, ◌^◌, ◌↔◌, IsTrue, IsSome, IfSome, encode_utf8_all};
 ghost use Rattle.glob_pattern.specs.Computing.Tokens.{tokens_of};
 ghost use Rattle.glob_pattern.specs.Matching.Texts.{Matches};
@@ -23,8 +24,8 @@ use std::alloc::{AllocError, Allocator};
 /// A call takes time and memory at most proportional to one more than the tokens, times one more than the bytes of the
 /// text. The errors are:
 ///
-/// - [`CapturesError::TooLarge`]: the tokens times the bytes are more than [`MOST_STEPS`](crate::MOST_STEPS). Nothing was
-///   done.
+/// - [`CapturesError::TooLarge`]: the tokens times the bytes are more than [`MOST_STEPS`](crate::MOST_STEPS). Nothing
+///   was done.
 /// - [`CapturesError::Memory`]: an allocation failed.
 pub fn captures<A: Allocator + Copy, B: Allocator + Copy>(
     alloc: A,

@@ -1,3 +1,4 @@
+//! Why pieces are not computed.
 ghost use Rattle.std.specs.Prelude.{Some};
 ghost use Rattle.glob_captures.specs.Words.{captures_error_words};
 

@@ -1,3 +1,5 @@
+//! Pieces of a text.
+
 /// A piece of a text, as places in bytes: from `start` up to `end`. That of `b` in `abc` is from 1 up to 2.
 #[derive(Clone, Copy, Debug, PartialEq, Eq)]
 pub struct Piece {

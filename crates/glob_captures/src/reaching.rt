@@ -1,3 +1,4 @@
+//! How far a text can be taken, and what waits there.
 ghost use Rattle.std.specs.Prelude.{◌≡◌, ◌+◌, ◌-◌, ◌<◌, ◌≤◌, length, chars};
 ghost use Rattle.std.specs.Prelude.{ℕ, Bool, ◌&&◌, ◌||◌, not, List, false, IsTrue, slice_index_or, IfOk, ◌↔◌, ◌*◌, AllPairs};
 ghost use Rattle.glob_text.specs.Text.{opens};
@@ -22,18 +23,18 @@ pub struct Reached<A: Allocator = Global> {
     pub waiting: Vec<usize, A>,
 }
 
-/// How far the text can be taken: up to the last place, in bytes, up to which some first tokens of the pattern take it, and
-/// the numbers of all tokens that wait there for a character. For a text that does not match this is where it stops, and
-/// what was wanted there.
+/// How far the text can be taken: up to the last place, in bytes, up to which some first tokens of the pattern take it,
+/// and the numbers of all tokens that wait there for a character. For a text that does not match this is where it
+/// stops, and what was wanted there.
 ///
-/// So for `*.rs` and `a.rc` it is the end: `*` took all, and it and `.` wait. For `a[0-9]b` and `a1c` it is the place 2,
-/// where token 2, the `b`, waits.
+/// So for `*.rs` and `a.rc` it is the end: `*` took all, and it and `.` wait. For `a[0-9]b` and `a1c` it is the place
+/// 2, where token 2, the `b`, waits.
 ///
 /// A call takes time and memory at most proportional to one more than the tokens, times one more than the bytes of the
 /// text. The errors are:
 ///
-/// - [`CapturesError::TooLarge`]: the tokens times the bytes are more than [`MOST_STEPS`](crate::MOST_STEPS). Nothing was
-///   done.
+/// - [`CapturesError::TooLarge`]: the tokens times the bytes are more than [`MOST_STEPS`](crate::MOST_STEPS). Nothing
+///   was done.
 /// - [`CapturesError::Memory`]: an allocation failed.
 pub fn reach<A: Allocator + Copy, B: Allocator>(
     alloc: A,

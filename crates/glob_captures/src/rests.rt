@@ -36,8 +36,8 @@ impl<A: Allocator> Rests<A> {
     }
 }
 
-/// For the tokens after each wildcard but the last one, from where on they take the rest: the last tokens first. For the
-/// tokens after a token that is no wildcard the row is empty.
+/// For the tokens after each wildcard but the last one, from where on they take the rest: the last tokens first. For
+/// the tokens after a token that is no wildcard the row is empty.
 pub fn rests_of<A: Allocator + Copy, B: Allocator>(
     alloc: A,
     pattern: &Pattern<B>,
@@ -128,8 +128,8 @@ fn add_token<A: Allocator>(
     }
 }
 
-/// Whether a token takes the character at a place, and then its piece ends, where the tokens after it take the rest from
-/// the next place on, or goes on, where more is taken from there.
+/// Whether a token takes the character at a place, and then its piece ends, where the tokens after it take the rest
+/// from the next place on, or goes on, where more is taken from there.
 #[inline(always)]
 #[tactic(auto, unfolding(glob_pattern::specs::Private::TextTable::table_of))]
 fn takes_more<A: Allocator>(

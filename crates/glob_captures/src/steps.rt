@@ -9,8 +9,8 @@ ghost use Rattle.glob_captures.specs.Private.Rests.{IsFormAt};
 use glob_pattern::{MatchOptions, Pattern, TokenKind, token_kind, token_takes, tokens_len};
 use std::alloc::Allocator;
 
-/// The bound on a call: the pattern's tokens times the text's bytes are at most so many. So a pattern of 8 tokens may be
-/// asked about a text of 8 MiB.
+/// The bound on a call: the pattern's tokens times the text's bytes are at most so many. So a pattern of 8 tokens may
+/// be asked about a text of 8 MiB.
 pub const MOST_STEPS: usize = 1 << 26;
 
 /// Whether the tokens times the bytes are more than [`MOST_STEPS`].

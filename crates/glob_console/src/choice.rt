@@ -42,8 +42,8 @@ pub trait Choice {
         ensures wanted { (c : Content) → IsTold (T.tells tree.old) c
             → IfOk result (λ yes. yes ≡ wanted self.now c path.now) };
 
-    /// Writes what is said of an error of the walk: of a directory that cannot be listed, or, as the last item, of the limit
-    /// or an allocation failure.
+    /// Writes what is said of an error of the walk: of a directory that cannot be listed, or, as the last item, of the
+    /// limit or an allocation failure.
     fn report<A: Allocator + Copy, E: Write>(
         &self,
         error: &GlobError<A>,

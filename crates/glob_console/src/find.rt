@@ -37,9 +37,9 @@ pub struct WalkSettings<'a> {
     pub end: u8,
 }
 
-/// Walks the tree: each path that the choice wants is a record of `output`, and each error is what the choice says of it
-/// in `errors`, after the paths before it. A path waits for others before it is written, but not for long: after 8 KiB or a hundred units
-/// of the walk.
+/// Walks the tree: each path that the choice wants is a record of `output`, and each error is what the choice says of
+/// it in `errors`, after the paths before it. The first path is written at once. Later ones wait for others: until
+/// there are 8 KiB of them, or the walk asks after a hundred units more.
 ///
 /// Over files `x` and `y`, `*` writes the lines `x` and `y`, where every path is wanted. With the limit 3 it writes
 /// none, and the walk's end is `Limit`. If the pattern is refused, `output` stays as it was. If a line cannot be
@@ -160,6 +160,6 @@ fn write_step<T: Tree, C: Choice, W: Write, E: Write>(
             }
         },
         Step::Done => lines.flush(output),
-        _ => lines.before_ask(spent, output),
+        Step::Look | Step::List | Step::ListNames => lines.before_ask(spent, output),
     }
 }

@@ -70,8 +70,8 @@ impl<A: Allocator + Copy> CopyRules<A> {
 /// Of the paths that a plain pattern leads to, those that the rules copy. The walk comes to its end, or its first error
 /// is returned: so over a tree with a known content none is missing. `limit` is in lookups, listings and entries.
 ///
-/// All paths that the pattern leads to are held at once. A directory is a path, too. So by `src/**/*` and the rules of the
-/// lists `**/*.rs` and `**/tests/*`, `src/main.rs` is copied.
+/// All paths that the pattern leads to are held at once. A directory is a path, too. So by `src/**/*` and the rules of
+/// the lists `**/*.rs` and `**/tests/*`, `src/main.rs` is copied.
 pub fn paths_to_copy<T: Tree, A: Allocator + Copy>(
     alloc: T::Alloc,
     tree: T,
@@ -113,8 +113,8 @@ fn found_paths<T: Tree>(
     Ok(files)
 }
 
-/// Adds the path that a walk gave, or returns the error that it gave in place of one. Fails otherwise only if allocation
-/// fails.
+/// Adds the path that a walk gave, or returns the error that it gave in place of one. Fails otherwise only if
+/// allocation fails.
 fn push_found<A: Allocator>(
     files: &mut Vec<PathBuf<A>, A>,
     item: Result<PathBuf<A>, GlobError<A>>,

@@ -122,8 +122,8 @@ fn entries(alloc: Global, name: &str) -> Result<Vec<Entry>, AllocError>
     Ok(entries)
 }
 
-/// The walk of `*.rs` over a tree with the file `main.rs` alone, within 3 units: the limit suffices, and if no allocation
-/// fails, the one item is `main.rs`.
+/// The walk of `*.rs` over a tree with the file `main.rs` alone, within 3 units: the limit suffices, and if no
+/// allocation fails, the one item is `main.rs`.
 pub fn walk_over_main(alloc: Global) -> Result<Walk<OneFile<'static>>, PatternRefusal>
     ensures enough { IfOk result (λ walk. walk.end ≢ End.Limit) }
     ensures found { IfOk result (λ walk. walk.end ≡ End.Done

@@ -1,3 +1,4 @@
+//! Why a copy of records failed.
 ghost use Rattle.std.specs.Prelude.{Some};
 ghost use Rattle.glob_lines.specs.LineFaults.{words_of_line_fault};
 

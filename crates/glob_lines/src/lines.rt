@@ -1,3 +1,4 @@
+//! Copies of the records that match, in the order in which they are read.
 ghost use Rattle.std.specs.Prelude.{◌≡◌, ◌↔◌, ◌<◌, ◌≤◌, ◌+◌, ◌∷◌, ◌++◌, false, length, take, drop, vec_len, IsTrue, IsErr, IsErrAnd, IfOk, OnOk, OnErr};
 ghost use Rattle.std.specs.Io.KnownBytes.{Keeps, Appends, Consumes, IsAtEnd};
 ghost use Rattle.glob_lines.specs.LineFaults.{IsRead, IsMemory, IsWrite};
@@ -60,8 +61,9 @@ pub fn filter_lines<A: Allocator + Copy, B: Allocator + Copy, R: Read, W: Write>
     filter_records(alloc, pattern, options, b'\n', reader, writer)
 }
 
-/// Copies the records of `reader` that `pattern` matches to `writer`, as [`filter_lines`] does with lines. A record ends
-/// before the byte `end`, and each is written with it. What follows the last such byte is a record if it is not empty.
+/// Copies the records of `reader` that `pattern` matches to `writer`, as [`filter_lines`] does with lines. A record
+/// ends before the byte `end`, and each is written with it. What follows the last such byte is a record if it is not
+/// empty.
 ///
 /// So with the pattern `a*` and the byte `0` as the end the input `"a\nb\0b\0"` gives the output `"a\nb\0"`, and 1 is
 /// returned: a line feed is a character of its record. The errors are those of `filter_lines`.

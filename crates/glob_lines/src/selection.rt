@@ -3,7 +3,8 @@ ghost use Rattle.std.specs.Prelude.{◌≡◌, List, ℕ, Bool, IfOk};
 
 use std::alloc::AllocError;
 
-/// What says which records are copied: a test of their bytes. The same selection gives the same answer for the same bytes.
+/// What says which records are copied: a test of their bytes. The same selection gives the same answer for the same
+/// bytes.
 ///
 /// ```text
 /// struct Commented;

@@ -9,9 +9,9 @@ use std::io::{self, ErrorKind, Write};
 /// Writes all of the bytes, in as many writes as it takes: to a writer that accepts two bytes a call, `abc` is two
 /// writes. A write that fails with `Interrupted`, as one does during which a signal comes, is tried again.
 ///
-/// The error is that of the first other write that failed, or of the kind `WriteZero` where the writer took none of some
-/// bytes. Then the first bytes were written, some or none of them, of which the contract of `Write::write_all` says
-/// nothing.
+/// The error is that of the first other write that failed, or of the kind `WriteZero` where the writer took none of
+/// some bytes. Then the first bytes were written, some or none of them, of which the contract of `Write::write_all`
+/// says nothing.
 pub fn write_whole<W: Write>(writer: &mut W, bytes: &[u8]) -> io::Result<()>
     ensures all { OnOk result
         (Appends (W.contents writer.old) (W.contents writer.new) bytes.now) }

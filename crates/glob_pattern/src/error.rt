@@ -1,3 +1,4 @@
+//! Why a text is no pattern.
 ghost use Rattle.std.specs.Prelude.{Some};
 ghost use Rattle.glob_pattern.specs.Words.{pattern_error_words, refusal_words};
 

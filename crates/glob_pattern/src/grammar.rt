@@ -1,8 +1,9 @@
+//! Reads a pattern's units, or its first fault.
 ghost use Rattle.std.specs.Prelude.{◌≡◌, ◌+◌, ◌<◌, ◌≤◌, List, [], ◌∷◌, ◌++◌, length, Some, IsTrue, IfSome, IfOk, IfErr, OnOk};
 ghost use Rattle.std.specs.Str.{chars, IsAscii};
 ghost use Rattle.glob_text.specs.Text.{Has, has, opens};
 ghost use Rattle.glob_pattern.specs.Grammar.Characters.{star, open_bracket};
-ghost use Rattle.glob_pattern.specs.Grammar.Tokens.{Token as Kept, is_recursive, ends_recursive, tokens_of_units};
+ghost use Rattle.glob_pattern.specs.Grammar.Tokens.{Token as TokenOf, is_recursive, ends_recursive, tokens_of_units};
 ghost use Rattle.glob_pattern.specs.Grammar.Units.{HasTokens};
 ghost use Rattle.glob_pattern.specs.Grammar.Faults.{Refuses};
 ghost use Rattle.glob_pattern.specs.Computing.Reading.{close_from, unit_at, RefusesAt};
@@ -97,7 +98,7 @@ fn push_stars<A: Allocator>(
     tokens: &mut Vec<Token<Bracket<A>>, A>,
     token: Token<Bracket<A>>,
 ) -> Result<(), AllocError>
-    ensures { OnOk result ((units : List Kept)
+    ensures { OnOk result ((units : List TokenOf)
         → tokens.old.items ≡ tokens_of_units units
         → tokens.new.items ≡ tokens_of_units (units ++ token ∷ [])) }
 {

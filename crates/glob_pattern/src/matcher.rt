@@ -1,3 +1,4 @@
+//! Judges, and whether by their answers characters split into pieces.
 ghost use Rattle.std.specs.Prelude.{◌≡◌, ℕ, ◌+◌, ◌-◌, ◌*◌, ◌^◌, ◌<◌, ◌≤◌, ◌↔◌, false, length, IsTrue, IsOk, IfOk, count_ones};
 ghost use Rattle.glob_pattern.specs.Matching.Splits.{Table, Splits};
 ghost use Rattle.std.specs.Int.{IsBitSet};
@@ -9,7 +10,8 @@ pub use positions::{Span, decide};
 pub use shape_word::{ShapeWord, last_before, shape_words};
 use std::alloc::{AllocError, Allocator};
 
-/// How many tokens a word of 64 bits has: there is one more position than tokens.
+/// How many tokens a word of 64 bits has. Its last bit is the position after them, as the first bit of the next word
+/// is.
 pub const WORD: usize = 63;
 
 /// Which pieces of a text a token may match. The shapes of `**/*a` are `Deep`, `Run` and `One`.
@@ -83,8 +85,8 @@ pub trait Judge {
 
     /// Which of up to 63 tokens take the character last stepped over. Bit n of `asked` asks token 63 · `word` + n, and
     /// the result has the bits of those that take the character. So `takes_each(1, 0b101)` asks tokens 63 and 65.
-    /// Raises the count by one for each bit of `asked`. `step` must have returned true before, each bit must be below 63
-    /// and of a token in the list, and the count must have room.
+    /// Raises the count by one for each bit of `asked`. `step` must have returned true before, each bit must be below
+    /// 63 and of a token in the list, and the count must have room.
     ///
     /// This body calls [`takes`](Self::takes) for one token after another. A judge that knows many answers at once may
     /// have its own.

@@ -1,3 +1,4 @@
+//! The options of a match, and their letters and bits.
 ghost use Rattle.std.specs.Prelude.{◌≡◌};
 ghost use Rattle.glob_pattern.specs.Matching.Options.{new_options, default_options, options_of_bits, with_letter, with_letters};
 
@@ -27,8 +28,8 @@ impl MatchOptions {
         }
     }
 
-    /// These options with the one that a letter sets, as on a command line: `i` case-insensitive, `s` the separator rule,
-    /// `d` the dot rule. `None` for another letter.
+    /// These options with the one that a letter sets, as on a command line: `i` case-insensitive, `s` the separator
+    /// rule, `d` the dot rule. `None` for another letter.
     pub fn with_letter(self, letter: char) -> Option<Self>
         ensures { result ≡ with_letter letter self }
     {
@@ -42,8 +43,8 @@ impl MatchOptions {
         Some(options)
     }
 
-    /// The options of `new()` with those that the letters set, in any order: `is` is case-insensitive, with the separator
-    /// rule. `None` if one is no letter of an option.
+    /// The options of `new()` with those that the letters set, in any order: `is` is case-insensitive, with the
+    /// separator rule. `None` if one is no letter of an option.
     pub fn from_letters(letters: &str) -> Option<Self>
         ensures { result ≡ with_letters letters.now new_options }
     {

@@ -1,3 +1,4 @@
+//! Patterns: parsing, and matching texts.
 ghost use Rattle.std.specs.Prelude.{◌≡◌, ℕ, ◌*◌, ◌≤◌, ◌↔◌, [], length, IsTrue, IsOk, IfOk, IfErr, IfNone, IfSome, MatchOption, chars};
 ghost use Rattle.std.specs.Str.{is_utf8};
 ghost use Rattle.glob_pattern.specs.Matching.Trims.{IsTrimmed};
@@ -145,8 +146,8 @@ impl<A: Allocator + Copy> Pattern<A> {
 
     /// The answer of [`matches_with`](Self::matches_with), and how many questions it takes without the prefilter: how
     /// often it is asked whether a token takes a character. Their number is at most the pattern's characters times the
-    /// text's, and for a match at least the text's characters. So `a` and the text `a` take one question, and the answer
-    /// is `(true, 1)`. The error is that of [`matches_with`](Self::matches_with).
+    /// text's, and for a match at least the text's characters. So `a` and the text `a` take one question, and the
+    /// answer is `(true, 1)`. The error is that of [`matches_with`](Self::matches_with).
     #[inline(always)]
     pub fn matches_counted(
         &self,
@@ -188,8 +189,8 @@ impl<A: Allocator + Copy> Pattern<A> {
     }
 }
 
-/// Whether a text of these bytes may be one that the pattern matches, by its ends and a search for a needle: `None` says
-/// that it is not, so for `*.rs` and the bytes of `main.c`. Otherwise it says how much of the ends is decided, for
+/// Whether a text of these bytes may be one that the pattern matches, by its ends and a search for a needle: `None`
+/// says that it is not, so for `*.rs` and the bytes of `main.c`. Otherwise it says how much of the ends is decided, for
 /// [`match_trimmed`]. The bytes need not be UTF-8.
 #[inline(always)]
 pub fn trim<A: Allocator>(

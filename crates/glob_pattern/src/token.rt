@@ -1,3 +1,4 @@
+//! The tokens of a pattern.
 ghost use Rattle.std.specs.Prelude.{◌≡◌};
 ghost use Rattle.glob_pattern.specs.Grammar.Tokens.{is_recursive, shape_of};
 

@@ -4,16 +4,15 @@ ghost use Rattle.std.specs.List.{list_any};
 ghost use Rattle.std.specs.Path.{parent_dir};
 ghost use Rattle.glob_text.specs.Pieces.{pieces};
 ghost use Rattle.glob_tree.specs.Answers.{entries_of};
-ghost use Rattle.glob_tree.specs.Paths.{stays};
 ghost use Rattle.glob_prune.specs.Entering.{is_entry_kept, is_path_excluded as is_excluded_at, path_below};
 ghost use Rattle.glob_prune.specs.Pruning.{is_above_excluded, is_downward as is_downward_path, is_excluded, names_of_path, path_of};
 
 use crate::exclusion::Exclusion;
-use glob_tree::Entry;
+use glob_tree::{Entry, stays};
 use std::alloc::{AllocError, Allocator};
 
-/// Whether no directory above a path is excluded. Then `names` are the names of the path. A path that does not begin at the
-/// current directory, or goes up, is refused.
+/// Whether no directory above a path is excluded. Then `names` are the names of the path. A path that does not begin at
+/// the current directory, or goes up, is refused.
 pub(crate) fn enter<X: Exclusion, A: Allocator>(
     exclusion: &X,
     names: &mut String<A>,
@@ -30,7 +29,7 @@ pub(crate) fn enter<X: Exclusion, A: Allocator>(
     }
     names.clear();
     for piece in path.split('/') {
-        if is_passed(piece) {
+        if stays(piece) {
             continue;
         }
         if !add_name(exclusion, names, piece)? {
@@ -111,13 +110,6 @@ fn is_downward(path: &str) -> bool
         return false;
     }
     !goes_up(path)
-}
-
-/// Whether a piece leads nowhere else.
-fn is_passed(piece: &str) -> bool
-    ensures { result ≡ stays piece.now }
-{
-    piece.is_empty() || piece == "."
 }
 
 /// Whether some piece of a path is `..`.

@@ -5,8 +5,8 @@ use crate::exclusion::Exclusion;
 use glob_set::PatternSet;
 use std::alloc::{AllocError, Allocator};
 
-/// A path is excluded where one of the patterns matches it whole, under the set's own options. So by `**/*.o` and `target`
-/// the files `a.o` and `src/a.o` are excluded, and all below the directory `target`.
+/// A path is excluded where one of the patterns matches it whole, under the set's own options. So by `**/*.o` and
+/// `target` the files `a.o` and `src/a.o` are excluded, and all below the directory `target`.
 impl<A: Allocator + Copy> Exclusion for PatternSet<A> {
     ghost excludes = { λ set path is_dir. any_match set.options set.patterns path };
 

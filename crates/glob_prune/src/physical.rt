@@ -15,9 +15,10 @@ use std::marker::Model;
 pub enum Links {
     /// They are no directories: a walk by `**` does not enter one, and ends on a cycle of links.
     Kept,
-    /// They are what they point to, or no directory where that is missing. A link to a directory that is on the way down to
-    /// the link is none either, and the [`Strays`] receive it: so a walk by `**` ends on a cycle of links, as at `a/up` that
-    /// points to `a`. Where the system numbers no files, it ends once the system follows no more of them.
+    /// They are what they point to, or no directory where that is missing. A link to a directory that is on the way
+    /// down to the link is none either, and the [`Strays`] receive it: so a walk by `**` ends on a cycle of links, as
+    /// at `a/up` that points to `a`. Where the system numbers no files, it ends once the system follows no more of
+    /// them.
     Followed,
 }
 
@@ -81,9 +82,9 @@ impl<R: Files + Drop, S: Strays, A: Allocator + Copy> Tree for PhysicalDisk<R, S
 
     ghost asks = { λ disk. disk.asks };
 
-    /// A symbolic link that is not followed is `Other`, and what is below it `Missing`. A path that cannot be looked up is
-    /// `Missing`, and the strays receive it unless the system says that nothing is there. The error comes only where the
-    /// I/O error's kind is `OutOfMemory`, or an allocation fails.
+    /// A symbolic link that is not followed is `Other`, and what is below it `Missing`. A path that cannot be looked up
+    /// is `Missing`, and the strays receive it unless the system says that nothing is there. The error comes only where
+    /// the I/O error's kind is `OutOfMemory`, or an allocation fails.
     fn look(&mut self, path: &str) -> Result<Look, AllocError>
         ensures asks { self.new.asks ≡ self.old.asks + 1 }
     {
@@ -91,8 +92,8 @@ impl<R: Files + Drop, S: Strays, A: Allocator + Copy> Tree for PhysicalDisk<R, S
         self.system.look(path)
     }
 
-    /// An entry whose kind cannot be learned is no directory, and the strays receive its path. The error is `Memory` at an
-    /// allocation failure, and else `Read` with the I/O error of the system, as `PermissionDenied` or `NotFound`.
+    /// An entry whose kind cannot be learned is no directory, and the strays receive its path. The error is `Memory` at
+    /// an allocation failure, and else `Read` with the I/O error of the system, as `PermissionDenied` or `NotFound`.
     fn list(&mut self, path: &str) -> Result<Vec<Entry<A>, A>, ListError>
         ensures asks { self.new.asks ≡ self.old.asks + 1 + entry_count result }
     {

@@ -2,7 +2,6 @@
 ghost use Rattle.std.specs.Prelude.{◌≡◌, ◌+◌, ◌≤◌, true, IfOk, IfErr};
 ghost use Rattle.glob_tree.specs.Answers.{IsTold, IsListAnswer, IsListError, entries_of, entry_count};
 ghost use Rattle.glob_tree.specs.Content.{Content, look_result, list_result};
-ghost use Rattle.glob_tree.specs.Looks.{is_directory};
 ghost use Rattle.glob_prune.specs.Asking.{ListsAtMostOnce};
 ghost use Rattle.glob_prune.specs.Pruning.{is_above_excluded, is_excluded, names_of_path, pruned_told};
 
@@ -16,15 +15,15 @@ use std::marker::Model;
 /// A tree without what is excluded and all below it: it is not there, so it is neither looked into nor listed. What is
 /// asked of the exclusion are paths below the current directory.
 ///
-/// It answers paths that begin at the current directory and do not go up, as `a/b`, `./a` and `a//b`. Of a path that begins
-/// with `/` or has a piece `..` it cannot tell what is above, and refuses it: as an allocation failure, the one error that
-/// says nothing of the path.
+/// It answers paths that begin at the current directory and do not go up, as `a/b`, `./a` and `a//b`. Of a path that
+/// begins with `/` or has a piece `..` it cannot tell what is above, and refuses it: as an allocation failure, the one
+/// error that says nothing of the path.
 ///
-/// The tree in it lists an entry that is excluded, too, at one of its own asks. The pruned tree counts, and the limit of a
-/// walk over it is charged for, those that are kept.
+/// The tree in it lists an entry that is excluded, too, at one of its own asks. The pruned tree counts, and the limit
+/// of a walk over it is charged for, those that are kept.
 ///
-/// Over a directory `target` and files `a` and `target/b`, where `target` is excluded, a listing of `.` returns `a`, and a
-/// look at `target/b` returns `Look::Missing`.
+/// Over a directory `target` and files `a` and `target/b`, where `target` is excluded, a listing of `.` returns `a`,
+/// and a look at `target/b` returns `Look::Missing`.
 #[derive(Drop)]
 pub struct Pruned<T: Tree, X: Exclusion> {
     tree: T,
@@ -91,8 +90,8 @@ impl<T: Tree, X: Exclusion> Tree for Pruned<T, X> {
         look_kept(&mut self.tree, &self.exclusion, &mut self.names, path)
     }
 
-    /// The entries that are kept. A directory that is excluded is not there: the error's kind is `NotFound`, and the tree in
-    /// it is not asked.
+    /// The entries that are kept. A directory that is excluded is not there: the error's kind is `NotFound`, and the
+    /// tree in it is not asked.
     fn list(&mut self, path: &str) -> Result<Vec<Entry<T::Alloc>, T::Alloc>, ListError>
         ensures asks { self.new.asks ≡ self.old.asks + 1 + entry_count result }
         ensures content { pruned_told (X.excludes self.new.exclusion) (T.tells self.new.tree)
@@ -137,7 +136,7 @@ fn look_kept<T: Tree, X: Exclusion>(
         return Ok(Look::Missing);
     }
     let seen = tree.look(path)?;
-    if is_path_excluded(exclusion, names.as_str(), is_dir(seen))? {
+    if is_path_excluded(exclusion, names.as_str(), seen.is_dir())? {
         return Ok(Look::Missing);
     }
     Ok(seen)
@@ -168,11 +167,4 @@ fn list_kept<T: Tree, X: Exclusion>(
     }
     let entries = tree.list(path)?;
     Ok(kept_entries(exclusion, names, entries)?)
-}
-
-/// Whether a look found a directory.
-fn is_dir(seen: Look) -> bool
-    ensures { result ≡ is_directory seen }
-{
-    matches!(seen, Look::Dir)
 }

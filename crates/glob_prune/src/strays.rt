@@ -35,9 +35,9 @@ pub trait Strays: Drop {
         ensures names { names self.new ≡ and_then (names self.old) (name.now ∷ []) }
         ensures paths { paths self.new ≡ paths self.old };
 
-    /// What is at `path` could not be learned, for this reason, as `PermissionDenied` or `InvalidFilename` where the path
-    /// is longer than the system takes. `FilesystemLoop` is also the reason of a link that is followed, and points to a
-    /// directory on the way down to it. A listing has it as no directory, and goes on.
+    /// What is at `path` could not be learned, for this reason, as `PermissionDenied` or `InvalidFilename` where the
+    /// path is longer than the system takes. `FilesystemLoop` is also the reason of a link that is followed, and points
+    /// to a directory on the way down to it. A listing has it as no directory, and goes on.
     fn unsettled(&mut self, path: &str, error: &io::Error)
         ensures names { names self.new ≡ names self.old }
         ensures paths { paths self.new ≡ and_then (paths self.old) (path.now ∷ []) };

@@ -160,7 +160,7 @@ impl<R: Files, S: Strays, A: Allocator + Copy> System<R, S, A> {
     fn is_dir(&mut self, path: &str) -> Result<bool, AllocError>
         ensures strays { S.names self.new.strays ≡ S.names self.old.strays }
     {
-        Ok(matches!(self.look_at(path)?, Look::Dir))
+        Ok(self.look_at(path)?.is_dir())
     }
 
     /// Whether a link points to a directory that is not on the way down to it: one that is would be entered for ever.

@@ -1,3 +1,4 @@
+//! Why a text is no ignore list.
 ghost use Rattle.std.specs.Prelude.{Some};
 ghost use Rattle.glob_rules.specs.Words.{reason_words, refusal_words};
 
@@ -35,8 +36,9 @@ impl fmt::Display for Reason {
     }
 }
 
-/// Why a text is refused as an ignore list, by [`IgnoreList::new`](crate::IgnoreList::new). So the text `[é]` is refused
-/// with `Line`, the line 1 and [`Reason::BeyondAscii`], and prints as `line 1: a bracket names a character beyond ASCII`.
+/// Why a text is refused as an ignore list, by [`IgnoreList::new`](crate::IgnoreList::new). So the text `[é]` is
+/// refused with `Line`, the line 1 and [`Reason::BeyondAscii`], and prints as `line 1: a bracket names a character
+/// beyond ASCII`.
 #[derive(Debug, Drop)]
 pub enum RuleRefusal {
     /// The first line that is refused, counted from 1, and why.

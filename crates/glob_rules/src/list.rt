@@ -1,3 +1,4 @@
+//! Ignore lists: which paths they ignore, and by which rule.
 ghost use Rattle.std.specs.Prelude.{◌≡◌, ◌<◌, ◌≤◌, length, IfOk, IfErr, IfSome, IsOk, OnOk, Bool};
 ghost use Rattle.glob_set.specs.Sets.{AreShort};
 ghost use Rattle.glob_rules.specs.Deciding.{names, last_naming, last_named, ignores, deciding, deciding_rule, is_ignored};
@@ -75,8 +76,8 @@ impl<A: Allocator + Copy> IgnoreList<A> {
         Ok(self.ignores(decides))
     }
 
-    /// The rule that decides whether the list ignores a path, or `None` if no rule names it: by `a/` and `!a/b` it is that
-    /// of line 1 for `a/b`. Its error is that of [`is_ignored`](Self::is_ignored).
+    /// The rule that decides whether the list ignores a path, or `None` if no rule names it: by `a/` and `!a/b` it is
+    /// that of line 1 for `a/b`. Its error is that of [`is_ignored`](Self::is_ignored).
     #[tactic(auto, unfolding(crate::specs::Deciding::deciding_rule))]
     pub fn deciding_rule(&self, path: &str, is_directory: bool) -> Result<Option<Rule>, AllocError>
         ensures rule { IfOk result

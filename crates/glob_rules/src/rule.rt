@@ -1,3 +1,5 @@
+//! Rules of an ignore list.
+
 /// A rule of an ignore list, without its pattern. That of the line `!*.o/` is negative and for directories alone.
 #[derive(Clone, Copy, Debug, PartialEq, Eq)]
 pub struct Rule {

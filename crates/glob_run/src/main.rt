@@ -30,8 +30,8 @@ const USAGE: &str =
 /// Runs the program on the words after its name, and returns its exit status: 0 where something matched or a text was
 /// escaped, 1 where nothing matched, 2 at a fault or where a walk met an error. `find` walks the tree.
 ///
-/// A fault is one line on `errors`; a fault of `errors` itself is dropped. A usage fault, or a fault of the pattern, leaves
-/// the output as it was. Tests, not clauses, show that neither the input nor the tree is asked then.
+/// A fault is one line on `errors`; a fault of `errors` itself is dropped. A usage fault, or a fault of the pattern,
+/// leaves the output as it was. Tests, not clauses, show that neither the input nor the tree is asked then.
 ///
 /// Over the input `"a.rs\nb.c\n"` the words `match` and `*.rs` write `"a.rs\n"`, and the status is 0.
 pub fn run_words<T: Tree, R: Read + Drop, W: Write, E: Write>(

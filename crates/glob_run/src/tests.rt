@@ -91,7 +91,8 @@ fn tree_of(alloc: Global, keys: &str) -> Result<MemTree, TreeRefusal> {
     Ok(tree)
 }
 
-/// Whether only `match` read its input and only `find` asked its tree, and neither at a fault of the words or the pattern.
+/// Whether only `match` read its input and only `find` asked its tree, and neither at a fault of the words or the
+/// pattern.
 fn is_asked_by(words: &str, errors: &str, input: bool, tree: bool) -> bool {
     let is_fault = errors.starts_with("usage") || errors.starts_with("Pattern");
     let may_read = words.starts_with("match") && !is_fault;

@@ -1,3 +1,4 @@
+//! Why texts make no set.
 ghost use Rattle.std.specs.Prelude.{Some};
 ghost use Rattle.glob_set.specs.Words.{refusal_words, brace_set_refusal_words};
 

@@ -1,3 +1,4 @@
+//! Sets of patterns: which of them match a text.
 ghost use Rattle.std.specs.Prelude.{◌≡◌, ℕ, List, ◌<◌, ◌↔◌, length, map, IsTrue, IsOk, IfOk, IfErr, OnOk, OnErr};
 ghost use Rattle.std.specs.Path.{path_bytes};
 ghost use Rattle.glob_set.specs.Private.Buckets.{IsBucket};

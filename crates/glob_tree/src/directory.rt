@@ -9,15 +9,15 @@ use crate::tree::ListError;
 use std::alloc::{AllocError, Allocator};
 use std::io::Read;
 
-/// How many bytes of a directory are read at once by its first two reads. The names of some hundred entries fit. A block
-/// is cleared at each listing, so a larger one would cost a small directory more than it saves in system calls.
+/// How many bytes of a directory are read at once by its first two reads. The names of some hundred entries fit. A
+/// block is cleared at each listing, so a larger one would cost a small directory more than it saves in system calls.
 const BLOCK: usize = 4096;
 
 /// How many bytes of a directory are read at once by further reads.
 const LARGE_BLOCK: usize = 32768;
 
-/// The bytes of an opened directory, read to its end: its names, each with a NUL after it, as `a\0..\0b\0`. Most directories end
-/// within two reads: one of all names, and one of none.
+/// The bytes of an opened directory, read to its end: its names, each with a NUL after it, as `a\0..\0b\0`. Most
+/// directories end within two reads: one of all names, and one of none.
 ///
 /// The error is `Memory` at an allocation failure, and `Read` with the error of the read that failed: what was read
 /// before it is dropped.

@@ -24,10 +24,11 @@ enum Kinds {
 /// The real file system, as a tree with no known content: contracts know only how much was asked of it. Relative paths
 /// begin at the current directory of the process, and links are followed.
 ///
-/// A look makes one system call, and two at a link. A listing makes one for each entry, also for a link, and one of names
-/// alone makes none for them. Beside these it opens and closes the directory, and reads its names in two blocks of 4 KiB
-/// and then in blocks of 32 KiB, to an empty read: four calls where some hundred names fit the first block. It has all
-/// names in memory before it makes entries of them. An I/O error of the kind `OutOfMemory` is an allocation failure.
+/// A look makes one system call, and two at a link. A listing makes one for each entry, also for a link, and one of
+/// names alone makes none for them. Beside these it opens and closes the directory, and reads its names in two blocks
+/// of 4 KiB and then in blocks of 32 KiB, to an empty read: four calls where some hundred names fit the first block. It
+/// has all names in memory before it makes entries of them. An I/O error of the kind `OutOfMemory` is an allocation
+/// failure.
 ///
 /// In a directory with a file `a` and a link `b` to `a`, a look at `b` finds `Other`, and a listing of `.` the entries
 /// `a` and `b`, neither of them a directory.
@@ -68,9 +69,9 @@ impl<R: Files + Drop, A: Allocator + Copy> Tree for Disk<R, A> {
 
     ghost asks = { λ disk. disk };
 
-    /// `Other` is also a path that is there and cannot be followed to its end, as a link whose target is missing. A path
-    /// that cannot be looked up is `Missing`, as one below a directory that may not be searched. The error comes only
-    /// where the I/O error's kind is `OutOfMemory`.
+    /// `Other` is also a path that is there and cannot be followed to its end, as a link whose target is missing. A
+    /// path that cannot be looked up is `Missing`, as one below a directory that may not be searched. The error comes
+    /// only where the I/O error's kind is `OutOfMemory`.
     fn look(&mut self, path: &str) -> Result<Look, AllocError>
         ensures asks { self.new ≡ self.old + 1 }
     {
@@ -90,8 +91,8 @@ impl<R: Files + Drop, A: Allocator + Copy> Tree for Disk<R, A> {
         self.listing(path, Kinds::LookedUp)
     }
 
-    /// The entries of the directory, none of which is said to be a directory. It looks none of them up. The errors are those
-    /// of a listing.
+    /// The entries of the directory, none of which is said to be a directory. It looks none of them up. The errors are
+    /// those of a listing.
     fn list_names(&mut self, path: &str) -> Result<Vec<Entry<A>, A>, ListError>
         ensures asks { self.new ≡ self.old + 1 + entry_count result }
     {
@@ -158,7 +159,7 @@ impl<R: Files, A: Allocator + Copy> Disk<R, A> {
             _ => return Err(ListError::Read(io::Error::from(ErrorKind::InvalidFilename))),
         };
         let is_dir = match kinds {
-            Kinds::LookedUp => matches!(self.look_in(path, name)?, Look::Dir),
+            Kinds::LookedUp => self.look_in(path, name)?.is_dir(),
             Kinds::LeftOut => false,
         };
         let name = name_from_proper(self.alloc, name)?;

@@ -19,6 +19,6 @@ pub use disk::Disk;
 pub use kind::Kind;
 pub use mem_tree::MemTree;
 pub use name::{Name, copy_name, is_proper, name_from_proper};
-pub use path_text::{begins_with_dot, child, join};
+pub use path_text::{begins_with_dot, child, join, stays};
 pub use refusal::TreeRefusal;
 pub use tree::{Entry, ListError, Look, Tree};

@@ -1,3 +1,4 @@
+//! Names of entries.
 ghost use Rattle.std.specs.Prelude.{◌≡◌, true, is_ok, IfOk, IfErr, string_bytes};
 ghost use Rattle.std.specs.List.{list_any};
 ghost use Rattle.glob_tree.specs.Directories.{is_listed as names_entry_bytes};

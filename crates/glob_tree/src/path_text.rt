@@ -58,8 +58,8 @@ fn all_stay(path: &str) -> bool
     path.split('/').all(stays)
 }
 
-/// Whether a piece of a path is empty or `.`.
-fn stays(piece: &str) -> bool
+/// Whether a piece of a path is empty or `.`, so that it leads nowhere else.
+pub fn stays(piece: &str) -> bool
     ensures { result ≡ stays_text piece.now }
 {
     piece.is_empty() || piece == "."

@@ -1,3 +1,4 @@
+//! Why a tree in memory refuses a change.
 ghost use Rattle.std.specs.Prelude.{Some};
 ghost use Rattle.glob_tree.specs.Words.{tree_refusal_words};
 

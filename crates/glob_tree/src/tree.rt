@@ -1,6 +1,8 @@
+//! Trees: what a walk can ask, and how it is answered.
 ghost use Rattle.std.specs.Prelude.{◌≡◌, ℕ, ◌+◌, Option, IfOk, IfErr};
 ghost use Rattle.glob_tree.specs.Content.{Content, look_result, list_result};
 ghost use Rattle.glob_tree.specs.Answers.{IsTold, IsListAnswer, IsListError, IsNamesAnswer, entries_of, entry_count};
+ghost use Rattle.glob_tree.specs.Looks.{is_directory};
 ghost use Rattle.glob_tree.specs.Words.{list_error_words};
 
 use crate::name::Name;
@@ -19,6 +21,15 @@ pub enum Look {
     Other,
     /// Nothing.
     Missing,
+}
+
+impl Look {
+    /// Whether it is that of a directory: true of `Dir` alone.
+    pub fn is_dir(self) -> bool
+        ensures { result ≡ is_directory self }
+    {
+        matches!(self, Look::Dir)
+    }
 }
 
 /// An entry of a directory, as a listing returns it. The file `b` in it has the name `b`, and is no directory.
@@ -101,8 +112,8 @@ impl From<io::Error> for ListError {
 /// - `tells` is its content, where that is known: what is at each key, and the current directory. Each answer is
 ///   then the content's, allocation failures aside, and no call changes the content. Where a path leads to no
 ///   directory, a listing may return any entries and any error. Where it is `None`, any answer may come.
-/// - `asks` counts what was asked: one for each `look`, and for each `list` or `list_names` one and one for each entry that
-///   it returns. A tree keeps the count in a field of type [`Asks`](crate::Asks).
+/// - `asks` counts what was asked: one for each `look`, and for each `list` or `list_names` one and one for each entry
+///   that it returns. A tree keeps the count in a field of type [`Asks`](crate::Asks).
 ///
 /// Over a tree in memory `tree.look("/")` returns `Look::Dir`, and raises its
 /// `asks` by one.
@@ -125,9 +136,9 @@ pub trait Tree: Drop {
         ensures seen { (c : Content) → IsTold (tells self.old) c
             → IfOk result (λ seen. seen ≡ look_result c path.now) };
 
-    /// The entries of the directory to which `path` leads, each once, in any order: of a directory with the file `b` and
-    /// the directory `c`, `b` with `is_dir` as `false` and `c` with `true`. `.` and `..` are none. It is one question
-    /// more than there are entries.
+    /// The entries of the directory to which `path` leads, each once, in any order: of a directory with the file `b`
+    /// and the directory `c`, `b` with `is_dir` as `false` and `c` with `true`. `.` and `..` are none. It is one
+    /// question more than there are entries.
     ///
     /// [`ListError::Read`] is the reason why it cannot be listed, as that `path` leads to a file or to nothing, and
     /// [`ListError::Memory`] an allocation failure.
@@ -139,11 +150,11 @@ pub trait Tree: Drop {
         ensures fails { (c : Content) → IsTold (tells self.old) c
             → IfErr result (λ e. IsListError (list_result c path.now) e) };
 
-    /// As [`list`](Tree::list), where the names alone matter: `is_dir` may be `false` at any entry. A tree that would have to
-    /// find out what each entry is can leave that out here.
+    /// As [`list`](Tree::list), where the names alone matter: `is_dir` may be `false` at any entry. A tree that would
+    /// have to find out what each entry is can leave that out here.
     ///
-    /// The provided body is [`list`](Tree::list). So of a directory with the directory `a` and the file `b` it returns the
-    /// names `a` and `b`, and says that `a` is a directory. The errors are those of [`list`](Tree::list).
+    /// The provided body is [`list`](Tree::list). So of a directory with the directory `a` and the file `b` it returns
+    /// the names `a` and `b`, and says that `a` is a directory. The errors are those of [`list`](Tree::list).
     fn list_names(&mut self, path: &str) -> Result<Vec<Entry<Self::Alloc>, Self::Alloc>, ListError>
         ensures asks { asks self.new ≡ asks self.old + 1 + entry_count result }
         ensures content { tells self.new ≡ tells self.old }

@@ -14,8 +14,8 @@ use std::{fmt, io};
 pub enum GlobCause {
     /// The directory at the path could not be listed.
     Read,
-    /// Out of memory: an allocation failed, and the walk has ended. Nothing is promised of the error's path; in this version
-    /// it is empty.
+    /// Out of memory: an allocation failed, and the walk has ended. Nothing is promised of the error's path; in this
+    /// version it is empty.
     Memory,
     /// The next unit of work, which is at the path, does not fit the walk's limit. The walk has ended.
     Limit,
@@ -78,7 +78,8 @@ impl<A: Allocator> GlobError<A> {
         }
     }
 
-    /// The path that could not be read: `a` for the directory `a`. Where the cause is `Memory`, nothing is promised of it.
+    /// The path that could not be read: `a` for the directory `a`. Where the cause is `Memory`, nothing is promised of
+    /// it.
     pub fn path(&self) -> Path<'_>
         ensures { path_bytes result ≡ path_of self.now }
     {

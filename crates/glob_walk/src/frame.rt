@@ -36,8 +36,8 @@ pub enum Cursor {
 pub struct Frame<A: Allocator> {
     /// Its path.
     pub path: String<A>,
-    /// The number of the component for which it was listed. One with wildcards is matched with the entries itself. For `**`
-    /// the component after it meets them.
+    /// The number of the component for which it was listed. One with wildcards is matched with the entries itself. For
+    /// `**` the component after it meets them.
     pub component: usize,
     /// Whether that component is `**`.
     pub recursive: bool,
@@ -58,8 +58,8 @@ impl<A: Allocator + Copy> Frame<A> {
         }
     }
 
-    /// Goes to the next cursor, and returns the task that comes of the one before it, if any. Each step leaves fewer steps:
-    /// at most two are left for each entry, and one for each of `..` and `.`.
+    /// Goes to the next cursor, and returns the task that comes of the one before it, if any. Each step leaves fewer
+    /// steps: at most two are left for each entry, and one for each of `..` and `.`.
     pub fn step(&mut self, plan: &Plan<A>) -> Result<Option<Task<A>>, AllocError>
         requires going { is_done_frame self.old ≡ false }
         requires within { self.old.component < vec_len plan.now.components }

@@ -15,6 +15,7 @@ mod task;
 mod turn;
 mod walker;
 
+pub use component::is_recursive;
 pub use ending::{End, end_of};
 pub use error::{GlobCause, GlobError, GlobResult};
 pub use machine::{Answer, Step, WalkMachine};

@@ -30,7 +30,8 @@ use std::marker::Model;
 pub enum Step<A: Allocator = Global> {
     /// It asks what [`path`](WalkMachine::path) leads to, and [`looked`](WalkMachine::looked) answers.
     Look,
-    /// It asks for the entries of the directory at [`path`](WalkMachine::path), and [`listed`](WalkMachine::listed) answers.
+    /// It asks for the entries of the directory at [`path`](WalkMachine::path), and [`listed`](WalkMachine::listed)
+    /// answers.
     List,
     /// It asks for the same, where the names alone matter: `is_dir` may be `false` at any entry.
     /// [`listed`](WalkMachine::listed) answers.
@@ -41,8 +42,8 @@ pub enum Step<A: Allocator = Global> {
     Done,
 }
 
-/// The answer to the question that is open, as [`ask`](WalkMachine::ask) returns it. Where a look at the directory `a` is
-/// asked for, that is an `Answer::Look` with `Look::Dir`.
+/// The answer to the question that is open, as [`ask`](WalkMachine::ask) returns it. Where a look at the directory `a`
+/// is asked for, that is an `Answer::Look` with `Look::Dir`.
 #[derive(Drop)]
 pub enum Answer<A: Allocator = Global> {
     /// No question is open.
@@ -54,8 +55,8 @@ pub enum Answer<A: Allocator = Global> {
 }
 
 /// A walk without a tree: it asks its questions one by one, and whoever drives it answers them from a file system, an
-/// archive or a network, at once or later. Where a [`Tree`](glob_tree::Tree) answers, as in `Paths` of the crate `glob`,
-/// [`advance`](WalkMachine::advance) is the one call that is needed.
+/// archive or a network, at once or later. Where a [`Tree`](glob_tree::Tree) answers, as in `Paths` of the crate
+/// `glob`, [`advance`](WalkMachine::advance) is the one call that is needed.
 ///
 /// ```text
 /// let mut machine = WalkMachine::new(alloc, "*", MatchOptions::new(), 100)?;
@@ -67,9 +68,9 @@ pub enum Answer<A: Allocator = Global> {
 /// ```
 ///
 /// As long as each answer is that of one content, its questions and items are those of the written listing, one after
-/// another: the items so far are a beginning of all of them, and at `Done` all. Whatever is answered, it charges a unit for
-/// each question before it asks it, and one for each entry that is answered, gives at most one item more than it charged
-/// units, never charges more than its limit, and so comes to an end.
+/// another: the items so far are a beginning of all of them, and at `Done` all. Whatever is answered, it charges a unit
+/// for each question before it asks it, and one for each entry that is answered, gives at most one item more than it
+/// charged units, never charges more than its limit, and so comes to an end.
 #[derive(Drop)]
 pub struct WalkMachine<A: Allocator = Global> {
     walker: Walker<A>,
@@ -104,8 +105,8 @@ impl<A: Allocator + Copy> WalkMachine<A> {
     /// A walk after the components of a pattern, with at most `limit` units of work: one for each lookup, one for each
     /// listing, and one for each entry of a listing. It has asked nothing.
     ///
-    /// A pattern with a fault is refused with `Syntax`: the fault of the whole text, or else that of the first component
-    /// that has one. Any pattern may be refused with `Memory`.
+    /// A pattern with a fault is refused with `Syntax`: the fault of the whole text, or else that of the first
+    /// component that has one. Any pattern may be refused with `Memory`.
     pub fn new(
         alloc: A,
         pattern: &str,
@@ -159,8 +160,8 @@ impl<A: Allocator + Copy> WalkMachine<A> {
         self.resume(Answer::Nothing)
     }
 
-    /// The next step, where a tree answers the question that is open, if one is. Calls of it alone make a whole walk: over a
-    /// file `x`, those of `*` return `Look`, `ListNames`, the item `x`, and `Done`.
+    /// The next step, where a tree answers the question that is open, if one is. Calls of it alone make a whole walk:
+    /// over a file `x`, those of `*` return `Look`, `ListNames`, the item `x`, and `Done`.
     ///
     /// The tree is asked at most one question. Its allocation failure makes the step an error with the cause `Memory`.
     pub fn advance<T: Tree<Alloc = A>>(&mut self, tree: &mut T) -> Step<A>
@@ -177,8 +178,8 @@ impl<A: Allocator + Copy> WalkMachine<A> {
         self.resume(answer)
     }
 
-    /// The answer of a tree to the question that is open, and `Nothing` where none is. [`resume`](WalkMachine::resume) takes
-    /// it; [`advance`](WalkMachine::advance) is the two in one.
+    /// The answer of a tree to the question that is open, and `Nothing` where none is. [`resume`](WalkMachine::resume)
+    /// takes it; [`advance`](WalkMachine::advance) is the two in one.
     pub fn ask<T: Tree<Alloc = A>>(&self, tree: &mut T) -> Answer<A>
         ensures content { T.tells tree.new ≡ T.tells tree.old }
         ensures untouched { self.now.asked ≡ None → tree.new ≡ tree.old }
@@ -200,9 +201,9 @@ impl<A: Allocator + Copy> WalkMachine<A> {
         }
     }
 
-    /// Answers the look that is asked for, and returns the next step. Where `*` looks at `.`, `looked(Ok(Look::Dir))` is
-    /// `Step::ListNames`, and `looked(Ok(Look::Missing))` is `Step::Done`. `Err` says that there was no memory to look:
-    /// the step is then an error with the cause `Memory`, and the walk is over.
+    /// Answers the look that is asked for, and returns the next step. Where `*` looks at `.`, `looked(Ok(Look::Dir))`
+    /// is `Step::ListNames`, and `looked(Ok(Look::Missing))` is `Step::Done`. `Err` says that there was no memory to
+    /// look: the step is then an error with the cause `Memory`, and the walk is over.
     pub fn looked(&mut self, seen: Result<Look, AllocError>) -> Step<A>
         requires asked { IsLook self.old.asked }
         ensures failed { IfErr seen (λ _. saying result ≡ Says NoMemory) }
@@ -215,10 +216,10 @@ impl<A: Allocator + Copy> WalkMachine<A> {
         self.resume(Answer::Look(seen))
     }
 
-    /// Answers the listing that is asked for, of entries or of names alone, with its entries in any order, and returns the
-    /// next step, for one unit of work an entry. Where `*` lists `.`, `listed` of the files `y` and `x` gives the item `x`.
-    /// After `Err(ListError::Read(e))` that is an error with the path, the kind of `e` and the cause `Read`, and
-    /// the walk goes on; after `Err(ListError::Memory)` it is one with the cause `Memory`, and the walk is over.
+    /// Answers the listing that is asked for, of entries or of names alone, with its entries in any order, and returns
+    /// the next step, for one unit of work an entry. Where `*` lists `.`, `listed` of the files `y` and `x` gives the
+    /// item `x`. After `Err(ListError::Read(e))` that is an error with the path, the kind of `e` and the cause `Read`,
+    /// and the walk goes on; after `Err(ListError::Memory)` it is one with the cause `Memory`, and the walk is over.
     pub fn listed(&mut self, listed: Result<Vec<Entry<A>, A>, ListError>) -> Step<A>
         requires asked { IsList self.old.asked }
         ensures failed { IfErr listed
@@ -256,8 +257,8 @@ impl<A: Allocator + Copy> WalkMachine<A> {
 }
 
 impl<A: Allocator> WalkMachine<A> {
-    /// The path that is asked for, as `a` where the entries of the directory `a` are, and the empty text where no question
-    /// is open.
+    /// The path that is asked for, as `a` where the entries of the directory `a` are, and the empty text where no
+    /// question is open.
     pub fn path(&self) -> &str
         ensures { result.now ≡ question_path self.now.asked }
     {
@@ -270,8 +271,8 @@ impl<A: Allocator> WalkMachine<A> {
         }
     }
 
-    /// How many units of work were charged, that of an open question too: never more than the limit. It is 1 at the first
-    /// question, and 4 where `*` has looked at a directory, and listed it with two entries.
+    /// How many units of work were charged, that of an open question too: never more than the limit. It is 1 at the
+    /// first question, and 4 where `*` has looked at a directory, and listed it with two entries.
     pub fn spent(&self) -> u64
         ensures spent { result ≡ self.now.spent }
         ensures within { result ≤ self.now.limit }
@@ -279,8 +280,8 @@ impl<A: Allocator> WalkMachine<A> {
         self.walker.meter.spent
     }
 
-    /// How many items were given, a refusal too: at most one more than `spent`. It is 2 where `*` has given two files, and
-    /// 1 where a limit of 0 refused the first unit.
+    /// How many items were given, a refusal too: at most one more than `spent`. It is 2 where `*` has given two files,
+    /// and 1 where a limit of 0 refused the first unit.
     pub fn given(&self) -> u128
         ensures given { result ≡ self.now.given }
         ensures few { result ≤ self.now.spent + 1 }

@@ -1,8 +1,8 @@
 //! What a walk looks for.
 //!
-//! A plan is a pattern that was read once, before the walk: its components in order, each with its kind, the options, and
-//! whether directories alone are given. Neighbouring `**` mean what one of them means, and are read as one. Nothing of it
-//! changes while the walk goes on.
+//! A plan is a pattern that was read once, before the walk: its components in order, each with its kind, the options,
+//! and whether directories alone are given. Neighbouring `**` mean what one of them means, and are read as one. Nothing
+//! of it changes while the walk goes on.
 ghost use Rattle.std.specs.Prelude.{◌≡◌, ◌+◌, ◌<◌, ◌≤◌, [], ◌∷◌, true, false, None, IfOk, IfErr, MatchOption, OnSome, IfNone, drop, vec_len, if◌then◌else◌};
 ghost use Rattle.std.specs.Path.{root_dir, cur_dir};
 ghost use Rattle.glob_text.specs.Pieces.{pieces};
@@ -88,8 +88,8 @@ impl<A: Allocator> Plan<A> {
         }
     }
 
-    /// Whether it matters which of the entries that are met are directories, where the component with the number is `**`
-    /// or has wildcards: not where it is the last, is no `**`, and directories are not wanted.
+    /// Whether it matters which of the entries that are met are directories, where the component with the number is
+    /// `**` or has wildcards: not where it is the last, is no `**`, and directories are not wanted.
     pub fn needs_kinds(&self, number: usize, recursive: bool) -> bool
         requires { number < vec_len self.now.components }
         ensures { result ≡ false → IgnoresKinds self.now number recursive }

@@ -1,10 +1,11 @@
 //! What a walk has still to do.
 //!
-//! The stack of `walkdir` holds a directory for each level, and so does this one, with two differences. What comes next is
-//! a task of its own, kept here before the directories. And a directory in which nothing is left is not on the stack: it
-//! goes, with its names, in its last step. In a directory that `**` is listed for, the last step enters the last entry. It
-//! comes after that entry was met, so the directory stays while the components after `**` go on in the entry. Down a chain
-//! of directories with one entry each, the stack holds at most one directory for each `**` and one more, and not the chain.
+//! The stack of `walkdir` holds a directory for each level, and so does this one, with two differences. What comes next
+//! is a task of its own, kept here before the directories. And a directory in which nothing is left is not on the
+//! stack: it goes, with its names, in its last step. In a directory that `**` is listed for, the last step enters the
+//! last entry. It comes after that entry was met, so the directory stays while the components after `**` go on in the
+//! entry. Down a chain of directories with one entry each, the stack holds at most one directory for each `**` and one
+//! more, and not the chain.
 ghost use Rattle.std.specs.Prelude.{◌≡◌, ◌+◌, ◌<◌, ◌≤◌, ◌++◌, true, false, [], None, Ok, IfOk, OnOk, vec_len};
 ghost use Rattle.glob_tree.specs.Content.{Content};
 ghost use Rattle.glob_walk.specs.Private.Frames.{frame_marks, unmet, IsFrameSound};
@@ -16,8 +17,8 @@ use crate::plan::Plan;
 use crate::task::Task;
 use std::alloc::{AllocError, Allocator};
 
-/// What a walk looks for, and what it has still to do: a task, if there is one, and then what is left in the directories
-/// that it is in, the last first.
+/// What a walk looks for, and what it has still to do: a task, if there is one, and then what is left in the
+/// directories that it is in, the last first.
 #[derive(Drop)]
 pub struct Stack<A: Allocator> {
     /// What it looks for.
@@ -29,8 +30,8 @@ pub struct Stack<A: Allocator> {
 }
 
 impl<A: Allocator + Copy> Stack<A> {
-    /// Takes one step in the last directory, which may leave a task, and lets the directory go if that was its last step.
-    /// The answer is `false` where there is no directory. The weight falls by the step, so steps come to an end.
+    /// Takes one step in the last directory, which may leave a task, and lets the directory go if that was its last
+    /// step. The answer is `false` where there is no directory. The weight falls by the step, so steps come to an end.
     pub fn step(&mut self) -> Result<bool, AllocError>
         requires none { self.old.next ≡ None }
         requires within { IsWithin self.old }

@@ -2,7 +2,7 @@
 
 ghost use Rattle.std.specs.Prelude.{◌≡◌, ◌≤◌, ◌∷◌, None, string_bytes, if◌then◌else◌};
 ghost use Rattle.glob_tree.specs.Content.{Content, look_result};
-ghost use Rattle.glob_tree.specs.Looks.{is_there, is_directory as is_directory_look};
+ghost use Rattle.glob_tree.specs.Looks.{is_there};
 ghost use Rattle.glob_tree.specs.declared.tree.Look.{Look as LookOf};
 ghost use Rattle.glob_walk.specs.Marks.{Work};
 ghost use Rattle.glob_walk.specs.declared.plan.Plan.{Plan as PlanOf};
@@ -19,8 +19,8 @@ pub enum Accepted {
     Any,
     /// Those that say that something is there.
     Present,
-    /// None of them. The path is looked up all the same: its unit is part of the written listing, which is the same whether
-    /// `.` and `..` stand after a directory or after a file.
+    /// None of them. The path is looked up all the same: its unit is part of the written listing, which is the same
+    /// whether `.` and `..` stand after a directory or after a file.
     Nothing,
 }
 
@@ -42,8 +42,8 @@ pub enum TaskState {
     },
 }
 
-/// One thing to do: a path, and the number of the component that is met at it. Past the last component none is left, and
-/// the path is to be given.
+/// One thing to do: a path, and the number of the component that is met at it. Past the last component none is left,
+/// and the path is to be given.
 #[derive(Drop)]
 pub struct Task<A: Allocator> {
     /// The path, as the walk gives it.
@@ -85,16 +85,6 @@ impl Accepted {
     }
 }
 
-/// Whether the answer to a look is that of a directory.
-fn is_directory(seen: Look) -> bool
-    ensures { result ≡ is_directory_look seen }
-{
-    match seen {
-        Look::Dir => true,
-        Look::Other | Look::Missing => false,
-    }
-}
-
 /// The task that follows a look: to go on at the path with the same component, or nothing where the answer is not the
 /// one that is accepted.
 pub fn task_after_look<A: Allocator>(
@@ -115,7 +105,7 @@ pub fn task_after_look<A: Allocator>(
     if !accepted.accepts(seen) {
         return None;
     }
-    let state = TaskState::Seen(is_directory(seen));
+    let state = TaskState::Seen(seen.is_dir());
     Some(Task {
         path,
         component,

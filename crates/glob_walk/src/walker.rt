@@ -1,15 +1,16 @@
 //! The turns of a walk.
 //!
 //! A walk has a [`Stack`]: one [`Task`] or none, and below it the directories that it is in, one [`Frame`] for each. A
-//! turn does the task: it asks for a look at one path, or for the listing of one directory, or gives one path. Where there
-//! is no task, a turn takes one step in the directory on top, and that step may make the next task. What a turn asks for,
-//! the [`Meter`] is charged for first. The task that asks stays on the stack until it is answered.
+//! turn does the task: it asks for a look at one path, or for the listing of one directory, or gives one path. Where
+//! there is no task, a turn takes one step in the directory on top, and that step may make the next task. What a turn
+//! asks for, the [`Meter`] is charged for first. The task that asks stays on the stack until it is answered.
 //!
-//! Nothing here reads a file: whoever drives the walk answers. And nothing calls itself: a walk is a loop of turns. It comes
-//! to a question or an item because a turn that does neither leaves less weight in the stack.
+//! Nothing here reads a file: whoever drives the walk answers. And nothing calls itself: a walk is a loop of turns. It
+//! comes to a question or an item because a turn that does neither leaves less weight in the stack.
 //!
-//! The written listing is what a walk does, mark by mark. Each method of [`Walker`] has the same contract, `TurnsTo`: what
-//! was left of the listing begins with what the turn charged and gave, and what the stack then stands for is the rest.
+//! The written listing is what a walk does, mark by mark. Each method of [`Walker`] has the same contract, `TurnsTo`:
+//! what was left of the listing begins with what the turn charged and gave, and what the stack then stands for is the
+//! rest.
 ghost use Rattle.std.specs.Prelude.{◌≡◌, ◌≢◌, ◌+◌, ◌<◌, ◌≤◌, ◌∷◌, true, false, [], None, string_bytes, vec_len, drop, not, ◌||◌, IfOk, IfErr, Some, if◌then◌else◌};
 ghost use Rattle.glob_tree.specs.Content.{Content};
 ghost use Rattle.glob_walk.specs.Machines.{Says, list_error_outcome};
@@ -65,8 +66,8 @@ impl<A: Allocator + Copy> Walker<A> {
         Turn::Look
     }
 
-    /// Asks for the listing of a directory for a component, which is `**` or has wildcards, for one unit. Where no entry's
-    /// kind matters, names alone are asked for.
+    /// Asks for the listing of a directory for a component, which is `**` or has wildcards, for one unit. Where no
+    /// entry's kind matters, names alone are asked for.
     fn list(&mut self, path: String<A>, component: usize, recursive: bool) -> Turn<A>
         requires limit { self.old.meter.spent ≤ self.old.meter.limit }
         requires none { self.old.stack.next ≡ None }
@@ -92,8 +93,8 @@ impl<A: Allocator + Copy> Walker<A> {
         Turn::List { kinds }
     }
 
-    /// Charges the entries of a directory that was listed, and puts it on the stack with its first cursor. Where names alone
-    /// were asked for, the entries' kinds are not used.
+    /// Charges the entries of a directory that was listed, and puts it on the stack with its first cursor. Where names
+    /// alone were asked for, the entries' kinds are not used.
     fn open(
         &mut self,
         path: String<A>,
@@ -168,8 +169,8 @@ impl<A: Allocator + Copy> Walker<A> {
         self.list(path, number, recursive)
     }
 
-    /// One turn: does the task if there is one, and else takes one step in the directory on top. Where there is neither, the
-    /// walk is done. It calls nothing that calls it.
+    /// One turn: does the task if there is one, and else takes one step in the directory on top. Where there is
+    /// neither, the walk is done. It calls nothing that calls it.
     fn turn(&mut self) -> Turn<A>
         requires limit { self.old.meter.spent ≤ self.old.meter.limit }
         requires within { IsWithin self.old.stack }
@@ -305,7 +306,8 @@ impl<A: Allocator + Copy> Walker<A> {
         }
     }
 
-    /// Takes the answer to the question that is open, or `Nothing` where none is, and goes on to the next question or item.
+    /// Takes the answer to the question that is open, or `Nothing` where none is, and goes on to the next question or
+    /// item.
     fn take_turns(&mut self, answer: Answer<A>) -> Turn<A>
         requires limit { self.old.meter.spent ≤ self.old.meter.limit }
         requires within { IsWithin self.old.stack }
@@ -325,8 +327,8 @@ impl<A: Allocator + Copy> Walker<A> {
         }
     }
 
-    /// The turn that [`take_turns`](Walker::take_turns) ends with. Where no item follows it, as after a refusal, nothing stays on the
-    /// stack, since a walk that is over may be kept for long.
+    /// The turn that [`take_turns`](Walker::take_turns) ends with. Where no item follows it, as after a refusal,
+    /// nothing stays on the stack, since a walk that is over may be kept for long.
     pub fn proceed(&mut self, answer: Answer<A>) -> Turn<A>
         requires limit { self.old.meter.spent ≤ self.old.meter.limit }
         requires within { IsWithin self.old.stack }

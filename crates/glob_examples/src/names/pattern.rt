@@ -91,8 +91,8 @@ impl<A: Allocator + Copy> PathPattern<A> {
     }
 }
 
-/// Adds a component and its shape. A component that is no pattern is refused with its fault. Any is refused if allocation
-/// fails.
+/// Adds a component and its shape. A component that is no pattern is refused with its fault. Any is refused if
+/// allocation fails.
 fn push_component<A: Allocator + Copy>(
     alloc: A,
     components: &mut Vec<Pattern<A>, A>,

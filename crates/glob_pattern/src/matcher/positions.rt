@@ -1,6 +1,6 @@
-//! A bit-parallel automaton (NFA). Its states are positions: which numbers of leading tokens may have split the characters
-//! so far. Bit n of a word is set where the tokens before the word's nth are done, or the nth has begun and may go on. A
-//! character moves all positions at once.
+//! A bit-parallel automaton (NFA). Its states are positions: which numbers of leading tokens may have split the
+//! characters so far. Bit n of a word is set where the tokens before the word's nth are done, or the nth has begun and
+//! may go on. A character moves all positions at once.
 ghost use Rattle.std.specs.Prelude.{◌≡◌, ℕ, ◌+◌, ◌-◌, ◌*◌, ◌^◌, ◌<◌, ◌≤◌, ◌↔◌, false, length, slice_index, slice_index_or, IsTrue, IsOk, IfOk, IsSome, IfSome, bit_and, map};
 ghost use Rattle.glob_pattern.specs.Matching.Splits.{Table};
 ghost use Rattle.glob_pattern.specs.Private.Prefixes.{IsAlive, IsTakenPrefix};
@@ -40,7 +40,7 @@ impl Span {
 }
 
 /// Whether the shapes before the span's end split the characters. With one word it allocates nothing, and the call
-/// succeeds.
+/// succeeds. Contracts alone read `tokens`, here and below: no body does.
 #[inline(always)]
 pub fn decide<A: Allocator + Copy, T: Shaped, J: Judge>(
     alloc: A,
@@ -119,8 +119,8 @@ fn run<T: Shaped, J: Judge>(
     true
 }
 
-/// Steps over a character and asks the tokens of the first word that are alive. Returns those that take it, or `None` if
-/// no character is left.
+/// Steps over a character and asks the tokens of the first word that are alive. Returns those that take it, or `None`
+/// if no character is left.
 #[inline(always)]
 fn ask_next<T: Shaped, J: Judge>(
     tokens: &[T],
@@ -200,6 +200,7 @@ fn is_alive<T: Shaped>(tokens: &[T], alive: &[u64], position: usize) -> bool
         → AreAlive table (map T.shape tokens.now) k 0 (length alive.now) alive.now
         → IsTrue result ↔ IsAlive table (map T.shape tokens.now) position k }
 {
+    // A position on a border of two words is read as the last bit of the first of them.
     let word = position.saturating_sub(1) / WORD;
     (alive[word] >> (position - WORD * word)) & 1 != 0
 }

@@ -84,7 +84,7 @@ impl ShapeWord {
     pub fn step(self, took: u64, opens: bool, whole: bool) -> u64
         ensures alive { LeadsTo self took opens whole result }
 
-        // Where no token took it whose piece must end at a component start, the same holds where none starts.
+        // Where no `**` that others follow took it, `opens` changes nothing.
         ensures unbound { bit_and took self.recursive ≡ 0 → LeadsTo self took false whole result }
     {
         // A piece that ends lets the next token begin. A wildcard that begins may be empty, so that the one after it

@@ -3,7 +3,7 @@ ghost use Rattle.std.specs.Prelude.{◌≡◌, ℕ, ◌+◌, ◌<◌, ◌≤◌,
 ghost use Rattle.std.specs.Char.{is_ascii_alphabetic, to_ascii_lowercase, to_ascii_uppercase};
 ghost use Rattle.std.specs.List.{list_any};
 ghost use Rattle.glob_pattern.specs.Grammar.Brackets.{is_same, in_range, entry_holds, holds};
-ghost use Rattle.glob_pattern.specs.Grammar.Tokens.{Token as Kept, is_recursive};
+ghost use Rattle.glob_pattern.specs.Grammar.Tokens.{Token as TokenOf, is_recursive};
 ghost use Rattle.glob_pattern.specs.Private.CharMasks.{AreCharMasks, IsCharMasks, AreListed, AreMasks, IsWith};
 ghost use Rattle.glob_pattern.specs.Private.CharMasks.{class_of, mask_at, ascii_class, lists};
 ghost use Rattle.glob_pattern.specs.Private.CharMasks.{is_beyond, is_undecided, is_bracket, takes_all_but_listed};
@@ -111,7 +111,7 @@ impl CharMasks {
     /// Makes the masks of the tokens that list a character those of the tokens that take it.
     #[inline(always)]
     fn finish(&mut self, kinds: Kinds)
-        ensures { (tokens : List Kept) (start end : ℕ)
+        ensures { (tokens : List TokenOf) (start end : ℕ)
             → AreListed tokens start end self.old.masks kinds
             → AreMasks tokens start end self.new }
     {

@@ -32,7 +32,7 @@ pub struct Compiled<A: Allocator> {
     // their shapes as bits: those of the first 63 tokens, and if there are more tokens, those of all
     first: ShapeWord,
     words: Vec<ShapeWord, A>,
-    // none where wildcards alone are between the ends, unless there are more than 63 tokens
+    // none where nothing, or with at most 63 tokens wildcards alone, is between the ends
     masks: Vec<CharMasks, A>,
     prefilter: Prefilter,
 }
@@ -96,9 +96,9 @@ impl<A: Allocator + Copy> Compiled<A> {
             shape_words(alloc, list)?
         };
         let between = &list[prefilter.lead..list.len() - prefilter.trail];
-        let listed = between.iter().any(|token| token.shape() == Shape::One);
+        let has_one = between.iter().any(|token| token.shape() == Shape::One);
         let is_long = !between.is_empty() && list.len() > WORD;
-        let masks = masks_of(alloc, list, listed || is_long)?;
+        let masks = masks_of(alloc, list, has_one || is_long)?;
         Ok(Compiled {
             first: ShapeWord::new(list, 0),
             tokens,
@@ -134,8 +134,8 @@ impl<A: Allocator + Copy> Compiled<A> {
         })
     }
 
-    /// Whether the tokens match the text, of which [`trim`](Self::trim) has decided the ends. With at most 63 tokens the
-    /// call succeeds.
+    /// Whether the tokens match the text, of which [`trim`](Self::trim) has decided the ends. With at most 63 tokens
+    /// the call succeeds.
     #[inline(never)]
     pub fn matches(
         &self,
@@ -173,13 +173,18 @@ impl<A: Allocator + Copy> Compiled<A> {
             (λ counted. IsTrue counted.0 → length (chars text.now) ≤ counted.1) }
         ensures short { length self.now < 64 → IsOk result }
     {
-        self.run(text, Span::all(self.tokens.len()), options)
+        self.run_counted(text, Span::all(self.tokens.len()), options)
     }
 
-    /// Whether the tokens before the span's end split the text, whose characters before its start have a token each, and
-    /// how many questions it took. With at most 63 tokens the call succeeds.
+    /// Whether the tokens before the span's end split the text, whose characters before its start have a token each,
+    /// and how many questions it took. With at most 63 tokens the call succeeds.
     #[inline(always)]
-    fn run(&self, text: &str, span: Span, options: MatchOptions) -> Result<(bool, u128), AllocError>
+    fn run_counted(
+        &self,
+        text: &str,
+        span: Span,
+        options: MatchOptions,
+    ) -> Result<(bool, u128), AllocError>
         requires within { span.start ≤ length text.now }
         requires ascii { IsAscii (take span.start text.now) }
         requires ready { (words : List ShapeWord) → AreShapeWords (map shape_of self.now) words
@@ -202,7 +207,7 @@ impl<A: Allocator + Copy> Compiled<A> {
         Ok((answer, judge.asked()))
     }
 
-    /// [`run`](Self::run) without the count, by a judge that needs no masks where there are none.
+    /// [`run_counted`](Self::run_counted) without the count, by a judge that needs no masks where there are none.
     #[inline(always)]
     fn run_span(&self, text: &str, span: Span, options: MatchOptions) -> Result<bool, AllocError>
         requires within { span.start ≤ length text.now }
@@ -218,7 +223,7 @@ impl<A: Allocator + Copy> Compiled<A> {
         ensures short { length self.now < 64 → IsOk result }
     {
         if !self.masks.is_empty() || self.tokens.len() > WORD {
-            let (answer, _) = self.run(text, span, options)?;
+            let (answer, _) = self.run_counted(text, span, options)?;
             return Ok(answer);
         }
         let tokens = self.tokens.as_slice();
@@ -242,8 +247,8 @@ impl<A: Allocator + Copy> Compiled<A> {
         }
     }
 
-    /// The bit of the last token before number `end`, if it is a wildcard that takes all that is left of any text: once it
-    /// is alive, these tokens match.
+    /// The bit of the last token before number `end`, if it is a wildcard that takes all that is left of any text: once
+    /// it is alive, these tokens match.
     #[inline(always)]
     fn enough(&self, end: usize, options: MatchOptions) -> u64
         ensures { (text : Text) (j : ℕ) → IsBitSet result j

@@ -29,7 +29,8 @@ pub struct TextJudge<'a, A: Allocator> {
     options: MatchOptions,
     text: &'a str,
     rest: Chars<'a>,
-    // the character last stepped over and the one before it: `/` comes before the text, too, since a component starts there
+    // the character last stepped over and the one before it: `/` comes before the text, too, since a component starts
+    // there
     current: char,
     before: char,
     count: u128,
@@ -153,7 +154,7 @@ impl<A: Allocator> Judge for TextJudge<'_, A> {
         self.count += u128::from(asked.count_ones());
         let opening = self.before == '/';
         let Some(masks) = self.masks.get(word) else {
-            // Where there are no masks, matches go by `SpanJudge`, and only counted ones come here.
+            // Without masks only counted matches come here, and those by more than 63 tokens of one character each.
             let options = self.options;
             return take_left(self.tokens, word, asked, options, opening, self.current);
         };

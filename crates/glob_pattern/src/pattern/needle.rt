@@ -108,7 +108,8 @@ fn may_hold(bytes: &[u8], needle: &[u8]) -> bool
     false
 }
 
-/// Whether the needle is at an offset of which `found` has the bit, in either case: bit k is of the kth from `start` on.
+/// Whether the needle is at an offset of which `found` has the bit, in either case: bit k is of the kth from `start`
+/// on.
 #[inline(always)]
 fn is_at_any(bytes: &[u8], needle: &[u8], start: usize, found: u64) -> bool
     requires { start < length bytes.now }

@@ -1,5 +1,5 @@
-//! What rejects most texts that do not match before a character is stepped over: the tokens of one character at both ends
-//! of a pattern, and bytes that each matching text contains.
+//! What rejects most texts that do not match before a character is stepped over: the tokens of one character at both
+//! ends of a pattern, and bytes that each matching text contains.
 ghost use Rattle.std.specs.Prelude.{◌≡◌, ◌≤◌, map, IsTrue, MatchOption, chars};
 ghost use Rattle.std.specs.Str.{is_utf8};
 ghost use Rattle.glob_pattern.specs.Grammar.Tokens.{shape_of};

@@ -65,8 +65,8 @@ pub fn token_kind<A: Allocator>(pattern: &Pattern<A>, token: usize) -> TokenKind
     }
 }
 
-/// Whether the token of this number, counted from 0, takes the character. `opening`: a component starts at its place. So
-/// token 1 of `a*` takes any character.
+/// Whether the token of this number, counted from 0, takes the character. `opening`: a component starts at its place.
+/// So token 1 of `a*` takes any character.
 #[inline(always)]
 pub fn token_takes<A: Allocator>(
     pattern: &Pattern<A>,

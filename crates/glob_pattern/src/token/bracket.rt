@@ -1,3 +1,4 @@
+//! Brackets: which characters they hold.
 ghost use Rattle.std.specs.Prelude.{◌≡◌, IfOk};
 ghost use Rattle.glob_pattern.specs.Grammar.Brackets.{entries_of, is_same, in_folded_range, entry_holds, holds};
 
@@ -119,8 +120,8 @@ fn read_entries<A: Allocator>(alloc: A, content: &[char]) -> Result<Vec<Entry, A
     Ok(entries)
 }
 
-/// Whether `c` and `x` are the same character. Case-insensitively, two of ASCII are also the same if their lowercase forms
-/// are.
+/// Whether `c` and `x` are the same character. Case-insensitively, two of ASCII are also the same if their lowercase
+/// forms are.
 pub fn is_same(case_sensitive: bool, c: char, x: char) -> bool
     ensures { result ≡ is_same case_sensitive c x }
 {

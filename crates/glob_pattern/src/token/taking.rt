@@ -1,3 +1,4 @@
+//! Which characters a token takes under the options.
 ghost use Rattle.std.specs.Prelude.{◌≡◌};
 ghost use Rattle.glob_pattern.specs.Matching.Components as components;
 ghost use Rattle.glob_pattern.specs.Matching.Taking as taking;

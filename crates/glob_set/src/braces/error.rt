@@ -1,3 +1,4 @@
+//! Why braces are refused.
 ghost use Rattle.std.specs.Prelude.{Some};
 ghost use Rattle.glob_set.specs.Words.{brace_error_words, brace_refusal_words};
 

@@ -6,8 +6,8 @@ use glob_pattern::{MatchOptions, Pattern, PatternRefusal};
 use std::alloc::{AllocError, Allocator};
 use std::path::Path;
 
-/// Parses a pattern's text, which gives an equal pattern: `new` of the text of `a*` is again `a*`. The error is a failed
-/// allocation.
+/// Parses a pattern's text, which gives an equal pattern: `new` of the text of `a*` is again `a*`. The error is a
+/// failed allocation.
 pub fn text_is_an_equal_pattern<A: Allocator + Copy, B: Allocator>(
     alloc: A,
     pattern: &Pattern<B>,
@@ -22,8 +22,8 @@ pub fn text_is_an_equal_pattern<A: Allocator + Copy, B: Allocator>(
     }
 }
 
-/// Whether `matches_path_with` answers on a path as `matches_with` does on its text. It always does. The error is a failed
-/// allocation.
+/// Whether `matches_path_with` answers on a path as `matches_with` does on its text. It always does. The error is a
+/// failed allocation.
 pub fn path_matches_as_its_text<A: Allocator + Copy>(
     pattern: &Pattern<A>,
     path: Path<'_>,

@@ -27,9 +27,9 @@ pub fn plain_walk_is_orderly()
     ensures { PlainWalkOrderly }
 {}
 
-/// A descent by `**` below a directory, which the written listing cuts at a number of levels, is not changed by the cut:
-/// more levels than the longest key has names give the same marks. So over `d/x` alone, which has two names, three levels
-/// give what a hundred give.
+/// A descent by `**` below a directory, which the written listing cuts at a number of levels, is not changed by the
+/// cut: more levels than the longest key has names give the same marks. So over `d/x` alone, which has two names, three
+/// levels give what a hundred give.
 pub fn enough_levels_give_the_same_marks()
     ensures { EnoughLevelsAgree }
 {}

@@ -1,35 +1,53 @@
-use Rattle.std.proofs.Common.{◌≡◌, ◌-◌, arith}
+-- All shapes, in one word or in several.
+use Rattle.std.proofs.Common.{◌≡◌, ◌-◌, ◌<◌, ◌↔◌, ℕ, List, Bool, Result, IfOk, IsTrue, length, arith}
 use Rattle.std.proofs.lemmas.List.{map-id}
 use Rattle.std.proofs.lemmas.Result.{IfOk-weaker}
+use Rattle.glob_pattern.specs.Matching.Splits.{Table, Splits}
+use Rattle.glob_pattern.specs.Private.Prefixes.{IsAlive}
+use Rattle.glob_pattern.specs.declared.matcher.Shape.{Shape}
 use Rattle.glob_pattern.proofs.PositionLemmas.Alive.{Splits-iff_alive}
 use Rattle.glob_pattern.proofs.PositionLemmas.Running.{one-word, CanRun-all}
 use Rattle.glob_pattern.proofs.matcher.run_positions.Goals as goal
 
+-- whether all shapes are alive at the end is whether they split the characters
+Splits-answer : {E : Type 0} (table : Table) (shapes : List Shape) (end : ℕ) (r : Result Bool E) → end ≡ length shapes
+    → IfOk r (λ yes. IsTrue yes ↔ IsAlive table shapes end table.characters)
+    → IfOk r (λ yes. IsTrue yes ↔ Splits table shapes)
+Splits-answer table shapes end r all answer =
+    let split = Splits-iff_alive table shapes in
+    IfOk-weaker r _ _ (λ yes h. (λ t. split.1 (h.0 t), λ s. h.1 (split.0 s))) (rw all at answer)
+
 pub decide-requires : goal.decide-requires
 decide-requires g c =
     let span = c.all-span.ensures in
-    let same = map-id c.args.shapes.now in
-    rw same (CanRun-all (g.J.Judge.table c.args.judge.now) c.args.shapes.now _ c.all-span.result _ _ (one-word c.args.shapes.now c.new.result (omega (arith, c.if-shapes-le-WORD.true)) (rw same at c.new.ensures))
+    let shapes = c.args.shapes.now in
+    let same = map-id shapes in
+    let few : length shapes < 64 = omega (arith, c.if-shapes-le-WORD.true) in
+    rw same (CanRun-all (g.J.Judge.table c.args.judge.now) shapes _ c.all-span.result _ _
+    (one-word shapes c.new.result few (rw same at c.new.ensures))
     span.start span.end span.enough (omega arith) c.requires.tokens c.requires.start c.requires.room)
 
 pub decide-requires-else-shapes-le-WORD : goal.decide-requires-else-shapes-le-WORD
 decide-requires-else-shapes-le-WORD g c =
     let span = c.all-span.ensures in
-    let same = map-id c.args.shapes.now in
-    rw same (CanRun-all (g.J.Judge.table c.args.judge.now) c.args.shapes.now _ c.all-span.result _ _ (rw c.as_slice.ensures.value (rw same at c.in_ok-words.ensures))
+    let shapes = c.args.shapes.now in
+    let same = map-id shapes in
+    rw same (CanRun-all (g.J.Judge.table c.args.judge.now) shapes _ c.all-span.result _ _
+    (rw c.as_slice.ensures.value (rw same at c.in_ok-words.ensures))
     span.start span.end span.enough (omega arith) c.requires.tokens c.requires.start c.requires.room)
 
 pub returns-then-shapes-le-WORD-clause-answer : goal.returns-then-shapes-le-WORD-clause-answer
 returns-then-shapes-le-WORD-clause-answer g c =
-    let split = Splits-iff_alive (g.J.Judge.table c.args.judge.now) c.args.shapes.now in
-    let answer = rw (map-id c.args.shapes.now, c.all-span.ensures.end) at c.decide.ensures.answer in
-    IfOk-weaker c.decide.result _ _ (λ yes h. (λ t. split.1 (h.0 t), λ s. h.1 (split.0 s))) answer
+    let shapes = c.args.shapes.now in
+    Splits-answer (g.J.Judge.table c.args.judge.now) shapes _ c.decide.result c.all-span.ensures.end
+    (rw (map-id shapes) at c.decide.ensures.answer)
 
 pub returns-in_ok-words-clause-answer : goal.returns-in_ok-words-clause-answer
 returns-in_ok-words-clause-answer g c =
-    let split = Splits-iff_alive (g.J.Judge.table c.args.judge.now) c.args.shapes.now in
-    let answer = rw (map-id c.args.shapes.now, c.all-span.ensures.end) at c.decide-else-shapes-le-WORD.ensures.answer in
-    IfOk-weaker c.decide-else-shapes-le-WORD.result _ _ (λ yes h. (λ t. split.1 (h.0 t), λ s. h.1 (split.0 s))) answer
+    let shapes = c.args.shapes.now in
+    let run = c.decide-else-shapes-le-WORD in
+    Splits-answer (g.J.Judge.table c.args.judge.now) shapes _ run.result c.all-span.ensures.end
+    (rw (map-id shapes) at run.ensures.answer)
 
 pub returns-then-shapes-le-WORD-clause-most : goal.returns-then-shapes-le-WORD-clause-most
 returns-then-shapes-le-WORD-clause-most g c =
@@ -37,17 +55,19 @@ returns-then-shapes-le-WORD-clause-most g c =
     let all : characters - c.all-span.result.start ≡ characters = omega (arith, c.all-span.ensures.start) in
     rw (map-id c.args.shapes.now, all) at c.decide.ensures.most
 
-pub returns-then-shapes-le-WORD-clause-least : goal.returns-then-shapes-le-WORD-clause-least
-returns-then-shapes-le-WORD-clause-least g c =
-    IfOk-weaker c.decide.result _ _ (λ yes asks t. omega (arith, asks t c.all-span.ensures.enough, c.all-span.ensures.start)) c.decide.ensures.least
-
 pub returns-in_ok-words-clause-most : goal.returns-in_ok-words-clause-most
 returns-in_ok-words-clause-most g c =
     let characters = (g.J.Judge.table c.args.judge.now).characters in
     let all : characters - c.all-span.result.start ≡ characters = omega (arith, c.all-span.ensures.start) in
     rw (map-id c.args.shapes.now, all) at c.decide-else-shapes-le-WORD.ensures.most
 
+pub returns-then-shapes-le-WORD-clause-least : goal.returns-then-shapes-le-WORD-clause-least
+returns-then-shapes-le-WORD-clause-least g c =
+    let all = c.all-span.ensures in
+    IfOk-weaker c.decide.result _ _ (λ yes asks t. omega (arith, asks t all.enough, all.start)) c.decide.ensures.least
+
 pub returns-in_ok-words-clause-least : goal.returns-in_ok-words-clause-least
 returns-in_ok-words-clause-least g c =
     let all = c.all-span.ensures in
-    IfOk-weaker c.decide-else-shapes-le-WORD.result _ _ (λ yes asks t. omega (arith, asks t all.enough, all.start)) c.decide-else-shapes-le-WORD.ensures.least
+    let run = c.decide-else-shapes-le-WORD in
+    IfOk-weaker run.result _ _ (λ yes asks t. omega (arith, asks t all.enough, all.start)) run.ensures.least

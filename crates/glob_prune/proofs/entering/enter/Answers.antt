@@ -18,25 +18,25 @@ loop-piece-init g c =
       begins_way (g.X.Exclusion.excludes c.args.exclusion.now) c.args.path.now _ c.clear.ensures.bytes,
     )
 
-pub loop-piece-preserved-then-is_passed : goal.loop-piece-preserved-then-is_passed
-loop-piece-preserved-then-is_passed g c =
+pub loop-piece-preserved-then-stays : goal.loop-piece-preserved-then-stays
+loop-piece-preserved-then-stays g c =
     let (rest, left, way) = c.loop-piece.invariant in
     let (ys, first, more) = left_after (split_steps FindsChar (λ a b. b ≡ a)) (λ x. x.now) c.loop-piece.piece-iterator c.next.new.self c.next.result c.in-Some.piece c.next.ensures.steps c.in-Some.is rest left in
-    let passed : stays c.in-Some.piece.now ≡ true = sym c.is_passed.ensures ∙ c.if-is_passed.true in
+    let passed : stays c.in-Some.piece.now ≡ true = sym c.stays.ensures ∙ c.if-stays.true in
     (ys, more, stays_on_way (g.X.Exclusion.excludes c.args.exclusion.now) c.args.path.now _ rest way c.in-Some.piece.now ys first passed)
 
 pub returns-then-not-branch-clause-entered : goal.returns-then-not-branch-clause-entered
 returns-then-not-branch-clause-entered g c =
     let (rest, left, way) = c.loop-piece.invariant in
     let (ys, first, more) = left_after (split_steps FindsChar (λ a b. b ≡ a)) (λ x. x.now) c.loop-piece.piece-iterator c.next.new.self c.next.result c.in-Some.piece c.next.ensures.steps c.in-Some.is rest left in
-    let named : stays c.in-Some.piece.now ≡ false = sym c.is_passed.ensures ∙ c.if-is_passed.false in
+    let named : stays c.in-Some.piece.now ≡ false = sym c.stays.ensures ∙ c.if-stays.false in
     ends_way (g.X.Exclusion.excludes c.args.exclusion.now) c.args.path.now _ rest way c.in-Some.piece.now ys first named (sym c.if-not-branch.true ∙ c.in_ok-add_name.ensures.open)
 
 pub loop-piece-preserved : goal.loop-piece-preserved
 loop-piece-preserved g c =
     let (rest, left, way) = c.loop-piece.invariant in
     let (ys, first, more) = left_after (split_steps FindsChar (λ a b. b ≡ a)) (λ x. x.now) c.loop-piece.piece-iterator c.next.new.self c.next.result c.in-Some.piece c.next.ensures.steps c.in-Some.is rest left in
-    let named : stays c.in-Some.piece.now ≡ false = sym c.is_passed.ensures ∙ c.if-is_passed.false in
+    let named : stays c.in-Some.piece.now ≡ false = sym c.stays.ensures ∙ c.if-stays.false in
     (ys, more, goes_on (g.X.Exclusion.excludes c.args.exclusion.now) c.args.path.now _ rest way c.in-Some.piece.now ys first named (sym c.if-not-branch.false ∙ c.in_ok-add_name.ensures.open) _ (c.in_ok-add_name.ensures.names c.if-not-branch.false))
 
 pub returns-clause-entered : goal.returns-clause-entered

@@ -5,8 +5,8 @@ use Rattle.glob_pattern.specs.Grammar.Tokens.{shape_of}
 use Rattle.glob_pattern.proofs.MatchingLemmas.Running.{CanRun-text, TokensMatch-by_run}
 use Rattle.glob_pattern.proofs.pattern.compiled.Compiled.matches_counted.Goals as goal
 
-pub run-requires-clause-ready : goal.run-requires-clause-ready
-run-requires-clause-ready g c = λ words shaped.
+pub run_counted-requires-clause-ready : goal.run_counted-requires-clause-ready
+run_counted-requires-clause-ready g c = λ words shaped.
     let span = c.all.ensures in
     let tokens = c.args.self.now in
     let many : c.len.result ≡ length tokens = omega (arith, c.len.ensures, ap length c.self.view_is) in
@@ -18,13 +18,13 @@ returns-clause-answer g c =
     let tokens = c.args.self.now in
     let many : c.len.result ≡ length tokens = omega (arith, c.len.ensures, ap length c.self.view_is) in
     let all = c.all.ensures.end ∙ many ∙ sym (length-map tokens shape_of) in
-    IfOk-weaker c.run.result _ _ (λ counted. TokensMatch-by_run c.args.options tokens (chars c.args.text.now) c.all.result.end all) c.run.ensures.answer
+    IfOk-weaker c.run_counted.result _ _ (λ counted. TokensMatch-by_run c.args.options tokens (chars c.args.text.now) c.all.result.end all) c.run_counted.ensures.answer
 
 pub returns-clause-most : goal.returns-clause-most
 returns-clause-most g c =
     let left : length (chars c.args.text.now) - c.all.result.start ≡ length (chars c.args.text.now) = omega (arith, c.all.ensures.start) in
-    rw left at c.run.ensures.most
+    rw left at c.run_counted.ensures.most
 
 pub returns-clause-least : goal.returns-clause-least
 returns-clause-least g c =
-    IfOk-weaker c.run.result _ _ (λ counted least yes. omega (arith, least yes c.all.ensures.enough, c.all.ensures.start)) c.run.ensures.least
+    IfOk-weaker c.run_counted.result _ _ (λ counted least yes. omega (arith, least yes c.all.ensures.enough, c.all.ensures.start)) c.run_counted.ensures.least

@@ -2,7 +2,7 @@ use Rattle.std.proofs.Common.{◌≡◌, length, map, ap, ◌∙◌, arith}
 use Rattle.std.proofs.lemmas.List.{length-map}
 use Rattle.glob_pattern.specs.Grammar.Tokens.{shape_of}
 use Rattle.glob_pattern.specs.Private.TextTable.{table_of}
-use Rattle.glob_pattern.proofs.pattern.compiled.Compiled.run.Goals as goal
+use Rattle.glob_pattern.proofs.pattern.compiled.Compiled.run_counted.Goals as goal
 
 pub new-judge-requires-clause-masks : goal.new-judge-requires-clause-masks
 new-judge-requires-clause-masks g c = rw (c.as_slice-tokens.ensures.value, c.as_slice-masks.ensures.value) c.self.invariant.masked
