@@ -38,17 +38,17 @@ Quote a pattern: globs find '**/*.rs'. A shell would expand it otherwise.
 
 Patterns:
   ?         any one character
-  *         any characters, also none. In find no ?, * or bracket takes a /; elsewhere -s says so
+  *         any characters, or none. In find no ?, * or bracket takes a /; elsewhere -s says so
   **        any number of whole components: **, **/a, a/** and a/**/b
   [abc]     a, b or c; [a-c] one from a to c; [!a-c] one that is not
-  [*]       a * alone. So are the others written: [?], [[], []], [{] and [}]
+  [*]       a literal *. The others are written likewise: [?], [[], []], [{] and [}]
   a.{c,h}   a.c and a.h, for find and match. Alternatives may be empty, or have braces of their own
 
 Options stand before the patterns, files or texts, each a word of its own: -t f, not -tf, and
 --max-depth 2, not --max-depth=2. -- ends them: what is after it may begin with -.
 
 Status:
-  0         something was written
+  0         something was found, copied or matched; for escape and help, all was written
   1         nothing was found, copied or matched
   2         a fault: lines on standard error, none where the reader of the output goes away
 ";
@@ -64,36 +64,38 @@ globs help shows what a PATTERN may have: ?, *, **, brackets and braces.
   -0             each path ends in a NUL in place of a line feed
   -i             ASCII letters in either case are the same
   -d             neither wildcards nor brackets take a . at the start of a name
-  -L             a symbolic link to a directory is one, and is entered. One that leads back up is
-                 reported, and is none. Without -L nothing is below a link: link/a is not found
+  -L             a symbolic link to a directory is one, and is entered. One that leads back to a
+                 directory of its own path, from the current directory on, is reported, and is none.
+                 Without -L nothing is below a link: link/a is not found
   -n LIMIT       the walk spends at most LIMIT units: one for each lookup, listing and entry. At the
                  limit the output is incomplete, and a line says so
   -t KIND        -t d writes only directories. -t f writes all else: files, pipes, devices, and
                  symbolic links, unless -L makes one a directory
-  -x RULE        ignore what RULE names, as a line of an ignore file: -x target -x '*.o' -x '!a.o'
-  --ignore FILE  ignore what the rules of FILE name, as gitignore(5) has them, which are taken from
-                 the current directory: --ignore .gitignore. Each -x comes after all files
-  --max-depth N  pass over paths of more than N names. A directory of N names is not listed
+  -x RULE        ignore what RULE names, as a line of an ignore file: -x target -x '*.o' -x '!a.o'.
+                 In a rule braces are characters, [^a] is [!a], and case counts, with -i too
+  --ignore FILE  ignore what the rules of FILE name, which are taken from the current directory:
+                 --ignore .gitignore. See globs help ignore. Rules of -x come after those of files
+  --max-depth N  write no path of more than N names. A directory of N names is not listed
   --             ends the options. A pattern that begins with - needs it
 
 A pattern matches a whole path, as src/main.rs, where no ?, * or bracket takes a /: '*.rs' is of
 names here, and '**/*.rs' also of those below. One that begins or ends with /, or has an empty
 component, . or .., is refused.
 
-Nothing is passed over by itself: neither names that begin with a . (see -d), nor what .gitignore
+Nothing is skipped by default: neither names that begin with a . (see -d), nor what .gitignore
 names (--ignore .gitignore), nor .git (-x .git).
 
 Each path that one of the patterns matches is written once, in ascending byte order of its names.
 What is ignored is never listed, nor what is below it. Without -i one pattern usually enters only
-directories that it can reach, and several only those that what all begin with can: 'src/*.{c,h}'
-lists src alone. Where one pattern finds nothing and has a form of another tool, as ~/ or +(a), a
-line on standard error says what that is here.
+directories that it can reach, and several only those that their common beginning can reach:
+'src/*.{c,h}' lists src alone. Where one pattern finds nothing and contains a form of another tool,
+such as ~/ or [^a], a line on standard error says what that is here.
 
 Status:
   0         a path was written
   1         no path was found
   2         a fault, a directory that could not be listed, a path that could not be looked up, a
-            name that is not UTF-8, a link that leads back up, or the limit
+            name that is not UTF-8, ignored or not, a link that leads back, or the limit
 ";
 
 /// The page of `match`.
@@ -131,7 +133,8 @@ globs ignore: the paths of standard input that ignore files do not ignore
 
 FILE has rules as gitignore(5) has them, one a line, for the paths below one directory. Where rules
 of several files speak of a path, the last of them decides. A wildcard takes a character where git
-takes a byte, case counts, and a line with an unknown class, as [[:word:]], is refused.
+takes a byte, and case counts. A line is refused if a bracket has an unknown class, as [[:word:]],
+or a character beyond ASCII, or if two stars are right behind plain text, as in src/a**/b.
 
 Paths: a path is the names from that directory on, with a / between them, as git ls-files -z writes
 them. One that ends in / is that of a directory. A ./ at its start is passed over; . and the empty
@@ -145,7 +148,7 @@ last may lack. A carriage return belongs to its line.
 Status:
   0         a path was copied
   1         no path was copied
-  2         a fault, as a line of FILE that is refused, which is named by its number, or a path that
+  2         a fault, such as a refused line of FILE, which is named by its number, or a path that
             is not UTF-8
 ";
 
@@ -172,8 +175,8 @@ is written as \\r or \\u{1b}.
 Status:
   0         the pattern matches the text
   1         it does not match
-  2         a fault. That of a pattern that is refused is followed by the pattern, a caret under the
-            fault, and what to write instead
+  2         a fault. That of a pattern that is refused is followed by the pattern, a caret at its
+            place, and what to write instead
 ";
 
 /// The page of `escape`.
@@ -184,8 +187,9 @@ globs escape: the patterns that match texts alone
 
   --  ends the options, of which there are no others. A TEXT that begins with - needs it
 
-It writes a line for each TEXT: the pattern that matches this text and no other, under each option
-but -i. So *.rs is written as [*].rs, and {a} as [{]a[}], which find and match do not expand.
+For each TEXT it writes the pattern that matches this text and no other, under each option but -i,
+and a line feed. So *.rs is written as [*].rs, and {a} as [{]a[}], which find and match do not
+expand.
 
 Status:
   0         the lines were written
