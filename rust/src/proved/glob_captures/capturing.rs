@@ -1,5 +1,7 @@
 //! Made by `bin/rust_crate` from `crates/glob_captures/src/capturing.rt`.
 //! Contracts are there, and their proofs in `crates/glob_captures/proofs`; it is changed there alone.
+//!
+//! The piece of a text that each token of a pattern takes.
 
 use crate::proved::glob_captures::error::CapturesError;
 use crate::proved::glob_captures::piece::Piece;

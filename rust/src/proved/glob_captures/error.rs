@@ -1,5 +1,7 @@
 //! Made by `bin/rust_crate` from `crates/glob_captures/src/error.rt`.
 //! Contracts are there, and their proofs in `crates/glob_captures/proofs`; it is changed there alone.
+//!
+//! Why pieces are not computed.
 
 use std::error::Error;
 use std::fmt;

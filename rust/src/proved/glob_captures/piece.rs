@@ -1,5 +1,7 @@
 //! Made by `bin/rust_crate` from `crates/glob_captures/src/piece.rt`.
 //! Contracts are there, and their proofs in `crates/glob_captures/proofs`; it is changed there alone.
+//!
+//! Pieces of a text.
 
 /// A piece of a text, as places in bytes: from `start` up to `end`. That of `b` in `abc` is from 1 up to 2.
 #[derive(Clone, Copy, Debug, PartialEq, Eq)]

@@ -1,5 +1,7 @@
 //! Made by `bin/rust_crate` from `crates/glob_captures/src/reaching.rt`.
 //! Contracts are there, and their proofs in `crates/glob_captures/proofs`; it is changed there alone.
+//!
+//! How far a text can be taken, and what waits there.
 
 use crate::proved::glob_captures::error::CapturesError;
 use crate::proved::glob_captures::steps::{bytes_of, form_of, is_too_large, opens, takes_at, Form, MOST_STEPS};

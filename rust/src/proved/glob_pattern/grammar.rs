@@ -1,5 +1,7 @@
 //! Made by `bin/rust_crate` from `crates/glob_pattern/src/grammar.rt`.
 //! Contracts are there, and their proofs in `crates/glob_pattern/proofs`; it is changed there alone.
+//!
+//! Reads a pattern's units, or its first fault.
 
 use crate::proved::glob_pattern::error::PatternError;
 use crate::proved::glob_pattern::token::bracket::Bracket;

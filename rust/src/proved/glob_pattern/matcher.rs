@@ -1,5 +1,7 @@
 //! Made by `bin/rust_crate` from `crates/glob_pattern/src/matcher.rt`.
 //! Contracts are there, and their proofs in `crates/glob_pattern/proofs`; it is changed there alone.
+//!
+//! Judges, and whether by their answers characters split into pieces.
 
 mod positions;
 mod shape_word;
@@ -7,7 +9,8 @@ mod shape_word;
 pub use positions::{decide, Span};
 pub use shape_word::{last_before, shape_words, ShapeWord};
 
-/// How many tokens a word of 64 bits has: there is one more position than tokens.
+/// How many tokens a word of 64 bits has. Its last bit is the position after them, as the first bit of the next word
+/// is.
 pub const WORD: usize = 63;
 
 /// Which pieces of a text a token may match. The shapes of `**/*a` are `Deep`, `Run` and `One`.

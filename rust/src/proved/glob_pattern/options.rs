@@ -1,5 +1,7 @@
 //! Made by `bin/rust_crate` from `crates/glob_pattern/src/options.rt`.
 //! Contracts are there, and their proofs in `crates/glob_pattern/proofs`; it is changed there alone.
+//!
+//! The options of a match, and their letters and bits.
 
 /// How a pattern is compared with a text. With `MatchOptions::new()`, `*.rs` matches `src/.x.rs`; with
 /// `require_literal_separator` it does not.

@@ -1,5 +1,7 @@
 //! Made by `bin/rust_crate` from `crates/glob_pattern/src/token.rt`.
 //! Contracts are there, and their proofs in `crates/glob_pattern/proofs`; it is changed there alone.
+//!
+//! The tokens of a pattern.
 
 pub mod bracket;
 pub mod taking;

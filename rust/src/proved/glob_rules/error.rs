@@ -1,5 +1,7 @@
 //! Made by `bin/rust_crate` from `crates/glob_rules/src/error.rt`.
 //! Contracts are there, and their proofs in `crates/glob_rules/proofs`; it is changed there alone.
+//!
+//! Why a text is no ignore list.
 
 use std::error::Error;
 use std::fmt;

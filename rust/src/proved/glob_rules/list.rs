@@ -1,5 +1,7 @@
 //! Made by `bin/rust_crate` from `crates/glob_rules/src/list.rt`.
 //! Contracts are there, and their proofs in `crates/glob_rules/proofs`; it is changed there alone.
+//!
+//! Ignore lists: which paths they ignore, and by which rule.
 
 use crate::proved::glob_pattern::MatchOptions;
 use crate::proved::glob_rules::error::RuleRefusal;

@@ -1,5 +1,7 @@
 //! Made by `bin/rust_crate` from `crates/glob_rules/src/rule.rt`.
 //! Contracts are there, and their proofs in `crates/glob_rules/proofs`; it is changed there alone.
+//!
+//! Rules of an ignore list.
 
 /// A rule of an ignore list, without its pattern. That of the line `!*.o/` is negative and for directories alone.
 #[derive(Clone, Copy, Debug, PartialEq, Eq)]

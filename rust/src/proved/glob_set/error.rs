@@ -1,5 +1,7 @@
 //! Made by `bin/rust_crate` from `crates/glob_set/src/error.rt`.
 //! Contracts are there, and their proofs in `crates/glob_set/proofs`; it is changed there alone.
+//!
+//! Why texts make no set.
 
 use crate::proved::glob_pattern::PatternError;
 use crate::proved::glob_set::braces::BraceError;

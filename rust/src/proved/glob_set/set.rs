@@ -1,5 +1,7 @@
 //! Made by `bin/rust_crate` from `crates/glob_set/src/set.rt`.
 //! Contracts are there, and their proofs in `crates/glob_set/proofs`; it is changed there alone.
+//!
+//! Sets of patterns: which of them match a text.
 
 use crate::proved::glob_pattern::{MatchOptions, Pattern};
 use crate::proved::glob_set::buckets::{buckets_of, Bucket};

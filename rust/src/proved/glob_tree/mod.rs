@@ -8,5 +8,5 @@ mod tree;
 
 pub use kind::Kind;
 pub use name::{copy_name, is_proper, name_from_proper, Name};
-pub use path_text::{begins_with_dot, child, join};
+pub use path_text::{begins_with_dot, child, join, stays};
 pub use tree::{Entry, Look, Tree};

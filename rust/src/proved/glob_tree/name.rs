@@ -1,5 +1,7 @@
 //! Made by `bin/rust_crate` from `crates/glob_tree/src/name.rt`.
 //! Contracts are there, and their proofs in `crates/glob_tree/proofs`; it is changed there alone.
+//!
+//! Names of entries.
 
 /// A proper name, as an entry of a directory has: not empty, not `.`, not `..`, and without `/` and NUL.
 ///

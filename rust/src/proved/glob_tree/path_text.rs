@@ -41,8 +41,8 @@ fn all_stay(path: &str) -> bool {
     path.split('/').all(stays)
 }
 
-/// Whether a piece of a path is empty or `.`.
-fn stays(piece: &str) -> bool {
+/// Whether a piece of a path is empty or `.`, so that it leads nowhere else.
+pub fn stays(piece: &str) -> bool {
     piece.is_empty() || piece == "."
 }
 

@@ -1,5 +1,7 @@
 //! Made by `bin/rust_crate` from `crates/glob_tree/src/tree.rt`.
 //! Contracts are there, and their proofs in `crates/glob_tree/proofs`; it is changed there alone.
+//!
+//! Trees: what a walk can ask, and how it is answered.
 
 use crate::proved::glob_tree::name::Name;
 use std::error::Error;
@@ -15,6 +17,13 @@ pub enum Look {
     Other,
     /// Nothing.
     Missing,
+}
+
+impl Look {
+    /// Whether it is that of a directory: true of `Dir` alone.
+    pub fn is_dir(self) -> bool {
+        matches!(self, Look::Dir)
+    }
 }
 
 /// An entry of a directory, as a listing returns it. The file `b` in it has the name `b`, and is no directory.

@@ -16,6 +16,7 @@ mod task;
 mod turn;
 mod walker;
 
+pub use component::is_recursive;
 pub use ending::{end_of, End};
 pub use error::{GlobCause, GlobError, GlobResult};
 pub use machine::{Answer, Step, WalkMachine};

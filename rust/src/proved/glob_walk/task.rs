@@ -72,20 +72,12 @@ impl Accepted {
     }
 }
 
-/// Whether the answer to a look is that of a directory.
-fn is_directory(seen: Look) -> bool {
-    match seen {
-        Look::Dir => true,
-        Look::Other | Look::Missing => false,
-    }
-}
-
 /// The task that follows a look: to go on at the path with the same component, or nothing where the answer is not the
 /// one that is accepted.
 pub fn task_after_look(path: String, component: usize, accepted: Accepted, seen: Look) -> Option<Task> {
     if !accepted.accepts(seen) {
         return None;
     }
-    let state = TaskState::Seen(is_directory(seen));
+    let state = TaskState::Seen(seen.is_dir());
     Some(Task { path, component, state })
 }

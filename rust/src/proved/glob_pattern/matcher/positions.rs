@@ -29,7 +29,8 @@ impl Span {
     }
 }
 
-/// Whether the shapes before the span's end split the characters.
+/// Whether the shapes before the span's end split the characters. Contracts alone read `tokens`, here and below: no
+/// body does.
 #[inline(always)]
 pub fn decide<T: Shaped, J: Judge>(tokens: &[T], words: &[ShapeWord], span: Span, judge: &mut J) -> bool {
     if words.len() == 1 {
@@ -107,6 +108,7 @@ fn set_start<T: Shaped>(tokens: &[T], words: &[ShapeWord], start: usize, opens: 
 /// Whether the position is in the set.
 #[inline(always)]
 fn is_alive<T: Shaped>(tokens: &[T], alive: &[u64], position: usize) -> bool {
+    // A position on a border of two words is read as the last bit of the first of them.
     let word = position.saturating_sub(1) / WORD;
     (alive[word] >> (position - WORD * word)) & 1 != 0
 }

@@ -20,7 +20,7 @@ pub struct Compiled {
     // their shapes as bits: those of the first 63 tokens, and if there are more tokens, those of all
     first: ShapeWord,
     words: crate::late::Late<ShapeWord>,
-    // none where wildcards alone are between the ends, unless there are more than 63 tokens
+    // none where nothing, or with at most 63 tokens wildcards alone, is between the ends
     masks: crate::late::Late<CharMasks>,
     prefilter: Prefilter,
 }
@@ -55,9 +55,9 @@ impl Compiled {
         let prefilter = Prefilter::of(list);
         let words = crate::late::Late::new(list.len() > WORD);
         let between = &list[prefilter.lead..list.len() - prefilter.trail];
-        let listed = between.iter().any(|token| token.shape() == Shape::One);
+        let has_one = between.iter().any(|token| token.shape() == Shape::One);
         let is_long = !between.is_empty() && list.len() > WORD;
-        let masks = crate::late::Late::new(listed || is_long);
+        let masks = crate::late::Late::new(has_one || is_long);
         Compiled { first: ShapeWord::new(list, 0), tokens, words, masks, prefilter }
     }
 
@@ -98,13 +98,13 @@ impl Compiled {
     /// Whether the tokens match the text, and how many questions it took.
     #[inline(never)]
     pub fn matches_counted(&self, text: &str, options: MatchOptions) -> (bool, u128) {
-        self.run(text, Span::all(self.tokens.len()), options)
+        self.run_counted(text, Span::all(self.tokens.len()), options)
     }
 
     /// Whether the tokens before the span's end split the text, whose characters before its start have a token each,
     /// and how many questions it took.
     #[inline(always)]
-    fn run(&self, text: &str, span: Span, options: MatchOptions) -> (bool, u128) {
+    fn run_counted(&self, text: &str, span: Span, options: MatchOptions) -> (bool, u128) {
         let tokens = self.tokens.as_slice();
         let masks = self.masks.get(|| masks_of(tokens, true));
         let mut judge = TextJudge::new(tokens, masks, text, span.start, options);
@@ -112,11 +112,11 @@ impl Compiled {
         (answer, judge.asked())
     }
 
-    /// [`run`](Self::run) without the count, by a judge that needs no masks where there are none.
+    /// [`run_counted`](Self::run_counted) without the count, by a judge that needs no masks where there are none.
     #[inline(always)]
     fn run_span(&self, text: &str, span: Span, options: MatchOptions) -> bool {
         if !self.masks.is_empty() || self.tokens.len() > WORD {
-            let (answer, _) = self.run(text, span, options);
+            let (answer, _) = self.run_counted(text, span, options);
             return answer;
         }
         let tokens = self.tokens.as_slice();

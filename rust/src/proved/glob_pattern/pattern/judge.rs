@@ -91,7 +91,7 @@ impl Judge for TextJudge<'_> {
         self.count += u128::from(asked.count_ones());
         let opening = self.before == '/';
         let Some(masks) = self.masks.get(word) else {
-            // Where there are no masks, matches go by `SpanJudge`, and only counted ones come here.
+            // Without masks only counted matches come here, and those by more than 63 tokens of one character each.
             let options = self.options;
             return take_left(self.tokens, word, asked, options, opening, self.current);
         };

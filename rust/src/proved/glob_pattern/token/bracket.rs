@@ -1,5 +1,7 @@
 //! Made by `bin/rust_crate` from `crates/glob_pattern/src/token/bracket.rt`.
 //! Contracts are there, and their proofs in `crates/glob_pattern/proofs`; it is changed there alone.
+//!
+//! Brackets: which characters they hold.
 
 use std::slice;
 

@@ -1,5 +1,7 @@
 //! Made by `bin/rust_crate` from `crates/glob_pattern/src/token/taking.rt`.
 //! Contracts are there, and their proofs in `crates/glob_pattern/proofs`; it is changed there alone.
+//!
+//! Which characters a token takes under the options.
 
 use crate::proved::glob_pattern::options::MatchOptions;
 use crate::proved::glob_pattern::token::bracket::{self, Bracket};

@@ -1,5 +1,7 @@
 //! Made by `bin/rust_crate` from `crates/glob_set/src/braces/error.rt`.
 //! Contracts are there, and their proofs in `crates/glob_set/proofs`; it is changed there alone.
+//!
+//! Why braces are refused.
 
 use std::error::Error;
 use std::fmt;

@@ -4,7 +4,7 @@
 //! What is easily missed in a pattern and a text that it does not match: forms that have a meaning elsewhere and none
 //! here, and white space at an end.
 
-use crate::proved::glob_captures::{tokens, TokenKind, Written};
+use crate::proved::glob_captures::{tokens, Written};
 use crate::proved::glob_pattern::Pattern;
 use crate::proved::globs::explain::rows::add_row;
 
@@ -16,6 +16,8 @@ static FORMS: &[(&str, &str)] = &[
     ("{", "is a character here. PatternSet::from_braces expands braces"),
     ("|", "is a character here. A PatternSet takes several patterns"),
     ("\\", "is a character here, and escapes nothing: [*] is a * alone"),
+    ("[^", "lists a ^ here: [!a] is a character that is not a"),
+    ("[[:", "names no class here: [0-9] is a digit"),
     ("+(", GROUPLESS),
     ("@(", GROUPLESS),
     ("*(", GROUPLESS),
@@ -34,7 +36,7 @@ static BLANKS: &[(char, &str)] =
     &[(' ', "a blank"), ('\t', "a tab"), ('\r', "a carriage return"), ('\n', "a line feed")];
 
 /// Adds a line for each form of another tool in the pattern, whose tokens are in `written`. What a bracket lists is
-/// none.
+/// none: a form begins where a token does.
 ///
 /// So for `!a|b` these are a line for `!` and one for `|`.
 pub fn add_forms(lines: &mut String, pattern: &str, written: &[Written]) {
@@ -76,10 +78,9 @@ fn is_among(pattern: &str, written: &[Written], form: &str) -> bool {
     written.iter().any(|token| begins_at(*token, pattern, form))
 }
 
-/// Whether the pattern goes on with the form where the token is written, which is no bracket.
+/// Whether the pattern goes on with the form where the token is written.
 fn begins_at(token: Written, pattern: &str, form: &str) -> bool {
-    !matches!(token.kind, TokenKind::OneOf | TokenKind::NoneOf)
-        && pattern.get(token.piece.start..).is_some_and(|rest| rest.starts_with(form))
+    pattern.get(token.piece.start..).is_some_and(|rest| rest.starts_with(form))
 }
 
 /// Adds a line if the text, which `name` names, ends in white space.
