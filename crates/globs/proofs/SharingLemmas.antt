@@ -1,15 +1,14 @@
 -- What some patterns share is the start of each, and what finds the rest of each finds the rest of one.
-use Rattle.std.proofs.Common.{◌≡◌, ◌+◌, ◌<◌, ⊎_elim, Bool, true, false, cond, not, ◌&&◌, ◌||◌, ◌==◌, List, [], ◌∷◌, ◌++◌, length, take, drop, get_or, map, Bor, ℕ, Option, Some, refl, sym, ap, ap₂, subst, ◌∙◌, append_assoc, arith, lit<}
+use Rattle.std.proofs.Common.{◌≡◌, ◌+◌, ◌<◌, ⊎_elim, Bool, true, false, cond, not, ◌&&◌, ◌||◌, ◌==◌, List, [], ◌∷◌, ◌++◌, length, take, map, Bor, refl, sym, ap, ap₂, subst, ◌∙◌, append_assoc, arith}
 use Rattle.std.specs.Prelude.{bytes_eq, codes, option_and_then}
-use Rattle.std.specs.List.{flat_map, list_all, list_any}
+use Rattle.std.specs.List.{flat_map, list_all, list_any, prefix_len, zip}
 use Rattle.std.specs.Path.{has_no_slash}
 use Rattle.std.specs.Str.{chars, is_utf8, IsUtf8}
 use lib.Utf8.{encode}
-use Rattle.std.proofs.lemmas.Bool.{and_parts, and_from, both_ways, cases_Bool, cond-false, cond-true, eqb-true, false≢true, not-true}
-use Rattle.std.proofs.lemmas.List.{drop_more, length-append}
-use Rattle.std.proofs.lemmas.List.Splits.{length-slice_split, slice_split_first}
+use Rattle.std.proofs.lemmas.Bool.{and_parts, and_from, both_ways, cases_Bool, eqb-true, false≢true, not-true}
+use Rattle.std.proofs.lemmas.List.{length-append}
+use Rattle.std.proofs.lemmas.List.Splits.{length-slice_split}
 use Rattle.std.proofs.lemmas.Slice.Eq.{bytes_eq-Decides}
-use Rattle.std.proofs.lemmas.Str.Pattern.{IsSplitOnceResult, split_once_first}
 use Rattle.std.proofs.lemmas.Str.{IsUtf8-append, IsUtf8-from_is_utf8}
 use Rattle.glob_text.specs.Characters.{slash}
 use Rattle.glob_text.specs.Text.{Text}
@@ -143,44 +142,32 @@ take-shared (t ∷ ts) (u ∷ v ∷ vs) = by_test (take-shared ts (v ∷ vs)) (b
     by_test later true = ap (λ xs. t ∷ xs) later
     by_test later false = refl
 
--- how many steps are shared, seen from the next step and the next component
-stops : (ts : List Text) (u : Text) → length (shared ts (u ∷ [])) ≡ 0
-stops [] u = refl
-stops (t ∷ ts) u = refl
-
-pub stops_last : (ts : List Text) (rest : Text) → has_no_slash rest ≡ true → length (shared ts (pieces rest)) ≡ 0
-stops_last ts rest flat = ap (λ us. length (shared ts us)) (pieces_one rest flat) ∙ stops ts rest
-
-ends : (t : Text) (ts : List Text) (u : Text) (vs : List Text) → is_shared t u ≡ false → length (shared (t ∷ ts) (u ∷ vs)) ≡ 0
-ends t ts u [] e = refl
-ends t ts u (v ∷ vs) e = ap length (cond-false (is_shared t u) (t ∷ shared ts (v ∷ vs)) [] e)
-
-goes_on : (t : Text) (ts : List Text) (u : Text) (vs : List Text) → 0 < length vs → is_shared t u ≡ true → length (shared (t ∷ ts) (u ∷ vs)) ≡ 1 + length (shared ts vs)
-goes_on t ts u [] some e = absurd (omega arith)
-goes_on t ts u (v ∷ vs) some e =
-    let on : length (shared (t ∷ ts) (u ∷ v ∷ vs)) ≡ length (t ∷ shared ts (v ∷ vs)) = ap length (cond-true (is_shared t u) (t ∷ shared ts (v ∷ vs)) [] e) in
-    omega (arith, on)
-
--- a text and what is after its first separator
-pub split_pieces : (rest : Text) (component after : Bor Text) → IsSplitOnceResult slash rest (Some (component, after)) → pieces rest ≡ component.now ∷ pieces after.now
-split_pieces rest component after cases =
-    let parts = split_once_first slash rest (Some (component, after)) cases (lit< tt) in
-    slice_split_first (λ c. c == slash) rest 0 parts.0 ∙ ap₂ (λ x y. x ∷ pieces y) (sym parts.1) (sym parts.2)
-
 abbrev pub texts : List (Bor Text) → List Text
 texts steps = map (λ s. s.now) steps
 
-module _ (steps : List (Bor Text)) (i : ℕ) (none : Bor Text) (rest component after : Text) (below : i < length steps) (whole : pieces rest ≡ component ∷ pieces after) where
-  here : shared (texts (drop i steps)) (pieces rest) ≡ shared ((get_or steps i none).now ∷ texts (drop (i + 1) steps)) (component ∷ pieces after)
-  here = ap₂ shared (ap texts (drop_more steps i none below)) whole
+-- the first pair counts if it is alike, and then those after it do
+first_pair : (t : Bor Text) (u : Text) (pairs : List (Bor Text × Text)) (ts : List Text) → prefix_len (λ p. is_shared p.0.now p.1) pairs ≡ length ts
+    → prefix_len (λ p. is_shared p.0.now p.1) ((t, u) ∷ pairs) ≡ length (cond (is_shared t.now u) (t.now ∷ ts) [])
+first_pair t u pairs ts later = by_test (is_shared t.now u)
+  where
+    by_test : (b : Bool) → cond b (1 + prefix_len (λ p. is_shared p.0.now p.1) pairs) 0 ≡ length (cond b (t.now ∷ ts) [])
+    by_test true = omega (arith, later)
+    by_test false = refl
 
-  pub stops_here : is_shared (get_or steps i none).now component ≡ false → length (shared (texts (drop i steps)) (pieces rest)) ≡ 0
-  stops_here e = ap length here ∙ ends (get_or steps i none).now (texts (drop (i + 1) steps)) component (pieces after) e
+-- no component of a pattern of one is shared
+shared-one : (ts : List Text) (u : Text) → length (shared ts (u ∷ [])) ≡ 0
+shared-one [] u = refl
+shared-one (t ∷ ts) u = refl
 
-  pub goes_on_here : is_shared (get_or steps i none).now component ≡ true → length (shared (texts (drop i steps)) (pieces rest)) ≡ 1 + length (shared (texts (drop (i + 1) steps)) (pieces after))
-  goes_on_here e =
-      ap length here
-      ∙ goes_on (get_or steps i none).now (texts (drop (i + 1) steps)) component (pieces after) (omega (arith, length-slice_split (λ c. c == slash) after)) e
+pub shared-flat : (ts : List Text) (p : Text) → has_no_slash p ≡ true → length (shared ts (pieces p)) ≡ 0
+shared-flat ts p flat = ap (λ us. length (shared ts us)) (pieces_one p flat) ∙ shared-one ts p
+
+-- of others those are that are alike, each in its place, before the last component
+pub shared-pairs : (steps : List (Bor Text)) (us : List Text) (last : Text) → prefix_len (λ p. is_shared p.0.now p.1) (zip steps us) ≡ length (shared (texts steps) (us ++ last ∷ []))
+shared-pairs [] us last = refl
+shared-pairs (t ∷ ts) [] last = refl
+shared-pairs (t ∷ ts) (u ∷ []) last = first_pair t u (zip ts []) (shared (texts ts) (last ∷ [])) (shared-pairs ts [] last)
+shared-pairs (t ∷ ts) (u ∷ v ∷ vs) last = first_pair t u (zip ts (v ∷ vs)) (shared (texts ts) (v ∷ vs ++ last ∷ [])) (shared-pairs ts (v ∷ vs) last)
 
 -- the text of the steps before another
 slash_text : is_utf8 (codes "/") ≡ true

@@ -3,7 +3,8 @@ ghost use Rattle.std.specs.Prelude.{◌≡◌, IfOk, length, map, string_bytes};
 ghost use Rattle.std.specs.List.{flat_map, list_any};
 ghost use Rattle.glob_text.specs.Pieces.{pieces};
 ghost use Rattle.glob_walk.specs.Components.{is_recursive};
-ghost use Rattle.globs.specs.Find.Sharing.{finding_rest, has_one_more, is_shared, shared, shared_steps, shared_text, step_text};
+ghost use Rattle.globs.specs.Find.Sharing.{finding_rest, has_one_more, is_shared, shared};
+ghost use Rattle.globs.specs.Find.Sharing.{shared_steps, shared_text, step_text};
 
 use crate::find::order::is_recursive;
 use crate::find::skipping::name_count;
@@ -30,12 +31,11 @@ pub fn shared_text<A: Allocator + Copy>(
 fn finding_rest(steps: &[&str], patterns: &[&str]) -> &'static str
     ensures { result.now ≡ finding_rest (length steps.now) (map (λ p. p.now) patterns.now) }
 {
-    for pattern in patterns {
-        if !has_one_more(steps, pattern) {
-            return "**/*";
-        }
+    if patterns.iter().all(|pattern| has_one_more(steps, pattern)) {
+        "*"
+    } else {
+        "**/*"
     }
-    "*"
 }
 
 /// The components that all patterns share at their start.
@@ -60,17 +60,14 @@ fn shared_steps<'a, A: Allocator + Copy>(
 fn shared_count(steps: &[&str], pattern: &str) -> usize
     ensures { result ≡ length (shared (map (λ s. s.now) steps.now) (pieces pattern.now)) }
 {
-    let mut rest = pattern;
-    for count in 0..steps.len() {
-        let Some((component, after)) = rest.split_once('/') else {
-            return count;
-        };
-        if !is_shared(steps[count], component) {
-            return count;
-        }
-        rest = after;
-    }
-    steps.len()
+    let Some((above, _)) = pattern.rsplit_once('/') else {
+        return 0;
+    };
+    steps
+        .iter()
+        .zip(above.split('/'))
+        .take_while(|(step, component)| is_shared(step, component))
+        .count()
 }
 
 /// Whether a step is a component, and no `**`.
