@@ -5,7 +5,9 @@ ghost use Rattle.std.specs.Str.{IsUtf8};
 ghost use Rattle.glob_text.specs.Pieces.{pieces};
 ghost use Rattle.glob_walk.specs.Goal.{is_plain};
 ghost use Rattle.globs.specs.Find.Sharing.{shared_text};
-ghost use Rattle.globs.specs.Find.Planning.{are_shared, common_text, ends_in_stars, everything_options, is_below, is_no_name, is_single, is_walkable, keeps_order, one_text, walk_options, walk_text};
+ghost use Rattle.globs.specs.Find.Planning.{are_shared, common_text, ends_in_stars, everything_options};
+ghost use Rattle.globs.specs.Find.Planning.{is_below, is_no_name, is_single, is_walkable, keeps_order, one_text};
+ghost use Rattle.globs.specs.Find.Planning.{walk_options, walk_text};
 
 use crate::find::order::{Place, last_place};
 use crate::find::shared::shared_text;
@@ -34,7 +36,7 @@ impl<A: Allocator + Copy> Plan<A> {
     {
         match patterns {
             [pattern] => Self::of_one(alloc, pattern, options),
-            [] | [_, _, ..] => Self::of_all(alloc, patterns, options),
+            _ => Self::of_all(alloc, patterns, options),
         }
     }
 

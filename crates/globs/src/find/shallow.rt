@@ -78,9 +78,7 @@ impl<T: Tree> Tree for Shallow<T> {
             → IfErr result (λ e. IsListError (list_result c path.now) e) }
     {
         self.asks = self.asks.after(1);
-        let Some(names) = names_to(path) else {
-            return Err(ListError::Memory);
-        };
+        let names = names_to(path).ok_or(ListError::Memory)?;
         if is_deep(self.depth, names) {
             return Ok(Vec::new(self.alloc));
         }
