@@ -86,10 +86,12 @@ Nothing is skipped by default: neither names that begin with a . (see -d), nor w
 names (--ignore .gitignore), nor .git (-x .git).
 
 Each path that one of the patterns matches is written once, in ascending byte order of its names.
-What is ignored is never listed, nor what is below it. Without -i one pattern usually enters only
-directories that it can reach, and several only those that their common beginning can reach:
-'src/*.{c,h}' lists src alone. Where one pattern finds nothing and contains a form of another tool,
-such as ~/ or [^a], a line on standard error says what that is here.
+What is ignored is never listed, nor what is below it. Where one pattern finds nothing and contains
+a form of another tool, such as ~/ or [^a], a line on standard error says what that is here.
+
+Without -i a search by one pattern usually enters only directories that the pattern can reach. One by
+several patterns usually enters only the directories that all of them begin with, and those below:
+'src/*.{c,h}' lists src alone.
 
 Status:
   0         a path was written
