@@ -104,12 +104,12 @@ impl Display for StrayLine<'_> {
             text: self.directory,
         };
         write!(f, "a name in `{directory}` is not UTF-8: ")?;
-        write_bytes(f, self.name)
+        write_name(f, self.name)
     }
 }
 
-/// Writes the bytes of a name.
-fn write_bytes<W: fmt::Write>(f: &mut fmt::Formatter<W>, name: &[u8]) -> fmt::Result
+/// Writes a name, byte by byte.
+fn write_name<W: fmt::Write>(f: &mut fmt::Formatter<W>, name: &[u8]) -> fmt::Result
     ensures { WritesOnOk W.write_str_gives f.old result (flat_map byte_words name.now) f.new }
 {
     for byte in name {

@@ -5,4 +5,4 @@ use Rattle.globs.proofs.find.strays.StrayLineDisplay.fmt.Goals as goal
 pub returns-clause-writes : goal.returns-clause-writes
 returns-clause-writes g c = λ plain ok.
     let first = c.in_ok-write.ensures.writes plain refl in
-    has_written_append _ _ _ _ _ _ first (c.write_bytes.ensures first.plain ok)
+    has_written_append _ _ _ _ _ _ first (c.write_name.ensures first.plain ok)

@@ -3,7 +3,7 @@ use Rattle.std.proofs.Common.{take}
 use Rattle.std.specs.Fmt.{HasWritten, IsPlainFormatter}
 use Rattle.std.specs.List.{flat_map}
 use Rattle.globs.specs.Find.Strays.{byte_words}
-use Rattle.globs.proofs.find.strays.write_bytes.Given as goal
+use Rattle.globs.proofs.find.strays.write_name.Given as goal
 
 abbrev pub invariant-loop-byte : goal.invariant-loop-byte
 invariant-loop-byte g l =
