@@ -15,8 +15,8 @@ input_of remaining old new =
     record { before = remaining old.inner; after = remaining new.inner; failed = new.failed }
 
 -- Status 0: some records are selected, and just those were written, in order. Status 1: none is selected, and none was
--- written. Status 2: of the bytes of the selected records, the first n were written, for some n; where a read failed, just
--- the selected ones of the records whose end was read.
+-- written. Status 2: of the bytes of the selected records, the first n were written, for some n; where a read failed,
+-- just the selected ones of the records whose end was read.
 unfoldable pub Copies : (end : ℕ) → (selects : List ℕ → Bool) → Input → (old new : Option (List ℕ)) → (status : ℕ)
     → Type 0
 Copies end selects input old new status =

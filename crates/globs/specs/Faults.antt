@@ -68,8 +68,8 @@ usage_words line = elim line.fault [
   | usage.Memory ↦ codes "out of memory"
 ]
 
--- Of words that are refused the line was written that says which is wrong and why, behind the prefix. Of others nothing is
--- said.
+-- Of words that are refused the line was written that says which is wrong and why, behind the prefix. Of others nothing
+-- is said.
 unfoldable pub WritesUsage : {E : Type 0} → (contents : E → Option (List ℕ)) → (prefix : Text) → Request → (old new : E)
     → Type 0
 WritesUsage contents prefix (Runs name o operands) old new = ⊤
@@ -88,13 +88,16 @@ brace_lines text (Unmatched place) = brace_error_words (Unmatched place) ++ 10 �
 brace_lines text (Unclosed place) = brace_error_words (Unclosed place) ++ 10 ∷ caret_lines text place
 brace_lines text TooMany = brace_error_words TooMany ++ 10 ∷ visible text
 
--- the lines of a pattern that is refused: what is wrong, the pattern, a caret under its place, and where help is
+-- the lines of a fault: what is wrong, the pattern, a caret under its place, and where help is
+abbrev pub marked_words : Name → (what text : Text) → (place : ℕ) → Text
+marked_words name what text place = what ++ 10 ∷ (caret_lines text place ++ 10 ∷ help_words (Some name))
+
+-- the lines of a pattern that is refused
 abbrev pub fault_words : FaultLines → Text
 fault_words lines = elim lines.fault [
   | pattern.Astray text column ↦
-      codes "no component may be empty, `.` or `..`" ++ 10 ∷ (caret_lines text.now column ++ 10 ∷ help_words (Some lines.name))
-  | pattern.Syntax text e ↦
-      message_words e.msg.now ++ 10 ∷ (caret_lines text.now e.pos ++ 10 ∷ help_words (Some lines.name))
+      marked_words lines.name (codes "no component may be empty, `.` or `..`") text.now column
+  | pattern.Syntax text e ↦ marked_words lines.name (message_words e.msg.now) text.now e.pos
   | pattern.Braces text e ↦ brace_lines text.now e ++ 10 ∷ help_words (Some lines.name)
   | pattern.Memory ↦ codes "out of memory"
 ]

@@ -24,4 +24,5 @@ unfoldable pub CopiesMatches : {W : Type 0} → (contents : W → Option (List �
 CopiesMatches contents settings words input old new status =
     ((input.failed ≡ false) × IsRefused old new status)
     ⊎ ((patterns : List Text) × AreAlternativesOf words patterns × (status ≢ 2 → AreAccepted patterns)
-    × Copies settings.end (is_chosen (set_of settings.options patterns) settings.inverts) input (contents old) (contents new) status)
+    × Copies settings.end (is_chosen (set_of settings.options patterns) settings.inverts)
+    input (contents old) (contents new) status)

@@ -81,8 +81,11 @@ valued_of name word =
     else (if bytes_eq word (codes "--max-depth") then Some Depth
     else (if bytes_eq word (codes "--ignore") then Some File else None)))))
 
+-- the kind that the word names
 abbrev pub kind_of : Text → Option kinds.Kind
-kind_of word = if bytes_eq word (codes "f") then Some kind.File else (if bytes_eq word (codes "d") then Some kind.Directory else None)
+kind_of word =
+    if bytes_eq word (codes "f") then Some kind.File
+    else (if bytes_eq word (codes "d") then Some kind.Directory else None)
 
 -- what is chosen once an option has taken its value, or why the word is none; each word is a rule, and a file
 abbrev pub value_taken : Valued → Text → Chosen → Result Chosen Why

@@ -10,8 +10,8 @@ pub data Reading : Type 0 where
   Asks : Chosen → (operands : List Text) → Reading
   Wrong : Why → (word : Text) → Reading
 
--- the words of the program: what a command does; the page of a command, or of all; the version; or nothing, since a word
--- is wrong, of a command or before one
+-- the words of the program: what a command does; the page of a command, or of all; the version; or nothing, since a
+-- word is wrong, of a command or before one
 pub data Request : Type 0 where
   Runs : Name → Chosen → (operands : List Text) → Request
   Helps : Option Name → Request

@@ -1,7 +1,8 @@
 //! What the words of a command line ask for.
 ghost use Rattle.std.specs.Prelude.{◌≡◌, IfOk, IfErr, map, option_map, Option, None};
 ghost use Rattle.globs.specs.Options.{new_options};
-ghost use Rattle.globs.specs.CommandLine.{asks_help, command_asked, first_option, help_asked, operands_asked, reading, request_asked};
+ghost use Rattle.globs.specs.CommandLine.{asks_help, command_asked, first_option, help_asked};
+ghost use Rattle.globs.specs.CommandLine.{operands_asked, reading, request_asked};
 ghost use Rattle.globs.specs.Chosen.{Chosen};
 ghost use Rattle.globs.specs.Reading.{Asks};
 ghost use Rattle.globs.specs.Requests.{IsWrong, IsWrongRequest, asked_reading, request_of};

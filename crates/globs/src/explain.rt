@@ -23,8 +23,8 @@ use refusal::explain_refusal;
 use std::alloc::Allocator;
 use std::io::Write;
 
-/// Explains why a pattern matches a text, or does not, and returns the exit status: 0 where it does, 1 where not, 2 at a
-/// fault. The operands are the pattern and the text.
+/// Explains why a pattern matches a text, or does not, and returns the exit status: 0 where it does, 1 where not, and 2
+/// at a fault. The operands are the pattern and the text.
 ///
 /// A fault is lines of `errors`. Another number of operands, or a fault of the pattern, leaves the output as it was.
 ///

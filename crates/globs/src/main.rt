@@ -48,9 +48,9 @@ use std::process::ExitCode;
 /// What each fault of standard error begins with.
 const PREFIX: &str = "globs: ";
 
-/// Does what the words after the program's name ask, and returns the exit status: 0 where something was written, 1 where
-/// nothing was found, copied or matched, and 2 at a fault, which is lines of `errors`. A usage fault is one line, and
-/// leaves the output as it was.
+/// Does what the words after the program's name ask, and returns the exit status: 0 where something was written, 1
+/// where nothing was found, copied or matched, and 2 at a fault, which is lines of `errors`. A usage fault is one line,
+/// and leaves the output as it was.
 ///
 /// Over the input `"a.rs\nb.c\n"` the words `match` and `*.rs` write `"a.rs\n"`, and the status is 0.
 pub fn run_words<T: Tree, F: IgnoreFiles, R: Read, W: Write, E: Write>(

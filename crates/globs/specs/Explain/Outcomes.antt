@@ -20,8 +20,8 @@ Explains options pattern text old new status =
     × (status ≡ 1 → (¬ (Matches options (chars pattern) (chars text)))
     × (lines : List ℕ) × AreStopLines options pattern text lines × Appends old new lines)
 
--- What operands come to: a pattern and a text are explained, and any other number of them is refused, as is a pattern that
--- is not accepted.
+-- What operands come to: a pattern and a text are explained, and any other number of them is refused, as is a pattern
+-- that is not accepted.
 unfoldable pub Answers : {W : Type 0} → (contents : W → Option (List ℕ)) → MatchOptions → (operands : List (List ℕ))
     → (old new : W) → (status : ℕ) → Type 0
 Answers contents options [] old new status = IsRefused old new status

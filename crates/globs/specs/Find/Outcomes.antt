@@ -20,7 +20,8 @@ use Rattle.globs.specs.declared.options.Settings.{Settings}
 
 -- The words are refused; or, where the status is not 2, each alternative is a pattern that leads below the current
 -- directory, and, of a known content, the status is that of the walk, what is written is a beginning of what it
--- finds, and where it could read all and ended, just the paths were written that one of the alternatives of the words finds.
+-- finds, and where it could read all and ended, just the paths were written that one of the alternatives of the words
+-- finds.
 unfoldable pub Finds : {W : Type 0} → (contents : W → Option (List ℕ)) → (told : Option Content) → Settings → Ignores
     → (words : List Text) → (old new : W) → (status : ℕ) → Type 0
 Finds contents told settings list words old new status =
@@ -41,4 +42,5 @@ unfoldable pub FindsUnignored : {W : Type 0} → (contents : W → Option (List 
     → (holds : Text → Option Text) → Chosen → (words : List Text) → (old new : W) → (status : ℕ) → Type 0
 FindsUnignored contents told holds o words old new status =
     IsRefused old new status
-    ⊎ ((list : Ignores) × HasRules holds o.files o.rules list × Finds contents told o.settings list words old new status)
+    ⊎ ((list : Ignores) × HasRules holds o.files o.rules list
+    × Finds contents told o.settings list words old new status)

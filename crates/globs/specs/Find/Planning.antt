@@ -52,7 +52,8 @@ one_text pattern = if ends_in_stars pattern then pattern ++ codes "/*" else patt
 -- the pattern is that of the walk: it gives exactly what it matches under the options, each path once and in order
 unfoldable pub is_single : MatchOptions → (pattern : Text) → Bool
 is_single o pattern =
-    o.case_sensitive && (o.require_literal_separator && (keeps_order pattern && (is_plain pattern && is_plain (one_text pattern))))
+    o.case_sensitive
+    && (o.require_literal_separator && (keeps_order pattern && (is_plain pattern && is_plain (one_text pattern))))
 
 -- a walk by the pattern is accepted
 unfoldable pub is_walkable : (pattern : Text) → Bool

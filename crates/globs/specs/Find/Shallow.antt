@@ -45,4 +45,5 @@ opened_told depth told = option_map (opened depth) told
 -- a known content of the tree has nothing below the depth
 unfoldable pub EndsAt : (depth : Option ℕ) → (told : Option Content) → Type 0
 EndsAt depth told =
-    (c : Content) → IsTold told c → (path : Text) → is_full depth path ≡ true → IsListAnswer (list_result (opened depth c) path) []
+    (c : Content) → IsTold told c → (path : Text) → is_full depth path ≡ true
+    → IsListAnswer (list_result (opened depth c) path) []

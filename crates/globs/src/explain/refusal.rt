@@ -9,7 +9,8 @@ use std::alloc::{AllocError, Allocator};
 /// the character of the fault, what to write instead, and where help is. The last has no line feed. The error is an
 /// allocation failure.
 ///
-/// So of `a[b` they are `unclosed [`, `a[b`, a caret below the `[`, `write instead: a[[]b` and `try globs help explain`.
+/// So of `a[b` they are `unclosed [`, `a[b`, a caret below the `[`, `write instead: a[[]b` and
+/// `try globs help explain`.
 pub fn explain_refusal<A: Allocator + Copy>(
     alloc: A,
     written: &str,

@@ -35,8 +35,8 @@ impl<A: Allocator + Copy> Choice for Filter<A> {
         Ok(is_of_kind(self.kind, seen))
     }
 
-    /// A directory that cannot be listed is a line with its path and the reason. Of the limit more is said once the walk
-    /// ended.
+    /// A directory that cannot be listed is a line with its path and the reason. Of the limit more is said once the
+    /// walk ended.
     fn report<B: Allocator + Copy, E: Write>(
         &self,
         error: &GlobError<B>,
