@@ -46,14 +46,14 @@ bare_words (Some Escape) = codes "there is no TEXT"
 -- what is wrong with a word of a command line
 abbrev pub why_words : Option Name → Why → Text
 why_words name why.Unknown = codes " is no option"
-why_words name why.Valueless = codes " lacks its value"
+why_words name why.Valueless = codes " needs a value"
 why_words name why.Limit = codes " is no limit: -n takes a number below 2 to the power of 64"
 why_words name why.Depth = codes " is no depth: --max-depth takes a number below 2 to the power of 64"
 why_words name why.Kind = codes " is no kind: -t takes f or d"
-why_words name why.Late = codes " is behind an operand: options come first"
+why_words name why.Late = codes " stands after an operand: options come first"
 why_words name why.Bare = bare_words name
 why_words name why.Textless = codes "there is no text"
-why_words name why.Extra = codes " is behind the text: quote the pattern"
+why_words name why.Extra = codes " stands after the text: quote the pattern"
 why_words name why.Command = codes " is no command"
 why_words name why.Empty = codes "there is no command"
 

@@ -75,9 +75,9 @@ struct StraysLine {
 
 impl Display for StraysLine {
     ghost output = { λ line.
-        Some (codes "left out, since they are not UTF-8: " ++ decimal line.strays) };
+        Some (codes "paths left out, as they are not UTF-8: " ++ decimal line.strays) };
 
     fn fmt<W: fmt::Write>(&self, f: &mut fmt::Formatter<W>) -> fmt::Result {
-        write!(f, "left out, since they are not UTF-8: {}", self.strays)
+        write!(f, "paths left out, as they are not UTF-8: {}", self.strays)
     }
 }

@@ -65,7 +65,7 @@ pub fn run_words<T: Tree, F: IgnoreFiles, R: Read, W: Write, E: Write>(
     requires { input.old.failed ≡ false }
     ensures most { result ≤ 2 }
     ensures request { Fulfils W.contents (record {
-      told = λ follows. T.tells (if follows then disks.entry.logical else disks.entry.physical);
+      told = λ follows. T.tells (if follows then disks.entry.followed else disks.entry.kept);
       holds = F.holds files.now;
       input = input_of R.remaining input.old input.new;
     })
@@ -98,7 +98,7 @@ fn run_asked<T: Tree, F: IgnoreFiles, R: Read, W: Write, E: Write>(
     requires { input.old.failed ≡ false }
     ensures most { result ≤ 2 }
     ensures request { Fulfils W.contents (record {
-      told = λ follows. T.tells (if follows then disks.entry.logical else disks.entry.physical);
+      told = λ follows. T.tells (if follows then disks.entry.followed else disks.entry.kept);
       holds = F.holds files.now;
       input = input_of R.remaining input.old input.new;
     })
@@ -128,7 +128,7 @@ fn run_command<T: Tree, F: IgnoreFiles, R: Read, W: Write, E: Write>(
     requires { input.old.failed ≡ false }
     ensures most { result ≤ 2 }
     ensures request { Fulfils W.contents (record {
-      told = λ follows. T.tells (if follows then disks.entry.logical else disks.entry.physical);
+      told = λ follows. T.tells (if follows then disks.entry.followed else disks.entry.kept);
       holds = F.holds files.now;
       input = input_of R.remaining input.old input.new;
     })
@@ -165,10 +165,16 @@ fn main(rt: HostRuntime) -> ExitCode {
     };
     let has_stray = Cell::new(false);
     let rules = SharedRules::new();
-    let (mut kept, mut followed) = (rt.stderr(), rt.stderr());
+    let (mut kept_errors, mut followed_errors) = (rt.stderr(), rt.stderr());
     let disks = Disks {
-        physical: disk_of(rt, Links::Kept, &mut kept, &has_stray, &rules),
-        logical: disk_of(rt, Links::Followed, &mut followed, &has_stray, &rules),
+        kept: disk_of(rt, Links::Kept, &mut kept_errors, &has_stray, &rules),
+        followed: disk_of(
+            rt,
+            Links::Followed,
+            &mut followed_errors,
+            &has_stray,
+            &rules,
+        ),
         rules: &rules,
     };
     let status = run_words(

@@ -21,13 +21,13 @@ pub enum Why {
     Depth,
     /// It is no kind.
     Kind,
-    /// It begins with `-` and is behind an operand.
+    /// It begins with `-` and stands after an operand.
     Late,
     /// There is no operand. The word is empty.
     Bare,
     /// There is no text to explain. The word is empty.
     Textless,
-    /// It is behind the text to explain.
+    /// It stands after the text to explain.
     Extra,
     /// It is no command.
     Command,
@@ -98,18 +98,18 @@ impl Why {
     {
         match self {
             Why::Unknown => " is no option",
-            Why::Valueless => " lacks its value",
+            Why::Valueless => " needs a value",
             Why::Limit => " is no limit: -n takes a number below 2 to the power of 64",
             Why::Depth => " is no depth: --max-depth takes a number below 2 to the power of 64",
             Why::Kind => " is no kind: -t takes f or d",
-            Why::Late => " is behind an operand: options come first",
+            Why::Late => " stands after an operand: options come first",
             Why::Bare => match name {
                 Some(Name::Ignore) => "there is no FILE",
                 Some(Name::Escape) => "there is no TEXT",
                 Some(Name::Find | Name::Match | Name::Explain) | None => "there is no PATTERN",
             },
             Why::Textless => "there is no text",
-            Why::Extra => " is behind the text: quote the pattern",
+            Why::Extra => " stands after the text: quote the pattern",
             Why::Command => " is no command",
             Why::Empty => "there is no command",
         }

@@ -12,8 +12,8 @@ use std::alloc::{AllocError, Allocator};
 /// At most so many patterns are written instead of one.
 const MOST_WAYS: usize = 8;
 
-/// Characters that are not in a bracket what they are between braces: some have a meaning there, or in a bracket, and
-/// the rules for `/` and a leading `.` are those of brackets alone.
+/// Characters for which a bracket is no substitute for braces: some have a meaning here or in a bracket, and under the
+/// rules a bracket takes neither a `/` nor a leading `.`.
 static UNLIKE_IN_BRACKETS: &[char] = &['*', '?', '!', '^', '-', ']', '/', '.'];
 
 /// The characters that have a meaning here, and what stands for each where it is escaped.
@@ -93,6 +93,7 @@ fn native_ways<A: Allocator + Copy>(
     let mut ways = Vec::new(alloc);
     ways.push(String::new(alloc))?;
     let mut rest = pattern;
+    // Each form has at least one byte, so that these turns suffice. Those that are left add nothing.
     for _ in 0..pattern.len() {
         let Some(after) = add_form(alloc, &mut ways, rest)? else {
             return Ok(Vec::new(alloc));
@@ -129,7 +130,8 @@ fn add_to_each<'a, A: Allocator>(
     Ok(after)
 }
 
-/// Adds what stands for the first form of a text, if that is no choice of longer texts, as `add_form`.
+/// Adds what stands for the first form of a text. A choice is one of single characters here: `add_form` took the
+/// others.
 fn add_native<'a, A: Allocator>(
     made: &mut String<A>,
     text: &'a str,
@@ -237,7 +239,7 @@ fn add_alternatives<'a, A: Allocator + Copy>(
     Ok(if are_few { Some(after) } else { None })
 }
 
-/// Whether a `*` is right before another one only since the text between is put between the others.
+/// Whether two `*` meet where the three texts are joined.
 fn joins_stars(before: &str, between: &str, after: &str) -> bool {
     let follows = if between.is_empty() { after } else { between };
     (before.ends_with('*') && follows.starts_with('*'))

@@ -15,9 +15,9 @@ use std::io::Write;
 #[derive(Drop)]
 pub struct Disks<'a, T, A: Allocator> {
     /// One on which a symbolic link to a directory is none.
-    pub physical: T,
+    pub kept: T,
     /// One on which it is a directory.
-    pub logical: T,
+    pub followed: T,
     /// Where the rules are put that say what of them is reported.
     pub rules: &'a SharedRules<A>,
 }
@@ -25,14 +25,10 @@ pub struct Disks<'a, T, A: Allocator> {
 impl<T: Drop, A: Allocator> Disks<'_, T, A> {
     /// The disk on which links are followed, or the other.
     pub fn chosen(self, follows: bool) -> T
-        ensures { result ≡ (if follows then self.entry.logical else self.entry.physical) }
+        ensures { result ≡ (if follows then self.entry.followed else self.entry.kept) }
     {
-        let Disks {
-            physical,
-            logical,
-            ..
-        } = self;
-        if follows { logical } else { physical }
+        let Disks { kept, followed, .. } = self;
+        if follows { followed } else { kept }
     }
 }
 

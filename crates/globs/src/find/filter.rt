@@ -59,7 +59,7 @@ fn is_of_kind(kind: Kind, seen: Look) -> bool
 {
     match kind {
         Kind::Any => true,
-        Kind::File => !matches!(seen, Look::Dir),
-        Kind::Directory => matches!(seen, Look::Dir),
+        Kind::File => !seen.is_dir(),
+        Kind::Directory => seen.is_dir(),
     }
 }

@@ -4,6 +4,8 @@ ghost use Rattle.glob_text.specs.Pieces.{pieces};
 ghost use Rattle.glob_walk.specs.Components.{is_recursive};
 ghost use Rattle.globs.specs.Find.Order.{Before, last_place, next_place};
 
+use glob_walk::is_recursive;
+
 /// Where a component is, seen from the first `**`, `**/**` being one.
 #[derive(Clone, Copy, PartialEq, Eq)]
 pub enum Place {
@@ -38,11 +40,4 @@ pub fn last_place(pattern: &str) -> Option<Place>
         place = place.after(is_recursive(component))?;
     }
     Some(place)
-}
-
-/// Whether a component is `**`.
-pub fn is_recursive(component: &str) -> bool
-    ensures { result ≡ is_recursive component.now }
-{
-    component == "**"
 }

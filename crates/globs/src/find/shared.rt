@@ -6,8 +6,8 @@ ghost use Rattle.glob_walk.specs.Components.{is_recursive};
 ghost use Rattle.globs.specs.Find.Sharing.{finding_rest, has_one_more, is_shared, shared};
 ghost use Rattle.globs.specs.Find.Sharing.{shared_steps, shared_text, step_text};
 
-use crate::find::order::is_recursive;
 use crate::find::skipping::name_count;
+use glob_walk::is_recursive;
 use std::alloc::{AllocError, Allocator};
 
 /// The components that all patterns share at their start, up to the first `**` or the last of any, and what finds the
