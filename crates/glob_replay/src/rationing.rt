@@ -1,16 +1,26 @@
 //! An allocator that counts the requests for memory, their bytes and the blocks that are held, and refuses a chosen
 //! request.
+ghost use Rattle.std.specs.Prelude.{◌≡◌, false, Option, None, Some, ℕ};
+
 use std::alloc::{AllocError, Allocator, Global};
 use std::cell::Cell;
+use std::marker::Model;
 
 /// The number of requests for memory so far and of their bytes, how many blocks were given back, and which request is
-/// refused: none, if it is 0.
+/// refused, if any.
 #[derive(Debug, Drop)]
 pub struct Ration {
     asked: Cell<u64>,
     given_back: Cell<u64>,
     bytes: Cell<u64>,
-    refused: u64,
+    refused: Option<u64>,
+}
+
+// A clause sees the number of the refused request, and not the count, which a cell hides.
+impl Model for Ration {
+    ghost Value = { Option ℕ };
+
+    ghost view = { λ ration. ration.refused };
 }
 
 impl Ration {
@@ -26,7 +36,9 @@ impl Ration {
 
     /// Whether a request was refused.
     pub fn has_refused(&self) -> bool {
-        0 < self.refused && self.refused <= self.asked.get()
+        let asked = self.asked.get();
+        self.refused
+            .is_some_and(|number| 0 < number && number <= asked)
     }
 
     /// How many blocks are held: those that were asked for and not refused, without those that were given back.
@@ -42,16 +54,18 @@ impl Ration {
     }
 
     /// Counts a request for so many bytes, and says whether it is the refused one.
-    fn refuses_next(&self, size: usize) -> bool {
+    fn refuses_next(&self, size: usize) -> bool
+        ensures { self.now ≡ None → result ≡ false }
+    {
         let number = self.asked.get().saturating_add(1);
         self.asked.set(number);
         self.bytes.set(self.bytes.get().saturating_add(size as u64));
-        self.refused == number
+        self.refused == Some(number)
     }
 }
 
-/// The allocator `inner`, each of whose requests is first counted by `ration`, which may refuse it.
-/// To grow or to shrink a block is one request, and to give a block back is none. A reference to it is an allocator, too.
+/// The allocator `inner`, each of whose requests is first counted by `ration`, which may refuse it. To grow or to
+/// shrink a block is one request, and to give a block back is none. A reference to it is an allocator, too.
 #[derive(Debug, Drop)]
 pub struct Rationed<A> {
     pub ration: Ration,
@@ -63,17 +77,28 @@ pub type Memory<'a> = &'a Rationed<Global>;
 
 impl<A> Rationed<A> {
     /// The allocator `inner`, none of whose requests is refused.
-    pub fn ample(inner: A) -> Self {
-        Rationed::refusing(0, inner)
+    pub fn ample(inner: A) -> Self
+        ensures { result.ration ≡ None }
+    {
+        Rationed::counted(None, inner)
     }
 
-    /// The allocator `inner`, whose request of this number, counted from 1, is refused. At 0 none is.
-    pub fn refusing(number: u64, inner: A) -> Self {
+    /// The allocator `inner`, whose request of this number, counted from 1, is refused.
+    pub fn refusing(number: u64, inner: A) -> Self
+        ensures { result.ration ≡ Some number }
+    {
+        Rationed::counted(Some(number), inner)
+    }
+
+    /// The allocator `inner`, whose requests are counted, and of which this one is refused.
+    fn counted(refused: Option<u64>, inner: A) -> Self
+        ensures { result.ration ≡ refused }
+    {
         let ration = Ration {
             asked: Cell::new(0),
             given_back: Cell::new(0),
             bytes: Cell::new(0),
-            refused: number,
+            refused,
         };
         Rationed { ration, inner }
     }

@@ -1,7 +1,7 @@
 -- The request is counted by the ration, and then refused or passed on to the inner allocator. Assumes `Logic`.
 --     Wrapped, Held      the handle's row, and what a `&` to a ration holds
 --     Asks, at_asks, asks-goes, asks-gives      `refuses_next` at its call: its contract, what it is handed, and what it leaves, a `bool` and the token
-use Rattle.std.proofs.Common.{◌≡◌, ℕ, ◌+◌, Bool, true, false, List, [], ◌∷◌, Ok, Err, refl, ap, w64}
+use Rattle.std.proofs.Common.{◌≡◌, ℕ, ◌+◌, Bool, true, false, Option, None, List, [], ◌∷◌, Ok, Err, refl, ap, w64}
 use Prim.Native.Nat.{◌<◌, ◌^◌}
 use seplogic.Ra.Ura.{Ura}
 use mir.Syntax.{Args, Fn, a_type, dnil, dcons}
@@ -51,8 +51,8 @@ use Rattle.glob_replay.proofs.rationing.RationedAllocator.allocate.Code as code
 abbrev Wrapped : RattleType → RattleType
 Wrapped Y = wrapper.the_row (param 0 Y)
 
-abbrev Held : Lft → ℕ × ℕ → ration.the_row.Denot → Fml
-Held κ p now = hidden_shr ration.the_row κ now p.0 p.1
+abbrev Held : Lft → ℕ × ℕ → Option ℕ → Fml
+Held κ p refused = hidden_shr ration.the_row κ refused p.0 p.1
 
 module _ {M : Type 1} {𝓤 : Ura M} (𝓛 : Logic 𝓤) (at_mem : Memory → SProp 𝓤) (run : Routine → Fun 𝓤) where
   open 𝓛 use {H, A}
@@ -60,12 +60,12 @@ module _ {M : Type 1} {𝓤 : Ura M} (𝓛 : Logic 𝓤) (at_mem : Memory → SP
   abbrev Asks : Contract 𝓤
   Asks = triple_of 𝓛 asks.signature (asks.spec 𝓛 at_mem run)
 
-  module _ (κ : Lft) (q : Share) (p : ℕ × ℕ) (now : ration.the_row.Denot) (n : ℕ) where
+  module _ (κ : Lft) (q : Share) (p : ℕ × ℕ) (refused : Option ℕ) (n : ℕ) where
     abbrev at_asks : Asks.Ghost
-    at_asks = (((κ, tt), (q, tt), tt, (record { ref_ptr = p; now = now }, (n, tt)), (vptr p.0 p.1 ∷ [], (vint w64 n ∷ [], tt))), tt)
+    at_asks = (((κ, tt), (q, tt), tt, (record { ref_ptr = p; now = refused }, (n, tt)), (vptr p.0 p.1 ∷ [], (vint w64 n ∷ [], tt))), tt)
 
-    asks-goes : n < 2 ^ 64 → ent 𝓤 (sep 𝓤 (sem 𝓛 (Held κ p now)) (A.lft κ q)) (Asks.pre at_asks)
-    asks-goes fits = qed 𝓛 (‵ (Held κ p now) ∷ ‵ (flft κ q) ∷ []) ∵
+    asks-goes : n < 2 ^ 64 → ent 𝓤 (sep 𝓤 (sem 𝓛 (Held κ p refused)) (A.lft κ q)) (Asks.pre at_asks)
+    asks-goes fits = qed 𝓛 (‵ (Held κ p refused) ∷ ‵ (flft κ q) ∷ []) ∵
         nothing ! $ flt_i ! n (2 ^ 64) fits $ feq_i ! (List Val) (vint w64 n ∷ []) (vint w64 n ∷ []) refl $ fjoin ! $ fjoin ! $
         move ! (1 ∷ []) $ feq_i ! (List Val) (vptr p.0 p.1 ∷ []) (vptr p.0 p.1 ∷ []) refl $ fjoin ! $ fjoin ! $
         nothing ! $ move ! (2 ∷ 0 ∷ []) $ join ! $ join ! $ nothing ! $ move ! (1 ∷ 0 ∷ []) $ join ! $ done !
@@ -73,7 +73,7 @@ module _ {M : Type 1} {𝓤 : Ura M} (𝓛 : Logic 𝓤) (at_mem : Memory → SP
     asks-gives : (v : Val) → ent 𝓤 (Asks.post at_asks v) (H.⇛ (ex 𝓤 (λ (y : Bool). guard 𝓤 (v ≡ vbool y) (A.lft κ q))))
     asks-gives v = qed 𝓛 (raw (Asks.post at_asks v) ∷ []) ∵ updating ! $
         use1 𝓛 (later (some (λ (y : Bool). ((‵ (flft κ q) ⊛ ‵ ftrue) ⊛ ‵ (bool.own_val y (v ∷ [])))
-        ⊛ some (λ (ws : Unit {0} × (Unit {0} × Unit {0})). ‵ (fsep ftrue (fsep ftrue ftrue)) ⊛ ‵ ftrue)))) (id⊢ 𝓤 _) $ await ! tt $ pick ! (λ y.
+        ⊛ some (λ (ws : Unit {0} × (Unit {0} × Unit {0})). ‵ (fsep ftrue (fsep ftrue ftrue)) ⊛ given (refused ≡ None → y ≡ false) (‵ ftrue))))) (id⊢ 𝓤 _) $ await ! tt $ pick ! (λ y.
         split ! $ split ! $ move ! (1 ∷ []) $ feq_l ! (λ e. split ! $ at_once ! $ show ! (λ (z : Bool). guard 𝓤 (v ≡ vbool z) (A.lft κ q)) y $ check ! (ap only e) $ keep ! (0 ∷ []) $ done !))
 
 pub allocate_spec : {M : Type 1} → statement M
@@ -90,7 +90,7 @@ allocate_spec 𝓤 𝓛 𝓜 𝓡 wired Y L g d d' met _ =
     (λ κs. (shr_vals, (uint_vals w64, (uint_vals w64, tt)))) (λ κs. ((λ r vs s. s.0), (uint_Tells w64, (uint_Tells w64, tt))))
     (λ κs qs bounds a τ are.
     let r = a.0 in let n = a.1.0 in let al = a.1.1.0 in let h : Y.Denot = r.now.inner in let κ : Lft = κs.0 in let κ' : Lft = κs.1.0 in let q : Share = qs.0 in
-    let counter : ℕ × ℕ = (r.ref_ptr.0, r.ref_ptr.1 + 0) in let inner : ℕ × ℕ = (r.ref_ptr.0, r.ref_ptr.1 + up (align (α Z)) 32) in
+    let counter : ℕ × ℕ = (r.ref_ptr.0, r.ref_ptr.1 + 0) in let inner : ℕ × ℕ = (r.ref_ptr.0, r.ref_ptr.1 + up (align (α Z)) 40) in
     let z : (walk_of 𝓛 En hs c).Ghost = ((κs, qs, bounds, a, (shr_vals r, (vint w64 n ∷ [], (vint w64 al ∷ [], tt)))), τ) in
     let Post : Val → SProp 𝓤 = (walk_of 𝓛 En hs c).post z in
     let Said : Type 0 = (capped (size τ) ≡ n) × (capped (align τ) ≡ al) in

@@ -1,7 +1,7 @@
 -- The block is counted by the ration, and then goes back to the inner allocator. Assumes `Logic`.
 --     Wrapped, Held      the handle's row, and what a `&` to a ration holds
 --     Counts, at_counts, counts-goes, counts-gives      `count_return` at its call: its contract, what it is handed, and what it leaves, `()` and the token
-use Rattle.std.proofs.Common.{◌≡◌, ℕ, ◌+◌, List, [], ◌∷◌, refl, ap, sym, subst, w64}
+use Rattle.std.proofs.Common.{◌≡◌, ℕ, ◌+◌, Option, List, [], ◌∷◌, refl, ap, sym, subst, w64}
 use lib.Dec.{T}
 use mir.Syntax.{Args, Fn, a_type, ty_unit, dnil, dcons}
 use seplogic.Ra.Ura.{Ura}
@@ -51,8 +51,8 @@ use Rattle.glob_replay.proofs.rationing.RationedAllocator.deallocate.Code as cod
 abbrev Wrapped : RattleType → RattleType
 Wrapped Y = wrapper.the_row (param 0 Y)
 
-abbrev Held : Lft → ℕ × ℕ → ration.the_row.Denot → Fml
-Held κ p now = hidden_shr ration.the_row κ now p.0 p.1
+abbrev Held : Lft → ℕ × ℕ → Option ℕ → Fml
+Held κ p refused = hidden_shr ration.the_row κ refused p.0 p.1
 
 module _ {M : Type 1} {𝓤 : Ura M} (𝓛 : Logic 𝓤) (at_mem : Memory → SProp 𝓤) (run : Routine → Fun 𝓤) where
   open 𝓛 use {H, A}
@@ -60,12 +60,12 @@ module _ {M : Type 1} {𝓤 : Ura M} (𝓛 : Logic 𝓤) (at_mem : Memory → SP
   abbrev Counts : Contract 𝓤
   Counts = triple_of 𝓛 counts.signature (counts.spec 𝓛 at_mem run)
 
-  module _ (κ : Lft) (q : Share) (p : ℕ × ℕ) (now : ration.the_row.Denot) where
+  module _ (κ : Lft) (q : Share) (p : ℕ × ℕ) (refused : Option ℕ) where
     abbrev at_counts : Counts.Ghost
-    at_counts = (((κ, tt), (q, tt), tt, (record { ref_ptr = p; now = now }, tt), (vptr p.0 p.1 ∷ [], tt)), tt)
+    at_counts = (((κ, tt), (q, tt), tt, (record { ref_ptr = p; now = refused }, tt), (vptr p.0 p.1 ∷ [], tt)), tt)
 
-    counts-goes : ent 𝓤 (sep 𝓤 (sem 𝓛 (Held κ p now)) (A.lft κ q)) (Counts.pre at_counts)
-    counts-goes = qed 𝓛 (‵ (Held κ p now) ∷ ‵ (flft κ q) ∷ []) ∵
+    counts-goes : ent 𝓤 (sep 𝓤 (sem 𝓛 (Held κ p refused)) (A.lft κ q)) (Counts.pre at_counts)
+    counts-goes = qed 𝓛 (‵ (Held κ p refused) ∷ ‵ (flft κ q) ∷ []) ∵
         feq_i ! (List Val) (vptr p.0 p.1 ∷ []) (vptr p.0 p.1 ∷ []) refl $ fjoin ! $ nothing ! $ move ! (1 ∷ 0 ∷ []) $ fjoin ! $
         nothing ! $ move ! (2 ∷ 0 ∷ []) $ join ! $ join ! $ nothing ! $ move ! (1 ∷ 0 ∷ []) $ done !
 
@@ -89,7 +89,7 @@ deallocate_spec 𝓤 𝓛 𝓜 𝓡 wired Y L g d d' met _ =
     (λ κs. (shr_vals, (rawptr_vals, (uint_vals w64, (uint_vals w64, tt))))) (λ κs. ((λ r vs s. s.0), (rawptr_Tells, (uint_Tells w64, (uint_Tells w64, tt)))))
     (λ κs qs bounds a τ are.
     let r = a.0 in let n = a.1.1.0 in let al = a.1.1.1.0 in let h : Y.Denot = r.now.inner in let κ : Lft = κs.0 in let κ' : Lft = κs.1.0 in let q : Share = qs.0 in
-    let counter : ℕ × ℕ = (r.ref_ptr.0, r.ref_ptr.1 + 0) in let inner : ℕ × ℕ = (r.ref_ptr.0, r.ref_ptr.1 + up (align (α Z)) 32) in
+    let counter : ℕ × ℕ = (r.ref_ptr.0, r.ref_ptr.1 + 0) in let inner : ℕ × ℕ = (r.ref_ptr.0, r.ref_ptr.1 + up (align (α Z)) 40) in
     let vs : Ptr → List Val = λ x. vptr r.ref_ptr.0 r.ref_ptr.1 ∷ ptr_val x ∷ vint w64 n ∷ vint w64 al ∷ [] in
     let z : Ptr → (walk_of 𝓛 En hs c).Ghost = λ x. ((κs, qs, bounds, (r, (x, (n, (al, tt)))), (shr_vals r, (rawptr_vals x, (vint w64 n ∷ [], (vint w64 al ∷ [], tt))))), τ) in
     let Post : Ptr → Val → SProp 𝓤 = λ x. (walk_of 𝓛 En hs c).post (z x) in
