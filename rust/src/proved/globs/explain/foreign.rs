@@ -12,8 +12,8 @@ use bracket::add_bracket;
 /// At most so many patterns are written instead of one.
 const MOST_WAYS: usize = 8;
 
-/// Characters that are not in a bracket what they are between braces: some have a meaning there, or in a bracket, and
-/// the rules for `/` and a leading `.` are those of brackets alone.
+/// Characters for which a bracket is no substitute for braces: some have a meaning here or in a bracket, and under the
+/// rules a bracket takes neither a `/` nor a leading `.`.
 static UNLIKE_IN_BRACKETS: &[char] = &['*', '?', '!', '^', '-', ']', '/', '.'];
 
 /// The characters that have a meaning here, and what stands for each where it is escaped.
@@ -77,6 +77,7 @@ fn native_ways(pattern: &str) -> Vec<String> {
     let mut ways = Vec::new();
     ways.push(String::new());
     let mut rest = pattern;
+    // Each form has at least one byte, so that these turns suffice. Those that are left add nothing.
     for _ in 0..pattern.len() {
         let Some(after) = add_form(&mut ways, rest) else {
             return Vec::new();
@@ -104,7 +105,8 @@ fn add_to_each<'a>(ways: &mut [String], text: &'a str) -> Option<&'a str> {
     after
 }
 
-/// Adds what stands for the first form of a text, if that is no choice of longer texts, as `add_form`.
+/// Adds what stands for the first form of a text. A choice is one of single characters here: `add_form` took the
+/// others.
 fn add_native<'a>(made: &mut String, text: &'a str) -> Option<&'a str> {
     if let Some(after) = text.strip_prefix('[') {
         return add_bracket(made, after);
@@ -202,7 +204,7 @@ fn add_alternatives<'a>(ways: &mut Vec<String>, inner: &str, after: &'a str) -> 
     }
 }
 
-/// Whether a `*` is right before another one only since the text between is put between the others.
+/// Whether two `*` meet where the three texts are joined.
 fn joins_stars(before: &str, between: &str, after: &str) -> bool {
     let follows = if between.is_empty() { after } else { between };
     (before.ends_with('*') && follows.starts_with('*')) || (between.ends_with('*') && after.starts_with('*'))
