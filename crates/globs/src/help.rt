@@ -89,9 +89,9 @@ Each path that one of the patterns matches is written once, in ascending byte or
 What is ignored is never listed, nor what is below it. Where one pattern finds nothing and contains
 a form of another tool, such as ~/ or [^a], a line on standard error says what that is here.
 
-Without -i a search by one pattern usually enters only directories that the pattern can reach. One by
-several patterns usually enters only the directories that all of them begin with, and those below:
-'src/*.{c,h}' lists src alone.
+Without -i a search by one pattern usually enters only directories that the pattern can reach. One
+by several patterns usually enters only the directories that all of them begin with, and those
+below: 'src/*.{c,h}' lists src alone.
 
 Status:
   0         a path was written
