@@ -1,8 +1,9 @@
 -- What is written of a walk: the paths that are wanted.
-use Rattle.std.specs.Prelude.{◌≡◌, ℕ, ◌<◌, ◌≤◌, ◌⊎◌, if◌then◌else◌, Bool, true, false, List, [], ◌∷◌, Option, ⊤}
+use Rattle.std.specs.Prelude.{◌≡◌, ℕ, ◌<◌, ◌≤◌, ◌⊎◌, if◌then◌else◌, Bool, true, false, List, [], ◌∷◌, Option, ⊤, codes}
 use Rattle.std.specs.List.{filter}
 use Rattle.std.specs.Io.KnownBytes.{Appends}
 use Rattle.glob_lines.specs.Lines.{AppendsFront, with_ends}
+use Rattle.glob_pattern.specs.Words.{refusal_words}
 use Rattle.glob_walk.specs.Marks.{Mark, Item, Found, Unread, items, cost, front, paths}
 use Rattle.glob_text.specs.Text.{Text}
 use Rattle.glob_walk.specs.declared.ending.End.{End}
@@ -89,3 +90,8 @@ IsRefusal (Write error) = ⊥
 abbrev pub IsFindFault : (pattern : Text) → FindFault → Type 0
 IsFindFault pattern (Pattern refusal) = RefusesWith (walk_fault pattern) refusal
 IsFindFault pattern (Write error) = ⊤
+
+-- what the line of a fault says where there is memory for it, and, if it has one, that of a write that failed
+abbrev pub find_fault_words : FindFault → Text
+find_fault_words (Pattern refusal) = refusal_words refusal
+find_fault_words (Write error) = codes "writing failed"

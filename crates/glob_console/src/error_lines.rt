@@ -1,7 +1,7 @@
 //! The lines of standard error.
-ghost use Rattle.std.specs.Prelude.{◌≡◌, ◌++◌, ◌↔◌, IfSome, IsFalse, IsTrue, codes};
+ghost use Rattle.std.specs.Prelude.{◌≡◌, ◌++◌, ◌↔◌, IfSome, IsFalse, IsTrue, codes, false, true};
 ghost use Rattle.std.specs.IoError.{error_kind};
-ghost use Rattle.std.specs.declared.io.ErrorKind.TheVariants.{BrokenPipe};
+ghost use Rattle.std.specs.declared.io.ErrorKind.TheVariants.{BrokenPipe, OutOfMemory};
 ghost use Rattle.glob_console.specs.Lines.{WritesLine};
 ghost use Rattle.glob_lines.specs.Lines.{AppendsFront};
 
@@ -26,7 +26,8 @@ pub struct ErrorLines<'e, A: Allocator, E> {
 impl<'e, A: Allocator + Copy, E: Write> ErrorLines<'e, A, E> {
     /// Lines of the writer that begin with `prefix`.
     pub fn new(alloc: A, prefix: &'e str, writer: &'e mut E) -> Self
-        ensures { result.prefix.now ≡ prefix.entry.now }
+        ensures prefix { result.prefix.now ≡ prefix.entry.now }
+        ensures quiet { result.is_quiet ≡ false }
     {
         ErrorLines {
             alloc,
@@ -38,7 +39,8 @@ impl<'e, A: Allocator + Copy, E: Write> ErrorLines<'e, A, E> {
 
     /// The same lines, but none for a write whose reader went away.
     pub fn quiet(alloc: A, prefix: &'e str, writer: &'e mut E) -> Self
-        ensures { result.prefix.now ≡ prefix.entry.now }
+        ensures prefix { result.prefix.now ≡ prefix.entry.now }
+        ensures quiet { result.is_quiet ≡ true }
     {
         ErrorLines {
             is_quiet: true,
@@ -48,8 +50,10 @@ impl<'e, A: Allocator + Copy, E: Write> ErrorLines<'e, A, E> {
 
     /// As [`write_line`], behind the words that the lines begin with.
     pub fn write<D: Display>(&mut self, message: &D)
-        ensures { IfSome (D.output message.now) (λ text. WritesLine self.old.prefix.now text
+        ensures line { IfSome (D.output message.now) (λ text. WritesLine self.old.prefix.now text
             (E.contents self.old.writer.now) (E.contents self.new.writer.now)) }
+        ensures prefix { self.new.prefix.now ≡ self.old.prefix.now }
+        ensures quiet { self.new.is_quiet ≡ self.old.is_quiet }
     {
         write_line(self.alloc, self.prefix, message, self.writer);
     }
@@ -59,6 +63,8 @@ impl<'e, A: Allocator + Copy, E: Write> ErrorLines<'e, A, E> {
         ensures status { result ≡ 2 }
         ensures line { IfSome (D.output message) (λ text. WritesLine self.old.prefix.now text
             (E.contents self.old.writer.now) (E.contents self.new.writer.now)) }
+        ensures prefix { self.new.prefix.now ≡ self.old.prefix.now }
+        ensures quiet { self.new.is_quiet ≡ self.old.is_quiet }
     {
         self.write(&message);
         FAULT
@@ -67,7 +73,16 @@ impl<'e, A: Allocator + Copy, E: Write> ErrorLines<'e, A, E> {
     /// Writes the line of a write to the output that failed, and returns the status of a fault: `out of memory`, or
     /// `writing failed`. Quiet lines have none where the reader of the output went away.
     pub fn write_fault(&mut self, error: &io::Error) -> u8
-        ensures { result ≡ 2 }
+        ensures status { result ≡ 2 }
+        ensures line { WritesLine self.old.prefix.now (codes "writing failed")
+            (E.contents self.old.writer.now) (E.contents self.new.writer.now) }
+        ensures memory { error_kind error.now ≡ OutOfMemory
+            → WritesLine self.old.prefix.now (codes "out of memory")
+            (E.contents self.old.writer.now) (E.contents self.new.writer.now) }
+        ensures gone { IsTrue self.old.is_quiet → error_kind error.now ≡ BrokenPipe
+            → E.contents self.new.writer.now ≡ E.contents self.old.writer.now }
+        ensures prefix { self.new.prefix.now ≡ self.old.prefix.now }
+        ensures quiet { self.new.is_quiet ≡ self.old.is_quiet }
     {
         if !is_reported(self.is_quiet, error) {
             return FAULT;
@@ -81,7 +96,14 @@ impl<'e, A: Allocator + Copy, E: Write> ErrorLines<'e, A, E> {
     /// Writes the line of arguments that could not be read: `out of memory`, or `message` where one is not UTF-8. It
     /// returns the status of a fault.
     pub fn arguments_fault(&mut self, error: &io::Error, message: &str) -> u8
-        ensures { result ≡ 2 }
+        ensures status { result ≡ 2 }
+        ensures line { WritesLine self.old.prefix.now message.now
+            (E.contents self.old.writer.now) (E.contents self.new.writer.now) }
+        ensures memory { error_kind error.now ≡ OutOfMemory
+            → WritesLine self.old.prefix.now (codes "out of memory")
+            (E.contents self.old.writer.now) (E.contents self.new.writer.now) }
+        ensures prefix { self.new.prefix.now ≡ self.old.prefix.now }
+        ensures quiet { self.new.is_quiet ≡ self.old.is_quiet }
     {
         match error.kind() {
             io::ErrorKind::OutOfMemory => self.fault("out of memory"),

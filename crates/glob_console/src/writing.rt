@@ -1,5 +1,6 @@
 //! Writes of whole texts.
-ghost use Rattle.std.specs.Prelude.{◌≤◌};
+ghost use Rattle.std.specs.Prelude.{◌≡◌, ◌≤◌, codes};
+ghost use Rattle.glob_console.specs.Lines.{WritesLine};
 ghost use Rattle.glob_console.specs.Outcomes.{WritesText};
 
 use crate::error_lines::ErrorLines;
@@ -17,6 +18,12 @@ pub fn write_text<A: Allocator + Copy, W: Write, E: Write>(
 ) -> u8
     ensures most { result ≤ 2 }
     ensures written { WritesText text.now (W.contents output.old) (W.contents output.new) result }
+    ensures line { WritesLine errors.old.prefix.now (codes "writing failed")
+        (E.contents errors.old.writer.now) (E.contents errors.new.writer.now) }
+    ensures silent { result ≡ 0
+        → E.contents errors.new.writer.now ≡ E.contents errors.old.writer.now }
+    ensures prefix { errors.new.prefix.now ≡ errors.old.prefix.now }
+    ensures quiet { errors.new.is_quiet ≡ errors.old.is_quiet }
 {
     match write_whole(output, text.as_bytes()) {
         Ok(()) => FOUND,

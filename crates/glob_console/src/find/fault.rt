@@ -1,5 +1,7 @@
 //! Why a search wrote less than it found.
 ghost use Rattle.std.specs.Prelude.{◌≡◌};
+ghost use Rattle.glob_console.specs.FoundPaths.{find_fault_words};
+ghost use Rattle.glob_console.specs.Lines.{WritesLine};
 
 use crate::error_lines::ErrorLines;
 use glob_pattern::PatternRefusal;
@@ -42,7 +44,11 @@ impl From<io::Error> for FindFault {
 impl FindFault {
     /// Writes the line of the fault, and returns its status.
     pub fn report<A: Allocator + Copy, E: io::Write>(self, errors: &mut ErrorLines<'_, A, E>) -> u8
-        ensures { result ≡ 2 }
+        ensures status { result ≡ 2 }
+        ensures line { WritesLine errors.old.prefix.now (find_fault_words self)
+            (E.contents errors.old.writer.now) (E.contents errors.new.writer.now) }
+        ensures prefix { errors.new.prefix.now ≡ errors.old.prefix.now }
+        ensures quiet { errors.new.is_quiet ≡ errors.old.is_quiet }
     {
         match self {
             FindFault::Pattern(refusal) => errors.fault(refusal),

@@ -14,7 +14,7 @@ returns-in-Ok-clause-copied g c =
 
 pub returns-in-Err-Write-clause-copied : goal.returns-in-Err-Write-clause-copied
 returns-in-Err-Write-clause-copied g c =
-    copies_bytes c.args.end _ (input_of g.R.Read.remaining c.args.input.now c.copy_input.new.input) _ _ _ c.write_fault.ensures c.in-Err-Write.ensures.some c.copy_input.ensures.whole
+    copies_bytes c.args.end _ (input_of g.R.Read.remaining c.args.input.now c.copy_input.new.input) _ _ _ c.write_fault.ensures.status c.in-Err-Write.ensures.some c.copy_input.ensures.whole
 
 pub returns-in-Err-clause-copied : goal.returns-in-Err-clause-copied
 returns-in-Err-clause-copied g c =

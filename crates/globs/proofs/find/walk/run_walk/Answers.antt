@@ -8,4 +8,4 @@ returns-in-Ok-clause-written g c c' told = inl (c.in-Ok.findings, c.in-Ok.ensure
 
 pub returns-in-Err-clause-written : goal.returns-in-Err-clause-written
 unfolding WritesFound
-returns-in-Err-clause-written g c c' told = inr (c.report.ensures, c.in-Err.ensures.some c' told)
+returns-in-Err-clause-written g c c' told = inr (c.report.ensures.status, c.in-Err.ensures.some c' told)
