@@ -13,10 +13,9 @@ use std::alloc::{AllocError, Global};
 
 /// Whether the pattern matches the text, under the options that the flags say: 0 for no, and 1 for yes.
 ///
-/// After 1 `out` begins with where each token's piece starts and ends, in bytes; after 0 with where the text stops, and
-/// the numbers of the tokens that stopped there. `count` says how many numbers these are. The others: 2 for bytes that
-/// are no pattern, 3 if an allocation fails, 4 for bytes that are no UTF-8, and 5 where the text or the buffer is too
-/// large or small.
+/// After 1 `out` begins with where each token's piece starts and ends, in bytes; after 0 with where the text stops, and the
+/// numbers of the tokens that stopped there. `count` says how many numbers these are. The others: 2 for bytes that are no
+/// pattern, 3 if an allocation fails, 4 for bytes that are no UTF-8, and 5 where the text or the buffer is too large or small.
 #[unsafe(no_mangle)]
 pub extern "C" fn page_match(
     alloc: Global,

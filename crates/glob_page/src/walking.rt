@@ -9,13 +9,13 @@ use glob_tree::{Entry, Look, MemTree, TreeRefusal};
 use glob_walk::{Answer, Step, WalkMachine};
 use std::alloc::{AllocError, Global};
 
-/// Walks after the pattern over a tree of these paths, one a line, where that of a directory ends in `/` and each
-/// follows its own directory, with at most `limit` units. `out` then begins with what the walk did, as lines, and
-/// `count` says in how many bytes.
+/// Walks after the pattern over a tree of these paths, one a line, where that of a directory ends in `/` and each follows its
+/// own directory, with at most `limit` units. `out` then begins with what the walk did, as lines, and `count` says in how
+/// many bytes.
 ///
 /// The answer is 1; or 2 for bytes that are no pattern of a walk, with the message in `out` and the fault's place, in
-/// characters, in `place`; or 3 if an allocation fails, 4 for bytes that are no UTF-8, 5 if `out` is too short, and 6
-/// for a path that cannot be added, with its number, from 0, in `place`.
+/// characters, in `place`; or 3 if an allocation fails, 4 for bytes that are no UTF-8, 5 if `out` is too short, and 6 for a
+/// path that cannot be added, with its number, from 0, in `place`.
 #[unsafe(no_mangle)]
 pub extern "C" fn page_walk(
     alloc: Global,

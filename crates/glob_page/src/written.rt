@@ -10,8 +10,8 @@ use std::alloc::{AllocError, Global};
 /// The tokens of a pattern: of each its kind, and where it is written from and to, in bytes. The kinds are 0 for a
 /// character, 1 `?`, 2 `*`, 3 `**`, 4 a bracket, and 5 one that begins with `!`.
 ///
-/// The answer is 1, after which `out` begins with these numbers and `count` says how many they are; or 2 for bytes that
-/// are no pattern, 3 if an allocation fails, 4 for bytes that are no UTF-8, and 5 if `out` is too short.
+/// The answer is 1, after which `out` begins with these numbers and `count` says how many they are; or 2 for bytes that are
+/// no pattern, 3 if an allocation fails, 4 for bytes that are no UTF-8, and 5 if `out` is too short.
 #[unsafe(no_mangle)]
 pub extern "C" fn page_tokens(
     alloc: Global,
