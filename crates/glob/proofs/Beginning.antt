@@ -35,7 +35,7 @@ module _ {X A : Type 0} (asks : X → ℕ) (tells : X → Option Content) (p : W
   begun_asked = subst (λ t. IsWalkAsked limit (asks t) e spent (asks last)) fresh.tree (subst (λ n. IsWalkAsked n (asks p.tree) e spent (asks last)) fresh.limit ends.asked)
 
   pub begun_told : tells last ≡ tells tree
-  begun_told = ends.told ∙ ap tells fresh.tree
+  begun_told = ends.content ∙ ap tells fresh.tree
 
   pub begun_walk : (c : Content) → IsTold (tells tree) c → (ms : List Mark) → p.left ≡ Some ms → IsWalk ms limit e spent answers
   begun_walk c told ms is = subst (λ n. IsWalk ms n e spent answers) fresh.limit (ends.walk c (ap tells fresh.tree ∙ told.0, told.1) ms is)

@@ -53,7 +53,7 @@ pub record Drives {X A : Type 0} (asks : X → ℕ) (tells : X → Option Conten
   pub given : c.given ≡ v.given
   pub going : v.over ≡ false → c.over ≡ false
   pub stays : v.over ≡ true → (c.asked ≡ None) × (seen_walk tells t c ≡ v)
-  pub told : tells t ≡ tells v.tree
+  pub content : tells t ≡ tells v.tree
   pub asked : asks t + question_units c.asked + v.spent ≡ asks v.tree + c.spent
   pub takes : (x : Content) → IsTold (tells v.tree) x → v.over ≡ false → DriveTakes v c x
 
@@ -62,7 +62,7 @@ module _ {X A : Type 0} (asks : X → ℕ) (tells : X → Option Content) (v : W
     (h : Drives asks tells v t c) (same : tells t' ≡ tells t) (untouched : c.asked ≡ None → t' ≡ t) (more : asks t' ≡ asks t + question_units c.asked + n)
     (k : StepGoes (IsTold (tells t)) n c s c') where
   told_here : (x : Content) → IsTold (tells v.tree) x → IsTold (tells t) x
-  told_here x told = (h.told ∙ told.0, told.1)
+  told_here x told = (h.content ∙ told.0, told.1)
 
   over_here : v.over ≡ true → c.over ≡ true
   over_here over = ap (λ w. w.over) (h.stays over).1 ∙ over
@@ -76,7 +76,7 @@ module _ {X A : Type 0} (asks : X → ℕ) (tells : X → Option Content) (v : W
     given = let none = no_item s question in omega (arith, k.counts.given, h.given, none);
     going = λ _. k.counts.ends ∙ lasting s question;
     stays = λ over. let ends : step_units s ≡ 0 = ap step_units (k.counts.stays (over_here over)).0 in absurd (omega (arith, question, ends));
-    told = same ∙ h.told;
+    content = same ∙ h.content;
     asked = let asks_one = asked_units s c'.asked k.counts.asks in let spent = charged s question k.counts.charged in omega (arith, h.asked, more, asks_one, question, spent);
     takes = λ x told going.
         let a = h.takes x told going in
@@ -140,7 +140,7 @@ module _ {X A : Type 0} (asks : X → ℕ) (tells : X → Option Content) (v : W
             let (ends, stayed) = k.counts.stays (over_here over) in
             (ap step_outcome ends, ap (λ x. seen_walk tells x c') (untouched free) ∙ ap (seen_walk tells t) stayed ∙ seen);
       };
-      told = same ∙ h.told;
+      content = same ∙ h.content;
       takes = λ x told. by_over v.over refl x told;
     }
       where
@@ -159,14 +159,14 @@ module _ {X A : Type 0} (asks : X → ℕ) (tells : X → Option Content) (v : W
         by_saying Ends item e = omega (arith, h.asked, more, e)
 
         has' : (x : Content) → IsTold (tells v.tree) x → option_map (λ y. left_of y c') (tells t') ≡ Some (left_of x c')
-        has' x told = let f : Content → List Mark = λ y. left_of y c' in ap (option_map f) (same ∙ h.told ∙ told.0)
+        has' x told = let f : Content → List Mark = λ y. left_of y c' in ap (option_map f) (same ∙ h.content ∙ told.0)
 
         by_over : (b : Bool) → v.over ≡ b → (x : Content) → IsTold (tells v.tree) x → Takes tells v (step_outcome s) (seen_walk tells t' c') x
         by_over false e x told =
             let a = h.takes x told e in
             let b = k.takes x (told_here x told) (h.going e) a.agrees in
             record {
-              told = (same ∙ h.told ∙ told.0, told.1);
+              content = (same ∙ h.content ∙ told.0, told.1);
               old_left = a.old_left;
               new_left = left_of x c';
               had = a.had;
@@ -175,10 +175,10 @@ module _ {X A : Type 0} (asks : X → ℕ) (tells : X → Option Content) (v : W
               takes = λ going. taken s last a.old_left (left_of x c) (left_of x c') a.charges b.takes;
             }
         by_over true e x told = record {
-          told = (same ∙ h.told ∙ told.0, told.1);
+          content = (same ∙ h.content ∙ told.0, told.1);
           old_left = left_of x c;
           new_left = left_of x c';
-          had = let f : Content → List Mark = λ y. left_of y c in ap (λ w. w.left) (sym (h.stays e).1) ∙ ap (option_map f) (h.told ∙ told.0);
+          had = let f : Content → List Mark = λ y. left_of y c in ap (λ w. w.left) (sym (h.stays e).1) ∙ ap (option_map f) (h.content ∙ told.0);
           has = has' x told;
           upto = λ going. absurd (both_ways v.over going e);
           takes = λ going. absurd (both_ways v.over going e);
@@ -195,7 +195,7 @@ module _ {X A : Type 0} (asks : X → ℕ) (tells : X → Option Content) (v : W
     }
       where
         told_first : (x : Content) → IsTold (tells t') x → IsTold (tells v.tree) x
-        told_first x told = (sym (same ∙ h.told) ∙ told.0, told.1)
+        told_first x told = (sym (same ∙ h.content) ∙ told.0, told.1)
 
         going_first : c'.over ≡ false → v.over ≡ false
         going_first going = by_over v.over refl

@@ -116,7 +116,7 @@ cost-past_works (p ∷ ps) ms = let rest = cost-past_works ps ms in omega (arith
 -- What a loop over a walk has been given so far, where no answer was an error: the items found, and those of what is
 -- left, come to all that the written listing had, and so do the units charged and those that are left.
 pub record FindsSoFar {X : Type 0} (tells : X → Option Content) (first now : Walking X) (found : List Text) : Type 0 where
-  pub told : tells now.tree ≡ tells first.tree
+  pub content : tells now.tree ≡ tells first.tree
   pub going : now.over ≡ false
   pub limit : now.limit ≡ first.limit
   pub left : (c : Content) → IsTold (tells first.tree) c → (ms : List Mark) → first.left ≡ Some ms
@@ -126,7 +126,7 @@ pub record FindsSoFar {X : Type 0} (tells : X → Option Content) (first now : W
 -- nothing was given yet
 pub FindsSoFar-start : {X : Type 0} (tells : X → Option Content) (first : Walking X) → first.over ≡ false → FindsSoFar tells first first []
 FindsSoFar-start tells first going = record {
-  told = refl;
+  content = refl;
   going = going;
   limit = refl;
   left = λ c told ms is. (ms, is, refl, refl);
@@ -136,12 +136,12 @@ module _ {X : Type 0} (asks : X → ℕ) (tells : X → Option Content) (first n
   -- one more path is given
   FindsSoFar-more : (path : Text) → Goes asks tells now (Some (Gives (Found path))) new → FindsSoFar tells first new (found ++ path ∷ [])
   FindsSoFar-more path goes = record {
-    told = goes.told ∙ finds.told;
+    content = goes.content ∙ finds.content;
     going = goes.counts.ends;
     limit = goes.counts.limit ∙ finds.limit;
     left = λ c told ms is.
         let l = finds.left c told ms is in
-        let t = goes.takes c (finds.told ∙ told.0, told.1) in
+        let t = goes.takes c (finds.content ∙ told.0, told.1) in
         let took : Charges t.old_left now.spent (Give (Found path) ∷ t.new_left) new.spent = t.takes finds.going in
         let same : l.0 ≡ t.old_left = same_Some l.0 t.old_left (sym l.1 ∙ t.had) in
         let next : items l.0 ≡ Found path ∷ items t.new_left = ap items (same ∙ took.front) ∙ items-past_works took.paths (Give (Found path) ∷ t.new_left) in
@@ -165,7 +165,7 @@ module _ {X : Type 0} (asks : X → ℕ) (tells : X → Option Content) (first n
       → found_items found ≡ items ms
   FindsSoFar-end goes c told ms is =
       let l = finds.left c told ms is in
-      let t = goes.takes c (finds.told ∙ told.0, told.1) in
+      let t = goes.takes c (finds.content ∙ told.0, told.1) in
       let took : Charges t.old_left now.spent [] new.spent × (t.new_left ≡ []) = t.takes finds.going in
       let same : l.0 ≡ t.old_left = same_Some l.0 t.old_left (sym l.1 ∙ t.had) in
       let none : items l.0 ≡ [] = ap items (same ∙ took.0.front) ∙ items-past_works took.0.paths [] in
@@ -182,7 +182,7 @@ module _ {X : Type 0} (asks : X → ℕ) (tells : X → Option Content) (first n
       → (ms : List Mark) → first.left ≡ Some ms → Contains (items ms) (Unread path kind)
   FindsSoFar-unread path kind goes c told ms is =
       let l = finds.left c told ms is in
-      let t = goes.takes c (finds.told ∙ told.0, told.1) in
+      let t = goes.takes c (finds.content ∙ told.0, told.1) in
       let took : Charges t.old_left now.spent (Give (Unread path kind) ∷ t.new_left) new.spent = t.takes finds.going in
       let same : l.0 ≡ t.old_left = same_Some l.0 t.old_left (sym l.1 ∙ t.had) in
       let next : items l.0 ≡ Unread path kind ∷ items t.new_left = ap items (same ∙ took.front) ∙ items-past_works took.paths (Give (Unread path kind) ∷ t.new_left) in
@@ -194,7 +194,7 @@ module _ {X : Type 0} (asks : X → ℕ) (tells : X → Option Content) (first n
       → (ms : List Mark) → first.left ≡ Some ms → first.limit < cost ms + first.spent
   FindsSoFar-limit path goes c told ms is =
       let l = finds.left c told ms is in
-      let t = goes.takes c (finds.told ∙ told.0, told.1) in
+      let t = goes.takes c (finds.content ∙ told.0, told.1) in
       let stops : StopsAt t.old_left now.spent path new.spent = t.takes finds.going in
       let same : l.0 ≡ t.old_left = same_Some l.0 t.old_left (sym l.1 ∙ t.had) in
       let costs : cost l.0 ≡ suc (cost stops.rest) + length stops.charges.paths = ap cost (same ∙ stops.charges.front) ∙ cost-past_works stops.charges.paths (Work path ∷ stops.rest) in

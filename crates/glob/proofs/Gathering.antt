@@ -118,7 +118,7 @@ pub record Gathers {X A : Type 0} (asks : X → ℕ) (tells : X → Option Conte
   pub within : now.spent ≤ first.limit
   pub asked : asks now.tree ≡ asks first.tree + now.spent
   pub going : now.over ≡ false
-  pub told : tells now.tree ≡ tells first.tree
+  pub content : tells now.tree ≡ tells first.tree
   pub plain : HasNoRefusal answers
   pub count : now.given ≡ length answers
   pub few : length answers ≤ now.spent + 1
@@ -132,7 +132,7 @@ Gathers-none {A = A} asks tells first fresh = record {
   within = omega (arith, fresh.spent);
   asked = omega (arith, fresh.spent);
   going = fresh.over;
-  told = refl;
+  content = refl;
   plain = ([], refl);
   count = fresh.given;
   few = omega arith;
@@ -144,7 +144,7 @@ module _ {X A : Type 0} (asks : X → ℕ) (tells : X → Option Content) (first
   taken : (o : Option Outcome) → Goes asks tells now o new → (c : Content) → IsTold (tells first.tree) c → (rest : List Mark) → now.left ≡ Some rest
       → (next : List Mark) × (new.left ≡ Some next) × TakesFront rest now.spent o next new.spent
   taken o goes c h rest had =
-      let t = goes.takes c (g.told ∙ h.0, h.1) in
+      let t = goes.takes c (g.content ∙ h.0, h.1) in
       (t.new_left, t.has, subst (λ xs. TakesFront xs now.spent o t.new_left new.spent) (same_Some t.old_left rest (sym t.had ∙ had)) (t.takes g.going))
 
   pub Gathers-item : (answer : Result (PathBuf A) (GlobError A)) (item : Item) → outcome answer ≡ Gives item → Goes asks tells now (Some (Gives item)) new
@@ -155,7 +155,7 @@ module _ {X A : Type 0} (asks : X → ℕ) (tells : X → Option Content) (first
     within = omega (arith, goes.counts.within, goes.counts.limit, g.same);
     asked = omega (arith, goes.counts.asked, g.asked);
     going = goes.counts.ends;
-    told = goes.told ∙ g.told;
+    content = goes.content ∙ g.content;
     plain = with_item;
     count = omega (arith, goes.counts.given, g.count, length-append answers (answer ∷ []));
     few = omega (arith, goes.counts.given, goes.counts.few, g.count, length-append answers (answer ∷ []));
@@ -177,7 +177,7 @@ module _ {X A : Type 0} (asks : X → ℕ) (tells : X → Option Content) (first
   Ends-done goes = record {
     within = omega (arith, goes.counts.within, goes.counts.limit, g.same);
     asked = omega (arith, goes.counts.asked, g.asked);
-    told = goes.told ∙ g.told;
+    content = goes.content ∙ g.content;
     items = g.plain;
     few = omega (arith, g.few, goes.counts.grows);
     walk = λ c h ms is.
@@ -192,7 +192,7 @@ module _ {X A : Type 0} (asks : X → ℕ) (tells : X → Option Content) (first
   Ends-memory o asked goes = record {
     within = omega (arith, goes.counts.within, goes.counts.limit, g.same);
     asked = omega (arith, asked, g.asked);
-    told = goes.told ∙ g.told;
+    content = goes.content ∙ g.content;
     items = g.plain;
     few = omega (arith, g.few, goes.counts.grows);
     walk = λ c h ms is.
@@ -213,7 +213,7 @@ module _ {X A : Type 0} (asks : X → ℕ) (tells : X → Option Content) (first
   ends_limit path goes = record {
     within = omega (arith, goes.counts.within, goes.counts.limit, g.same);
     asked = (goes.counts.asked.0 ∙ goes.counts.limit ∙ g.same, omega (arith, goes.counts.asked.1, g.asked));
-    told = goes.told ∙ g.told;
+    content = goes.content ∙ g.content;
     items = g.plain;
     few = omega (arith, g.few, goes.counts.grows);
     walk = λ c h ms is.

@@ -55,7 +55,7 @@ pub fn walk_in<T: Tree>(
     ensures within { IfOk result (λ walk. walk.spent ≤ limit) }
     ensures asked { IfOk result
         (λ walk. IsWalkAsked limit (T.asks tree) walk.end walk.spent (T.asks walk.tree)) }
-    ensures told { IfOk result (λ walk. T.tells walk.tree ≡ T.tells tree) }
+    ensures content { IfOk result (λ walk. T.tells walk.tree ≡ T.tells tree) }
     ensures items { IfOk result (λ walk. HasNoRefusal walk.items.items) }
     ensures few { IfOk result (λ walk. length walk.items.items ≤ walk.spent + 1) }
     ensures walk { (c : Content) → IsTold (T.tells tree) c

@@ -1,7 +1,7 @@
 //! Times captures beside matches, in turn.
 
 use crate::timing::count_matches;
-use crate::words::{lines_of, number_of, options_of, read_pattern, unfit};
+use crate::words::{lines_of, number_of, options_of, read_pattern, unusable};
 use glob::{MatchOptions, Pattern};
 use glob_captures::captures;
 use std::alloc::{AllocError, Global};
@@ -19,7 +19,7 @@ struct Times {
 /// Asks a pattern about the lines of a file, and writes the count and the times.
 pub fn compare_captures(rt: &HostRuntime, words: &[&str]) -> io::Result<()> {
     let [letters, pattern, file, rounds] = words else {
-        return Err(unfit());
+        return Err(unusable());
     };
     let rounds = number_of(rounds)?;
     let pattern = read_pattern(rt, pattern)?;
@@ -101,7 +101,7 @@ fn count_captures(
 ) -> io::Result<u64> {
     let mut count = 0u64;
     for line in lines {
-        let found = captures(alloc, pattern, line, options).map_err(|_| unfit())?;
+        let found = captures(alloc, pattern, line, options).map_err(|_| unusable())?;
         if found.is_some() {
             count = count.saturating_add(1);
         }

@@ -31,7 +31,7 @@ use glob_console::{arguments, words_of};
 use sets::{ask_set, make_sets};
 use std::io;
 use timing::{compile_pattern, match_file, walk_levels};
-use words::{lines_of, pattern_text, unfit};
+use words::{lines_of, pattern_text, unusable};
 
 /// Does what the command says with the words after it.
 fn run(rt: &HostRuntime, words: &[&str]) -> io::Result<()> {
@@ -42,7 +42,7 @@ fn run(rt: &HostRuntime, words: &[&str]) -> io::Result<()> {
         ["set", words @ ..] => ask_set(rt, words),
         ["make", words @ ..] => make_sets(rt, words),
         ["captures", words @ ..] => compare_captures(rt, words),
-        _ => Err(unfit()),
+        _ => Err(unusable()),
     }
 }
 

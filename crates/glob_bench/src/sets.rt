@@ -1,6 +1,6 @@
 //! Times sets of patterns.
 
-use crate::words::{lines_of, number_of, options_of, unfit, write_count};
+use crate::words::{lines_of, number_of, options_of, unusable, write_count};
 use glob_set::PatternSet;
 use std::alloc::{AllocError, Global};
 use std::time::Instant;
@@ -26,14 +26,14 @@ fn question_of(word: &str) -> io::Result<Question> {
         "first" => Ok(Question::First),
         "last" => Ok(Question::Last),
         "all" => Ok(Question::All),
-        _ => Err(unfit()),
+        _ => Err(unusable()),
     }
 }
 
 /// The set of the patterns that are the lines of a text.
 fn set_of(alloc: Global, text: &str, letters: &str) -> io::Result<PatternSet> {
     let lines = lines_of(alloc, text)?;
-    PatternSet::from_texts(alloc, lines.as_slice(), options_of(letters)?).map_err(|_| unfit())
+    PatternSet::from_texts(alloc, lines.as_slice(), options_of(letters)?).map_err(|_| unusable())
 }
 
 /// The set of the patterns that are the lines of a file.
@@ -45,7 +45,7 @@ fn read_set(rt: &HostRuntime, file: &str, letters: &str) -> io::Result<PatternSe
 /// Makes sets of the lines of a file over and over.
 pub fn make_sets(rt: &HostRuntime, words: &[&str]) -> io::Result<()> {
     let [letters, file, times] = words else {
-        return Err(unfit());
+        return Err(unusable());
     };
     let times = number_of(times)?;
     let text = fs::read_to_string(rt, file)?;
@@ -67,7 +67,7 @@ fn count_patterns(alloc: Global, text: &str, letters: &str, times: u64) -> io::R
 /// Asks a set about the lines of a file over and over.
 pub fn ask_set(rt: &HostRuntime, words: &[&str]) -> io::Result<()> {
     let [letters, patterns, question, file, times] = words else {
-        return Err(unfit());
+        return Err(unusable());
     };
     let question = question_of(question)?;
     let times = number_of(times)?;

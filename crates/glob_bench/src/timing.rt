@@ -2,7 +2,7 @@
 
 use crate::chain::Chain;
 use crate::words::{
-    lines_of, number_of, options_of, pattern_text, read_pattern, unfit, write_count,
+    lines_of, number_of, options_of, pattern_text, read_pattern, unusable, write_count,
 };
 use glob::{MatchOptions, Pattern, glob_in};
 use std::alloc::{AllocError, Global};
@@ -12,7 +12,7 @@ use std::{fs, io};
 /// Matches the lines of a file over and over.
 pub fn match_file(rt: &HostRuntime, words: &[&str]) -> io::Result<()> {
     let [letters, pattern, file, times] = words else {
-        return Err(unfit());
+        return Err(unusable());
     };
     let times = number_of(times)?;
     let pattern = read_pattern(rt, pattern)?;
@@ -56,7 +56,7 @@ pub fn count_matches(
 /// Reads a pattern over and over.
 pub fn compile_pattern(rt: &HostRuntime, words: &[&str]) -> io::Result<()> {
     let [pattern, times] = words else {
-        return Err(unfit());
+        return Err(unusable());
     };
     let times = number_of(times)?;
     let text = pattern_text(rt, pattern)?;
@@ -69,7 +69,7 @@ pub fn compile_pattern(rt: &HostRuntime, words: &[&str]) -> io::Result<()> {
 fn count_bytes(alloc: Global, text: &str, times: u64) -> io::Result<u64> {
     let mut count = 0u64;
     for _ in 0..times {
-        let pattern = Pattern::new(alloc, text).map_err(|_| unfit())?;
+        let pattern = Pattern::new(alloc, text).map_err(|_| unusable())?;
         count = count.saturating_add(pattern.as_str().len() as u64);
     }
     Ok(count)
@@ -78,7 +78,7 @@ fn count_bytes(alloc: Global, text: &str, times: u64) -> io::Result<u64> {
 /// Walks over so many levels over and over.
 pub fn walk_levels(rt: &HostRuntime, words: &[&str]) -> io::Result<()> {
     let [pattern, levels, times] = words else {
-        return Err(unfit());
+        return Err(unusable());
     };
     let levels = number_of(levels)?;
     let times = number_of(times)?;
@@ -101,7 +101,7 @@ fn count_items(alloc: Global, pattern: &str, levels: u64, times: u64) -> io::Res
 /// How many items a walk over so many levels gives.
 fn count_walk(alloc: Global, pattern: &str, levels: u64) -> io::Result<u64> {
     let tree = Chain::new(alloc, levels as usize);
-    let paths = glob_in(alloc, tree, pattern, MatchOptions::new(), u64::MAX).map_err(|_| unfit())?;
+    let paths = glob_in(alloc, tree, pattern, MatchOptions::new(), u64::MAX).map_err(|_| unusable())?;
     let mut count = 0u64;
     for _ in paths {
         count = count.saturating_add(1);

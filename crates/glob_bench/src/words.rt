@@ -6,18 +6,18 @@ use std::time::Instant;
 use std::{fs, io};
 
 /// The error of words, lines or files that are not what a command takes.
-pub fn unfit() -> io::Error {
+pub fn unusable() -> io::Error {
     io::Error::other("not what a command takes: see the head of src/main.rt")
 }
 
 /// The options that the letters of a word stand for: those of `MatchOptions::from_letters`, or `-` for none.
 pub fn options_of(letters: &str) -> io::Result<MatchOptions> {
-    MatchOptions::from_letters(letters.trim_start_matches('-')).ok_or_else(unfit)
+    MatchOptions::from_letters(letters.trim_start_matches('-')).ok_or_else(unusable)
 }
 
 /// The number that a word stands for.
 pub fn number_of(word: &str) -> io::Result<u64> {
-    word.parse::<u64>().map_err(|_| unfit())
+    word.parse::<u64>().map_err(|_| unusable())
 }
 
 /// The text of a pattern that a word stands for: its own, or that of a file.
@@ -31,7 +31,7 @@ pub fn pattern_text(rt: &HostRuntime, word: &str) -> io::Result<String> {
 /// The pattern that a word stands for.
 pub fn read_pattern(rt: &HostRuntime, word: &str) -> io::Result<Pattern> {
     let text = pattern_text(rt, word)?;
-    Pattern::new(rt.alloc(), text.as_str()).map_err(|_| unfit())
+    Pattern::new(rt.alloc(), text.as_str()).map_err(|_| unusable())
 }
 
 /// The lines of a text.

@@ -125,7 +125,7 @@ fn entries(alloc: Global, name: &str) -> Result<Vec<Entry>, AllocError>
 /// The walk of `*.rs` over a tree with the file `main.rs` alone, within 3 units: the limit suffices, and if no
 /// allocation fails, the one item is `main.rs`.
 pub fn walk_over_main(alloc: Global) -> Result<Walk<OneFile<'static>>, PatternRefusal>
-    ensures enough { IfOk result (λ walk. walk.end ≢ End.Limit) }
+    ensures within { IfOk result (λ walk. walk.end ≢ End.Limit) }
     ensures found { IfOk result (λ walk. walk.end ≡ End.Done
         → AreItems walk.items.items (Found (codes "main.rs") ∷ [])) }
     ensures spent { IfOk result (λ walk. walk.end ≡ End.Done → walk.spent ≡ 3) }

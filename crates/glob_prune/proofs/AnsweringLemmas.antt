@@ -25,12 +25,12 @@ use Rattle.glob_prune.proofs.PermutationLemmas.{IsPermutation-filter}
 use Rattle.glob_prune.proofs.PathLemmas.{look_pruned, list_pruned, list_excluded, kept_of, names_lead}
 
 -- the content of the tree in it
-pub record IsPruned (x : Exclusion) (told : Option Content) (d : Content) : Type 0 where
+pub record IsPruned (x : Exclusion) (known : Option Content) (d : Content) : Type 0 where
   pub content : Content
-  pub told_in : IsTold told content
+  pub told_in : IsTold known content
   pub is : d ≡ pruned x content
 
-pub pruned_content : (x : Exclusion) (told : Option Content) (d : Content) → IsTold (pruned_told x told) d → IsPruned x told d
+pub pruned_content : (x : Exclusion) (known : Option Content) (d : Content) → IsTold (pruned_told x known) d → IsPruned x known d
 unfolding pruned_told
 pruned_content x None d t = absurd (none-some d t.0)
 pruned_content x (Some c) d t = by_test (is_content c) refl t.0
@@ -47,9 +47,9 @@ is_false_from : (b : Bool) → true ≡ not b → b ≡ false
 is_false_from true e = e
 is_false_from false e = refl
 
-module _ (x : Exclusion) (told : Option Content) (d : Content) (t : IsTold (pruned_told x told) d) (path : Text) (down : is_downward path ≡ true) where
-  inner : IsPruned x told d
-  inner = pruned_content x told d t
+module _ (x : Exclusion) (known : Option Content) (d : Content) (t : IsTold (pruned_told x known) d) (path : Text) (down : is_downward path ≡ true) where
+  inner : IsPruned x known d
+  inner = pruned_content x known d t
 
   is_well_formed : IsContent inner.content
   is_well_formed = IsContent-from_test inner.content inner.told_in.1
@@ -64,7 +64,7 @@ module _ (x : Exclusion) (told : Option Content) (d : Content) (t : IsTold (prun
       sym (look_is ∙ ap (λ b. cond (b || is_path_excluded x (path_of (names_of_path path)) (is_directory (look_result inner.content path))) look.Missing (look_result inner.content path))
       (is_true_from (is_above_excluded x (names_of_path path)) above))
 
-  module _ (above : true ≡ not (is_above_excluded x (names_of_path path))) (seen : Look) (asked : (c : Content) → IsTold told c → seen ≡ look_result c path) where
+  module _ (above : true ≡ not (is_above_excluded x (names_of_path path))) (seen : Look) (asked : (c : Content) → IsTold known c → seen ≡ look_result c path) where
     look_own : (b : Bool) → is_path_excluded x (path_of (names_of_path path)) (is_directory seen) ≡ b → look_result d path ≡ cond b look.Missing seen
     look_own b own =
         look_is
@@ -88,7 +88,7 @@ module _ (x : Exclusion) (told : Option Content) (d : Content) (t : IsTold (prun
     list_is : list_result d path ≡ kept_of x (path_of (names_of_path path)) (list_result inner.content path)
     list_is = ap (λ k. list_result k path) inner.is ∙ list_pruned x inner.content is_well_formed path down (is_false_from (is_excluded x (names_of_path path) true) open')
 
-    pub list_error : (e : ListError) → ((c : Content) → IsTold told c → IsListError (list_result c path) e) → IsListError (list_result d path) e
+    pub list_error : (e : ListError) → ((c : Content) → IsTold known c → IsListError (list_result c path) e) → IsListError (list_result d path) e
     list_error e asked =
         subst (λ answer. IsListError answer e) (sym list_is) (of_answer (list_result inner.content path) e (asked inner.content inner.told_in))
       where
@@ -100,7 +100,7 @@ module _ (x : Exclusion) (told : Option Content) (d : Content) (t : IsTold (prun
         of_answer (Fails kind) Memory h = h
         of_answer NoDirectory Memory h = h
 
-    pub list_kept : (entries kept : List DirEntry) → ((c : Content) → IsTold told c → IsListAnswer (list_result c path) entries)
+    pub list_kept : (entries kept : List DirEntry) → ((c : Content) → IsTold known c → IsListAnswer (list_result c path) entries)
         → kept ≡ filter (is_entry_kept x (path_of (names_of_path path))) entries → IsListAnswer (list_result d path) kept
     list_kept entries kept asked e =
         subst (λ answer. IsListAnswer answer kept) (sym list_is)

@@ -45,7 +45,7 @@ pruned x c = record { kinds = filter (is_kept x c.current) c.kinds; current = c.
 
 -- what is known of a pruned tree: nothing where the tree's content is not known, or not well formed
 unfoldable pub pruned_told : Exclusion → Option Content → Option Content
-pruned_told x told = option_and_then (λ c. if is_content c then Some (pruned x c) else None) told
+pruned_told x known = option_and_then (λ c. if is_content c then Some (pruned x c) else None) known
 
 -- the names of a path, without the pieces that lead nowhere else
 unfoldable pub names_of_path : Text → Key

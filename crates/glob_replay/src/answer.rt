@@ -14,7 +14,7 @@
 use crate::rationing::Rationed;
 use crate::replay::calls::Calls;
 use crate::replay::walking::taken;
-use crate::words::{add_fault, number_of, options_of, out_of_memory, pattern_of, unfit};
+use crate::words::{add_fault, number_of, options_of, out_of_memory, pattern_of, unusable};
 use glob::{Disk, Pattern, glob_in};
 use glob_captures::{captures, reach, tokens};
 use glob_set::{PatternSet, SetRefusal};
@@ -33,7 +33,7 @@ pub fn answer_lines(rt: HostRuntime) -> io::Result<()> {
             ["captures", fields @ ..] => add_captures(&mut calls, fields)?,
             ["walk", fields @ ..] => add_walk(&mut calls, rt, fields)?,
             ["set", fields @ ..] => add_set(&mut calls, fields)?,
-            _ => return Err(unfit()),
+            _ => return Err(unusable()),
         }
         calls.words.push('\n')?;
         writer.write_all(calls.words.as_bytes())?;
@@ -62,7 +62,7 @@ fn add_matches(calls: &mut Calls<'_>, pattern: &str, texts: &[&str]) -> io::Resu
 /// Adds the answer to `captures`.
 pub fn add_captures(calls: &mut Calls<'_>, fields: &[&str]) -> io::Result<()> {
     let [letters, pattern, text] = fields else {
-        return Err(unfit());
+        return Err(unusable());
     };
     let (alloc, words) = (calls.alloc, &mut calls.words);
     let (pattern, options) = (pattern_of(alloc, pattern)?, options_of(letters)?);
@@ -89,7 +89,7 @@ pub fn add_captures(calls: &mut Calls<'_>, fields: &[&str]) -> io::Result<()> {
 /// Adds the answer to `walk`.
 fn add_walk(calls: &mut Calls<'_>, rt: HostRuntime, fields: &[&str]) -> io::Result<()> {
     let [letters, limit, pattern] = fields else {
-        return Err(unfit());
+        return Err(unusable());
     };
     let (limit, disk) = (number_of(limit)? as u64, Disk::new(rt, calls.alloc));
     match glob_in(calls.alloc, disk, pattern, options_of(letters)?, limit) {
@@ -105,10 +105,10 @@ fn add_walk(calls: &mut Calls<'_>, rt: HostRuntime, fields: &[&str]) -> io::Resu
 /// same.
 pub fn add_set(calls: &mut Calls<'_>, fields: &[&str]) -> io::Result<()> {
     let [letters, many, fields @ ..] = fields else {
-        return Err(unfit());
+        return Err(unusable());
     };
     let (alloc, words) = (calls.alloc, &mut calls.words);
-    let (patterns, texts) = fields.split_at_checked(number_of(many)?).ok_or(unfit())?;
+    let (patterns, texts) = fields.split_at_checked(number_of(many)?).ok_or(unusable())?;
     let set = match PatternSet::from_texts(alloc, patterns, options_of(letters)?) {
         Ok(set) => set,
         Err(SetRefusal::Syntax(number, _)) => return Ok(write!(words, "\tfault {number}")?),

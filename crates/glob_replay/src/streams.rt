@@ -2,7 +2,7 @@
 ghost use Rattle.std.specs.Prelude.{◌≤◌, IfOk, None};
 
 use crate::replay::asked_tree::raise;
-use crate::words::{cut, number_of, unfit};
+use crate::words::{cut, number_of, unusable};
 use std::alloc::Global;
 use std::cell::Cell;
 use std::io::{self, ErrorKind, Read, Write};
@@ -59,7 +59,7 @@ impl<'a> Stream<'a> {
 
     /// The text that was written.
     pub fn text(&self) -> io::Result<&str> {
-        str::from_utf8(self.written.as_slice()).map_err(|_| unfit())
+        str::from_utf8(self.written.as_slice()).map_err(|_| unusable())
     }
 
     /// Counts a call, and gives how many of so many bytes it moves.
@@ -90,7 +90,7 @@ fn trouble_of(words: &str) -> io::Result<Trouble> {
             let (call, error) = cut(rest, " ")?;
             Ok(Trouble::Errs(number_of(call)? as u64, error_of(error)?))
         }
-        _ => Err(unfit()),
+        _ => Err(unusable()),
     }
 }
 
@@ -106,7 +106,7 @@ pub fn error_of(word: &str) -> io::Result<io::Error> {
         "InvalidData" => io::Error::from(ErrorKind::InvalidData),
         "its-own" => io::Error::new(ErrorKind::Interrupted, "words of its own"),
         "no-memory" => io::Error::new(ErrorKind::OutOfMemory, "the disk has no memory"),
-        number => io::Error::from_raw_os_error(number.parse::<i32>().map_err(|_| unfit())?),
+        number => io::Error::from_raw_os_error(number.parse::<i32>().map_err(|_| unusable())?),
     })
 }
 

@@ -5,7 +5,7 @@ use std::alloc::{AllocError, Allocator, Global};
 use std::io::{self, ErrorKind, Write};
 
 /// The error of commands, lines or files that are not what is answered.
-pub fn unfit() -> io::Error {
+pub fn unusable() -> io::Error {
     io::Error::other(
         "not what a command or a table takes: see the heads of src/main.rt and of the files in data",
     )
@@ -19,19 +19,19 @@ pub fn out_of_memory() -> io::Error {
 /// The error of a text that is no pattern, or of memory that ran out.
 pub fn refused(refusal: PatternRefusal) -> io::Error {
     match refusal {
-        PatternRefusal::Syntax(_) => unfit(),
+        PatternRefusal::Syntax(_) => unusable(),
         PatternRefusal::Memory => out_of_memory(),
     }
 }
 
 /// The texts before and after the first `sign`.
 pub fn cut<'a>(text: &'a str, sign: &str) -> io::Result<(&'a str, &'a str)> {
-    text.split_once(sign).ok_or(unfit())
+    text.split_once(sign).ok_or(unusable())
 }
 
 /// The options that the letters of a case name: `i` case-insensitive, `s` the separator rule, `d` the dot rule.
 pub fn options_of(letters: &str) -> io::Result<MatchOptions> {
-    MatchOptions::from_letters(letters).ok_or(unfit())
+    MatchOptions::from_letters(letters).ok_or(unusable())
 }
 
 /// The options of three letters `t` or `f`: case, the separator rule, the dot rule.
@@ -47,7 +47,7 @@ pub fn options_in_order(letters: &str) -> io::Result<MatchOptions> {
             require_literal_leading_dot: *dot == b't',
             ..MatchOptions::new()
         }),
-        _ => Err(unfit()),
+        _ => Err(unusable()),
     }
 }
 
@@ -66,7 +66,7 @@ pub fn add_fault(refusal: PatternRefusal, front: &str, words: &mut String) -> io
 
 /// The number that a word writes.
 pub fn number_of(word: &str) -> io::Result<usize> {
-    word.parse::<usize>().map_err(|_| unfit())
+    word.parse::<usize>().map_err(|_| unusable())
 }
 
 /// Whether both errors have the same kind, the same code of the system and the same words.

@@ -12,7 +12,7 @@ use Rattle.glob_tree.specs.declared.tree.ListError.TheVariants.{Read, Memory}
 
 -- the tree's content is known to be c, and c is well formed
 abbrev pub IsTold : Option Content → Content → Type 0
-IsTold told c = (told ≡ Some c) × (is_content c ≡ true)
+IsTold known c = (known ≡ Some c) × (is_content c ≡ true)
 
 -- the entries of a listing, as a content has them
 abbrev pub entries_of : {A : Type 0} → List (Entry A) → List DirEntry

@@ -16,6 +16,6 @@ fn main(rt: HostRuntime) -> io::Result<()> {
         None => replay::replay_files(rt),
         Some(command) if command.as_str() == "answer" => answer::answer_lines(rt),
         Some(command) if command.as_str() == "rules" => rules::ask_lists(&rt),
-        Some(_) => Err(words::unfit()),
+        Some(_) => Err(words::unusable()),
     }
 }

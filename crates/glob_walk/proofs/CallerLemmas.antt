@@ -15,28 +15,28 @@ use Rattle.glob_walk.specs.declared.ending.End.{End}
 use Rattle.glob_walk.specs.declared.ending.End.TheVariants.{Done, Limit, Memory}
 
 -- A walk is plain if the content is known, the pattern is plain, and the options keep case.
-pub walks_plainly : (told : Option Content) (c : Content) (o : MatchOptions) (pattern : Text) → IsTold told c → IsTrue (is_plain pattern) → IsTrue o.case_sensitive → WalksPlainly told c o pattern
+pub walks_plainly : (known : Option Content) (c : Content) (o : MatchOptions) (pattern : Text) → IsTold known c → IsTrue (is_plain pattern) → IsTrue o.case_sensitive → WalksPlainly known c o pattern
 unfolding WalksPlainly
-walks_plainly told c o pattern is plain case = (is, plain, case)
+walks_plainly known c o pattern is plain case = (is, plain, case)
 
 -- So it is, only if.
-pub facts_of_plain_walk : (told : Option Content) (c : Content) (o : MatchOptions) (pattern : Text) → WalksPlainly told c o pattern → IsTold told c × IsTrue (is_plain pattern) × IsTrue o.case_sensitive
+pub facts_of_plain_walk : (known : Option Content) (c : Content) (o : MatchOptions) (pattern : Text) → WalksPlainly known c o pattern → IsTold known c × IsTrue (is_plain pattern) × IsTrue o.case_sensitive
 unfolding WalksPlainly
-facts_of_plain_walk told c o pattern plain = plain
+facts_of_plain_walk known c o pattern plain = plain
 
-module _ {A : Type 0} (told : Option Content) (o : MatchOptions) (pattern : Text) (end : End) (answers : Answers A) where
+module _ {A : Type 0} (known : Option Content) (o : MatchOptions) (pattern : Text) (end : End) (answers : Answers A) where
   -- Each path is a goal, and where the walk is done each goal is a path or hidden.
-  pub found_goal : FindsGoal told o pattern end answers → (c : Content) → WalksPlainly told c o pattern → ReachesGoal c o pattern (end ≡ Done) (given_items answers)
+  pub found_goal : FindsGoal known o pattern end answers → (c : Content) → WalksPlainly known c o pattern → ReachesGoal c o pattern (end ≡ Done) (given_items answers)
   unfolding FindsGoal
   found_goal finds = finds
 
   -- Over a readable content the paths are exactly the goal.
-  pub found_exactly : FindsExactly told o pattern end answers → (c : Content) → WalksPlainly told c o pattern → IsTrue (is_readable c pattern) → end ≡ Done → GivesGoal c o pattern (given_items answers)
+  pub found_exactly : FindsExactly known o pattern end answers → (c : Content) → WalksPlainly known c o pattern → IsTrue (is_readable c pattern) → end ≡ Done → GivesGoal c o pattern (given_items answers)
   unfolding FindsExactly
   found_exactly finds = finds
 
   -- The paths come once and in order, as far as the runs of `**` allow.
-  pub found_in_order : FindsInOrder told o pattern answers → (c : Content) → WalksPlainly told c o pattern → IsOrderly pattern (paths (given_items answers))
+  pub found_in_order : FindsInOrder known o pattern answers → (c : Content) → WalksPlainly known c o pattern → IsOrderly pattern (paths (given_items answers))
   unfolding FindsInOrder
   found_in_order finds = finds
 

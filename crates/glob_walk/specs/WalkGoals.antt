@@ -27,21 +27,21 @@ abbrev pub given_items : {A : Type 0} → Answers A → List Item
 given_items answers = filter_map item_of (map outcome answers)
 
 -- c is the known content of the tree, the pattern is plain, and the options keep case
-unfoldable pub WalksPlainly : (told : Option Content) → Content → MatchOptions → (pattern : Text) → Type 0
-WalksPlainly told c o pattern = IsTold told c × IsTrue (is_plain pattern) × IsTrue o.case_sensitive
+unfoldable pub WalksPlainly : (known : Option Content) → Content → MatchOptions → (pattern : Text) → Type 0
+WalksPlainly known c o pattern = IsTold known c × IsTrue (is_plain pattern) × IsTrue o.case_sensitive
 
 -- each path is a goal, and where the walk is done each goal is a path or hidden
-unfoldable pub FindsGoal : {A : Type 0} → (told : Option Content) → MatchOptions → (pattern : Text) → End → Answers A → Type 0
-FindsGoal told o pattern end answers =
-    (c : Content) → WalksPlainly told c o pattern → ReachesGoal c o pattern (end ≡ Done) (given_items answers)
+unfoldable pub FindsGoal : {A : Type 0} → (known : Option Content) → MatchOptions → (pattern : Text) → End → Answers A → Type 0
+FindsGoal known o pattern end answers =
+    (c : Content) → WalksPlainly known c o pattern → ReachesGoal c o pattern (end ≡ Done) (given_items answers)
 
 -- where the walk is done over a readable content, no item is an error, and the paths are exactly the goal
-unfoldable pub FindsExactly : {A : Type 0} → (told : Option Content) → MatchOptions → (pattern : Text) → End → Answers A → Type 0
-FindsExactly told o pattern end answers =
-    (c : Content) → WalksPlainly told c o pattern → IsTrue (is_readable c pattern) → end ≡ Done
+unfoldable pub FindsExactly : {A : Type 0} → (known : Option Content) → MatchOptions → (pattern : Text) → End → Answers A → Type 0
+FindsExactly known o pattern end answers =
+    (c : Content) → WalksPlainly known c o pattern → IsTrue (is_readable c pattern) → end ≡ Done
     → GivesGoal c o pattern (given_items answers)
 
 -- each path comes once and in order, as far as each `**` allows
-unfoldable pub FindsInOrder : {A : Type 0} → (told : Option Content) → MatchOptions → (pattern : Text) → Answers A → Type 0
-FindsInOrder told o pattern answers =
-    (c : Content) → WalksPlainly told c o pattern → IsOrderly pattern (paths (given_items answers))
+unfoldable pub FindsInOrder : {A : Type 0} → (known : Option Content) → MatchOptions → (pattern : Text) → Answers A → Type 0
+FindsInOrder known o pattern answers =
+    (c : Content) → WalksPlainly known c o pattern → IsOrderly pattern (paths (given_items answers))

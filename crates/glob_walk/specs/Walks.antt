@@ -144,7 +144,7 @@ pub record IsUpTo (listing : List Mark) (spent : ℕ) (left : List Mark) : Type 
 -- the walk is not over.
 pub record Takes {X : Type 0} (tells : X → Option Content) (old : Walking X) (answer : Option Outcome)
     (new : Walking X) (c : Content) : Type 0 where
-  pub told : IsTold (tells new.tree) c
+  pub content : IsTold (tells new.tree) c
   pub old_left : List Mark
   pub new_left : List Mark
   pub had : old.left ≡ Some old_left
@@ -156,7 +156,7 @@ pub record Takes {X : Type 0} (tells : X → Option Content) (old : Walking X) (
 pub record Goes {X : Type 0} (asks : X → ℕ) (tells : X → Option Content) (old : Walking X)
     (answer : Option Outcome) (new : Walking X) : Type 0 where
   pub counts : Counts asks old answer new
-  pub told : tells new.tree ≡ tells old.tree
+  pub content : tells new.tree ≡ tells old.tree
   pub takes : (c : Content) → IsTold (tells old.tree) c → Takes tells old answer new c
 
 -- What was charged begins the listing, and its items are these, but for the last one that may have found no room.

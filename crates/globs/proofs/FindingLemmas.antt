@@ -183,6 +183,6 @@ module _ (x : Exclusion) (c : Content) (is : is_content c ≡ true) (o : MatchOp
   writes_exactly ended limit old new status readable whole (inr (two, some)) = absurd (whole two)
 
 -- what is known of a tree that leaves out what is excluded
-pub told_pruned : (x : Exclusion) (told : Option Content) (c : Content) → IsTold told c → IsTold (pruned_told x told) (pruned x c)
+pub told_pruned : (x : Exclusion) (known : Option Content) (c : Content) → IsTold known c → IsTold (pruned_told x known) (pruned x c)
 unfolding pruned_told
-told_pruned x told c (is, ok) = (rw is (rw ok refl), is_content-pruned x c (IsContent-from_test c ok))
+told_pruned x known c (is, ok) = (rw is (rw ok refl), is_content-pruned x c (IsContent-from_test c ok))

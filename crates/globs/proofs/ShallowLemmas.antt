@@ -73,52 +73,52 @@ full_names depth path full = of_names (names_to path) refl full
     of_names None is h = absurd (both_ways false refl h)
     of_names (Some n) is h = (n, is, h)
 
-pub ends_at : (depth : Option ℕ) (list : Ignores) (told : Option Content) → EndsAt depth (pruned_told (is_skipped list depth) told)
+pub ends_at : (depth : Option ℕ) (list : Ignores) (known : Option Content) → EndsAt depth (pruned_told (is_skipped list depth) known)
 unfolding EndsAt
-ends_at None list told = λ d t path full. let (n, is, deep) = full_names None path full in absurd (both_ways false refl deep)
-ends_at (Some depth) list told = λ d t path full.
-    let is = pruned_content (is_skipped list (Some depth)) told d t in
+ends_at None list known = λ d t path full. let (n, is, deep) = full_names None path full in absurd (both_ways false refl deep)
+ends_at (Some depth) list known = λ d t path full.
+    let is = pruned_content (is_skipped list (Some depth)) known d t in
     let (n, names, deep) = full_names (Some depth) path full in
     subst (λ p. IsListAnswer (list_result (opened (Some depth) p) path) []) (sym is.is) (nothing depth list is.content is.told_in.1 path n (is_down path n names) deep)
 
 -- the content of the tree whose answers it gives, but at the depth
-record IsOpened (depth : Option ℕ) (told : Option Content) (d : Content) : Type 0 where
+record IsOpened (depth : Option ℕ) (known : Option Content) (d : Content) : Type 0 where
   pub content : Content
-  pub told_in : IsTold told content
+  pub told_in : IsTold known content
   pub is : d ≡ opened depth content
 
 -- what a tree is known to hold whose answers are those of another, but at the depth
-module _ (depth : Option ℕ) (told : Option Content) (d : Content) (t : IsTold (opened_told depth told) d) where
-  opened_content : IsOpened depth told d
+module _ (depth : Option ℕ) (known : Option Content) (d : Content) (t : IsTold (opened_told depth known) d) where
+  opened_content : IsOpened depth known d
   unfolding opened_told
-  opened_content = of_told told refl t
+  opened_content = of_told known refl t
     where
-      of_told : (o : Option Content) → told ≡ o → IsTold (option_map (opened depth) o) d → IsOpened depth told d
+      of_told : (o : Option Content) → known ≡ o → IsTold (option_map (opened depth) o) d → IsOpened depth known d
       of_told None e t = absurd (none-some d t.0)
       of_told (Some c) e t =
           let same = same_Some (opened depth c) d t.0 in
           record { content = c; told_in = (e, sym (is_content-opened depth c) ∙ ap is_content same ∙ t.1); is = sym same }
 
-  pub look_told : {E : Type 0} (r : Result Look E) (path : Text) → ((c : Content) → IsTold told c → IfOk r (λ seen. seen ≡ look_result c path)) → IfOk r (λ seen. seen ≡ look_result d path)
+  pub look_told : {E : Type 0} (r : Result Look E) (path : Text) → ((c : Content) → IsTold known c → IfOk r (λ seen. seen ≡ look_result c path)) → IfOk r (λ seen. seen ≡ look_result d path)
   look_told r path asked =
       let is = opened_content in
       subst (λ a. IfOk r (λ seen. seen ≡ a)) (sym (ap (λ k. look_result k path) is.is ∙ look_opened depth is.content path)) (asked is.content is.told_in)
 
-  pub list_told : (path : Text) (n : ℕ) → names_to path ≡ Some n → is_deep depth n ≡ false → (P : ListAnswer → Type 0) → ((c : Content) → IsTold told c → P (list_result c path)) → P (list_result d path)
+  pub list_told : (path : Text) (n : ℕ) → names_to path ≡ Some n → is_deep depth n ≡ false → (P : ListAnswer → Type 0) → ((c : Content) → IsTold known c → P (list_result c path)) → P (list_result d path)
   list_told path n names shallow P asked =
       let is = opened_content in
       subst P (sym (ap (λ k. list_result k path) is.is ∙ list_asked depth is.content path n (is_down path n names) shallow)) (asked is.content is.told_in)
 
-  pub nothing_told : (path : Text) (n : ℕ) → names_to path ≡ Some n → is_deep depth n ≡ true → EndsAt depth told → IsListAnswer (list_result d path) []
+  pub nothing_told : (path : Text) (n : ℕ) → names_to path ≡ Some n → is_deep depth n ≡ true → EndsAt depth known → IsListAnswer (list_result d path) []
   unfolding EndsAt
   nothing_told path n names deep ends =
       let is = opened_content in
       subst (λ k. IsListAnswer (list_result k path) []) (sym is.is) (ends is.content is.told_in path (ap (λ o. unwrap_or (option_map (is_deep depth) o) false) names ∙ deep))
 
 -- the other way round
-pub told_opened : (depth : Option ℕ) (told : Option Content) (c : Content) → IsTold told c → IsTold (opened_told depth told) (opened depth c)
+pub told_opened : (depth : Option ℕ) (known : Option Content) (c : Content) → IsTold known c → IsTold (opened_told depth known) (opened depth c)
 unfolding opened_told
-told_opened depth told c (is, ok) = (rw is refl, is_content-opened depth c ∙ ok)
+told_opened depth known c (is, ok) = (rw is refl, is_content-opened depth c ∙ ok)
 
 -- what a search finds does not depend on which directories can be listed
 module _ (depth : Option ℕ) (x : Exclusion) (set : Set) (wanted : Wanted) (c : Content) where

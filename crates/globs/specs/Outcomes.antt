@@ -17,7 +17,7 @@ use Rattle.globs.specs.declared.name.Name.TheVariants.{Find, Match, Ignore, Expl
 -- What is known of what a run works on: the content of the disk, with symbolic links to directories or without, the
 -- texts of files, and the input.
 pub record World : Type 0 where
-  pub told : (follows : Bool) → Option Content
+  pub content : (follows : Bool) → Option Content
   pub holds : (path : Text) → Option Text
   pub input : Input
 
@@ -25,7 +25,7 @@ pub record World : Type 0 where
 unfoldable pub Fulfils : {W : Type 0} → (contents : W → Option (List ℕ)) → World → Request → (old new : W)
     → (status : ℕ) → Type 0
 Fulfils contents world (Runs Find o operands) old new status =
-    FindsUnignored contents (world.told o.settings.follows) world.holds o operands old new status
+    FindsUnignored contents (world.content o.settings.follows) world.holds o operands old new status
 Fulfils contents world (Runs Match o operands) old new status =
     CopiesMatches contents o.settings operands world.input old new status
 Fulfils contents world (Runs Ignore o operands) old new status =

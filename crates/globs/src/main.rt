@@ -65,7 +65,7 @@ pub fn run_words<T: Tree, F: IgnoreFiles, R: Read, W: Write, E: Write>(
     requires { input.old.failed ≡ false }
     ensures most { result ≤ 2 }
     ensures request { Fulfils W.contents (record {
-      told = λ follows. T.tells (if follows then disks.entry.followed else disks.entry.kept);
+      content = λ follows. T.tells (if follows then disks.entry.followed else disks.entry.kept);
       holds = F.holds files.now;
       input = input_of R.remaining input.old input.new;
     })
@@ -98,7 +98,7 @@ fn run_asked<T: Tree, F: IgnoreFiles, R: Read, W: Write, E: Write>(
     requires { input.old.failed ≡ false }
     ensures most { result ≤ 2 }
     ensures request { Fulfils W.contents (record {
-      told = λ follows. T.tells (if follows then disks.entry.followed else disks.entry.kept);
+      content = λ follows. T.tells (if follows then disks.entry.followed else disks.entry.kept);
       holds = F.holds files.now;
       input = input_of R.remaining input.old input.new;
     })
@@ -128,7 +128,7 @@ fn run_command<T: Tree, F: IgnoreFiles, R: Read, W: Write, E: Write>(
     requires { input.old.failed ≡ false }
     ensures most { result ≤ 2 }
     ensures request { Fulfils W.contents (record {
-      told = λ follows. T.tells (if follows then disks.entry.followed else disks.entry.kept);
+      content = λ follows. T.tells (if follows then disks.entry.followed else disks.entry.kept);
       holds = F.holds files.now;
       input = input_of R.remaining input.old input.new;
     })

@@ -23,7 +23,7 @@ pub record EndsAs {X A : Type 0} (asks : X → ℕ) (tells : X → Option Conten
     (answers : List (Result (PathBuf A) (GlobError A))) (tree : X) : Type 0 where
   pub within : spent ≤ first.limit
   pub asked : IsWalkAsked first.limit (asks first.tree) e spent (asks tree)
-  pub told : tells tree ≡ tells first.tree
+  pub content : tells tree ≡ tells first.tree
   pub items : HasNoRefusal answers
   pub few : length answers ≤ spent + 1
   pub walk : (c : Content) → IsTold (tells first.tree) c → (ms : List Mark) → first.left ≡ Some ms

@@ -22,11 +22,11 @@ use Rattle.glob_pattern.proofs.PositionLemmas.Running.{CanRun-all}
 -- between the characters that the ends decide
 pub CanRun-trimmed : (o : MatchOptions) (tokens : List Token) (bytes : List ℕ) (words : List ShapeWord) (span : Span) (end count : ℕ) → IsUtf8 bytes → IsTrim o tokens bytes span.start end
     → AreShapeWords (map shape_of tokens) words → span.end ≡ length tokens - end
-    → ((j : ℕ) → IsBitSet span.enough j → TakesRest (table_of o tokens (chars (take (length bytes - end) bytes))) (map shape_of tokens) span.end j)
+    → ((j : ℕ) → IsBitSet span.accepting j → TakesRest (table_of o tokens (chars (take (length bytes - end) bytes))) (map shape_of tokens) span.end j)
     → count ≡ 0 → length tokens < 2 ^ 64 → length (take (length bytes - end) bytes) < 2 ^ 64
     → CanRun (table_of o tokens (chars (take (length bytes - end) bytes))) (map shape_of tokens) words span span.start count
 unfolding table_of
-CanRun-trimmed o tokens bytes words span end count utf8 trim shaped last enough none few short =
+CanRun-trimmed o tokens bytes words span end count utf8 trim shaped last accepting none few short =
     let many = length-map tokens shape_of in
     let front = chars (take (length bytes - end) bytes) in
     let fits = product_fits (length (map shape_of tokens)) (length front - span.start) (omega (arith, many)) (omega (arith, length-chars (take (length bytes - end) bytes), short)) in
@@ -39,20 +39,20 @@ CanRun-trimmed o tokens bytes words span end count utf8 trim shaped last enough 
       reached = trimmed-start o tokens bytes span.start end utf8 trim;
       end = omega (arith, many, last);
       one = rw last (one-trimmed o tokens bytes span.start end utf8 trim);
-      enough = enough;
+      accepting = accepting;
       room = omega (arith, none, fits);
     }
 
 -- over a whole text
 pub CanRun-text : (o : MatchOptions) (tokens : List Token) (bytes : List ℕ) (words : List ShapeWord) (span : Span) (k count : ℕ)
-    → AreShapeWords (map shape_of tokens) words → span.start ≡ 0 → span.end ≡ length (map shape_of tokens) → span.enough ≡ 0
+    → AreShapeWords (map shape_of tokens) words → span.start ≡ 0 → span.end ≡ length (map shape_of tokens) → span.accepting ≡ 0
     → k ≡ 0 → count ≡ 0 → length tokens < 2 ^ 64 → length bytes < 2 ^ 64
     → CanRun (table_of o tokens (chars bytes)) (map shape_of tokens) words span k count
 unfolding table_of
-CanRun-text o tokens bytes words span k count shaped start end enough place none few short =
+CanRun-text o tokens bytes words span k count shaped start end accepting place none few short =
     let many = length-map tokens shape_of in
     let fits = product_fits (length (map shape_of tokens)) (length (chars bytes)) (omega (arith, many)) (omega (arith, length-chars bytes, short)) in
-    CanRun-all (table_of o tokens (chars bytes)) (map shape_of tokens) words span k count shaped start end enough (omega (arith, many)) (omega (arith, many)) place (omega (arith, none, fits))
+    CanRun-all (table_of o tokens (chars bytes)) (map shape_of tokens) words span k count shaped start end accepting (omega (arith, many)) (omega (arith, many)) place (omega (arith, none, fits))
 
 -- its answer
 pub TokensMatch-by_run : {yes : Bool} (o : MatchOptions) (tokens : List Token) (text : Text) (end : ℕ) → end ≡ length (map shape_of tokens)

@@ -83,9 +83,9 @@ one-word shapes word few is = record {
 
 -- a run over all shapes from the start
 pub CanRun-all : (table : Table) (shapes : List Shape) (words : List ShapeWord) (span : Span) (k count : ℕ) → AreShapeWords shapes words
-    → span.start ≡ 0 → span.end ≡ length shapes → span.enough ≡ 0 → length shapes < 2 ^ 64 → length shapes ≤ table.tokens → k ≡ 0 → count + length shapes * table.characters < 2 ^ 128
+    → span.start ≡ 0 → span.end ≡ length shapes → span.accepting ≡ 0 → length shapes < 2 ^ 64 → length shapes ≤ table.tokens → k ≡ 0 → count + length shapes * table.characters < 2 ^ 128
     → CanRun table shapes words span k count
-CanRun-all table shapes words span k count shaped start end enough fits tokens place room =
+CanRun-all table shapes words span k count shaped start end accepting fits tokens place room =
     let left : table.characters - span.start ≡ table.characters = omega arith in
     record {
       shaped = shaped;
@@ -96,6 +96,6 @@ CanRun-all table shapes words span k count shaped start end enough fits tokens p
       reached = rw start (IsTakenPrefix-start table shapes);
       end = omega arith;
       one = get_or_past shapes span.end One (omega arith);
-      enough = λ j set. absurd (IsBitSet-zero j (rw enough at set));
+      accepting = λ j set. absurd (IsBitSet-zero j (rw accepting at set));
       room = rw left room;
     }

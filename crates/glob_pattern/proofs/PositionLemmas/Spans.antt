@@ -92,7 +92,7 @@ CanRun-before table shapes words span k count order can = record {
   reached = IsTakenPrefix-before table shapes span.end span.start order can.reached;
   end = can.end;
   one = can.one;
-  enough = λ j set. let rest = can.enough j set in record {
+  accepting = λ j set. let rest = can.accepting j set in record {
     first = rest.first;
     last = rest.last;
     grows = rest.grows;

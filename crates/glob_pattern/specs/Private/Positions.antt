@@ -84,7 +84,7 @@ pub record CanRun (table : Table) (shapes : List Shape) (words : List ShapeWord)
   pub reached : IsTakenPrefix table shapes span.start
   pub end : span.end ≤ length shapes
   pub one : slice_index_or shapes span.end One ≡ One
-  pub enough : (j : ℕ) → IsBitSet span.enough j → TakesRest table shapes span.end j
+  pub accepting : (j : ℕ) → IsBitSet span.accepting j → TakesRest table shapes span.end j
   pub room : count + length shapes * (table.characters - span.start) < 2 ^ 128
 
 -- A run that began at place `from`, when `first` questions were asked, is at place k after `count` questions, where the

@@ -18,7 +18,7 @@ pub struct Span {
     /// How many leading shapes have to split all characters.
     pub end: usize,
     /// Positions of the first word. Once one is alive, the last shape before `end` takes all further characters.
-    pub enough: u64,
+    pub accepting: u64,
 }
 
 /// A value of `keep` that no answer equals, since an answer never has the last bit: it is of no token.
@@ -29,12 +29,12 @@ impl Span {
     pub fn all(count: usize) -> Self
         ensures start { result.start ≡ 0 }
         ensures end { result.end ≡ count }
-        ensures enough { result.enough ≡ 0 }
+        ensures accepting { result.accepting ≡ 0 }
     {
         Span {
             start: 0,
             end: count,
-            enough: 0,
+            accepting: 0,
         }
     }
 }
@@ -57,7 +57,7 @@ pub fn decide<A: Allocator + Copy, T: Shaped, J: Judge>(
     ensures most { J.count judge.new
         ≤ J.count judge.old
         + length (map T.shape tokens.now) * ((J.table judge.old).characters - span.start) }
-    ensures least { IfOk result (λ yes. IsTrue yes → span.enough ≡ 0
+    ensures least { IfOk result (λ yes. IsTrue yes → span.accepting ≡ 0
         → J.count judge.old + (J.table judge.old).characters ≤ J.count judge.new + span.start) }
     ensures monotone { J.count judge.old ≤ J.count judge.new }
     ensures same { J.table judge.new ≡ J.table judge.old }
@@ -89,7 +89,7 @@ fn run<T: Shaped, J: Judge>(
     ensures most { J.count judge.new
         ≤ J.count judge.old
         + length (map T.shape tokens.now) * ((J.table judge.old).characters - span.start) }
-    ensures least { IsTrue result → span.enough ≡ 0
+    ensures least { IsTrue result → span.accepting ≡ 0
         → J.count judge.old + (J.table judge.old).characters ≤ J.count judge.new + span.start }
     ensures monotone { J.count judge.old ≤ J.count judge.new }
     ensures same { J.table judge.new ≡ J.table judge.old }
@@ -97,7 +97,7 @@ fn run<T: Shaped, J: Judge>(
     set_start(tokens, words, span.start, judge.opens(), alive);
     let first = words[0];
     let mut keep = NO_ANSWER;
-    'sets: while alive[0] & span.enough == 0 {
+    'sets: while alive[0] & span.accepting == 0 {
         let old = alive[0];
         // The first word's tokens are asked until they answer otherwise, or a component starts.
         let took = 'kept: loop {

@@ -153,7 +153,7 @@ impl<A: Allocator + Copy> Compiled<A> {
         let span = Span {
             start: trimmed.start,
             end,
-            enough: self.enough(end, options),
+            accepting: self.accepting(end, options),
         };
         self.run_span(front, span, options)
     }
@@ -195,7 +195,7 @@ impl<A: Allocator + Copy> Compiled<A> {
             span.end (length (chars text.now))) }
         ensures most { IfOk result (λ counted. counted.1
             ≤ length self.now * (length (chars text.now) - span.start)) }
-        ensures least { IfOk result (λ counted. IsTrue counted.0 → span.enough ≡ 0
+        ensures least { IfOk result (λ counted. IsTrue counted.0 → span.accepting ≡ 0
             → length (chars text.now) ≤ counted.1 + span.start) }
         ensures short { length self.now < 64 → IsOk result }
     {
@@ -250,7 +250,7 @@ impl<A: Allocator + Copy> Compiled<A> {
     /// The bit of the last token before number `end`, if it is a wildcard that takes all that is left of any text: once
     /// it is alive, these tokens match.
     #[inline(always)]
-    fn enough(&self, end: usize, options: MatchOptions) -> u64
+    fn accepting(&self, end: usize, options: MatchOptions) -> u64
         ensures { (text : Text) (j : ℕ) → IsBitSet result j
             → TakesRest (table_of options self.now text) (map shape_of self.now) end j }
     {

@@ -2,7 +2,7 @@
 //! cannot be listed. `f×3` is the files `f0`, `f1` and `f2`, and `a/b/` the directories `a` and `a/b`.
 
 use crate::rationing::Memory;
-use crate::words::{number_of, out_of_memory, unfit};
+use crate::words::{number_of, out_of_memory, unusable};
 use ErrorKind::PermissionDenied;
 use glob::{MemTree, TreeRefusal};
 use std::io::{self, ErrorKind};
@@ -44,7 +44,7 @@ fn plant(tree: &mut MemTree<Memory<'_>>, path: &str, is_shut: bool) -> io::Resul
         return tree.add_other(name).map_err(fault_of);
     }
     for (end, _) in path.match_indices('/').skip(1) {
-        let (directory, _) = path.split_at_checked(end).ok_or(unfit())?;
+        let (directory, _) = path.split_at_checked(end).ok_or(unusable())?;
         match tree.add_dir(directory) {
             Ok(()) | Err(TreeRefusal::Taken) => {}
             Err(refusal) => return Err(fault_of(refusal)),
@@ -57,7 +57,7 @@ fn plant(tree: &mut MemTree<Memory<'_>>, path: &str, is_shut: bool) -> io::Resul
 fn fault_of(refusal: TreeRefusal) -> io::Error {
     match refusal {
         TreeRefusal::Memory => out_of_memory(),
-        _ => unfit(),
+        _ => unusable(),
     }
 }
 

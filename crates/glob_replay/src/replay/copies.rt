@@ -5,7 +5,7 @@ ghost use Rattle.std.specs.Prelude.{◌==◌, slice_index_or};
 use super::calls::Calls;
 use crate::rationing::Memory;
 use crate::streams::{Stream, Trouble};
-use crate::words::{are_same, out_of_memory, pattern_of, unfit};
+use crate::words::{are_same, out_of_memory, pattern_of, unusable};
 use glob::{LineFault, MatchOptions, Watch, filter_lines, filter_records};
 use glob_lines::{Selection, copy_selected};
 use std::alloc::{AllocError, Global};
@@ -41,9 +41,9 @@ struct Copied<'a> {
 /// that a line feed ends are lines.
 fn copy<'a>(alloc: Memory<'_>, row: &[&'a str]) -> io::Result<Copied<'a>> {
     let [selection, end, reading, writing, input] = row else {
-        return Err(unfit());
+        return Err(unusable());
     };
-    let end = end.bytes().next().ok_or(unfit())?;
+    let end = end.bytes().next().ok_or(unusable())?;
     let mut reader = Watch::new(Stream::new(alloc.inner, input.as_bytes(), reading)?);
     let mut writer = Watch::new(Stream::new(alloc.inner, b"", writing)?);
     let answer = if *selection == "marked" {

@@ -3,7 +3,7 @@ ghost use Rattle.std.specs.Prelude.{◌&&◌, ◌==◌, ◌≡◌, ◌≤◌, no
 ghost use Rattle.std.specs.List.{list_any};
 
 use super::calls::Calls;
-use crate::words::{cut, number_of, unfit};
+use crate::words::{cut, number_of, unusable};
 use glob::{Judge, Shape, run_positions};
 use std::io::{self, Write};
 
@@ -60,7 +60,7 @@ impl Judge for WrittenJudge<'_> {
 /// than shapes times characters, or for a split fewer than the characters.
 pub fn split(calls: &mut Calls<'_>, fields: &[&str]) -> io::Result<()> {
     let [shapes, characters, opening, taken] = fields else {
-        return Err(unfit());
+        return Err(unusable());
     };
     let alloc = calls.alloc.inner;
     let named = shapes.split_whitespace().filter(|word| *word != "none");
@@ -93,7 +93,7 @@ fn shape_of(word: &str) -> io::Result<Shape> {
         "One" => Ok(Shape::One),
         "Run" => Ok(Shape::Run),
         "Deep" => Ok(Shape::Deep),
-        _ => Err(unfit()),
+        _ => Err(unusable()),
     }
 }
 

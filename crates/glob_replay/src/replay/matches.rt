@@ -4,7 +4,7 @@
 use super::Report;
 use super::calls::{Calls, FREELY, found_by, found_if_refused};
 use crate::rationing::Memory;
-use crate::words::{cut, number_of, options_in_order, pattern_of, refused, text_of, unfit};
+use crate::words::{cut, number_of, options_in_order, pattern_of, refused, text_of, unusable};
 use glob::{MatchOptions, Pattern};
 use glob_captures::tokens;
 use std::alloc::{AllocError, Global};
@@ -49,7 +49,7 @@ pub fn replay<'a>(report: &'a Report, patterns: &'a str, outcome: &'a str) -> io
 /// short.
 pub fn add_match(calls: &mut Calls<'_>, fields: &[&str]) -> io::Result<()> {
     let [letters, source, text, most] = fields else {
-        return Err(unfit());
+        return Err(unusable());
     };
     let asked = (*source, *text, options_in_order(letters)?);
     let (alloc, words) = (calls.alloc, &mut calls.words);

@@ -9,7 +9,7 @@ use super::{Report, copies, disks, judges, matches, trees, writes};
 use crate::answer::{add_captures, add_set};
 use crate::rationing::{Memory, Rationed};
 use crate::words::{
-    add_fault, in_words, number_of, out_of_memory, pattern_of, refused, text_of, unfit,
+    add_fault, in_words, number_of, out_of_memory, pattern_of, refused, text_of, unusable,
 };
 use glob::{MatchOptions, Pattern, PatternRefusal, glob_in, is_plain};
 use glob_rules::IgnoreList;
@@ -72,7 +72,7 @@ pub fn make(calls: &mut Calls<'_>, row: &[&str]) -> io::Result<()> {
         ["ask a set", fields @ ..] => add_set(calls, fields),
         ["capture", fields @ ..] => add_captures(calls, fields),
         ["ask an ignore list", lines, paths] => ask_list(calls, lines, paths),
-        _ => Err(unfit()),
+        _ => Err(unusable()),
     }
 }
 

@@ -1,6 +1,6 @@
 //! What the lines before a row have set.
 
-use crate::words::{cut, unfit};
+use crate::words::{cut, unusable};
 use std::alloc::{AllocError, Global};
 use std::collections::BTreeMap;
 use std::io;
@@ -33,7 +33,7 @@ impl Settings {
             "content" | "tree" | "calls" => self.values = BTreeMap::new(self.alloc),
             "more" | "in memory" | "in" | "shut" | "walked" | "options" | "limits of" | "refused" =>
                 {}
-            _ => return Err(unfit()),
+            _ => return Err(unusable()),
         }
         let name = String::from_str(self.alloc, name)?;
         let value = String::from_str(self.alloc, value.trim())?;

@@ -3,7 +3,7 @@
 use super::Report;
 use super::calls::Calls;
 use super::contents::tree_of;
-use crate::words::{cut, has_word, out_of_memory, text_of, unfit};
+use crate::words::{cut, has_word, out_of_memory, text_of, unusable};
 use glob::{Entry, ListError, MemTree, Tree, TreeRefusal};
 use std::alloc::Allocator;
 use std::io::{self, ErrorKind, Write};
@@ -67,7 +67,7 @@ fn add_answer<A: Allocator + Copy>(
         "add_shut" => tree.add_shut(path, ErrorKind::PermissionDenied),
         "add_other" => tree.add_other(path),
         "set_current" => tree.set_current(path),
-        _ => return Err(unfit()),
+        _ => return Err(unusable()),
     };
     match changed {
         Ok(()) => Ok(words.push_str("ok ")?),

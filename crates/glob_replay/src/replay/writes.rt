@@ -5,7 +5,7 @@ use super::calls::Calls;
 use super::walking::{Job, gathered};
 use crate::rationing::Memory;
 use crate::streams::{Stream, Trouble, error_of};
-use crate::words::{cut, out_of_memory, unfit};
+use crate::words::{cut, out_of_memory, unusable};
 use glob::MatchOptions;
 use glob_console::{ErrorLines, Every, WalkSettings, find_in, write_text};
 use std::io::{self, Write};
@@ -22,7 +22,7 @@ pub struct Ran<'a> {
 /// reported, or `find` and a pattern. The writers show how much was asked. The error is memory that was refused.
 pub fn run<'a>(alloc: Memory<'a>, row: &[&str], counts: &'a Counts) -> io::Result<Ran<'a>> {
     let [job, content, output, errors] = row else {
-        return Err(unfit());
+        return Err(unusable());
     };
     let mut output = Stream::new(alloc.inner, b"", output)?;
     let mut errors = Stream::new(alloc.inner, b"", errors)?;
@@ -46,7 +46,7 @@ pub fn run<'a>(alloc: Memory<'a>, row: &[&str], counts: &'a Counts) -> io::Resul
                 Err(fault) => fault.report(lines),
             }
         }
-        _ => return Err(unfit()),
+        _ => return Err(unusable()),
     };
     if alloc.ration.has_refused() && errors.text()?.ends_with("out of memory\n") {
         return Err(out_of_memory());

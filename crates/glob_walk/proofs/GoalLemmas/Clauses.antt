@@ -16,8 +16,8 @@ use Rattle.glob_walk.proofs.GoalLemmas.ReachedGoals.{plain_walk_reaches, plain_w
 use Rattle.glob_walk.proofs.GoalLemmas.OnceInOrder.{plain_walk_orderly}
 
 -- the premises of a plain walk, over a tree with a known content
-pub plain_walk : (told : Option Content) (c : Content) (o : MatchOptions) (pattern : Text) → IsTold told c → IsUtf8 pattern → IsTrue (is_plain pattern) → IsTrue o.case_sensitive → IsPlainWalk c o pattern
-plain_walk told c o pattern tells utf8 plain case = record { content = tells.1; text = utf8; plain = plain; case = case }
+pub plain_walk : (known : Option Content) (c : Content) (o : MatchOptions) (pattern : Text) → IsTold known c → IsUtf8 pattern → IsTrue (is_plain pattern) → IsTrue o.case_sensitive → IsPlainWalk c o pattern
+plain_walk known c o pattern tells utf8 plain case = record { content = tells.1; text = utf8; plain = plain; case = case }
 
 -- all the items are a beginning of them, and so are those within a limit
 pub IsBeginning-whole : (given all : List Item) → given ≡ all → IsBeginning given all

@@ -22,13 +22,13 @@ use Rattle.globs.specs.declared.options.Settings.{Settings}
 -- directory, and, of a known content, the status is that of the walk, what is written is a beginning of what it
 -- finds, and where it could read all and ended, just the paths were written that one of the alternatives of the words
 -- finds.
-unfoldable pub Finds : {W : Type 0} → (contents : W → Option (List ℕ)) → (told : Option Content) → Settings → Ignores
+unfoldable pub Finds : {W : Type 0} → (contents : W → Option (List ℕ)) → (known : Option Content) → Settings → Ignores
     → (words : List Text) → (old new : W) → (status : ℕ) → Type 0
-Finds contents told settings list words old new status =
+Finds contents known settings list words old new status =
     IsRefused old new status
     ⊎ ((patterns : List Text) × AreAlternativesOf words patterns
     × (status ≢ 2 → AreAccepted patterns × (are_below patterns ≡ true))
-    × ((c : Content) → IsTold told c
+    × ((c : Content) → IsTold known c
     → let x = is_skipped list settings.depth in let set = set_of settings.options patterns in
     let left = searched list settings c in
     let wanted = is_wanted set settings.kind left in let marks = walk_listing left settings.options patterns in
@@ -38,9 +38,9 @@ Finds contents told settings list words old new status =
     → WritesExactly settings.end (IsFound x set settings.kind c) (contents old) (contents new))))
 
 -- The rules are refused; or the search passes over what those of the files and the single ones ignore.
-unfoldable pub FindsUnignored : {W : Type 0} → (contents : W → Option (List ℕ)) → (told : Option Content)
+unfoldable pub FindsUnignored : {W : Type 0} → (contents : W → Option (List ℕ)) → (known : Option Content)
     → (holds : Text → Option Text) → Chosen → (words : List Text) → (old new : W) → (status : ℕ) → Type 0
-FindsUnignored contents told holds o words old new status =
+FindsUnignored contents known holds o words old new status =
     IsRefused old new status
     ⊎ ((list : Ignores) × HasRules holds o.files o.rules list
-    × Finds contents told o.settings list words old new status)
+    × Finds contents known o.settings list words old new status)

@@ -40,10 +40,10 @@ opened depth c = record { kinds = map (λ e. (e.0, kind_in depth c.current e.0 e
 
 -- what is known of a tree in which they are not asked
 unfoldable pub opened_told : (depth : Option ℕ) → Option Content → Option Content
-opened_told depth told = option_map (opened depth) told
+opened_told depth known = option_map (opened depth) known
 
 -- a known content of the tree has nothing below the depth
-unfoldable pub EndsAt : (depth : Option ℕ) → (told : Option Content) → Type 0
-EndsAt depth told =
-    (c : Content) → IsTold told c → (path : Text) → is_full depth path ≡ true
+unfoldable pub EndsAt : (depth : Option ℕ) → (known : Option Content) → Type 0
+EndsAt depth known =
+    (c : Content) → IsTold known c → (path : Text) → is_full depth path ≡ true
     → IsListAnswer (list_result (opened depth c) path) []

@@ -17,8 +17,8 @@ returns-clause-within g c = if_ok _ _ c.walked.result (λ w b. begun_within g.T.
 pub returns-clause-asked : goal.returns-clause-asked
 returns-clause-asked g c = if_ok _ _ c.walked.result (λ w b. begun_asked g.T.Tree.asks g.T.Tree.tells b.0 w.end w.spent w.items.items w.tree b.2 c.args.tree c.args.limit (of_ok _ c.glob_in.result b.0 b.1 c.glob_in.ensures.fresh)) c.walked.ensures.whole
 
-pub returns-clause-told : goal.returns-clause-told
-returns-clause-told g c = if_ok _ _ c.walked.result (λ w b. begun_told g.T.Tree.asks g.T.Tree.tells b.0 w.end w.spent w.items.items w.tree b.2 c.args.tree c.args.limit (of_ok _ c.glob_in.result b.0 b.1 c.glob_in.ensures.fresh)) c.walked.ensures.whole
+pub returns-clause-content : goal.returns-clause-content
+returns-clause-content g c = if_ok _ _ c.walked.result (λ w b. begun_told g.T.Tree.asks g.T.Tree.tells b.0 w.end w.spent w.items.items w.tree b.2 c.args.tree c.args.limit (of_ok _ c.glob_in.result b.0 b.1 c.glob_in.ensures.fresh)) c.walked.ensures.whole
 
 pub returns-clause-items : goal.returns-clause-items
 returns-clause-items g c = if_ok _ _ c.walked.result (λ w b. b.2.items) c.walked.ensures.whole

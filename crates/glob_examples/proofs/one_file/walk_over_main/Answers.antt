@@ -35,20 +35,20 @@ fault = refl
 
 -- what a walk by that listing within 3 units says
 record IsDoneOrOut {A : Type 0} (at_end : End) (spent : ℕ) (answers : Answers A) : Type 0 where
-  enough : at_end ≢ Limit
+  within : at_end ≢ Limit
   found : at_end ≡ Done → AreItems answers (Found (codes "main.rs") ∷ [])
   units : at_end ≡ Done → spent ≡ 3
 
 says : {A : Type 0} (at_end : End) (spent : ℕ) (answers : Answers A) → IsWalk marks 3 at_end spent answers → IsDoneOrOut at_end spent answers
 says end.Done spent answers walk =
     let done = done_walk answers marks 3 spent walk in record {
-      enough = λ e. absurd (cc);
+      within = λ e. absurd (cc);
       found = λ _. done.2;
       units = λ _. done.1;
     }
 says end.Limit spent answers walk = absurd (omega (arith, (limited_walk answers marks 3 spent walk).0))
 says end.Memory spent answers walk = record {
-  enough = λ e. absurd (cc);
+  within = λ e. absurd (cc);
   found = λ e. absurd (cc);
   units = λ e. absurd (cc);
 }
@@ -58,8 +58,8 @@ walked c =
     let knows : IsTold (Some (one_file c.new-tree.result.name.now)) (one_file (codes "main.rs")) = rw (c.new-tree.ensures) told in
     says _ _ _ (rw (c.new.ensures, listed) at (c.in_ok-walk.ensures.walk (one_file (codes "main.rs")) knows))
 
-pub returns-clause-enough : goal.returns-clause-enough
-returns-clause-enough c = (walked c).enough
+pub returns-clause-within : goal.returns-clause-within
+returns-clause-within c = (walked c).within
 
 pub returns-clause-found : goal.returns-clause-found
 returns-clause-found c = (walked c).found

@@ -25,7 +25,7 @@ decide-requires g c =
     let few : length shapes < 64 = omega (arith, c.if-shapes-le-WORD.true) in
     rw same (CanRun-all (g.J.Judge.table c.args.judge.now) shapes _ c.all-span.result _ _
     (one-word shapes c.new.result few (rw same at c.new.ensures))
-    span.start span.end span.enough (omega arith) c.requires.tokens c.requires.start c.requires.room)
+    span.start span.end span.accepting (omega arith) c.requires.tokens c.requires.start c.requires.room)
 
 pub decide-requires-else-shapes-le-WORD : goal.decide-requires-else-shapes-le-WORD
 decide-requires-else-shapes-le-WORD g c =
@@ -34,7 +34,7 @@ decide-requires-else-shapes-le-WORD g c =
     let same = map-id shapes in
     rw same (CanRun-all (g.J.Judge.table c.args.judge.now) shapes _ c.all-span.result _ _
     (rw c.as_slice.ensures.value (rw same at c.in_ok-words.ensures))
-    span.start span.end span.enough (omega arith) c.requires.tokens c.requires.start c.requires.room)
+    span.start span.end span.accepting (omega arith) c.requires.tokens c.requires.start c.requires.room)
 
 pub returns-then-shapes-le-WORD-clause-answer : goal.returns-then-shapes-le-WORD-clause-answer
 returns-then-shapes-le-WORD-clause-answer g c =
@@ -64,10 +64,10 @@ returns-in_ok-words-clause-most g c =
 pub returns-then-shapes-le-WORD-clause-least : goal.returns-then-shapes-le-WORD-clause-least
 returns-then-shapes-le-WORD-clause-least g c =
     let all = c.all-span.ensures in
-    IfOk-weaker c.decide.result _ _ (λ yes asks t. omega (arith, asks t all.enough, all.start)) c.decide.ensures.least
+    IfOk-weaker c.decide.result _ _ (λ yes asks t. omega (arith, asks t all.accepting, all.start)) c.decide.ensures.least
 
 pub returns-in_ok-words-clause-least : goal.returns-in_ok-words-clause-least
 returns-in_ok-words-clause-least g c =
     let all = c.all-span.ensures in
     let run = c.decide-else-shapes-le-WORD in
-    IfOk-weaker run.result _ _ (λ yes asks t. omega (arith, asks t all.enough, all.start)) run.ensures.least
+    IfOk-weaker run.result _ _ (λ yes asks t. omega (arith, asks t all.accepting, all.start)) run.ensures.least

@@ -121,9 +121,9 @@ returns-clause-answer g c =
     let alive = get_or c.sets.alive 0 0 in
     let run = c.sets.invariant.run in
     let ready = c.requires.ready in
-    let (lt, set, none) = lowest_set (bit_and alive c.args.span.enough) (omega (arith, c.sets-test.false)) (omega (arith, and_le_l alive c.args.span.enough, c.type_inv.alive 0)) in
-    let both = (IsBitSet-and alive c.args.span.enough _).0 set in
-    let rest = ready.enough _ both.1 in
+    let (lt, set, none) = lowest_set (bit_and alive c.args.span.accepting) (omega (arith, c.sets-test.false)) (omega (arith, and_le_l alive c.args.span.accepting, c.type_inv.alive 0)) in
+    let both = (IsBitSet-and alive c.args.span.accepting _).0 set in
+    let rest = ready.accepting _ both.1 in
     let here = (run.alive.word 0 (le_refl 0) (rw (c.sets.invariant.count, c.requires.length) ready.shaped.some)).alive _ (omega (arith, rest.first, rest.last, ready.end)) in
     (λ t. alive-by_rest T shapes c.args.span.end _ _ rest run.within ready.one (rw (zero-add _) at (here.0 both.0)), λ a. refl)
 

@@ -45,7 +45,7 @@ run_span-requires-clause-ready g c = λ words shaped.
     let many : c.len.result ≡ length c.args.self.now = omega (arith, c.len.ensures, ap length c.self.view_is) in
     rw front
     (CanRun-trimmed c.args.options c.args.self.now text words _ c.args.trimmed.end 0 c.utf8.text c.requires shaped
-    (ap (λ n. n - c.args.trimmed.end) many) (c.enough.ensures (chars (take m text))) refl (omega (arith, many)) (omega (arith, long)))
+    (ap (λ n. n - c.args.trimmed.end) many) (c.accepting.ensures (chars (take m text))) refl (omega (arith, many)) (omega (arith, long)))
 
 pub returns-clause-answer : goal.returns-clause-answer
 returns-clause-answer g c =

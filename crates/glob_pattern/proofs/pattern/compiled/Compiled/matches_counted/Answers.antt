@@ -11,7 +11,7 @@ run_counted-requires-clause-ready g c = λ words shaped.
     let tokens = c.args.self.now in
     let many : c.len.result ≡ length tokens = omega (arith, c.len.ensures, ap length c.self.view_is) in
     CanRun-text c.args.options tokens c.args.text.now words c.all.result _ 0 shaped
-    span.start (span.end ∙ many ∙ sym (length-map tokens shape_of)) span.enough span.start refl (omega (arith, many)) (omega arith)
+    span.start (span.end ∙ many ∙ sym (length-map tokens shape_of)) span.accepting span.start refl (omega (arith, many)) (omega arith)
 
 pub returns-clause-answer : goal.returns-clause-answer
 returns-clause-answer g c =
@@ -27,4 +27,4 @@ returns-clause-most g c =
 
 pub returns-clause-least : goal.returns-clause-least
 returns-clause-least g c =
-    IfOk-weaker c.run_counted.result _ _ (λ counted least yes. omega (arith, least yes c.all.ensures.enough, c.all.ensures.start)) c.run_counted.ensures.least
+    IfOk-weaker c.run_counted.result _ _ (λ counted least yes. omega (arith, least yes c.all.ensures.accepting, c.all.ensures.start)) c.run_counted.ensures.least

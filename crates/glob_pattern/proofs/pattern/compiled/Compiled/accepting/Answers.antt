@@ -1,7 +1,7 @@
 use Rattle.std.proofs.Common.{sym, ◌∙◌, arith}
 use Rattle.glob_pattern.proofs.BitLemmas.SetBits.{bit_below}
 use Rattle.glob_pattern.proofs.MatchingLemmas.Freely.{TakesRest-freely}
-use Rattle.glob_pattern.proofs.pattern.compiled.Compiled.enough.Goals as goal
+use Rattle.glob_pattern.proofs.pattern.compiled.Compiled.accepting.Goals as goal
 
 pub returns : goal.returns
 returns g c = λ text j set.
