@@ -2,6 +2,7 @@ pub mod Case
 pub mod Computed
 pub mod Deciding
 pub mod Freely
+pub mod Lengths
 pub mod Literals
 pub mod Matched
 pub mod Needles

@@ -13,14 +13,17 @@ use Rattle.glob_pattern.specs.Grammar.Tokens.{Token, shape_of}
 use Rattle.glob_pattern.specs.Matching.Taking.{takes, is_excluded_dot, is_excluded_separator}
 use Rattle.glob_pattern.specs.Matching.Texts.{TokensMatch}
 use Rattle.glob_pattern.specs.Private.Prefixes.{PrefixSplits, IsAlive, IsTakenPrefix}
-use Rattle.glob_pattern.specs.Private.Prefilters.{Excludes, IsFoldedFirst}
+use Rattle.glob_pattern.specs.Private.Prefilters.{Lacks, Requires}
 use Rattle.glob_pattern.specs.Private.TextTable.{table_of}
 use Rattle.glob_pattern.specs.Matching.Trims.{HasOnes, IsTrim}
 use Rattle.glob_pattern.specs.declared.matcher.Shape.{Shape}
 use Rattle.glob_pattern.specs.declared.matcher.Shape.TheVariants.{One}
 use Rattle.glob_pattern.specs.declared.options.MatchOptions.{MatchOptions}
+use Rattle.glob_pattern.specs.declared.pattern.prefilter.Required.{Required}
+use Rattle.glob_pattern.specs.declared.pattern.prefilter.Required.TheVariants.{First, Length, Nothing}
 use Rattle.glob_pattern.specs.declared.token.Token.TheVariants.{Literal, AnyChar, AnySequence, Recursive, OneOf, NoneOf}
 use Rattle.glob_pattern.proofs.MatchingLemmas.Case.{case_set_same, lower-same}
+use Rattle.glob_pattern.proofs.MatchingLemmas.Lengths.{length_of_literals}
 use Rattle.glob_pattern.proofs.MatchingLemmas.Passing.{chars-leading_ascii}
 use Rattle.glob_pattern.proofs.MatchingLemmas.PiecesAndSplits.{Splits-from_TokensMatch, TokensMatch-from_Splits}
 use Rattle.glob_pattern.proofs.MatchingLemmas.Stepping.{opens-suc}
@@ -251,11 +254,11 @@ IsTrim-nothing o tokens bytes = record {
   last = λ i lt. absurd (omega arith);
 }
 
--- where the first token is a literal of another letter than the text begins with, the tokens do not match
-pub reject_letter : (o : MatchOptions) (tokens : List Token) (bytes : List ℕ) (first : ℕ) → IsFoldedFirst tokens first → Excludes first bytes
+-- where the text lacks what the tokens require, they do not match it
+pub reject_lacking : (o : MatchOptions) (tokens : List Token) (bytes : List ℕ) (required : Required) → Requires tokens required → Lacks required bytes
     → IsUtf8 bytes → TokensMatch o tokens (chars bytes) → ⊥
-reject_letter o tokens bytes first begins excludes utf8 =
-    let (c, some, at, folded) = begins.literal excludes.literal in
+reject_lacking o tokens bytes Nothing requires lacks utf8 = absurd lacks
+reject_lacking o tokens bytes (First first) (c, some, at, folded) (full, ascii, differs) utf8 =
     let one : get_or (map shape_of tokens) 0 One ≡ One = get_or-map shape_of tokens 0 AnyChar One some ∙ ap shape_of at in
     let ones : HasOnes (map shape_of tokens) 1 0 = record {
       within = omega (arith, length-map tokens shape_of, some);
@@ -263,10 +266,11 @@ reject_letter o tokens bytes first begins excludes utf8 =
       last = λ i lt. absurd (omega arith);
     } in
     let other : is_same o.case_sensitive (get_or bytes 0 0) c ≡ false = ⊎_elim
-    (λ same. absurd (excludes.other (case_set_same (get_or bytes 0 0) c (lower-same o.case_sensitive (get_or bytes 0 0) c same) ∙ sym folded)))
+    (λ same. absurd (differs (case_set_same (get_or bytes 0 0) c (lower-same o.case_sensitive (get_or bytes 0 0) c same) ∙ sym folded)))
     (λ differs. differs)
     (cases_Bool (is_same o.case_sensitive (get_or bytes 0 0) c)) in
-    reject_first o tokens bytes 0 1 (Literal c) (IsTrim-nothing o tokens bytes) ones (omega arith) excludes.some excludes.ascii (sym at ∙ get_or_default tokens 0 _ _ some) utf8 other
+    reject_first o tokens bytes 0 1 (Literal c) (IsTrim-nothing o tokens bytes) ones (omega arith) full ascii (sym at ∙ get_or_default tokens 0 _ _ some) utf8 other
+reject_lacking o tokens bytes (Length n) (is, all) other utf8 = λ match. other (length_of_literals o tokens bytes all utf8 match ∙ sym is)
 
 -- the next last token, and the character that it is compared with
 module _ (o : MatchOptions) (tokens : List Token) (bytes : List ℕ) (start end trail : ℕ) (t : Token) (trim : IsTrim o tokens bytes start end) (ones : HasOnes (map shape_of tokens) start trail)

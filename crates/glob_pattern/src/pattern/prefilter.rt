@@ -5,7 +5,7 @@ ghost use Rattle.std.specs.Str.{is_utf8};
 ghost use Rattle.glob_pattern.specs.Grammar.Tokens.{shape_of};
 ghost use Rattle.glob_pattern.specs.Matching.Texts.{TokensMatch};
 ghost use Rattle.glob_pattern.specs.Matching.Trims.{HasOnes, IsTrim};
-ghost use Rattle.glob_pattern.specs.Private.Prefilters.{Excludes, IsFoldedFirst, IsPrefilter};
+ghost use Rattle.glob_pattern.specs.Private.Prefilters.{IsPrefilter, Lacks, Requires, is_ascii_literal};
 
 use crate::matcher::{Shape, Shaped};
 use crate::options::MatchOptions;
@@ -25,10 +25,21 @@ pub struct Prefilter {
     pub lead: usize,
     /// How many of the other tokens at the end do.
     pub trail: usize,
-    /// The first token with the bit of lower case set, if it is a literal of ASCII, and otherwise 0.
-    pub first: u8,
+    /// What is seen without a loop.
+    pub required: Required,
     /// Bytes of the first tokens between.
     pub needle: Needle,
+}
+
+/// What each matching text has, and most others lack.
+#[derive(Clone, Copy)]
+pub enum Required {
+    /// Nothing that is known.
+    Nothing,
+    /// The first character, which the first token is, a literal of ASCII: with the bit of lower case set, as either case.
+    First(u8),
+    /// This many bytes: all tokens are literals of ASCII.
+    Length(usize),
 }
 
 /// How many characters at the start and at the end of a text are decided: a match is one of what is between.
@@ -45,7 +56,7 @@ impl Prefilter {
     pub const NONE: Prefilter = Prefilter {
         lead: 0,
         trail: 0,
-        first: 0,
+        required: Required::Nothing,
         needle: Needle::NONE,
     };
 
@@ -60,7 +71,7 @@ impl Prefilter {
         Prefilter {
             lead,
             trail,
-            first: folded_first(tokens),
+            required: Required::of(tokens),
             needle,
         }
     }
@@ -79,7 +90,7 @@ impl Prefilter {
             (IsTrue (is_utf8 bytes.now) → ¬ (TokensMatch options tokens.now (chars bytes.now)))
             (λ t. IsTrim options tokens.now bytes.now t.start t.end) }
     {
-        if self.excludes(bytes) {
+        if self.required.is_lacked_by(bytes) {
             return None;
         }
         let start = trim_start(tokens, self.lead, bytes, options)?;
@@ -90,27 +101,46 @@ impl Prefilter {
             None
         }
     }
+}
 
-    /// Whether the text begins with a character of ASCII that the first token, a literal, does not take in either case.
-    #[inline(always)]
-    fn excludes(&self, bytes: &[u8]) -> bool
-        ensures { IsTrue result → Excludes self.now.first bytes.now }
+impl Required {
+    /// That of the tokens: for `main.rs` seven bytes, and for `main.*` an `m` or `M` at the start.
+    fn of<A: Allocator>(tokens: &[Token<Bracket<A>>]) -> Self
+        ensures { Requires tokens.now result }
     {
-        match bytes {
-            [byte, ..] => self.first != 0 && byte.is_ascii() && *byte | CASE != self.first,
-            [] => false,
+        match tokens {
+            [Token::Literal(c), ..] if c.is_ascii() => {
+                if tokens.iter().all(|token| is_ascii_literal(token)) {
+                    Required::Length(tokens.len())
+                } else {
+                    Required::First(*c as u8 | CASE)
+                }
+            }
+            _ => Required::Nothing,
+        }
+    }
+
+    /// Whether the text lacks it.
+    #[inline(always)]
+    fn is_lacked_by(self, bytes: &[u8]) -> bool
+        ensures { IsTrue result → Lacks self bytes.now }
+    {
+        match self {
+            Required::Nothing => false,
+            Required::First(first) => match bytes {
+                [byte, ..] => byte.is_ascii() && *byte | CASE != first,
+                [] => false,
+            },
+            Required::Length(length) => bytes.len() != length,
         }
     }
 }
 
-/// The first token with the bit of lower case set, if it is a literal of ASCII, and otherwise 0.
-fn folded_first<A: Allocator>(tokens: &[Token<Bracket<A>>]) -> u8
-    ensures { IsFoldedFirst tokens.now result }
+/// Whether the token is a literal of ASCII.
+fn is_ascii_literal<A: Allocator>(token: &Token<Bracket<A>>) -> bool
+    ensures { result ≡ is_ascii_literal token.now }
 {
-    match tokens {
-        [Token::Literal(c), ..] if c.is_ascii() => *c as u8 | CASE,
-        _ => 0,
-    }
+    matches!(token, Token::Literal(c) if c.is_ascii())
 }
 
 /// How many tokens of one character there are before the first other: of those of `src/*.rs` four.

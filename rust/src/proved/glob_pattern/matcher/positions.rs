@@ -16,7 +16,7 @@ pub struct Span {
     /// How many leading shapes have to split all characters.
     pub end: usize,
     /// Positions of the first word. Once one is alive, the last shape before `end` takes all further characters.
-    pub enough: u64,
+    pub accepting: u64,
 }
 
 /// A value of `keep` that no answer equals, since an answer never has the last bit: it is of no token.
@@ -25,7 +25,7 @@ const NO_ANSWER: u64 = u64::MAX;
 impl Span {
     /// So many shapes, from the first on.
     pub fn all(count: usize) -> Self {
-        Span { start: 0, end: count, enough: 0 }
+        Span { start: 0, end: count, accepting: 0 }
     }
 }
 
@@ -48,7 +48,7 @@ fn run<T: Shaped, J: Judge>(tokens: &[T], words: &[ShapeWord], alive: &mut [u64]
     set_start(tokens, words, span.start, judge.opens(), alive);
     let first = words[0];
     let mut keep = NO_ANSWER;
-    while alive[0] & span.enough == 0 {
+    while alive[0] & span.accepting == 0 {
         let old = alive[0];
         // The first word's tokens are asked until they answer otherwise, or a component starts.
         let took = loop {

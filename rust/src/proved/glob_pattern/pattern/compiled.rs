@@ -91,7 +91,7 @@ impl Compiled {
     pub fn matches(&self, text: &str, options: MatchOptions, trimmed: Trimmed) -> bool {
         let front = &text[..text.len() - trimmed.end];
         let end = self.tokens.len() - trimmed.end;
-        let span = Span { start: trimmed.start, end, enough: self.enough(end, options) };
+        let span = Span { start: trimmed.start, end, accepting: self.accepting(end, options) };
         self.run_span(front, span, options)
     }
 
@@ -139,7 +139,7 @@ impl Compiled {
     /// The bit of the last token before number `end`, if it is a wildcard that takes all that is left of any text: once
     /// it is alive, these tokens match.
     #[inline(always)]
-    fn enough(&self, end: usize, options: MatchOptions) -> u64 {
+    fn accepting(&self, end: usize, options: MatchOptions) -> u64 {
         if has_rules(options) || self.tokens.len() > WORD {
             return 0;
         }

@@ -21,10 +21,22 @@ pub struct Prefilter {
     pub lead: usize,
     /// How many of the other tokens at the end do.
     pub trail: usize,
-    /// The first token with the bit of lower case set, if it is a literal of ASCII, and otherwise 0.
-    pub first: u8,
+    /// What is seen without a loop.
+    pub required: Required,
     /// Bytes of the first tokens between.
     pub needle: Needle,
+}
+
+/// What each matching text has, and most others lack.
+#[derive(Clone, Copy)]
+pub enum Required {
+    /// Nothing that is known.
+    Nothing,
+    /// The first character, which the first token is, a literal of ASCII: with the bit of lower case set, as either
+    /// case.
+    First(u8),
+    /// This many bytes: all tokens are literals of ASCII.
+    Length(usize),
 }
 
 /// How many characters at the start and at the end of a text are decided: a match is one of what is between.
@@ -38,7 +50,7 @@ pub struct Trimmed {
 
 impl Prefilter {
     /// That of no tokens.
-    pub const NONE: Prefilter = Prefilter { lead: 0, trail: 0, first: 0, needle: Needle::NONE };
+    pub const NONE: Prefilter = Prefilter { lead: 0, trail: 0, required: Required::Nothing, needle: Needle::NONE };
 
     /// That of the tokens.
     pub fn of(tokens: &[Token<Bracket>]) -> Self {
@@ -46,14 +58,14 @@ impl Prefilter {
         let trail = trailing_ones(tokens, lead);
         let end = (tokens.len() - trail).min(lead.saturating_add(SEARCHED));
         let needle = Needle::of(&tokens[lead..end]);
-        Prefilter { lead, trail, first: folded_first(tokens), needle }
+        Prefilter { lead, trail, required: Required::of(tokens), needle }
     }
 
     /// Compares the first and the last tokens with characters of the text, up to the first that is beyond ASCII, and
     /// searches the text for the needle. `None`: the text does not match.
     #[inline(always)]
     pub fn trim(&self, tokens: &[Token<Bracket>], bytes: &[u8], options: MatchOptions) -> Option<Trimmed> {
-        if self.excludes(bytes) {
+        if self.required.is_lacked_by(bytes) {
             return None;
         }
         let start = trim_start(tokens, self.lead, bytes, options)?;
@@ -64,23 +76,40 @@ impl Prefilter {
             None
         }
     }
+}
 
-    /// Whether the text begins with a character of ASCII that the first token, a literal, does not take in either case.
+impl Required {
+    /// That of the tokens: for `main.rs` seven bytes, and for `main.*` an `m` or `M` at the start.
+    fn of(tokens: &[Token<Bracket>]) -> Self {
+        match tokens {
+            [Token::Literal(c), ..] if c.is_ascii() => {
+                if tokens.iter().all(|token| is_ascii_literal(token)) {
+                    Required::Length(tokens.len())
+                } else {
+                    Required::First(*c as u8 | CASE)
+                }
+            }
+            _ => Required::Nothing,
+        }
+    }
+
+    /// Whether the text lacks it.
     #[inline(always)]
-    fn excludes(&self, bytes: &[u8]) -> bool {
-        match bytes {
-            [byte, ..] => self.first != 0 && byte.is_ascii() && *byte | CASE != self.first,
-            [] => false,
+    fn is_lacked_by(self, bytes: &[u8]) -> bool {
+        match self {
+            Required::Nothing => false,
+            Required::First(first) => match bytes {
+                [byte, ..] => byte.is_ascii() && *byte | CASE != first,
+                [] => false,
+            },
+            Required::Length(length) => bytes.len() != length,
         }
     }
 }
 
-/// The first token with the bit of lower case set, if it is a literal of ASCII, and otherwise 0.
-fn folded_first(tokens: &[Token<Bracket>]) -> u8 {
-    match tokens {
-        [Token::Literal(c), ..] if c.is_ascii() => *c as u8 | CASE,
-        _ => 0,
-    }
+/// Whether the token is a literal of ASCII.
+fn is_ascii_literal(token: &Token<Bracket>) -> bool {
+    matches!(token, Token::Literal(c) if c.is_ascii())
 }
 
 /// How many tokens of one character there are before the first other: of those of `src/*.rs` four.

@@ -24,7 +24,7 @@ slice_bounds-of-count g c = omega (arith, c.trailing_ones-trail.ensures.within, 
 pub returns : goal.returns
 returns g c = record {
   ends = c.trailing_ones-trail.ensures;
-  begins = c.folded_first.ensures;
+  required = c.of.ensures;
   inside = IsNeedle-within c.args.tokens.now c.of-needle.result _ _ c.of-needle.ensures;
 }
 

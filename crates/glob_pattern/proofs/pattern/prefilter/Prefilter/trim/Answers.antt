@@ -3,12 +3,12 @@ use Rattle.std.proofs.Math.Nat.{le_trans}
 use Rattle.std.proofs.lemmas.Bool.{false≢true}
 use Rattle.std.proofs.lemmas.Str.{IsUtf8-from_is_utf8}
 use Rattle.glob_pattern.proofs.MatchingLemmas.Needles.{ContainsFolded-from_needle}
-use Rattle.glob_pattern.proofs.MatchingLemmas.Trims.{reject_letter}
+use Rattle.glob_pattern.proofs.MatchingLemmas.Trims.{reject_lacking}
 use Rattle.glob_pattern.proofs.pattern.prefilter.Prefilter.trim.Goals as goal
 
-pub returns-then-excludes : goal.returns-then-excludes
-returns-then-excludes g c = λ utf8.
-    reject_letter c.args.options c.args.tokens.now c.args.bytes.now c.args.self.now.first c.requires.begins (c.excludes.ensures c.if-excludes.true) (IsUtf8-from_is_utf8 c.args.bytes.now utf8)
+pub returns-then-is_lacked_by : goal.returns-then-is_lacked_by
+returns-then-is_lacked_by g c = λ utf8.
+    reject_lacking c.args.options c.args.tokens.now c.args.bytes.now c.args.self.now.required c.requires.required (c.is_lacked_by.ensures c.if-is_lacked_by.true) (IsUtf8-from_is_utf8 c.args.bytes.now utf8)
 
 pub returns-in_err-start : goal.returns-in_err-start
 returns-in_err-start g c = rw c.from_residual.ensures c.in_err-start.ensures
