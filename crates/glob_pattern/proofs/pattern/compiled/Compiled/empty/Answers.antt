@@ -13,7 +13,7 @@ invariant_of-result g c = rw (c.new.ensures.items, c.new-2.ensures.items, c.new-
   masked = record { each = λ i d lt. absurd (omega arith) };
   filters = record {
     ends = record { within = omega arith; first = λ j lt. absurd (omega arith); last = λ i lt. absurd (omega arith) };
-    begins = record { literal = λ some. absurd (some refl) };
+    required = record {};
     inside = record { front = []; plain = []; back = []; tokens_are = refl; bytes_are = refl };
   };
 })
