@@ -227,19 +227,3 @@ no_units text f (t ∷ ts) between folded = absurd (omega (arith, some_token t t
 -- where no token is left, the text ends
 pub end_of_text : (text : Text) (f : ℕ) → TokensFrom text f [] → f ≡ length text
 end_of_text text f from = no_units text f from.0 from.1 from.2
-
--- the first `]` is one
-pub one_close : (text : Text) (i k e : ℕ) → i ≤ k → Has text k close_bracket → NoCloseBetween text i k → ClosesBefore text i e → k + 1 ≡ e
-one_close text i k e order here none closes =
-    elim (cases_lt k (e - 1)) [
-      | inl before ↦ absurd (closes.2 k order before here)
-      | inr not_before ↦
-          elim (cases_lt (e - 1) k) [
-            | inl after ↦ absurd (none (e - 1) (omega (arith, closes.0)) after closes.1)
-            | inr not_after ↦ omega (arith, closes.0)
-          ]
-    ]
-
--- and there is one
-pub some_close : (text : Text) (i e : ℕ) → NoCloseBetween text i (length text) → ClosesBefore text i e → ⊥
-some_close text i e none closes = none (e - 1) (omega (arith, closes.0)) closes.1.0 closes.1

@@ -20,12 +20,8 @@ bytes_eq-same : (text : Text) → bytes_eq text text ≡ true
 bytes_eq-same text = (bytes_eq-Decides text text).1 refl
 
 module _ (name : Text) where
-  -- the root is a directory
-  pub root_is_directory : is_dir_at (one_file name) [] ≡ true
-  unfolding kind_at
-  root_is_directory = refl
 
-  -- the file is none
+  -- the file is no directory
   pub file_is_no_directory : is_dir_at (one_file name) (name ∷ []) ≡ false
   unfolding kind_at
   file_is_no_directory = by (bytes_eq name name) refl

@@ -17,11 +17,11 @@ use Rattle.glob_tree.specs.declared.kind.Kind.TheVariants.{Dir, Shut, Other}
 use Rattle.glob_tree.specs.declared.tree.Look.{Look}
 use Rattle.glob_tree.specs.declared.tree.Look.TheVariants as look
 use Rattle.glob_tree.proofs.ContentLemmas.Contents.{IsContent, child_entry_is}
-use Rattle.glob_tree.proofs.ContentLemmas.Resolving.{steps_none, resolve_steps, resolve_empty}
+use Rattle.glob_tree.proofs.ContentLemmas.Resolving.{step_down, step_here, step_none, steps_none, resolve_steps, resolve_empty}
 use Rattle.glob_prune.specs.Entering.{is_entry_kept}
 use Rattle.glob_prune.specs.Pruning.{Exclusion, path_of, has_names, is_excluded_past, is_excluded, is_kept, pruned, names_of_path, is_downward}
 use Rattle.glob_prune.proofs.ExclusionLemmas.{leads, is_excluded-append, is_excluded-nil, path_of-append, all_lead-filter}
-use Rattle.glob_prune.proofs.PruningLemmas.{found, found_at, left_of_found, IsLeft, kind_left, kind_below, found_flag, found_key, step_down, step_here, step_nowhere, is_kept-below}
+use Rattle.glob_prune.proofs.PruningLemmas.{found, found_at, left_of_found, IsLeft, kind_left, kind_below, found_flag, found_key, is_kept-below}
 
 -- what is kept of a listing of the directory at a path of names
 abbrev pub kept_of : Exclusion → (above : Text) → ListAnswer → ListAnswer
@@ -134,7 +134,7 @@ module _ (x : Exclusion) (c : Content) (w : IsContent c) where
           → (IsLeft x c w (before ++ q ∷ []) → found p (steps p (Some (at (before ++ q ∷ []))) qs)
           ≡ left_of_found x c w (before ++ q ∷ []) names (found c (steps c (Some (at (before ++ q ∷ []))) qs)))
           → goal_at (step p q k) (step c q k)
-      by_tests false s o nd st is up here further = from_steps None None (step_nowhere p k q (same_dir ∙ nd)) (step_nowhere c k q nd) nowhere
+      by_tests false s o nd st is up here further = from_steps None None (step_none p k q (same_dir ∙ nd)) (step_none c k q nd) nowhere
       by_tests true true o d st is up here further = from_steps (Some k) (Some k) (step_here p k q (same_dir ∙ d) st) (step_here c k q d st)
           (here ∙ ap (λ b. left_of_found x c w before (cond (not b) (q ∷ names) names) (found c (steps c (Some k) qs))) (sym st))
       by_tests true false None d st is up here further =

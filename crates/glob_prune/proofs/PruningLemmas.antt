@@ -11,7 +11,7 @@ use Rattle.glob_tree.specs.Paths.{stays}
 use Rattle.glob_tree.specs.Content.{Content, Key, same_key, kind_at, is_dir, is_dir_at, are_distinct, step, steps, child_key}
 use Rattle.glob_tree.specs.declared.kind.Kind.{Kind}
 use Rattle.glob_tree.proofs.ContentLemmas.Contents.{IsContent, same_key-Decides, names_past-append}
-use Rattle.glob_tree.proofs.ContentLemmas.Resolving.{steps_none}
+use Rattle.glob_tree.proofs.ContentLemmas.Resolving.{step_down, step_here, step_none, steps_none}
 use Rattle.glob_prune.specs.Pruning.{Exclusion, has_names, is_excluded_past, is_excluded, is_kept, pruned}
 use Rattle.glob_prune.proofs.ExclusionLemmas.{leads}
 
@@ -144,16 +144,6 @@ found_flag c k kind is (q ∷ qs) e h = by_tests (is_dir_at c k) (stays q) refl 
     by_tests true false d st h further =
         ap (λ b. has_names (cond (not b) (q ∷ filter leads qs) (filter leads qs)) || is_dir e.1) st ∙ sym d ∙ directory
 
--- a piece that does not go up leads on by its name
-pub step_down : (c : Content) (k : Key) (q : Text) → is_dir_at c k ≡ true → stays q ≡ false → bytes_eq q parent_dir ≡ false → step c q k ≡ child_key c k q
-step_down c k q d s u = rw (d, s, u) refl
-
-pub step_here : (c : Content) (k : Key) (q : Text) → is_dir_at c k ≡ true → stays q ≡ true → step c q k ≡ Some k
-step_here c k q d s = rw (d, s) refl
-
-pub step_nowhere : (c : Content) (k : Key) (q : Text) → is_dir_at c k ≡ false → step c q k ≡ None
-step_nowhere c k q d = rw d refl
-
 -- pieces that do not go up lead down by their names
 pub found_key : (c : Content) (ps : List Text) (k : Key) (e : Key × Kind) → list_any (λ q. bytes_eq q parent_dir) ps ≡ false → found c (steps c (Some k) ps) ≡ Some e → e.0 ≡ k ++ filter leads ps
 found_key c [] k e u h = at_kind (kind_at c k) h
@@ -169,7 +159,7 @@ found_key c (q ∷ qs) k e u h =
         → found c (steps c (step c q k) qs) ≡ Some e
         → ((l : Key) → found c (steps c (Some l) qs) ≡ Some e → e.0 ≡ l ++ filter leads qs)
         → e.0 ≡ k ++ filter leads (q ∷ qs)
-    by_tests false s o nd st is up h further = absurd (none-some e (sym (ap (λ o. found c (steps c o qs)) (step_nowhere c k q nd) ∙ ap (found c) (steps_none c qs)) ∙ h))
+    by_tests false s o nd st is up h further = absurd (none-some e (sym (ap (λ o. found c (steps c o qs)) (step_none c k q nd) ∙ ap (found c) (steps_none c qs)) ∙ h))
     by_tests true true o d st is up h further =
         further k (sym (ap (λ o. found c (steps c o qs)) (step_here c k q d st)) ∙ h) ∙ ap (λ b. k ++ cond (not b) (q ∷ filter leads qs) (filter leads qs)) (sym st)
     by_tests true false None d st is up h further =

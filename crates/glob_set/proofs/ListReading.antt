@@ -38,10 +38,6 @@ module _ (o : MatchOptions) (patterns : List Text) (text : Text) where
   unfolding FirstMatch
   FirstMatch-end n end none = NoneBelow-end n end none
 
-  pub NoneFrom-end : (n : ℕ) → length patterns ≤ n → NoneFrom n
-  unfolding MatchesAt
-  NoneFrom-end n end k above at = absurd (omega (arith, end, above, at.0))
-
   pub LastMatch-at : (number : ℕ) → NoneFrom (number + 1) → MatchesAt o patterns text number → LastMatch o patterns text (Some number)
   unfolding LastMatch
   LastMatch-at number none at = (at, λ k above. none k (omega arith))

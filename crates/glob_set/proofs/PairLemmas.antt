@@ -58,12 +58,6 @@ step_bits bits last next bytes i below is =
     ∙ ap (λ b. bit_or bits (bit_or (class_bit (pair_class last b)) (pair_bits b (drop (i + 1) bytes)))) is
     ∙ ap (λ bs. bit_or bits (pair_bits last bs)) (sym (drop_next bytes i below))
 
-pub step_class : (class last next : ℕ) (bytes : List ℕ) (i : ℕ) → i < length bytes → next ≡ get_or bytes i 0
-    → last_class (pair_class last next) next (drop (i + 1) bytes) ≡ last_class class last (drop i bytes)
-step_class class last next bytes i below is =
-    ap (λ b. last_class (pair_class last b) b (drop (i + 1) bytes)) is
-    ∙ ap (λ bs. last_class class last bs) (sym (drop_next bytes i below))
-
 -- the last two bytes, by their places
 pub class_at_end : (class before : ℕ) (bytes : List ℕ) (n : ℕ) → length bytes ≡ n + 2
     → last_class class before bytes ≡ pair_class (get_or bytes n 0) (get_or bytes (n + 1) 0)

@@ -27,11 +27,6 @@ rules_more rules i none so_far new all text below is pushed so =
 pub rules_done : (rules : List (Bor Text)) (i : ℕ) (so_far all : List Text) → length rules ≤ i → so_far ++ map now (drop i rules) ≡ all → so_far ≡ all
 rules_done rules i so_far all end so = sym (append-nil so_far) ∙ ap (λ ts. so_far ++ map now ts) (sym (drop_all i rules end)) ∙ so
 
--- what was read is the text of the file, and has no mark any more
-pub read_file : (known : Option Text) (held text : Text) → IfSome known (λ k. held ≡ k) → IsUnmarked held text → IsRead known text
-read_file None held text is unmarked = (held, unmarked)
-read_file (Some k) held text is unmarked = subst (λ z. IsUnmarked z text) is unmarked
-
 -- one more file was read
 AreRead-push : (holds : Text → Option Text) (names texts : List Text) (name text : Text) → AreRead holds names texts → IsRead (holds name) text
     → AreRead holds (names ++ name ∷ []) (texts ++ text ∷ [])

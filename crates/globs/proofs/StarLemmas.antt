@@ -20,7 +20,7 @@ use Rattle.glob_walk.specs.Goal.{ends_recursive}
 use Rattle.glob_walk.proofs.ComponentLemmas.FirstSeparator.{no_slash_parts}
 use Rattle.glob_walk.proofs.ComponentLemmas.Fits.{fits, tokens_match-fits}
 use Rattle.glob_walk.proofs.GoalLemmas.Characters.{AllUtf8, dot-chars, no_slash-chars}
-use Rattle.glob_walk.proofs.GoalLemmas.TakenNames.{takes, takes-one, takes-one_none, run-cases, run-enter, run-met, run-nil}
+use Rattle.glob_walk.proofs.GoalLemmas.TakenNames.{takes, takes-last, takes-one, takes-one_none, run-cases, run-enter, run-met, run-nil}
 
 abbrev star : Text
 star = codes "*"
@@ -82,13 +82,10 @@ run_star o t (n ∷ m ∷ ns) r utf8 flat h =
     let both = and_parts (is_open o n) (run_to_end o (m ∷ ns)) h in
     run-enter o t (star ∷ []) n (m ∷ ns) r both.0 (run_star o t (m ∷ ns) r utf8.1 (and_parts (has_no_slash n) (list_all has_no_slash (m ∷ ns)) flat).1 both.1)
 
-last_run : (o : MatchOptions) (t : Text) (names : Key) → is_recursive t ≡ true → takes o (t ∷ []) names ≡ run_to_end o names
-last_run o t names e = rw e refl
-
 -- components that end in `**` take names as those with a `*` after them
 pub takes_in : (o : MatchOptions) (ts : List Text) (names : Key) → ends_recursive ts ≡ true → AllUtf8 names → list_all has_no_slash names ≡ true → takes o ts names ≡ true → takes o (ts ++ star ∷ []) names ≡ true
 takes_in o [] names ends utf8 flat h = absurd (false≢true ends)
-takes_in o (t ∷ []) names ends utf8 flat h = run_star o t names ends utf8 flat (sym (last_run o t names ends) ∙ h)
+takes_in o (t ∷ []) names ends utf8 flat h = run_star o t names ends utf8 flat (sym (takes-last o t names ends) ∙ h)
 takes_in o (t ∷ u ∷ us) names ends utf8 flat h = by_test (λ ms. takes_in o (u ∷ us) ms ends) (is_recursive t) refl names utf8 flat h
   where
     by_test : ((ms : Key) → AllUtf8 ms → list_all has_no_slash ms ≡ true → takes o (u ∷ us) ms ≡ true → takes o (u ∷ us ++ star ∷ []) ms ≡ true)

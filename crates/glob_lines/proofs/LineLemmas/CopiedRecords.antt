@@ -26,19 +26,6 @@ module _ (end : ℕ) (P : List ℕ → Type 0) where
     pub wrote : Appends old new (with_ends end kept)
     pub counted : count ≡ min (length kept) (2 ^ 64 - 1)
 
-  -- nothing was read
-  pub AreCopied-none : (left old : Option (List ℕ)) → AreCopied left left [] old old 0
-  AreCopied-none left old = record {
-    whole = [];
-    kept = [];
-    read = Consumes-nil left;
-    ended = inl refl;
-    none = All-nil (λ b. b ≢ end);
-    are = refl;
-    wrote = Appends-nil old;
-    counted = refl;
-  }
-
   -- One more read. What it gave, after `partial`, is `front` and `rest`. The records of `front` are apart from those of what is
   -- after, where that is known.
   pub record IsBlock (now now' : Option (List ℕ)) (partial front rest : List ℕ) : Type 0 where

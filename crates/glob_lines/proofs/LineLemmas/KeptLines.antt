@@ -32,12 +32,6 @@ AreKept-front P (x ∷ xs) more kept_front kept (inl (here, (first, is, are))) (
 AreKept-front P (x ∷ xs) more kept_front kept (inr (not_here, are)) (inl (here, (rest, all_is, all))) = absurd (not_here here)
 AreKept-front P (x ∷ xs) more kept_front kept (inr (_, are)) (inr (_, all)) = AreKept-front P xs more kept_front kept are all
 
--- there is only one list of the records that are kept
-pub AreKept-unique : (P : List ℕ → Type 0) (records a b : List (List ℕ)) → AreKept P records a → AreKept P records b → b ≡ a
-AreKept-unique P records a b first second =
-    let (others, split, none) = AreKept-front P records [] a b first (subst (λ l. AreKept P l b) (sym (append-nil records)) second) in
-    split ∙ ap (λ l. a ++ l) none ∙ append-nil a
-
 -- there is one, where each record is decided
 pub AreKept-exists : (P : List ℕ → Type 0) → ((one : List ℕ) → P one ⊎ (¬ (P one))) → (records : List (List ℕ)) → (kept : List (List ℕ)) × AreKept P records kept
 AreKept-exists P decided [] = ([], refl)

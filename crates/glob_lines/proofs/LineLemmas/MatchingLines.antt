@@ -72,14 +72,6 @@ module _ (end : ℕ) (P : List ℕ → Type 0) (decided : (one : List ℕ) → P
   pub kept_records : (input : List ℕ) → (kept : List (List ℕ)) × AreKept P (records_of end input) kept
   kept_records input = AreKept-exists P decided (records_of end input)
 
-  pub some_records-from_front : (input : List ℕ) (old new : Option (List ℕ)) → WritesFrontRecords end P input old new → WritesSomeKept end P input old new
-  some_records-from_front input old new front =
-      let (kept, are) = kept_records input in (kept, are, front kept are)
-
-  pub some_bytes-from_front : (input : List ℕ) (old new : Option (List ℕ)) → WritesFrontBytes end P input old new → WritesKeptBytes end P input old new
-  some_bytes-from_front input old new front =
-      let (kept, are) = kept_records input in (kept, are, front kept are)
-
   -- where nothing was written, no record was
   pub some_records-none : (input : List ℕ) (known : Option (List ℕ)) → WritesSomeKept end P input known known
   some_records-none input known =

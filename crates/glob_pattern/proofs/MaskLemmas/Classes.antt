@@ -86,7 +86,7 @@ module _ (o : MatchOptions) (opening : Bool) where
 
   -- where the separator rule excludes `/`, nothing else counts
   pub takes-slash : o.require_literal_separator ≡ true → (t : Token) → takes o opening slash t ≡ takes_separator t
-  takes-slash s (Literal x) = same-caseless o.case_sensitive slash x (omega arith)
+  takes-slash s (Literal x) = same-caseless o.case_sensitive slash x (omega arith) ∙ sym (same-caseless true slash x (omega arith))
   takes-slash s AnyChar = rw s refl
   takes-slash s AnySequence = rw s refl
   takes-slash s Recursive = rw (and-false (o.require_literal_leading_dot && opening)) refl
@@ -95,7 +95,7 @@ module _ (o : MatchOptions) (opening : Bool) where
 
   -- nor where the dot rule excludes `.`
   pub takes-dot : o.require_literal_leading_dot ≡ true → opening ≡ true → (t : Token) → takes o opening dot t ≡ takes_dot t
-  takes-dot d s (Literal x) = same-caseless o.case_sensitive dot x (omega arith)
+  takes-dot d s (Literal x) = same-caseless o.case_sensitive dot x (omega arith) ∙ sym (same-caseless true dot x (omega arith))
   takes-dot d s AnyChar = rw (d, s) (and-false _)
   takes-dot d s AnySequence = rw (d, s) (and-false _)
   takes-dot d s Recursive = rw (d, s) refl

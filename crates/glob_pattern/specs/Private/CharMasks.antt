@@ -1,5 +1,5 @@
 -- Which of 63 neighbouring tokens take each class of characters.
-use Rattle.std.specs.Prelude.{◌≡◌, ℕ, ◌+◌, ◌*◌, ◌<◌, ◌↔◌, ◌⊎◌, Bool, true, false, ◌&&◌, not, nat_le, ◌==◌, if◌then◌else◌, List, length, slice_index_or, IsTrue}
+use Rattle.std.specs.Prelude.{◌≡◌, ℕ, ◌+◌, ◌*◌, ◌<◌, ◌↔◌, ◌⊎◌, Bool, true, false, ◌&&◌, not, nat_le, if◌then◌else◌, List, length, slice_index_or, IsTrue}
 use Rattle.std.specs.Char.{is_ascii}
 use Rattle.std.specs.Int.{IsBitSet}
 use Rattle.std.specs.List.{list_any}
@@ -23,12 +23,22 @@ beyond = 128
 abbrev pub ascii_class : (case : Bool) → ℕ → ℕ
 ascii_class case c = if case then c else 128 + c
 
+-- the classes of what the separator rule and the dot rule exclude from wildcards, and of all characters beyond ASCII
+abbrev pub separator_class : ℕ
+separator_class = 256
+
+abbrev pub dot_class : ℕ
+dot_class = 257
+
+abbrev pub beyond_class : ℕ
+beyond_class = 258
+
 -- the class of a character; `opening`: a component begins at its place
 abbrev pub class_of : MatchOptions → (opening : Bool) → ℕ → ℕ
 class_of o opening c =
-    if not (is_ascii c) then 258
-    else if is_excluded_separator o c then 256
-    else if is_excluded_dot o opening c then 257
+    if not (is_ascii c) then beyond_class
+    else if is_excluded_separator o c then separator_class
+    else if is_excluded_dot o opening c then dot_class
     else ascii_class o.case_sensitive c
 
 -- the mask of a class
@@ -55,21 +65,11 @@ is_undecided (NoneOf entries) = list_any is_beyond entries
 
 -- the token takes a `/` that the separator rule excludes from wildcards
 abbrev pub takes_separator : Token → Bool
-takes_separator (Literal x) = x == slash
-takes_separator AnyChar = false
-takes_separator AnySequence = false
-takes_separator Recursive = true
-takes_separator (OneOf entries) = false
-takes_separator (NoneOf entries) = false
+takes_separator t = takes (record new_options { require_literal_separator = true }) false slash t
 
 -- the token takes a `.` that the dot rule excludes from wildcards
 abbrev pub takes_dot : Token → Bool
-takes_dot (Literal x) = x == dot
-takes_dot AnyChar = false
-takes_dot AnySequence = false
-takes_dot Recursive = false
-takes_dot (OneOf entries) = false
-takes_dot (NoneOf entries) = false
+takes_dot t = takes (record new_options { require_literal_leading_dot = true }) true dot t
 
 -- where no rule applies, the token takes all characters but those that it lists: it is a wildcard or a `[!..]`
 abbrev pub takes_all_but_listed : Token → Bool
@@ -126,9 +126,9 @@ pub record AreMasks (tokens : List Token) (start end : ℕ) (masks : CharMasks) 
   pub ascii : (case : Bool) (c : ℕ) → c < 128
       → IsMask tokens start end (takes (case_options case) false c)
       (mask_at masks.masks (ascii_class case c))
-  pub separator : IsMask tokens start end takes_separator (mask_at masks.masks 256)
-  pub dot : IsMask tokens start end takes_dot (mask_at masks.masks 257)
-  pub beyond : IsMask tokens start end takes_beyond (mask_at masks.masks 258)
+  pub separator : IsMask tokens start end takes_separator (mask_at masks.masks separator_class)
+  pub dot : IsMask tokens start end takes_dot (mask_at masks.masks dot_class)
+  pub beyond : IsMask tokens start end takes_beyond (mask_at masks.masks beyond_class)
   pub undecided : IsMask tokens start end is_undecided masks.undecided
 
 -- What the masks of the tokens from number `start` on say of a character, which is of ASCII where the token is
@@ -139,7 +139,7 @@ pub record IsCharMasks (tokens : List Token) (start : ℕ) (masks : CharMasks) :
       → IsBitSet (mask_at masks.masks (class_of o opening c)) j
       ↔ IsTrue (takes o opening c (slice_index_or tokens (start + j) AnyChar))
   pub undecided : (j : ℕ) → j < 64 → IsBitSet masks.undecided j
-      → ¬ (IsBitSet (mask_at masks.masks 258) j)
+      → ¬ (IsBitSet (mask_at masks.masks beyond_class) j)
 
 -- each is the masks of 63 tokens, the first ones those of the first 63
 pub record AreCharMasks (tokens : List Token) (list : List CharMasks) : Type 0 where

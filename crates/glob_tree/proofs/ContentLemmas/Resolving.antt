@@ -180,8 +180,5 @@ step_none c k piece d = rw d refl
 pub step_here : (c : Content) (k : Key) (piece : Text) → is_dir_at c k ≡ true → stays piece ≡ true → step c piece k ≡ Some k
 step_here c k piece d here = rw (d, here) refl
 
-pub step_up : (c : Content) (k : Key) (piece : Text) → is_dir_at c k ≡ true → stays piece ≡ false → bytes_eq piece parent_dir ≡ true → step c piece k ≡ Some (parent_key k)
-step_up c k piece d leads up = rw (d, leads, up) refl
-
 pub step_down : (c : Content) (k : Key) (piece : Text) → is_dir_at c k ≡ true → stays piece ≡ false → bytes_eq piece parent_dir ≡ false → step c piece k ≡ child_key c k piece
 step_down c k piece d leads down = rw (d, leads, down) refl

@@ -26,12 +26,7 @@ module _ (entries : List (Key × Kind)) (all : Option Key) where
       let there = subst (λ o. Leads entries o (step c piece (key_numbered entries n))) is leads in
       on ∙ ap (steps c (Some (key_numbered entries n))) first ∙ ap (λ o. steps c o ys) (sym there.0) ∙ steps_none c ys
 
--- what is at a key does not depend on the current directory
-pub step_any : (entries : List (Key × Kind)) (m n : Key) (piece : Text) (k : Key)
-    → step (record { kinds = entries; current = m }) piece k ≡ step (record { kinds = entries; current = n }) piece k
-unfolding kind_at
-step_any entries m n piece k = refl
-
+-- where pieces lead from a key does not depend on the current directory
 pub steps_any : (entries : List (Key × Kind)) (m n : Key) (o : Option Key) (ps : List Text)
     → steps (record { kinds = entries; current = m }) o ps ≡ steps (record { kinds = entries; current = n }) o ps
 unfolding kind_at

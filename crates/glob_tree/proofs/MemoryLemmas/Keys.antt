@@ -31,12 +31,6 @@ no_slash_from_places (x ∷ xs) h = and_from (not (x == slash)) (has_no_slash xs
     (not_from_false (x == slash) (ne_eqb x slash (h 0 (omega arith))))
     (no_slash_from_places xs (λ i l. h (suc i) (omega (arith, l))))
 
-pub key_of_some : (path names : Text) → path ≡ slash ∷ names → list_all is_proper (pieces names) ≡ true → key_of path ≡ Some (pieces names)
-key_of_some path names is proper = ap key_of is ∙ ap (λ b. cond (true && b) (Some (pieces names)) None) proper
-
-pub key_of_improper : (path names : Text) → path ≡ slash ∷ names → list_all is_proper (pieces names) ≡ false → key_of path ≡ None
-key_of_improper path names is improper = ap key_of is ∙ ap (λ b. cond (true && b) (Some (pieces names)) None) improper
-
 pub key_of_none : (path : Text) → ((names : Text) → path ≢ slash ∷ names) → key_of path ≡ None
 key_of_none [] h = refl
 key_of_none (x ∷ xs) h =

@@ -34,10 +34,6 @@ pub is_dir_any : (entries : List (Key × Kind)) (m n k : Key)
 unfolding kind_at
 is_dir_any entries m n k = refl
 
-pub refused_improper : (c : Content) (path : Text) → key_of path ≡ None → add_refusal c path ≡ Some Improper
-unfolding add_refusal
-refused_improper c path key = ap (key_refusal c) key
-
 module _ (entries : List (Key × Kind)) (current : ℕ) (path names : Text) (directory : Key) (name : Text) (key : key_of path ≡ Some (pieces names)) (last : pieces names ≡ directory ++ name ∷ []) where
   abbrev c : Content
   c = content_at entries current
@@ -100,23 +96,11 @@ module _ (entries : List (Key × Kind)) (current : ℕ) (path : Text) (number : 
       ap (λ key. is_content (record { kinds = more; current = key })) current_stays
       ∙ is_content-extended (content_at entries current) is k name kind stands place.utf8 place.proper place.free
 
-  pub content_with-more : content_at more current ≡ content_with (content_at entries current) path kind
-  unfolding content_with
-  content_with-more = ap (λ key. record { kinds = more; current = key }) current_stays ∙ ap (with_key (content_at entries current) kind) (sym place.key)
-
--- a path that names no key does not become the current directory
-pub current_improper : (c : Content) (path : Text) → bytes_eq path root_dir ≡ false → key_of path ≡ None → current_refusal c path ≡ Some Improper
-unfolding current_refusal directory_key
-current_improper c path other key = ap (λ b. directory_refusal c (cond b (Some []) (key_of path))) other ∙ ap (directory_refusal c) key
-
+-- a path to what is no directory does not become the current directory
 pub current_no_directory : (c : Content) (path : Text) (k : Key) → bytes_eq path root_dir ≡ false → key_of path ≡ Some k → is_dir_at c k ≡ false → current_refusal c path ≡ Some NoDirectory
 unfolding current_refusal directory_key
 current_no_directory c path k other key d =
     ap (λ b. directory_refusal c (cond b (Some []) (key_of path))) other ∙ ap (directory_refusal c) key ∙ ap (λ b. cond b None (Some NoDirectory)) d
-
-pub current_allowed : (c : Content) (path : Text) (number : ℕ) → IsDirectoryOf c path number → current_refusal c path ≡ None
-unfolding current_refusal
-current_allowed c path number is = ap (directory_refusal c) is.key ∙ ap (λ b. cond b None (Some NoDirectory)) is.directory
 
 -- the entries stay a content with another directory as the current one
 pub is_content-current : (entries : List (Key × Kind)) (current number : ℕ) → is_content (content_at entries current) ≡ true → is_dir_at (content_at entries number) (key_numbered entries number) ≡ true

@@ -28,17 +28,6 @@ pub IsBeginning-within : (c : Content) (o : MatchOptions) (pattern : Text) (limi
 IsBeginning-within c o pattern limit given within =
     subst (λ is. IsBeginning is (items (listing c o pattern))) (sym within) (IsBeginning-front limit (listing c o pattern))
 
--- answers that say the same say the same items, where different items are said differently
-pub same_items : {Said : Type 0} (saying : Item → Said) → ((i j : Item) → saying i ≡ saying j → i ≡ j)
-    → (is js : List Item) → map saying is ≡ map saying js → is ≡ js
-same_items saying only [] [] e = refl
-same_items saying only [] (j ∷ js) e = absurd (cc)
-same_items saying only (i ∷ is) [] e = absurd (cc)
-same_items saying only (i ∷ is) (j ∷ js) e =
-    let first : saying i ≡ saying j = cc in
-    let rest : map saying is ≡ map saying js = cc in
-    ap₂ (λ x xs. x ∷ xs) (only i j first) (same_items saying only is js rest)
-
 module _ (c : Content) (o : MatchOptions) (pattern : Text) (p : IsPlainWalk c o pattern) (given : List Item) where
   -- whatever the end, each path is a goal; and with all the items each goal is a path or hidden
   pub reaches_goal : (IsDone : Type 0) → IsBeginning given (items (listing c o pattern)) → (IsDone → given ≡ items (listing c o pattern)) → ReachesGoal c o pattern IsDone given

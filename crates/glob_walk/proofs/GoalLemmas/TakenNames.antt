@@ -20,7 +20,8 @@ pub takes-one_none : (o : MatchOptions) (t : Text) (ts : List Text) → is_recur
 takes-one_none o t [] e = rw e refl
 takes-one_none o t (u ∷ us) e = rw e refl
 
-takes-last : (o : MatchOptions) (t : Text) (names : Key) → is_recursive t ≡ true → takes o (t ∷ []) names ≡ run_to_end o names
+-- a last `**` takes all names that may be met
+pub takes-last : (o : MatchOptions) (t : Text) (names : Key) → is_recursive t ≡ true → takes o (t ∷ []) names ≡ run_to_end o names
 takes-last o t names e = rw e refl
 
 takes-before : (o : MatchOptions) (t u : Text) (us : List Text) (names : Key) → is_recursive t ≡ true → takes o (t ∷ u ∷ us) names ≡ run_before o (takes o (u ∷ us)) names
