@@ -11,8 +11,8 @@ use crate::error::CapturesError;
 use crate::piece::Piece;
 use crate::rests::{Rests, rests_of};
 use crate::span::{Span, span_of};
-use crate::steps::{MOST_STEPS, bytes_of, form_of, is_too_large, opens};
-use glob_pattern::{MatchOptions, Pattern, characters_of, tokens_len};
+use crate::steps::{MOST_STEPS, bytes_of, form_of, is_too_large};
+use glob_pattern::{MatchOptions, Pattern, characters_of, opens, tokens_len};
 use std::alloc::{AllocError, Allocator};
 
 /// The piece of the text that each token of the pattern takes, as places in bytes, one after another; `None` exactly if

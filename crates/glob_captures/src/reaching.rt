@@ -10,8 +10,8 @@ ghost use Rattle.glob_captures.specs.Reaching.{IsFarthest, AreWaiting, IsReached
 ghost use Rattle.glob_captures.specs.Private.Fronts.{AreFronts, AreWaits};
 
 use crate::error::CapturesError;
-use crate::steps::{Form, MOST_STEPS, bytes_of, form_of, is_too_large, opens, takes_at};
-use glob_pattern::{MatchOptions, Pattern, characters_of, tokens_len};
+use crate::steps::{Form, MOST_STEPS, bytes_of, form_of, is_too_large, takes_at};
+use glob_pattern::{MatchOptions, Pattern, characters_of, opens, tokens_len};
 use std::alloc::{AllocError, Allocator, Global};
 
 /// How far a text could be taken.

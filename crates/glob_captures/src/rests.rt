@@ -7,8 +7,8 @@ ghost use Rattle.std.specs.Prelude.{IsTrue};
 ghost use Rattle.glob_captures.specs.Private.Rests.{AreRests, AreInnerRests, IsSpan, TakesRest, grows, shape_at};
 
 use crate::span::Span;
-use crate::steps::{Form, form_of, opens, takes_at};
-use glob_pattern::{MatchOptions, Pattern, tokens_len};
+use crate::steps::{Form, form_of, takes_at};
+use glob_pattern::{MatchOptions, Pattern, opens, tokens_len};
 use std::alloc::{AllocError, Allocator};
 use std::marker::Model;
 

@@ -6,7 +6,7 @@ ghost use Rattle.glob_pattern.specs.Computing.Tokens.{tokens_of};
 ghost use Rattle.glob_pattern.specs.Private.TextTable.{table_of};
 ghost use Rattle.glob_captures.specs.Private.Rests.{IsFormAt};
 
-use glob_pattern::{MatchOptions, Pattern, TokenKind, token_kind, token_takes, tokens_len};
+use glob_pattern::{MatchOptions, Pattern, TokenKind, opens, token_kind, token_takes, tokens_len};
 use std::alloc::Allocator;
 
 /// The bound on a call: the pattern's tokens times the text's bytes are at most so many. So a pattern of 8 tokens may
@@ -70,15 +70,6 @@ pub fn takes_at<A: Allocator>(
         ≡ (table_of options (tokens_of (chars pattern.now)) text.now).takes token place }
 {
     token_takes(pattern, token, options, opens(text, place), text[place])
-}
-
-/// Whether a component starts at a place: it is the start, or a `/` is before it.
-#[inline(always)]
-pub fn opens(text: &[char], place: usize) -> bool
-    requires { place ≤ length text.now }
-    ensures { result ≡ opens text.now place }
-{
-    place == 0 || text[place - 1] == '/'
 }
 
 /// How many bytes the characters have.

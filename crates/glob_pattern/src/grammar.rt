@@ -165,8 +165,8 @@ fn bracket_at<A: Allocator + Copy>(
     Ok((token, close + 1))
 }
 
-/// The place of the first `]` from a place on.
-fn close_from(text: &[char], start: usize) -> Option<usize>
+/// The place of the first `]` from a place on, both in characters from 0: in `[]-]`, from 2 on, that is 3.
+pub fn close_from(text: &[char], start: usize) -> Option<usize>
     requires { start ≤ length text.now + 2 }
     ensures place { result ≡ close_from text.now start }
     ensures within { IfSome result
@@ -200,8 +200,10 @@ fn has(text: &[char], place: usize, c: char) -> bool
     place < text.len() && text[place] == c
 }
 
-/// Whether a component starts at a place: it is the start, or a `/` is before it.
-fn opens(text: &[char], place: usize) -> bool
+/// Whether a component starts at a place, in characters from 0: it is the start, or a `/` is before it. In `a/b` one
+/// starts at 0 and at 2.
+#[inline(always)]
+pub fn opens(text: &[char], place: usize) -> bool
     requires { place ≤ length text.now }
     ensures { result ≡ opens text.now place }
 {

@@ -10,7 +10,7 @@ mod pattern;
 mod token;
 
 pub use error::{PatternError, PatternRefusal};
-pub use grammar::characters_of;
+pub use grammar::{characters_of, close_from, opens};
 pub use matcher::{Judge, Shape, run_positions};
 pub use options::MatchOptions;
 pub use pattern::{

@@ -1,8 +1,8 @@
 //! What each character of a text means to braces.
-ghost use Rattle.std.specs.Prelude.{◌≡◌, ◌+◌, ◌<◌, ◌≤◌, length, chars, IfOk, IfSome};
-ghost use Rattle.glob_pattern.specs.Computing.Reading.{close_from};
+ghost use Rattle.std.specs.Prelude.{◌≡◌, ◌+◌, ◌<◌, ◌≤◌, length, chars, IfOk};
 ghost use Rattle.glob_set.specs.Braces.{lexemes, lexeme_at, lexeme_of, end_at, bracket_end};
 
+use glob_pattern::close_from;
 use std::alloc::{AllocError, Allocator};
 
 /// What a character is: a brace, a comma, or itself.
@@ -91,18 +91,4 @@ fn bracket_end(text: &[char], place: usize) -> usize
         Some(close) => close + 1,
         None => place,
     }
-}
-
-/// The place of the first `]` from a place on.
-fn close_from(text: &[char], start: usize) -> Option<usize>
-    requires { start ≤ length text.now + 2 }
-    ensures place { result ≡ close_from text.now start }
-    ensures within { IfSome result (λ close. close < length text.now) }
-{
-    for place in start..text.len() {
-        if text[place] == ']' {
-            return Some(place);
-        }
-    }
-    None
 }

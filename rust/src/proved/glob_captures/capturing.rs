@@ -7,8 +7,8 @@ use crate::proved::glob_captures::error::CapturesError;
 use crate::proved::glob_captures::piece::Piece;
 use crate::proved::glob_captures::rests::{rests_of, Rests};
 use crate::proved::glob_captures::span::{span_of, Span};
-use crate::proved::glob_captures::steps::{bytes_of, form_of, is_too_large, opens, MOST_STEPS};
-use crate::proved::glob_pattern::{characters_of, tokens_len, MatchOptions, Pattern};
+use crate::proved::glob_captures::steps::{bytes_of, form_of, is_too_large, MOST_STEPS};
+use crate::proved::glob_pattern::{characters_of, opens, tokens_len, MatchOptions, Pattern};
 
 /// The piece of the text that each token of the pattern takes, as places in bytes, one after another; `None` exactly if
 /// the pattern does not match the text. Where the text can be split in several ways, the first piece is as short as any

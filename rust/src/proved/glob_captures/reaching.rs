@@ -4,8 +4,8 @@
 //! How far a text can be taken, and what waits there.
 
 use crate::proved::glob_captures::error::CapturesError;
-use crate::proved::glob_captures::steps::{bytes_of, form_of, is_too_large, opens, takes_at, Form, MOST_STEPS};
-use crate::proved::glob_pattern::{characters_of, tokens_len, MatchOptions, Pattern};
+use crate::proved::glob_captures::steps::{bytes_of, form_of, is_too_large, takes_at, Form, MOST_STEPS};
+use crate::proved::glob_pattern::{characters_of, opens, tokens_len, MatchOptions, Pattern};
 
 /// How far a text could be taken.
 #[derive(Debug)]

@@ -4,8 +4,8 @@
 //! From where on the last tokens take the rest of a text.
 
 use crate::proved::glob_captures::span::Span;
-use crate::proved::glob_captures::steps::{form_of, opens, takes_at, Form};
-use crate::proved::glob_pattern::{tokens_len, MatchOptions, Pattern};
+use crate::proved::glob_captures::steps::{form_of, takes_at, Form};
+use crate::proved::glob_pattern::{opens, tokens_len, MatchOptions, Pattern};
 
 /// For each place of a text, whether some tokens take the rest from there on.
 pub struct Rests {

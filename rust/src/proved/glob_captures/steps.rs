@@ -3,7 +3,7 @@
 //!
 //! What both directions share: the bound on the work, what a token's piece may be, and places in bytes.
 
-use crate::proved::glob_pattern::{token_kind, token_takes, tokens_len, MatchOptions, Pattern, TokenKind};
+use crate::proved::glob_pattern::{opens, token_kind, token_takes, tokens_len, MatchOptions, Pattern, TokenKind};
 
 /// The bound on a call: the pattern's tokens times the text's bytes are at most so many. So a pattern of 8 tokens may
 /// be asked about a text of 8 MiB.
@@ -41,12 +41,6 @@ pub fn form_of(pattern: &Pattern, token: usize) -> Form {
 #[inline(always)]
 pub fn takes_at(pattern: &Pattern, token: usize, options: MatchOptions, text: &[char], place: usize) -> bool {
     token_takes(pattern, token, options, opens(text, place), text[place])
-}
-
-/// Whether a component starts at a place: it is the start, or a `/` is before it.
-#[inline(always)]
-pub fn opens(text: &[char], place: usize) -> bool {
-    place == 0 || text[place - 1] == '/'
 }
 
 /// How many bytes the characters have.

@@ -111,8 +111,8 @@ fn bracket_at(text: &[char], place: usize) -> Result<(Token<Bracket>, usize), Pa
     Ok((token, close + 1))
 }
 
-/// The place of the first `]` from a place on.
-fn close_from(text: &[char], start: usize) -> Option<usize> {
+/// The place of the first `]` from a place on, both in characters from 0: in `[]-]`, from 2 on, that is 3.
+pub fn close_from(text: &[char], start: usize) -> Option<usize> {
     for place in start..text.len() {
         if text[place] == ']' {
             return Some(place);
@@ -137,7 +137,9 @@ fn has(text: &[char], place: usize, c: char) -> bool {
     place < text.len() && text[place] == c
 }
 
-/// Whether a component starts at a place: it is the start, or a `/` is before it.
-fn opens(text: &[char], place: usize) -> bool {
+/// Whether a component starts at a place, in characters from 0: it is the start, or a `/` is before it. In `a/b` one
+/// starts at 0 and at 2.
+#[inline(always)]
+pub fn opens(text: &[char], place: usize) -> bool {
     place == 0 || text[place - 1] == '/'
 }

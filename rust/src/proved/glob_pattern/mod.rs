@@ -12,7 +12,7 @@ mod pattern;
 mod token;
 
 pub use error::PatternError;
-pub use grammar::characters_of;
+pub use grammar::{characters_of, close_from, opens};
 pub use matcher::{run_positions, Judge, Shape};
 pub use options::MatchOptions;
 pub use pattern::{literal_at, match_trimmed, token_kind, token_takes, tokens_len, trim, Pattern, TokenKind, Trimmed};

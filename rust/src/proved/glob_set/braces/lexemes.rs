@@ -3,6 +3,8 @@
 //!
 //! What each character of a text means to braces.
 
+use crate::proved::glob_pattern::close_from;
+
 /// What a character is: a brace, a comma, or itself.
 #[derive(Clone, Copy)]
 pub enum Lexeme {
@@ -75,14 +77,4 @@ fn bracket_end(text: &[char], place: usize) -> usize {
         Some(close) => close + 1,
         None => place,
     }
-}
-
-/// The place of the first `]` from a place on.
-fn close_from(text: &[char], start: usize) -> Option<usize> {
-    for place in start..text.len() {
-        if text[place] == ']' {
-            return Some(place);
-        }
-    }
-    None
 }
