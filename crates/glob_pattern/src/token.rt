@@ -9,7 +9,8 @@ use crate::matcher::{Shape, Shaped};
 use bracket::Bracket;
 use std::alloc::Allocator;
 
-/// A token: what a unit of a pattern means. `C` is the content of a bracket.
+/// A token: what a unit of a pattern means. `C` is the content of a bracket. The shape of `AnySequence` is `Run`, that of
+/// `Recursive` is `Deep`, and that of each other token is `One`.
 #[derive(Clone, Drop)]
 pub enum Token<C> {
     /// A character.

@@ -9,7 +9,8 @@ pub mod taking;
 use crate::proved::glob_pattern::matcher::{Shape, Shaped};
 use bracket::Bracket;
 
-/// A token: what a unit of a pattern means. `C` is the content of a bracket.
+/// A token: what a unit of a pattern means. `C` is the content of a bracket. The shape of `AnySequence` is `Run`, that
+/// of `Recursive` is `Deep`, and that of each other token is `One`.
 #[derive(Clone)]
 pub enum Token<C> {
     /// A character.
