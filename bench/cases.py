@@ -1,5 +1,5 @@
 """What is measured: a row for each case, in the tables of each report. In the words of a row `paths` and `stars` are
-files; after them comes how many times over it is done."""
+files."""
 
 from collections import namedtuple
 
@@ -33,8 +33,19 @@ PATTERNS = [
     ("**/*.rs", "d", 1),
     ("**/.*", "sd", 1),
 ]
-MATCHES = [Row(f"match `{it}`{said(letters)}", ("match", letters or "-", it, "paths"), times)
-    for it, letters, times in PATTERNS]
+
+
+def of_patterns(patterns):
+    """A row for each pattern."""
+    return [Row(f"match `{it}`{said(letters)}", ("match", letters or "-", it, "paths"), times)
+        for it, letters, times in patterns]
+
+
+MATCHES = of_patterns(PATTERNS)
+
+# Patterns, each of which is matched case-sensitive and case-insensitive.
+SIX = ("*.rs", "**/*.h", "[a-z]*/[!.]*", "*config*", "src/config.toml", "*[a-z][0-9]*")
+BOTH_CASES = of_patterns((it, letters, 1) for it in SIX for letters in ("", "i"))
 
 # The text ends as the pattern does, so that its end does not decide. The crate's time grows about tenfold with each
 # star.
@@ -58,8 +69,9 @@ PARSES, COPIES = of_texts("compile", "parse"), of_texts("clone", "copy")
 FILTERS = [Row(f"program `{it}`{said(letters)}", ("match", *(f"-{letter}" for letter in letters), it))
     for it, letters, _ in PATTERNS]
 
-# Trees of bench/inputs.py, and patterns, how deep each leads, and whether no entry of the last level is looked up.
-TREES = ["wide", "flat", "chain"]
+# Trees of bench/inputs.py, each with the patterns whose walks are so short that they are done 200 times over.
+TREES = {"wide": ["*", "*.rs"], "flat": [], "chain": ["*", "*.rs", "*/*/*.rs"]}
+# Patterns, how deep each leads, and whether no entry of the last level is looked up.
 WALKS = [("**/*.txt", 9999, False), ("*", 1, True), ("*.rs", 1, True), ("**", 9999, False), ("*/*/*.rs", 3, True)]
 
 # How each finder is told to leave two directories out, to give the names with an ending, and to use one thread.
