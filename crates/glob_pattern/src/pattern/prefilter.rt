@@ -110,7 +110,7 @@ impl Required {
     {
         match tokens {
             [Token::Literal(c), ..] if c.is_ascii() => {
-                if tokens.iter().all(|token| is_ascii_literal(token)) {
+                if tokens.iter().all(is_ascii_literal) {
                     Required::Length(tokens.len())
                 } else {
                     Required::First(*c as u8 | CASE)

@@ -83,7 +83,7 @@ impl Required {
     fn of(tokens: &[Token<Bracket>]) -> Self {
         match tokens {
             [Token::Literal(c), ..] if c.is_ascii() => {
-                if tokens.iter().all(|token| is_ascii_literal(token)) {
+                if tokens.iter().all(is_ascii_literal) {
                     Required::Length(tokens.len())
                 } else {
                     Required::First(*c as u8 | CASE)
