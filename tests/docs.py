@@ -170,11 +170,6 @@ def other_versions():
     return [name for name, text in said.items() if text not in read(name)]
 
 
-# What is checked of each page.
-OF_PAGES = {"no file": broken_links, "no source": unknown_files, "no definition": unknown_definitions}
-OF_PAGES |= {"no source has": unknown_names}
-
-
 def main():
     count = Count()
 
@@ -184,10 +179,12 @@ def main():
     for page in EXAMPLES:
         check(f"{page}:", wrong_examples(page))
     for page in PAGES:
-        for what, faults in OF_PAGES.items():
-            # A changelog speaks of what was.
-            if (page, what) != ("CHANGELOG.md", "no source has"):
-                check(f"{page}: {what}", faults(page))
+        check(f"{page}: no file", broken_links(page))
+        check(f"{page}: no source", unknown_files(page))
+        check(f"{page}: no definition", unknown_definitions(page))
+        # A changelog speaks of what was.
+        if page != "CHANGELOG.md":
+            check(f"{page}: no source has", unknown_names(page))
     check("docs/DEFINITIONS.md: no clause", unknown_clauses())
     check("docs/FAULTS.md: no test", unknown_tests())
     check("out of date:", stale())

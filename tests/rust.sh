@@ -3,16 +3,12 @@
 # the package alone in a folder; and over the original crate `glob`, of the Debian package librust-glob-dev, the same
 # tests and programs of users. What is not installed is left out, and said. Its last line is 'N passed, M failed'.
 set -uo pipefail
-root=$(cd "$(dirname "$(readlink -f "${BASH_SOURCE[0]}")")/.." && pwd)
-. "$root/tests/lib/commands.sh"
+. "$(dirname "$(realpath "$0")")/lib/commands.sh"
 crate=$work/rust
-tables=$(dirname "$(ls "$root"/crates/*/data/match.tsv)")
-export CARGO_TARGET_DIR=$work/target CADMIUMDOVE_ROWS=$tables
-
-# cargo_in FOLDER WORD..: cargo asks no registry
-cargo_in() {
-    (cd "$1" && export CARGO_NET_OFFLINE=true && cargo "$2" -q "${@:3}")
-}
+# Cargo asks no registry.
+export CARGO_NET_OFFLINE=true CARGO_TARGET_DIR=$work/target CADMIUMDOVE_ROWS=$root/crates/glob_vectors/data
+# The folder of the original's sources, if there is one.
+original=$(ls -d /usr/share/cargo/registry/glob-0.3.* 2>/dev/null | tail -1)
 
 # The generated files are those of the sources now.
 made_anew() {
@@ -21,14 +17,9 @@ made_anew() {
 
 # The package is all that a user gets: its tests and examples run in a folder of its own.
 packed() {
-    cargo_in "$crate" package --allow-dirty && mkdir "$work/alone" &&
+    env -C "$crate" cargo package -q --allow-dirty && mkdir "$work/alone" &&
         tar -C "$work/alone" -xf "$CARGO_TARGET_DIR"/package/cadmiumdove-*.crate &&
-        env -u CADMIUMDOVE_ROWS -C "$work/alone"/cadmiumdove-* cargo test -q --offline
-}
-
-# The folder of the original's sources.
-original() {
-    ls -d /usr/share/cargo/registry/glob-0.3.* 2>/dev/null | tail -1
+        env -u CADMIUMDOVE_ROWS -C "$work/alone"/cadmiumdove-* cargo test -q
 }
 
 # The programs of users over both crates, which differ by a line of Cargo.toml, print the same.
@@ -37,7 +28,7 @@ programs() {
     for side in theirs ours; do
         [ "$side" = theirs ] ||
             sed -i 's|^glob = .*|glob = { package = "cadmiumdove", path = "../rust" }|' "$work/programs/Cargo.toml"
-        cargo_in "$work/programs" build --target-dir "$work/$side" || return
+        env -C "$work/programs" cargo build -q --target-dir "$work/$side" || return
         at=$work/$side.at
         mkdir -m 777 "$at" "$at/tree" && chmod -R a+rX "$work/$side" || return
         (cd "$at/tree" && "${as[@]}" "$work/programs/run.sh" "$work/$side/debug") >"$work/$side.out" || return
@@ -46,39 +37,35 @@ programs() {
 }
 
 beside_the_original() {
-    local file
-    cp -r "$(original)" "$work/glob"
+    cp -r "$original" "$work/glob"
     cp -r "$root/tests/rust/programs" "$work/programs" && mkdir "$work/programs/tests"
     # What the tests look for in the folder of their package.
     touch "$work/programs"/src/{a,b}.rs && chmod -R a+rX "$work/programs"
-    for file in glob walks; do
-        sed 's/^use cadmiumdove::/use glob::/' "$root/rust/tests/$file.rs" >"$work/programs/tests/$file.rs"
-    done
-    check 'the same tests over the original' cargo_in "$work/programs" test
+    cp "$root"/rust/tests/{glob,walks}.rs "$work/programs/tests"
+    sed -i 's/^use cadmiumdove::/use glob::/' "$work/programs"/tests/*.rs
+    check 'the same tests over the original' env -C "$work/programs" cargo test -q
     check 'programs of users' programs
 }
 
 # Root may list each directory, so what is to meet one that is shut runs as somebody else.
 umask 022
 as=()
-if [ "$(id -u)" = 0 ] && has setpriv; then
+if [ "$(id -u)" = 0 ]; then
     chmod 711 "$work"
     as=(setpriv --reuid=65534 --regid=65534 --clear-groups)
-elif [ "$(id -u)" = 0 ]; then
-    left_out 'directories that are shut, since root has no setpriv'
 fi
 
 check_with rustfmt 'made anew it is the same' made_anew
 if has cargo; then
     cp -rL "$root/rust" "$crate" && chmod -R a+rX "$crate"
-    check 'the layout' cargo_in "$crate" fmt --check
-    check 'the tests' cargo_in "$crate" test
+    check 'the layout' env -C "$crate" cargo fmt -q --check
+    check 'the tests' env -C "$crate" cargo test -q
     [ "${#as[@]}" = 0 ] ||
         check 'the tests as another user' \
-            cargo_in "$crate" test --tests --config "target.'cfg(unix)'.runner = '${as[*]}'"
+            env -C "$crate" cargo test -q --tests --config "target.'cfg(unix)'.runner = '${as[*]}'"
     check 'the package alone' packed
-    check_with cargo-clippy 'clippy' cargo_in "$crate" clippy --all-targets -- -D warnings
-    if [ -n "$(original)" ]; then
+    check_with cargo-clippy 'clippy' env -C "$crate" cargo clippy -q --all-targets -- -D warnings
+    if [ -n "$original" ]; then
         beside_the_original
     else
         left_out 'what is beside the original crate, since librust-glob-dev is not installed'
