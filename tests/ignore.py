@@ -87,8 +87,7 @@ def git_says(folder, cases):
 
 def answers(asked):
     """The lines that the program answers."""
-    done = subprocess.run([ANSWERS, "rules"], input=asked, stdout=subprocess.PIPE, check=True)
-    return done.stdout.decode().splitlines()
+    return subprocess.check_output([ANSWERS, "rules"], input=asked).decode().splitlines()
 
 
 def ours(cases):

@@ -1,7 +1,8 @@
 """Without what Rust's std has no failures for: allocators, AllocError, and the variants `Memory` of other errors."""
 import re
+import sys
 
-from .scan import closing, first_at_depth_0, mask, owner, signature, stop
+from .scan import closing, first_at_depth_0, mask, owner, signature
 
 # What allocates in std: Rattle's returns a `Result`.
 ALLOCATES = {"append", "clone", "extend", "extend_from_slice", "format!", "from_slice", "from_str", "push", "push_str",
@@ -37,7 +38,7 @@ class Fallible:
                     fails = answer[1] == "Result" and bool(re.search(r"\bAllocError>$", answer[2].strip()))
                     key = owner(text, found.start()), found[1]
                     if self.known.setdefault(key, fails) != fails:
-                        stop(found[1], "functions of this name fail in several ways")
+                        sys.exit(f"{found[1]}: functions of this name fail in several ways")
 
     def call(self, text, masked, end):
         """Whether what ends at a place is a call, or a parameter, that fails for lack of memory alone."""
@@ -56,7 +57,7 @@ class Fallible:
         else:
             kinds = {self.known.get((kind, found[3]), False)}
         if len(kinds) > 1:
-            stop(found[0], "functions of this name fail in several ways")
+            sys.exit(f"{found[0]}: functions of this name fail in several ways")
         return kinds == {True}
 
 

@@ -3,11 +3,6 @@ import re
 import sys
 
 
-def stop(where, what):
-    """Ends the program."""
-    sys.exit(f"{where}: {what}")
-
-
 def mask(text):
     """The text with blanks for strings, characters and comments."""
     parts = r"//[^\n]*|b?\"(?:\\.|[^\"\\])*\"|b?'(?:\\u\{\w+\}|\\.|[^'\\\n])'"
@@ -21,7 +16,7 @@ def closing(masked, at):
         level += (masked[place] in "([{") - (masked[place] in ")]}")
         if level == 0:
             return place
-    stop("brackets", masked[at - 60:at + 60])
+    sys.exit(f"brackets: {masked[at - 60:at + 60]}")
 
 
 def first_at_depth_0(masked, at, word):
@@ -38,7 +33,7 @@ def end_of(lines, at, ends):
         level += sum(1 if c in "([{" else -1 for c in re.findall(r"[][(){}]", mask(lines[end])))
         if level == 0 and re.search(ends, lines[end]):
             return end + 1
-    stop("no end", lines[at])
+    sys.exit(f"no end: {lines[at]}")
 
 
 def signature(text, at):

@@ -1,5 +1,6 @@
 // Preloaded into a program: its request number REFUSED for memory, counted from 1, fails; 0 refuses none. At the end it
 // writes to the file COUNTED how many requests there were and how many blocks are still held.
+#include <fcntl.h>
 #include <stdio.h>
 #include <stdlib.h>
 
@@ -33,9 +34,5 @@ __attribute__((constructor)) static void begin(void) {
 }
 
 __attribute__((destructor)) static void end(void) {
-    unsigned long all = asked;
-    long left = held;
-    FILE *file = fopen(getenv("COUNTED"), "w");
-    fprintf(file, "%lu %ld\n", all, left);
-    fclose(file);
+    dprintf(creat(getenv("COUNTED"), 0600), "%lu %ld\n", asked, held);
 }

@@ -1,12 +1,11 @@
 #!/usr/bin/env bash
 # run.sh FOLDER: makes a tree in the current directory, with odd names, links, and a directory that is shut, and prints
 # what the programs of FOLDER find there, each with its status.
+programs=$1
 data=$(dirname "$(readlink -f "${BASH_SOURCE[0]}")")/data
 
 say() {
-    local program=$1/$2
-    shift 2
-    "$program" "$@" 2>&1
+    "$programs/$1" "${@:2}" 2>&1
     echo "status $?"
 }
 
@@ -18,12 +17,12 @@ done
     ln -s . again && chmod 0 shut)
 find . | cut -c3- | LC_ALL=C sort | cat - "$data/texts" >../texts
 for rules in assets missing broken; do
-    say "$1" pack . "$data/$rules.rules"
+    say pack . "$data/$rules.rules"
 done
-say "$1" report '*' '*/*' 's*/**/[!a]*'
-say "$1" report -i -x '*.PY' -x docs/reference 'SRC/*/*' '[D]ocs/**/*' 'ODD/*' 'odd/?'
-say "$1" report -d -x '*x*' 'odd/*' 'odd/*/*' '*/.*'
-say "$1" report -e 'docs/*' 'odd/**/x*' 'src/*'
-say "$1" report 'src/[a'
-say "$1" routes "$data/table" ../texts
+say report '*' '*/*' 's*/**/[!a]*'
+say report -i -x '*.PY' -x docs/reference 'SRC/*/*' '[D]ocs/**/*' 'ODD/*' 'odd/?'
+say report -d -x '*x*' 'odd/*' 'odd/*/*' '*/.*'
+say report -e 'docs/*' 'odd/**/x*' 'src/*'
+say report 'src/[a'
+say routes "$data/table" ../texts
 chmod 700 odd/shut
