@@ -119,13 +119,9 @@ class Manual:
         self.prefix, self.folder, self.home, self.count = work / "prefix", work / "here", work, Count()
         (self.folder / "folder").mkdir(parents=True)
 
-    def run(self, words, **how):
-        """The status, the output and the errors of a command."""
-        return run(words, **{"cwd": self.folder, **how})
-
     def install(self):
         """All is installed."""
-        status, _, errors = self.run([ROOT / "bin/install", self.prefix])
+        status, _, errors = run([ROOT / "bin/install", self.prefix])
         files = sorted(str(it.relative_to(self.prefix)) for it in self.prefix.rglob("*") if it.is_file())
         self.count.same(f"bin/install {errors}", (status, files), (0, INSTALLED))
 
@@ -133,14 +129,14 @@ class Manual:
         """What checkers say of the man pages."""
         for words in (["mandoc", "-Tlint", "-Wwarning"], ["groff", "-man", "-ww", "-z"]):
             if has(words[0], "a check of the man pages"):
-                self.count.same(words[0], self.run([*words, *(self.prefix / page for page in PAGES)]), (0, "", ""))
+                self.count.same(words[0], run([*words, *(self.prefix / page for page in PAGES)]), (0, "", ""))
 
     def completions(self):
         """What the shells offer, and whether they can read their files."""
         for shell, file in MADE.items():
             if has(shell, f"completions of {shell}"):
                 made = self.prefix / file
-                self.count.same(f"{shell} -n", self.run([shell, "-n", made]), (0, "", ""))
+                self.count.same(f"{shell} -n", run([shell, "-n", made]), (0, "", ""))
                 offered = dict(zip(dict(COMPLETIONS), self.offered(shell, made)))
                 for line, wanted in COMPLETIONS:
                     found = " ".join(sorted(offered.get(line, ["no answer"])))
@@ -153,18 +149,18 @@ class Manual:
         asked.write_text("".join(f"{line}\n" for line, _ in COMPLETIONS), encoding="utf-8")
         offered.write_text("")
         env = {"PATH": os.environ["PATH"], "TERM": "dumb", "HOME": self.home, "ZDOTDIR": self.home}
-        self.run(SHELLS[shell], env=env | {"MADE": made, "ASKED": asked, "OFFERED": offered}, stdin=subprocess.DEVNULL)
+        env |= {"MADE": made, "ASKED": asked, "OFFERED": offered}
+        run(SHELLS[shell], cwd=self.folder, env=env, stdin=subprocess.DEVNULL)
         return [it.split() for it in offered.read_text(encoding="utf-8").splitlines()]
 
     def examples(self):
-        (self.folder / "folder").rmdir()
-        empty = self.home / "tutorial"
-        empty.mkdir()
         installed = f"{self.prefix}/bin:/usr/bin:/bin"
-        rows = [(self.folder, installed, examples()), (empty, installed, shown(blocks_of(TUTORIAL, "console")))]
-        for folder, path, calls in [*rows, (ROOT, os.environ["PATH"], shown_calls())]:
+        rows = [("pages", installed, examples()), ("tutorial", installed, shown(blocks_of(TUTORIAL, "console")))]
+        for name, path, calls in [*rows, (ROOT, os.environ["PATH"], shown_calls())]:
+            folder = self.home / name
+            folder.mkdir(exist_ok=True)
             for command, output in calls:
-                _, *found = self.run(["bash", "-c", command], cwd=folder, env={"PATH": path}, stdin=subprocess.DEVNULL)
+                _, *found = run(["bash", "-c", command], cwd=folder, env={"PATH": path}, stdin=subprocess.DEVNULL)
                 self.count.same(command, found, [output, ""])
 
 

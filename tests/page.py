@@ -4,6 +4,7 @@ answers as `globs explain` does on 200 patterns and lines from a seeded generato
 tree as `find` does. It drives the page's own fields in a headless browser, without a network. Its last line is 'N
 passed, M failed'."""
 
+import itertools
 import json
 import random
 import re
@@ -77,15 +78,10 @@ def expected(pattern, flags, line):
         return [f"Refused at character {caret.index('^')}: {message}", "", [], None]
     if status == 1:
         return [None, "no", [], out.split("\n")[1].index("^")]
-    runs, was_character = [], False
-    for row in out.splitlines():
-        written, piece = row.split("\t")
-        is_character = len(written) == 1 and written not in "?*"
-        if is_character and was_character:
-            runs[-1] += piece
-        else:
-            runs.append(piece)
-        was_character = is_character
+    runs, rows = [], [row.split("\t") for row in out.splitlines()]
+    for is_character, some_rows in itertools.groupby(rows, lambda row: len(row[0]) == 1 and row[0] not in "?*"):
+        pieces = [piece for _, piece in some_rows]
+        runs += ["".join(pieces)] if is_character else pieces
     return [None, "yes", runs, None]
 
 
