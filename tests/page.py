@@ -8,12 +8,11 @@ import itertools
 import json
 import random
 import re
-import shutil
 import tempfile
 from pathlib import Path
 from urllib.parse import unquote
 
-from lib.count import ROOT, Count, built, left_out, run
+from lib.count import ROOT, Count, built, has, run
 from lib.make import place, some
 
 PAGE = ROOT / "docs/page/index.html"
@@ -105,9 +104,7 @@ def main():
     text = PAGE.read_text(encoding="utf-8")
     count.check(f'content="{sources.strip()}"' in text, "docs/page/index.html is not of these sources: call bin/page")
     count.check(not re.search(r'(src|href)="(https?:)?//', text), "the page has an address of another host")
-    browser = shutil.which("chromium") or shutil.which("chromium-browser") or shutil.which("google-chrome")
-    if not browser:
-        left_out("the page's answers, since there is no Chromium")
+    if not (browser := has("chromium", "the page's answers")):
         count.end()
     made = cases()
     said, walked = shown(browser, made)

@@ -60,9 +60,8 @@ if has cargo; then
     cp -rL "$root/rust" "$crate" && chmod -R a+rX "$crate"
     check 'the layout' env -C "$crate" cargo fmt -q --check
     check 'the tests' env -C "$crate" cargo test -q
-    [ "${#as[@]}" = 0 ] ||
-        check 'the tests as another user' \
-            env -C "$crate" cargo test -q --tests --config "target.'cfg(unix)'.runner = '${as[*]}'"
+    [ "${#as[@]}" = 0 ] || check 'the tests as another user' \
+        env -C "$crate" cargo test -q --tests --config "target.'cfg(unix)'.runner = '${as[*]}'"
     check 'the package alone' packed
     check_with cargo-clippy 'clippy' env -C "$crate" cargo clippy -q --all-targets -- -D warnings
     if [ -n "$original" ]; then
