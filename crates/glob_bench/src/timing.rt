@@ -101,7 +101,9 @@ fn count_items(alloc: Global, pattern: &str, levels: u64, times: u64) -> io::Res
 /// How many items a walk over so many levels gives.
 fn count_walk(alloc: Global, pattern: &str, levels: u64) -> io::Result<u64> {
     let tree = Chain::new(alloc, levels as usize);
-    let paths = glob_in(alloc, tree, pattern, MatchOptions::new(), u64::MAX).map_err(|_| unusable())?;
+    let paths = glob_in(alloc, tree, pattern, MatchOptions::new(), u64::MAX).map_err(
+        |_| unusable(),
+    )?;
     let mut count = 0u64;
     for _ in paths {
         count = count.saturating_add(1);

@@ -20,7 +20,6 @@ bytes_eq-same : (text : Text) → bytes_eq text text ≡ true
 bytes_eq-same text = (bytes_eq-Decides text text).1 refl
 
 module _ (name : Text) where
-
   -- the file is no directory
   pub file_is_no_directory : is_dir_at (one_file name) (name ∷ []) ≡ false
   unfolding kind_at
