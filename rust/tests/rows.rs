@@ -17,14 +17,9 @@ fn folder() -> Option<PathBuf> {
     std::env::var_os("CADMIUMDOVE_ROWS").map(PathBuf::from).or_else(|| here.exists().then_some(here))
 }
 
-/// Three letters, each `t` or `f`.
-fn options(letters: &str) -> MatchOptions {
-    let is_on: Vec<bool> = letters.chars().map(|letter| letter == 't').collect();
-    MatchOptions {
-        case_sensitive: is_on[0],
-        require_literal_separator: is_on[1],
-        require_literal_leading_dot: is_on[2],
-    }
+/// The letters of options after a dash.
+fn options(setting: &str) -> MatchOptions {
+    MatchOptions::from_letters(setting.strip_prefix('-').unwrap()).unwrap()
 }
 
 /// Whether a row of a table is what this crate says.
@@ -46,8 +41,8 @@ fn holds(table: &str, fields: &[&str]) -> bool {
         ("parse" | "faults", [text, place, words]) => {
             Pattern::new(text).is_err_and(|error| error.pos.to_string() == *place && error.msg == *words)
         }
-        (_, [letters, pattern, text, answer, ..]) => {
-            Pattern::new(pattern).unwrap().matches_with(text, options(letters)) == (*answer == "y")
+        (_, [setting, pattern, text, answer, ..]) => {
+            Pattern::new(pattern).unwrap().matches_with(text, options(setting)) == (*answer == "y")
         }
         _ => false,
     }
@@ -82,8 +77,8 @@ fn expanded(word: &str) -> String {
 fn check_words(path: &Path) -> usize {
     let (mut under, mut count) = (Vec::new(), 0);
     for line in fs::read_to_string(path).unwrap().replace("\n ", " ").lines() {
-        if let Some(letters) = line.strip_prefix("options: ") {
-            under = letters.split(' ').map(options).collect();
+        if let Some(settings) = line.strip_prefix("options: ") {
+            under = settings.split(' ').map(options).collect();
         } else if let Some((patterns, answer)) = line.split_once(" => ").filter(|_| !line.starts_with('#')) {
             let texts: Vec<String> =
                 answer.split(';').next().unwrap().split_whitespace().skip(1).map(expanded).collect();
@@ -154,13 +149,9 @@ fn explanations() {
     let mut count = 0;
     for row in table.lines().filter(|line| line.contains("||0|") || line.contains("||1|")) {
         let fields: Vec<&str> = row.split('|').collect();
-        let (letters, words): (Vec<&str>, Vec<&str>) =
+        let (settings, words): (Vec<&str>, Vec<&str>) =
             fields[0].split(' ').skip(1).partition(|word| ["-i", "-s", "-d", "--"].contains(word));
-        let options = MatchOptions {
-            case_sensitive: !letters.contains(&"-i"),
-            require_literal_separator: letters.contains(&"-s"),
-            require_literal_leading_dot: letters.contains(&"-d"),
-        };
+        let options = options(&format!("-{}", settings.concat().replace('-', "")));
         let lines = names.iter().fold(decoded(fields[3]), |lines, (old, new)| lines.replace(old, new));
         let explanation = explained(&decoded(words[0]), &decoded(words[1]), options);
         assert_eq!(explanation, (fields[2] == "0", lines), "{row}");

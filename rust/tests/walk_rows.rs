@@ -166,14 +166,9 @@ impl State {
     }
 }
 
-/// Three letters, each `t` or `f`.
-fn options(letters: &str) -> MatchOptions {
-    let is_on: Vec<bool> = letters.chars().map(|letter| letter == 't').collect();
-    MatchOptions {
-        case_sensitive: is_on[0],
-        require_literal_separator: is_on[1],
-        require_literal_leading_dot: is_on[2],
-    }
+/// The letters of options after a dash.
+fn options(setting: &str) -> MatchOptions {
+    MatchOptions::from_letters(setting.strip_prefix('-').unwrap()).unwrap()
 }
 
 #[test]

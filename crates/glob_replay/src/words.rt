@@ -34,26 +34,9 @@ pub fn fields_of<'a, const N: usize>(row: &[&'a str]) -> io::Result<[&'a str; N]
     row.try_into().map_err(|_| unusable())
 }
 
-/// The options that the letters of a case name: `i` case-insensitive, `s` the separator rule, `d` the dot rule.
-pub fn options_of(letters: &str) -> io::Result<MatchOptions> {
-    MatchOptions::from_letters(letters).ok_or(unusable())
-}
-
-/// The options of three letters `t` or `f`: case, the separator rule, the dot rule.
-pub fn options_in_order(letters: &str) -> io::Result<MatchOptions> {
-    match letters.as_bytes() {
-        [
-            case @ (b't' | b'f'),
-            separator @ (b't' | b'f'),
-            dot @ (b't' | b'f'),
-        ] => Ok(MatchOptions {
-            case_sensitive: *case == b't',
-            require_literal_separator: *separator == b't',
-            require_literal_leading_dot: *dot == b't',
-            ..MatchOptions::new()
-        }),
-        _ => Err(unusable()),
-    }
+/// The options whose letters come after a dash, or alone.
+pub fn options_of(setting: &str) -> io::Result<MatchOptions> {
+    MatchOptions::from_letters(setting.trim_start_matches('-')).ok_or(unusable())
 }
 
 /// The pattern of a text.

@@ -6,7 +6,7 @@ use super::asked_tree::Counts;
 use super::contents::{is_directory, name_of};
 use super::settings::Settings;
 use super::walking::{Found, Job, gathered};
-use crate::words::{options_in_order, pattern_of};
+use crate::words::{options_of, pattern_of};
 use glob::{MatchOptions, is_plain};
 use std::alloc::{AllocError, Global};
 use std::io;
@@ -19,8 +19,8 @@ pub fn replay(report: &Report<'_>, job: Job<'_>) -> io::Result<()> {
     if !is_usual || !matches!(is_plain(alloc, job.pattern), Ok(true)) {
         return Ok(());
     }
-    for letters in ["tff", "tft", "ttf", "ttt"] {
-        let options = options_in_order(letters)?;
+    for setting in ["-", "-d", "-s", "-sd"] {
+        let options = options_of(setting)?;
         let job = Job { options, ..job };
         let goals = goals_of(alloc, settings, job)?;
         let counts = Counts::default();

@@ -4,7 +4,7 @@
 use super::Report;
 use super::calls::{Calls, FREELY, found_by, found_if_refused};
 use crate::rationing::Memory;
-use crate::words::{cut, fields_of, number_of, options_in_order, pattern_of, refused, text_of};
+use crate::words::{cut, fields_of, number_of, options_of, pattern_of, refused, text_of};
 use glob::{MatchOptions, Pattern};
 use glob_captures::tokens;
 use std::alloc::{AllocError, Global};
@@ -18,10 +18,10 @@ const SHORT: usize = 63;
 type Asked<'a> = (&'a str, &'a str, MatchOptions);
 
 /// Replays a row of fields, of which the options are the first.
-pub fn replay_fields(report: &Report<'_>, letters: &str, fields: &str) -> io::Result<()> {
+pub fn replay_fields(report: &Report<'_>, setting: &str, fields: &str) -> io::Result<()> {
     let (pattern, rest) = cut(fields, "\t")?;
     let (text, answer) = cut(rest, "\t")?;
-    let row = ["matches.txt", letters, pattern, text, ""];
+    let row = ["matches.txt", setting, pattern, text, ""];
     let (found, _) = found_by(report.alloc(), &row, FREELY)?;
     report.compare(fields, if answer == "y" { "yes" } else { "no" }, &found)
 }
@@ -31,11 +31,11 @@ pub fn replay<'a>(report: &'a Report<'_>, patterns: &'a str, outcome: &'a str) -
     let alloc = report.alloc();
     let (outcome, most) = outcome.split_once(" ; ").unwrap_or((outcome, ""));
     let (answer, texts) = cut(outcome, " ")?;
-    for &(letters, word) in report.settings.cases(patterns)?.as_slice() {
+    for &(setting, word) in report.settings.cases(patterns)?.as_slice() {
         let pattern = text_of(alloc, word)?;
         for word in texts.split_whitespace() {
             let text = text_of(alloc, word)?;
-            let row: [&str; 5] = ["matches.txt", letters, &pattern, &text, most];
+            let row: [&str; 5] = ["matches.txt", setting, &pattern, &text, most];
             let found = found_if_refused(alloc, &row, FREELY)?;
             let name = format!(in alloc; "{pattern} on {text}")?;
             report.compare(&name, answer, &found)?;
@@ -48,8 +48,8 @@ pub fn replay<'a>(report: &'a Report<'_>, patterns: &'a str, outcome: &'a str) -
 /// is wrong: a call that answers otherwise, another number of questions, and memory that is asked for though the pattern is
 /// short.
 pub fn add_match(calls: &mut Calls<'_>, fields: &[&str]) -> io::Result<()> {
-    let [letters, source, text, most]: [&str; 4] = fields_of(fields)?;
-    let asked = (source, text, options_in_order(letters)?);
+    let [setting, source, text, most]: [&str; 4] = fields_of(fields)?;
+    let asked = (source, text, options_of(setting)?);
     let (alloc, words) = (calls.alloc, &mut calls.words);
     let (pattern, other) = (pattern_of(alloc, source)?, read_again(alloc, source)?);
     let copy = other.clone()?;

@@ -60,14 +60,14 @@ impl Settings {
         Ok(AskedTree::new(source, counts))
     }
 
-    /// The words of a row, each with the letters of each setting of the options.
+    /// The words of a row, each with each setting of the options.
     pub fn cases<'a>(&'a self, words: &'a str) -> Result<Vec<(&'a str, &'a str)>, AllocError> {
-        let letters = self.get("options");
-        let letters = if letters.is_empty() { "tff" } else { letters };
+        let settings = self.get("options");
+        let settings = if settings.is_empty() { "-" } else { settings };
         let mut cases = Vec::new(self.alloc);
-        for letters in letters.split_whitespace() {
+        for setting in settings.split_whitespace() {
             for word in words.split_whitespace() {
-                cases.push((letters, word))?;
+                cases.push((setting, word))?;
             }
         }
         Ok(cases)

@@ -4,7 +4,7 @@
 use super::asked_tree::Counts;
 use super::walking::{Found, Job, gathered, stepped};
 use super::{Report, disk, goals};
-use crate::words::{in_words, number_of, options_in_order, text_of};
+use crate::words::{in_words, number_of, options_of, text_of};
 use std::io::{self, Write};
 
 /// What a row expects: what comes before each path, the items, and the units, if it has some.
@@ -17,7 +17,7 @@ pub fn replay<'a>(report: &'a Report<'_>, words: &'a str, outcome: &str) -> io::
         None => (outcome, None),
     };
     let limited = text_of(report.alloc(), report.settings.get("limits of"))?;
-    for &(letters, word) in report.settings.cases(words)?.as_slice() {
+    for &(setting, word) in report.settings.cases(words)?.as_slice() {
         let text = text_of(report.alloc(), word)?;
         let (pattern, limit) = match limited.as_str() {
             "" => (text.as_str(), u64::MAX),
@@ -25,7 +25,7 @@ pub fn replay<'a>(report: &'a Report<'_>, words: &'a str, outcome: &str) -> io::
         };
         let job = Job {
             pattern,
-            options: options_in_order(letters)?,
+            options: options_of(setting)?,
             limit,
         };
         replay_walk(report, job, ("", items, units))?;
