@@ -34,10 +34,6 @@ in_use = 6
 abbrev pub empty : ℕ
 empty = 7
 
--- nothing was asked that this answers
-abbrev pub not_asked : ℕ
-not_asked = 9
-
 -- the text does not match
 abbrev pub no : ℕ
 no = 0

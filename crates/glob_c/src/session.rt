@@ -8,7 +8,7 @@ ghost use Rattle.glob_walk.specs.Questions.{question_path};
 ghost use Rattle.glob_walk.specs.Walks.{Gives, outcome};
 ghost use Rattle.glob_walk.specs.Marks.{Found, Item, Mark};
 ghost use Rattle.glob_walk.specs.Driven.{HasGiven, GivesNext};
-ghost use Rattle.glob_c.specs.Answers.{done, not_asked};
+ghost use Rattle.glob_c.specs.Answers.{done};
 ghost use Rattle.glob_c.specs.Sessions.{AreListed, Counts, IsUnread, Replies, RepliesTo, entries_so_far, error_path, kind_of};
 
 use crate::pattern::{DONE, NOT_UTF8, OUT_OF_MEMORY};
