@@ -17,7 +17,7 @@ MARK = "<!-- bench/report.py writes this table -->\n"
 HEADS = ["Report", "What", "Ratio", "Cases", "Least", "Median", "Most", "Commit"]
 CHART = 'alt="{} patterns: from {:.2f} to {:.2f}"'
 SENTENCE = """From Rust parsing takes {:.2g} to {:.2g} of the crate's [instructions](docs/PERFORMANCE.md#measured), a copy {:.2g} to {:.2g},
-and a walk {:.2g} to {:.2g} of its time; sets take at most {:.2g} of `globset`'s.
+and a walk {:.2g} to {:.2g} of its time. From Rattle sets take at most {:.2g} of `globset`'s.
 """
 PLOT = """
 set terminal svg size 720,{height} font "sans-serif,13"

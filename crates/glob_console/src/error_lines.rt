@@ -129,7 +129,7 @@ pub fn write_line<A: Allocator + Copy, D: Display, E: Write>(
     };
 }
 
-/// Writes, piece by piece, the line of a line that there was no memory for.
+/// Writes, without memory, the line that stands for one that there was no memory for.
 fn write_scarce<E: Write>(prefix: &str, writer: &mut E) -> io::Result<()>
     ensures { AppendsFront (E.contents writer.old) (E.contents writer.new)
         (prefix.now ++ codes "out of memory\n") }

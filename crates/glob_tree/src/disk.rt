@@ -176,7 +176,8 @@ impl<R: Files, A: Allocator + Copy> Disk<R, A> {
     }
 }
 
-/// What has the metadata that the system answers with, where it is no link, and `missing` where it has none.
+/// What is at a path, by the metadata that the system answers with, of which none is that of a link. Where it has none,
+/// that is `missing`.
 fn look_of(answer: io::Result<Metadata>, missing: Look) -> Result<Look, AllocError> {
     match answer {
         Ok(metadata) if metadata.is_dir() => Ok(Look::Dir),

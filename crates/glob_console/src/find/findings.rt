@@ -9,7 +9,7 @@ use crate::status::{FAULT, FOUND, UNFOUND};
 use glob_walk::{End, GlobResult, end_of};
 use std::alloc::Allocator;
 
-/// What a walk came to whose paths were written.
+/// What a search came to: how its walk ended, and whether there were paths and errors.
 #[derive(Clone, Copy)]
 pub struct Findings {
     /// How the walk ended.

@@ -1,4 +1,4 @@
-//! Records that wait for others before they are written. They are lines but for `-0`.
+//! Lines that wait for others before they are written. With `-0` each ends in a NUL in place of a line feed.
 ghost use Rattle.std.specs.Prelude.{◌≡◌, ◌++◌, [], IfOk, OnErr, OnOk};
 ghost use Rattle.glob_lines.specs.Lines.{AppendsFront, ended_record};
 ghost use Rattle.glob_console.specs.Private.Writing.{Queues};

@@ -32,7 +32,7 @@ pub struct Compiled<A: Allocator> {
     // their shapes as bits: those of the first 63 tokens, and if there are more tokens, those of all
     first: ShapeWord,
     words: Vec<ShapeWord, A>,
-    // none where nothing, or with at most 63 tokens wildcards alone, is between the ends
+    // empty where no match reads them
     masks: Vec<CharMasks, A>,
     prefilter: Prefilter,
 }
@@ -96,6 +96,7 @@ impl<A: Allocator + Copy> Compiled<A> {
             shape_words(alloc, list)?
         };
         let between = &list[prefilter.lead..list.len() - prefilter.trail];
+        // Wildcards alone, of at most one word, are asked without masks.
         let has_one = between.iter().any(|token| token.shape() == Shape::One);
         let is_long = !between.is_empty() && list.len() > WORD;
         let masks = masks_of(alloc, list, has_one || is_long)?;
@@ -207,7 +208,7 @@ impl<A: Allocator + Copy> Compiled<A> {
         Ok((answer, judge.asked()))
     }
 
-    /// [`run_counted`](Self::run_counted) without the count, by a judge that needs no masks where there are none.
+    /// [`run_counted`](Self::run_counted) without the count, and by a judge that needs no masks where there are none.
     #[inline(always)]
     fn run_span(&self, text: &str, span: Span, options: MatchOptions) -> Result<bool, AllocError>
         requires within { span.start ≤ length text.now }
@@ -223,6 +224,7 @@ impl<A: Allocator + Copy> Compiled<A> {
         ensures short { length self.now < 64 → IsOk result }
     {
         if !self.masks.is_empty() || self.tokens.len() > WORD {
+            // A count that is dropped here is none in what is compiled.
             let (answer, _) = self.run_counted(text, span, options)?;
             return Ok(answer);
         }

@@ -221,6 +221,7 @@ fn trim_end<A: Allocator>(
         }
         let token = &tokens[tokens.len() - 1 - end];
         let c = byte as char;
+        // What a token takes at a component start it takes everywhere (the lemma `takes_elsewhere`).
         if !takes(token, options, true, c) {
             if is_excluded_dot(options, true, c) && takes(token, options, false, c) {
                 break;

@@ -29,18 +29,18 @@ pub enum Cursor {
     Inside(usize),
 }
 
-/// A directory that was listed, and the cursor that is reached in it.
+/// A directory that was listed, and how far the walk has come in it.
 pub struct Frame {
     /// Its path.
     pub path: String,
-    /// The number of the component for which it was listed. One with wildcards is matched with the entries itself. For
-    /// `**` the component after it meets them.
+    /// The number of the component for which it was listed. If that has wildcards, it is matched with the entries. If
+    /// it is `**`, the component after it is.
     pub component: usize,
     /// Whether that component is `**`.
     pub recursive: bool,
     /// Its entries, in ascending order of names.
     pub entries: Vec<Entry>,
-    /// The cursor that is reached.
+    /// How far the walk has come.
     pub cursor: Cursor,
 }
 

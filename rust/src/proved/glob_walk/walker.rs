@@ -11,6 +11,16 @@
 //! Nothing here reads a file: whoever drives the walk answers. And nothing calls itself: a walk is a loop of turns. It
 //! comes to a question or an item because a turn that does neither leaves less weight in the stack.
 //!
+//! ```text
+//! proceed               takes an answer, goes on to the next question or item, and clears a walk that is over
+//!   take_turns
+//!     take_answer       take_look: the task that follows
+//!                       take_listing, open: a frame more
+//!     turns             until there is a question or an item
+//!       turn            a task: look, or enter, which may list or give a path
+//!                       none: Stack::step, to the next task
+//! ```
+//!
 //! The written listing is what a walk does, mark by mark. Each method of [`Walker`] has the same contract, `TurnsTo`:
 //! what was left of the listing begins with what the turn charged and gave, and what the stack then stands for is the
 //! rest.

@@ -48,6 +48,8 @@ fn run<T: Shaped, J: Judge>(tokens: &[T], words: &[ShapeWord], alive: &mut [u64]
     set_start(tokens, words, span.start, judge.opens(), alive);
     let first = words[0];
     let mut keep = NO_ANSWER;
+    // `keep` is the answer of the round before, if that left the position set as it was, and else none. A round skips
+    // the characters about which the answer is the same.
     while alive[0] & span.accepting == 0 {
         let old = alive[0];
         // The first word's tokens are asked until they answer otherwise, or a component starts.

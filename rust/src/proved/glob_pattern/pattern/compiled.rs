@@ -20,7 +20,7 @@ pub struct Compiled {
     // their shapes as bits: those of the first 63 tokens, and if there are more tokens, those of all
     first: ShapeWord,
     words: crate::late::Late<ShapeWord>,
-    // none where nothing, or with at most 63 tokens wildcards alone, is between the ends
+    // empty where no match reads them
     masks: crate::late::Late<CharMasks>,
     prefilter: Prefilter,
 }
@@ -55,6 +55,7 @@ impl Compiled {
         let prefilter = Prefilter::of(list);
         let words = crate::late::Late::new(list.len() > WORD);
         let between = &list[prefilter.lead..list.len() - prefilter.trail];
+        // Wildcards alone, of at most one word, are asked without masks.
         let has_one = between.iter().any(|token| token.shape() == Shape::One);
         let is_long = !between.is_empty() && list.len() > WORD;
         let masks = crate::late::Late::new(has_one || is_long);
@@ -112,10 +113,11 @@ impl Compiled {
         (answer, judge.asked())
     }
 
-    /// [`run_counted`](Self::run_counted) without the count, by a judge that needs no masks where there are none.
+    /// [`run_counted`](Self::run_counted) without the count, and by a judge that needs no masks where there are none.
     #[inline(always)]
     fn run_span(&self, text: &str, span: Span, options: MatchOptions) -> bool {
         if !self.masks.is_empty() || self.tokens.len() > WORD {
+            // A count that is dropped here is none in what is compiled.
             let (answer, _) = self.run_counted(text, span, options);
             return answer;
         }
