@@ -9,7 +9,7 @@ use Rattle.glob_pattern.specs.Computing.Tokens.{kind_of}
 use Rattle.glob_pattern.specs.declared.pattern.tokens.TokenKind.{TokenKind}
 use Rattle.glob_pattern.specs.declared.pattern.tokens.TokenKind.TheVariants as kind
 use Rattle.glob_pattern.specs.declared.token.Token.TheVariants.{Literal, AnyChar, AnySequence, Recursive, OneOf, NoneOf}
-use Rattle.glob_pattern.proofs.GrammarLemmas.Folding.{tokens_of_units-push_deep}
+use Rattle.glob_pattern.proofs.GrammarLemmas.Folding.{tokens_of_units-push_deep, folded_one, folded_some, deep_is_Deep}
 use Rattle.glob_pattern.proofs.GrammarLemmas.Reading.{UnitsBetween-push}
 use Rattle.glob_pattern.proofs.GrammarLemmas.Units.{UnitAt-within}
 use Rattle.glob_captures.specs.declared.written.Written.{Written}
@@ -32,33 +32,16 @@ AreWritten-push text f (t ∷ ts) [] m token written e before at piece = absurd 
 AreWritten-push text f (t ∷ ts) (w ∷ ws) m token written e before at piece =
     (before.0, before.1, before.2, AreWritten-push text before.0 ts ws m token written e before.3 at piece)
 
-one_token : (t : Token) → tokens_of_units (t ∷ []) ≡ t ∷ []
-one_token t = cond_both (is_recursive t && false) [] (t ∷ []) (λ xs. xs ≡ t ∷ []) (λ e. absurd (false≢true (sym (and_right (is_recursive t) false refl) ∙ e))) (λ e. refl)
-
-recursive_is : (t : Token) → is_recursive t ≡ true → t ≡ Recursive
-recursive_is (Literal c) e = cc
-recursive_is AnyChar e = cc
-recursive_is AnySequence e = cc
-recursive_is Recursive e = refl
-recursive_is (OneOf entries) e = cc
-recursive_is (NoneOf entries) e = cc
-
-some_token : (t : Token) (ts : List Token) → 0 < length (tokens_of_units (t ∷ ts))
-some_token t [] = omega (arith, ap length (one_token t))
-some_token t (u ∷ us) =
-    let rest = some_token u us in
-    cond_both (is_recursive t && is_recursive u) (tokens_of_units (u ∷ us)) (t ∷ tokens_of_units (u ∷ us)) (λ xs. 0 < length xs) (λ e. rest) (λ e. omega arith)
-
 -- the first token is `**` exactly if the first unit is
 begins-same : (units : List Token) → begins_recursive (tokens_of_units units) ≡ begins_recursive units
 begins-same [] = refl
-begins-same (t ∷ []) = ap begins_recursive (one_token t)
+begins-same (t ∷ []) = ap begins_recursive (folded_one t)
 begins-same (t ∷ u ∷ us) =
     cond_both (is_recursive t && is_recursive u) (tokens_of_units (u ∷ us)) (t ∷ tokens_of_units (u ∷ us)) (λ xs. begins_recursive xs ≡ is_recursive t)
     (λ both. let parts = and_parts (is_recursive t) (is_recursive u) both in begins-same (u ∷ us) ∙ parts.1 ∙ sym parts.0) (λ e. refl)
 
 between_one : (text : Text) (f : ℕ) (t : Token) (e : ℕ) → UnitAt text f t e → TokenBetween text f t e
-between_one text f t e unit = (t ∷ [], (e, unit, refl), one_token t)
+between_one text f t e unit = (t ∷ [], (e, unit, refl), folded_one t)
 
 -- a first token that is no `**` is the first unit
 plain_first : (text : Text) (f : ℕ) (token : Token) (tokens units : List Token) → is_recursive token ≡ false → UnitsBetween text f units (length text) → tokens_of_units units ≡ token ∷ tokens
@@ -81,7 +64,7 @@ recursive_first text f tokens (u ∷ us) between folded =
     cond_both (is_recursive u && begins_recursive us) (tokens_of_units us) (u ∷ tokens_of_units us)
     (λ xs. xs ≡ Recursive ∷ tokens → (m : ℕ) × UnitAt text f Recursive m × (TokensFrom text m (Recursive ∷ tokens) ⊎ OthersFrom text m tokens))
     (λ both same.
-    let first = recursive_is u (and_parts (is_recursive u) (begins_recursive us) both).0 in
+    let first = deep_is_Deep u (and_parts (is_recursive u) (begins_recursive us) both).0 in
     (between.0, subst (λ t. UnitAt text f t between.0) first between.1, inl (us, between.2, same)))
     (λ other same.
     let first : u ≡ Recursive = cc in
@@ -201,7 +184,7 @@ no_more text e tokens stop from =
 pub IsRead-end : (text : Text) (f e : ℕ) → IsRead text f e → (Has text e star → Has text (e + 1) star → ⊥) → IsTokenEnd text f kind.Recursive e
 unfolding IsRead IsTokenEnd
 IsRead-end text f e read stop token tokens same from =
-    let deep : token ≡ Recursive = recursive_is token (sym (kind_same token) ∙ sym (ap is_recursive_kind same)) in
+    let deep : token ≡ Recursive = deep_is_Deep token (sym (kind_same token) ∙ sym (ap is_recursive_kind same)) in
     subst (λ t. TokenBetween text f t e × TokensFrom text e tokens) (sym deep)
     (elim (read tokens (subst (λ t. TokensFrom text f (t ∷ tokens)) deep from)) [
       | inl start ↦ absurd (no_more text e tokens stop start.1)
@@ -222,7 +205,7 @@ end_of_token text f e token tokens left kind ends same more from = ends token to
 
 no_units : (text : Text) (f : ℕ) (units : List Token) → UnitsBetween text f units (length text) → tokens_of_units units ≡ [] → f ≡ length text
 no_units text f [] between folded = between
-no_units text f (t ∷ ts) between folded = absurd (omega (arith, some_token t ts, ap length folded))
+no_units text f (t ∷ ts) between folded = absurd (omega (arith, folded_some t ts, ap length folded))
 
 -- where no token is left, the text ends
 pub end_of_text : (text : Text) (f : ℕ) → TokensFrom text f [] → f ≡ length text

@@ -1,5 +1,5 @@
 -- The first component that is no pattern.
-use Rattle.std.proofs.Common.{◌≡◌, ℕ, ◌+◌, ◌<◌, List, ◌∷◌, ◌++◌, length, get_or, take, drop, map, Option, Some, sym, ap, ◌∙◌, drop-cons, add-one, suc, Result, Ok, Err, IfErr, IsErrAnd}
+use Rattle.std.proofs.Common.{◌≡◌, ℕ, ◌+◌, ◌<◌, List, ◌∷◌, ◌++◌, length, get_or, take, drop, map, Option, Some, sym, ap, ◌∙◌, Result, Ok, Err, IfErr, IsErrAnd}
 use Rattle.std.proofs.lemmas.Iterator.{YieldsList}
 use Rattle.std.proofs.lemmas.Iterator.Consumers.{YieldsList-turn, YieldsList-so_far}
 use Rattle.std.proofs.lemmas.List.{take-append-drop}
@@ -8,11 +8,8 @@ use Rattle.std.specs.List.{All}
 use Rattle.std.specs.Str.{chars}
 use Rattle.glob.specs.Grammar.Faults.{Refuses}
 use Rattle.glob_pattern.specs.declared.error.PatternRefusal.{PatternRefusal}
+use Rattle.glob_walk.proofs.WalkLemmas.Reading.{drop_from}
 use Rattle.glob_examples.specs.Names.{IsComponent, RefusesComponent}
-
--- what is in a list from place n on
-drop_from : {X : Type 0} (xs : List X) (n : ℕ) (x : X) → n < length xs → x ≡ get_or xs n x → drop n xs ≡ x ∷ drop (n + 1) xs
-drop_from xs n x below is = rw add-one (drop-cons xs n x below ∙ ap (λ y. y ∷ drop (suc n) xs) (sym is))
 
 -- A refusal of the component that a reading of the components has come to, before which all are patterns.
 pub RefusesComponent-turn : {S A : Type 0} {steps : S → Option A → S → Type 0} {shows : A → List ℕ} {s : S} {components : List (List ℕ)} → YieldsList steps shows s components

@@ -4,7 +4,7 @@ use Rattle.std.proofs.lemmas.Bool.{cases_eq, false≢true}
 use Rattle.glob_pattern.specs.Matching.Splits.{Table, MayReach, TakesAll, SplitsFrom}
 use Rattle.glob_pattern.specs.declared.matcher.Shape.{Shape}
 use Rattle.glob_pattern.specs.declared.matcher.Shape.TheVariants.{One, Run, Deep}
-use Rattle.glob_pattern.proofs.MatchingLemmas.Splits.{TakesAll-none, TakesAll-more, SplitsFrom-within}
+use Rattle.glob_pattern.proofs.MatchingLemmas.Splits.{MayReach-le, TakesAll-none, TakesAll-more, SplitsFrom-within}
 use Rattle.glob_captures.specs.Private.Rests.{grows, closes}
 
 -- a first piece that is not empty, by any table
@@ -82,17 +82,11 @@ grows-from_empty table One others k reach = absurd (omega arith)
 grows-from_empty table Run others k reach = refl
 grows-from_empty table Deep others k reach = refl
 
--- no piece ends before it begins
-reach-low : (table : Table) (shape : Shape) (others : List Shape) (i j : ℕ) → MayReach table shape others i j → i ≤ j
-reach-low table One others i j h = omega arith
-reach-low table Run others i j h = h
-reach-low table Deep others i j h = h.0
-
 pub ways-from_split : (table : Table) (n : ℕ) (shape : Shape) (others : List Shape) (k : ℕ) → SplitsFrom table n (shape ∷ others) k → More table n shape others k ⊎ (IsTrue (grows shape) × SplitsFrom table (n + 1) others k)
 ways-from_split table n shape others k (j, reach, took, rest) =
     ⊎_elim
     (λ e. inr (grows-from_empty table shape others k (subst (MayReach table shape others k) e reach), subst (SplitsFrom table (n + 1) others) e rest))
-    (λ other. let low : k ≤ j = reach-low table shape others k j reach in inl (j, omega arith, reach, took, rest))
+    (λ other. let low : k ≤ j = MayReach-le table shape others k j reach in inl (j, omega arith, reach, took, rest))
     (cases_eq j k)
 
 -- nothing more is taken at the end

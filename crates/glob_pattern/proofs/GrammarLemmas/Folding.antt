@@ -12,7 +12,7 @@ length-tokens_of_units (t ∷ ts) =
     cond_both (is_recursive t && begins_recursive ts) _ _ (λ xs. length xs ≤ suc (length ts)) (λ e. omega arith) (λ e. omega arith)
 
 -- One token stays as it is.
-folded_one : (t : Token) → tokens_of_units (t ∷ []) ≡ t ∷ []
+pub folded_one : (t : Token) → tokens_of_units (t ∷ []) ≡ t ∷ []
 folded_one t = cond_both (is_recursive t && false) [] (t ∷ []) (λ xs. xs ≡ t ∷ []) (λ e. absurd (false≢true (sym (and_right (is_recursive t) false refl) ∙ e))) (λ e. refl)
 
 -- Some token stays.
@@ -27,7 +27,7 @@ ends_deep_after u [] some = absurd (omega arith)
 ends_deep_after u (t ∷ ts) some = refl
 
 -- There is one `**`.
-deep_is_Deep : (t : Token) → is_recursive t ≡ true → t ≡ Recursive
+pub deep_is_Deep : (t : Token) → is_recursive t ≡ true → t ≡ Recursive
 deep_is_Deep (Literal c) e = cc
 deep_is_Deep AnyChar e = cc
 deep_is_Deep AnySequence e = cc

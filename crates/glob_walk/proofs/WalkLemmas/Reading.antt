@@ -129,7 +129,7 @@ pub text_fault-literal : (text : Text) → IsUtf8 text → is_literal text ≡ t
 text_fault-literal text utf8 h = text_fault-accepted text (plain_accepted (chars text) (IsPlain-literal text utf8 h))
 
 -- what stands in a list from place n on
-drop_from : {X : Type 0} (xs : List X) (n : ℕ) (x : X) → n < length xs → x ≡ get_or xs n x → drop n xs ≡ x ∷ drop (n + 1) xs
+pub drop_from : {X : Type 0} (xs : List X) (n : ℕ) (x : X) → n < length xs → x ≡ get_or xs n x → drop n xs ≡ x ∷ drop (n + 1) xs
 drop_from xs n x below is = rw add-one (drop-cons xs n x below ∙ ap (λ y. y ∷ drop (suc n) xs) (sym is))
 
 -- the texts, at one that is yielded
