@@ -5,7 +5,6 @@ pub mod FilterLemmas
 pub mod FulfilLemmas
 pub mod FindingLemmas
 pub mod OpenedLemmas
-pub mod OrderLemmas
 pub mod RequestLemmas
 pub mod ShallowLemmas
 pub mod SharingLemmas

@@ -1,6 +1,6 @@
 -- What some patterns share is the start of each, and what finds the rest of each finds the rest of one.
-use Rattle.std.proofs.Common.{◌≡◌, ◌+◌, ◌<◌, ⊎_elim, Bool, true, false, cond, not, ◌&&◌, ◌||◌, ◌==◌, List, [], ◌∷◌, ◌++◌, length, take, map, Bor, refl, sym, ap, ap₂, subst, ◌∙◌, append_assoc, arith}
-use Rattle.std.specs.Prelude.{bytes_eq, codes, option_and_then}
+use Rattle.std.proofs.Common.{◌≡◌, suc, ◌+◌, ◌<◌, ⊎_elim, Bool, true, false, cond, not, ◌&&◌, ◌||◌, ◌==◌, List, [], ◌∷◌, ◌++◌, length, take, map, Bor, refl, sym, ap, ap₂, subst, ◌∙◌, append_assoc, arith}
+use Rattle.std.specs.Prelude.{bytes_eq, codes}
 use Rattle.std.specs.List.{flat_map, list_all, list_any, prefix_len, zip}
 use Rattle.std.specs.Path.{has_no_slash}
 use Rattle.std.specs.Str.{chars, is_utf8, IsUtf8}
@@ -18,10 +18,10 @@ use Rattle.glob_pattern.specs.declared.options.MatchOptions.{MatchOptions}
 use Rattle.glob_tree.specs.Content.{Key}
 use Rattle.glob_tree.proofs.ContentLemmas.Resolving.{pieces-append, pieces_one}
 use Rattle.glob_walk.specs.Components.{is_recursive, matches_name}
+use Rattle.glob_walk.specs.Order.{after_first_recursive}
 use Rattle.glob_walk.proofs.GoalLemmas.Characters.{AllUtf8}
 use Rattle.glob_walk.proofs.GoalLemmas.PatternParts.{pieces-flat, pieces-utf8}
 use Rattle.glob_walk.proofs.GoalLemmas.TakenNames.{takes, takes-one, takes-one_none, run-nil}
-use Rattle.globs.specs.Find.Order.{Before, last_place, next_place}
 use Rattle.globs.specs.Find.Planning.{everything_options, is_below, is_no_name}
 use Rattle.globs.specs.Find.Sharing.{all_shared, has_one_more, is_shared, shared, shared_steps, step_text}
 use Rattle.globs.proofs.BelowLemmas.{no_names}
@@ -192,10 +192,12 @@ pub steps-named : (ts us : List Text) → AllAre IsStep ts → list_any is_no_na
 steps-named [] us all named = named
 steps-named (t ∷ ts) us all named = ap (λ b. b || list_any is_no_name (ts ++ us)) all.0.2 ∙ steps-named ts us all.1 named
 
-pub steps-place : (ts us : List Text) → AllAre (λ t. is_recursive t ≡ false) ts → last_place Before (ts ++ us) ≡ last_place Before us
-steps-place [] us single = refl
-steps-place (t ∷ ts) us single =
-    ap (λ b. option_and_then (λ next. last_place next (ts ++ us)) (next_place Before b)) single.0 ∙ steps-place ts us single.1
+-- the first `**` is after the steps
+pub steps-before : (ts us : List Text) → AllAre (λ t. is_recursive t ≡ false) ts → after_first_recursive (ts ++ us) ≡ after_first_recursive us
+steps-before [] us single = refl
+steps-before (t ∷ ts) us single =
+    let next : 1 + prefix_len (λ u. not (is_recursive u)) (ts ++ us) ≡ suc (prefix_len (λ u. not (is_recursive u)) (ts ++ us)) = omega arith in
+    rw single.0 (rw next (steps-before ts us single.1))
 
 -- where the rest is found, the whole is
 pub widened : (o : MatchOptions) (ts rest tail : List Text) → AllAre (λ t. is_recursive t ≡ false) ts

@@ -82,6 +82,11 @@ run_star o t (n ∷ m ∷ ns) r utf8 flat h =
     let both = and_parts (is_open o n) (run_to_end o (m ∷ ns)) h in
     run-enter o t (star ∷ []) n (m ∷ ns) r both.0 (run_star o t (m ∷ ns) r utf8.1 (and_parts (has_no_slash n) (list_all has_no_slash (m ∷ ns)) flat).1 both.1)
 
+pub ends-append : (ts : List Text) (u : Text) (us : List Text) → ends_recursive (ts ++ u ∷ us) ≡ ends_recursive (u ∷ us)
+ends-append [] u us = refl
+ends-append (t ∷ []) u us = refl
+ends-append (t ∷ s ∷ ts) u us = ends-append (s ∷ ts) u us
+
 -- components that end in `**` take names as those with a `*` after them
 pub takes_in : (o : MatchOptions) (ts : List Text) (names : Key) → ends_recursive ts ≡ true → AllUtf8 names → list_all has_no_slash names ≡ true → takes o ts names ≡ true → takes o (ts ++ star ∷ []) names ≡ true
 takes_in o [] names ends utf8 flat h = absurd (false≢true ends)

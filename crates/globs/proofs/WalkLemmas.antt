@@ -1,6 +1,6 @@
 -- The walk for some patterns is plain and keeps order, and finds each path that one of them matches.
-use Rattle.std.proofs.Common.{◌≡◌, ⊎_elim, Bool, true, false, cond, not, ◌&&◌, ◌||◌, List, [], ◌∷◌, ◌++◌, length, Option, Some, None, refl, sym, ap, ap₂, subst, ◌∙◌}
-use Rattle.std.specs.Prelude.{codes, is_some, nat_le, option_and_then}
+use Rattle.std.proofs.Common.{◌≡◌, ⊎_elim, Bool, true, false, cond, not, ◌&&◌, ◌||◌, List, [], ◌∷◌, ◌++◌, length, Some, None, refl, sym, ap, ap₂, ◌∙◌}
+use Rattle.std.specs.Prelude.{codes, nat_le}
 use Rattle.std.specs.List.{flat_map, list_all, list_any}
 use Rattle.std.specs.Path.{has_no_slash}
 use Rattle.std.specs.Str.{chars, is_utf8, IsUtf8}
@@ -19,21 +19,18 @@ use Rattle.glob_tree.specs.declared.kind.Kind.{Kind}
 use Rattle.glob_walk.specs.Components.{components, has_root, is_recursive, walk_fault}
 use Rattle.glob_walk.specs.Goal.{ends_recursive, goal_options, goal_text, is_plain, matches_kind, matches_undivided, text_below}
 use Rattle.glob_walk.specs.Laws.{are_names}
-use Rattle.glob_walk.specs.Order.{after_first_recursive, keeps_order as keeps_path_order}
+use Rattle.glob_walk.specs.Order.{after_first_recursive, keeps_order}
 use Rattle.glob_walk.proofs.GoalLemmas.GoalNames.{plain_matches_levels}
 use Rattle.glob_walk.proofs.GoalLemmas.NamedPaths.{AllUtf8-from, AreNames-from, flat-from}
 use Rattle.glob_walk.proofs.GoalLemmas.TakenNames.{takes}
 use Rattle.glob_walk.proofs.GoalLemmas.Characters.{AllUtf8}
 use Rattle.glob_walk.proofs.MatchLemmas.Loosening.{patterns_loosened}
-use Rattle.globs.specs.Find.Order.{Before, Within, After, is_within, last_place}
-use Rattle.globs.specs.Find.Planning.{AreTexts, are_below, are_shared, common_text, everything_options, is_below, is_no_name, is_single, is_walkable, one_text, walk_options, walk_text}
+use Rattle.globs.specs.Find.Planning.{AreTexts, are_below, are_shared, common_text, ends_in_stars, everything_options, is_below, is_no_name, is_single, is_walkable, one_text, walk_options, walk_text}
 use Rattle.globs.specs.Find.Sharing.{has_one_more, shared_steps, shared_text, step_text}
 use Rattle.globs.specs.Patterns.{is_any_match, set_of}
-use Rattle.globs.specs.declared.find.order.Place.{Place}
 use Rattle.globs.proofs.BelowLemmas.{below_from, below_in, components_are_pieces, open_end, pieces_in, relative, whole}
-use Rattle.globs.proofs.OrderLemmas.{ends_within, last_place-append, order_kept}
-use Rattle.globs.proofs.SharingLemmas.{AllAre, Begins, IsStep, all_open, any_rest, one_more, one_rest, steps-are, steps-begin, steps-named, steps-pieces, steps-place, steps-single, steps-utf8, widened}
-use Rattle.globs.proofs.StarLemmas.{run_star, takes_in}
+use Rattle.globs.proofs.SharingLemmas.{AllAre, Begins, IsStep, all_open, any_rest, one_more, one_rest, steps-are, steps-before, steps-begin, steps-named, steps-pieces, steps-single, steps-utf8, widened}
+use Rattle.globs.proofs.StarLemmas.{ends-append, run_star, takes_in}
 use Rattle.globs.proofs.WalkableLemmas.{match_takes}
 
 -- the walk by a pattern is plain and keeps order, and finds what some patterns match
@@ -42,7 +39,7 @@ pub record Reaches (o : MatchOptions) (ps : List Text) (wo : MatchOptions) (wp :
   pub plain : is_plain wp ≡ true
   pub case : wo.case_sensitive ≡ true
   pub relative : has_root wp ≡ false
-  pub order : keeps_path_order wp ≡ true
+  pub order : keeps_order wp ≡ true
   pub finds : (n : Text) (ns : Key) (kind : Kind) → are_names (n ∷ ns) ≡ true → is_any_match (set_of o ps) (path_of (n ∷ ns)) ≡ true
       → goal_text wo wp kind (n ∷ ns) ≡ Some (path_of (n ∷ ns))
 
@@ -54,6 +51,10 @@ gives o p kind n ns root allowed matched =
     cond-true (matches_kind p kind && matches_undivided o p (text_below p (n ∷ ns))) (Some (text_below p (n ∷ ns))) None
     (and_from (matches_kind p kind) (matches_undivided o p (text_below p (n ∷ ns))) allowed (ap (matches_undivided o p) same ∙ matched))
     ∙ ap Some same
+
+-- at most one component, and no `**`
+abbrev is_short : List Text → Bool
+is_short ts = not (list_any is_recursive ts) && nat_le (length ts) 1
 
 abbrev everything : Text
 everything = codes "**/*"
@@ -105,21 +106,11 @@ one_match : (o : MatchOptions) (p t : Text) → is_any_match (set_of o (p ∷ []
 unfolding is_any_match
 one_match o p t h = ⊎_elim (λ yes. yes) (λ no. absurd (false≢true no)) (or_cases (is_match o (chars p) (chars t)) false h)
 
-ends : (ts : List Text) (last : Place) → last_place Before ts ≡ Some last → ends_recursive ts ≡ is_within (Some last)
-ends [] last h = ap is_within h
-ends (t ∷ ts) last h = ends_within Before t ts last h
-
--- a pattern that ends in no `**` finds each kind
-kind_free : (q : Text) (last : Place) (kind : Kind) → is_below q ≡ true → last_place Before (pieces q) ≡ Some last → is_within (Some last) ≡ false → matches_kind q kind ≡ true
-kind_free q last kind below place free =
+-- a pattern that does not end in `**` finds each kind
+kind_free : (q : Text) (kind : Kind) → is_below q ≡ true → ends_in_stars q ≡ false → matches_kind q kind ≡ true
+kind_free q kind below free =
     or_right (is_dir kind) (not (ends_with _ q || ends_recursive (components q)))
-    (ap₂ (λ a b. not (a || b)) (open_end q below) (ap ends_recursive (components_are_pieces q below) ∙ ends (pieces q) last place ∙ free))
-
--- a pattern whose last component has a place keeps order
-ordered : (q : Text) (last : Place) → is_below q ≡ true → last_place Before (pieces q) ≡ Some last → keeps_path_order q ≡ true
-ordered q last below place =
-    subst (λ ts. (not (list_any is_recursive (after_first_recursive ts)) && nat_le (length (after_first_recursive ts)) 1) ≡ true)
-    (sym (components_are_pieces q below)) (order_kept (pieces q) (ap is_some place))
+    (ap₂ (λ a b. not (a || b)) (open_end q below) (ap ends_recursive (components_are_pieces q below) ∙ free))
 
 module _ (o : MatchOptions) (p : Text) (utf8 : IsUtf8 p) (below : is_below p ≡ true) (case : o.case_sensitive ≡ true) (rule : o.require_literal_separator ≡ true) (plain : is_plain p ≡ true) where
   -- the goal's options are those of the walk
@@ -134,64 +125,54 @@ module _ (o : MatchOptions) (p : Text) (utf8 : IsUtf8 p) (below : is_below p ≡
   undivided t = ap₂ (λ q w. is_match q (chars w) (chars t)) ruled (whole p below)
 
   -- the pattern is that of the walk
-  by_itself : (last : Place) → last_place Before (pieces p) ≡ Some last → is_within (Some last) ≡ false → Reaches o (p ∷ []) o p
-  by_itself last place free = record {
+  by_itself : ends_in_stars p ≡ false → keeps_order p ≡ true → Reaches o (p ∷ []) o p
+  by_itself free order = record {
     utf8 = utf8;
     plain = plain;
     case = case;
     relative = relative p below;
-    order = ordered p last below place;
+    order = order;
     finds = λ n ns kind names matched.
-        gives o p kind n ns (relative p below) (kind_free p last kind below place free) (undivided (path_of (n ∷ ns)) ∙ one_match o p (path_of (n ∷ ns)) matched);
+        gives o p kind n ns (relative p below) (kind_free p kind below free) (undivided (path_of (n ∷ ns)) ∙ one_match o p (path_of (n ∷ ns)) matched);
   }
 
   -- the pattern ends in `**`, and the walk is by what it names in each directory
-  by_entries : last_place Before (pieces p) ≡ Some Within → is_plain (p ++ codes "/*") ≡ true → Reaches o (p ∷ []) o (p ++ codes "/*")
-  by_entries place plain_in =
+  by_entries : ends_in_stars p ≡ true → keeps_order (p ++ codes "/*") ≡ true → is_plain (p ++ codes "/*") ≡ true → Reaches o (p ∷ []) o (p ++ codes "/*")
+  by_entries stars order plain_in =
       let w : Text = p ++ codes "/*" in
       let w_below : is_below w ≡ true = below_in p below in
       let w_utf8 : IsUtf8 w = IsUtf8-append p (codes "/*") utf8 entries_utf8 in
-      let w_place : last_place Before (pieces w) ≡ Some After =
-      ap (last_place Before) (pieces_in p) ∙ last_place-append Before (pieces p) (codes "*" ∷ []) ∙ ap (option_and_then (λ next. last_place next (codes "*" ∷ []))) place in
       record {
         utf8 = w_utf8;
         plain = plain_in;
         case = case;
         relative = relative w w_below;
-        order = ordered w After w_below w_place;
+        order = order;
         finds = λ n ns kind names matched.
-            gives o w kind n ns (relative w w_below) (kind_free w After kind w_below w_place refl)
+            gives o w kind n ns (relative w w_below) (kind_free w kind w_below (ap ends_recursive (pieces_in p) ∙ ends-append (pieces p) (codes "*") []))
             (ap (matches_undivided o w) (sym (cond-false (has_root w) _ _ (relative w w_below)))
             ∙ plain_matches_levels o w w_utf8 plain_in case n ns names
             ∙ ap (λ ts. takes o ts (n ∷ ns)) (components_are_pieces w w_below ∙ pieces_in p)
-            ∙ takes_in o (pieces p) (n ∷ ns) (ends (pieces p) Within place) (AllUtf8-from (n ∷ ns) names) (flat-from (n ∷ ns) (AreNames-from (n ∷ ns) names))
+            ∙ takes_in o (pieces p) (n ∷ ns) stars (AllUtf8-from (n ∷ ns) names) (flat-from (n ∷ ns) (AreNames-from (n ∷ ns) names))
             (ap (λ ts. takes o ts (n ∷ ns)) (sym (components_are_pieces p below))
             ∙ sym (plain_matches_levels o p utf8 plain case n ns names)
             ∙ ap (matches_undivided o p) (cond-false (has_root p) _ _ (relative p below))
             ∙ undivided (path_of (n ∷ ns)) ∙ one_match o p (path_of (n ∷ ns)) matched));
       }
 
-  one_reaches : is_some (last_place Before (pieces p)) ≡ true → is_plain (one_text p) ≡ true → Reaches o (p ∷ []) o (one_text p)
-  one_reaches some plain_one = by_place (last_place Before (pieces p)) refl some plain_one
-    where
-      by_place : (r : Option Place) → last_place Before (pieces p) ≡ r → is_some r ≡ true → is_plain (one_text p) ≡ true → Reaches o (p ∷ []) o (one_text p)
-      by_place None place some plain_one = absurd (false≢true some)
-      by_place (Some Before) place some plain_one =
-          subst (Reaches o (p ∷ []) o) (sym (ap (λ r. cond (is_within r) (p ++ codes "/*") p) place)) (by_itself Before place refl)
-      by_place (Some Within) place some plain_one =
-          let same : one_text p ≡ p ++ codes "/*" = ap (λ r. cond (is_within r) (p ++ codes "/*") p) place in
-          subst (Reaches o (p ∷ []) o) (sym same) (by_entries place (ap is_plain (sym same) ∙ plain_one))
-      by_place (Some After) place some plain_one =
-          subst (Reaches o (p ∷ []) o) (sym (ap (λ r. cond (is_within r) (p ++ codes "/*") p) place)) (by_itself After place refl)
+  one_reaches : (b : Bool) → ends_in_stars p ≡ b → keeps_order (cond b (p ++ codes "/*") p) ≡ true → is_plain (cond b (p ++ codes "/*") p) ≡ true
+      → Reaches o (p ∷ []) o (cond b (p ++ codes "/*") p)
+  one_reaches true stars order plain_one = by_entries stars order plain_one
+  one_reaches false free order plain_one = by_itself free order
 
 single_reaches : (o : MatchOptions) (p : Text) → IsUtf8 p → is_below p ≡ true → is_single o p ≡ true → Reaches o (p ∷ []) o (one_text p)
 unfolding is_single
 single_reaches o p utf8 below h =
     let (case, a) = and_parts o.case_sensitive _ h in
     let (rule, b) = and_parts o.require_literal_separator _ a in
-    let (order, d) = and_parts (is_some (last_place Before (pieces p))) _ b in
+    let (order, d) = and_parts (keeps_order (one_text p)) _ b in
     let (plain, plain_one) = and_parts (is_plain p) (is_plain (one_text p)) d in
-    one_reaches o p utf8 below case rule plain order plain_one
+    one_reaches o p utf8 below case rule plain (ends_in_stars p) refl order plain_one
 
 -- the walk that finds all that some patterns match
 record OneOf (o : MatchOptions) (ts : List Text) (More : Text → Type 0) (path : Text) : Type 0 where
@@ -242,29 +223,28 @@ module _ (o : MatchOptions) (ps : List Text) (utf8 : AreTexts ps) (below : are_b
       sym (match_takes p n ns utf8 below walkable names) ∙ loosened (chars p) (chars (path_of (n ∷ ns))) matched
 
   -- what comes after the steps finds the rest of each pattern
-  by_tail : (tail : Text) (last : Place) (More : Text → Type 0) → IsUtf8 tail → list_any is_no_name (pieces tail) ≡ false → last_place Before (pieces tail) ≡ Some last → is_within (Some last) ≡ false → AllAre More ps
+  by_tail : (tail u : Text) (us : List Text) (More : Text → Type 0) → IsUtf8 tail → pieces tail ≡ u ∷ us → list_any is_no_name (u ∷ us) ≡ false → ends_recursive (u ∷ us) ≡ false → is_short (after_first_recursive (u ∷ us)) ≡ true → AllAre More ps
       → ((p : Text) (next : Text) (others : List Text) → pieces p ≡ steps ++ next ∷ others → More p → (names : Key) → AllUtf8 names → list_all has_no_slash names ≡ true
-      → takes everything_options (next ∷ others) names ≡ true → takes everything_options (pieces tail) names ≡ true)
+      → takes everything_options (next ∷ others) names ≡ true → takes everything_options (u ∷ us) names ≡ true)
       → is_plain (flat_map step_text steps ++ tail) ≡ true → Reaches o ps everything_options (flat_map step_text steps ++ tail)
-  by_tail tail last More tail_utf8 named place free more found plain_text =
+  by_tail tail u us More tail_utf8 tail_pieces named free short more found plain_text =
       let w : Text = flat_map step_text steps ++ tail in
-      let w_pieces : pieces w ≡ steps ++ pieces tail = steps-pieces steps tail are in
-      let w_below : is_below w ≡ true = below_from w (ap (list_any is_no_name) w_pieces ∙ steps-named steps (pieces tail) are named) in
-      let w_place : last_place Before (pieces w) ≡ Some last = ap (last_place Before) w_pieces ∙ steps-place steps (pieces tail) single ∙ place in
+      let w_pieces : pieces w ≡ steps ++ u ∷ us = steps-pieces steps tail are ∙ ap (λ ts. steps ++ ts) tail_pieces in
+      let w_below : is_below w ≡ true = below_from w (ap (list_any is_no_name) w_pieces ∙ steps-named steps (u ∷ us) are named) in
       let w_utf8 : IsUtf8 w = steps-utf8 steps tail are tail_utf8 in
       record {
         utf8 = w_utf8;
         plain = plain_text;
         case = refl;
         relative = relative w w_below;
-        order = ordered w last w_below w_place;
+        order = ap (λ ts. is_short (after_first_recursive ts)) (components_are_pieces w w_below ∙ w_pieces) ∙ ap is_short (steps-before steps (u ∷ us) single) ∙ short;
         finds = λ n ns kind names matched.
             let p = one_of o steps More (path_of (n ∷ ns)) ps utf8 below walkable (steps-begin ps) more (one_matches o ps (path_of (n ∷ ns)) matched) in
-            gives everything_options w kind n ns (relative w w_below) (kind_free w last kind w_below w_place free)
+            gives everything_options w kind n ns (relative w w_below) (kind_free w kind w_below (ap ends_recursive w_pieces ∙ ends-append steps u us ∙ free))
             (ap (matches_undivided everything_options w) (sym (cond-false (has_root w) _ _ (relative w w_below)))
             ∙ plain_matches_levels everything_options w w_utf8 plain_text refl n ns names
             ∙ ap (λ ts. takes everything_options ts (n ∷ ns)) (components_are_pieces w w_below ∙ w_pieces)
-            ∙ widened everything_options steps (p.begins.next ∷ p.begins.others) (pieces tail) single (found p.pattern p.begins.next p.begins.others p.begins.whole p.more)
+            ∙ widened everything_options steps (p.begins.next ∷ p.begins.others) (u ∷ us) single (found p.pattern p.begins.next p.begins.others p.begins.whole p.more)
             (n ∷ ns) (AllUtf8-from (n ∷ ns) names) (flat-from (n ∷ ns) (AreNames-from (n ∷ ns) names))
             (ap (λ ts. takes everything_options ts (n ∷ ns)) (sym p.begins.whole) ∙ taken p.pattern n ns p.utf8 p.below p.walkable names p.matched));
       }
@@ -280,13 +260,13 @@ module _ (o : MatchOptions) (ps : List Text) (utf8 : AreTexts ps) (below : are_b
   by_rest : (b : Bool) → list_all (has_one_more (length steps)) ps ≡ b → is_plain (flat_map step_text steps ++ cond b (codes "*") everything) ≡ true
       → Reaches o ps everything_options (flat_map step_text steps ++ cond b (codes "*") everything)
   by_rest true e plain_text =
-      by_tail (codes "*") Before (λ p. has_one_more (length steps) p ≡ true) star_utf8 refl refl refl (all_are (has_one_more (length steps)) ps e)
+      by_tail (codes "*") (codes "*") [] (λ p. has_one_more (length steps) p ≡ true) star_utf8 refl refl refl refl (all_are (has_one_more (length steps)) ps e)
       (λ p next others begins more names utf8 flat h.
       let alone = one_more steps p next others begins more in
       one_rest next names alone.1 utf8 flat (ap (λ us. takes everything_options (next ∷ us) names) (sym alone.0) ∙ h))
       plain_text
   by_rest false e plain_text =
-      by_tail everything After (λ p. Unit {0}) everything_utf8 refl refl refl (any_are ps)
+      by_tail everything (codes "**") (codes "*" ∷ []) (λ p. Unit {0}) everything_utf8 refl refl refl refl (any_are ps)
       (λ p next others begins more names utf8 flat h. any_rest next others names utf8 flat h) plain_text
 
 common_reaches : (o : MatchOptions) (ps : List Text) → AreTexts ps → are_below ps ≡ true → Reaches o ps everything_options (common_text o ps)

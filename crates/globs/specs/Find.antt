@@ -1,6 +1,5 @@
 pub mod Filtering
 pub mod Finding
-pub mod Order
 pub mod Outcomes
 pub mod Planning
 pub mod Searching

@@ -16,7 +16,6 @@ ghost use Rattle.globs.specs.Patterns.{set_of};
 
 pub mod disk;
 mod filter;
-mod order;
 pub mod plan;
 mod search;
 mod shallow;

@@ -1,5 +1,5 @@
 -- By which pattern a tree is walked, so that the walk finds all that some patterns match.
-use Rattle.std.specs.Prelude.{Bool, true, ◌&&◌, ◌||◌, not, if◌then◌else◌, List, [], ◌∷◌, ◌++◌, bytes_eq, codes, is_none, is_some, ⊤}
+use Rattle.std.specs.Prelude.{Bool, true, ◌&&◌, ◌||◌, not, if◌then◌else◌, List, [], ◌∷◌, ◌++◌, bytes_eq, codes, is_none, ⊤}
 use Rattle.std.specs.List.{list_all, list_any}
 use Rattle.std.specs.Str.{IsUtf8}
 use Rattle.std.specs.Path.{cur_dir, parent_dir}
@@ -9,10 +9,10 @@ use Rattle.glob_pattern.specs.Matching.Options.{new_options}
 use Rattle.glob_pattern.specs.declared.options.MatchOptions.{MatchOptions}
 use Rattle.glob_tree.specs.Content.{Content}
 use Rattle.glob_walk.specs.Components.{walk_fault}
-use Rattle.glob_walk.specs.Goal.{is_plain}
+use Rattle.glob_walk.specs.Goal.{ends_recursive, is_plain}
 use Rattle.glob_walk.specs.Listing.{listing}
 use Rattle.glob_walk.specs.Marks.{Mark}
-use Rattle.globs.specs.Find.Order.{Before, is_within, last_place}
+use Rattle.glob_walk.specs.Order.{keeps_order}
 use Rattle.globs.specs.Find.Sharing.{shared_text}
 
 -- a component that is empty, `.` or `..`
@@ -37,13 +37,9 @@ AreTexts (p ∷ ps) = IsUtf8 p × AreTexts ps
 abbrev pub everything_options : MatchOptions
 everything_options = record new_options { require_literal_separator = true }
 
--- a walk by the pattern gives each path once and in order
-abbrev pub keeps_order : (pattern : Text) → Bool
-keeps_order pattern = is_some (last_place Before (pieces pattern))
-
--- such a pattern ends in `**`
+-- the last component is `**`
 abbrev pub ends_in_stars : (pattern : Text) → Bool
-ends_in_stars pattern = is_within (last_place Before (pieces pattern))
+ends_in_stars pattern = ends_recursive (pieces pattern)
 
 -- the pattern itself, or what it names in each directory where it ends in `**`, whose walk finds directories alone
 abbrev pub one_text : (pattern : Text) → Text
@@ -53,7 +49,7 @@ one_text pattern = if ends_in_stars pattern then pattern ++ codes "/*" else patt
 unfoldable pub is_single : MatchOptions → (pattern : Text) → Bool
 is_single o pattern =
     o.case_sensitive
-    && (o.require_literal_separator && (keeps_order pattern && (is_plain pattern && is_plain (one_text pattern))))
+    && (o.require_literal_separator && (keeps_order (one_text pattern) && (is_plain pattern && is_plain (one_text pattern))))
 
 -- a walk by the pattern is accepted
 unfoldable pub is_walkable : (pattern : Text) → Bool

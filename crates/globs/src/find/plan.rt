@@ -4,15 +4,15 @@ ghost use Rattle.std.specs.List.{list_all, list_any};
 ghost use Rattle.std.specs.Str.{IsUtf8};
 ghost use Rattle.glob_text.specs.Pieces.{pieces};
 ghost use Rattle.glob_walk.specs.Goal.{is_plain};
+ghost use Rattle.glob_walk.specs.Order.{keeps_order};
 ghost use Rattle.globs.specs.Find.Sharing.{shared_text};
 ghost use Rattle.globs.specs.Find.Planning.{are_shared, common_text, ends_in_stars, everything_options};
-ghost use Rattle.globs.specs.Find.Planning.{is_below, is_no_name, is_single, is_walkable, keeps_order, one_text};
+ghost use Rattle.globs.specs.Find.Planning.{is_below, is_no_name, is_single, is_walkable, one_text};
 ghost use Rattle.globs.specs.Find.Planning.{walk_options, walk_text};
 
-use crate::find::order::{Place, last_place};
 use crate::find::shared::shared_text;
 use glob_pattern::{MatchOptions, PatternRefusal};
-use glob_walk::is_plain;
+use glob_walk::{is_plain, is_recursive};
 use std::alloc::{AllocError, Allocator};
 
 /// The pattern that finds each path below the current directory.
@@ -141,7 +141,7 @@ fn is_single<A: Allocator + Copy>(
     requires { text.now ≡ one_text pattern.now }
     ensures { IfOk result (λ yes. yes ≡ is_single options pattern.now) }
 {
-    if !options.case_sensitive || !options.require_literal_separator || !keeps_order(pattern) {
+    if !options.case_sensitive || !options.require_literal_separator || !keeps_order(text) {
         return Ok(false);
     }
     if !is_plain_walk(alloc, pattern)? {
@@ -150,11 +150,17 @@ fn is_single<A: Allocator + Copy>(
     Ok(is_plain_walk(alloc, text)?)
 }
 
-/// Whether a walk by the pattern gives each path once and in order.
+/// Whether a walk by the pattern gives each path once and in order: it has no `**`, or after the first, `**/**` being
+/// one, at most one component. So `**/*` keeps order, and neither `**/a/b` nor `**/a/**` does.
 fn keeps_order(pattern: &str) -> bool
     ensures { result ≡ keeps_order pattern.now }
 {
-    last_place(pattern).is_some()
+    let below = pattern.strip_prefix('/').unwrap_or(pattern);
+    let components = below.strip_suffix('/').unwrap_or(below).split('/');
+    let after = components
+        .skip_while(|component| !is_recursive(component))
+        .skip_while(|component| is_recursive(component));
+    after.count() <= 1
 }
 
 /// Whether a pattern is plain. One that no walk accepts is not.
@@ -179,13 +185,13 @@ fn text_of<A: Allocator>(alloc: A, pattern: &str) -> Result<String<A>, AllocErro
     Ok(text)
 }
 
-/// Whether a pattern that keeps order ends in `**`.
+/// Whether the last component of a pattern is `**`.
 fn ends_in_stars(pattern: &str) -> bool
     ensures { result ≡ ends_in_stars pattern.now }
 {
-    match last_place(pattern) {
-        Some(Place::Within) => true,
-        Some(Place::Before | Place::After) | None => false,
+    match pattern.rsplit_once('/') {
+        Some((_, last)) => is_recursive(last),
+        None => is_recursive(pattern),
     }
 }
 
