@@ -125,17 +125,6 @@ readable_counts :
 unfolding computed is_readable
 readable_counts = (refl, refl, refl)
 
--- a literal leads below a shut directory, with no error
-literal_counts : items (listing closed new (codes "b/x")) ≡ Found (codes "b/x") ∷ []
-unfolding computed
-literal_counts = refl
-
--- a run may give the error of one directory twice
-repeated_error : items (listing (at_root (shut PermissionDenied "d" ∷ [])) new (codes "**/*/*"))
-    ≡ Unread (codes "d") PermissionDenied ∷ Unread (codes "d") PermissionDenied ∷ []
-unfolding computed
-repeated_error = refl
-
 -- within a limit the walk finds goals alone, though not each of them
 whole_counts :
     (paths (items (front 5 (listing crossed new (codes "**")))) ≡ codes "a" ∷ [])
