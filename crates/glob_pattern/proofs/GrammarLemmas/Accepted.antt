@@ -8,15 +8,15 @@ use Rattle.glob_pattern.specs.Computing.Reading.{unit_at, units_from, reading_of
 use Rattle.glob_pattern.proofs.GrammarLemmas.Accepting.{accepted_by_tokens, units_of_accepted}
 use Rattle.glob_pattern.proofs.GrammarLemmas.Units.{unit_at-UnitAt}
 use Rattle.glob_pattern.proofs.GrammarLemmas.Folding.{length-tokens_of_units}
-use Rattle.glob_pattern.proofs.GrammarLemmas.Reading.{UnitsBetween-within, units_from-Ok, HasTokens-reading_of, reading_of-HasTokens, IsFault-reading_of, reading_of-IsFault}
+use Rattle.glob_pattern.proofs.GrammarLemmas.Reading.{UnitsBetween-within, units_from-Ok, tokens_by_reading, reading_of-HasTokens, fault_by_reading, reading_of-IsFault}
 
 -- The computation answers tokens where they are those of the text.
 pub reading_of-Ok : (text : Text) (tokens : List Token) → (reading_of text ≡ Ok tokens) ↔ HasTokens text tokens
-reading_of-Ok text tokens = (HasTokens-reading_of text tokens, reading_of-HasTokens text tokens)
+reading_of-Ok text tokens = (tokens_by_reading text tokens, reading_of-HasTokens text tokens)
 
 -- The computation answers a fault where it is that of the text.
 pub reading_of-Err : (text : Text) (fault : Fault) → (reading_of text ≡ Err fault) ↔ IsFault text fault
-reading_of-Err text fault = (IsFault-reading_of text fault, reading_of-IsFault text fault)
+reading_of-Err text fault = (fault_by_reading text fault, reading_of-IsFault text fault)
 
 -- A reading has one value.
 same_found : (found : Option (Token × ℕ)) (t u : Token) (e m : ℕ) → found ≡ Some (t, e) → found ≡ Some (u, m) → (t ≡ u) × (e ≡ m)
@@ -59,8 +59,8 @@ no_fault text fault accepted is =
     let told = reading_of-IsFault text fault is in cc
 
 read_or_told : (text : Text) (read : Result (List Token) Fault) → reading_of text ≡ read → ¬ (IsAccepted text) → (fault : Fault) × IsFault text fault
-read_or_told text (Ok tokens) e refused = absurd (refused (accepted_by_tokens text tokens (HasTokens-reading_of text tokens e)))
-read_or_told text (Err fault) e refused = (fault, IsFault-reading_of text fault e)
+read_or_told text (Ok tokens) e refused = absurd (refused (accepted_by_tokens text tokens (tokens_by_reading text tokens e)))
+read_or_told text (Err fault) e refused = (fault, fault_by_reading text fault e)
 
 -- Another text has one.
 pub some_fault : (text : Text) → ¬ (IsAccepted text) → (fault : Fault) × IsFault text fault × ((other : Fault) → IsFault text other → other ≡ fault)

@@ -120,8 +120,8 @@ IsFault-Answers text (Ok units) fault answers e = cc
 IsFault-Answers text (Err other) fault answers e = let same : other ≡ fault = cc in subst (IsFault text) same answers
 
 -- What is read are the tokens of the text.
-pub HasTokens-reading_of : (text : Text) (tokens : List Token) → reading_of text ≡ Ok tokens → HasTokens text tokens
-HasTokens-reading_of text tokens e = HasTokens-Answers text _ tokens (Answers-start text) e
+pub tokens_by_reading : (text : Text) (tokens : List Token) → reading_of text ≡ Ok tokens → HasTokens text tokens
+tokens_by_reading text tokens e = HasTokens-Answers text _ tokens (Answers-start text) e
 
 -- The tokens of a text are read.
 pub reading_of-HasTokens : (text : Text) (tokens : List Token) → HasTokens text tokens → reading_of text ≡ Ok tokens
@@ -129,8 +129,8 @@ reading_of-HasTokens text tokens has =
     ap tokens_of_reading (units_from-Ok (suc (length text)) text 0 has.0 (omega arith) (omega arith) has.1) ∙ ap Ok (sym has.2)
 
 -- The fault that is read is the fault of the text.
-pub IsFault-reading_of : (text : Text) (fault : Fault) → reading_of text ≡ Err fault → IsFault text fault
-IsFault-reading_of text fault e = IsFault-Answers text _ fault (Answers-start text) e
+pub fault_by_reading : (text : Text) (fault : Fault) → reading_of text ≡ Err fault → IsFault text fault
+fault_by_reading text fault e = IsFault-Answers text _ fault (Answers-start text) e
 
 -- The fault of a text is read.
 pub reading_of-IsFault : (text : Text) (fault : Fault) → IsFault text fault → reading_of text ≡ Err fault

@@ -3,28 +3,21 @@ use Rattle.std.proofs.Common.{◌≡◌, ◌∙◌, true, false, List, Decides, 
 use Rattle.std.proofs.lemmas.Bool.{false≢true}
 use Rattle.glob_text.specs.Text.{Text}
 use Rattle.glob_pattern.specs.Grammar.Tokens.{Token}
-use Rattle.glob_pattern.specs.Grammar.Units.{IsAccepted, HasTokens}
+use Rattle.glob_pattern.specs.Grammar.Units.{IsAccepted}
 use Rattle.glob_pattern.specs.Grammar.Faults.{Fault, IsFault}
 use Rattle.glob_pattern.specs.Matching.Texts.{Matches}
 use Rattle.glob_pattern.specs.Computing.Reading.{reading_of}
 use Rattle.glob_pattern.specs.Computing.Deciding.{is_match}
 use Rattle.glob_pattern.specs.declared.options.MatchOptions.{MatchOptions}
-use Rattle.glob_pattern.proofs.GrammarLemmas.Accepted.{reading_of-Ok, reading_of-Err, no_fault}
+use Rattle.glob_pattern.proofs.GrammarLemmas.Accepted.{reading_of-Ok, no_fault}
 use Rattle.glob_pattern.proofs.GrammarLemmas.Accepting.{accepted_by_tokens}
+use Rattle.glob_pattern.proofs.GrammarLemmas.Reading.{tokens_by_reading, fault_by_reading}
 use Rattle.glob_pattern.proofs.MatchingLemmas.Deciding.{Decides-Matches}
 use Rattle.glob_pattern.proofs.MatchingLemmas.Matched.{accepted_by_match}
-
--- The tokens that are read are those of the text.
-pub tokens_by_reading : (text : Text) (tokens : List Token) → reading_of text ≡ Ok tokens → HasTokens text tokens
-tokens_by_reading text tokens e = (reading_of-Ok text tokens).0 e
 
 -- A text that is read as tokens is accepted.
 pub accepted_by_reading : (text : Text) (tokens : List Token) → reading_of text ≡ Ok tokens → IsAccepted text
 accepted_by_reading text tokens e = accepted_by_tokens text tokens (tokens_by_reading text tokens e)
-
--- The fault that is read is that of the text.
-pub fault_by_reading : (text : Text) (fault : Fault) → reading_of text ≡ Err fault → IsFault text fault
-fault_by_reading text fault e = (reading_of-Err text fault).0 e
 
 -- A text that is read as a fault is not accepted.
 pub refused_by_reading : (text : Text) (fault : Fault) → reading_of text ≡ Err fault → ¬ (IsAccepted text)

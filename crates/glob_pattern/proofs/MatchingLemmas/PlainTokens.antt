@@ -27,10 +27,7 @@ allowed-after_front o text k (t ∷ ts) rest [] a = absurd a
 allowed-after_front o text k (t ∷ ts) rest (piece ∷ pieces) (took, form, others) =
     let (before, after, e, allowed, _) = allowed-after_front o text (k + length piece) ts rest pieces others in
     let at : k + length piece + length (concat before) ≡ k + length (concat (piece ∷ before)) = omega (arith, length-append piece (concat before)) in
-    (piece ∷ before, after, ap (λ ps. piece ∷ ps) e, subst (λ i. AreAllowed o text i rest after) at allowed, λ nil. absurd (no_token t ts nil))
-  where
-    no_token : (u : Token) (us : List Token) → u ∷ us ≡ [] → ⊥
-    no_token u us e = cc
+    (piece ∷ before, after, ap (λ ps. piece ∷ ps) e, subst (λ i. AreAllowed o text i rest after) at allowed, λ nil. absurd (cc))
 
 -- one more character that is the same
 SameTexts-more : (case : Bool) (d c : ℕ) (xs ys : Text) → IsTrue (is_same case d c) → SameTexts case xs ys → SameTexts case (d ∷ xs) (c ∷ ys)

@@ -1,12 +1,8 @@
-use Rattle.std.proofs.Common.{◌∷◌, ◌++◌, ◌<◌, Bool, true, false, ◌&&◌, [], ◌∙◌, get_or, ap, refl, sym, arith, length-set, IsTrue}
+use Rattle.std.proofs.Common.{◌∷◌, ◌++◌, ◌<◌, [], ◌∙◌, get_or, ap, sym, arith, length-set}
 use Rattle.std.proofs.lemmas.List.{take_more, take_more_set}
-use Rattle.std.proofs.lemmas.Bool.{false≢true, ltb-true}
+use Rattle.std.proofs.lemmas.Bool.{and_parts, ltb-true}
 use Rattle.std.proofs.lemmas.Str.Ascii.{IsAscii-more}
 use Rattle.glob_pattern.proofs.grammar.widen.Goals as goal
-
-both : (x y : Bool) → IsTrue (x && y) → IsTrue x × IsTrue y
-both true y t = (refl, t)
-both false y t = absurd (false≢true t)
 
 pub loop-n-preserved : goal.loop-n-preserved
 loop-n-preserved c =
@@ -18,7 +14,7 @@ loop-n-preserved c =
       count = length-set c.loop-n.characters n b ∙ i.count;
       written = take_more_set c.loop-n.characters n b (omega (arith, i.count, c.loop-n-test.true)) ∙ ap (λ l. l ++ b ∷ []) i.written ∙ sym (take_more bytes n 0 c.loop-n-test.true);
       ascii = λ t.
-          let (before, here) = both c.loop-n.ascii c.is_ascii-ascii.result t in
+          let (before, here) = and_parts c.loop-n.ascii c.is_ascii-ascii.result t in
           let below : b < 128 = ltb-true b 128 (rw c.is_ascii-ascii.ensures at here) in
           IsAscii-more bytes n c.loop-n-test.true (i.ascii before) below;
     }
