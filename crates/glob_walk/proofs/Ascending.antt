@@ -24,7 +24,7 @@ insert_entry-keeps e (f ∷ es) = by_test (is_before e f) (insert_entry-keeps e 
     by_test true kept = IsPermutation-refl (e ∷ f ∷ es)
     by_test false kept = IsPermutation-trans (e ∷ f ∷ es) (f ∷ e ∷ es) (f ∷ insert_entry e es) (IsPermutation-middle (e ∷ []) f es) (IsPermutation-cons f _ _ kept)
 
-sorted_entries-keep : (es : List DirEntry) → IsPermutation es (sorted_entries es)
+pub sorted_entries-keep : (es : List DirEntry) → IsPermutation es (sorted_entries es)
 sorted_entries-keep [] = IsPermutation-refl []
 sorted_entries-keep (e ∷ es) = IsPermutation-trans _ _ _ (IsPermutation-cons e _ _ (sorted_entries-keep es)) (insert_entry-keeps e (sorted_entries es))
 

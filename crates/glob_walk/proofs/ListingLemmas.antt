@@ -1,2 +1,3 @@
+pub mod ComponentKinds
 pub mod Descending
 pub mod Marks

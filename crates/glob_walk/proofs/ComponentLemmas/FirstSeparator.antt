@@ -1,5 +1,6 @@
 -- A text of names cut at its separators, as the tokens of the components take it.
-use Rattle.std.proofs.Common.{◌≡◌, ℕ, Bool, true, false, not, ◌&&◌, ◌||◌, ◌==◌, List, [], ◌∷◌, ◌++◌, refl, ap, ap₂, ◌∙◌}
+use Rattle.std.proofs.Common.{◌≡◌, ℕ, Bool, true, false, not, ◌&&◌, ◌||◌, ◌==◌, List, [], ◌∷◌, ◌++◌, refl, sym, ap, ap₂, ◌∙◌}
+use mathlib.Core.Bool.{and_assoc, and-false, or-false}
 use Rattle.std.specs.List.{list_all}
 use Rattle.std.specs.Path.{has_no_slash}
 use Rattle.std.proofs.lemmas.Bool.{false≢true, and_parts, not-true}
@@ -14,20 +15,11 @@ use Rattle.glob_walk.proofs.ComponentLemmas.Fits.{After, one_then, many_then, fi
 use Rattle.glob_pattern.specs.Matching.Components.{with_separator_rule}
 use Rattle.glob_walk.proofs.ComponentLemmas.Parts.{is_inner}
 
--- `&&` and `||`
-pub and_assoc : (x y z : Bool) → (x && (y && z)) ≡ ((x && y) && z)
-and_assoc true y z = refl
-and_assoc false y z = refl
-
 or_and : (x t y z : Bool) → ((x && z) || (t && (y && z))) ≡ ((x || (t && y)) && z)
 or_and true t y true = refl
-or_and true true y false = and_false y
-  where
-    and_false : (b : Bool) → (b && false) ≡ false
-    and_false true = refl
-    and_false false = refl
+or_and true true y false = and-false y
 or_and true false y false = refl
-or_and false t y z = and_assoc t y z
+or_and false t y z = sym (and_assoc t y z)
 
 -- the token takes no separator
 abbrev pub Shuns : MatchOptions → Token → Type 0
@@ -55,35 +47,23 @@ no_slash_parts c n h = let both = and_parts (not (c == slash)) (has_no_slash n) 
 Cuts-one : (o : MatchOptions) (t : Token) → Shuns o t → (z : Bool) (r : Text) (after next : After) → Cuts z r after next → Cuts z r (one_then (with_separator_rule o) t after) (one_then (with_separator_rule o) t next)
 Cuts-one o t s z r after next cut b [] h = ap (λ x. x && after true r) (s b)
 Cuts-one o t s z r after next cut b (c ∷ n) h =
-    ap (λ x. takes (with_separator_rule o) b c t && x) (cut (c == slash) n (no_slash_parts c n h).1) ∙ and_assoc (takes (with_separator_rule o) b c t) (next (c == slash) n) z
+    ap (λ x. takes (with_separator_rule o) b c t && x) (cut (c == slash) n (no_slash_parts c n h).1) ∙ sym (and_assoc (takes (with_separator_rule o) b c t) (next (c == slash) n) z)
 
 Cuts-many : (o : MatchOptions) (t : Token) → Shuns o t → (z : Bool) (r : Text) (after next : After) → Cuts z r after next → Cuts z r (many_then (with_separator_rule o) t after) (many_then (with_separator_rule o) t next)
-Cuts-many o t s z r after next cut b [] h = ap₂ (λ x y. x || (y && many_then (with_separator_rule o) t after true r)) (cut b [] refl) (s b) ∙ or_false (next b [] && z)
-  where
-    or_false : (x : Bool) → (x || false) ≡ x
-    or_false true = refl
-    or_false false = refl
+Cuts-many o t s z r after next cut b [] h = ap₂ (λ x y. x || (y && many_then (with_separator_rule o) t after true r)) (cut b [] refl) (s b) ∙ or-false (next b [] && z)
 Cuts-many o t s z r after next cut b (c ∷ n) h =
     ap₂ (λ x y. x || (takes (with_separator_rule o) b c t && y)) (cut b (c ∷ n) h) (Cuts-many o t s z r after next cut (c == slash) n (no_slash_parts c n h).1)
     ∙ or_and (next b (c ∷ n)) (takes (with_separator_rule o) b c t) (many_then (with_separator_rule o) t next (c == slash) n) z
 
-pub and_yes : (x : Bool) → (x && true) ≡ x
-and_yes true = refl
-and_yes false = refl
-
-pub and_no : (x : Bool) → (x && false) ≡ false
-and_no true = refl
-and_no false = refl
-
 Falls-one : (o : MatchOptions) (t : Token) (after : After) → Falls after → Falls (one_then (with_separator_rule o) t after)
 Falls-one o t after fall b [] h = refl
-Falls-one o t after fall b (c ∷ n) h = ap (λ x. takes (with_separator_rule o) b c t && x) (fall (c == slash) n (no_slash_parts c n h).1) ∙ and_no (takes (with_separator_rule o) b c t)
+Falls-one o t after fall b (c ∷ n) h = ap (λ x. takes (with_separator_rule o) b c t && x) (fall (c == slash) n (no_slash_parts c n h).1) ∙ and-false (takes (with_separator_rule o) b c t)
 
 Falls-many : (o : MatchOptions) (t : Token) (after : After) → Falls after → Falls (many_then (with_separator_rule o) t after)
 Falls-many o t after fall b [] h = fall b [] h
 Falls-many o t after fall b (c ∷ n) h =
     ap₂ (λ x y. x || (takes (with_separator_rule o) b c t && y)) (fall b (c ∷ n) h) (Falls-many o t after fall (c == slash) n (no_slash_parts c n h).1)
-    ∙ and_no (takes (with_separator_rule o) b c t)
+    ∙ and-false (takes (with_separator_rule o) b c t)
 
 -- the separator
 Cuts-slash : (o : MatchOptions) (r : Text) (vs : List Token) → Cuts (fits (with_separator_rule o) vs true r) r (fits (with_separator_rule o) (Literal slash ∷ vs)) (fits (with_separator_rule o) [])
@@ -126,12 +106,12 @@ Stops r after = (b : Bool) (n : Text) → after b (n ++ slash ∷ r) ≡ false
 
 Stops-one : (o : MatchOptions) (t : Token) → Shuns o t → (r : Text) (after : After) → Stops r after → Stops r (one_then (with_separator_rule o) t after)
 Stops-one o t s r after stop b [] = ap (λ x. x && after true r) (s b)
-Stops-one o t s r after stop b (c ∷ n) = ap (λ x. takes (with_separator_rule o) b c t && x) (stop (c == slash) n) ∙ and_no (takes (with_separator_rule o) b c t)
+Stops-one o t s r after stop b (c ∷ n) = ap (λ x. takes (with_separator_rule o) b c t && x) (stop (c == slash) n) ∙ and-false (takes (with_separator_rule o) b c t)
 
 Stops-many : (o : MatchOptions) (t : Token) → Shuns o t → (r : Text) (after : After) → Stops r after → Stops r (many_then (with_separator_rule o) t after)
 Stops-many o t s r after stop b [] = ap₂ (λ x y. x || (y && many_then (with_separator_rule o) t after true r)) (stop b []) (s b)
 Stops-many o t s r after stop b (c ∷ n) =
-    ap₂ (λ x y. x || (takes (with_separator_rule o) b c t && y)) (stop b (c ∷ n)) (Stops-many o t s r after stop (c == slash) n) ∙ and_no (takes (with_separator_rule o) b c t)
+    ap₂ (λ x y. x || (takes (with_separator_rule o) b c t && y)) (stop b (c ∷ n)) (Stops-many o t s r after stop (c == slash) n) ∙ and-false (takes (with_separator_rule o) b c t)
 
 pub stop : (o : MatchOptions) (ts : List Token) → list_all is_inner ts ≡ true → (r : Text) → Stops r (fits (with_separator_rule o) ts)
 stop o [] h r = Stops-nothing

@@ -1,5 +1,6 @@
 -- The tokens of a whole pattern match names joined by separators exactly where its components take the names.
 use Rattle.std.proofs.Common.{◌≡◌, Bool, true, false, ◌&&◌, ◌||◌, List, [], ◌∷◌, ◌++◌, refl, sym, ap, ap₂, subst, ◌∙◌}
+use mathlib.Core.Bool.{and-true, and-false}
 use Rattle.std.specs.List.{list_all, join_with_byte}
 use Rattle.std.specs.Path.{has_no_slash}
 use Rattle.std.proofs.lemmas.Bool.{false≢true, and_parts}
@@ -11,7 +12,7 @@ use Rattle.glob_pattern.specs.declared.token.Token.TheVariants.{Literal, Recursi
 use Rattle.glob_walk.proofs.ComponentLemmas.Fits.{closed_then, fits}
 use Rattle.glob_pattern.specs.Matching.Components.{with_separator_rule, is_open}
 use Rattle.glob_walk.proofs.ComponentLemmas.Parts.{is_inner, Part, Levels, Level, is_level, joined_tokens, reaches}
-use Rattle.glob_walk.proofs.ComponentLemmas.FirstSeparator.{and_no, and_yes, cut, fall, stop}
+use Rattle.glob_walk.proofs.ComponentLemmas.FirstSeparator.{cut, fall, stop}
 use Rattle.glob_walk.proofs.ComponentLemmas.WholeNames.{closed-cut, closed-fall, last-name, last-cut}
 
 -- components have tokens
@@ -40,7 +41,7 @@ Reach-run o p ps is next n [] h =
     let some = tokens_some p ps is in
     let plain = (and_parts (has_no_slash n) true h).0 in
     fits-deep (with_separator_rule o) (joined_tokens (p ∷ ps)) some.0 some.1 some.2 true n
-    ∙ ap₂ (λ x y. x || y) (next n [] h) (closed-fall o (fits (with_separator_rule o) (joined_tokens (p ∷ ps))) true n plain ∙ sym (and_no (is_open o n)))
+    ∙ ap₂ (λ x y. x || y) (next n [] h) (closed-fall o (fits (with_separator_rule o) (joined_tokens (p ∷ ps))) true n plain ∙ sym (and-false (is_open o n)))
 Reach-run o p ps is next n (m ∷ ns) h =
     let some = tokens_some p ps is in
     let both = and_parts (has_no_slash n) (list_all has_no_slash (m ∷ ns)) h in
@@ -52,7 +53,7 @@ Reach-run o p ps is next n (m ∷ ns) h =
 
 Reach-level : (o : MatchOptions) (ts : List Token) (p : Part) (ps : List Part) → list_all is_inner ts ≡ true → Reach o (p ∷ ps) → Reach o (Level ts ∷ p ∷ ps)
 Reach-level o ts p ps inner next n [] h =
-    fall o ts (joined_tokens (p ∷ ps)) inner true n (and_parts (has_no_slash n) true h).0 ∙ sym (and_no (fits (with_separator_rule o) ts true n)) ∙ ap (λ x. fits (with_separator_rule o) ts true n && x) (sym (none p ps))
+    fall o ts (joined_tokens (p ∷ ps)) inner true n (and_parts (has_no_slash n) true h).0 ∙ sym (and-false (fits (with_separator_rule o) ts true n)) ∙ ap (λ x. fits (with_separator_rule o) ts true n && x) (sym (none p ps))
   where
     none : (p : Part) (ps : List Part) → reaches o (p ∷ ps) [] ≡ false
     none Levels [] = refl
@@ -64,8 +65,8 @@ Reach-level o ts p ps inner next n (m ∷ ns) h =
     ∙ ap (λ x. fits (with_separator_rule o) ts true n && x) (next m ns both.1)
 
 Reach-last : (o : MatchOptions) (ts : List Token) → list_all is_inner ts ≡ true → Reach o (Level ts ∷ [])
-Reach-last o ts inner n [] h = sym (and_yes (fits (with_separator_rule o) ts true n))
-Reach-last o ts inner n (m ∷ ns) h = stop o ts inner (join_with_byte slash (m ∷ ns)) true n ∙ sym (and_no (fits (with_separator_rule o) ts true n))
+Reach-last o ts inner n [] h = sym (and-true (fits (with_separator_rule o) ts true n))
+Reach-last o ts inner n (m ∷ ns) h = stop o ts inner (join_with_byte slash (m ∷ ns)) true n ∙ sym (and-false (fits (with_separator_rule o) ts true n))
 
 inner-from_level : (ts : List Token) → is_level (Level ts) ≡ true → list_all is_inner ts ≡ true
 inner-from_level [] h = refl

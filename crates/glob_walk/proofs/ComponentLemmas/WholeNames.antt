@@ -1,5 +1,6 @@
 -- `**` under the separator rule: its piece is a number of whole names.
 use Rattle.std.proofs.Common.{◌≡◌, Bool, true, false, not, ◌&&◌, ◌||◌, ◌==◌, [], ◌∷◌, ◌++◌, refl, ap, ap₂, ◌∙◌}
+use mathlib.Core.Bool.{and-true, and-false}
 use Rattle.std.specs.Path.{has_no_slash}
 use Rattle.glob_text.specs.Characters.{slash, dot}
 use Rattle.glob_text.specs.Text.{Text}
@@ -9,7 +10,7 @@ use Rattle.glob_pattern.specs.Matching.Components.{admits, with_separator_rule, 
 use Rattle.glob_pattern.specs.declared.options.MatchOptions.{MatchOptions}
 use Rattle.glob_pattern.specs.declared.token.Token.TheVariants.{Recursive}
 use Rattle.glob_walk.proofs.ComponentLemmas.Fits.{After, closed_then, fits}
-use Rattle.glob_walk.proofs.ComponentLemmas.FirstSeparator.{and_no, and_yes, no_slash_parts}
+use Rattle.glob_walk.proofs.ComponentLemmas.FirstSeparator.{no_slash_parts}
 
 -- what does not begin with a dot is free of the dot rule
 no_dot : (d b : Bool) → not (d && b && false) ≡ true
@@ -56,7 +57,7 @@ closed-fall o next b [] h = refl
 closed-fall o next b (c ∷ n) h =
     let (other, rest) = no_slash_parts c n h in
     ap (λ x. takes (with_separator_rule o) b c Recursive && ((x && next x n) || closed_then (with_separator_rule o) Recursive next x n)) other
-    ∙ ap (λ x. takes (with_separator_rule o) b c Recursive && x) (closed-fall o next false n rest) ∙ and_no (takes (with_separator_rule o) b c Recursive)
+    ∙ ap (λ x. takes (with_separator_rule o) b c Recursive && x) (closed-fall o next false n rest) ∙ and-false (takes (with_separator_rule o) b c Recursive)
 
 -- a last `**` takes names
 pub last-name : (o : MatchOptions) (b : Bool) (n : Text) → has_no_slash n ≡ true → fits (with_separator_rule o) (Recursive ∷ []) b n ≡ admits o b n
@@ -64,7 +65,7 @@ last-name o b [] h = refl
 last-name o b (c ∷ n) h =
     let (other, rest) = no_slash_parts c n h in
     ap (λ x. takes (with_separator_rule o) b c Recursive && fits (with_separator_rule o) (Recursive ∷ []) x n) other
-    ∙ ap (λ x. takes (with_separator_rule o) b c Recursive && x) (last-name o false n rest ∙ admits-closed o n) ∙ and_yes (takes (with_separator_rule o) b c Recursive)
+    ∙ ap (λ x. takes (with_separator_rule o) b c Recursive && x) (last-name o false n rest ∙ admits-closed o n) ∙ and-true (takes (with_separator_rule o) b c Recursive)
 
 pub last-cut : (o : MatchOptions) (b : Bool) (n r : Text) → has_no_slash n ≡ true → fits (with_separator_rule o) (Recursive ∷ []) b (n ++ slash ∷ r) ≡ (admits o b n && fits (with_separator_rule o) (Recursive ∷ []) true r)
 last-cut o b [] r h = ap₂ (λ x y. x && y) (admits-slash o b) refl

@@ -1,5 +1,6 @@
 -- Texts by their bytes and by their characters.
 use Rattle.std.proofs.Common.{◌≡◌, ℕ, suc, ◌<◌, ◌≤◌, ⊎_elim, Bool, true, false, not, ◌&&◌, ◌||◌, ◌==◌, List, [], ◌∷◌, ◌++◌, length, map, get_or, refl, sym, ap, ap₂, ◌∙◌, arith}
+use mathlib.Core.Bool.{or-false}
 use Rattle.std.specs.List.{list_any, join_with_byte}
 use Rattle.std.specs.Path.{has_no_slash}
 use Rattle.std.specs.Str.{chars, IsUtf8}
@@ -7,24 +8,18 @@ use lib.Utf8.{encode, encodes}
 use Rattle.std.proofs.lemmas.Str.{encode_ascii, encodes-chars, chars-append, inside_one, char_from_byte}
 use Rattle.std.proofs.lemmas.Bool.{both_ways, or_from, not-true, eqb-true, ne_eqb, cases_lt, false_from_ne_true}
 use Rattle.std.proofs.lemmas.List.{append-nil}
+use Rattle.std.proofs.lemmas.List.Folds.{list_any-append}
 use Rattle.std.proofs.lemmas.Slice.Eq.{bytes_eq-Decides}
 use Rattle.glob_text.specs.Characters.{slash, dot}
 use Rattle.glob_pattern.specs.Grammar.Characters.{star, question_mark, open_bracket, is_wildcard}
 use Rattle.glob_text.specs.Text.{Text}
 use Rattle.glob_text.specs.Pieces.{begins_with}
 use Rattle.glob_walk.specs.Components.{is_literal, is_recursive}
+use Rattle.glob_walk.proofs.ListingLemmas.ComponentKinds.{recursive_is}
 
 -- a test that no character from 128 on passes
 abbrev IsOfAscii : (ℕ → Bool) → Type 0
 IsOfAscii p = (c : ℕ) → 128 ≤ c → p c ≡ false
-
-list_any-parts : (p : ℕ → Bool) (xs ys : Text) → list_any p (xs ++ ys) ≡ (list_any p xs || list_any p ys)
-list_any-parts p [] ys = refl
-list_any-parts p (x ∷ xs) ys = ap (λ b. p x || b) (list_any-parts p xs ys) ∙ or_assoc (p x) (list_any p xs) (list_any p ys)
-  where
-    or_assoc : (a b c : Bool) → (a || (b || c)) ≡ ((a || b) || c)
-    or_assoc true b c = refl
-    or_assoc false b c = refl
 
 none_high : (p : ℕ → Bool) → IsOfAscii p → (xs : Text) → ((k : ℕ) → k < length xs → 128 ≤ get_or xs k 0) → list_any p xs ≡ false
 none_high p low [] high = refl
@@ -34,11 +29,7 @@ any-encode : (p : ℕ → Bool) → IsOfAscii p → (c : ℕ) → list_any p (en
 any-encode p low c = ⊎_elim ascii wide (cases_lt c 128)
   where
     ascii : c < 128 → list_any p (encode c) ≡ p c
-    ascii l = ap (list_any p) (encode_ascii c l) ∙ or_no (p c)
-      where
-        or_no : (b : Bool) → (b || false) ≡ b
-        or_no true = refl
-        or_no false = refl
+    ascii l = ap (list_any p) (encode_ascii c l) ∙ or-false (p c)
 
     wide : 128 ≤ c → list_any p (encode c) ≡ p c
     wide l = none_high p low (encode c) (λ k in'. ⊎_elim
@@ -48,7 +39,7 @@ any-encode p low c = ⊎_elim ascii wide (cases_lt c 128)
 -- the bytes pass the test of an ASCII character where the characters do
 pub any-encodes : (p : ℕ → Bool) → IsOfAscii p → (cs : Text) → list_any p (encodes cs) ≡ list_any p cs
 any-encodes p low [] = refl
-any-encodes p low (c ∷ cs) = list_any-parts p (encode c) (encodes cs) ∙ ap₂ (λ x y. x || y) (any-encode p low c) (any-encodes p low cs)
+any-encodes p low (c ∷ cs) = list_any-append p (encode c) (encodes cs) ∙ ap₂ (λ x y. x || y) (any-encode p low c) (any-encodes p low cs)
 
 pub any-chars : (p : ℕ → Bool) → IsOfAscii p → (t : Text) → IsUtf8 t → list_any p (chars t) ≡ list_any p t
 any-chars p low t utf8 = sym (any-encodes p low (chars t)) ∙ ap (list_any p) (encodes-chars t utf8)
@@ -66,6 +57,9 @@ slash-ascii c h = ne_eqb c slash (λ e. omega arith)
 
 pub no_slash-chars : (t : Text) → IsUtf8 t → has_no_slash (chars t) ≡ has_no_slash t
 no_slash-chars t utf8 = slash-any (chars t) ∙ ap not (any-chars (λ c. c == slash) slash-ascii t utf8) ∙ sym (slash-any t)
+
+pub no_slash-encode : (c : ℕ) → has_no_slash (encode c) ≡ not (c == slash)
+no_slash-encode c = slash-any (encode c) ∙ ap not (any-encode (λ x. x == slash) slash-ascii c)
 
 wildcard-ascii : IsOfAscii is_wildcard
 wildcard-ascii c h = or_from _ _ (or_from _ _ (ne_eqb c question_mark (λ e. omega arith)) (ne_eqb c star (λ e. omega arith))) (ne_eqb c open_bracket (λ e. omega arith))
@@ -89,9 +83,9 @@ pub recursive-chars : (t : Text) → IsUtf8 t → is_recursive (chars t) ≡ is_
 recursive-chars t utf8 = by_test (is_recursive t) refl
   where
     by_test : (b : Bool) → is_recursive t ≡ b → is_recursive (chars t) ≡ is_recursive t
-    by_test true e = ap is_recursive (ap chars ((bytes_eq-Decides t (star ∷ star ∷ [])).0 e) ∙ two_stars-chars) ∙ sym e
+    by_test true e = ap is_recursive (ap chars (recursive_is t e) ∙ two_stars-chars) ∙ sym e
     by_test false e = false_from_ne_true (is_recursive (chars t)) (λ h. both_ways (is_recursive t) e ((bytes_eq-Decides t (star ∷ star ∷ [])).1
-        (chars_same t (star ∷ star ∷ []) utf8 two_stars-utf8 ((bytes_eq-Decides (chars t) (star ∷ star ∷ [])).0 h ∙ sym two_stars-chars)))) ∙ sym e
+        (chars_same t (star ∷ star ∷ []) utf8 two_stars-utf8 (recursive_is (chars t) h ∙ sym two_stars-chars)))) ∙ sym e
 
 -- a first dot
 pub dot-encodes : (cs : Text) → begins_with dot (encodes cs) ≡ begins_with dot cs
@@ -115,7 +109,7 @@ pub dot-chars : (n : Text) → IsUtf8 n → begins_with dot (chars n) ≡ begins
 dot-chars n utf8 = sym (dot-encodes (chars n)) ∙ ap (begins_with dot) (encodes-chars n utf8)
 
 -- texts of parts joined by separators
-chars-slash : (t : Text) → chars (slash ∷ t) ≡ slash ∷ chars t
+pub chars-slash : (t : Text) → chars (slash ∷ t) ≡ slash ∷ chars t
 unfolding chars
 chars-slash [] = refl
 chars-slash (x ∷ xs) = refl
@@ -130,6 +124,3 @@ chars-joined [] all = refl
 chars-joined (t ∷ []) all = refl
 chars-joined (t ∷ u ∷ us) (utf8, all) =
     chars-append t (slash ∷ join_with_byte slash (u ∷ us)) utf8 ∙ ap (λ cs. chars t ++ cs) (chars-slash (join_with_byte slash (u ∷ us)) ∙ ap (λ cs. slash ∷ cs) (chars-joined (u ∷ us) all))
-
-pub chars-rooted : (t : Text) → chars (slash ∷ t) ≡ slash ∷ chars t
-chars-rooted t = chars-slash t

@@ -18,7 +18,8 @@ use Rattle.glob_tree.proofs.ContentLemmas.Membership.{Contains-head, Contains-ta
 use Rattle.glob_tree.proofs.ContentLemmas.Contents.{IsContent}
 use Rattle.glob_tree.proofs.ContentLemmas.Sorting.{IsRising, IsRising-sorted_entries, children_apart}
 use Rattle.glob_walk.proofs.GoalLemmas.Finds.{at_entry, at_name, past_entry, run_entry, Find, Hit, Miss, deepen, below, list_kind, list_names, found_names, descent_names, enter_names, meet_names}
-use Rattle.glob_walk.proofs.GoalLemmas.ListingFinds.{kind-Recursive, names-literal, names-wild, names-wild_none, names-run, names-recursive_none, names-levels}
+use Rattle.glob_walk.proofs.ListingLemmas.ComponentKinds.{kind-Recursive}
+use Rattle.glob_walk.proofs.GoalLemmas.ListingFinds.{names-literal, names-wild, names-wild_none, names-run, names-recursive_none, names-levels}
 use Rattle.glob_walk.proofs.GoalLemmas.FoundParts.{Contains-flat_map, hit-below, hit-cond, hit-one, hit-listed}
 
 -- each element against those after it

@@ -20,7 +20,8 @@ use Rattle.glob_walk.proofs.GoalLemmas.FoundParts.{hit-below, hit-cond, hit-one,
 use Rattle.glob_walk.proofs.GoalLemmas.TakenNames.{takes, takes-one, MetBy, run-met, run-enter, run-from_first_recursive}
 use Rattle.glob_pattern.specs.Matching.Components.{is_open}
 use Rattle.glob_walk.proofs.GoalLemmas.Finds.{at_entry, at_name, past_entry, run_entry, Hit, below, found_names, descent_names, enter_names, meet_names}
-use Rattle.glob_walk.proofs.GoalLemmas.ListingFinds.{kind-Literal, kind-Recursive, kind-Wild, literal_not_recursive, names-literal, names-wild, names-wild_none, names-run, names-recursive_none, names-levels}
+use Rattle.glob_walk.proofs.ListingLemmas.ComponentKinds.{kind-Literal, kind-Recursive, kind-Wild, literal_not_recursive}
+use Rattle.glob_walk.proofs.GoalLemmas.ListingFinds.{names-literal, names-wild, names-wild_none, names-run, names-recursive_none, names-levels}
 
 -- the kind that the components want
 abbrev pub allows : (directories : Bool) → List Text → Kind → Bool
@@ -38,9 +39,6 @@ pub record IsMet (c : Content) (o : MatchOptions) (directories : Bool) (t : Text
   pub held : kind_at c (k ++ names) ≡ Some kind
   pub met : MetBy o ts name names
   pub allowed : allows directories (t ∷ ts) kind ≡ true
-
-pub entered-parts : (o : MatchOptions) (name : Text) (d : Bool) → is_entered o name d ≡ true → (d ≡ true) × (is_open o name ≡ true)
-entered-parts o name d h = and_parts d (is_open o name) h
 
 pub ends-cons : (t : Text) (ts : List Text) → is_recursive t ≡ false → ends_recursive (t ∷ ts) ≡ ends_recursive ts
 ends-cons t [] e = e
@@ -83,7 +81,7 @@ module _ (c : Content) (w : IsContent c) (o : MatchOptions) (directories : Bool)
     taken-met_nothing t r k name d at names h =
         let (test, in') = hit-cond (is_entered o name d) (Hit [] ∷ []) (Hit names) h in
         let e : names ≡ [] = hit-one names [] in' in
-        let both = entered-parts o name d test in
+        let both = and_parts d (is_open o name) test in
         record {
           kind = at.kind;
           held = ap (kind_at c) (ap (λ ns. k ++ ns) e ∙ append-nil k) ∙ at.held;
@@ -138,7 +136,7 @@ module _ (c : Content) (w : IsContent c) (o : MatchOptions) (directories : Bool)
         let (e, child', in') = hit-listed c k (λ e. below e.0 (run_entry c o directories ts n k e)) names h in
         let (ns, same, gives) = hit-below e.0 (run_entry c o directories ts n k e) names in' in
         subst (IsTakenAt c o directories (t ∷ ts) k) (sym same) (by_place e ns child'
-        (λ entered deep. from_below e ns (entered-parts o e.0 e.1 entered).1 (taken-descent t ts r next n (k ++ e.0 ∷ []) ns deep))
+        (λ entered deep. from_below e ns (and_parts e.1 (is_open o e.0) entered).1 (taken-descent t ts r next n (k ++ e.0 ∷ []) ns deep))
         (Contains-append_cases (meet_names c o directories ts (k ++ e.0 ∷ []) e.0 e.1) (past_entry c o directories ts n k e) (Hit ns) gives))
       where
         from_met : (e : DirEntry) (ns : Key) → IsMet c o directories t ts (k ++ e.0 ∷ []) e.0 ns → IsTakenAt c o directories (t ∷ ts) k (e.0 ∷ ns)

@@ -5,13 +5,12 @@ use Rattle.std.specs.List.{list_all}
 use Rattle.std.specs.Path.{has_no_slash, cur_dir, parent_dir}
 use Rattle.std.proofs.lemmas.Bool.{false≢true, true≢false, both_ways, and_parts, and_from, or_parts, not-true}
 use Rattle.std.proofs.lemmas.List.{map-append}
-use Rattle.std.proofs.lemmas.Slice.Eq.{bytes_eq-Decides}
 use Rattle.glob_text.specs.Text.{Text}
 use Rattle.glob_text.specs.Characters.{dot}
 use Rattle.glob_text.specs.Pieces.{is_empty, begins_with}
 use Rattle.glob_tree.specs.Paths.{stays, child}
 use Rattle.glob_tree.specs.Content.{Content, Key, DirEntry, kind_at, is_dir, is_dir_at, children, sorted_entries, resolve, look_result, look_of, list_result, kind_found, step}
-use Rattle.glob_walk.specs.Marks.{Item, Mark, Work, Give, Found, items}
+use Rattle.glob_walk.specs.Marks.{Mark, Work, Give, Found, items}
 use Rattle.glob_walk.specs.Components.{Literal, Recursive, Wild, component_kind, ComponentKind, begins_recursive, is_recursive, is_literal, is_current_or_parent, matches_name}
 use Rattle.glob_walk.specs.Listing.{Next, by_name, match_at, special_names, after_listing, list_directory, is_entered, descent, levels, enter, meet}
 use Rattle.glob_tree.specs.Looks.{is_there, is_directory}
@@ -20,28 +19,20 @@ use Rattle.glob_pattern.specs.declared.options.MatchOptions.{MatchOptions}
 use Rattle.glob_tree.specs.declared.kind.Kind.{Kind}
 use Rattle.glob_tree.specs.declared.kind.Kind.TheVariants.{Dir, Shut, Other}
 use Rattle.glob_tree.proofs.ContentLemmas.Membership.{Contains-head, Contains-tail}
-use Rattle.glob_tree.specs.Content.{look_of}
-use Rattle.glob_pattern.specs.Grammar.Characters.{star}
 use Rattle.glob_tree.proofs.ContentLemmas.Contents.{IsContent, IsChild-list_result}
 use Rattle.glob_tree.proofs.ContentLemmas.Directories.{LeadsTo, ListsAs, Read, Unreadable, ListsAs-from_leads, resolve_listed, is_dir_at-kind}
 use Rattle.glob_tree.proofs.ContentLemmas.Resolving.{resolve_child}
 use Rattle.glob_tree.proofs.ContentLemmas.Sorting.{Contains-sorted_entries}
 use Rattle.glob_walk.proofs.ListingLemmas.Marks.{items-append, items-replicate}
+use Rattle.glob_walk.proofs.ListingLemmas.ComponentKinds.{recursive_is, kind-Literal, kind-Recursive, kind-Wild, literal_not_recursive}
 use Rattle.glob_walk.proofs.ListingLemmas.Descending.{enter-literal, enter-wild, enter_none, enter-run, enter-recursive_none, enter-levels, is_entered-directory}
 use Rattle.glob_walk.proofs.GoalLemmas.KeysBelow.{held_above}
 use Rattle.glob_walk.proofs.GoalLemmas.Finds.{at_entry, at_name, Find, Hit, Miss, deepen, item_under, below, list_kind, list_names, descent_names, enter_names, meet_names}
 
--- the paths that marks give
-abbrev pub given : List Mark → List Item
-given ms = items ms
-
-given-append : (ms ns : List Mark) → given (ms ++ ns) ≡ given ms ++ given ns
-given-append ms ns = items-append ms ns
-
-given-works : (n : ℕ) (path : Text) (before ms : List Mark) → given (replicate n (Work path) ++ before ++ ms) ≡ given before ++ given ms
+given-works : (n : ℕ) (path : Text) (before ms : List Mark) → items (replicate n (Work path) ++ before ++ ms) ≡ items before ++ items ms
 given-works n path before ms =
-    given-append (replicate n (Work path) ++ before) ms
-    ∙ ap (λ ps. ps ++ given ms) (given-append (replicate n (Work path)) before ∙ ap (λ is. is ++ given before) (items-replicate n path))
+    items-append (replicate n (Work path) ++ before) ms
+    ∙ ap (λ ps. ps ++ items ms) (items-append (replicate n (Work path)) before ∙ ap (λ is. is ++ items before) (items-replicate n path))
 
 -- the path leads to the key, which is a directory's where d holds
 pub record Leads (c : Content) (path : Text) (k : Key) (d : Bool) : Type 0 where
@@ -57,20 +48,20 @@ under-below path n (k ∷ ks) = ap₂ (λ x xs. x ∷ xs) (one k) (under-below p
     one (Miss ns kind) = refl
 
 -- entry by entry
-given-entries : (path : Text) (each : Next) (names : DirEntry → List Find) (es : List DirEntry) → ((e : DirEntry) → Contains es e → given (each e.0 e.1) ≡ map (item_under path) (names e))
-    → given (flat_map (λ e. each e.0 e.1) es) ≡ map (item_under path) (flat_map names es)
+given-entries : (path : Text) (each : Next) (names : DirEntry → List Find) (es : List DirEntry) → ((e : DirEntry) → Contains es e → items (each e.0 e.1) ≡ map (item_under path) (names e))
+    → items (flat_map (λ e. each e.0 e.1) es) ≡ map (item_under path) (flat_map names es)
 given-entries path each names [] same = refl
 given-entries path each names (e ∷ es) same =
-    given-append (each e.0 e.1) (flat_map (λ x. each x.0 x.1) es)
+    items-append (each e.0 e.1) (flat_map (λ x. each x.0 x.1) es)
     ∙ ap₂ (λ x y. x ++ y) (same e (Contains-head e es)) (given-entries path each names es (λ x in'. same x (Contains-tail e es x in')))
     ∙ sym (map-append (item_under path) (names e) (flat_map names es))
 
 given-listed : (c : Content) (path : Text) (k : Key) → LeadsTo c path k → (each : Next) (names : DirEntry → List Find)
-    → ((e : DirEntry) → Contains (children c k) e → given (each e.0 e.1) ≡ map (item_under path) (names e))
-    → given (list_directory c path [] each) ≡ map (item_under path) (list_names c k names)
+    → ((e : DirEntry) → Contains (children c k) e → items (each e.0 e.1) ≡ map (item_under path) (names e))
+    → items (list_directory c path [] each) ≡ map (item_under path) (list_names c k names)
 given-listed c path k at each names same = by_answer (ListsAs-from_leads c path k at)
   where
-    by_answer : ListsAs c path k → given (after_listing path [] each (list_result c path)) ≡ map (item_under path) (list_kind c k (kind_at c k) names)
+    by_answer : ListsAs c path k → items (after_listing path [] each (list_result c path)) ≡ map (item_under path) (list_kind c k (kind_at c k) names)
     by_answer (Read held answer) = rw (answer, held)
         (given-works (length (children c k)) path [] (flat_map (λ e. each e.0 e.1) (sorted_entries (children c k)))
         ∙ given-entries path each names (sorted_entries (children c k)) (λ e in'. same e (Contains-sorted_entries (children c k) e in')))
@@ -84,17 +75,17 @@ Leads-entry c w path k at e in' =
 
 -- what comes of a path is what is found at its key
 abbrev Same : Content → (Text → Bool → List Mark) → (Key → Bool → List Find) → Type 0
-Same c marks keys = (path : Text) (k : Key) (d : Bool) → Leads c path k d → given (marks path d) ≡ map (item_under path) (keys k d)
+Same c marks keys = (path : Text) (k : Key) (d : Bool) → Leads c path k d → items (marks path d) ≡ map (item_under path) (keys k d)
 
 abbrev SameMet : Content → (Text → Text → Bool → List Mark) → (Key → Text → Bool → List Find) → Type 0
-SameMet c marks keys = (path : Text) (k : Key) (name : Text) (d : Bool) → Leads c path k d → given (marks path name d) ≡ map (item_under path) (keys k name d)
+SameMet c marks keys = (path : Text) (k : Key) (name : Text) (d : Bool) → Leads c path k d → items (marks path name d) ≡ map (item_under path) (keys k name d)
 
-given-cond : (b : Bool) (path : Text) (ms : List Mark) (keys : List Find) → (b ≡ true → given ms ≡ map (item_under path) keys) → given (cond b ms []) ≡ map (item_under path) (cond b keys [])
+given-cond : (b : Bool) (path : Text) (ms : List Mark) (keys : List Find) → (b ≡ true → items ms ≡ map (item_under path) keys) → items (cond b ms []) ≡ map (item_under path) (cond b keys [])
 given-cond true path ms keys same = same refl
 given-cond false path ms keys same = refl
 
 given-descent : (c : Content) → IsContent c → (o : MatchOptions) (each : Text → Text → Bool → List Mark) (names : Key → Text → Bool → List Find) → SameMet c each names → (n : ℕ) (path : Text) (k : Key) → LeadsTo c path k
-    → given (descent c o each n path) ≡ map (item_under path) (descent_names c o names n k)
+    → items (descent c o each n path) ≡ map (item_under path) (descent_names c o names n k)
 unfolding descent descent_names
 given-descent c w o each names same zero path k at = refl
 given-descent c w o each names same (suc n) path k at = given-listed c path k at
@@ -102,7 +93,7 @@ given-descent c w o each names same (suc n) path k at = given-listed c path k at
     (λ e. below e.0 (names (k ++ e.0 ∷ []) e.0 e.1 ++ (cond (is_entered o e.0 e.1) (descent_names c o names n (k ++ e.0 ∷ [])) [])))
     (λ e in'.
     let leads = Leads-entry c w path k at e in' in
-    given-append (each (child path e.0) e.0 e.1) (cond (is_entered o e.0 e.1) (descent c o each n (child path e.0)) [])
+    items-append (each (child path e.0) e.0 e.1) (cond (is_entered o e.0 e.1) (descent c o each n (child path e.0)) [])
     ∙ ap₂ (λ x y. x ++ y) (same (child path e.0) (k ++ e.0 ∷ []) e.0 e.1 leads)
     (given-cond (is_entered o e.0 e.1) (child path e.0) (descent c o each n (child path e.0)) (descent_names c o names n (k ++ e.0 ∷ []))
     (λ entered. given-descent c w o each names same n (child path e.0) (k ++ e.0 ∷ []) (record { resolved = leads.resolved; directory = leads.is ∙ is_entered-directory o e.0 e.1 entered })))
@@ -189,43 +180,11 @@ look_of-directory Dir = refl
 look_of-directory (Shut kind) = refl
 look_of-directory Other = refl
 
--- a component's kind
-pub kind-Literal : (t : Text) → component_kind t ≡ Literal → is_literal t ≡ true
-kind-Literal t e = by_tests (is_literal t) refl (is_recursive t) e
-  where
-    by_tests : (b : Bool) → is_literal t ≡ b → (r : Bool) → (cond b Literal (cond r Recursive Wild)) ≡ Literal → is_literal t ≡ true
-    by_tests true e r h = e
-    by_tests false e true h = absurd (cc)
-    by_tests false e false h = absurd (cc)
-
-pub kind-Recursive : (t : Text) → component_kind t ≡ Recursive → is_recursive t ≡ true
-kind-Recursive t e = by_tests (is_literal t) (is_recursive t) refl e
-  where
-    by_tests : (b r : Bool) → is_recursive t ≡ r → (cond b Literal (cond r Recursive Wild)) ≡ Recursive → is_recursive t ≡ true
-    by_tests true r e h = absurd (cc)
-    by_tests false true e h = e
-    by_tests false false e h = absurd (cc)
-
-pub kind-Wild : (t : Text) → component_kind t ≡ Wild → (is_literal t ≡ false) × (is_recursive t ≡ false)
-kind-Wild t e = by_tests (is_literal t) refl (is_recursive t) refl e
-  where
-    by_tests : (b : Bool) → is_literal t ≡ b → (r : Bool) → is_recursive t ≡ r → (cond b Literal (cond r Recursive Wild)) ≡ Wild → (is_literal t ≡ false) × (is_recursive t ≡ false)
-    by_tests true e r f h = absurd (cc)
-    by_tests false e true f h = absurd (cc)
-    by_tests false e false f h = (e, f)
-
-pub literal_not_recursive : (t : Text) → is_literal t ≡ true → is_recursive t ≡ false
-literal_not_recursive t e = by_test (is_recursive t) refl
-  where
-    by_test : (b : Bool) → is_recursive t ≡ b → is_recursive t ≡ false
-    by_test true r = absurd (both_ways (is_literal t) (ap is_literal ((bytes_eq-Decides t (star ∷ star ∷ [])).0 r)) e)
-    by_test false r = r
-
 -- right after `**` a `**` is as plain as elsewhere
 plain-after : (t : Text) (ts : List Text) → is_recursive t ≡ true → are_plain true (t ∷ ts) ≡ true → are_plain false (t ∷ ts) ≡ true
 plain-after t ts r h =
     let both = and_parts (is_plain_component true t) (are_plain (is_recursive t) ts) h in
-    and_from (is_plain_component false t) (are_plain (is_recursive t) ts) (ap (is_plain_component false) ((bytes_eq-Decides t (star ∷ star ∷ [])).0 r)) both.1
+    and_from (is_plain_component false t) (are_plain (is_recursive t) ts) (ap (is_plain_component false) (recursive_is t r)) both.1
 
 -- a wildcard component finds no special names, but right after `**`
 no_specials : (c : Content) (o : MatchOptions) (next : Next) (t path : Text) → is_plain_component false t ≡ true → is_literal t ≡ false → special_names c o next t path ≡ []
@@ -242,28 +201,28 @@ module _ (c : Content) (w : IsContent c) (o : MatchOptions) (directories : Bool)
   unfolding enter enter_names
   same-nothing path k d at = by_test (not directories || d)
     where
-      by_test : (b : Bool) → given (cond b (Give (Found path) ∷ []) []) ≡ map (item_under path) (cond b (Hit [] ∷ []) [])
+      by_test : (b : Bool) → items (cond b (Give (Found path) ∷ []) []) ≡ map (item_under path) (cond b (Hit [] ∷ []) [])
       by_test true = refl
       by_test false = refl
 
   same-literal : (t : Text) (ts : List Text) → component_kind t ≡ Literal → IsOwnName t → Same c (enter c o directories ts) (enter_names c o directories ts) → Same c (enter c o directories (t ∷ ts)) (enter_names c o directories (t ∷ ts))
   same-literal t ts kind is next path k d at =
-      ap given (enter-literal c o directories t ts path d kind)
+      ap items (enter-literal c o directories t ts path d kind)
       ∙ by_kind (kind_at c (k ++ t ∷ [])) refl
       ∙ ap (map (item_under path)) (sym (names-literal c o directories t ts k d kind))
     where
       by_kind : (found : Option Kind) → kind_at c (k ++ t ∷ []) ≡ found
-          → given (by_name c (enter c o directories ts) t path d) ≡ map (item_under path) (below t (at_name c o directories t ts k))
+          → items (by_name c (enter c o directories ts) t path d) ≡ map (item_under path) (below t (at_name c o directories t ts k))
       by_kind None e = rw (is.special, look_result-own c path k t w is at.resolved, e) refl
       by_kind (Some kind) e = rw (is.special, look_result-own c path k t w is at.resolved, e, look_of-there kind, look_of-directory kind)
           (next (child path t) (k ++ t ∷ []) (is_dir kind) (record { resolved = resolve-own c path k t kind w is at.resolved e; is = is_dir_at-kind c (k ++ t ∷ []) kind e })
           ∙ sym (under-below path t (enter_names c o directories ts (k ++ t ∷ []) (is_dir kind))))
 
   same-wild : (t : Text) (ts : List Text) → component_kind t ≡ Wild → is_plain_component false t ≡ true → Same c (enter c o directories ts) (enter_names c o directories ts) → Same c (enter c o directories (t ∷ ts)) (enter_names c o directories (t ∷ ts))
-  same-wild t ts kind plain next path k false at = ap given (enter_none c o directories t ts path kind) ∙ ap (map (item_under path)) (sym (names-wild_none c o directories t ts k kind))
+  same-wild t ts kind plain next path k false at = ap items (enter_none c o directories t ts path kind) ∙ ap (map (item_under path)) (sym (names-wild_none c o directories t ts k kind))
   same-wild t ts kind plain next path k true at =
-      ap given (enter-wild c o directories t ts path kind)
-      ∙ ap (λ before. given (list_directory c path before (λ name d. match_at o (enter c o directories ts) t (child path name) name d))) (no_specials c o (enter c o directories ts) t path plain (kind-Wild t kind).0)
+      ap items (enter-wild c o directories t ts path kind)
+      ∙ ap (λ before. items (list_directory c path before (λ name d. match_at o (enter c o directories ts) t (child path name) name d))) (no_specials c o (enter c o directories ts) t path plain (kind-Wild t kind).0)
       ∙ given-listed c path k (record { resolved = at.resolved; directory = at.is })
       (λ name d. match_at o (enter c o directories ts) t (child path name) name d)
       (λ e. below e.0 (at_entry c o directories t ts k e))
@@ -274,9 +233,9 @@ module _ (c : Content) (w : IsContent c) (o : MatchOptions) (directories : Bool)
       ∙ ap (map (item_under path)) (sym (names-wild c o directories t ts k kind))
 
   same-recursive : (t : Text) (ts : List Text) → component_kind t ≡ Recursive → begins_recursive ts ≡ false → SameMet c (meet c o directories ts) (meet_names c o directories ts) → Same c (enter c o directories (t ∷ ts)) (enter_names c o directories (t ∷ ts))
-  same-recursive t ts kind last next path k false at = ap given (enter-recursive_none c o directories t ts path kind last) ∙ ap (map (item_under path)) (sym (names-recursive_none c o directories t ts k kind last))
+  same-recursive t ts kind last next path k false at = ap items (enter-recursive_none c o directories t ts path kind last) ∙ ap (map (item_under path)) (sym (names-recursive_none c o directories t ts k kind last))
   same-recursive t ts kind last next path k true at =
-      ap given (enter-levels c o directories t ts path kind last)
+      ap items (enter-levels c o directories t ts path kind last)
       ∙ given-descent c w o (meet c o directories ts) (meet_names c o directories ts) next (levels c) path k (record { resolved = at.resolved; directory = at.is })
       ∙ ap (map (item_under path)) (sym (names-levels c o directories t ts k kind last))
 
@@ -284,7 +243,7 @@ module _ (c : Content) (w : IsContent c) (o : MatchOptions) (directories : Bool)
   unfolding meet meet_names
   same-met_nothing path k name d at = by_test (is_entered o name d)
     where
-      by_test : (b : Bool) → given (cond b (Give (Found path) ∷ []) []) ≡ map (item_under path) (cond b (Hit [] ∷ []) [])
+      by_test : (b : Bool) → items (cond b (Give (Found path) ∷ []) []) ≡ map (item_under path) (cond b (Hit [] ∷ []) [])
       by_test true = refl
       by_test false = refl
 
@@ -313,7 +272,7 @@ module _ (c : Content) (w : IsContent c) (o : MatchOptions) (directories : Bool)
     where
       by_run : component_kind t ≡ Recursive → are_plain true ts ≡ true → (b : Bool) → begins_recursive ts ≡ b → Same c (enter c o directories (t ∷ ts)) (enter_names c o directories (t ∷ ts))
       by_run kind plain true more = λ path k d at.
-          ap given (enter-run c o directories t ts path d kind more) ∙ same_after_run ts more plain next path k d at ∙ ap (map (item_under path)) (sym (names-run c o directories t ts k d kind more))
+          ap items (enter-run c o directories t ts path d kind more) ∙ same_after_run ts more plain next path k d at ∙ ap (map (item_under path)) (sym (names-run c o directories t ts k d kind more))
       by_run kind plain false last = same-recursive t ts kind last (next.met last plain)
 
       by_kind : is_plain_component false t ≡ true → are_plain (is_recursive t) ts ≡ true → (kind : ComponentKind) → component_kind t ≡ kind → Same c (enter c o directories (t ∷ ts)) (enter_names c o directories (t ∷ ts))
@@ -330,5 +289,5 @@ module _ (c : Content) (w : IsContent c) (o : MatchOptions) (directories : Bool)
 
   -- The paths that come of a plain pattern's components at a path are those of the names found at its key.
   pub same_enter : (ts : List Text) → are_plain false ts ≡ true → list_all has_no_slash ts ≡ true → (path : Text) (k : Key) (d : Bool) → Leads c path k d
-      → given (enter c o directories ts path d) ≡ map (item_under path) (enter_names c o directories ts k d)
+      → items (enter c o directories ts path d) ≡ map (item_under path) (enter_names c o directories ts k d)
   same_enter ts plain slashless path k d at = (both_same ts slashless).entered plain path k d at

@@ -1,18 +1,18 @@
 -- The components of a pattern are texts without separators, which joined give the pattern.
-use Rattle.std.proofs.Common.{◌≡◌, ◌≢◌, ℕ, suc, ◌-◌, ◌<◌, ◌≤◌, ⊎_elim, Bool, true, false, cond, not, ◌&&◌, ◌==◌, List, [], ◌∷◌, ◌++◌, length, take, slice_index, get_or, refl, sym, ap, subst, ◌∙◌, arith, lit<}
+use Rattle.std.proofs.Common.{◌≡◌, ℕ, suc, ◌-◌, ◌<◌, ◌≤◌, ⊎_elim, Bool, true, false, cond, not, ◌&&◌, ◌==◌, List, [], ◌∷◌, ◌++◌, length, take, slice_index, refl, sym, ap, subst, ◌∙◌, arith, lit<}
 use Rattle.std.specs.List.{list_all, join_with_byte, onto_first}
 use Rattle.std.specs.Path.{has_no_slash}
 use Rattle.std.specs.Str.{IsUtf8}
 use lib.Utf8.{encode, encodes, scalars}
-use Rattle.std.proofs.lemmas.Str.{encode_ascii, inside_one, IsUtf8-nil, IsUtf8-append, IsUtf8-take, IsUtf8-drop, IsCharBoundary-before_ascii, IsCharBoundary-after_ascii}
-use Rattle.std.proofs.lemmas.Bool.{both_ways, and_parts, and_from, not-true, not_from_false, eqb-true, eq-eqb, ne_eqb, cases_lt, cond-false}
+use Rattle.std.proofs.lemmas.Str.{encode_ascii, IsUtf8-nil, IsUtf8-append, IsUtf8-take, IsUtf8-drop, IsCharBoundary-before_ascii, IsCharBoundary-after_ascii}
+use Rattle.std.proofs.lemmas.Bool.{and_parts, and_from, not-true, not_from_false, eqb-true, cases_lt, cond-false}
 use Rattle.std.proofs.lemmas.List.{append-nil}
 use Rattle.std.proofs.lemmas.List.Splits.{join_with_byte-slice_split, length-slice_split}
 use Rattle.glob_text.specs.Characters.{slash}
 use Rattle.glob_text.specs.Text.{Text}
 use Rattle.glob_text.specs.Pieces.{ends_with, pieces}
 use Rattle.glob_walk.specs.Components.{without_root, without_end_separator, components}
-use Rattle.glob_walk.proofs.GoalLemmas.Characters.{AllUtf8}
+use Rattle.glob_walk.proofs.GoalLemmas.Characters.{AllUtf8, no_slash-encode}
 
 -- the pieces of a text
 onto_first-flat : (x : ℕ) (ps : List Text) → (x == slash) ≡ false → list_all has_no_slash ps ≡ true → list_all has_no_slash (onto_first x ps) ≡ true
@@ -54,13 +54,6 @@ unfolding first_longer
 first_longer-utf8 xs [] a b = (a, tt)
 first_longer-utf8 xs (p ∷ ps) a b = (IsUtf8-append xs p a b.0, b.1)
 
-encode-flat : (c : ℕ) → c ≢ slash → has_no_slash (encode c) ≡ true
-encode-flat c other = flat (encode c) (λ k l e. other (inside_one c [] (encode c) k (sym (append-nil (encode c))) l (omega (arith, e)) ∙ e))
-  where
-    flat : (xs : Text) → ((k : ℕ) → k < length xs → get_or xs k 0 ≢ slash) → has_no_slash xs ≡ true
-    flat [] h = refl
-    flat (x ∷ xs) h = and_from (not (x == slash)) (has_no_slash xs) (not_from_false (x == slash) (ne_eqb x slash (h 0 (omega arith)))) (flat xs (λ k l. h (suc k) (omega (arith, l))))
-
 pieces-encodes : (cs : Text) → scalars cs ≡ true → AllUtf8 (pieces (encodes cs))
 pieces-encodes [] h = (IsUtf8-nil, tt)
 pieces-encodes (c ∷ cs) h =
@@ -74,7 +67,7 @@ pieces-encodes (c ∷ cs) h =
     by_test true e one all =
         subst (λ bs. AllUtf8 (pieces (bs ++ encodes cs))) (sym (ap encode (eqb-true c slash e) ∙ encode_ascii slash (lit< tt))) (IsUtf8-nil, all)
     by_test false e one all =
-        subst AllUtf8 (sym (pieces-longer (encode c) (encodes cs) (encode-flat c (λ same. both_ways (c == slash) e (eq-eqb c slash same)))))
+        subst AllUtf8 (sym (pieces-longer (encode c) (encodes cs) (no_slash-encode c ∙ not_from_false (c == slash) e)))
         (first_longer-utf8 (encode c) (pieces (encodes cs)) one all)
 
 pub pieces-utf8 : (text : Text) → IsUtf8 text → AllUtf8 (pieces text)

@@ -21,7 +21,8 @@ use Rattle.glob_walk.proofs.ListingLemmas.Descending.{depth}
 use Rattle.glob_tree.proofs.ContentLemmas.Directories.{is_dir_at-kind}
 use Rattle.glob_tree.proofs.ContentLemmas.Sorting.{sorted_entries-contains}
 use Rattle.glob_walk.proofs.GoalLemmas.Finds.{at_entry, run_entry, Find, Hit, Miss, deepen, below, list_kind, list_names, found_names, descent_names, enter_names, meet_names}
-use Rattle.glob_walk.proofs.GoalLemmas.ListingFinds.{kind-Literal, kind-Recursive, kind-Wild, literal_not_recursive, names-literal, names-wild, names-run, names-levels}
+use Rattle.glob_walk.proofs.ListingLemmas.ComponentKinds.{kind-Literal, kind-Recursive, kind-Wild, literal_not_recursive}
+use Rattle.glob_walk.proofs.GoalLemmas.ListingFinds.{names-literal, names-wild, names-run, names-levels}
 use Rattle.glob_walk.proofs.GoalLemmas.FoundIsTaken.{IsTakenAt, IsMet, ends-cons}
 use Rattle.glob_walk.proofs.GoalLemmas.FoundParts.{flat_map-contains, map-contains}
 use Rattle.glob_pattern.specs.Matching.Components.{is_open}

@@ -26,7 +26,7 @@ use Rattle.glob_pattern.specs.Matching.Components.{is_open, run_to_end, run_befo
 use Rattle.glob_walk.proofs.ComponentLemmas.WholeNames.{is_open-begins}
 use Rattle.glob_walk.proofs.ComponentLemmas.JoinedComponents.{joined_takes, rooted_takes}
 use Rattle.glob_walk.proofs.GoalLemmas.PatternParts.{components-utf8, components-flat, components-joined, without_end-rooted}
-use Rattle.glob_walk.proofs.GoalLemmas.Characters.{dot-chars, recursive-chars, no_slash-chars, AllUtf8, chars-joined, chars-rooted}
+use Rattle.glob_walk.proofs.GoalLemmas.Characters.{dot-chars, recursive-chars, no_slash-chars, AllUtf8, chars-joined, chars-slash}
 
 -- the components take names by their characters as by their bytes
 open-chars : (o : MatchOptions) (n : Text) → IsUtf8 n → is_open o (chars n) ≡ is_open o n
@@ -119,8 +119,8 @@ undivided_takes o case pattern utf8 plain n ns names flat =
         → is_match (goal_options o) (chars (without_end_separator pattern)) (chars (cond b (slash ∷ join_with_byte slash (n ∷ ns)) (join_with_byte slash (n ∷ ns)))) ≡ takes_names o (is_match o) (map chars (t ∷ ts)) (map chars (n ∷ ns))
     by_root t ts e all are true root =
         ap₂ (is_match (goal_options o))
-        (ap chars (whole pattern root e) ∙ chars-rooted (join_with_byte slash (t ∷ ts)) ∙ ap (λ cs. slash ∷ cs) (chars-joined (t ∷ ts) all))
-        (chars-rooted (join_with_byte slash (n ∷ ns)) ∙ ap (λ cs. slash ∷ cs) (chars-joined (n ∷ ns) names))
+        (ap chars (whole pattern root e) ∙ chars-slash (join_with_byte slash (t ∷ ts)) ∙ ap (λ cs. slash ∷ cs) (chars-joined (t ∷ ts) all))
+        (chars-slash (join_with_byte slash (n ∷ ns)) ∙ ap (λ cs. slash ∷ cs) (chars-joined (n ∷ ns) names))
         ∙ ap (λ p. is_match p (slash ∷ join_with_byte slash (map chars (t ∷ ts))) (slash ∷ join_with_byte slash (map chars (n ∷ ns)))) ruled
         ∙ rooted_takes o (chars t) (map chars ts) (chars n) (map chars ns) are (flat-chars (n ∷ ns) names flat)
       where

@@ -39,13 +39,10 @@ HasForm-append : (ts : List Token) (xs ys : Text) → HasForm Recursive (Recursi
 HasForm-append ts xs ys first second =
     ⊎_elim (λ e. inl e) (λ closed. inr (⊎_elim empty (λ ends. inr (xs ++ ends.0, ap (λ zs. xs ++ zs) ends.1 ∙ sym (append_assoc xs ends.0 (slash ∷ [])))) closed)) second
   where
-    no_token : (u : Token) (us : List Token) → u ∷ us ≡ [] → ⊥
-    no_token u us e = cc
-
     empty : ys ≡ [] → (xs ++ ys ≡ []) ⊎ EndsInSlash (xs ++ ys)
     empty e =
         let alone : xs ++ ys ≡ xs = ap (λ zs. xs ++ zs) e ∙ append-nil xs in
-        ⊎_elim (λ none. absurd (no_token Recursive ts none)) (⊎_elim (λ nil. inl (alone ∙ nil)) (λ ends. inr (ends.0, alone ∙ ends.1))) first
+        ⊎_elim (λ none. absurd (cc)) (⊎_elim (λ nil. inl (alone ∙ nil)) (λ ends. inr (ends.0, alone ∙ ends.1))) first
 
 -- two neighbouring `**` match what one matches
 two_deep-one : (o : MatchOptions) (text : Text) (ts : List Token) → AllowedAs o text (Recursive ∷ Recursive ∷ ts) (Recursive ∷ ts)

@@ -3,7 +3,7 @@ use Rattle.std.proofs.Common.{◌≡◌, ℕ, ◌+◌, ◌≤◌, Bool, true, fa
 use Rattle.std.proofs.lemmas.Bool.{cond-true, cond-false}
 use Rattle.std.specs.Prelude.{string_bytes}
 use Rattle.std.specs.IoError.{error_kind}
-use Rattle.std.proofs.lemmas.List.{length-append}
+use Rattle.std.proofs.lemmas.List.{append_assoc, length-append, map-append}
 use Rattle.glob_text.specs.Text.{Text}
 use Rattle.glob_walk.specs.Marks.{Mark, Work, Give, Found, Unread}
 use Rattle.glob_walk.specs.declared.meter.Meter.{Meter}
@@ -39,14 +39,11 @@ if_given b marks rest m e t = ap (λ ms. ms ++ rest) (e ∙ cond-true b (m ∷ [
 pub if_not_given : (b : Bool) (marks rest : List Mark) (m : Mark) → marks ≡ cond b (m ∷ []) [] → b ≡ false → marks ++ rest ≡ rest
 if_not_given b marks rest m e t = ap (λ ms. ms ++ rest) (e ∙ cond-false b (m ∷ []) [] t)
 
-works-append : (ps qs : List Text) (ms : List Mark) → works ps ++ (works qs ++ ms) ≡ works (ps ++ qs) ++ ms
-works-append [] qs ms = refl
-works-append (p ∷ ps) qs ms = ap (λ xs. Work p ∷ xs) (works-append ps qs ms)
-
 pub Charges-trans : (a b d : List Mark) (s t u : ℕ) → Charges a s b t → Charges b t d u → Charges a s d u
 Charges-trans a b d s t u h k = record {
   paths = h.paths ++ k.paths;
-  front = h.front ∙ ap (λ ms. works h.paths ++ ms) k.front ∙ works-append h.paths k.paths d;
+  front = h.front ∙ ap (λ ms. works h.paths ++ ms) k.front
+      ∙ sym (ap (λ ms. ms ++ d) (map-append Work h.paths k.paths) ∙ append_assoc (works h.paths) (works k.paths) d);
   units = omega (arith, h.units, k.units, length-append h.paths k.paths);
 }
 

@@ -1,19 +1,19 @@
 -- What is made of an entry that is met.
-use Rattle.std.proofs.Common.{◌≡◌, ℕ, ◌+◌, Bool, true, false, cond, not, ◌||◌, List, [], ◌∷◌, drop, length, get_or, Some, None, Result, Ok, Err, refl, ap, sym, subst, ◌∙◌, arith, ◌<◌}
-use Rattle.std.specs.Prelude.{IfOk, ⊤}
+use Rattle.std.proofs.Common.{◌≡◌, ℕ, ◌+◌, Bool, true, false, cond, not, ◌||◌, List, [], ◌∷◌, drop, length, get_or, Some, None, refl, ap, sym, subst, ◌∙◌, arith, ◌<◌}
+use Rattle.std.specs.Prelude.{⊤}
 use Rattle.std.proofs.lemmas.List.{drop_more}
-use Rattle.std.proofs.lemmas.Bool.{and_parts, cond-true}
+use Rattle.std.proofs.lemmas.Bool.{cond-true, or_right}
 use Rattle.glob_text.specs.Text.{Text}
 use Rattle.glob_tree.specs.Paths.{child}
 use Rattle.glob_walk.specs.Marks.{Give, Found}
 use Rattle.glob_tree.specs.Content.{Content}
 use Rattle.glob_walk.specs.Listing.{enter, meet, match_at, is_entered}
-use Rattle.glob_pattern.specs.Matching.Components.{is_open}
 use Rattle.glob_pattern.specs.declared.options.MatchOptions.{MatchOptions}
 use Rattle.glob_walk.specs.declared.plan.Plan.{Plan}
 use Rattle.glob_walk.specs.Private.Forms.{takes_name}
 use Rattle.glob_walk.specs.Private.Tasks.{enter_from}
 use Rattle.glob_walk.specs.Private.Frames.{first_of, first_part, met_marks}
+use Rattle.glob_walk.proofs.ListingLemmas.Descending.{is_entered-directory}
 
 module _ (c : Content) (o : MatchOptions) (dirs : Bool) where
   pub enter-end : (path : Text) (d : Bool) → enter c o dirs [] path d ≡ cond (not dirs || d) (Give (Found path) ∷ []) []
@@ -27,13 +27,6 @@ module _ (c : Content) (o : MatchOptions) (dirs : Bool) where
   pub meet-next : (t : Text) (ts : List Text) (path name : Text) (d : Bool) → meet c o dirs (t ∷ ts) path name d ≡ match_at o (enter c o dirs ts) t path name d
   unfolding meet
   meet-next t ts path name d = refl
-
-pub is_entered-directory : (o : MatchOptions) (name : Text) (d : Bool) → is_entered o name d ≡ true → d ≡ true
-is_entered-directory o name d h = (and_parts d (is_open o name) h).0
-
-or_true : (b : Bool) → (b || true) ≡ true
-or_true true = refl
-or_true false = refl
 
 matched : {A : Type 0} (c : Content) (plan : Plan A) (t : Text) (next : ℕ) (path name : Text) (d : Bool) (b : Bool)
     → cond b (enter_from c plan next (child path name) d) [] ≡ met_marks c plan path (name, d) (cond b (Some next) None)
@@ -75,13 +68,8 @@ first_at_end c plan component path name d r e f =
     by_test true h = sym (ap (λ ts. enter c plan.options plan.directories ts (child path name) d) f
         ∙ enter-end c plan.options plan.directories (child path name) d
         ∙ cond-true (not plan.directories || d) (Give (Found (child path name)) ∷ []) []
-        (ap (λ x. not plan.directories || x) (is_entered-directory plan.options name d h) ∙ or_true (not plan.directories)))
+        (or_right (not plan.directories) d (is_entered-directory plan.options name d h)))
     by_test false h = refl
-
--- what follows of an answer
-pub IfOk-each : {T E : Type 0} {P Q : T → Type 0} (r : Result T E) → ((x : T) → P x → Q x) → IfOk r P → IfOk r Q
-IfOk-each (Ok x) f h = f x h
-IfOk-each (Err e) f h = h
 
 -- an entry is met by the component, or under `**` by the one after it, if there is one
 module _ {A : Type 0} (c : Content) (plan : Plan A) (component : ℕ) (path name : Text) (d : Bool) (here : component < length plan.components.items) where

@@ -10,7 +10,7 @@ use Rattle.glob_walk.specs.Walks.{Gives, LimitAt, NoMemory, Charges, works}
 use Rattle.glob_walk.proofs.ListingLemmas.Marks.{items-append, cost-append, front-append}
 use Rattle.glob_walk.proofs.WalkLemmas.Charging.{Charges-asked}
 use Rattle.glob_walk.proofs.WalkLemmas.Works.{items-works, cost-works}
-use Rattle.glob_walk.proofs.WalkLemmas.Stepping.{append_none}
+use Rattle.std.proofs.lemmas.List.{append-nil}
 
 pub given_fresh : {A : Type 0} (limit : ℕ) (listing : List Mark) (c : Content) (walk : MachineState A) → IsFreshMachine limit walk → left_of c walk ≡ listing → HasGiven listing c [] walk
 given_fresh limit listing c walk fresh left = record { agrees = fresh.agrees c; going = fresh.over; done = []; whole = sym left; units = fresh.spent; same = refl }
@@ -25,7 +25,7 @@ gives_next {A} Fits n listing c given old s new step fits h = by_saying s step
       k.paths,
       h.whole ∙ ap (λ xs. h.done ++ xs) k.front ∙ sym (append_assoc h.done (works k.paths) after),
       omega (arith, h.units, k.units, cost-append h.done (works k.paths), cost-works k.paths),
-      sym (items-append h.done (works k.paths) ∙ ap (λ xs. items h.done ++ xs) (items-works k.paths) ∙ append_none (items h.done) ∙ sym h.same),
+      sym (items-append h.done (works k.paths) ∙ ap (λ xs. items h.done ++ xs) (items-works k.paths) ∙ append-nil (items h.done) ∙ sym h.same),
     )
 
     by_saying : (s : Saying) → StepGoes Fits n old s new → GivesNext listing c given s new
@@ -58,7 +58,7 @@ gives_next {A} Fits n listing c given old s new step fits h = by_saying s step
         let costs : cost listing ≡ cost done + suc (cost stop.rest) = ap cost whole ∙ cost-append done (Work path ∷ stop.rest) in
         let none : new.limit - cost done ≡ 0 = omega (arith, at, units) in
         let cut : front new.limit listing ≡ done =
-        ap (front new.limit) whole ∙ front-append new.limit done (Work path ∷ stop.rest) (omega (arith, at, units)) ∙ ap (λ n. done ++ front n (Work path ∷ stop.rest)) none ∙ append_none done in
+        ap (front new.limit) whole ∙ front-append new.limit done (Work path ∷ stop.rest) (omega (arith, at, units)) ∙ ap (λ n. done ++ front n (Work path ∷ stop.rest)) none ∙ append-nil done in
         (at, omega (arith, costs, at, units), same ∙ ap items (sym cut))
     by_saying (Says NoMemory) k =
         let t = k.takes c fits h.going h.agrees in
@@ -69,11 +69,11 @@ gives_next {A} Fits n listing c given old s new step fits h = by_saying s step
           lost = [];
           whole = whole;
           units = units;
-          given = sym same ∙ sym (append_none given);
+          given = sym same ∙ sym (append-nil given);
           few = omega arith;
         }
     by_saying Ends k =
         let t = k.takes c fits h.going h.agrees in
         let (ps, whole, units, same) = charged [] new.spent t.takes.0 in
-        let all : listing ≡ h.done ++ works ps = whole ∙ append_none (h.done ++ works ps) in
+        let all : listing ≡ h.done ++ works ps = whole ∙ append-nil (h.done ++ works ps) in
         (same ∙ ap items (sym all), units ∙ ap cost (sym all))

@@ -26,7 +26,7 @@ use Rattle.glob_walk.specs.Private.Tasks.{is_dotted, IgnoresKinds, IsListedFor}
 use Rattle.glob_walk.proofs.WalkLemmas.Entering.{enter-end}
 use Rattle.glob_walk.proofs.WalkLemmas.Listings.{in_order, names_listed}
 use Rattle.glob_walk.proofs.WalkLemmas.Opening.{Opens, by_listing, opened_entries}
-use Rattle.glob_walk.proofs.WalkLemmas.Stepping.{append_none}
+use Rattle.std.proofs.lemmas.List.{append-nil}
 
 names_length : (es : List DirEntry) → length (names_of es) ≡ length es
 names_length [] = refl
@@ -52,7 +52,7 @@ module _ {A : Type 0} (c : Content) (plan : Plan A) (component : ℕ) (path : Te
   entry_same : (e : DirEntry) → entry_marks c plan false component path e ≡ name_marks e.0
   unfolding name_marks
   entry_same e =
-      append_none (first_part c plan false component path e)
+      append-nil (first_part c plan false component path e)
       ∙ ap (λ ts. first_of c plan.options plan.directories false ts path e) alone
       ∙ ap (λ ms. cond (takes_name plan.options t e.0) ms []) (given e)
 

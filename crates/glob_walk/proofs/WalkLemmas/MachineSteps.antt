@@ -27,7 +27,7 @@ use Rattle.glob_walk.specs.declared.task.Accepted.TheVariants.{Any}
 use Rattle.glob_walk.specs.Answers.{IfFailed, IsAnswer, IsAnswered, answer_count}
 use Rattle.glob_walk.specs.Private.Turns.{TurnsTo, TurnCounts}
 use Rattle.glob_walk.specs.Private.Walking.{IsUnderWay, IsGood, turn_outcome, turn_saying, is_last_turn}
-use Rattle.glob_walk.proofs.WalkLemmas.Stepping.{append_none}
+use Rattle.std.proofs.lemmas.List.{append-nil}
 use Rattle.glob_walk.proofs.WalkLemmas.Charging.{opened-free, opened-look}
 
 pub one_item : {A : Type 0} (t : Turn A) → item_number (turn_outcome t) ≤ 1
@@ -229,7 +229,7 @@ pub left-fresh : {A : Type 0} (c : Content) (s : Stack A) (t : Task A) → s.nex
 left-fresh c s t next unseen component empty at =
     ap (λ n. next_marks c s.plan n ++ frames_marks c s.plan s.frames.items) next
     ∙ ap (λ fs. task_marks c s.plan t ++ frames_marks c s.plan fs) empty
-    ∙ append_none (task_marks c s.plan t)
+    ∙ append-nil (task_marks c s.plan t)
     ∙ ap (λ x. state_marks c s.plan t.component (string_bytes t.path) x) unseen
     ∙ ap (λ n. look_up c (λ seen. true) (enter_from c s.plan n) (string_bytes t.path)) component
     ∙ ap (look_up c (λ seen. true) (enter c s.plan.options s.plan.directories s.plan.components.items)) at

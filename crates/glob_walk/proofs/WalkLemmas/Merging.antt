@@ -2,10 +2,8 @@
 use Rattle.std.proofs.Common.{◌≡◌, ℕ, zero, suc, ◌+◌, Bool, true, false, cond, not, ◌&&◌, List, [], ◌∷◌, ◌++◌, drop, refl, ap, sym, subst, ◌∙◌, arith}
 use Rattle.std.proofs.lemmas.Bool.{and_parts, both_ways}
 use Rattle.std.proofs.lemmas.List.{append_assoc}
-use Rattle.std.proofs.lemmas.Slice.Eq.{bytes_eq-Decides}
 use Rattle.std.proofs.Math.ListN.{drop_of_length-le}
 use Rattle.glob_text.specs.Text.{Text}
-use Rattle.glob_pattern.specs.Grammar.Characters.{star}
 use Rattle.glob_pattern.specs.declared.options.MatchOptions.{MatchOptions}
 use Rattle.glob_tree.specs.Content.{Content}
 use Rattle.glob_walk.specs.Components.{ComponentKind, Literal, Recursive, Wild, component_kind, components, is_literal, is_recursive, begins_recursive, has_root, start, wants_directories}
@@ -16,21 +14,8 @@ use Rattle.glob_walk.specs.Private.Stacks.{aim_of}
 use Rattle.glob_walk.specs.Listing.{by_name, by_match, descent, levels, enter, meet, match_at, look_up, listing}
 use Rattle.glob_walk.specs.Private.Merging.{merged, merged_after, are_merged}
 use Rattle.glob_walk.specs.Private.Tasks.{IsOpened}
+use Rattle.glob_walk.proofs.ListingLemmas.ComponentKinds.{recursive_is, recursive-kind, kind-Recursive}
 use Rattle.glob_walk.proofs.ListingLemmas.Descending.{enter-literal, enter-wild, enter_none, enter-run, enter-recursive_none, enter-levels}
-
-stars : (t : Text) → is_recursive t ≡ true → t ≡ star ∷ star ∷ []
-stars t h = (bytes_eq-Decides t (star ∷ star ∷ [])).0 h
-
-recursive_kind : (t : Text) → is_recursive t ≡ true → component_kind t ≡ Recursive
-recursive_kind t h = ap component_kind (stars t h)
-
-kind_recursive : (t : Text) → component_kind t ≡ Recursive → is_recursive t ≡ true
-kind_recursive t h = by_test (is_literal t) (is_recursive t) refl h
-  where
-    by_test : (b r : Bool) → is_recursive t ≡ r → cond b Literal (cond r Recursive Wild) ≡ Recursive → r ≡ true
-    by_test true r k e = absurd (cc)
-    by_test false true k e = refl
-    by_test false false k e = absurd (cc)
 
 -- after a `**` no other is left
 merged_begins : (ts : List Text) → begins_recursive (merged_after true ts) ≡ false
@@ -75,7 +60,7 @@ opened_run ts n t merged at kind = subst (IsOpened true) (sym at) (kind, last (b
     apart = (and_parts (not (is_recursive t && begins_recursive (drop (n + 1) ts))) (are_merged (drop (n + 1) ts)) rest).0
 
     last : (b : Bool) → begins_recursive (drop (n + 1) ts) ≡ b → b ≡ false
-    last true h = absurd (both_ways false refl (sym (ap (λ r. not (r && begins_recursive (drop (n + 1) ts))) (kind_recursive t kind) ∙ ap not h) ∙ apart))
+    last true h = absurd (both_ways false refl (sym (ap (λ r. not (r && begins_recursive (drop (n + 1) ts))) (kind-Recursive t kind) ∙ ap not h) ∙ apart))
     last false h = refl
 
 -- what is no literal is listed for
@@ -110,7 +95,7 @@ module _ (c : Content) (o : MatchOptions) (directories : Bool) where
       by_kind Literal k path d = enter-literal c o directories t xs path d k ∙ ap (λ f. by_name c f t path d) e ∙ sym (enter-literal c o directories t ys path d k)
       by_kind Wild k path true = enter-wild c o directories t xs path k ∙ ap (λ f. by_match c o f t path) e ∙ sym (enter-wild c o directories t ys path k)
       by_kind Wild k path false = enter_none c o directories t xs path k ∙ sym (enter_none c o directories t ys path k)
-      by_kind Recursive k path d = absurd (both_ways (is_recursive t) other (kind_recursive t k))
+      by_kind Recursive k path d = absurd (both_ways (is_recursive t) other (kind-Recursive t k))
 
   after_first_recursive : (t u : Text) (xs ys : List Text) → is_recursive t ≡ true → is_recursive u ≡ false → enter c o directories xs ≡ enter c o directories ys
       → enter c o directories (t ∷ u ∷ xs) ≡ enter c o directories (t ∷ u ∷ ys)
@@ -122,12 +107,12 @@ module _ (c : Content) (o : MatchOptions) (directories : Bool) where
 
       by_directory : (path : Text) (d : Bool) → enter c o directories (t ∷ u ∷ xs) path d ≡ enter c o directories (t ∷ u ∷ ys) path d
       by_directory path true =
-          enter-levels c o directories t (u ∷ xs) path (recursive_kind t h) other
+          enter-levels c o directories t (u ∷ xs) path (recursive-kind t h) other
           ∙ ap (λ f. descent c o f (levels c) path) same
-          ∙ sym (enter-levels c o directories t (u ∷ ys) path (recursive_kind t h) other)
+          ∙ sym (enter-levels c o directories t (u ∷ ys) path (recursive-kind t h) other)
       by_directory path false =
-          enter-recursive_none c o directories t (u ∷ xs) path (recursive_kind t h) other
-          ∙ sym (enter-recursive_none c o directories t (u ∷ ys) path (recursive_kind t h) other)
+          enter-recursive_none c o directories t (u ∷ xs) path (recursive-kind t h) other
+          ∙ sym (enter-recursive_none c o directories t (u ∷ ys) path (recursive-kind t h) other)
 
   -- merged components are entered in the same way, by themselves and after a `**`
   abbrev AreAsMerged : List Text → Type 0
@@ -146,9 +131,9 @@ module _ (c : Content) (o : MatchOptions) (directories : Bool) where
       after : AreAsMerged us → (t : Text) → is_recursive t ≡ true → (r : Bool) → is_recursive u ≡ r
           → enter c o directories (t ∷ (cond r (merged_after true us) (u ∷ merged_after r us))) ≡ enter c o directories (t ∷ u ∷ us)
       after later t h true more =
-          ap (λ s. enter c o directories (s ∷ merged_after true us)) (stars t h ∙ sym (stars u more))
+          ap (λ s. enter c o directories (s ∷ merged_after true us)) (recursive_is t h ∙ sym (recursive_is u more))
           ∙ later.1 u more
-          ∙ (λ i path d. sym (enter-run c o directories t (u ∷ us) path d (recursive_kind t h) more) i)
+          ∙ (λ i path d. sym (enter-run c o directories t (u ∷ us) path d (recursive-kind t h) more) i)
       after later t h false other = after_first_recursive t u (merged us) us h other later.0
 
   pub enter-merged : (ts : List Text) → enter c o directories (merged ts) ≡ enter c o directories ts

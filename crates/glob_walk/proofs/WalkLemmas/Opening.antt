@@ -3,17 +3,21 @@ use Rattle.std.proofs.Common.{◌≡◌, ℕ, zero, suc, ◌+◌, ◌-◌, ◌<�
 use Rattle.std.specs.Prelude.{flat_map, Some, string_bytes}
 use Rattle.std.specs.Path.{cur_dir, parent_dir}
 use Rattle.std.specs.declared.io.ErrorKind.{ErrorKind}
+use Rattle.std.proofs.lemmas.List.{append-nil, length-replicate, map-append, replicate-append-replicate}
+use Rattle.std.proofs.lemmas.List.Sorted.{length_permutation}
 use Rattle.glob_text.specs.Text.{Text}
 use Rattle.glob_text.specs.Characters.{dot}
 use Rattle.glob_tree.specs.Paths.{child, join}
 use Rattle.glob_text.specs.Pieces.{begins_with}
 use Rattle.glob_walk.specs.Marks.{Mark, Work, Give, Unread}
-use Rattle.glob_tree.specs.Content.{Content, Key, DirEntry, ListAnswer, Entries, Fails, list_result, look_result, sorted_entries, insert_entry, is_before, children}
+use Rattle.glob_tree.specs.Content.{Content, Key, DirEntry, ListAnswer, Entries, Fails, list_result, look_result, sorted_entries, children}
 use Rattle.glob_walk.specs.Listing.{enter, meet, is_entered, list_directory, after_listing, look_up, special_names, special_name}
 use Rattle.glob_tree.specs.Looks.{is_directory}
 use Rattle.glob_pattern.specs.declared.options.MatchOptions.{MatchOptions}
 use Rattle.glob_tree.proofs.ContentLemmas.Contents.{IsContent}
 use Rattle.glob_tree.proofs.ContentLemmas.Directories.{LeadsTo-from_looked, ListsAs, LeadsTo, LeadsTo-list_result, is_directory-look_result, ListsAs-from_leads, Read, Unreadable}
+use Rattle.glob_walk.proofs.Ascending.{sorted_entries-keep}
+use Rattle.glob_walk.proofs.ListingLemmas.ComponentKinds.{kind-Wild}
 use Rattle.glob_walk.proofs.ListingLemmas.Descending.{enter-wild, enter-recursive}
 use Rattle.glob_walk.specs.declared.plan.Plan.{Plan}
 use Rattle.glob_walk.specs.declared.frame.Cursor.{Cursor}
@@ -27,10 +31,9 @@ use Rattle.glob_walk.specs.Private.Frames.{take_at, first_of, entries_marks, spe
 use Rattle.glob_walk.specs.Private.Meters.{IsInOrder, IsHeld, IsCut}
 use Rattle.glob_tree.specs.Answers.{IsListFault}
 use Rattle.glob_walk.specs.Walks.{works, Charges, StopsAt}
-use Rattle.glob_walk.proofs.WalkLemmas.Stepping.{append_none}
 use Rattle.glob_walk.proofs.WalkLemmas.Entering.{meet-next}
 use Rattle.glob_walk.specs.Components.{is_recursive, begins_recursive}
-use Rattle.glob_walk.proofs.WalkLemmas.Literals.{wild_kind, undotted_kind, takes_same}
+use Rattle.glob_walk.proofs.WalkLemmas.Literals.{undotted_kind, takes_same}
 
 works_replicate : (n : ℕ) (path : Text) → replicate n (Work path) ≡ works (replicate n path)
 works_replicate zero path = refl
@@ -63,36 +66,15 @@ module _ (c : Content) (w : IsContent c) (o : MatchOptions) (dirs : Bool) where
   opened false (t ∷ ts) path h d =
       enter-wild c o dirs t ts path h
       ∙ ap (λ each. list_directory c path (special_names c o (enter c o dirs ts) t path) each)
-      (λ i name d. (ap (λ b. cond b (enter c o dirs ts (child path name) d) []) (takes_same o t name (wild_kind t h)) ∙ sym (append_none (take_at o (enter c o dirs ts) t (child path name) name d))) i)
+      (λ i name d. (ap (λ b. cond b (enter c o dirs ts (child path name) d) []) (takes_same o t name (kind-Wild t h).1) ∙ sym (append-nil (take_at o (enter c o dirs ts) t (child path name) name d))) i)
   opened true (t ∷ ts) path h d =
       let (k, at) = LeadsTo-from_looked c path d in
       enter-recursive c o dirs w t ts path k h.0 h.1 at
       ∙ ap (λ each. list_directory c path [] each)
       (λ i name d. met_same c o dirs t ts path name d h.1 i ++ cond (is_entered o name d) (enter c o dirs (t ∷ ts) (child path name) true) [])
 
-length-insert_entry : (e : DirEntry) (es : List DirEntry) → length (insert_entry e es) ≡ suc (length es)
-length-insert_entry e [] = refl
-length-insert_entry e (f ∷ es) = by_test (is_before e f) (length-insert_entry e es)
-  where
-    by_test : (b : Bool) → length (insert_entry e es) ≡ suc (length es) → length (cond b (e ∷ f ∷ es) (f ∷ insert_entry e es)) ≡ suc (suc (length es))
-    by_test true h = refl
-    by_test false h = ap suc h
-
 pub length-sorted_entries : (es : List DirEntry) → length (sorted_entries es) ≡ length es
-length-sorted_entries [] = refl
-length-sorted_entries (e ∷ es) = length-insert_entry e (sorted_entries es) ∙ ap suc (length-sorted_entries es)
-
-length-replicate : {X : Type 0} (n : ℕ) (x : X) → length (replicate n x) ≡ n
-length-replicate zero x = refl
-length-replicate (suc n) x = ap suc (length-replicate n x)
-
-replicate_split : {X : Type 0} (k m : ℕ) (x : X) → replicate (k + suc m) x ≡ replicate k x ++ (x ∷ replicate m x)
-replicate_split zero m x = let e : 0 + suc m ≡ suc m = omega arith in rw e refl
-replicate_split (suc k) m x = let e : suc k + suc m ≡ suc (k + suc m) = omega arith in rw e (ap (λ xs. x ∷ xs) (replicate_split k m x))
-
-works-append : (ps qs : List Text) → works (ps ++ qs) ≡ works ps ++ works qs
-works-append [] qs = refl
-works-append (p ∷ ps) qs = ap (λ ms. Work p ∷ ms) (works-append ps qs)
+length-sorted_entries es = length_permutation es (sorted_entries es) (sorted_entries-keep es)
 
 -- the limit does not reach all of the units
 stops_within : (n : ℕ) (path : Text) (rest : List Mark) (spent limit : ℕ) → spent ≤ limit → limit < spent + n
@@ -104,8 +86,8 @@ stops_within n path rest spent limit h few =
       rest = works (replicate (n - k - 1) path) ++ rest;
       charges = record {
         paths = replicate k path;
-        front = ap (λ m. works (replicate m path) ++ rest) e ∙ ap (λ ps. works ps ++ rest) (replicate_split k (n - k - 1) path)
-            ∙ ap (λ ms. ms ++ rest) (works-append (replicate k path) (path ∷ replicate (n - k - 1) path))
+        front = ap (λ m. works (replicate m path) ++ rest) e ∙ ap (λ ps. works ps ++ rest) (sym (replicate-append-replicate k (suc (n - k - 1)) path))
+            ∙ ap (λ ms. ms ++ rest) (map-append Work (replicate k path) (path ∷ replicate (n - k - 1) path))
             ∙ append_assoc (works (replicate k path)) (Work path ∷ works (replicate (n - k - 1) path)) rest;
         units = omega (arith, h, length-replicate k path);
       };
@@ -155,8 +137,8 @@ module _ {A : Type 0} (c : Content) (w : IsContent c) (plan : Plan A) (recursive
           ∙ ap (λ b. cursor_marks c plan true component path es (cond b Parent (At 0))) (sym (undotted_kind t h.0))
       by_run false [] h q = ap (λ ts. parts_marks false ts) (sym q)
       by_run false (t ∷ ts) h q = by_test (begins_with dot t) [] [] (parts_marks false (t ∷ ts)) t ts
-          (special_same t ts parent_dir (wild_kind t h) q)
-          (special_same t ts cur_dir (wild_kind t h) q)
+          (special_same t ts parent_dir (kind-Wild t h).1 q)
+          (special_same t ts cur_dir (kind-Wild t h).1 q)
           (ap (λ us. parts_marks false us) (sym q))
 
   -- a directory that is read, or one that is not

@@ -1,16 +1,12 @@
 -- Reading a pattern's components.
-use Rattle.std.proofs.Common.{◌≡◌, ◌≢◌, ℕ, ◌+◌, ◌-◌, ◌<◌, Bool, true, false, cond, not, ◌||◌, ◌==◌, List, [], ◌∷◌, ◌++◌, length, take, drop, drop-cons, add-one, suc, get_or, map, Option, Some, None, Result, Ok, Err, refl, ap, sym, ◌∙◌, arith, chars, rules, length-append, Bor}
+use Rattle.std.proofs.Common.{◌≡◌, ◌≢◌, ℕ, ◌+◌, ◌-◌, ◌<◌, Bool, true, false, cond, ◌==◌, List, [], ◌∷◌, ◌++◌, length, take, drop, drop-cons, add-one, suc, get_or, map, Option, Some, None, Result, Ok, Err, refl, ap, sym, ◌∙◌, arith, chars, length-append, Bor}
 use Rattle.std.specs.Prelude.{IfOk, IfErr, IsErrAnd, MatchOption, slice_index}
 use Rattle.std.specs.Result.{result_err}
-use Rattle.std.specs.List.{list_any}
 use Rattle.std.specs.Str.{IsUtf8}
-use Rattle.std.proofs.lemmas.Bool.{both_ways, or_parts, false≢true, eqb-true}
-use Rattle.std.proofs.lemmas.Str.{encode_ascii, encodes-chars}
-use lib.Utf8.{encode, encodes}
+use Rattle.std.proofs.lemmas.Bool.{eqb-true}
 use Rattle.glob_text.specs.Text.{Text}
 use Rattle.glob_text.specs.Characters.{slash}
 use Rattle.glob_text.specs.Pieces.{ends_with}
-use Rattle.glob_pattern.specs.Grammar.Characters.{is_wildcard}
 use Rattle.glob_pattern.specs.Grammar.Units.{IsAccepted}
 use Rattle.glob_pattern.specs.Grammar.Faults.{Refuses, Fault}
 use Rattle.glob_pattern.specs.declared.error.PatternRefusal.{PatternRefusal}
@@ -28,6 +24,7 @@ use lib.Seq.{take-append_seam, get_or-append_seam}
 use Rattle.glob_walk.specs.Components.{components, first_fault, walk_fault, without_end_separator, without_root, is_literal}
 use Rattle.glob_walk.specs.Private.Forms.{text_fault}
 use Rattle.glob_walk.specs.Walks.{RefusesWith}
+use Rattle.glob_walk.proofs.GoalLemmas.Characters.{literal-chars}
 
 -- a text that does not end in a separator stays as it is
 pub without_end-plain : (text : Text) → ((front : List ℕ) → text ≢ front ++ slash ∷ []) → text ≡ without_end_separator text
@@ -86,47 +83,9 @@ pub refused_result : {T : Type 0} (text : Text) (r : Result T PatternRefusal) �
 refused_result text (Ok x) h = h
 refused_result text (Err e) h = RefusesWith-text_fault text e h
 
-or_none : (a b : Bool) → a ≡ false → b ≡ false → (a || b) ≡ false
-or_none true b h k = h
-or_none false b h k = k
-
-wildcard_ascii : (c : ℕ) → is_wildcard c ≡ true → c < 128
-wildcard_ascii c h = grind (arith, rules)
-
-any-parts : (xs ys : List ℕ) → list_any is_wildcard (xs ++ ys) ≡ false → (list_any is_wildcard xs ≡ false) × (list_any is_wildcard ys ≡ false)
-any-parts [] ys h = (refl, h)
-any-parts (x ∷ xs) ys h =
-    let both = or_parts (is_wildcard x) (list_any is_wildcard (xs ++ ys)) h in
-    let rest = any-parts xs ys both.1 in
-    (or_none (is_wildcard x) (list_any is_wildcard xs) both.0 rest.0, rest.1)
-
--- a character is a wildcard only as its one byte
-no_wildcard : (c : ℕ) → list_any is_wildcard (encode c) ≡ false → is_wildcard c ≡ false
-no_wildcard c h = by_test (is_wildcard c) refl
-  where
-    by_test : (b : Bool) → is_wildcard c ≡ b → b ≡ false
-    by_test true e =
-        let one : list_any is_wildcard (c ∷ []) ≡ false = ap (list_any is_wildcard) (sym (encode_ascii c (wildcard_ascii c e))) ∙ h in
-        absurd (both_ways (is_wildcard c) (or_parts (is_wildcard c) false one).0 e)
-    by_test false e = refl
-
-no_wildcards : (cs : List ℕ) → list_any is_wildcard (encodes cs) ≡ false → list_any is_wildcard cs ≡ false
-no_wildcards [] h = refl
-no_wildcards (c ∷ cs) h =
-    let both = any-parts (encode c) (encodes cs) h in
-    or_none (is_wildcard c) (list_any is_wildcard cs) (no_wildcard c both.0) (no_wildcards cs both.1)
-
-not_true : (b : Bool) → not b ≡ true → b ≡ false
-not_true true h = absurd (false≢true h)
-not_true false h = refl
-
--- the characters of a literal text are no wildcards
-pub IsPlain-literal : (text : Text) → IsUtf8 text → is_literal text ≡ true → list_any is_wildcard (chars text) ≡ false
-IsPlain-literal text utf8 h = no_wildcards (chars text) (ap (list_any is_wildcard) (encodes-chars text utf8) ∙ not_true (list_any is_wildcard text) h)
-
--- so it has no fault
+-- a literal text has no fault
 pub text_fault-literal : (text : Text) → IsUtf8 text → is_literal text ≡ true → text_fault text ≡ None
-text_fault-literal text utf8 h = text_fault-accepted text (plain_accepted (chars text) (IsPlain-literal text utf8 h))
+text_fault-literal text utf8 h = text_fault-accepted text (plain_accepted (chars text) (literal-chars text utf8 h))
 
 -- what stands in a list from place n on
 pub drop_from : {X : Type 0} (xs : List X) (n : ℕ) (x : X) → n < length xs → x ≡ get_or xs n x → drop n xs ≡ x ∷ drop (n + 1) xs

@@ -1,9 +1,9 @@
 -- Texts that are the same, case-sensitively or not: by their bytes and by their characters.
-use Rattle.std.proofs.Common.{◌≡◌, ℕ, zero, suc, ◌+◌, ◌/◌, ◌<◌, ◌≤◌, Bool, true, false, ◌&&◌, ◌==◌, List, [], ◌∷◌, ◌++◌, length, map, slice_index, IsTrue, cond, refl, ap, sym, ◌∙◌, ⊎_elim, arith, rules}
+use Rattle.std.proofs.Common.{◌≡◌, ℕ, zero, suc, ◌+◌, ◌/◌, ◌<◌, ◌≤◌, Bool, true, false, ◌&&◌, ◌==◌, List, [], ◌∷◌, ◌++◌, length, map, slice_index, IsTrue, refl, ap, sym, ◌∙◌, ⊎_elim, arith, rules}
 use Rattle.std.specs.Bool.{Decides}
 use Rattle.std.specs.Char.{is_ascii, to_ascii_lowercase}
 use Rattle.std.specs.Str.{chars, IsUtf8}
-use Rattle.std.proofs.lemmas.Bool.{or_cases, and_parts, eqb-true, cases_lt}
+use Rattle.std.proofs.lemmas.Bool.{cond_both, or_cases, and_parts, eqb-true, cases_lt}
 use Rattle.std.proofs.lemmas.List.{map-append}
 use Rattle.std.proofs.lemmas.Slice.Eq.{bytes_eq-Decides}
 use Rattle.std.proofs.lemmas.Str.{encode_ascii, encodes-chars, encodes_same}
@@ -25,10 +25,6 @@ high_stays : (bs : List ℕ) → AreHigh bs → map to_ascii_lowercase bs ≡ bs
 high_stays [] h = refl
 high_stays (b ∷ bs) (h, hs) = ap (λ x. x ∷ map to_ascii_lowercase bs) ((lowercase_is b).2 h) ∙ ap (λ xs. b ∷ xs) (high_stays bs hs)
 
-either : {X : Type 0} (P : X → Type 0) (b : Bool) (x y : X) → P x → P y → P (cond b x y)
-either P true x y p q = p
-either P false x y p q = q
-
 -- nor is one of a character beyond ASCII
 encode_high : (c : ℕ) → 128 ≤ c → AreHigh (encode c)
 unfolding encode
@@ -37,7 +33,7 @@ encode_high c high =
     let two : AreHigh ((192 + c / 64) ∷ next c ∷ []) = (omega arith, (omega arith, tt)) in
     let three : AreHigh ((224 + c / 4096) ∷ next (c / 64) ∷ next c ∷ []) = (omega arith, (omega arith, (omega arith, tt))) in
     let four : AreHigh ((240 + c / 262144) ∷ next (c / 4096) ∷ next (c / 64) ∷ next c ∷ []) = (omega arith, (omega arith, (omega arith, (omega arith, tt)))) in
-    either AreHigh (ltb c 128) _ _ one (either AreHigh (ltb c 2048) _ _ two (either AreHigh (ltb c 65536) _ _ three four))
+    cond_both (ltb c 128) _ _ AreHigh (λ _. one) (λ _. cond_both (ltb c 2048) _ _ AreHigh (λ _. two) (λ _. cond_both (ltb c 65536) _ _ AreHigh (λ _. three) (λ _. four)))
 
 -- letters are made small in the bytes as in the characters
 encode_lower : (c : ℕ) → map to_ascii_lowercase (encode c) ≡ encode (to_ascii_lowercase c)

@@ -1,7 +1,8 @@
 -- The steps of a frame.
-use Rattle.std.proofs.Common.{◌≡◌, ℕ, ◌+◌, ◌<◌, Bool, true, false, cond, List, [], ◌∷◌, ◌++◌, length, drop, get_or, refl, ap, sym, ◌∙◌, append_assoc}
+use Rattle.std.proofs.Common.{◌≡◌, ℕ, ◌+◌, ◌<◌, Bool, true, false, cond, List, ◌∷◌, ◌++◌, length, drop, get_or, ap, sym, ◌∙◌, append_assoc}
 use Rattle.std.specs.Prelude.{Contains}
-use Rattle.std.proofs.lemmas.List.{drop_more, get_or-map, length-map}
+pub use Rattle.std.proofs.lemmas.List.{append-nil as append_none}
+use Rattle.std.proofs.lemmas.List.{append-nil, drop_more, get_or-map, length-map}
 use Rattle.glob_text.specs.Text.{Text}
 use Rattle.glob_walk.specs.Marks.{Mark}
 use Rattle.glob_tree.specs.Content.{Content, DirEntry}
@@ -24,10 +25,6 @@ contained_at {A} es i e h is =
     let f : Entry A → DirEntry = λ x. (x.name, x.is_dir) in
     (i, simp length-map h, get_or-map f es i e (f e) h ∙ ap f (sym is))
 
-pub append_none : {X : Type 0} (xs : List X) → xs ++ [] ≡ xs
-append_none [] = refl
-append_none (x ∷ xs) = ap (λ ys. x ∷ ys) (append_none xs)
-
 module _ {A : Type 0} (c : Content) (plan : Plan A) (component : ℕ) (path : Text) where
   pub at_in_run : (es : List DirEntry) (i : ℕ) (e : DirEntry) (next : List Mark) → drop i es ≡ e ∷ drop (i + 1) es → first_part c plan true component path e ≡ next
       → entries_marks c plan true component path (drop i es) ≡ next ++ inside_marks c plan true component path (drop i es)
@@ -41,7 +38,7 @@ module _ {A : Type 0} (c : Content) (plan : Plan A) (component : ℕ) (path : Te
       → entries_marks c plan false component path (drop i es) ≡ next ++ entries_marks c plan false component path (drop (i + 1) es)
   at_alone es i e next at is =
       ap (entries_marks c plan false component path) at
-      ∙ ap (λ ms. ms ++ entries_marks c plan false component path (drop (i + 1) es)) (append_none (first_part c plan false component path e) ∙ is)
+      ∙ ap (λ ms. ms ++ entries_marks c plan false component path (drop (i + 1) es)) (append-nil (first_part c plan false component path e) ∙ is)
 
   pub inside_next : (recursive : Bool) (es : List DirEntry) (i : ℕ) (e : DirEntry) (next : List Mark) → drop i es ≡ e ∷ drop (i + 1) es → second_part c plan recursive component path e ≡ next
       → inside_marks c plan recursive component path (drop i es) ≡ next ++ entries_marks c plan recursive component path (drop (i + 1) es)
