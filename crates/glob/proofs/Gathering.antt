@@ -1,6 +1,6 @@
 -- A walk whose items are gathered.
 use Rattle.std.proofs.Common.{◌≡◌, ℕ, ◌+◌, ◌-◌, ◌≤◌, suc, false, Option, Some, None, List, [], ◌∷◌, ◌++◌, length, map, Result, refl, ap, sym, subst, ◌∙◌, arith, append_assoc, length-append}
-use Rattle.std.proofs.lemmas.List.{map-append}
+use Rattle.std.proofs.lemmas.List.{append-nil, map-append}
 use Rattle.std.specs.declared.path.buf.PathBuf.{PathBuf}
 use Rattle.glob_text.specs.Text.{Text}
 use Rattle.glob_walk.specs.Marks.{Mark, Work, Give, Item, items, cost, front, IsBeginning}
@@ -13,7 +13,6 @@ use Rattle.glob_walk.specs.declared.ending.End.{End}
 use Rattle.glob_walk.specs.declared.error.GlobError.{GlobError}
 use Rattle.glob_walk.specs.declared.ending.End.TheVariants as end
 use Rattle.glob_walk.proofs.ListingLemmas.Marks.{items-append, cost-append, front-append}
-use Rattle.glob_walk.proofs.WalkLemmas.Stepping.{append_none}
 use Rattle.glob_walk.proofs.WalkLemmas.Works.{items-works, cost-works}
 
 -- what was gathered, and what is left
@@ -32,7 +31,7 @@ module _ {A : Type 0} (ms : List Mark) (spent spent' : ℕ) (answers : List (Res
     c.paths,
     g.whole ∙ ap (λ xs. g.done ++ xs) c.front ∙ sym (append_assoc g.done (works c.paths) after),
     omega (arith, g.units, c.units, cost-append g.done (works c.paths), cost-works c.paths),
-    items-append g.done (works c.paths) ∙ ap (λ xs. items g.done ++ xs) (items-works c.paths) ∙ append_none (items g.done),
+    items-append g.done (works c.paths) ∙ ap (λ xs. items g.done ++ xs) (items-works c.paths) ∙ append-nil (items g.done),
   )
 
   -- an item is gathered
@@ -54,7 +53,7 @@ module _ {A : Type 0} (ms : List Mark) (spent spent' : ℕ) (answers : List (Res
   unfolding IsWalk
   IsWalk-done limit fits c =
       let (paths, whole, units, same) = charged [] c in
-      let all : ms ≡ g.done ++ works paths = whole ∙ append_none (g.done ++ works paths) in
+      let all : ms ≡ g.done ++ works paths = whole ∙ append-nil (g.done ++ works paths) in
       let costs : spent' ≡ cost ms = units ∙ ap cost (sym all) in
       (omega (arith, fits, costs), costs, g.given ∙ ap (map Gives) (sym (ap items all ∙ same)))
 
@@ -67,7 +66,7 @@ module _ {A : Type 0} (ms : List Mark) (spent spent' : ℕ) (answers : List (Res
       let costs : cost ms ≡ cost done + suc (cost stop.rest) = ap cost whole ∙ cost-append done (Work path ∷ stop.rest) in
       let none : limit - cost done ≡ 0 = omega (arith, at, units) in
       let cut : front limit ms ≡ done =
-      ap (front limit) whole ∙ front-append limit done (Work path ∷ stop.rest) (omega (arith, at, units)) ∙ ap (λ n. done ++ front n (Work path ∷ stop.rest)) none ∙ append_none done in
+      ap (front limit) whole ∙ front-append limit done (Work path ∷ stop.rest) (omega (arith, at, units)) ∙ ap (λ n. done ++ front n (Work path ∷ stop.rest)) none ∙ append-nil done in
       (omega (arith, costs, at, units), at, g.given ∙ ap (map Gives) (sym (ap items cut ∙ same)))
 
   begins : IsBeginning (items g.done) (items ms)
@@ -87,7 +86,7 @@ module _ {A : Type 0} (ms : List Mark) (spent spent' : ℕ) (answers : List (Res
           lost = [];
           whole = whole;
           units = units;
-          given = same ∙ sym (append_none (items g.done));
+          given = same ∙ sym (append-nil (items g.done));
           few = omega arith;
         },
       )

@@ -25,8 +25,3 @@ RefusesComponent-turn {shows = shows} {components = components} reading yielded 
     sym (take-append-drop n components) ∙ ap (λ zs. take n components ++ zs) (drop_from components n c turn.0 turn.1)
     ∙ ap (λ zs. zs ++ c ∷ drop (n + 1) components) (sym first) in
     (front, drop (n + 1) components, c, split, accepted, refuses)
-
--- what follows from what is known of an error holds of it
-pub IfErr-from_known : {T E : Type 0} (r : Result T E) (P Q : E → Type 0) → ((e : E) → P e → Q e) → IsErrAnd r P → IfErr r Q
-IfErr-from_known (Ok x) P Q follows known = tt
-IfErr-from_known (Err e) P Q follows known = follows e known

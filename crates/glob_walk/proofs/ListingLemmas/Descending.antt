@@ -28,10 +28,10 @@ pub list_directory_agree : (c : Content) (path : Text) (k : Key) → LeadsTo c p
 list_directory_agree c path k at before each other same = ap (λ ms. Work path ∷ ms) (by_answer (ListsAs-from_leads c path k at))
   where
     by_answer : ListsAs c path k → after_listing path before each (list_result c path) ≡ after_listing path before other (list_result c path)
-    by_answer (Read entries_of_nodes answer) = rw answer
+    by_answer (Read entries answer) = rw answer
         (ap (λ ms. replicate (length (children c k)) (Work path) ++ before ++ ms)
         (flat_map_agree (λ e. each e.0 e.1) (λ e. other e.0 e.1) (sorted_entries (children c k)) (λ e in'. same e (Contains-sorted_entries (children c k) e in'))))
-    by_answer (Unreadable kind entries_of_nodes answer) = rw answer refl
+    by_answer (Unreadable kind entries answer) = rw answer refl
 
 -- the longest of some keys, and of n names, is as long as each
 longest_from : (n : ℕ) (es : List (Key × Kind)) → n ≤ fold (λ m e. max m (length e.0)) n es

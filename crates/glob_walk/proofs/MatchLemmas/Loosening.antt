@@ -47,11 +47,11 @@ takes-looser strict loose opening c AnySequence less h = is_free-looser strict l
 takes-looser strict loose opening c Recursive less h =
     not-from_less (is_excluded_dot strict opening c) (is_excluded_dot loose opening c) (kept_dot-less strict loose opening c less) h
 takes-looser strict loose opening c (OneOf entries) less h =
-    let entries_of_nodes : IsTrue (is_free strict opening c) × IsTrue (holds strict.case_sensitive c entries) = and_parts _ _ h in
-    and_from _ _ (is_free-looser strict loose opening c less entries_of_nodes.0) (subst (λ case. IsTrue (holds case c entries)) (sym less.0) entries_of_nodes.1)
+    let both : IsTrue (is_free strict opening c) × IsTrue (holds strict.case_sensitive c entries) = and_parts _ _ h in
+    and_from _ _ (is_free-looser strict loose opening c less both.0) (subst (λ case. IsTrue (holds case c entries)) (sym less.0) both.1)
 takes-looser strict loose opening c (NoneOf entries) less h =
-    let entries_of_nodes : IsTrue (is_free strict opening c) × IsTrue (not (holds strict.case_sensitive c entries)) = and_parts _ _ h in
-    and_from _ _ (is_free-looser strict loose opening c less entries_of_nodes.0) (subst (λ case. IsTrue (not (holds case c entries))) (sym less.0) entries_of_nodes.1)
+    let both : IsTrue (is_free strict opening c) × IsTrue (not (holds strict.case_sensitive c entries)) = and_parts _ _ h in
+    and_from _ _ (is_free-looser strict loose opening c less both.0) (subst (λ case. IsTrue (not (holds case c entries))) (sym less.0) both.1)
 
 -- pieces that are allowed under strict rules are allowed under looser ones
 pub AreAllowed-looser : (strict loose : MatchOptions) → IsLooser strict loose → (text : Text) (k : ℕ) (ts : List Token) (pieces : List Text) → AreAllowed strict text k ts pieces → AreAllowed loose text k ts pieces

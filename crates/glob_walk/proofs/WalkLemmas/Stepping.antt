@@ -1,7 +1,6 @@
 -- The steps of a frame.
 use Rattle.std.proofs.Common.{◌≡◌, ℕ, ◌+◌, ◌<◌, Bool, true, false, cond, List, ◌∷◌, ◌++◌, length, drop, get_or, ap, sym, ◌∙◌, append_assoc}
 use Rattle.std.specs.Prelude.{Contains}
-pub use Rattle.std.proofs.lemmas.List.{append-nil as append_none}
 use Rattle.std.proofs.lemmas.List.{append-nil, drop_more, get_or-map, length-map}
 use Rattle.glob_text.specs.Text.{Text}
 use Rattle.glob_walk.specs.Marks.{Mark}

@@ -10,7 +10,7 @@ use Rattle.glob.specs.Types.{MatchOptions}
 use Rattle.glob.specs.Walks.{IsFresh, Walking}
 use Rattle.glob.proofs.FoundPaths.{FindsSoFar, FindsSoFar-start, FindsSoFar-next, FindsSoFar-whole, goal-listed, orderly-listed, paths-listed}
 use Rattle.glob_examples.specs.WalkFaults.{EndsAt, IsPatternFault}
-use Rattle.glob_examples.proofs.Refusals.{IfErr-from_known}
+use Rattle.glob_walk.proofs.WalkLemmas.Reading.{IfErr-from_known}
 use Rattle.glob_examples.proofs.WalkFaults.{IsMet-end, IsMet-pattern, IsWalkFault-end, IsWalkFault-pattern}
 use Rattle.glob_examples.proofs.copy.found_paths.Goals as goal
 

@@ -1,5 +1,5 @@
 use Rattle.std.proofs.Common.{inr}
-use Rattle.glob_examples.proofs.Refusals.{IfErr-from_known}
+use Rattle.glob_walk.proofs.WalkLemmas.Reading.{IfErr-from_known}
 use Rattle.glob_examples.proofs.copy.push_found.Goals as goal
 
 pub returns-in_err-item-clause-fault : goal.returns-in_err-item-clause-fault

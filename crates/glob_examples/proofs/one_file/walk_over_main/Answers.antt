@@ -13,7 +13,7 @@ use Rattle.glob.specs.Walks.{AreItems, IsWalk, RefusesWith}
 use Rattle.glob.proofs.Computing.{computed}
 use Rattle.glob.proofs.WalkLemmas.{done_walk, limited_walk}
 use Rattle.glob_examples.specs.OneFile.{one_file}
-use Rattle.glob_examples.proofs.Refusals.{IfErr-from_known}
+use Rattle.glob_walk.proofs.WalkLemmas.Reading.{IfErr-from_known}
 use Rattle.glob_examples.proofs.one_file.walk_over_main.Goals as goal
 
 -- the content is well formed

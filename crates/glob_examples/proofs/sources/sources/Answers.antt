@@ -13,7 +13,7 @@ use Rattle.glob.specs.Walks.{IsWalk}
 use Rattle.glob.proofs.FoundPaths.{AreFound-more, found_items, given_items-are, given_items-found, goal-found, paths-found, paths-listed}
 use Rattle.glob.proofs.WalkLemmas.{walks_plainly, found_goal, found_in_order, done_walk, limited_walk}
 use Rattle.glob_examples.specs.WalkFaults.{IsPatternFault}
-use Rattle.glob_examples.proofs.Refusals.{IfErr-from_known}
+use Rattle.glob_walk.proofs.WalkLemmas.Reading.{IfErr-from_known}
 use Rattle.glob_examples.proofs.WalkFaults.{IsMet-answer, IsMet-pattern, IsWalkFault-error, IsWalkFault-pattern}
 use Rattle.glob_examples.proofs.sources.sources.Goals as goal
 

@@ -7,7 +7,8 @@ use Rattle.glob.specs.Characters.{slash}
 use Rattle.glob.specs.Grammar.Faults.{Refuses}
 use Rattle.glob_examples.specs.Names.{IsComponent}
 use Rattle.glob_examples.specs.NameTable.{shape_of}
-use Rattle.glob_examples.proofs.Refusals.{RefusesComponent-turn, IfErr-from_known}
+use Rattle.glob_walk.proofs.WalkLemmas.Reading.{IfErr-from_known}
+use Rattle.glob_examples.proofs.Refusals.{RefusesComponent-turn}
 use Rattle.glob_examples.proofs.names.pattern.PathPattern.new.Goals as goal
 
 pub loop-component-preserved : goal.loop-component-preserved
