@@ -69,7 +69,7 @@ fn brace_fault(word: &str, refusal: BraceRefusal) -> PatternFault<'_> {
     }
 }
 
-/// Refuses a word of which an alternative is refused, but for one that is the word itself.
+/// Refuses a word of which an alternative is refused. Where that is the word itself, the lines do not name the word.
 fn check_alternatives<A: Allocator + Copy, E: Write>(
     alloc: A,
     name: Name,
@@ -81,10 +81,11 @@ fn check_alternatives<A: Allocator + Copy, E: Write>(
 {
     for alternative in alternatives {
         let alternative = alternative.as_str();
-        if alternative != word {
-            if let Some(fault) = pattern_fault(alloc, name, alternative) {
-                return Err(errors.fault(lines_of(name, word, fault)));
+        if let Some(fault) = pattern_fault(alloc, name, alternative) {
+            if alternative == word {
+                return Err(errors.fault(FaultLines { name, fault }));
             }
+            return Err(errors.fault(lines_of(name, word, fault)));
         }
     }
     Ok(())
