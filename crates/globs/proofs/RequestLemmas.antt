@@ -5,7 +5,7 @@ use Rattle.std.proofs.lemmas.Bool.{false_from_ne_true}
 use Rattle.std.proofs.lemmas.Slice.Eq.{bytes_eq-Decides}
 use Rattle.std.specs.Prelude.{bytes_eq, codes}
 use Rattle.globs.specs.Chosen.{Chosen}
-use Rattle.globs.specs.CommandLine.{asks_help, command_asked, name_of, reading, request_asked, request_of_reading}
+use Rattle.globs.specs.CommandLine.{command_asked, is_help, name_of, reading, request_asked, request_of_reading}
 use Rattle.globs.specs.Reading.{Reading}
 use Rattle.globs.specs.Requests.{IsWrong, IsWrongRequest}
 use Rattle.globs.specs.Options.{new_options, value_taken, valued_of, with_flag}
@@ -20,29 +20,29 @@ abbrev pub behind : List (Bor (List ℕ)) → List (Bor (List ℕ))
 behind words = take (length words - 1) (drop 1 words)
 
 module _ (name : Name) (o : Chosen) where
-  at_flag : (settings : Settings) (word : List ℕ) (words : List (List ℕ)) → valued_of name word ≡ None → with_flag name word o.settings ≡ Some settings
+  at_flag : (settings : Settings) (word : List ℕ) (words : List (List ℕ)) → is_help word ≡ false → valued_of name word ≡ None → with_flag name word o.settings ≡ Some settings
       → reading name o (word ∷ words) ≡ reading name (record o { settings = settings }) words
-  at_flag settings word [] valued flag = rw valued (rw flag refl)
-  at_flag settings word (next ∷ words) valued flag = rw (reading, valued) (rw (reading, flag) refl)
+  at_flag settings word [] page valued flag = rw page (rw valued (rw flag refl))
+  at_flag settings word (next ∷ words) page valued flag = rw (reading, page) (rw (reading, valued) (rw (reading, flag) refl))
 
   -- at an option without a value
   pub reading_flag : (settings : Settings) (none : Bor (List ℕ)) (words : List (Bor (List ℕ))) → 1 ≤ length words
-      → valued_of name (get_or words 0 none).now ≡ None → with_flag name (get_or words 0 none).now o.settings ≡ Some settings
+      → is_help (get_or words 0 none).now ≡ false → valued_of name (get_or words 0 none).now ≡ None → with_flag name (get_or words 0 none).now o.settings ≡ Some settings
       → reading name o (map (λ w. w.now) words) ≡ reading name (record o { settings = settings }) (map (λ w. w.now) (behind words))
-  reading_flag settings none [] long valued flag = absurd (omega (arith, long))
-  reading_flag settings none (word ∷ words) long valued flag =
-      rw (take_rest (word ∷ words) 1) (at_flag settings word.now (map (λ w. w.now) words) valued flag)
+  reading_flag settings none [] long page valued flag = absurd (omega (arith, long))
+  reading_flag settings none (word ∷ words) long page valued flag =
+      rw (take_rest (word ∷ words) 1) (at_flag settings word.now (map (λ w. w.now) words) page valued flag)
 
   -- at an option and its value
   pub reading_value : (v : Valued) (taken : Chosen) (none other : Bor (List ℕ)) (words : List (Bor (List ℕ))) → 1 ≤ length words → 1 ≤ length (behind words)
-      → valued_of name (get_or words 0 none).now ≡ Some v → value_taken v (get_or (behind words) 0 other).now o ≡ Ok taken
+      → is_help (get_or words 0 none).now ≡ false → valued_of name (get_or words 0 none).now ≡ Some v → value_taken v (get_or (behind words) 0 other).now o ≡ Ok taken
       → reading name o (map (λ w. w.now) words) ≡ reading name taken (map (λ w. w.now) (behind (behind words)))
-  reading_value v taken none other [] long more valued value = absurd (omega (arith, long))
-  reading_value v taken none other (word ∷ []) long more valued value = absurd (omega (arith, more))
-  reading_value v taken none other (word ∷ next ∷ words) long more valued value =
+  reading_value v taken none other [] long more page valued value = absurd (omega (arith, long))
+  reading_value v taken none other (word ∷ []) long more page valued value = absurd (omega (arith, more))
+  reading_value v taken none other (word ∷ next ∷ words) long more page valued value =
       let rest : behind (word ∷ next ∷ words) ≡ next ∷ words = take_rest (word ∷ next ∷ words) 1 in
       subst (λ l. value_taken v (get_or l 0 other).now o ≡ Ok taken → reading name o (map (λ w. w.now) (word ∷ next ∷ words)) ≡ reading name taken (map (λ w. w.now) (behind l)))
-      (sym rest) (λ value. rw (take_rest (next ∷ words) 1) (rw (reading, valued) (rw (reading, value) refl))) value
+      (sym rest) (λ value. rw (take_rest (next ∷ words) 1) (rw (reading, page) (rw (reading, valued) (rw (reading, value) refl)))) value
 
 other : (word literal : List ℕ) → word ≢ literal → bytes_eq word literal ≡ false
 other word literal apart = false_from_ne_true (bytes_eq word literal) (λ same. apart ((bytes_eq-Decides word literal).0 same))
@@ -61,14 +61,14 @@ asked_command none (word ∷ words) long version short page help =
     rw (take_rest (word ∷ words) 1) (first_asked word.now (map (λ w. w.now) words) (other _ _ version) (rw (other _ _ short) (other _ _ page)) (other _ _ help))
 
 -- what a command does by its words
-pub asked_words : (word : List ℕ) (words : List (List ℕ)) (name : Name) (read : Reading) → name_of word ≡ Some name → asks_help words ≡ false
+pub asked_words : (word : List ℕ) (words : List (List ℕ)) (name : Name) (read : Reading) → name_of word ≡ Some name
     → reading name (new_options name) words ≡ read → command_asked word words ≡ request_of_reading name read
 unfolding command_asked
-asked_words word words name read named help is = rw named (rw help (ap (request_of_reading name) is))
+asked_words word words name read named is = rw named (ap (request_of_reading name) is)
 
 -- what is wrong with the words of a command is wrong with those of the program
-pub wrong_words : (word : List ℕ) (words : List (List ℕ)) (name : Name) (fault : UsageFault) → name_of word ≡ Some name → asks_help words ≡ false
+pub wrong_words : (word : List ℕ) (words : List (List ℕ)) (name : Name) (fault : UsageFault) → name_of word ≡ Some name
     → IsWrong (reading name (new_options name) words) fault → IsWrongRequest (command_asked word words) (record { name = Some name; fault = fault })
 unfolding command_asked
-wrong_words word words name (Word w text) named help is = rw named (rw help (ap (request_of_reading name) is))
-wrong_words word words name Memory named help is = tt
+wrong_words word words name (Word w text) named is = rw named (ap (request_of_reading name) is)
+wrong_words word words name Memory named is = tt

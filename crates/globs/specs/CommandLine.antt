@@ -1,10 +1,10 @@
 -- What the words of a command line ask for, or the first of them that is wrong.
-use Rattle.std.specs.Prelude.{◌||◌, Bool, false, List, [], ◌∷◌, Option, None, Some, Ok, Err, is_some, if◌then◌else◌, codes, bytes_eq, option_map, unwrap_or}
+use Rattle.std.specs.Prelude.{◌||◌, Bool, List, [], ◌∷◌, Option, None, Some, Ok, Err, is_some, if◌then◌else◌, codes, bytes_eq, option_map, unwrap_or}
 use Rattle.glob_text.specs.Text.{Text}
 use Rattle.glob_console.specs.Words.{is_option}
 use Rattle.globs.specs.Chosen.{Chosen}
 use Rattle.globs.specs.Options.{new_options, value_taken, valued_of, with_flag}
-use Rattle.globs.specs.Reading.{Reading, Asks, Wrong, Request, Runs, Helps, VersionLine, Refused}
+use Rattle.globs.specs.Reading.{Reading, Asks, Page, Wrong, Request, Runs, Helps, VersionLine, Refused}
 use Rattle.globs.specs.declared.name.Name.{Name}
 use Rattle.globs.specs.declared.name.Name.TheVariants.{Find, Match, Ignore, Explain, Escape}
 use Rattle.globs.specs.declared.usage.Why.TheVariants as why
@@ -34,28 +34,27 @@ operands_asked o (word ∷ next ∷ words) =
     else (if is_option word then Wrong why.Unknown word
     else unwrap_or (option_map (Wrong why.Late) (first_option (next ∷ words))) (Asks o (word ∷ next ∷ words)))
 
--- The words of a command that are left, where so much is chosen. An option with a value takes the word after it.
-abbrev pub reading : Name → Chosen → List Text → Reading
-reading name o [] = Wrong why.Bare []
-reading name o (word ∷ []) =
-    if is_some (valued_of name word) then Wrong why.Valueless word
-    else (if is_some (with_flag name word o.settings) then Wrong why.Bare [] else operands_asked o (word ∷ []))
-reading name o (word ∷ next ∷ words) = elim (valued_of name word) [
-  | Some option ↦ elim (value_taken option next o) [ Ok taken ↦ reading name taken words | Err w ↦ Wrong w next ]
-  | None ↦ elim (with_flag name word o.settings) [
-    | Some settings ↦ reading name (record o { settings = settings }) (next ∷ words)
-    | None ↦ operands_asked o (word ∷ next ∷ words)
-  ]
-]
-
 -- a word that asks for a page
 abbrev pub is_help : Text → Bool
 is_help word = bytes_eq word (codes "-h") || bytes_eq word (codes "--help")
 
--- the first of the words asks for a page
-abbrev pub asks_help : List Text → Bool
-asks_help [] = false
-asks_help (word ∷ words) = is_help word
+-- The words of a command that are left, where so much is chosen. An option with a value takes the word after it. What is
+-- after a word that asks for the page is passed over.
+abbrev pub reading : Name → Chosen → List Text → Reading
+reading name o [] = Wrong why.Bare []
+reading name o (word ∷ []) =
+    if is_help word then Page
+    else (if is_some (valued_of name word) then Wrong why.Valueless word
+    else (if is_some (with_flag name word o.settings) then Wrong why.Bare [] else operands_asked o (word ∷ [])))
+reading name o (word ∷ next ∷ words) =
+    if is_help word then Page
+    else elim (valued_of name word) [
+      | Some option ↦ elim (value_taken option next o) [ Ok taken ↦ reading name taken words | Err w ↦ Wrong w next ]
+      | None ↦ elim (with_flag name word o.settings) [
+        | Some settings ↦ reading name (record o { settings = settings }) (next ∷ words)
+        | None ↦ operands_asked o (word ∷ next ∷ words)
+      ]
+    ]
 
 -- the words after `help`
 abbrev pub help_asked : List Text → Request
@@ -66,6 +65,7 @@ help_asked (word ∷ words) =
 -- what a command does by its words
 abbrev pub request_of_reading : Name → Reading → Request
 request_of_reading name (Asks o operands) = Runs name o operands
+request_of_reading name Page = Helps (Some name)
 request_of_reading name (Wrong w word) = Refused (Some name) w word
 
 -- the words after that of a command
@@ -75,9 +75,7 @@ words_asked name words = request_of_reading name (reading name (new_options name
 -- a word that is to be that of a command, and those after it
 unfoldable pub command_asked : Text → List Text → Request
 command_asked word words =
-    unwrap_or (option_map (λ name. if asks_help words then Helps (Some name) else words_asked name words)
-    (name_of word))
-    (Refused None why.Command word)
+    unwrap_or (option_map (λ name. words_asked name words) (name_of word)) (Refused None why.Command word)
 
 -- the words after the program's name; what is after those of a page is passed over
 unfoldable pub request_asked : List Text → Request

@@ -5,9 +5,10 @@ use Rattle.globs.specs.Chosen.{Chosen}
 use Rattle.globs.specs.declared.name.Name.{Name}
 use Rattle.globs.specs.declared.usage.Why.{Why}
 
--- the words of a command: what is chosen, and the operands; or nothing, since a word is wrong
+-- the words of a command: what is chosen, and the operands; its page; or nothing, since a word is wrong
 pub data Reading : Type 0 where
   Asks : Chosen → (operands : List Text) → Reading
+  Page : Reading
   Wrong : Why → (word : Text) → Reading
 
 -- the words of the program: what a command does; the page of a command, or of all; the version; or nothing, since a

@@ -1,9 +1,9 @@
 -- What the parser of a command line returns.
-use Rattle.std.specs.Prelude.{◌≡◌, Err, map, ⊤}
+use Rattle.std.specs.Prelude.{◌≡◌, Option, None, Some, Err, map, ⊤}
 use Rattle.glob_text.specs.Text.{Text}
 use Rattle.globs.specs.Chosen.{Chosen}
 use Rattle.globs.specs.Options.{value_taken}
-use Rattle.globs.specs.Reading.{Reading, Asks, Wrong, Request, Runs, Helps, VersionLine, Refused}
+use Rattle.globs.specs.Reading.{Reading, Asks, Page, Wrong, Request, Runs, Helps, VersionLine, Refused}
 use Rattle.globs.specs.declared.command.Asked.{Asked}
 use Rattle.globs.specs.declared.command.Command.{Command}
 use Rattle.globs.specs.declared.command.Command.TheVariants as command
@@ -12,8 +12,10 @@ use Rattle.globs.specs.declared.usage.UsageFault.{UsageFault}
 use Rattle.globs.specs.declared.usage.UsageFault.TheVariants.{Word, Memory}
 use Rattle.globs.specs.declared.usage.UsageLine.{UsageLine}
 
-abbrev pub asked_reading : {A : Type 0} → Asked A → Reading
-asked_reading asked = Asks asked.options (map (λ w. w.now) asked.operands.now)
+-- what the words of a command ask for: its page, where nothing is run
+abbrev pub asked_reading : {A : Type 0} → Option (Asked A) → Reading
+asked_reading None = Page
+asked_reading (Some asked) = Asks asked.options (map (λ w. w.now) asked.operands.now)
 
 -- what a command asks for
 abbrev pub request_of : {A : Type 0} → Command A → Request

@@ -1,7 +1,7 @@
 //! What the words of a command line ask for.
 ghost use Rattle.std.specs.Prelude.{◌≡◌, IfOk, IfErr, map, option_map, Option, None};
 ghost use Rattle.globs.specs.Options.{new_options};
-ghost use Rattle.globs.specs.CommandLine.{asks_help, command_asked, first_option, help_asked};
+ghost use Rattle.globs.specs.CommandLine.{command_asked, first_option, help_asked, is_help};
 ghost use Rattle.globs.specs.CommandLine.{operands_asked, reading, request_asked};
 ghost use Rattle.globs.specs.Chosen.{Chosen};
 ghost use Rattle.globs.specs.Reading.{Asks};
@@ -75,11 +75,9 @@ impl<'a, A: Allocator + Copy> Command<'a, A> {
         let Some(name) = Name::named(word) else {
             return Err(UsageLine::new(None, Why::Command, word));
         };
-        if asks_help(words) {
-            return Ok(Command::Help(Some(name)));
-        }
         match Asked::parse(alloc, name, words) {
-            Ok(asked) => Ok(Command::Run(name, asked)),
+            Ok(Some(asked)) => Ok(Command::Run(name, asked)),
+            Ok(None) => Ok(Command::Help(Some(name))),
             Err(fault) => Err(UsageLine {
                 name: Some(name),
                 fault,
@@ -88,19 +86,17 @@ impl<'a, A: Allocator + Copy> Command<'a, A> {
     }
 }
 
-/// Whether the first of the words asks for a page.
-fn asks_help(words: &[&str]) -> bool
-    ensures { result ≡ asks_help (map (λ w. w.now) words.now) }
+/// Whether the word asks for a page.
+fn asks_help(word: &str) -> bool
+    ensures { result ≡ is_help word.now }
 {
-    match words {
-        [] => false,
-        [word, ..] => *word == "-h" || *word == "--help",
-    }
+    word == "-h" || word == "--help"
 }
 
 impl<'a, A: Allocator + Copy> Asked<'a, A> {
-    /// Reads the options of a command, and the operands behind them.
-    pub fn parse(alloc: A, name: Name, words: &'a [&'a str]) -> Result<Self, UsageFault<'a>>
+    /// Reads the options of a command, and the operands behind them. `None` where one of the options asks for the page
+    /// of the command.
+    pub fn parse(alloc: A, name: Name, words: &'a [&'a str]) -> Result<Option<Self>, UsageFault<'a>>
         ensures asked { IfOk result (λ asked.
             reading name (new_options name) (map (λ w. w.now) words.now)
             ≡ asked_reading asked) }
@@ -110,6 +106,9 @@ impl<'a, A: Allocator + Copy> Asked<'a, A> {
         let mut options = Options::new(alloc, name);
         let mut rest = words;
         while let [word, after @ ..] = rest {
+            if asks_help(word) {
+                return Ok(None);
+            }
             rest = if let Some(option) = Valued::asked(name, word) {
                 let [value, others @ ..] = after else {
                     return Err(UsageFault::Word(Why::Valueless, word));
@@ -127,14 +126,17 @@ impl<'a, A: Allocator + Copy> Asked<'a, A> {
     }
 
     /// What is asked by these options and by the operands behind them.
-    fn with_operands(options: Options<'a, A>, words: &'a [&'a str]) -> Result<Self, UsageFault<'a>>
+    fn with_operands(
+        options: Options<'a, A>,
+        words: &'a [&'a str],
+    ) -> Result<Option<Self>, UsageFault<'a>>
         ensures asked { IfOk result (λ asked.
             operands_asked options.entry (map (λ w. w.now) words.now) ≡ asked_reading asked) }
         ensures wrong { IfErr result
             (IsWrong (operands_asked options.entry (map (λ w. w.now) words.now))) }
     {
         let operands = operands_of(words)?;
-        Ok(Asked { options, operands })
+        Ok(Some(Asked { options, operands }))
     }
 }
 

@@ -45,7 +45,8 @@ Patterns:
   a.{c,h}   a.c and a.h, for find and match. Alternatives may be empty, or have braces of their own
 
 Options stand before the patterns, files or texts, each a word of its own: -t f, not -tf, and
---max-depth 2, not --max-depth=2. -- ends them: what is after it may begin with -.
+--max-depth 2, not --max-depth=2. -- ends them: what is after it may begin with -. Among them
+-h or --help writes the page of the command.
 
 Status:
   0         something was found, copied or matched; for escape and help, all was written

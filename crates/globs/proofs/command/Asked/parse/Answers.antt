@@ -4,8 +4,8 @@ use Rattle.globs.proofs.command.Asked.parse.Goals as goal
 
 pub loop-rest-preserved-in_ok-take : goal.loop-rest-preserved-in_ok-take
 loop-rest-preserved-in_ok-take g c =
-    sym (reading_value _ _ _ _ _ _ _ c.in-len1-up.len_at_least c.in-len1-up-after.len_at_least (sym c.asked.ensures ∙ c.in-Some.is) c.in_ok-take.ensures.taken) ∙ c.loop-rest.invariant
+    sym (reading_value _ _ _ _ _ _ _ c.in-len1-up.len_at_least c.in-len1-up-after.len_at_least (sym c.asks_help.ensures ∙ c.if-asks_help.false) (sym c.asked.ensures ∙ c.in-Some.is) c.in_ok-take.ensures.taken) ∙ c.loop-rest.invariant
 
 pub loop-rest-preserved : goal.loop-rest-preserved
 loop-rest-preserved g c =
-    sym (reading_flag _ _ _ _ _ c.in-len1-up.len_at_least (sym c.asked.ensures ∙ c.in_default-asked.is) (sym c.with_flag.ensures ∙ c.in-Some-with_flag.is)) ∙ (rw (sym c.options-in_default-asked.view_is) at c.loop-rest.invariant)
+    sym (reading_flag _ _ _ _ _ c.in-len1-up.len_at_least (sym c.asks_help.ensures ∙ c.if-asks_help.false) (sym c.asked.ensures ∙ c.in_default-asked.is) (sym c.with_flag.ensures ∙ c.in-Some-with_flag.is)) ∙ (rw (sym c.options.view_is) at c.loop-rest.invariant)
