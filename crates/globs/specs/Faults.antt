@@ -1,5 +1,5 @@
 -- The printed texts of faults. What words from outside have of control characters is seen.
-use Rattle.std.specs.Prelude.{ℕ, List, ◌++◌, ◌∷◌, Option, None, Some, ⊤, codes, if◌then◌else◌, bytes_eq, decimal}
+use Rattle.std.specs.Prelude.{ℕ, List, [], ◌++◌, ◌∷◌, Option, None, Some, ⊤, codes, if◌then◌else◌, bytes_eq, decimal}
 use Rattle.glob_console.specs.Lines.{WritesLine}
 use Rattle.glob_pattern.specs.Grammar.Faults.{range_message}
 use Rattle.glob_rules.specs.Words.{reason_words}
@@ -57,9 +57,27 @@ why_words name why.Extra = codes " stands after the text: quote the pattern"
 why_words name why.Command = codes " is no command"
 why_words name why.Empty = codes "there is no command"
 
+-- a word that was typed, in backquotes
+abbrev pub quoted : (word : Text) → Text
+quoted word = 96 ∷ (visible word ++ codes "`")
+
+-- the word that is wrong, where there is one
+abbrev pub subject_words : Why → (word : Text) → Text
+subject_words why.Unknown word = quoted word
+subject_words why.Valueless word = quoted word
+subject_words why.Limit word = quoted word
+subject_words why.Depth word = quoted word
+subject_words why.Kind word = quoted word
+subject_words why.Late word = quoted word
+subject_words why.Bare word = []
+subject_words why.Textless word = []
+subject_words why.Extra word = quoted word
+subject_words why.Command word = quoted word
+subject_words why.Empty word = []
+
 -- what is said of a word that is wrong, of a command or before one
 abbrev pub word_fault_words : Option Name → Why → (word : Text) → Text
-word_fault_words name w word = visible word ++ (why_words name w ++ (codes ": " ++ help_words name))
+word_fault_words name w word = subject_words w word ++ (why_words name w ++ (codes ": " ++ help_words name))
 
 -- the line of a usage fault
 abbrev pub usage_words : UsageLine → Text
@@ -104,7 +122,7 @@ fault_words lines = elim lines.fault [
 
 -- those of an alternative of a word
 abbrev pub alternative_words : AlternativeLines → Text
-alternative_words lines = visible lines.word.now ++ (codes ": " ++ fault_words lines.lines)
+alternative_words lines = quoted lines.word.now ++ (codes ": " ++ fault_words lines.lines)
 
 -- the line of rules that are refused; what the system says of a file is not known
 abbrev pub rules_words : RulesFault → Option Text

@@ -124,6 +124,6 @@ impl Display for AlternativeLines<'_> {
 
     fn fmt<W: fmt::Write>(&self, f: &mut fmt::Formatter<W>) -> fmt::Result {
         let word = Visible { text: self.word };
-        write!(f, "{word}: {}", self.lines)
+        write!(f, "`{word}`: {}", self.lines)
     }
 }

@@ -1,6 +1,6 @@
 //! What is wrong with a command line.
 ghost use Rattle.std.specs.Prelude.{◌≡◌, Some};
-ghost use Rattle.globs.specs.Faults.{help_words, usage_words, why_words};
+ghost use Rattle.globs.specs.Faults.{help_words, subject_words, usage_words, why_words};
 ghost use Rattle.globs.specs.declared.usage.UsageFault.TheVariants.{Word};
 
 use crate::name::Name;
@@ -82,11 +82,37 @@ impl Display for UsageLine<'_> {
     fn fmt<W: fmt::Write>(&self, f: &mut fmt::Formatter<W>) -> fmt::Result {
         match self.fault {
             UsageFault::Word(why, word) => {
-                let word = Visible { text: word };
+                let subject = Subject { why, word };
                 let help = Help { name: self.name };
-                write!(f, "{word}{}: {help}", why.words(self.name))
+                write!(f, "{subject}{}: {help}", why.words(self.name))
             }
             UsageFault::Memory => f.write_str("out of memory"),
+        }
+    }
+}
+
+/// The word that is wrong, in backquotes, where there is one.
+#[derive(Clone, Copy)]
+struct Subject<'a> {
+    why: Why,
+    word: &'a str,
+}
+
+impl Display for Subject<'_> {
+    ghost output = { λ subject. Some (subject_words subject.why subject.word.now) };
+
+    fn fmt<W: fmt::Write>(&self, f: &mut fmt::Formatter<W>) -> fmt::Result {
+        let word = Visible { text: self.word };
+        match self.why {
+            Why::Bare | Why::Textless | Why::Empty => Ok(()),
+            Why::Unknown
+            | Why::Valueless
+            | Why::Limit
+            | Why::Depth
+            | Why::Kind
+            | Why::Late
+            | Why::Extra
+            | Why::Command => write!(f, "`{word}`"),
         }
     }
 }
