@@ -94,7 +94,7 @@ fn answer<A: Allocator + Copy, W: Write, E: Write>(
                 errors,
             )
         }
-        Err(PatternRefusal::Syntax(error)) => refuse(alloc, question.pattern, error, errors),
+        Err(PatternRefusal::Syntax(error)) => refuse(alloc, question, error, errors),
         Err(PatternRefusal::Memory) => errors.fault("out of memory"),
     }
 }
@@ -128,13 +128,13 @@ fn write_explained<A: Allocator + Copy, W: Write, E: Write>(
 /// Writes why the pattern is refused, and returns the status of a fault.
 fn refuse<A: Allocator + Copy, E: Write>(
     alloc: A,
-    written: &str,
+    question: Question<'_>,
     error: PatternError,
     errors: &mut ErrorLines<'_, A, E>,
 ) -> u8
     ensures { result ≡ 2 }
 {
-    match explain_refusal(alloc, written, error) {
+    match explain_refusal(alloc, question.pattern, error, question.options) {
         Ok(lines) => errors.fault(lines),
         Err(_) => errors.fault("out of memory"),
     }

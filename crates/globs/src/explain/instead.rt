@@ -6,22 +6,21 @@ ghost use Rattle.glob_pattern.specs.Grammar.Units.{IsAccepted};
 use glob_pattern::{MatchOptions, Pattern, PatternRefusal};
 use std::alloc::{AllocError, Allocator};
 
-/// What stands for a pattern that is refused at a place, in characters from 0. `None` where nothing simple does.
+/// What stands for a pattern that is refused, under these options. `None` where nothing simple does.
+///
+/// So for `**.rs` it is `**/*.rs`, and for `a[b` it is `a[[]b`. For `a**b` it is `a*b`, or, where a `*` takes no `/`,
+/// `a*/**/*b`.
 pub fn accepted_instead<A: Allocator + Copy>(
     alloc: A,
     pattern: &str,
-    place: usize,
+    options: MatchOptions,
 ) -> Result<Option<String<A>>, AllocError>
     ensures { IfOk result (λ found. IfSome found
         (λ instead. IsAccepted (chars (string_bytes instead)))) }
 {
-    let wider = with_whole_components(alloc, pattern)?;
-    if is_accepted(alloc, wider.as_str())? {
-        return Ok(Some(wider));
-    }
-    let plain = with_plain_bracket(alloc, pattern, place)?;
-    if is_accepted(alloc, plain.as_str())? {
-        return Ok(Some(plain));
+    let instead = with_plain_forms(alloc, pattern, options)?;
+    if is_accepted(alloc, instead.as_str())? {
+        return Ok(Some(instead));
     }
     Ok(None)
 }
@@ -53,51 +52,75 @@ pub fn is_accepted<A: Allocator + Copy>(alloc: A, text: &str) -> Result<bool, Al
     }
 }
 
-/// The pattern, where two or more `*` are a component of their own: `**.rs` becomes `**/*.rs`.
-fn with_whole_components<A: Allocator>(alloc: A, pattern: &str) -> Result<String<A>, AllocError> {
+/// The pattern, where two or more `*` are a component of their own, and a `[` that no `]` closes is in a bracket. What
+/// brackets list stays.
+fn with_plain_forms<A: Allocator>(
+    alloc: A,
+    pattern: &str,
+    options: MatchOptions,
+) -> Result<String<A>, AllocError> {
     let mut made = String::new(alloc);
     let mut rest = pattern;
+    // Each part has at least one byte, so that these turns suffice. Those that are left add nothing.
     for _ in 0..pattern.len() {
-        let Some((before, after)) = rest.split_once("**") else {
-            break;
-        };
-        rest = after.trim_start_matches('*');
-        add_component(&mut made, before, rest)?;
+        rest = add_part(&mut made, rest, options)?;
     }
-    made.push_str(rest)?;
     Ok(made)
 }
 
-/// Adds what is before a `**`, and that as a component. `rest` follows it.
-fn add_component<A: Allocator>(
+/// Adds what stands for the first part of a text, which is two or more `*`, a bracket or a character, and returns what
+/// follows it.
+fn add_part<'a, A: Allocator>(
     made: &mut String<A>,
-    before: &str,
+    text: &'a str,
+    options: MatchOptions,
+) -> Result<&'a str, AllocError> {
+    if text.starts_with("**") {
+        let rest = text.trim_start_matches('*');
+        add_stars(made, rest, options)?;
+        return Ok(rest);
+    }
+    if let Some(rest) = after_bracket(text) {
+        let end = text.len().saturating_sub(rest.len());
+        made.push_str(text.get(..end).unwrap_or(""))?;
+        return Ok(rest);
+    }
+    let mut characters = text.chars();
+    match characters.next() {
+        Some('[') => made.push_str("[[]")?,
+        Some(c) => made.push(c)?,
+        None => {}
+    }
+    Ok(characters.as_str())
+}
+
+/// What follows the bracket that a text begins with. `None` where it begins with none that is closed.
+fn after_bracket(text: &str) -> Option<&str> {
+    let listed = text.strip_prefix('[')?;
+    let mut characters = listed.strip_prefix('!').unwrap_or(listed).chars();
+    characters.next()?;
+    let (_, rest) = characters.as_str().split_once(']')?;
+    Some(rest)
+}
+
+/// Adds two or more `*`, which `rest` follows, as a component of their own: `a**/b` becomes `a*/**/b`. Behind other
+/// text of the last component, or between two texts of one, they are one `*` where that takes a `/`.
+fn add_stars<A: Allocator>(
+    made: &mut String<A>,
     rest: &str,
+    options: MatchOptions,
 ) -> Result<(), AllocError> {
-    made.push_str(before)?;
-    if !made.is_empty() && !made.as_str().ends_with('/') {
+    let is_first = made.is_empty() || made.as_str().ends_with('/');
+    let is_before_slash = rest.starts_with('/');
+    if !(is_first || is_before_slash || options.require_literal_separator) {
+        return made.push('*');
+    }
+    if !is_first {
         made.push_str("*/")?;
     }
     made.push_str("**")?;
-    if !rest.is_empty() && !rest.starts_with('/') {
+    if !(rest.is_empty() || is_before_slash) {
         made.push_str("/*")?;
     }
     Ok(())
-}
-
-/// The pattern, where the character at the place stands for itself: `a[b` becomes `a[[]b`.
-fn with_plain_bracket<A: Allocator>(
-    alloc: A,
-    pattern: &str,
-    place: usize,
-) -> Result<String<A>, AllocError> {
-    let mut made = String::new(alloc);
-    for (number, c) in pattern.chars().enumerate() {
-        if number == place {
-            made.push_str("[[]")?;
-        } else {
-            made.push(c)?;
-        }
-    }
-    Ok(made)
 }

@@ -2,12 +2,12 @@
 use crate::explain::instead::accepted_instead;
 use crate::patterns::message_of;
 use crate::visible::{Caret, is_seen};
-use glob_pattern::PatternError;
+use glob_pattern::{MatchOptions, PatternError};
 use std::alloc::{AllocError, Allocator};
 
 /// Explains why `Pattern::new` refused `written` with this error, in five lines: the fault, the pattern, a caret under
-/// the character of the fault, what to write instead, and where help is. The last has no line feed. The error is an
-/// allocation failure.
+/// the character of the fault, what to write instead under the options, and where help is. The last has no line feed.
+/// The error is an allocation failure.
 ///
 /// So of `a[b` they are `unclosed [`, `a[b`, a caret below the `[`, `write instead: a[[]b` and
 /// `try globs help explain`.
@@ -15,6 +15,7 @@ pub fn explain_refusal<A: Allocator + Copy>(
     alloc: A,
     written: &str,
     error: PatternError,
+    options: MatchOptions,
 ) -> Result<String<A>, AllocError> {
     let caret = Caret {
         text: written,
@@ -22,19 +23,19 @@ pub fn explain_refusal<A: Allocator + Copy>(
     };
     let message = message_of(&error);
     let mut lines = format!(in alloc; "{message}\n{caret}\n")?;
-    add_instead(alloc, &mut lines, written, error.pos)?;
+    add_instead(alloc, &mut lines, written, options)?;
     lines.push_str("\ntry globs help explain")?;
     Ok(lines)
 }
 
-/// Adds what to write instead of a text that is refused at the place.
+/// Adds what to write instead of a text that is refused.
 fn add_instead<A: Allocator + Copy>(
     alloc: A,
     lines: &mut String<A>,
     written: &str,
-    place: usize,
+    options: MatchOptions,
 ) -> Result<(), AllocError> {
-    match accepted_instead(alloc, written, place)? {
+    match accepted_instead(alloc, written, options)? {
         Some(advice) if is_seen(advice.as_str()) => {
             lines.push_str("write instead: ")?;
             lines.push_str(advice.as_str())
