@@ -1,5 +1,5 @@
 -- What the words of a command line ask for, or the first of them that is wrong.
-use Rattle.std.specs.Prelude.{◌||◌, Bool, List, [], ◌∷◌, Option, None, Some, Ok, Err, is_some, if◌then◌else◌, codes, bytes_eq, option_map, unwrap_or}
+use Rattle.std.specs.Prelude.{◌||◌, ◌&&◌, not, Bool, true, false, List, [], ◌∷◌, Option, None, Some, Ok, Err, is_some, if◌then◌else◌, codes, bytes_eq, option_map, unwrap_or}
 use Rattle.glob_text.specs.Text.{Text}
 use Rattle.glob_console.specs.Words.{is_option}
 use Rattle.globs.specs.Chosen.{Chosen}
@@ -23,16 +23,32 @@ abbrev pub first_option : List Text → Option Text
 first_option [] = None
 first_option (word ∷ words) = if is_option word then Some word else first_option words
 
+-- the command takes a pattern and a text
+abbrev pub has_text : Name → Bool
+has_text Find = false
+has_text Match = false
+has_text Ignore = false
+has_text Explain = true
+has_text Escape = false
+
+-- of the words behind a pattern to explain the one after the text, if neither begins with a hyphen
+abbrev pub extra_word : Name → List Text → Option Text
+extra_word name [] = None
+extra_word name (text ∷ []) = None
+extra_word name (text ∷ extra ∷ words) =
+    if has_text name && (not (is_option text) && not (is_option extra)) then Some extra else None
+
 -- the operands, all of which are behind the options; after `--` they may begin with a hyphen
-abbrev pub operands_asked : Chosen → List Text → Reading
-operands_asked o [] = Wrong why.Bare []
-operands_asked o (word ∷ []) =
+abbrev pub operands_asked : Name → Chosen → List Text → Reading
+operands_asked name o [] = Wrong why.Bare []
+operands_asked name o (word ∷ []) =
     if bytes_eq word (codes "--") then Wrong why.Bare []
     else (if is_option word then Wrong why.Unknown word else Asks o (word ∷ []))
-operands_asked o (word ∷ next ∷ words) =
+operands_asked name o (word ∷ next ∷ words) =
     if bytes_eq word (codes "--") then Asks o (next ∷ words)
     else (if is_option word then Wrong why.Unknown word
-    else unwrap_or (option_map (Wrong why.Late) (first_option (next ∷ words))) (Asks o (word ∷ next ∷ words)))
+    else unwrap_or (option_map (Wrong why.Extra) (extra_word name (next ∷ words)))
+    (unwrap_or (option_map (Wrong why.Late) (first_option (next ∷ words))) (Asks o (word ∷ next ∷ words))))
 
 -- a word that asks for a page
 abbrev pub is_help : Text → Bool
@@ -45,14 +61,14 @@ reading name o [] = Wrong why.Bare []
 reading name o (word ∷ []) =
     if is_help word then Page
     else (if is_some (valued_of name word) then Wrong why.Valueless word
-    else (if is_some (with_flag name word o.settings) then Wrong why.Bare [] else operands_asked o (word ∷ [])))
+    else (if is_some (with_flag name word o.settings) then Wrong why.Bare [] else operands_asked name o (word ∷ [])))
 reading name o (word ∷ next ∷ words) =
     if is_help word then Page
     else elim (valued_of name word) [
       | Some option ↦ elim (value_taken option next o) [ Ok taken ↦ reading name taken words | Err w ↦ Wrong w next ]
       | None ↦ elim (with_flag name word o.settings) [
         | Some settings ↦ reading name (record o { settings = settings }) (next ∷ words)
-        | None ↦ operands_asked o (word ∷ next ∷ words)
+        | None ↦ operands_asked name o (word ∷ next ∷ words)
       ]
     ]
 

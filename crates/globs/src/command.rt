@@ -1,7 +1,7 @@
 //! What the words of a command line ask for.
 ghost use Rattle.std.specs.Prelude.{◌≡◌, IfOk, IfErr, map, option_map, Option, None};
 ghost use Rattle.globs.specs.Options.{new_options};
-ghost use Rattle.globs.specs.CommandLine.{command_asked, first_option, help_asked, is_help};
+ghost use Rattle.globs.specs.CommandLine.{command_asked, extra_word, first_option, help_asked, is_help};
 ghost use Rattle.globs.specs.CommandLine.{operands_asked, reading, request_asked};
 ghost use Rattle.globs.specs.Chosen.{Chosen};
 ghost use Rattle.globs.specs.Reading.{Asks};
@@ -119,7 +119,7 @@ impl<'a, A: Allocator + Copy> Asked<'a, A> {
                 options.settings = settings;
                 after
             } else {
-                return Self::with_operands(options, rest);
+                return Self::with_operands(options, name, rest);
             };
         }
         Err(UsageFault::Word(Why::Bare, ""))
@@ -128,25 +128,27 @@ impl<'a, A: Allocator + Copy> Asked<'a, A> {
     /// What is asked by these options and by the operands behind them.
     fn with_operands(
         options: Options<'a, A>,
+        name: Name,
         words: &'a [&'a str],
     ) -> Result<Option<Self>, UsageFault<'a>>
         ensures asked { IfOk result (λ asked.
-            operands_asked options.entry (map (λ w. w.now) words.now) ≡ asked_reading asked) }
+            operands_asked name options.entry (map (λ w. w.now) words.now)
+            ≡ asked_reading asked) }
         ensures wrong { IfErr result
-            (IsWrong (operands_asked options.entry (map (λ w. w.now) words.now))) }
+            (IsWrong (operands_asked name options.entry (map (λ w. w.now) words.now))) }
     {
-        let operands = operands_of(words)?;
+        let operands = operands_of(name, words)?;
         Ok(Some(Asked { options, operands }))
     }
 }
 
 /// The operands behind the options. Those that begin with `-` are behind `--`.
-fn operands_of<'a>(words: &'a [&'a str]) -> Result<&'a [&'a str], UsageFault<'a>>
+fn operands_of<'a>(name: Name, words: &'a [&'a str]) -> Result<&'a [&'a str], UsageFault<'a>>
     ensures operands { IfOk result (λ operands. (o : Chosen)
-        → operands_asked o (map (λ w. w.now) words.now)
+        → operands_asked name o (map (λ w. w.now) words.now)
         ≡ Asks o (map (λ w. w.now) operands.now)) }
     ensures wrong { IfErr result (λ fault. (o : Chosen)
-        → IsWrong (operands_asked o (map (λ w. w.now) words.now)) fault) }
+        → IsWrong (operands_asked name o (map (λ w. w.now) words.now)) fault) }
 {
     match words {
         [] => Err(UsageFault::Word(Why::Bare, "")),
@@ -155,11 +157,30 @@ fn operands_of<'a>(words: &'a [&'a str]) -> Result<&'a [&'a str], UsageFault<'a>
             [_, ..] => Ok(operands),
         },
         [word, ..] if word.starts_with('-') => Err(UsageFault::Word(Why::Unknown, word)),
-        [_, others @ ..] => match first_option(others) {
-            Some(word) => Err(UsageFault::Word(Why::Late, word)),
-            None => Ok(words),
-        },
+        [_, others @ ..] => {
+            if let Some(word) = extra_word(name, others) {
+                return Err(UsageFault::Word(Why::Extra, word));
+            }
+            match first_option(others) {
+                Some(word) => Err(UsageFault::Word(Why::Late, word)),
+                None => Ok(words),
+            }
+        }
     }
+}
+
+/// Of the words behind a pattern to explain the one after the text, if neither begins with `-`.
+fn extra_word<'a>(name: Name, words: &[&'a str]) -> Option<&'a str>
+    ensures { option_map (λ w. w.now) result ≡ extra_word name (map (λ w. w.now) words.now) }
+{
+    let [text, extra, ..] = words else {
+        return None;
+    };
+    let is_explain = matches!(name, Name::Explain);
+    if is_explain && !text.starts_with('-') && !extra.starts_with('-') {
+        return Some(*extra);
+    }
+    None
 }
 
 /// The first of the words that begins with `-`.
