@@ -4,6 +4,7 @@ the sources, and code that a page quotes. Prints what is wrong, and last how man
 
 import functools
 import re
+import tempfile
 from pathlib import Path
 
 from lib.count import ROOT, Count, run
@@ -117,6 +118,21 @@ def unknown_clauses():
     return found
 
 
+def unnamed_premises():
+    """The public calls with a `requires` that the beginning of docs/DEFINITIONS.md does not name."""
+    with tempfile.TemporaryDirectory() as folder:
+        run([ROOT / "bin/reference", folder])
+        calls = re.split(r"\n\n|```", Path(folder, "contracts.md").read_text(encoding="utf-8"))
+    names = [re.search(r"fn (?:\w+::)?(\w+)", call)[1] for call in calls if re.search(r"^ *requires", call, re.M)]
+    return [name for name in names if not re.search(rf"[`:]{name}`", read("docs/DEFINITIONS.md").split("\n## ")[0])]
+
+
+def other_messages():
+    """The messages of faults that the header or the page has not."""
+    messages = re.findall(r'^const \w+: &.* = (".*");$', read("crates/glob_pattern/src/grammar.rt"), re.M)
+    return [f"{name}: {it}" for name in ("include/cadmiumdove.h", "page/page.js") for it in messages if it not in read(name)]
+
+
 def unknown_names(page):
     """The names in the text of a page, such as `some_name` or `SomeName`, that no source has."""
     text = re.sub(r"```.*?```", "", read(page), flags=re.S)
@@ -186,6 +202,8 @@ def main():
         if page != "CHANGELOG.md":
             check(f"{page}: no source has", unknown_names(page))
     check("docs/DEFINITIONS.md: no clause", unknown_clauses())
+    check("docs/DEFINITIONS.md: no call with a requires", unnamed_premises())
+    check("other messages:", other_messages())
     check("docs/FAULTS.md: no test", unknown_tests())
     check("out of date:", stale())
     check("not of the changelog's version:", other_versions())
