@@ -5,15 +5,14 @@
 
 use crate::proved::glob_pattern::{MatchOptions, Pattern};
 
-/// What stands for a pattern that is refused at a place, in characters from 0. `None` where nothing simple does.
-pub fn accepted_instead(pattern: &str, place: usize) -> Option<String> {
-    let wider = with_whole_components(pattern);
-    if is_accepted(wider.as_str()) {
-        return Some(wider);
-    }
-    let plain = with_plain_bracket(pattern, place);
-    if is_accepted(plain.as_str()) {
-        return Some(plain);
+/// What stands for a pattern that is refused, under these options. `None` where nothing simple does.
+///
+/// So for `**.rs` it is `**/*.rs`, and for `a[b` it is `a[[]b`. For `a**b` it is `a*b`, or, where a `*` takes no `/`,
+/// `a*/**/*b`.
+pub fn accepted_instead(pattern: &str, options: MatchOptions) -> Option<String> {
+    let instead = with_plain_forms(pattern, options);
+    if is_accepted(instead.as_str()) {
+        return Some(instead);
     }
     None
 }
@@ -34,42 +33,62 @@ pub fn is_accepted(text: &str) -> bool {
     }
 }
 
-/// The pattern, where two or more `*` are a component of their own: `**.rs` becomes `**/*.rs`.
-fn with_whole_components(pattern: &str) -> String {
+/// The pattern, where two or more `*` are a component of their own, and a `[` that no `]` closes is in a bracket. What
+/// brackets list stays.
+fn with_plain_forms(pattern: &str, options: MatchOptions) -> String {
     let mut made = String::new();
     let mut rest = pattern;
+    // Each part has at least one byte, so that these turns suffice. Those that are left add nothing.
     for _ in 0..pattern.len() {
-        let Some((before, after)) = rest.split_once("**") else {
-            break;
-        };
-        rest = after.trim_start_matches('*');
-        add_component(&mut made, before, rest);
+        rest = add_part(&mut made, rest, options);
     }
-    made.push_str(rest);
     made
 }
 
-/// Adds what is before a `**`, and that as a component. `rest` follows it.
-fn add_component(made: &mut String, before: &str, rest: &str) {
-    made.push_str(before);
-    if !made.is_empty() && !made.as_str().ends_with('/') {
+/// Adds what stands for the first part of a text, which is two or more `*`, a bracket or a character, and returns what
+/// follows it.
+fn add_part<'a>(made: &mut String, text: &'a str, options: MatchOptions) -> &'a str {
+    if text.starts_with("**") {
+        let rest = text.trim_start_matches('*');
+        add_stars(made, rest, options);
+        return rest;
+    }
+    if let Some(rest) = after_bracket(text) {
+        let end = text.len().saturating_sub(rest.len());
+        made.push_str(text.get(..end).unwrap_or(""));
+        return rest;
+    }
+    let mut characters = text.chars();
+    match characters.next() {
+        Some('[') => made.push_str("[[]"),
+        Some(c) => made.push(c),
+        None => {}
+    }
+    characters.as_str()
+}
+
+/// What follows the bracket that a text begins with. `None` where it begins with none that is closed.
+fn after_bracket(text: &str) -> Option<&str> {
+    let listed = text.strip_prefix('[')?;
+    let mut characters = listed.strip_prefix('!').unwrap_or(listed).chars();
+    characters.next()?;
+    let (_, rest) = characters.as_str().split_once(']')?;
+    Some(rest)
+}
+
+/// Adds two or more `*`, which `rest` follows, as a component of their own: `a**/b` becomes `a*/**/b`. Behind other
+/// text of the last component, or between two texts of one, they are one `*` where that takes a `/`.
+fn add_stars(made: &mut String, rest: &str, options: MatchOptions) {
+    let is_first = made.is_empty() || made.as_str().ends_with('/');
+    let is_before_slash = rest.starts_with('/');
+    if !(is_first || is_before_slash || options.require_literal_separator) {
+        return made.push('*');
+    }
+    if !is_first {
         made.push_str("*/");
     }
     made.push_str("**");
-    if !rest.is_empty() && !rest.starts_with('/') {
+    if !(rest.is_empty() || is_before_slash) {
         made.push_str("/*");
     }
-}
-
-/// The pattern, where the character at the place stands for itself: `a[b` becomes `a[[]b`.
-fn with_plain_bracket(pattern: &str, place: usize) -> String {
-    let mut made = String::new();
-    for (number, c) in pattern.chars().enumerate() {
-        if number == place {
-            made.push_str("[[]");
-        } else {
-            made.push(c);
-        }
-    }
-    made
 }
