@@ -14,9 +14,7 @@
 use crate::rationing::Rationed;
 use crate::replay::calls::Calls;
 use crate::replay::walking::taken;
-use crate::words::{
-    add_fault, fields_of, number_of, options_of, out_of_memory, pattern_of, unusable,
-};
+use crate::words::{add_fault, number_of, options_of, out_of_memory, pattern_of, unusable};
 use glob::{Disk, Pattern, glob_in};
 use glob_captures::{captures, reach, tokens};
 use glob_set::{PatternSet, SetRefusal};
@@ -63,7 +61,9 @@ fn add_matches(calls: &mut Calls<'_>, pattern: &str, texts: &[&str]) -> io::Resu
 
 /// Adds the answer to `captures`.
 pub fn add_captures(calls: &mut Calls<'_>, fields: &[&str]) -> io::Result<()> {
-    let [letters, pattern, text]: [&str; 3] = fields_of(fields)?;
+    let [letters, pattern, text] = fields else {
+        return Err(unusable());
+    };
     let (alloc, words) = (calls.alloc, &mut calls.words);
     let (pattern, options) = (pattern_of(alloc, pattern)?, options_of(letters)?);
     for token in tokens(alloc, &pattern)?.iter() {
@@ -88,7 +88,9 @@ pub fn add_captures(calls: &mut Calls<'_>, fields: &[&str]) -> io::Result<()> {
 
 /// Adds the answer to `walk`.
 fn add_walk(calls: &mut Calls<'_>, rt: HostRuntime, fields: &[&str]) -> io::Result<()> {
-    let [letters, limit, pattern]: [&str; 3] = fields_of(fields)?;
+    let [letters, limit, pattern] = fields else {
+        return Err(unusable());
+    };
     let (limit, disk) = (number_of(limit)? as u64, Disk::new(rt, calls.alloc));
     match glob_in(calls.alloc, disk, pattern, options_of(letters)?, limit) {
         Ok(paths) => {
@@ -107,16 +109,11 @@ pub fn add_set(calls: &mut Calls<'_>, fields: &[&str]) -> io::Result<()> {
     };
     let (alloc, words) = (calls.alloc, &mut calls.words);
     let (patterns, texts) = fields.split_at_checked(number_of(many)?).ok_or(unusable())?;
-    let options = options_of(letters)?;
-    let set = match PatternSet::from_texts(alloc, patterns, options) {
+    let set = match PatternSet::from_texts(alloc, patterns, options_of(letters)?) {
         Ok(set) => set,
         Err(SetRefusal::Syntax(number, _)) => return Ok(write!(words, "\tfault {number}")?),
         Err(SetRefusal::Memory) => return Err(out_of_memory()),
     };
-    let is_whole = set.len() == patterns.len() && set.patterns().len() == patterns.len();
-    if !is_whole || set.is_empty() != patterns.is_empty() || set.options() != options {
-        words.push_str("\tanother set")?;
-    }
     let (mut all, mut by_path) = (Vec::new(alloc), Vec::new(alloc));
     for text in texts {
         let path = Path::new(text);

@@ -7,7 +7,7 @@ pub mod calls;
 mod contents;
 mod copies;
 mod disk;
-mod disks;
+pub mod disks;
 mod goals;
 mod judges;
 mod matches;
@@ -16,9 +16,8 @@ mod settings;
 mod trees;
 pub mod walking;
 mod walks;
-mod writes;
+pub mod writes;
 
-use crate::rationing::{Memory, Rationed};
 use crate::words::cut;
 use asked_tree::raise;
 use glob::MemTree;
@@ -34,19 +33,18 @@ const FILES: &str =
 
 /// What the lines before a row have set, and how many cases of its table were compared and disagree.
 #[derive(Drop)]
-pub struct Report<'a> {
+pub struct Report {
     rt: HostRuntime,
-    memory: Memory<'a>,
     settings: Settings,
-    tree: MemTree<Memory<'a>>,
+    tree: MemTree,
     cases: Cell<u64>,
     disagree: Cell<u64>,
 }
 
-impl Report<'_> {
+impl Report {
     /// Memory for what is compared.
     fn alloc(&self) -> Global {
-        self.memory.inner
+        self.rt.alloc()
     }
 
     /// Counts a case, and prints it if what was found is not what is wanted.
@@ -62,13 +60,12 @@ impl Report<'_> {
 
 /// Replays all files, and prints each of their tables. The error is that a case disagrees.
 pub fn replay_files(rt: HostRuntime) -> io::Result<()> {
-    let (memory, mut has_failed) = (&Rationed::ample(rt.alloc()), false);
+    let mut has_failed = false;
     for file in FILES.split_whitespace() {
         let mut report = Report {
             rt,
-            memory,
             settings: Settings::new(rt.alloc()),
-            tree: MemTree::new(memory)?,
+            tree: MemTree::new(rt.alloc())?,
             cases: Cell::new(0),
             disagree: Cell::new(0),
         };
@@ -83,7 +80,7 @@ pub fn replay_files(rt: HostRuntime) -> io::Result<()> {
 
 /// Replays the tables of a file, and returns whether a case disagrees. In a file of words a line that begins with a blank
 /// goes on with the one before.
-fn replay_file(report: &mut Report<'_>, file: &str) -> io::Result<bool> {
+fn replay_file(report: &mut Report, file: &str) -> io::Result<bool> {
     let mut text = fs::read_to_string(&report.rt, file)?;
     if file.ends_with(".txt") {
         text = text.replace(report.alloc(), "\n ", " ")?;
@@ -102,10 +99,11 @@ fn replay_file(report: &mut Report<'_>, file: &str) -> io::Result<bool> {
 }
 
 /// Replays a line of a table: a row, or a setting, before which nothing is in the tree that rows change.
-fn replay_line(report: &mut Report<'_>, file: &str, line: &str) -> io::Result<()> {
+fn replay_line(report: &mut Report, file: &str, line: &str) -> io::Result<()> {
+    let alloc = report.alloc();
     let sign = if file.ends_with(".tsv") { "\t" } else { " =>" };
     let Some((asked, answer)) = line.split_once(sign) else {
-        report.tree = MemTree::new(report.memory)?;
+        report.tree = MemTree::new(alloc)?;
         return report.settings.set(line);
     };
     match file {

@@ -9,7 +9,7 @@ use std::io::{self, ErrorKind, Read, Write};
 
 /// What goes wrong with a stream, at the call of this number, from 0 on.
 #[derive(Clone, Copy)]
-pub enum Trouble<'a> {
+pub enum Trouble {
     Never,
     /// It answers this error.
     Errs(u64, io::Error),
@@ -21,8 +21,6 @@ pub enum Trouble<'a> {
     Holds(io::Error),
     /// It gives the same bytes again and again.
     Repeats,
-    /// It answers an error at a write that is not due. Each word is what the clock shows at a write.
-    Awaits(&'a str),
 }
 
 /// A reader of some bytes, or a writer into memory.
@@ -31,44 +29,37 @@ pub struct Stream<'a> {
     rest: &'a [u8],
     /// How many bytes it moves a call at most.
     pub most: usize,
-    pub trouble: Trouble<'a>,
+    pub trouble: Trouble,
     /// What was written.
     pub written: Vec<u8>,
     /// How many reads or writes there were, and how many flushes.
     pub calls: u64,
     pub flushes: u64,
-    /// A clock, which goes on by one at each write.
+    /// A clock, which goes on by one at each write, and what it shows before.
     pub clock: Option<&'a Cell<u64>>,
+    pub times: Vec<u64>,
 }
 
 impl<'a> Stream<'a> {
     /// The stream that a row writes: the most bytes of a call, and a trouble, as `3 errs 2 Other`.
-    pub fn new(alloc: Global, rest: &'a [u8], words: &'a str) -> io::Result<Self> {
+    pub fn new(alloc: Global, rest: &'a [u8], words: &str) -> io::Result<Self> {
         let (most, trouble) = words.split_once(' ').unwrap_or((words, ""));
+        let trouble = trouble_of(trouble)?;
         Ok(Stream {
             rest,
             most: number_of(most)?,
-            trouble: trouble_of(trouble)?,
+            trouble,
             written: Vec::new(alloc),
             calls: 0,
             flushes: 0,
             clock: None,
+            times: Vec::new(alloc),
         })
     }
 
     /// The text that was written.
     pub fn text(&self) -> io::Result<&str> {
         str::from_utf8(self.written.as_slice()).map_err(|_| unusable())
-    }
-
-    /// Whether the clock shows what this write awaits, if it does: a number, or from one to another, as `307-407`.
-    fn is_due(&self) -> io::Result<bool> {
-        let (Some(clock), Trouble::Awaits(times)) = (self.clock, self.trouble) else {
-            return Ok(true);
-        };
-        let word = times.split(' ').nth(self.calls as usize).unwrap_or("");
-        let (first, last) = word.split_once('-').unwrap_or((word, word));
-        Ok(number_of(first)? as u64 <= clock.get() && clock.get() <= number_of(last)? as u64)
     }
 
     /// Counts a call, and gives how many of so many bytes it moves.
@@ -87,12 +78,11 @@ impl<'a> Stream<'a> {
 }
 
 /// What the words of a row say that goes wrong.
-fn trouble_of(words: &str) -> io::Result<Trouble<'_>> {
+fn trouble_of(words: &str) -> io::Result<Trouble> {
     let (kind, rest) = words.split_once(' ').unwrap_or((words, ""));
     match kind {
         "" => Ok(Trouble::Never),
         "repeats" => Ok(Trouble::Repeats),
-        "at" => Ok(Trouble::Awaits(rest)),
         "interrupts" => Ok(Trouble::Interrupts),
         "holds" => Ok(Trouble::Holds(error_of(rest)?)),
         "idles" => Ok(Trouble::Idles(number_of(rest)? as u64)),
@@ -104,26 +94,19 @@ fn trouble_of(words: &str) -> io::Result<Trouble<'_>> {
     }
 }
 
-/// The error that a word names: one of a number of the system, or of a kind, after which may follow `=` and words of its own.
+/// The error that a word names: one of a kind, of a number of the system, or of words of its own.
 pub fn error_of(word: &str) -> io::Result<io::Error> {
-    let (name, words) = word.split_once('=').unwrap_or((word, ""));
-    let kind = match name {
-        "Other" => ErrorKind::Other,
-        "NotFound" => ErrorKind::NotFound,
-        "Interrupted" => ErrorKind::Interrupted,
-        "WouldBlock" => ErrorKind::WouldBlock,
-        "UnexpectedEof" => ErrorKind::UnexpectedEof,
-        "BrokenPipe" => ErrorKind::BrokenPipe,
-        "OutOfMemory" => ErrorKind::OutOfMemory,
-        "InvalidData" => ErrorKind::InvalidData,
-        number => {
-            let code = number.parse::<i32>().map_err(|_| unusable())?;
-            return Ok(io::Error::from_raw_os_error(code));
-        }
-    };
-    Ok(match words {
-        "" => io::Error::from(kind),
-        words => io::Error::new(kind, words),
+    Ok(match word {
+        "Other" => io::Error::from(ErrorKind::Other),
+        "Interrupted" => io::Error::from(ErrorKind::Interrupted),
+        "WouldBlock" => io::Error::from(ErrorKind::WouldBlock),
+        "UnexpectedEof" => io::Error::from(ErrorKind::UnexpectedEof),
+        "BrokenPipe" => io::Error::from(ErrorKind::BrokenPipe),
+        "OutOfMemory" => io::Error::from(ErrorKind::OutOfMemory),
+        "InvalidData" => io::Error::from(ErrorKind::InvalidData),
+        "its-own" => io::Error::new(ErrorKind::Interrupted, "words of its own"),
+        "no-memory" => io::Error::new(ErrorKind::OutOfMemory, "the disk has no memory"),
+        number => io::Error::from_raw_os_error(number.parse::<i32>().map_err(|_| unusable())?),
     })
 }
 
@@ -145,10 +128,8 @@ impl Write for Stream<'_> {
     ghost contents = { λ _. None };
 
     fn write(&mut self, buf: &[u8]) -> io::Result<usize> {
-        if buf.is_empty() || !self.is_due()? {
-            return Err(unusable());
-        }
         if let Some(clock) = self.clock {
+            self.times.push(clock.get())?;
             raise(clock, 1);
         }
         let len = self.count(buf.len())?;

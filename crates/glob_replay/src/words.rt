@@ -29,11 +29,6 @@ pub fn cut<'a>(text: &'a str, sign: &str) -> io::Result<(&'a str, &'a str)> {
     text.split_once(sign).ok_or(unusable())
 }
 
-/// The fields of a row, of which there are so many.
-pub fn fields_of<'a, const N: usize>(row: &[&'a str]) -> io::Result<[&'a str; N]> {
-    row.try_into().map_err(|_| unusable())
-}
-
 /// The options whose letters come after a dash, or alone.
 pub fn options_of(setting: &str) -> io::Result<MatchOptions> {
     MatchOptions::from_letters(setting.trim_start_matches('-')).ok_or(unusable())
@@ -64,8 +59,8 @@ pub fn are_same(alloc: Global, one: &io::Error, other: &io::Error) -> Result<boo
     Ok(is_kind && words == other_words)
 }
 
-/// The text that a word stands for: `''` is the empty text, `<3:a/>b` is `a/a/a/b`, `<3:f№ >` is `f0 f1 f2 `, `⏎` a line
-/// feed, and `␍` a carriage return.
+/// The text that a word stands for: `''` is the empty text, `<3:a/>b` is `a/a/a/b`, `⏎` a line feed, and `␍`
+/// a carriage return.
 pub fn text_of(alloc: Global, word: &str) -> io::Result<String> {
     if word == "''" {
         return Ok(String::new(alloc));
@@ -74,23 +69,10 @@ pub fn text_of(alloc: Global, word: &str) -> io::Result<String> {
     for part in word.split('<').skip(1) {
         let (times, rest) = cut(part, ":")?;
         let (repeated, after) = cut(rest, ">")?;
-        text.push_str(&copies_of(alloc, repeated, number_of(times)?)?)?;
+        text.push_str(&repeated.repeat(alloc, number_of(times)?)?)?;
         text.push_str(after)?;
     }
     Ok(text.replace(alloc, "⏎", "\n")?.replace(alloc, "␍", "\r")?)
-}
-
-/// So many copies of a text, each with its number, from 0 on, in place of `№`.
-fn copies_of(alloc: Global, text: &str, times: usize) -> Result<String, AllocError> {
-    if !text.contains('№') {
-        return text.repeat(alloc, times);
-    }
-    let mut copies = String::new(alloc);
-    for number in 0..times {
-        let digits = format!(in alloc; "{number}")?;
-        copies.push_str(&text.replace(alloc, "№", &digits)?)?;
-    }
-    Ok(copies)
 }
 
 /// Items, each after a tab and, if it is a path, `=`, with a blank in place of these.

@@ -1,6 +1,10 @@
-//! Tests of what no table says: folders that are removed, what is printed, and the callers that the pages quote.
+//! Tests of what no table says: streams and system calls that fail, large sizes, what is printed, and the callers that the
+//! pages quote.
+mod console;
 mod disk_walks;
+mod disks;
 mod examples;
+mod large;
 mod printing;
 mod readme;
 

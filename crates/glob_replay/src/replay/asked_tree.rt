@@ -9,7 +9,7 @@ use std::cell::Cell;
 use std::io::{self, ErrorKind};
 
 /// The answer of a listing.
-pub type Listed<A> = Result<Vec<Entry<A>, A>, ListError>;
+pub type Listed<'a> = Result<Vec<Entry<Memory<'a>>, Memory<'a>>, ListError>;
 
 /// What answers.
 #[derive(Drop)]
@@ -34,7 +34,7 @@ impl<'a> Source<'a> {
         }
     }
 
-    fn list(&mut self, path: &str) -> Listed<Memory<'a>> {
+    fn list(&mut self, path: &str) -> Listed<'a> {
         match self {
             Source::Known(tree) => tree.list(path),
             Source::Written(alloc, _, lists) => match next_word(lists) {
@@ -55,7 +55,7 @@ fn next_word<'a>(words: &mut &'a str) -> &'a str {
 }
 
 /// The entries of names between commas, with `/` after directories. `''` is none.
-fn entries_of<'a>(alloc: Memory<'a>, names: &str) -> Listed<Memory<'a>> {
+fn entries_of<'a>(alloc: Memory<'a>, names: &str) -> Listed<'a> {
     let mut entries = Vec::new(alloc);
     for name in names.split(',').filter(|name| *name != "''") {
         let is_dir = name.ends_with('/');
@@ -134,7 +134,7 @@ impl<'a> Tree for AskedTree<'a> {
         self.source.look(path)
     }
 
-    fn list(&mut self, path: &str) -> Listed<Memory<'a>> {
+    fn list(&mut self, path: &str) -> Listed<'a> {
         raise(&self.counts.listings, 1);
         self.count(1);
         let entries = self.source.list(path)?;
@@ -142,7 +142,7 @@ impl<'a> Tree for AskedTree<'a> {
         Ok(entries)
     }
 
-    fn list_names(&mut self, path: &str) -> Listed<Memory<'a>> {
+    fn list_names(&mut self, path: &str) -> Listed<'a> {
         raise(&self.counts.namings, 1);
         self.list(path)
     }

@@ -46,22 +46,12 @@ pub fn found_by(alloc: Global, row: &[&str], (most, room): Most) -> io::Result<(
     Ok((found, asked))
 }
 
-/// What calls answer with ample memory, and what is wrong where one of their requests is refused.
+/// What calls answer with ample memory, and what is wrong where one of their requests is refused: they answer so, or a
+/// first part of it and are then out of memory, and hold no block in the end. Only where a call asks again, as `collect`
+/// does, is the answer whole although a request was refused.
 pub fn found_if_refused(alloc: Global, row: &[&str], most: Most) -> io::Result<String> {
     let (answer, asked) = found_by(alloc, row, most)?;
-    found_at_each(alloc, row, answer, asked)
-}
-
-/// The answer of calls, or what is wrong where one of so many first requests is refused: they answer so, or a first part of
-/// it and are then out of memory, and hold no block in the end. Only where a call asks again, as `collect` does, or is made again,
-/// is the answer whole although a request was refused.
-pub fn found_at_each(
-    alloc: Global,
-    row: &[&str],
-    answer: String,
-    first: u64,
-) -> io::Result<String> {
-    for number in 1..=first {
+    for number in 1..=asked {
         let scarce = Rationed::refusing(number, alloc);
         let mut calls = Calls::new(&scarce);
         let made = make(&mut calls, row);

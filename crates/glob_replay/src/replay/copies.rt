@@ -5,7 +5,7 @@ ghost use Rattle.std.specs.Prelude.{◌==◌, slice_index_or};
 use super::calls::Calls;
 use crate::rationing::Memory;
 use crate::streams::{Stream, Trouble};
-use crate::words::{are_same, fields_of, out_of_memory, pattern_of, unusable};
+use crate::words::{are_same, out_of_memory, pattern_of, unusable};
 use glob::{LineFault, MatchOptions, Watch, filter_lines, filter_records};
 use glob_lines::{Selection, copy_selected};
 use std::alloc::{AllocError, Global};
@@ -40,11 +40,13 @@ struct Copied<'a> {
 /// Copies records from the reader to the writer of a row: those that are `marked`, or else that the pattern matches. The ones
 /// that a line feed ends are lines.
 fn copy<'a>(alloc: Memory<'_>, row: &[&'a str]) -> io::Result<Copied<'a>> {
-    let [selection, end, reading, writing, input]: [&str; 5] = fields_of(row)?;
+    let [selection, end, reading, writing, input] = row else {
+        return Err(unusable());
+    };
     let end = end.bytes().next().ok_or(unusable())?;
     let mut reader = Watch::new(Stream::new(alloc.inner, input.as_bytes(), reading)?);
     let mut writer = Watch::new(Stream::new(alloc.inner, b"", writing)?);
-    let answer = if selection == "marked" {
+    let answer = if *selection == "marked" {
         copy_selected(alloc, &Marked, end, &mut reader, &mut writer)
     } else {
         let (pattern, options) = (pattern_of(alloc, selection)?, MatchOptions::new());

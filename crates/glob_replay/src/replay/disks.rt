@@ -2,28 +2,27 @@
 //! system calls fail, which no test can make on a real disk.
 ghost use Rattle.std.specs.Prelude.{bytes_eq};
 
-mod files;
+pub mod files;
 
 use super::calls::Calls;
 use super::trees::add_entries;
 use super::walking::Found;
 use crate::rationing::Memory;
-use crate::streams::error_of;
-use crate::words::{are_same, fields_of, number_of, refused, unusable};
+use crate::words::refused;
 use ErrorKind::{
     FilesystemLoop, NotADirectory, NotFound, OutOfMemory, PermissionDenied, StaleNetworkFileHandle,
 };
-use files::Kind::{Dir, Failing, File, Link, LinkToDir, LinkToFile, Lost, Torn};
+use files::Kind::{Dir, File, Link, LinkToDir, LinkToFile, Lost, Torn};
 use files::{Noted, Planted, SystemCalls, Written};
-use glob::{Disk, MatchOptions, Tree, glob_in, walk_in};
+use glob::{Disk, MatchOptions, Tree, walk_in};
 use glob_prune::{Exclusion, Links, PhysicalDisk, Pruned};
 use std::alloc::AllocError;
 use std::io::{self, ErrorKind, Write};
 
 /// One path is left out.
 #[derive(Drop)]
-struct Named {
-    path: &'static str,
+pub struct Named {
+    pub path: &'static str,
 }
 
 impl Exclusion for Named {
@@ -34,77 +33,56 @@ impl Exclusion for Named {
     }
 }
 
-/// A disk, and a call of it about a path.
-#[derive(Clone, Copy)]
-struct Asked<'a> {
-    disk: &'a str,
-    call: &'a str,
-    path: &'a str,
-}
+/// A disk, the question that it is asked, and the path that the question is about.
+pub type Asked<'a> = (&'a str, &'a str, &'a str);
 
-/// What a disk of the files answers, or `$` if the system is out of memory. The disk is a `disk`, which follows links, one that
-/// is `pruned` of `p/s`, or a `PhysicalDisk` with links `kept` or `followed`. The error is memory that was refused.
-fn answer_of(alloc: Memory<'_>, files: Written<'_>, asked: Asked<'_>) -> io::Result<String> {
-    let (mut found, system) = (Calls::new(alloc), files.system);
-    let noted = Noted { system };
-    let answered = match asked.disk {
-        "disk" => found.ask(Disk::new(files, alloc), asked),
+/// Adds what a disk of the files answers. The disk is a `disk`, which follows links, one that is `pruned` of `p/s`, or a
+/// `PhysicalDisk` with links `kept` or `followed`.
+pub fn ask(calls: &mut Calls<'_>, files: &Written<'_>, asked: Asked<'_>) -> io::Result<()> {
+    let (alloc, words, files) = (calls.alloc, &mut calls.words, *files);
+    let noted = Noted { calls: files.calls };
+    match asked.0 {
+        "disk" => add_answer(words, alloc, Disk::new(files, alloc), asked),
         "followed" => {
             let disk = PhysicalDisk::with_links(files, noted, alloc, Links::Followed);
-            found.ask(disk, asked)
+            add_answer(words, alloc, disk, asked)
         }
-        "kept" => found.ask(PhysicalDisk::new(files, noted, alloc), asked),
+        "kept" => add_answer(words, alloc, PhysicalDisk::new(files, noted, alloc), asked),
         _ => {
-            let named = Named { path: "p/s" };
-            found.ask(Pruned::new(alloc, Disk::new(files, alloc), named), asked)
-        }
-    };
-    match answered {
-        Ok(()) => Ok(found.words),
-        Err(error) if alloc.ration.has_refused() => Err(error),
-        Err(_) => Ok(String::from_str(alloc.inner, "$ ")?),
-    }
-}
-
-impl<'a> Calls<'a> {
-    /// Adds what a tree answers. What a `look` finds is `Dir`, `Other` or `Missing`. Of entries there are the names, a
-    /// directory's with `/` at its end, and a blank after each, and so of a walk the paths. After `!` there is an error, or
-    /// the path that a walk could not read.
-    fn ask<T: Tree<Alloc = Memory<'a>>>(&mut self, tree: T, asked: Asked<'_>) -> io::Result<()> {
-        let (mut tree, path, words) = (tree, asked.path, &mut self.words);
-        match asked.call {
-            "look" => Ok(write!(words, "{:?} ", tree.look(path)?)?),
-            "look a thousand times" => {
-                let seen = tree.look(path)?;
-                for _ in 1..1_000 {
-                    if tree.look(path)? != seen {
-                        words.push_str("otherwise ")?;
-                    }
-                }
-                Ok(write!(words, "{seen:?} ")?)
-            }
-            "list" => add_entries(words, tree.list(path)),
-            "names" => add_entries(words, tree.list_names(path)),
-            _ => {
-                let options = MatchOptions::new();
-                let walk = walk_in(self.alloc, tree, path, options, 1_000).map_err(refused)?;
-                Found::of(self.alloc.inner, walk)?.add_to(words)?;
-                Ok(words.push(' ')?)
-            }
+            let disk = Pruned::new(alloc, Disk::new(files, alloc), Named { path: "p/s" });
+            add_answer(words, alloc, disk, asked)
         }
     }
 }
 
-/// Makes the call in the second field of the disks in the first about the paths in the third. The words are the answer and
-/// the system calls, which are the same for all.
-pub fn ask_each(calls: &mut Calls<'_>, disks: &str, call: &str, paths: &str) -> io::Result<()> {
+/// Adds what a tree answers. What a `look` finds is `Dir`, `Other` or `Missing`. Of entries there are the names, a
+/// directory's with `/` at its end, and a blank after each, and so of a walk the paths. After `!` there is an error, or
+/// the path that a walk could not read.
+fn add_answer<T: Tree>(
+    words: &mut String,
+    alloc: T::Alloc,
+    mut tree: T,
+    (_, question, path): Asked<'_>,
+) -> io::Result<()> {
+    match question {
+        "look" => Ok(write!(words, "{:?} ", tree.look(path)?)?),
+        "list" => add_entries(words, tree.list(path)),
+        "names" => add_entries(words, tree.list_names(path)),
+        _ => {
+            let walk = walk_in(alloc, tree, path, MatchOptions::new(), 1_000).map_err(refused)?;
+            Found::of(*words.allocator(), walk)?.add_to(words)?;
+            Ok(words.push(' ')?)
+        }
+    }
+}
+
+/// Asks the disks in the first field the question in the second about the paths in the third. The words are the answer,
+/// which is the same for all.
+pub fn ask_each(calls: &mut Calls<'_>, disks: &str, question: &str, paths: &str) -> io::Result<()> {
     for disk in disks.split(' ') {
         for path in paths.split(' ') {
             let path = if path == "''" { "" } else { path };
-            let (paths, system) = (PATHS, &SystemCalls::default());
-            let asked = Asked { disk, call, path };
-            let mut answer = answer_of(calls.alloc, Written { paths, system }, asked)?;
-            add_calls(&mut answer, system, asked)?;
+            let answer = answer_of(calls.alloc, (disk, question, path))?;
             if calls.words.is_empty() {
                 calls.words.push_str(&answer)?;
             } else if calls.words != answer {
@@ -115,103 +93,37 @@ pub fn ask_each(calls: &mut Calls<'_>, disks: &str, call: &str, paths: &str) -> 
     Ok(())
 }
 
+/// The answer of a disk, `$` if the system is out of memory, and its calls. The error is memory that was refused.
+fn answer_of(alloc: Memory<'_>, asked: Asked<'_>) -> io::Result<String> {
+    let (paths, calls, mut found) = (PATHS, &SystemCalls::default(), Calls::new(alloc));
+    match ask(&mut found, &Written { paths, calls }, asked) {
+        Err(error) if alloc.ration.has_refused() => return Err(error),
+        Err(_) => found.words = String::from_str(alloc.inner, "$ ")?,
+        Ok(()) => {}
+    }
+    add_calls(&mut found.words, calls, asked)?;
+    Ok(found.words)
+}
+
 /// Adds how often a path was looked up for a look, or else a directory opened, and whether something was reported. Nothing
 /// is opened for a look, each entry of a listing is looked up once, and none for its name alone.
-fn add_calls(words: &mut String, system: &SystemCalls, asked: Asked<'_>) -> Result<(), AllocError> {
-    let (lookups, opens) = (system.lookups.get(), system.opens.get());
-    let entries = words.split_terminator(' ').count() as u64;
-    let is_listed = asked.disk == "disk" && !words.contains(['!', '$']);
-    let (count, are_few) = match asked.call {
+fn add_calls(answer: &mut String, calls: &SystemCalls, asked: Asked<'_>) -> Result<(), AllocError> {
+    let (disk, question, _) = asked;
+    let (lookups, opens) = (calls.lookups.get(), calls.opens.get());
+    let entries = answer.split_terminator(' ').count() as u64;
+    let is_listed = disk == "disk" && !answer.contains(['!', '$']);
+    let (count, are_few) = match question {
         "look" => (lookups, opens == 0),
         "names" => (opens, lookups == 0),
         "list" if is_listed => (opens, lookups == entries),
         _ => (opens, true),
     };
-    write!(words, "{count}{}", if are_few { "" } else { " calls" })?;
-    match system.reports.get() {
+    write!(answer, "{count}{}", if are_few { "" } else { " calls" })?;
+    match calls.reports.get() {
         0 => Ok(()),
-        1 => words.push_str(" reported"),
-        _ => words.push_str(" reported otherwise"),
+        1 => answer.push_str(" reported"),
+        _ => answer.push_str(" reported otherwise"),
     }
-}
-
-/// Makes a call of disks where the system fails by each of its errors, and by one with words of its own: `a`, the target of
-/// the link `l` and the entry of `e` cannot be looked up, `o` not opened, and `r` not read. Adds each disk and number of an
-/// error at which the answer is not that of the last field, where `!` is the error.
-pub fn ask_failing(calls: &mut Calls<'_>, fields: &[&str]) -> io::Result<()> {
-    let [disks, call, path, known]: [&str; 4] = fields_of(fields)?;
-    let alloc = calls.alloc;
-    for code in 0..134 {
-        let error = match code {
-            0 => io::Error::new(ErrorKind::InvalidData, "words"),
-            _ => io::Error::from_raw_os_error(code),
-        };
-        let paths = &[
-            ("a e/x", Lost(error.kind())),
-            ("l", Link(error.kind())),
-            ("e/", Dir(&[b"x\0"])),
-            ("o/", Failing(error, true)),
-            ("r/", Failing(error, false)),
-        ];
-        let system = &SystemCalls::default();
-        let printed = format!(in alloc.inner; "!{error}")?;
-        for disk in disks.split(' ') {
-            let asked = Asked { disk, call, path };
-            let answer = answer_of(alloc, Written { paths, system }, asked)?;
-            let answer = answer.replace(alloc.inner, &printed, "!")?;
-            if answer.trim_end() != known {
-                write!(calls.words, "{disk} {code} {answer}")?;
-            }
-        }
-    }
-    Ok(())
-}
-
-/// Makes a call of a disk about a directory, of which a read gives the names of the third field, and each of so many further
-/// ones those of the fourth. Adds the answer, the system calls, and how many bytes the reads had room for.
-pub fn ask_large(calls: &mut Calls<'_>, fields: &[&str]) -> io::Result<()> {
-    let [disk, call, first, further, reads]: [&str; 5] = fields_of(fields)?;
-    let (alloc, path) = (calls.alloc.inner, "a");
-    let first = first.replace(alloc, "/", "\0")?;
-    let further = further.replace(alloc, "/", "\0")?;
-    let mut blocks = Vec::new(alloc);
-    blocks.push(first.as_bytes())?;
-    for _ in 0..number_of(reads)? {
-        blocks.push(further.as_bytes())?;
-    }
-    let (paths, system) = (&[("a/", Dir(&blocks))], &SystemCalls::default());
-    let asked = Asked { disk, call, path };
-    let mut answer = answer_of(calls.alloc, Written { paths, system }, asked)?;
-    add_calls(&mut answer, system, asked)?;
-    Ok(write!(calls.words, "{answer} {}", system.room.get())?)
-}
-
-/// Walks where the path of the first field cannot be looked up, and `a` not opened, by the error of the second. Adds the
-/// path and the cause of the first item, which is this error, and what is printed of it. Its calls take no memory.
-pub fn walk_to_error(calls: &mut Calls<'_>, fields: &[&str]) -> io::Result<()> {
-    let [lost, word, pattern, limit]: [&str; 4] = fields_of(fields)?;
-    let (alloc, words, known) = (calls.alloc, &mut calls.words, error_of(word)?);
-    let paths = &[
-        (lost, Lost(known.kind())),
-        (". a a/b", Dir(&[])),
-        ("a/", Failing(known, true)),
-    ];
-    let system = &SystemCalls::default();
-    let disk = Disk::new(Written { paths, system }, alloc);
-    let (options, limit) = (MatchOptions::new(), number_of(limit)? as u64);
-    let mut items = glob_in(alloc, disk, pattern, options, limit).map_err(refused)?;
-    let Some(Err(error)) = items.next() else {
-        return Err(unusable());
-    };
-    let asked = alloc.ration.asked();
-    let (path, cause) = (error.path().as_str(), error.cause());
-    write!(words, "{path} {cause:?} {error}")?;
-    let is_known = are_same(alloc.inner, error.error(), &known)?
-        && are_same(alloc.inner, &error.into_error(), &known)?;
-    if !is_known || alloc.ration.asked() != asked {
-        words.push_str(", with another error or with memory")?;
-    }
-    Ok(())
 }
 
 const BLOCKS: &[&[u8]] = &[b"f\0s\0t\0", b"u\0"];

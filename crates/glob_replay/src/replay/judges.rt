@@ -3,7 +3,7 @@ ghost use Rattle.std.specs.Prelude.{◌&&◌, ◌==◌, ◌≡◌, ◌≤◌, no
 ghost use Rattle.std.specs.List.{list_any};
 
 use super::calls::Calls;
-use crate::words::{cut, fields_of, number_of, unusable};
+use crate::words::{cut, number_of, unusable};
 use glob::{Judge, Shape, run_positions};
 use std::io::{self, Write};
 
@@ -59,7 +59,9 @@ impl Judge for WrittenJudge<'_> {
 /// Adds whether the characters split into pieces of these shapes, in words, and what is wrong with the questions: more
 /// than shapes times characters, or for a split fewer than the characters.
 pub fn split(calls: &mut Calls<'_>, fields: &[&str]) -> io::Result<()> {
-    let [shapes, characters, opening, taken]: [&str; 4] = fields_of(fields)?;
+    let [shapes, characters, opening, taken] = fields else {
+        return Err(unusable());
+    };
     let alloc = calls.alloc.inner;
     let named = shapes.split_whitespace().filter(|word| *word != "none");
     let shapes: Vec<Shape> = named.map(|word| shape_of(word)).try_collect(alloc)?;

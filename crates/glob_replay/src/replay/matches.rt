@@ -4,7 +4,7 @@
 use super::Report;
 use super::calls::{Calls, FREELY, found_by, found_if_refused};
 use crate::rationing::Memory;
-use crate::words::{cut, fields_of, number_of, options_of, pattern_of, refused, text_of};
+use crate::words::{cut, number_of, options_of, pattern_of, refused, text_of, unusable};
 use glob::{MatchOptions, Pattern};
 use glob_captures::tokens;
 use std::alloc::{AllocError, Global};
@@ -18,7 +18,7 @@ const SHORT: usize = 63;
 type Asked<'a> = (&'a str, &'a str, MatchOptions);
 
 /// Replays a row of fields, of which the options are the first.
-pub fn replay_fields(report: &Report<'_>, setting: &str, fields: &str) -> io::Result<()> {
+pub fn replay_fields(report: &Report, setting: &str, fields: &str) -> io::Result<()> {
     let (pattern, rest) = cut(fields, "\t")?;
     let (text, answer) = cut(rest, "\t")?;
     let row = ["matches.txt", setting, pattern, text, ""];
@@ -27,7 +27,7 @@ pub fn replay_fields(report: &Report<'_>, setting: &str, fields: &str) -> io::Re
 }
 
 /// Replays a row of words, with each request for memory refused in turn.
-pub fn replay<'a>(report: &'a Report<'_>, patterns: &'a str, outcome: &'a str) -> io::Result<()> {
+pub fn replay<'a>(report: &'a Report, patterns: &'a str, outcome: &'a str) -> io::Result<()> {
     let alloc = report.alloc();
     let (outcome, most) = outcome.split_once(" ; ").unwrap_or((outcome, ""));
     let (answer, texts) = cut(outcome, " ")?;
@@ -48,25 +48,24 @@ pub fn replay<'a>(report: &'a Report<'_>, patterns: &'a str, outcome: &'a str) -
 /// is wrong: a call that answers otherwise, another number of questions, and memory that is asked for though the pattern is
 /// short.
 pub fn add_match(calls: &mut Calls<'_>, fields: &[&str]) -> io::Result<()> {
-    let [setting, source, text, most]: [&str; 4] = fields_of(fields)?;
-    let asked = (source, text, options_of(setting)?);
+    let [setting, source, text, most] = fields else {
+        return Err(unusable());
+    };
+    let asked = (*source, *text, options_of(setting)?);
     let (alloc, words) = (calls.alloc, &mut calls.words);
     let (pattern, other) = (pattern_of(alloc, source)?, read_again(alloc, source)?);
-    let copy = other.clone()?;
     let tokens = tokens(alloc, &pattern)?.len();
     let requests = alloc.ration.asked();
     let (is_match, questions) = pattern.matches_counted(text, asked.2)?;
     words.push_str(if is_match { "yes" } else { "no" })?;
-    for pattern in [&pattern, &other, &copy] {
-        if !is_answer(pattern, asked, is_match)? {
-            words.push_str(", and otherwise by another call")?;
-        }
+    if !is_answer(&pattern, asked, is_match)? || !is_answer(&other, asked, is_match)? {
+        words.push_str(", and otherwise by another call")?;
     }
     if tokens <= SHORT && alloc.ration.asked() != requests {
         words.push_str(", with memory")?;
     }
     let (least, usual) = bounds(alloc.inner, asked, (is_match, tokens))?;
-    let most = match most {
+    let most = match *most {
         "" => usual,
         most => number_of(most)?,
     };
@@ -133,10 +132,11 @@ fn step(reached: &mut [bool], token: char, text: &str) -> usize {
     count
 }
 
-/// The pattern of a text by another call than `new`.
+/// The pattern of a text by other calls than `new`.
 fn read_again<'a>(alloc: Memory<'a>, text: &str) -> io::Result<Pattern<Memory<'a>>> {
     if text.is_empty() {
         return Ok(Pattern::default(alloc));
     }
-    Pattern::from_str(alloc, text).map_err(refused)
+    let pattern = Pattern::from_str(alloc, text).map_err(refused)?;
+    Ok(pattern.clone()?)
 }

@@ -89,11 +89,8 @@ impl Found {
         }
     }
 
-    /// Adds an item, after the end of the walk, if it comes there.
+    /// Adds an item.
     fn add<A: Allocator>(&mut self, item: &GlobResult<A>) -> Result<(), AllocError> {
-        if self.end != End::Done {
-            self.items.push_str("\tafter its end")?;
-        }
         match item {
             Ok(path) => {
                 write!(self.items, "\t={}", path.as_str())?;
@@ -142,13 +139,12 @@ impl Found {
     }
 }
 
-/// What is found where a walk refuses its pattern, before which nothing may be asked: what is printed of its fault.
-fn fault(alloc: Global, refusal: PatternRefusal, asked: u64) -> io::Result<Found> {
+/// What is found where a walk refuses its pattern: what is printed of its fault.
+fn fault(alloc: Global, refusal: PatternRefusal) -> io::Result<Found> {
     let mut found = Found::new(alloc);
     match refusal {
         PatternRefusal::Syntax(fault) => write!(found.items, "\t{fault}")?,
-        PatternRefusal::Memory if asked == 0 => return Err(out_of_memory()),
-        PatternRefusal::Memory => found.items.push_str("\tasked early")?,
+        PatternRefusal::Memory => return Err(out_of_memory()),
     }
     Ok(found)
 }
@@ -158,7 +154,7 @@ pub fn gathered<'a>(alloc: Memory<'a>, tree: AskedTree<'a>, job: Job<'_>) -> io:
     let counts = tree.counts;
     let mut found = match walk_in(alloc, tree, job.pattern, job.options, job.limit) {
         Ok(walk) => Found::of(alloc.inner, walk)?,
-        Err(refusal) => fault(alloc.inner, refusal, counts.asked.get())?,
+        Err(refusal) => fault(alloc.inner, refusal)?,
     };
     found.check(counts.asked.get(), job.limit)?;
     Ok(found)
@@ -171,7 +167,7 @@ pub fn stepped<'a>(alloc: Memory<'a>, tree: AskedTree<'a>, job: Job<'_>) -> io::
     let early = counts.asked.get();
     let mut found = match paths {
         Ok(paths) => taken(alloc, paths)?,
-        Err(refusal) => fault(alloc.inner, refusal, early)?,
+        Err(refusal) => fault(alloc.inner, refusal)?,
     };
     if early != 0 {
         found.items.push_str("\tasked early")?;

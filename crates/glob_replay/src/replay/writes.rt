@@ -1,27 +1,29 @@
-//! Rows of what programs write, and when: `JOB | CONTENT | OUTPUT | ERRORS`, where the last two are writers.
+//! Rows of what programs write: `JOB | CONTENT | OUTPUT | ERRORS`, where the last two are writers.
 
 use super::asked_tree::{AskedTree, Counts};
 use super::calls::Calls;
 use super::walking::{Job, gathered};
 use crate::rationing::Memory;
 use crate::streams::{Stream, Trouble, error_of};
-use crate::words::{cut, fields_of, out_of_memory, unusable};
+use crate::words::{cut, out_of_memory, unusable};
 use glob::MatchOptions;
 use glob_console::{ErrorLines, Every, WalkSettings, find_in, write_text};
 use std::io::{self, Write};
 
 /// What a job came to.
 #[derive(Drop)]
-struct Ran<'a> {
-    status: u8,
-    output: Stream<'a>,
-    errors: Stream<'a>,
+pub struct Ran<'a> {
+    pub status: u8,
+    pub output: Stream<'a>,
+    pub errors: Stream<'a>,
 }
 
 /// Does a row's job as the program `name` over a tree of its content: `text`, `fault` or `arguments`, and what is written or
-/// reported, or `find` and a pattern. The clock of the writers is how much was asked. The error is memory that was refused.
-fn run<'a>(alloc: Memory<'a>, row: &[&'a str], counts: &'a Counts) -> io::Result<Ran<'a>> {
-    let [job, content, output, errors]: [&str; 4] = fields_of(row)?;
+/// reported, or `find` and a pattern. The writers show how much was asked. The error is memory that was refused.
+pub fn run<'a>(alloc: Memory<'a>, row: &[&str], counts: &'a Counts) -> io::Result<Ran<'a>> {
+    let [job, content, output, errors] = row else {
+        return Err(unusable());
+    };
     let mut output = Stream::new(alloc.inner, b"", output)?;
     let mut errors = Stream::new(alloc.inner, b"", errors)?;
     output.clock = Some(&counts.asked);
@@ -56,8 +58,8 @@ fn run<'a>(alloc: Memory<'a>, row: &[&'a str], counts: &'a Counts) -> io::Result
     })
 }
 
-/// Does a row's job: adds the status, and of each writer what was written, or how many bytes if it awaits its writes, and
-/// before it how many writes of many bytes there were. None that fails is flushed twice.
+/// Does a row's job: adds the status, and of each writer what was written, and before it how many writes of many bytes there
+/// were. None that fails is flushed twice.
 pub fn add_run(calls: &mut Calls<'_>, row: &[&str]) -> io::Result<()> {
     let counts = Counts::default();
     let ran = run(calls.alloc, row, &counts)?;
@@ -68,16 +70,14 @@ pub fn add_run(calls: &mut Calls<'_>, row: &[&str]) -> io::Result<()> {
 
 fn add_written(writer: &Stream<'_>, words: &mut String) -> io::Result<()> {
     words.push(' ')?;
+    let is_willing = matches!(writer.trouble, Trouble::Never | Trouble::Interrupts);
+    if !is_willing && writer.flushes > 1 {
+        words.push_str("flushed twice ")?;
+    }
     if writer.most >= 100 {
         write!(words, "{} ", writer.calls)?;
     }
-    match writer.trouble {
-        Trouble::Awaits(_) => Ok(write!(words, "in time, {} bytes", writer.written.len())?),
-        Trouble::Errs(..) | Trouble::Idles(_) | Trouble::Holds(_) if writer.flushes > 1 => {
-            Ok(write!(words, "flushed twice {}", writer.text()?)?)
-        }
-        _ => Ok(words.push_str(writer.text()?)?),
-    }
+    Ok(words.push_str(writer.text()?)?)
 }
 
 /// Adds how often entries are asked for, and how often names alone, by `find_in` and by `walk_in`.

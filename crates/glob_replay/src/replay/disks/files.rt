@@ -44,13 +44,13 @@ pub struct SystemCalls {
 /// Counts the names that it receives, each of which has to be this one, and the paths, where these are the errors.
 #[derive(Drop)]
 pub struct Noted<'a> {
-    pub system: &'a SystemCalls,
+    pub calls: &'a SystemCalls,
 }
 
 impl Strays for Noted<'_> {
     fn stray(&mut self, directory: &str, name: &[u8]) {
         let is_known = directory == "latin/" && name == b"y\xffz".as_slice();
-        raise(&self.system.reports, if is_known { 1 } else { 9 });
+        raise(&self.calls.reports, if is_known { 1 } else { 9 });
     }
 
     fn unsettled(&mut self, path: &str, error: &io::Error) {
@@ -59,7 +59,7 @@ impl Strays for Noted<'_> {
             ErrorKind::PermissionDenied => path == "d/hidden" || path == "unseen/a",
             _ => false,
         };
-        raise(&self.system.reports, if is_known { 1 } else { 9 });
+        raise(&self.calls.reports, if is_known { 1 } else { 9 });
     }
 }
 
@@ -67,7 +67,7 @@ impl Strays for Noted<'_> {
 #[derive(Clone, Copy)]
 pub struct Written<'a> {
     pub paths: &'a [Planted<'a>],
-    pub system: &'a SystemCalls,
+    pub calls: &'a SystemCalls,
 }
 
 /// The names of a directory that are not yet read, and why no more can be read after them, if so.
@@ -75,12 +75,12 @@ pub struct Written<'a> {
 pub struct Names<'a> {
     blocks: &'a [&'a [u8]],
     failure: Option<io::Error>,
-    system: &'a SystemCalls,
+    calls: &'a SystemCalls,
 }
 
 impl Read for Names<'_> {
     fn read(&mut self, buf: &mut [u8]) -> io::Result<usize> {
-        raise(&self.system.room, buf.len());
+        raise(&self.calls.room, buf.len());
         let blocks = self.blocks;
         if blocks.is_empty() {
             return self.failure.map_or(Ok(0), Err);
@@ -110,31 +110,29 @@ impl<'a> Files for Written<'a> {
     type Dir = Names<'a>;
 
     fn open_file(&self, _how: &OpenOptions, _path: &str) -> io::Result<File> {
-        Err(ErrorKind::Unsupported.into())
+        Err(unsupported())
     }
 
     fn open_dir(&self, path: &str) -> io::Result<Names<'a>> {
-        let system = self.system;
-        raise(&system.opens, 1);
+        let calls = self.calls;
+        raise(&calls.opens, 1);
         let (blocks, failure) = match self.kind(path) {
             Kind::Dir(blocks) => (blocks, None),
             Kind::Torn(blocks, kind) => (blocks, Some(io::Error::from(kind))),
             Kind::Failing(error, true) => return Err(error),
             Kind::Failing(error, false) => (NO_BLOCKS, Some(error)),
             Kind::Link(kind) | Kind::Lost(kind) => return Err(io::Error::from(kind)),
-            Kind::File | Kind::LinkToFile | Kind::LinkToDir => return Err(
-                ErrorKind::Unsupported.into(),
-            ),
+            Kind::File | Kind::LinkToFile | Kind::LinkToDir => return Err(unsupported()),
         };
         Ok(Names {
             blocks,
             failure,
-            system,
+            calls,
         })
     }
 
     fn metadata(&self, path: &str) -> io::Result<Metadata> {
-        raise(&self.system.lookups, 1);
+        raise(&self.calls.lookups, 1);
         match self.kind(path) {
             Kind::File | Kind::LinkToFile => Ok(Metadata::of_file(0)),
             Kind::Link(kind) | Kind::Lost(kind) => Err(io::Error::from(kind)),
@@ -145,7 +143,7 @@ impl<'a> Files for Written<'a> {
     fn symlink_metadata(&self, path: &str) -> io::Result<Metadata> {
         match self.kind(path) {
             Kind::LinkToFile | Kind::LinkToDir | Kind::Link(_) => {
-                raise(&self.system.lookups, 1);
+                raise(&self.calls.lookups, 1);
                 Ok(Metadata::of_symlink(0))
             }
             _ => self.metadata(path),
@@ -153,26 +151,30 @@ impl<'a> Files for Written<'a> {
     }
 
     fn copy(&self, _from: &str, _to: &str) -> io::Result<u64> {
-        Err(ErrorKind::Unsupported.into())
+        Err(unsupported())
     }
 
     fn rename(&self, _from: &str, _to: &str) -> io::Result<()> {
-        Err(ErrorKind::Unsupported.into())
+        Err(unsupported())
     }
 
     fn remove_file(&self, _path: &str) -> io::Result<()> {
-        Err(ErrorKind::Unsupported.into())
+        Err(unsupported())
     }
 
     fn create_dir(&self, _path: &str) -> io::Result<()> {
-        Err(ErrorKind::Unsupported.into())
+        Err(unsupported())
     }
 
     fn remove_dir(&self, _path: &str) -> io::Result<()> {
-        Err(ErrorKind::Unsupported.into())
+        Err(unsupported())
     }
 
     fn remove_dir_all<B: std::alloc::Allocator>(&self, _alloc: B, _path: &str) -> io::Result<()> {
-        Err(ErrorKind::Unsupported.into())
+        Err(unsupported())
     }
+}
+
+fn unsupported() -> io::Error {
+    io::Error::from(ErrorKind::Unsupported)
 }
