@@ -3,8 +3,8 @@
 //!
 //! - `match PATTERN TEXT ..` is answered by the escaped pattern and then `ok` and, for each text, eight letters `y` or
 //!   `n`, one for each setting of the options.
-//! - `captures OPTIONS PATTERN TEXT`, which `tests/captures.py` asks, is answered, with `|` between, by
-//!   each token's kind and where it ends; where each piece of the text ends, or `no`; and how far it is taken, and what waits.
+//! - `captures OPTIONS PATTERN TEXT`, which `tests/captures.py` asks, is answered, with `|` between, by each token's
+//!   kind and where it ends; where each piece of the text ends, or `no`; and how far it is taken, and what waits.
 //! - `walk OPTIONS LIMIT PATTERN` is answered by `ok`, the units of work that were charged, and the items as `Found`
 //!   has them.
 //! - `set OPTIONS NUMBER PATTERN .. TEXT ..`, with so many patterns, is answered by a field for each text: whether any
@@ -41,7 +41,8 @@ pub fn answer_lines(rt: HostRuntime) -> io::Result<()> {
     Ok(())
 }
 
-/// Adds the answer to `match`: for each text whether the pattern matches it, under each of the eight settings of the options.
+/// Adds the answer to `match`: for each text whether the pattern matches it, under each of the eight settings of the
+/// options.
 fn add_matches(calls: &mut Calls<'_>, pattern: &str, texts: &[&str]) -> io::Result<()> {
     let escaped = Pattern::escape(calls.alloc, pattern)?;
     write!(calls.words, "{}\t", escaped.as_str())?;
@@ -61,7 +62,7 @@ fn add_matches(calls: &mut Calls<'_>, pattern: &str, texts: &[&str]) -> io::Resu
 
 /// Adds the answer to `captures`.
 pub fn add_captures(calls: &mut Calls<'_>, fields: &[&str]) -> io::Result<()> {
-    let [letters, pattern, text] = fields else {
+    let [letters, pattern, text] = *fields else {
         return Err(unusable());
     };
     let (alloc, words) = (calls.alloc, &mut calls.words);
@@ -88,7 +89,7 @@ pub fn add_captures(calls: &mut Calls<'_>, fields: &[&str]) -> io::Result<()> {
 
 /// Adds the answer to `walk`.
 fn add_walk(calls: &mut Calls<'_>, rt: HostRuntime, fields: &[&str]) -> io::Result<()> {
-    let [letters, limit, pattern] = fields else {
+    let [letters, limit, pattern] = *fields else {
         return Err(unusable());
     };
     let (limit, disk) = (number_of(limit)? as u64, Disk::new(rt, calls.alloc));
@@ -109,11 +110,16 @@ pub fn add_set(calls: &mut Calls<'_>, fields: &[&str]) -> io::Result<()> {
     };
     let (alloc, words) = (calls.alloc, &mut calls.words);
     let (patterns, texts) = fields.split_at_checked(number_of(many)?).ok_or(unusable())?;
-    let set = match PatternSet::from_texts(alloc, patterns, options_of(letters)?) {
+    let options = options_of(letters)?;
+    let set = match PatternSet::from_texts(alloc, patterns, options) {
         Ok(set) => set,
         Err(SetRefusal::Syntax(number, _)) => return Ok(write!(words, "\tfault {number}")?),
         Err(SetRefusal::Memory) => return Err(out_of_memory()),
     };
+    let is_whole = set.len() == patterns.len() && set.patterns().len() == patterns.len();
+    if !is_whole || set.is_empty() != patterns.is_empty() || set.options() != options {
+        words.push_str("\tanother set")?;
+    }
     let (mut all, mut by_path) = (Vec::new(alloc), Vec::new(alloc));
     for text in texts {
         let path = Path::new(text);

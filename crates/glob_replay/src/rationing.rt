@@ -80,18 +80,11 @@ impl<A> Rationed<A> {
     pub fn ample(inner: A) -> Self
         ensures { result.ration ≡ None }
     {
-        Rationed::counted(None, inner)
+        Rationed::refusing(None, inner)
     }
 
-    /// The allocator `inner`, whose request of this number, counted from 1, is refused.
-    pub fn refusing(number: u64, inner: A) -> Self
-        ensures { result.ration ≡ Some number }
-    {
-        Rationed::counted(Some(number), inner)
-    }
-
-    /// The allocator `inner`, whose requests are counted, and of which this one is refused.
-    fn counted(refused: Option<u64>, inner: A) -> Self
+    /// The allocator `inner`, whose request of this number, counted from 1, is refused, if there is a number.
+    pub fn refusing(refused: Option<u64>, inner: A) -> Self
         ensures { result.ration ≡ refused }
     {
         let ration = Ration {

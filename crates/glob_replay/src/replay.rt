@@ -7,7 +7,7 @@ pub mod calls;
 mod contents;
 mod copies;
 mod disk;
-pub mod disks;
+mod disks;
 mod goals;
 mod judges;
 mod matches;
@@ -16,8 +16,9 @@ mod settings;
 mod trees;
 pub mod walking;
 mod walks;
-pub mod writes;
+mod writes;
 
+use crate::rationing::{Memory, Rationed};
 use crate::words::cut;
 use asked_tree::raise;
 use glob::MemTree;
@@ -33,18 +34,19 @@ const FILES: &str =
 
 /// What the lines before a row have set, and how many cases of its table were compared and disagree.
 #[derive(Drop)]
-pub struct Report {
+pub struct Report<'a> {
     rt: HostRuntime,
+    memory: Memory<'a>,
     settings: Settings,
-    tree: MemTree,
+    tree: MemTree<Memory<'a>>,
     cases: Cell<u64>,
     disagree: Cell<u64>,
 }
 
-impl Report {
+impl Report<'_> {
     /// Memory for what is compared.
     fn alloc(&self) -> Global {
-        self.rt.alloc()
+        self.memory.inner
     }
 
     /// Counts a case, and prints it if what was found is not what is wanted.
@@ -60,12 +62,13 @@ impl Report {
 
 /// Replays all files, and prints each of their tables. The error is that a case disagrees.
 pub fn replay_files(rt: HostRuntime) -> io::Result<()> {
-    let mut has_failed = false;
+    let (memory, mut has_failed) = (&Rationed::ample(rt.alloc()), false);
     for file in FILES.split_whitespace() {
         let mut report = Report {
             rt,
+            memory,
             settings: Settings::new(rt.alloc()),
-            tree: MemTree::new(rt.alloc())?,
+            tree: MemTree::new(memory)?,
             cases: Cell::new(0),
             disagree: Cell::new(0),
         };
@@ -78,9 +81,9 @@ pub fn replay_files(rt: HostRuntime) -> io::Result<()> {
     Ok(())
 }
 
-/// Replays the tables of a file, and returns whether a case disagrees. In a file of words a line that begins with a blank
-/// goes on with the one before.
-fn replay_file(report: &mut Report, file: &str) -> io::Result<bool> {
+/// Replays the tables of a file, and returns whether a case disagrees. In a file of words a line that begins with a
+/// blank goes on with the one before.
+fn replay_file(report: &mut Report<'_>, file: &str) -> io::Result<bool> {
     let mut text = fs::read_to_string(&report.rt, file)?;
     if file.ends_with(".txt") {
         text = text.replace(report.alloc(), "\n ", " ")?;
@@ -98,12 +101,11 @@ fn replay_file(report: &mut Report, file: &str) -> io::Result<bool> {
     Ok(has_failed)
 }
 
-/// Replays a line of a table: a row, or a setting, before which nothing is in the tree that rows change.
-fn replay_line(report: &mut Report, file: &str, line: &str) -> io::Result<()> {
-    let alloc = report.alloc();
+/// Replays a line of a table: a row, or a setting, which also begins a new tree for the rows that change one.
+fn replay_line(report: &mut Report<'_>, file: &str, line: &str) -> io::Result<()> {
     let sign = if file.ends_with(".tsv") { "\t" } else { " =>" };
     let Some((asked, answer)) = line.split_once(sign) else {
-        report.tree = MemTree::new(alloc)?;
+        report.tree = MemTree::new(report.memory)?;
         return report.settings.set(line);
     };
     match file {

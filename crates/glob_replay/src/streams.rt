@@ -35,31 +35,46 @@ pub struct Stream<'a> {
     /// How many reads or writes there were, and how many flushes.
     pub calls: u64,
     pub flushes: u64,
-    /// A clock, which goes on by one at each write, and what it shows before.
+    /// A clock, which each write moves on by one.
     pub clock: Option<&'a Cell<u64>>,
-    pub times: Vec<u64>,
+    /// From when to when each write is due. Where none is, writes come at any time.
+    pub due: Vec<(u64, u64)>,
 }
 
 impl<'a> Stream<'a> {
-    /// The stream that a row writes: the most bytes of a call, and a trouble, as `3 errs 2 Other`.
+    /// The stream that a row writes: the most bytes of a call, and a trouble, as `3 errs 2 Other`, or when it is
+    /// written, as `3 at 305 307-407`.
     pub fn new(alloc: Global, rest: &'a [u8], words: &str) -> io::Result<Self> {
         let (most, trouble) = words.split_once(' ').unwrap_or((words, ""));
-        let trouble = trouble_of(trouble)?;
+        let mut due = Vec::new(alloc);
+        let times = trouble.strip_prefix("at ");
+        let trouble = if times.is_some() { "" } else { trouble };
+        for word in times.unwrap_or("").split_whitespace() {
+            let (first, last) = word.split_once('-').unwrap_or((word, word));
+            due.push((number_of(first)? as u64, number_of(last)? as u64))?;
+        }
         Ok(Stream {
             rest,
             most: number_of(most)?,
-            trouble,
+            trouble: trouble_of(trouble)?,
             written: Vec::new(alloc),
             calls: 0,
             flushes: 0,
             clock: None,
-            times: Vec::new(alloc),
+            due,
         })
     }
 
     /// The text that was written.
     pub fn text(&self) -> io::Result<&str> {
         str::from_utf8(self.written.as_slice()).map_err(|_| unusable())
+    }
+
+    /// Whether a write is due, as far as that is written.
+    fn is_due(&self) -> bool {
+        let now = self.clock.map_or(0, |clock| clock.get());
+        let times = self.due.get(self.calls as usize);
+        self.due.is_empty() || times.is_some_and(|&(first, last)| first <= now && now <= last)
     }
 
     /// Counts a call, and gives how many of so many bytes it moves.
@@ -94,19 +109,27 @@ fn trouble_of(words: &str) -> io::Result<Trouble> {
     }
 }
 
-/// The error that a word names: one of a kind, of a number of the system, or of words of its own.
+/// The error that a word names: one of a number of the system, or of a kind, after which may follow `=` and words of
+/// its own.
 pub fn error_of(word: &str) -> io::Result<io::Error> {
-    Ok(match word {
-        "Other" => io::Error::from(ErrorKind::Other),
-        "Interrupted" => io::Error::from(ErrorKind::Interrupted),
-        "WouldBlock" => io::Error::from(ErrorKind::WouldBlock),
-        "UnexpectedEof" => io::Error::from(ErrorKind::UnexpectedEof),
-        "BrokenPipe" => io::Error::from(ErrorKind::BrokenPipe),
-        "OutOfMemory" => io::Error::from(ErrorKind::OutOfMemory),
-        "InvalidData" => io::Error::from(ErrorKind::InvalidData),
-        "its-own" => io::Error::new(ErrorKind::Interrupted, "words of its own"),
-        "no-memory" => io::Error::new(ErrorKind::OutOfMemory, "the disk has no memory"),
-        number => io::Error::from_raw_os_error(number.parse::<i32>().map_err(|_| unusable())?),
+    let (name, words) = word.split_once('=').unwrap_or((word, ""));
+    let kind = match name {
+        "Other" => ErrorKind::Other,
+        "NotFound" => ErrorKind::NotFound,
+        "Interrupted" => ErrorKind::Interrupted,
+        "WouldBlock" => ErrorKind::WouldBlock,
+        "UnexpectedEof" => ErrorKind::UnexpectedEof,
+        "BrokenPipe" => ErrorKind::BrokenPipe,
+        "OutOfMemory" => ErrorKind::OutOfMemory,
+        "InvalidData" => ErrorKind::InvalidData,
+        number => {
+            let code = number.parse::<i32>().map_err(|_| unusable())?;
+            return Ok(io::Error::from_raw_os_error(code));
+        }
+    };
+    Ok(match words {
+        "" => io::Error::from(kind),
+        words => io::Error::new(kind, words),
     })
 }
 
@@ -128,8 +151,10 @@ impl Write for Stream<'_> {
     ghost contents = { λ _. None };
 
     fn write(&mut self, buf: &[u8]) -> io::Result<usize> {
+        if buf.is_empty() || !self.is_due() {
+            return Err(unusable());
+        }
         if let Some(clock) = self.clock {
-            self.times.push(clock.get())?;
             raise(clock, 1);
         }
         let len = self.count(buf.len())?;

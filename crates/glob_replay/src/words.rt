@@ -59,8 +59,8 @@ pub fn are_same(alloc: Global, one: &io::Error, other: &io::Error) -> Result<boo
     Ok(is_kind && words == other_words)
 }
 
-/// The text that a word stands for: `''` is the empty text, `<3:a/>b` is `a/a/a/b`, `⏎` a line feed, and `␍`
-/// a carriage return.
+/// The text that a word stands for: `''` is the empty text, `<3:a/>b` is `a/a/a/b`, `<3:f№ >` is `f0 f1 f2 `, `⏎` a
+/// line feed, `␍` a carriage return, and `␀` a NUL.
 pub fn text_of(alloc: Global, word: &str) -> io::Result<String> {
     if word == "''" {
         return Ok(String::new(alloc));
@@ -69,10 +69,24 @@ pub fn text_of(alloc: Global, word: &str) -> io::Result<String> {
     for part in word.split('<').skip(1) {
         let (times, rest) = cut(part, ":")?;
         let (repeated, after) = cut(rest, ">")?;
-        text.push_str(&repeated.repeat(alloc, number_of(times)?)?)?;
+        text.push_str(&copies_of(alloc, repeated, number_of(times)?)?)?;
         text.push_str(after)?;
     }
-    Ok(text.replace(alloc, "⏎", "\n")?.replace(alloc, "␍", "\r")?)
+    let text = text.replace(alloc, "⏎", "\n")?.replace(alloc, "␍", "\r")?;
+    Ok(text.replace(alloc, "␀", "\0")?)
+}
+
+/// So many copies of a text, each with its number, from 0 on, in place of `№`.
+fn copies_of(alloc: Global, text: &str, times: usize) -> Result<String, AllocError> {
+    if !text.contains('№') {
+        return text.repeat(alloc, times);
+    }
+    let mut copies = String::new(alloc);
+    for number in 0..times {
+        let digits = format!(in alloc; "{number}")?;
+        copies.push_str(&text.replace(alloc, "№", &digits)?)?;
+    }
+    Ok(copies)
 }
 
 /// Items, each after a tab and, if it is a path, `=`, with a blank in place of these.

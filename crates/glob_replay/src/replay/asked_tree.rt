@@ -3,21 +3,23 @@ ghost use Rattle.std.specs.Prelude.{◌≡◌, ◌+◌, None};
 
 use super::contents::tree_of;
 use crate::rationing::Memory;
+use crate::streams::error_of;
+use crate::words::unusable;
 use glob::{Asks, Entry, ListError, Look, MemTree, Name, Tree};
 use std::alloc::AllocError;
 use std::cell::Cell;
-use std::io::{self, ErrorKind};
+use std::io;
 
 /// The answer of a listing.
-pub type Listed<'a> = Result<Vec<Entry<Memory<'a>>, Memory<'a>>, ListError>;
+pub type Listed<A> = Result<Vec<Entry<A>, A>, ListError>;
 
 /// What answers.
 #[derive(Drop)]
 pub enum Source<'a> {
     /// What is in a tree in memory.
     Known(MemTree<Memory<'a>>),
-    /// In this memory the answers of the lookups, and those of the listings, in words: the first word is the answer of the
-    /// first call, and so on. The last word is the answer of all later calls.
+    /// In this memory the answers of the lookups, and those of the listings, in words: the first word is the answer of
+    /// the first call, and so on. The last word is the answer of all later calls.
     Written(Memory<'a>, &'a str, &'a str),
 }
 
@@ -34,14 +36,15 @@ impl<'a> Source<'a> {
         }
     }
 
-    fn list(&mut self, path: &str) -> Listed<'a> {
+    fn list(&mut self, path: &str) -> Listed<Memory<'a>> {
         match self {
             Source::Known(tree) => tree.list(path),
             Source::Written(alloc, _, lists) => match next_word(lists) {
-                "!InvalidData" => Err(ListError::Read(ErrorKind::InvalidData.into())),
-                "!NotFound" => Err(ListError::Read(ErrorKind::NotFound.into())),
                 "~" => Err(ListError::Memory),
-                names => entries_of(alloc, names),
+                word => match word.strip_prefix('!') {
+                    Some(name) => Err(ListError::Read(error_of(name).unwrap_or(unusable()))),
+                    None => entries_of(alloc, word),
+                },
             },
         }
     }
@@ -55,7 +58,7 @@ fn next_word<'a>(words: &mut &'a str) -> &'a str {
 }
 
 /// The entries of names between commas, with `/` after directories. `''` is none.
-fn entries_of<'a>(alloc: Memory<'a>, names: &str) -> Listed<'a> {
+fn entries_of<'a>(alloc: Memory<'a>, names: &str) -> Listed<Memory<'a>> {
     let mut entries = Vec::new(alloc);
     for name in names.split(',').filter(|name| *name != "''") {
         let is_dir = name.ends_with('/');
@@ -134,7 +137,7 @@ impl<'a> Tree for AskedTree<'a> {
         self.source.look(path)
     }
 
-    fn list(&mut self, path: &str) -> Listed<'a> {
+    fn list(&mut self, path: &str) -> Listed<Memory<'a>> {
         raise(&self.counts.listings, 1);
         self.count(1);
         let entries = self.source.list(path)?;
@@ -142,7 +145,7 @@ impl<'a> Tree for AskedTree<'a> {
         Ok(entries)
     }
 
-    fn list_names(&mut self, path: &str) -> Listed<'a> {
+    fn list_names(&mut self, path: &str) -> Listed<Memory<'a>> {
         raise(&self.counts.namings, 1);
         self.list(path)
     }

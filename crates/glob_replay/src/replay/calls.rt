@@ -1,5 +1,5 @@
-//! Rows of calls whose memory is counted, and each of whose requests is then refused in turn. The first word of a row is the
-//! name of its file or of its calls, and the others are its fields.
+//! Rows of calls whose memory is counted, and each of whose requests is then refused in turn. The first word of a row
+//! is the name of its file or of its calls, and the others are its fields.
 
 use super::rows::make;
 use crate::rationing::{Memory, Rationed};
@@ -29,8 +29,8 @@ impl<'a> Calls<'a> {
     }
 }
 
-/// What calls answer with ample memory, and what is wrong with their requests: that they or their bytes are more than the
-/// most, or that a block is held in the end. And how many requests there are.
+/// What calls answer with ample memory, and what is wrong with their requests: that they or their bytes are more than
+/// the most, or that a block is held in the end. And how many requests there are.
 pub fn found_by(alloc: Global, row: &[&str], (most, room): Most) -> io::Result<(String, u64)> {
     let ample = Rationed::ample(alloc);
     let mut calls = Calls::new(&ample);
@@ -46,13 +46,23 @@ pub fn found_by(alloc: Global, row: &[&str], (most, room): Most) -> io::Result<(
     Ok((found, asked))
 }
 
-/// What calls answer with ample memory, and what is wrong where one of their requests is refused: they answer so, or a
-/// first part of it and are then out of memory, and hold no block in the end. Only where a call asks again, as `collect`
-/// does, is the answer whole although a request was refused.
+/// What calls answer with ample memory, and what is wrong where one of their requests is refused.
 pub fn found_if_refused(alloc: Global, row: &[&str], most: Most) -> io::Result<String> {
     let (answer, asked) = found_by(alloc, row, most)?;
-    for number in 1..=asked {
-        let scarce = Rationed::refusing(number, alloc);
+    found_at_each(alloc, row, answer, asked)
+}
+
+/// The answer of calls, or what is wrong where one of their first requests is refused. They may then answer the same,
+/// as where `collect` asks again or a call is made again, or a first part and that memory ran out. No block is held in
+/// the end.
+pub fn found_at_each(
+    alloc: Global,
+    row: &[&str],
+    answer: String,
+    first: u64,
+) -> io::Result<String> {
+    for number in 1..=first {
+        let scarce = Rationed::refusing(Some(number), alloc);
         let mut calls = Calls::new(&scarce);
         let made = make(&mut calls, row);
         let words = calls.words;

@@ -1,8 +1,8 @@
-//! Trees in memory of the words of a content: files, and directories with `/` after them, or with `#` before them if they
-//! cannot be listed. `f×3` is the files `f0`, `f1` and `f2`, and `a/b/` the directories `a` and `a/b`.
+//! Trees in memory of the words of a content: files, and directories with `/` after them, or with `#` before them if
+//! they cannot be listed. `a/b/` is the directories `a` and `a/b`.
 
 use crate::rationing::Memory;
-use crate::words::{number_of, out_of_memory, unusable};
+use crate::words::{out_of_memory, unusable};
 use ErrorKind::PermissionDenied;
 use glob::{MemTree, TreeRefusal};
 use std::io::{self, ErrorKind};
@@ -20,16 +20,8 @@ pub fn tree_of<'a>(
     }
     for word in content.split_whitespace() {
         let is_shut = word.starts_with('#') || name_of(word) == shut;
-        let Some((name, times)) = word.split_once('×') else {
-            let path = format!(in alloc.inner; "{folder}/{}", word.trim_start_matches('#'))?;
-            plant(&mut tree, &path, is_shut)?;
-            continue;
-        };
-        let end = if is_directory(times) { "/" } else { "" };
-        for number in 0..number_of(name_of(times))? {
-            let path = format!(in alloc.inner; "{folder}/{name}{number}{end}")?;
-            plant(&mut tree, &path, is_shut)?;
-        }
+        let path = format!(in alloc.inner; "{folder}/{}", word.trim_start_matches('#'))?;
+        plant(&mut tree, &path, is_shut)?;
     }
     Ok(tree)
 }

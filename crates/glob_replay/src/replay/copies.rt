@@ -1,5 +1,5 @@
-//! Rows of records that are copied: `SELECTION | END | READER | WRITER | INPUT`: what is copied, and how many calls of the
-//! reader and of the writer there are.
+//! Rows of records that are copied: `SELECTION | END | READER | WRITER | INPUT`: what is copied, and how many calls of
+//! the reader and of the writer there are.
 ghost use Rattle.std.specs.Prelude.{◌==◌, slice_index_or};
 
 use super::calls::Calls;
@@ -37,16 +37,16 @@ struct Copied<'a> {
     writer: Stream<'a>,
 }
 
-/// Copies records from the reader to the writer of a row: those that are `marked`, or else that the pattern matches. The ones
-/// that a line feed ends are lines.
+/// Copies records from the reader to the writer of a row: those that are `marked`, or else that the pattern matches.
+/// The ones that a line feed ends are lines.
 fn copy<'a>(alloc: Memory<'_>, row: &[&'a str]) -> io::Result<Copied<'a>> {
-    let [selection, end, reading, writing, input] = row else {
+    let [selection, end, reading, writing, input] = *row else {
         return Err(unusable());
     };
     let end = end.bytes().next().ok_or(unusable())?;
     let mut reader = Watch::new(Stream::new(alloc.inner, input.as_bytes(), reading)?);
     let mut writer = Watch::new(Stream::new(alloc.inner, b"", writing)?);
-    let answer = if *selection == "marked" {
+    let answer = if selection == "marked" {
         copy_selected(alloc, &Marked, end, &mut reader, &mut writer)
     } else {
         let (pattern, options) = (pattern_of(alloc, selection)?, MatchOptions::new());
@@ -106,8 +106,8 @@ fn add_calls(copied: &Copied<'_>, words: &mut String) -> io::Result<()> {
     Ok(write!(words, " {} {}", reader.calls, writer.calls)?)
 }
 
-/// The most calls for so many bytes, in pieces of 64 KiB, of which a call moves so many at most: for each piece and for the
-/// rest one that is not full, and a read of nothing or a write of the last record.
+/// The most calls for so many bytes, in pieces of 64 KiB, of which a call moves so many at most: for each piece and for
+/// the rest one that is not full, and a read of nothing or a write of the last record.
 fn most_calls(len: usize, most: usize) -> u64 {
     let full = len / most.max(1);
     (full as u64).saturating_add(len as u64 / 65_536 + 2)

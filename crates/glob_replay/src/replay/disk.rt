@@ -5,8 +5,7 @@ use super::Report;
 use super::contents::{is_directory, name_of};
 use super::settings::Settings;
 use super::walking::{Job, taken};
-use super::walks::{Expected, compare};
-use crate::rationing::Rationed;
+use super::walks::Expected;
 use crate::words::refused;
 use glob::{MatchOptions, Pattern, glob, glob_with};
 use std::{env, fs, io};
@@ -38,10 +37,14 @@ fn make(rt: &HostRuntime, settings: &Settings) -> io::Result<()> {
     Ok(())
 }
 
-/// Replays a walk below the folder by `glob_with`, and under the usual options also by `glob`. Each name in the folder's path
-/// is a look more, unless it is escaped.
-pub fn replay(report: &Report, job: Job<'_>, (_, items, units): Expected<'_>) -> io::Result<()> {
-    let (rt, alloc, ample) = (report.rt, report.alloc(), Rationed::ample(report.alloc()));
+/// Replays a walk below the folder by `glob_with`, and under the usual options also by `glob`. Each name in the
+/// folder's path is a look more, unless it is escaped.
+pub fn replay(
+    report: &Report<'_>,
+    job: Job<'_>,
+    (_, items, units): Expected<'_>,
+) -> io::Result<()> {
+    let (rt, alloc, memory) = (report.rt, report.alloc(), report.memory);
     make(&rt, &report.settings)?;
     let current = env::current_dir(&rt)?;
     let folder = format!(in alloc; "{}/{FOLDER}/", current.as_path().as_str())?;
@@ -51,12 +54,12 @@ pub fn replay(report: &Report, job: Job<'_>, (_, items, units): Expected<'_>) ->
     let looks = folder.matches('/').count().saturating_sub(1);
     let units = units.filter(|_| front.as_str() == folder.as_str());
     let units = units.map(|units| units.saturating_add(looks));
-    let wanted = (folder.as_str(), items, units);
-    let paths = glob_with(rt, &ample, pattern, job.options).map_err(refused)?;
-    compare(report, pattern, &taken(&ample, paths)?, wanted)?;
+    let expected = (folder.as_str(), items, units);
+    let paths = glob_with(rt, memory, pattern, job.options).map_err(refused)?;
+    report.compare_walk(pattern, &taken(memory, paths)?, expected)?;
     if job.options != MatchOptions::new() {
         return Ok(());
     }
-    let paths = glob(rt, &ample, pattern).map_err(refused)?;
-    compare(report, pattern, &taken(&ample, paths)?, wanted)
+    let paths = glob(rt, memory, pattern).map_err(refused)?;
+    report.compare_walk(pattern, &taken(memory, paths)?, expected)
 }

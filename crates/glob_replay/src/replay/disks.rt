@@ -1,28 +1,29 @@
-//! Rows of disks over a scripted file system: what they answer, and with which system calls, where names are not UTF-8 and
-//! system calls fail, which no test can make on a real disk.
+//! Rows of disks over a scripted file system: what they answer, and with which system calls, where names are not UTF-8
+//! and system calls fail, which no test can make on a real disk.
 ghost use Rattle.std.specs.Prelude.{bytes_eq};
 
-pub mod files;
+mod files;
 
 use super::calls::Calls;
 use super::trees::add_entries;
 use super::walking::Found;
 use crate::rationing::Memory;
-use crate::words::refused;
+use crate::streams::error_of;
+use crate::words::{are_same, cut, number_of, refused, unusable};
 use ErrorKind::{
     FilesystemLoop, NotADirectory, NotFound, OutOfMemory, PermissionDenied, StaleNetworkFileHandle,
 };
-use files::Kind::{Dir, File, Link, LinkToDir, LinkToFile, Lost, Torn};
+use files::Kind::{Dir, File, Link, LinkToDir, LinkToFile, Lost, Torn, Unopened, Unread};
 use files::{Noted, Planted, SystemCalls, Written};
-use glob::{Disk, MatchOptions, Tree, walk_in};
+use glob::{Disk, GlobCause, MatchOptions, Tree, glob_in, walk_in};
 use glob_prune::{Exclusion, Links, PhysicalDisk, Pruned};
 use std::alloc::AllocError;
 use std::io::{self, ErrorKind, Write};
 
 /// One path is left out.
 #[derive(Drop)]
-pub struct Named {
-    pub path: &'static str,
+struct Named {
+    path: &'static str,
 }
 
 impl Exclusion for Named {
@@ -33,56 +34,82 @@ impl Exclusion for Named {
     }
 }
 
-/// A disk, the question that it is asked, and the path that the question is about.
-pub type Asked<'a> = (&'a str, &'a str, &'a str);
+/// A disk, and a call of it about a path.
+#[derive(Clone, Copy)]
+struct Asked<'a> {
+    disk: &'a str,
+    call: &'a str,
+    path: &'a str,
+}
 
-/// Adds what a disk of the files answers. The disk is a `disk`, which follows links, one that is `pruned` of `p/s`, or a
-/// `PhysicalDisk` with links `kept` or `followed`.
-pub fn ask(calls: &mut Calls<'_>, files: &Written<'_>, asked: Asked<'_>) -> io::Result<()> {
-    let (alloc, words, files) = (calls.alloc, &mut calls.words, *files);
-    let noted = Noted { calls: files.calls };
-    match asked.0 {
-        "disk" => add_answer(words, alloc, Disk::new(files, alloc), asked),
+/// What a disk of these paths answers, or `$` if an allocation fails that was not refused, and with which system calls.
+/// The disk is a `disk`, which follows links, one that is `pruned` of `p/s`, or a `PhysicalDisk` with links `kept` or
+/// `followed`. The error is memory that was refused.
+fn answer_of(
+    alloc: Memory<'_>,
+    paths: &[Planted<'_>],
+    asked: Asked<'_>,
+) -> io::Result<(String, SystemCalls)> {
+    let (mut calls, made) = (Calls::new(alloc), SystemCalls::default());
+    let system = &made;
+    let (files, noted) = (Written { paths, system }, Noted { system });
+    let answered = match asked.disk {
+        "disk" => calls.ask(Disk::new(files, alloc), asked),
         "followed" => {
             let disk = PhysicalDisk::with_links(files, noted, alloc, Links::Followed);
-            add_answer(words, alloc, disk, asked)
+            calls.ask(disk, asked)
         }
-        "kept" => add_answer(words, alloc, PhysicalDisk::new(files, noted, alloc), asked),
+        "kept" => calls.ask(PhysicalDisk::new(files, noted, alloc), asked),
         _ => {
-            let disk = Pruned::new(alloc, Disk::new(files, alloc), Named { path: "p/s" });
-            add_answer(words, alloc, disk, asked)
+            let named = Named { path: "p/s" };
+            calls.ask(Pruned::new(alloc, Disk::new(files, alloc), named), asked)
+        }
+    };
+    match answered {
+        Ok(()) => Ok((calls.words, made)),
+        Err(error) if alloc.ration.has_refused() => Err(error),
+        Err(_) => Ok((String::from_str(alloc.inner, "$ ")?, made)),
+    }
+}
+
+impl<'a> Calls<'a> {
+    /// Adds what a tree answers. What a `look` finds is `Dir`, `Other` or `Missing`. Of entries there are the names, a
+    /// directory's with `/` at its end, and a blank after each, and so of a walk the paths. After `!` there is an
+    /// error, or the path that a walk could not read.
+    fn ask<T: Tree<Alloc = Memory<'a>>>(&mut self, tree: T, asked: Asked<'_>) -> io::Result<()> {
+        let (mut tree, path, words) = (tree, asked.path, &mut self.words);
+        match asked.call {
+            "look" => Ok(write!(words, "{:?} ", tree.look(path)?)?),
+            "look a thousand times" => {
+                let seen = tree.look(path)?;
+                for _ in 1..1_000 {
+                    if tree.look(path)? != seen {
+                        words.push_str("otherwise ")?;
+                    }
+                }
+                Ok(write!(words, "{seen:?} ")?)
+            }
+            "list" => add_entries(words, tree.list(path)),
+            "names" => add_entries(words, tree.list_names(path)),
+            _ => {
+                let options = MatchOptions::new();
+                let walk = walk_in(self.alloc, tree, path, options, 1_000).map_err(refused)?;
+                Found::of(self.alloc.inner, walk)?.add_to(words)?;
+                Ok(words.push(' ')?)
+            }
         }
     }
 }
 
-/// Adds what a tree answers. What a `look` finds is `Dir`, `Other` or `Missing`. Of entries there are the names, a
-/// directory's with `/` at its end, and a blank after each, and so of a walk the paths. After `!` there is an error, or
-/// the path that a walk could not read.
-fn add_answer<T: Tree>(
-    words: &mut String,
-    alloc: T::Alloc,
-    mut tree: T,
-    (_, question, path): Asked<'_>,
-) -> io::Result<()> {
-    match question {
-        "look" => Ok(write!(words, "{:?} ", tree.look(path)?)?),
-        "list" => add_entries(words, tree.list(path)),
-        "names" => add_entries(words, tree.list_names(path)),
-        _ => {
-            let walk = walk_in(alloc, tree, path, MatchOptions::new(), 1_000).map_err(refused)?;
-            Found::of(*words.allocator(), walk)?.add_to(words)?;
-            Ok(words.push(' ')?)
-        }
-    }
-}
-
-/// Asks the disks in the first field the question in the second about the paths in the third. The words are the answer,
-/// which is the same for all.
-pub fn ask_each(calls: &mut Calls<'_>, disks: &str, question: &str, paths: &str) -> io::Result<()> {
+/// Makes the call of the second field of each disk of the first about each path of the third. The words are the answer
+/// and the system calls, which are the same for all.
+pub fn ask_each(calls: &mut Calls<'_>, disks: &str, call: &str, paths: &str) -> io::Result<()> {
     for disk in disks.split(' ') {
         for path in paths.split(' ') {
             let path = if path == "''" { "" } else { path };
-            let answer = answer_of(calls.alloc, (disk, question, path))?;
+            let asked = Asked { disk, call, path };
+            let (mut answer, system) = answer_of(calls.alloc, PATHS, asked)?;
+            add_calls(&mut answer, &system, asked)?;
             if calls.words.is_empty() {
                 calls.words.push_str(&answer)?;
             } else if calls.words != answer {
@@ -93,36 +120,121 @@ pub fn ask_each(calls: &mut Calls<'_>, disks: &str, question: &str, paths: &str)
     Ok(())
 }
 
-/// The answer of a disk, `$` if the system is out of memory, and its calls. The error is memory that was refused.
-fn answer_of(alloc: Memory<'_>, asked: Asked<'_>) -> io::Result<String> {
-    let (paths, calls, mut found) = (PATHS, &SystemCalls::default(), Calls::new(alloc));
-    match ask(&mut found, &Written { paths, calls }, asked) {
-        Err(error) if alloc.ration.has_refused() => return Err(error),
-        Err(_) => found.words = String::from_str(alloc.inner, "$ ")?,
-        Ok(()) => {}
-    }
-    add_calls(&mut found.words, calls, asked)?;
-    Ok(found.words)
-}
-
-/// Adds how often a path was looked up for a look, or else a directory opened, and whether something was reported. Nothing
-/// is opened for a look, each entry of a listing is looked up once, and none for its name alone.
-fn add_calls(answer: &mut String, calls: &SystemCalls, asked: Asked<'_>) -> Result<(), AllocError> {
-    let (disk, question, _) = asked;
-    let (lookups, opens) = (calls.lookups.get(), calls.opens.get());
-    let entries = answer.split_terminator(' ').count() as u64;
-    let is_listed = disk == "disk" && !answer.contains(['!', '$']);
-    let (count, are_few) = match question {
+/// Adds how often a path was looked up for a look, or else a directory opened, and whether something was reported.
+/// Nothing is opened for a look, each entry of a listing is looked up once, and none for its name alone.
+fn add_calls(words: &mut String, system: &SystemCalls, asked: Asked<'_>) -> Result<(), AllocError> {
+    let (lookups, opens) = (system.lookups.get(), system.opens.get());
+    let entries = words.split_terminator(' ').count() as u64;
+    let is_listed = asked.disk == "disk" && !words.contains(['!', '$']);
+    let (count, are_few) = match asked.call {
         "look" => (lookups, opens == 0),
         "names" => (opens, lookups == 0),
         "list" if is_listed => (opens, lookups == entries),
         _ => (opens, true),
     };
-    write!(answer, "{count}{}", if are_few { "" } else { " calls" })?;
-    match calls.reports.get() {
+    write!(words, "{count}{}", if are_few { "" } else { " calls" })?;
+    match system.reports.get() {
         0 => Ok(()),
-        1 => answer.push_str(" reported"),
-        _ => answer.push_str(" reported otherwise"),
+        1 => words.push_str(" reported"),
+        _ => words.push_str(" reported otherwise"),
+    }
+}
+
+/// Asks disks where the system fails by each of its errors, and by one with words of its own: `a`, the target of the
+/// link `l` and the entry of `e` cannot be looked up, `o` not opened, and `r` not read. Adds each disk and number of an
+/// error at which the answer is not that of the last field, where `!` is the error.
+pub fn ask_failing(calls: &mut Calls<'_>, fields: &[&str]) -> io::Result<()> {
+    let [disks, call, path, known] = *fields else {
+        return Err(unusable());
+    };
+    for code in 0..134 {
+        let error = match code {
+            0 => io::Error::new(ErrorKind::InvalidData, "words"),
+            _ => io::Error::from_raw_os_error(code),
+        };
+        let paths = &[
+            ("a e/x", Lost(error.kind())),
+            ("l", Link(error.kind())),
+            ("e/", Dir(&[b"x\0"])),
+            ("o/", Unopened(error)),
+            ("r/", Unread(error)),
+        ];
+        let printed = format!(in calls.alloc.inner; "!{error}")?;
+        let known = known.replace(calls.alloc.inner, "!", &printed)?;
+        for disk in disks.split(' ') {
+            let (answer, _) = answer_of(calls.alloc, paths, Asked { disk, call, path })?;
+            if answer.strip_suffix(' ') != Some(known.as_str()) {
+                write!(calls.words, "{disk} {code} {answer}")?;
+            }
+        }
+    }
+    Ok(())
+}
+
+/// Asks a disk about a directory, of which a read gives the first names, and each of so many further ones the others.
+/// Adds the answer, the system calls, and how many bytes the reads had room for.
+pub fn ask_large(calls: &mut Calls<'_>, fields: &[&str]) -> io::Result<()> {
+    let [disk, call, names, reads] = *fields else {
+        return Err(unusable());
+    };
+    let (first, others) = cut(names, " ")?;
+    let mut blocks = Vec::new(calls.alloc.inner);
+    blocks.push(first.as_bytes())?;
+    for _ in 0..number_of(reads)? {
+        blocks.push(others.as_bytes())?;
+    }
+    let (path, paths) = ("a", &[("a/", Dir(blocks.as_slice()))]);
+    let asked = Asked { disk, call, path };
+    let (mut answer, system) = answer_of(calls.alloc, paths, asked)?;
+    add_calls(&mut answer, &system, asked)?;
+    Ok(write!(calls.words, "{answer} {}", system.room.get())?)
+}
+
+/// Walks where the path of the first field cannot be looked up, and `a` not opened, by the error of the second, and
+/// adds the first item.
+pub fn walk_to_error(calls: &mut Calls<'_>, fields: &[&str]) -> io::Result<()> {
+    let [lost, word, pattern, limit] = *fields else {
+        return Err(unusable());
+    };
+    let (known, system) = (error_of(word)?, &SystemCalls::default());
+    let paths = &[
+        (lost, Lost(known.kind())),
+        (". a a/b", Dir(&[])),
+        ("a/", Unopened(known)),
+    ];
+    let disk = Disk::new(Written { paths, system }, calls.alloc);
+    calls.add_first_error(disk, (pattern, number_of(limit)? as u64), known)
+}
+
+impl<'a> Calls<'a> {
+    /// Adds the path and the cause of a walk's first item, which is this error, and is printed with it. The calls of it
+    /// take no memory. Of the path at which memory ran out nothing is said.
+    fn add_first_error<T: Tree<Alloc = Memory<'a>>>(
+        &mut self,
+        tree: T,
+        (pattern, limit): (&str, u64),
+        known: io::Error,
+    ) -> io::Result<()> {
+        let (alloc, words, options) = (self.alloc, &mut self.words, MatchOptions::new());
+        let mut items = glob_in(alloc, tree, pattern, options, limit).map_err(refused)?;
+        let Some(Err(error)) = items.next() else {
+            return Err(unusable());
+        };
+        let (asked, path) = (alloc.ration.asked(), error.path().as_str());
+        match error.cause() {
+            GlobCause::Memory => words.push_str("Memory")?,
+            cause => write!(words, "{path} {cause:?}")?,
+        }
+        let line = format!(in alloc.inner;
+            "attempting to read `{path}` resulted in an error: {known}"
+        )?;
+        let is_known = format!(in alloc.inner; "{error}")? == line
+            && are_same(alloc.inner, error.error(), &known)?
+            && are_same(alloc.inner, &error.into_error(), &known)?;
+        if !is_known || alloc.ration.asked() != asked {
+            words.push_str(", with another error or with memory")?;
+        }
+        Ok(())
     }
 }
 

@@ -6,17 +6,14 @@ use super::asked_tree::Counts;
 use super::contents::{is_directory, name_of};
 use super::settings::Settings;
 use super::walking::{Found, Job, gathered};
-use super::walks::asked_tree;
-use crate::rationing::Rationed;
 use crate::words::{options_of, pattern_of};
 use glob::{MatchOptions, is_plain};
 use std::alloc::{AllocError, Global};
 use std::io;
 
 /// Compares a walk under each setting, if its pattern is plain, and case and the limit are the usual ones.
-pub fn replay(report: &Report, job: Job<'_>) -> io::Result<()> {
+pub fn replay(report: &Report<'_>, job: Job<'_>) -> io::Result<()> {
     let (alloc, settings) = (report.alloc(), &report.settings);
-    let ample = Rationed::ample(alloc);
     let is_content = settings.get("tree").is_empty();
     let is_usual = is_content && job.limit == u64::MAX && job.options.case_sensitive;
     if !is_usual || !matches!(is_plain(alloc, job.pattern), Ok(true)) {
@@ -27,12 +24,12 @@ pub fn replay(report: &Report, job: Job<'_>) -> io::Result<()> {
         let job = Job { options, ..job };
         let goals = goals_of(alloc, settings, job)?;
         let counts = Counts::default();
-        let walk = gathered(&ample, asked_tree(&ample, settings, &counts)?, job)?;
+        let walk = gathered(report.memory, settings.tree(report.memory, &counts)?, job)?;
         let is_right = are_goals(&walk, &goals) && is_orderly(alloc, job.pattern, &walk)?;
         if is_right {
-            report.compare(job.pattern, "its goals", "its goals")?;
+            report.compare(job.pattern, "goals", "goals")?;
         } else {
-            report.compare(job.pattern, "its goals", &walk.items)?;
+            report.compare(job.pattern, "goals", &walk.items)?;
         }
     }
     Ok(())

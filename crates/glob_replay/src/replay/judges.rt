@@ -59,7 +59,7 @@ impl Judge for WrittenJudge<'_> {
 /// Adds whether the characters split into pieces of these shapes, in words, and what is wrong with the questions: more
 /// than shapes times characters, or for a split fewer than the characters.
 pub fn split(calls: &mut Calls<'_>, fields: &[&str]) -> io::Result<()> {
-    let [shapes, characters, opening, taken] = fields else {
+    let [shapes, characters, opening, taken] = *fields else {
         return Err(unusable());
     };
     let alloc = calls.alloc.inner;

@@ -18,7 +18,7 @@ const SHORT: usize = 63;
 type Asked<'a> = (&'a str, &'a str, MatchOptions);
 
 /// Replays a row of fields, of which the options are the first.
-pub fn replay_fields(report: &Report, setting: &str, fields: &str) -> io::Result<()> {
+pub fn replay_fields(report: &Report<'_>, setting: &str, fields: &str) -> io::Result<()> {
     let (pattern, rest) = cut(fields, "\t")?;
     let (text, answer) = cut(rest, "\t")?;
     let row = ["matches.txt", setting, pattern, text, ""];
@@ -27,7 +27,7 @@ pub fn replay_fields(report: &Report, setting: &str, fields: &str) -> io::Result
 }
 
 /// Replays a row of words, with each request for memory refused in turn.
-pub fn replay<'a>(report: &'a Report, patterns: &'a str, outcome: &'a str) -> io::Result<()> {
+pub fn replay<'a>(report: &'a Report<'_>, patterns: &'a str, outcome: &'a str) -> io::Result<()> {
     let alloc = report.alloc();
     let (outcome, most) = outcome.split_once(" ; ").unwrap_or((outcome, ""));
     let (answer, texts) = cut(outcome, " ")?;
@@ -44,28 +44,31 @@ pub fn replay<'a>(report: &'a Report, patterns: &'a str, outcome: &'a str) -> io
     Ok(())
 }
 
-/// Matches by a row of the options, a pattern, a text, and the most questions, or an empty field. Adds `yes` or `no`, and what
-/// is wrong: a call that answers otherwise, another number of questions, and memory that is asked for though the pattern is
-/// short.
+/// Matches by a row of the options, a pattern, a text, and the most questions, or an empty field. Adds `yes` or `no`,
+/// and what is wrong: a call that answers otherwise, another number of questions, and memory that is asked for though
+/// the pattern is short.
 pub fn add_match(calls: &mut Calls<'_>, fields: &[&str]) -> io::Result<()> {
-    let [setting, source, text, most] = fields else {
+    let [setting, source, text, most] = *fields else {
         return Err(unusable());
     };
-    let asked = (*source, *text, options_of(setting)?);
+    let asked = (source, text, options_of(setting)?);
     let (alloc, words) = (calls.alloc, &mut calls.words);
     let (pattern, other) = (pattern_of(alloc, source)?, read_again(alloc, source)?);
+    let copy = other.clone()?;
     let tokens = tokens(alloc, &pattern)?.len();
     let requests = alloc.ration.asked();
     let (is_match, questions) = pattern.matches_counted(text, asked.2)?;
     words.push_str(if is_match { "yes" } else { "no" })?;
-    if !is_answer(&pattern, asked, is_match)? || !is_answer(&other, asked, is_match)? {
-        words.push_str(", and otherwise by another call")?;
+    for pattern in [&pattern, &other, &copy] {
+        if !is_answer(pattern, asked, is_match)? {
+            words.push_str(", and otherwise by another call")?;
+        }
     }
     if tokens <= SHORT && alloc.ration.asked() != requests {
         words.push_str(", with memory")?;
     }
     let (least, usual) = bounds(alloc.inner, asked, (is_match, tokens))?;
-    let most = match *most {
+    let most = match most {
         "" => usual,
         most => number_of(most)?,
     };
@@ -87,8 +90,8 @@ fn is_answer(pattern: &Pattern<Memory<'_>>, asked: Asked<'_>, answer: bool) -> i
     )
 }
 
-/// The fewest and the most questions: exactly those that are counted, where only literals, `?` and `*` decide. Else a match
-/// takes as many as there are characters, and at most the tokens times the characters are asked.
+/// The fewest and the most questions: exactly those that are counted, where only literals, `?` and `*` decide. Else a
+/// match takes as many as there are characters, and at most the tokens times the characters are asked.
 fn bounds(alloc: Global, asked: Asked<'_>, found: (bool, usize)) -> io::Result<(usize, usize)> {
     let ((pattern, text, options), (is_match, tokens)) = (asked, found);
     if options == MatchOptions::new() && !pattern.contains('[') && !pattern.contains("**") {
@@ -132,11 +135,10 @@ fn step(reached: &mut [bool], token: char, text: &str) -> usize {
     count
 }
 
-/// The pattern of a text by other calls than `new`.
+/// The pattern of a text by another call than `new`.
 fn read_again<'a>(alloc: Memory<'a>, text: &str) -> io::Result<Pattern<Memory<'a>>> {
     if text.is_empty() {
         return Ok(Pattern::default(alloc));
     }
-    let pattern = Pattern::from_str(alloc, text).map_err(refused)?;
-    Ok(pattern.clone()?)
+    Pattern::from_str(alloc, text).map_err(refused)
 }

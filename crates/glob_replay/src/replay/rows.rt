@@ -1,13 +1,13 @@
-//! Rows that stand alone: `FIELDS => ANSWER`, each of whose requests for memory is refused in turn. In files of words ` | `
-//! is between two fields, and after the answer may follow ` ; `, the most requests, and the most bytes of these.
+//! Rows that stand alone: `FIELDS => ANSWER`, each of whose requests for memory is refused in turn. In files of words `
+//! | ` is between two fields, and after the answer may follow ` ; `, the most requests, and the most bytes of these.
 
 use super::asked_tree::{AskedTree, Counts};
-use super::calls::{Calls, FREELY, Most, found_by, found_if_refused};
+use super::calls::{Calls, FREELY, Most, found_at_each, found_by, found_if_refused};
 use super::contents::tree_of;
 use super::walking::{Job, gathered, stepped};
 use super::{Report, copies, disks, judges, matches, trees, writes};
 use crate::answer::{add_captures, add_set};
-use crate::rationing::{Memory, Rationed};
+use crate::rationing::Rationed;
 use crate::words::{
     add_fault, in_words, number_of, out_of_memory, pattern_of, refused, text_of, unusable,
 };
@@ -17,7 +17,7 @@ use glob_set::braces::{BraceRefusal, expand};
 use std::io::{self, Write};
 
 /// Replays a row of a file. In files of words `''` is an empty field, and what is found has blanks in place of tabs.
-pub fn replay(report: &Report, file: &str, asked: &str, answer: &str) -> io::Result<()> {
+pub fn replay(report: &Report<'_>, file: &str, asked: &str, answer: &str) -> io::Result<()> {
     let alloc = report.alloc();
     if file.ends_with(".tsv") {
         let found = found_if_refused(alloc, &[file, asked], FREELY)?;
@@ -31,10 +31,11 @@ pub fn replay(report: &Report, file: &str, asked: &str, answer: &str) -> io::Res
     let fields = fields.map(|field| if field == "''" { "" } else { field });
     let row = fields.collect::<Vec<&str>>(alloc)?;
     let found = match report.settings.get("refused") {
+        "" => found_if_refused(alloc, &row, most)?,
         "none" => found_by(alloc, &row, most)?.0,
-        _ => found_if_refused(alloc, &row, most)?,
+        first => found_at_each(alloc, &row, String::new(alloc), number_of(first)? as u64)?,
     };
-    let (found, answer) = (in_words(&found)?, text_of(alloc, answer)?);
+    let (found, answer) = (in_words(&found)?, text_of(alloc, answer.trim())?);
     report.compare(asked, answer.trim(), found.trim())
 }
 
@@ -68,7 +69,10 @@ pub fn make(calls: &mut Calls<'_>, row: &[&str]) -> io::Result<()> {
         ["copy", fields @ ..] => copies::add_copy(calls, fields),
         ["write", fields @ ..] => writes::add_run(calls, fields),
         ["list kinds", content, pattern] => writes::add_listings(calls, content, pattern),
-        ["ask disks", disks, question, paths] => disks::ask_each(calls, disks, question, paths),
+        ["ask disks", disks, call, paths] => disks::ask_each(calls, disks, call, paths),
+        ["ask failing disks", fields @ ..] => disks::ask_failing(calls, fields),
+        ["ask a large directory", fields @ ..] => disks::ask_large(calls, fields),
+        ["walk to an error", fields @ ..] => disks::walk_to_error(calls, fields),
         ["ask a set", fields @ ..] => add_set(calls, fields),
         ["capture", fields @ ..] => add_captures(calls, fields),
         ["ask an ignore list", lines, paths] => ask_list(calls, lines, paths),
@@ -118,30 +122,22 @@ fn add_alternatives(calls: &mut Calls<'_>, text: &str) -> io::Result<()> {
     }
 }
 
-/// Reads a text by each call, copies the pattern, and escapes the text, by one request: adds the text, or the place of its
-/// fault, twice, and the escaped one.
+/// Reads a text by each call, copies the pattern, and escapes the text, by one request: adds the text, or the place of
+/// its fault, twice, and the escaped one.
 fn read(calls: &mut Calls<'_>, text: &str) -> io::Result<()> {
     let alloc = calls.alloc;
-    add_read(Pattern::new(alloc, text), &mut calls.words)?;
-    add_read(Pattern::from_str(alloc, text), &mut calls.words)?;
-    let asked = alloc.ration.asked();
-    calls
-        .words
-        .push_str(Pattern::escape(alloc, text)?.as_str())?;
-    if alloc.ration.asked().saturating_sub(asked) > 1 {
-        calls.words.push_str(", by more than one request")?;
+    let words = &mut calls.words;
+    for read in [Pattern::new(alloc, text), Pattern::from_str(alloc, text)].iter() {
+        match read {
+            Ok(pattern) => write!(words, "{} ", pattern.clone()?.as_str())?,
+            Err(PatternRefusal::Syntax(error)) => write!(words, "{} ", error.pos)?,
+            Err(PatternRefusal::Memory) => return Err(out_of_memory()),
+        }
     }
-    Ok(())
-}
-
-fn add_read(
-    read: Result<Pattern<Memory<'_>>, PatternRefusal>,
-    words: &mut String,
-) -> io::Result<()> {
-    match read {
-        Ok(pattern) => write!(words, "{} ", pattern.clone()?.as_str())?,
-        Err(PatternRefusal::Syntax(error)) => write!(words, "{} ", error.pos)?,
-        Err(PatternRefusal::Memory) => return Err(out_of_memory()),
+    let asked = alloc.ration.asked();
+    words.push_str(Pattern::escape(alloc, text)?.as_str())?;
+    if alloc.ration.asked().saturating_sub(asked) > 1 {
+        words.push_str(", by more than one request")?;
     }
     Ok(())
 }
@@ -156,19 +152,15 @@ fn walk(calls: &mut Calls<'_>, content: &str, pattern: &str) -> io::Result<()> {
     Ok(words.push_str("\t-")?)
 }
 
-/// Walks over a content that other memory has made, up to so many paths: adds how many there are, of how many bytes in all,
-/// and how many units are spent.
+/// Walks over a content that other memory has made, up to so many paths: adds how many there are, of how many bytes in
+/// all, and how many units are spent.
 fn walk_far(calls: &mut Calls<'_>, content: &str, pattern: &str, most: &str) -> io::Result<()> {
     let ample = Rationed::ample(calls.alloc.inner);
     let (tree, options) = (tree_of(&ample, ("", ""), content)?, MatchOptions::new());
     let mut paths = glob_in(calls.alloc, tree, pattern, options, 200_000).map_err(refused)?;
     let (mut count, mut bytes) = (0u64, 0u64);
-    for _ in 0..number_of(most)? {
-        let path = match paths.next() {
-            Some(Ok(path)) => path,
-            Some(Err(error)) => return Err(error.into_error()),
-            None => break,
-        };
+    for path in paths.by_ref().take(number_of(most)?) {
+        let path = path.map_err(|error| error.into_error())?;
         count = count.saturating_add(1);
         bytes = bytes.saturating_add(path.as_str().len() as u64);
     }
@@ -181,17 +173,16 @@ fn add_answer(calls: &mut Calls<'_>, pattern: &str, text: &str) -> io::Result<()
     Ok(calls.words.push_str(if is_match { "yes" } else { "no" })?)
 }
 
-/// Asks the list of these lines about paths, each of a directory if `/` is at its end: adds whether it is ignored, and the
-/// line that decides.
+/// Asks the list of these lines about paths, each of a directory if `/` is at its end: adds whether it is ignored, and
+/// the line that decides.
 fn ask_list(calls: &mut Calls<'_>, lines: &str, paths: &str) -> io::Result<()> {
     let list = IgnoreList::new(calls.alloc, lines).map_err(|_| out_of_memory())?;
     for path in paths.split(' ') {
         let name = path.trim_end_matches('/');
         let is_directory = name.len() < path.len();
         let is_ignored = list.is_ignored(name, is_directory)?;
-        let line = list
-            .deciding_rule(name, is_directory)?
-            .map(|rule| rule.line);
+        let rule = list.deciding_rule(name, is_directory)?;
+        let line = rule.map(|rule| rule.line);
         write!(calls.words, "{is_ignored} {line:?} ")?;
     }
     Ok(())

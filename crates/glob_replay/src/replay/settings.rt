@@ -1,5 +1,8 @@
 //! What the lines before a row have set.
 
+use super::asked_tree::{AskedTree, Counts, Source};
+use super::contents::tree_of;
+use crate::rationing::Memory;
 use crate::words::{cut, unusable};
 use std::alloc::{AllocError, Global};
 use std::collections::BTreeMap;
@@ -45,6 +48,16 @@ impl Settings {
     pub fn content(&self) -> Result<String, AllocError> {
         let (content, more, extra) = (self.get("content"), self.get("more"), self.get("in memory"));
         format!(in self.alloc; "{content} {more} {extra}")
+    }
+
+    /// The tree of the walks of a row, which counts there.
+    pub fn tree<'a>(&'a self, alloc: Memory<'a>, counts: &'a Counts) -> io::Result<AskedTree<'a>> {
+        let place = (self.get("in"), self.get("shut"));
+        let source = match self.get("tree").split_once(" | ") {
+            None => Source::Known(tree_of(alloc, place, &self.content()?)?),
+            Some((looks, lists)) => Source::Written(alloc, looks, lists),
+        };
+        Ok(AskedTree::new(source, counts))
     }
 
     /// The words of a row, each with each setting of the options.

@@ -1,20 +1,22 @@
 //! Rows of calls of a tree in memory: `CALL PATHS => ANSWER`, each over what the ones before have left.
 
 use super::Report;
+use super::asked_tree::Listed;
 use super::calls::Calls;
 use super::contents::tree_of;
+use crate::rationing::Memory;
 use crate::words::{cut, has_word, out_of_memory, text_of, unusable};
-use glob::{Entry, ListError, MemTree, Tree, TreeRefusal};
+use glob::{ListError, MemTree, Tree, TreeRefusal};
 use std::alloc::Allocator;
 use std::io::{self, ErrorKind, Write};
 
 /// Makes the calls of a row.
-pub fn replay(report: &mut Report, asked: &str, answer: &str) -> io::Result<()> {
-    let (call, paths) = cut(asked, " ")?;
+pub fn replay(report: &mut Report<'_>, asked: &str, answer: &str) -> io::Result<()> {
+    let (alloc, (call, paths)) = (report.alloc(), cut(asked, " ")?);
     for word in paths.split_whitespace() {
-        let path = text_of(report.alloc(), word)?;
-        let mut found = String::new(report.alloc());
-        add_answer(&mut report.tree, call, &path, &mut found)?;
+        let change = format!(in alloc; "{call} {}", text_of(alloc, word)?)?;
+        let mut found = String::new(alloc);
+        add_answer(&mut report.tree, &change, &mut found)?;
         let is_alike = are_same_words(found.as_str(), answer);
         let found = if is_alike { answer } else { found.as_str() };
         report.compare(asked, answer, found)?;
@@ -28,12 +30,14 @@ fn are_same_words(found: &str, answer: &str) -> bool {
         && answer.split_whitespace().all(|word| has_word(found, word))
 }
 
-/// Makes the calls of a new tree, and adds what they answer.
+/// Makes the calls of a new tree, and adds what they answer. A call that is out of memory has changed nothing, and is
+/// made again.
 pub fn change(calls: &mut Calls<'_>, changes: &[&str]) -> io::Result<()> {
     let mut tree = MemTree::new(calls.alloc)?;
     for change in changes {
-        let (call, path) = cut(change, " ")?;
-        add_answer(&mut tree, call, path, &mut calls.words)?;
+        if add_answer(&mut tree, change, &mut calls.words).is_err() {
+            add_answer(&mut tree, change, &mut calls.words)?;
+        }
     }
     Ok(())
 }
@@ -53,13 +57,9 @@ pub fn list(calls: &mut Calls<'_>, content: &str) -> io::Result<()> {
     }
 }
 
-/// Adds what a call answers, in words.
-fn add_answer<A: Allocator + Copy>(
-    tree: &mut MemTree<A>,
-    call: &str,
-    path: &str,
-    words: &mut String,
-) -> io::Result<()> {
+/// Adds what a call and its path are answered, in words.
+fn add_answer(tree: &mut MemTree<Memory<'_>>, asked: &str, words: &mut String) -> io::Result<()> {
+    let (call, path) = cut(asked, " ")?;
     let changed = match call {
         "look" => return Ok(write!(words, "{:?} ", tree.look(path)?)?),
         "list" => return add_entries(words, tree.list(path)),
@@ -77,10 +77,7 @@ fn add_answer<A: Allocator + Copy>(
 }
 
 /// Adds what a listing answers: the names of entries, with `/` after those of directories, or after `!` the error.
-pub fn add_entries<A: Allocator>(
-    words: &mut String,
-    listed: Result<Vec<Entry<A>, A>, ListError>,
-) -> io::Result<()> {
+pub fn add_entries<A: Allocator>(words: &mut String, listed: Listed<A>) -> io::Result<()> {
     match listed {
         Ok(entries) => {
             for entry in entries.iter() {

@@ -32,8 +32,8 @@ impl<'a> Job<'a> {
 /// What a walk gave, and what it spent.
 #[derive(Drop)]
 pub struct Found {
-    /// Each item after a tab: `=` and a path, or `!`, the path of a directory that could not be listed, `:` and the kind
-    /// of its error. Or what is printed of the pattern's fault; and at last what is wrong with the walk.
+    /// Each item after a tab: `=` and a path, or `!`, the path of a directory that could not be listed, `:` and the
+    /// kind of its error. Or what is printed of the pattern's fault; and at last what is wrong with the walk.
     pub items: String,
     /// The paths, and those of the directories that could not be listed.
     pub paths: Vec<String>,
@@ -64,6 +64,9 @@ impl Found {
         for item in walk.items.iter() {
             found.add(item)?;
         }
+        if found.end != End::Done {
+            found.items.push_str("\ta refusal among its items")?;
+        }
         found.end = walk.end;
         found.spent = walk.spent;
         Ok(found)
@@ -89,8 +92,11 @@ impl Found {
         }
     }
 
-    /// Adds an item.
+    /// Adds an item, and says so if it comes after the walk's end.
     fn add<A: Allocator>(&mut self, item: &GlobResult<A>) -> Result<(), AllocError> {
+        if self.end != End::Done {
+            self.items.push_str("\tafter its end")?;
+        }
         match item {
             Ok(path) => {
                 write!(self.items, "\t={}", path.as_str())?;
@@ -105,14 +111,14 @@ impl Found {
     fn add_error<A: Allocator>(&mut self, error: &GlobError<A>) -> Result<(), AllocError> {
         let alloc = *self.items.allocator();
         let path = String::from_str(alloc, error.path().as_str())?;
-        let (tail, end) = match error.cause() {
-            GlobCause::Memory => ("out of memory", End::Memory),
-            GlobCause::Limit => ("walk limit reached", End::Limit),
-            GlobCause::Read => ("", End::Done),
+        let (end, words) = match error.cause() {
+            GlobCause::Memory => (End::Memory, "out of memory"),
+            GlobCause::Limit => (End::Limit, "walk limit reached"),
+            GlobCause::Read => (End::Done, ""),
         };
-        let printed = format!(in alloc; "{error}")?;
-        let known = format!(in alloc; "attempting to read `{path}` resulted in an error: {tail}")?;
-        if !printed.starts_with(known.as_str()) {
+        let (printed, cause) = (format!(in alloc; "{error}")?, error.error());
+        let line = format!(in alloc; "attempting to read `{path}` resulted in an error: {cause}")?;
+        if printed != line || !printed.ends_with(words) {
             write!(self.items, "\tprints {printed}")?;
         }
         self.end = end;
@@ -139,12 +145,13 @@ impl Found {
     }
 }
 
-/// What is found where a walk refuses its pattern: what is printed of its fault.
-fn fault(alloc: Global, refusal: PatternRefusal) -> io::Result<Found> {
+/// What is found where a walk refuses its pattern: what is printed of its fault. Nothing may have been asked before.
+fn fault(alloc: Global, refusal: PatternRefusal, asked: u64) -> io::Result<Found> {
     let mut found = Found::new(alloc);
     match refusal {
         PatternRefusal::Syntax(fault) => write!(found.items, "\t{fault}")?,
-        PatternRefusal::Memory => return Err(out_of_memory()),
+        PatternRefusal::Memory if asked == 0 => return Err(out_of_memory()),
+        PatternRefusal::Memory => found.items.push_str("\tasked early")?,
     }
     Ok(found)
 }
@@ -154,7 +161,7 @@ pub fn gathered<'a>(alloc: Memory<'a>, tree: AskedTree<'a>, job: Job<'_>) -> io:
     let counts = tree.counts;
     let mut found = match walk_in(alloc, tree, job.pattern, job.options, job.limit) {
         Ok(walk) => Found::of(alloc.inner, walk)?,
-        Err(refusal) => fault(alloc.inner, refusal)?,
+        Err(refusal) => fault(alloc.inner, refusal, counts.asked.get())?,
     };
     found.check(counts.asked.get(), job.limit)?;
     Ok(found)
@@ -167,7 +174,7 @@ pub fn stepped<'a>(alloc: Memory<'a>, tree: AskedTree<'a>, job: Job<'_>) -> io::
     let early = counts.asked.get();
     let mut found = match paths {
         Ok(paths) => taken(alloc, paths)?,
-        Err(refusal) => fault(alloc.inner, refusal)?,
+        Err(refusal) => fault(alloc.inner, refusal, early)?,
     };
     if early != 0 {
         found.items.push_str("\tasked early")?;

@@ -1,4 +1,4 @@
-//! Rows of what programs write: `JOB | CONTENT | OUTPUT | ERRORS`, where the last two are writers.
+//! Rows of what programs write, and when: `JOB | CONTENT | OUTPUT | ERRORS`, where the last two are writers.
 
 use super::asked_tree::{AskedTree, Counts};
 use super::calls::Calls;
@@ -12,16 +12,17 @@ use std::io::{self, Write};
 
 /// What a job came to.
 #[derive(Drop)]
-pub struct Ran<'a> {
-    pub status: u8,
-    pub output: Stream<'a>,
-    pub errors: Stream<'a>,
+struct Ran<'a> {
+    status: u8,
+    output: Stream<'a>,
+    errors: Stream<'a>,
 }
 
-/// Does a row's job as the program `name` over a tree of its content: `text`, `fault` or `arguments`, and what is written or
-/// reported, or `find` and a pattern. The writers show how much was asked. The error is memory that was refused.
-pub fn run<'a>(alloc: Memory<'a>, row: &[&str], counts: &'a Counts) -> io::Result<Ran<'a>> {
-    let [job, content, output, errors] = row else {
+/// Does a row's job as the program `name` over a tree of its content: `text`, `fault` or `arguments`, and what is
+/// written or reported, or `find` and a pattern. The clock of the writers is how much was asked. The error is memory
+/// that was refused.
+fn run<'a>(alloc: Memory<'a>, row: &[&str], counts: &'a Counts) -> io::Result<Ran<'a>> {
+    let [job, content, output, errors] = *row else {
         return Err(unusable());
     };
     let mut output = Stream::new(alloc.inner, b"", output)?;
@@ -58,8 +59,8 @@ pub fn run<'a>(alloc: Memory<'a>, row: &[&str], counts: &'a Counts) -> io::Resul
     })
 }
 
-/// Does a row's job: adds the status, and of each writer what was written, and before it how many writes of many bytes there
-/// were. None that fails is flushed twice.
+/// Does a row's job: adds the status, and of each writer what was written, or how many bytes if it awaits its writes,
+/// and before it how many writes of many bytes there were. None that fails is flushed twice.
 pub fn add_run(calls: &mut Calls<'_>, row: &[&str]) -> io::Result<()> {
     let counts = Counts::default();
     let ran = run(calls.alloc, row, &counts)?;
@@ -70,12 +71,15 @@ pub fn add_run(calls: &mut Calls<'_>, row: &[&str]) -> io::Result<()> {
 
 fn add_written(writer: &Stream<'_>, words: &mut String) -> io::Result<()> {
     words.push(' ')?;
+    if writer.most >= 100 {
+        write!(words, "{} ", writer.calls)?;
+    }
+    if !writer.due.is_empty() {
+        return Ok(write!(words, "{} bytes", writer.written.len())?);
+    }
     let is_willing = matches!(writer.trouble, Trouble::Never | Trouble::Interrupts);
     if !is_willing && writer.flushes > 1 {
         words.push_str("flushed twice ")?;
-    }
-    if writer.most >= 100 {
-        write!(words, "{} ", writer.calls)?;
     }
     Ok(words.push_str(writer.text()?)?)
 }
@@ -85,10 +89,8 @@ pub fn add_listings(calls: &mut Calls<'_>, content: &str, pattern: &str) -> io::
     let (alloc, counts, others) = (calls.alloc, Counts::default(), Counts::default());
     let job = format!(in alloc.inner; "find {pattern}")?;
     drop(run(alloc, &[job.as_str(), content, "99", "99"], &counts)?);
-    let (listings, namings) = counts.listed();
-    write!(calls.words, "{listings} {namings}")?;
     let tree = AskedTree::of(alloc, content, &others)?;
     gathered(alloc, tree, Job::of(pattern))?.add_to(&mut String::new(alloc.inner))?;
-    let (listings, namings) = others.listed();
-    Ok(write!(calls.words, " {listings} {namings}")?)
+    let ((entries, names), (others, other_names)) = (counts.listed(), others.listed());
+    Ok(write!(calls.words, "{entries} {names} {others} {other_names}")?)
 }

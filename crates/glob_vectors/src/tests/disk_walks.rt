@@ -1,5 +1,4 @@
 //! The calls `glob` and `glob_with` over a folder that the test makes.
-use super::check;
 use glob::{GlobCause, MatchOptions, Pattern, PatternRefusal, glob, glob_with};
 use std::io::ErrorKind;
 use std::test::Fail;
@@ -29,7 +28,7 @@ fn a_faulty_pattern_is_refused(rt: HostRuntime) {
             Some(PatternRefusal::Syntax(fault)) => fault.pos == pos,
             _ => false,
         });
-        check(&rt, are_faults, pattern);
+        assert!(rt; are_faults, "{pattern}");
     }
 }
 
@@ -52,10 +51,9 @@ fn a_folder_that_is_removed_is_an_error(rt: HostRuntime) -> Result<(), Fail> {
             panic!(rt; "no error");
         };
         assert_eq!(rt; error.path().as_str(), inner.as_str());
-        let kind = error.error().kind();
-        let is_read = error.cause() == GlobCause::Read;
-        check(&rt, is_read && kind == ErrorKind::NotFound, "an error");
-        check(&rt, paths.next().is_none(), "the end");
+        assert!(rt; error.cause() == GlobCause::Read);
+        assert!(rt; error.error().kind() == ErrorKind::NotFound);
+        assert!(rt; paths.next().is_none());
     }
     fs::remove_dir(&rt, folder.as_str())?;
     Ok(())

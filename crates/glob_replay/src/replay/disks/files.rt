@@ -14,8 +14,9 @@ pub enum Kind<'a> {
     Dir(&'a [&'a [u8]]),
     /// A directory of which these blocks are read, and then a read fails, and why.
     Torn(&'a [&'a [u8]], ErrorKind),
-    /// A directory that fails so where it is opened, or else where it is read.
-    Failing(io::Error, bool),
+    /// A directory that cannot be opened, and one that cannot be read, and why.
+    Unopened(io::Error),
+    Unread(io::Error),
     /// A link to a file, and one to a directory.
     LinkToFile,
     LinkToDir,
@@ -41,16 +42,16 @@ pub struct SystemCalls {
     pub reports: Cell<u64>,
 }
 
-/// Counts the names that it receives, each of which has to be this one, and the paths, where these are the errors.
+/// Counts the names and paths that are reported: 1 for one that is known, with its error, and 9 for any other.
 #[derive(Drop)]
 pub struct Noted<'a> {
-    pub calls: &'a SystemCalls,
+    pub system: &'a SystemCalls,
 }
 
 impl Strays for Noted<'_> {
     fn stray(&mut self, directory: &str, name: &[u8]) {
         let is_known = directory == "latin/" && name == b"y\xffz".as_slice();
-        raise(&self.calls.reports, if is_known { 1 } else { 9 });
+        raise(&self.system.reports, if is_known { 1 } else { 9 });
     }
 
     fn unsettled(&mut self, path: &str, error: &io::Error) {
@@ -59,7 +60,7 @@ impl Strays for Noted<'_> {
             ErrorKind::PermissionDenied => path == "d/hidden" || path == "unseen/a",
             _ => false,
         };
-        raise(&self.calls.reports, if is_known { 1 } else { 9 });
+        raise(&self.system.reports, if is_known { 1 } else { 9 });
     }
 }
 
@@ -67,7 +68,7 @@ impl Strays for Noted<'_> {
 #[derive(Clone, Copy)]
 pub struct Written<'a> {
     pub paths: &'a [Planted<'a>],
-    pub calls: &'a SystemCalls,
+    pub system: &'a SystemCalls,
 }
 
 /// The names of a directory that are not yet read, and why no more can be read after them, if so.
@@ -75,18 +76,16 @@ pub struct Written<'a> {
 pub struct Names<'a> {
     blocks: &'a [&'a [u8]],
     failure: Option<io::Error>,
-    calls: &'a SystemCalls,
+    system: &'a SystemCalls,
 }
 
 impl Read for Names<'_> {
     fn read(&mut self, buf: &mut [u8]) -> io::Result<usize> {
-        raise(&self.calls.room, buf.len());
-        let blocks = self.blocks;
-        if blocks.is_empty() {
+        raise(&self.system.room, buf.len());
+        let [block, rest @ ..] = self.blocks else {
             return self.failure.map_or(Ok(0), Err);
-        }
-        let block = blocks[0];
-        self.blocks = &blocks[1..];
+        };
+        self.blocks = rest;
         let count = block.len().min(buf.len());
         buf[..count].copy_from_slice(&block[..count]);
         Ok(count)
@@ -110,29 +109,29 @@ impl<'a> Files for Written<'a> {
     type Dir = Names<'a>;
 
     fn open_file(&self, _how: &OpenOptions, _path: &str) -> io::Result<File> {
-        Err(unsupported())
+        Err(ErrorKind::Unsupported.into())
     }
 
     fn open_dir(&self, path: &str) -> io::Result<Names<'a>> {
-        let calls = self.calls;
-        raise(&calls.opens, 1);
+        let system = self.system;
+        raise(&system.opens, 1);
         let (blocks, failure) = match self.kind(path) {
             Kind::Dir(blocks) => (blocks, None),
             Kind::Torn(blocks, kind) => (blocks, Some(io::Error::from(kind))),
-            Kind::Failing(error, true) => return Err(error),
-            Kind::Failing(error, false) => (NO_BLOCKS, Some(error)),
+            Kind::Unopened(error) => return Err(error),
+            Kind::Unread(error) => (NO_BLOCKS, Some(error)),
             Kind::Link(kind) | Kind::Lost(kind) => return Err(io::Error::from(kind)),
-            Kind::File | Kind::LinkToFile | Kind::LinkToDir => return Err(unsupported()),
+            _ => return Err(ErrorKind::Unsupported.into()),
         };
         Ok(Names {
             blocks,
             failure,
-            calls,
+            system,
         })
     }
 
     fn metadata(&self, path: &str) -> io::Result<Metadata> {
-        raise(&self.calls.lookups, 1);
+        raise(&self.system.lookups, 1);
         match self.kind(path) {
             Kind::File | Kind::LinkToFile => Ok(Metadata::of_file(0)),
             Kind::Link(kind) | Kind::Lost(kind) => Err(io::Error::from(kind)),
@@ -143,7 +142,7 @@ impl<'a> Files for Written<'a> {
     fn symlink_metadata(&self, path: &str) -> io::Result<Metadata> {
         match self.kind(path) {
             Kind::LinkToFile | Kind::LinkToDir | Kind::Link(_) => {
-                raise(&self.calls.lookups, 1);
+                raise(&self.system.lookups, 1);
                 Ok(Metadata::of_symlink(0))
             }
             _ => self.metadata(path),
@@ -151,30 +150,26 @@ impl<'a> Files for Written<'a> {
     }
 
     fn copy(&self, _from: &str, _to: &str) -> io::Result<u64> {
-        Err(unsupported())
+        Err(ErrorKind::Unsupported.into())
     }
 
     fn rename(&self, _from: &str, _to: &str) -> io::Result<()> {
-        Err(unsupported())
+        Err(ErrorKind::Unsupported.into())
     }
 
     fn remove_file(&self, _path: &str) -> io::Result<()> {
-        Err(unsupported())
+        Err(ErrorKind::Unsupported.into())
     }
 
     fn create_dir(&self, _path: &str) -> io::Result<()> {
-        Err(unsupported())
+        Err(ErrorKind::Unsupported.into())
     }
 
     fn remove_dir(&self, _path: &str) -> io::Result<()> {
-        Err(unsupported())
+        Err(ErrorKind::Unsupported.into())
     }
 
     fn remove_dir_all<B: std::alloc::Allocator>(&self, _alloc: B, _path: &str) -> io::Result<()> {
-        Err(unsupported())
+        Err(ErrorKind::Unsupported.into())
     }
-}
-
-fn unsupported() -> io::Error {
-    io::Error::from(ErrorKind::Unsupported)
 }
