@@ -1,5 +1,5 @@
 //! A tree held in memory.
-ghost use Rattle.std.specs.Prelude.{◌≡◌, ◌+◌, true, Some, Ok, IfOk, IfErr, OnOk, OnErr, MatchResult};
+ghost use Rattle.std.specs.Prelude.{◌≡◌, ◌+◌, true, Some, Ok, IsOk, IfOk, IfErr, OnOk, OnErr, MatchResult};
 ghost use Rattle.glob_tree.specs.Answers.{IsListError, entries_of, entry_count};
 ghost use Rattle.glob_tree.specs.Content.{is_content, look_result, list_result, Entries};
 ghost use Rattle.glob_tree.specs.Memory.{empty_content, add_refusal, content_with, current_refusal, directory_key, with_current, IsChangeAnswer, IsFaultOf, change_answer, list_fault};
@@ -52,11 +52,12 @@ impl<A: Allocator> Model for MemTree<A> {
 impl<A: Allocator + Copy> MemTree<A> {
     /// A tree of the root alone, which is the current directory. `alloc` serves all that the tree holds and lists.
     ///
-    /// The error is an allocation failure, as it is of each change. Memory is taken by changes alone, so no caller has
-    /// to expect it of a new tree.
+    /// It succeeds, since changes alone take memory. Its error would be an allocation failure, as theirs is.
     pub fn new(alloc: A) -> Result<Self, AllocError>
+        ensures made { IsOk result }
         ensures empty { IfOk result (λ tree. tree.content ≡ empty_content) }
         ensures content { IfOk result (λ tree. is_content tree.content ≡ true) }
+        ensures asks { IfOk result (λ tree. tree.asks ≡ 0) }
     {
         Ok(MemTree {
             nodes: Nodes::new(alloc),

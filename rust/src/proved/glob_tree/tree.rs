@@ -52,8 +52,8 @@ pub trait Tree {
     /// As [`list`](Tree::list), where the names alone matter: `is_dir` may be `false` at any entry. A tree that would
     /// have to find out what each entry is can leave that out here.
     ///
-    /// The provided body is [`list`](Tree::list). So of a directory with the directory `a` and the file `b` it returns
-    /// the names `a` and `b`, and says that `a` is a directory. The errors are those of [`list`](Tree::list).
+    /// Of a directory with the directory `a` and the file `b` it returns the names `a` and `b`. The errors are those of
+    /// [`list`](Tree::list), which is the provided body.
     fn list_names(&mut self, path: &str) -> Result<Vec<Entry>, io::Error> {
         self.list(path)
     }
