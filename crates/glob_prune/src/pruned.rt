@@ -1,9 +1,9 @@
 //! A tree without what is excluded.
-ghost use Rattle.std.specs.Prelude.{◌≡◌, ◌+◌, ◌≤◌, true, IfOk, IfErr};
+ghost use Rattle.std.specs.Prelude.{◌≡◌, ◌+◌, ◌≤◌, true, IsErr, IfOk, IfErr, OnOk};
 ghost use Rattle.glob_tree.specs.Answers.{IsTold, IsListAnswer, IsListError, entries_of, entry_count};
-ghost use Rattle.glob_tree.specs.Content.{Content, look_result, list_result};
+ghost use Rattle.glob_tree.specs.Content.{Content, Fails, look_result, list_result};
 ghost use Rattle.glob_prune.specs.Asking.{ListsAtMostOnce};
-ghost use Rattle.glob_prune.specs.Pruning.{is_above_excluded, is_excluded, names_of_path, pruned_told};
+ghost use Rattle.glob_prune.specs.Pruning.{is_above_excluded, is_downward, is_excluded, names_of_path, pruned_told};
 
 use crate::entering::{enter, is_entered, is_path_excluded, kept_entries};
 use crate::exclusion::Exclusion;
@@ -44,7 +44,7 @@ impl<T: Tree, X: Exclusion> Model for Pruned<T, X> {
 
 impl<T: Tree, X: Exclusion> Pruned<T, X> {
     /// The tree without what `exclusion` names. It allocates nothing yet; `alloc` serves the paths that it asks of the
-    /// exclusion, and the entries that it lists.
+    /// exclusion. Entries are allocated as `tree` allocates them.
     pub fn new(alloc: T::Alloc, tree: T, exclusion: X) -> Self
         ensures tree { result.tree ≡ tree }
         ensures exclusion { result.exclusion ≡ exclusion }
@@ -76,6 +76,7 @@ impl<T: Tree, X: Exclusion> Tree for Pruned<T, X> {
     /// What is excluded is `Look::Missing`. Where a directory above is excluded, the tree in it is not asked.
     fn look(&mut self, path: &str) -> Result<Look, AllocError>
         ensures asks { self.new.asks ≡ self.old.asks + 1 }
+        ensures downward { OnOk result (is_downward path.now ≡ true) }
         ensures content { pruned_told (X.excludes self.new.exclusion) (T.tells self.new.tree)
             ≡ pruned_told (X.excludes self.old.exclusion) (T.tells self.old.tree) }
         ensures exclusion { self.new.exclusion ≡ self.old.exclusion }
@@ -94,6 +95,7 @@ impl<T: Tree, X: Exclusion> Tree for Pruned<T, X> {
     /// tree in it is not asked.
     fn list(&mut self, path: &str) -> Result<Vec<Entry<T::Alloc>, T::Alloc>, ListError>
         ensures asks { self.new.asks ≡ self.old.asks + 1 + entry_count result }
+        ensures downward { OnOk result (is_downward path.now ≡ true) }
         ensures content { pruned_told (X.excludes self.new.exclusion) (T.tells self.new.tree)
             ≡ pruned_told (X.excludes self.old.exclusion) (T.tells self.old.tree) }
         ensures exclusion { self.new.exclusion ≡ self.old.exclusion }
@@ -102,6 +104,11 @@ impl<T: Tree, X: Exclusion> Tree for Pruned<T, X> {
             (T.asks self.old.tree) (T.asks self.new.tree) }
         ensures spared { is_excluded (X.excludes self.old.exclusion)
             (names_of_path path.now) true ≡ true → self.new.tree ≡ self.old.tree }
+        ensures absent { is_excluded (X.excludes self.old.exclusion)
+            (names_of_path path.now) true ≡ true → IsErr result }
+        ensures not_found { is_excluded (X.excludes self.old.exclusion)
+            (names_of_path path.now) true ≡ true
+            → IfErr result (λ e. IsListError (Fails ErrorKind.NotFound) e) }
         ensures entries { (c : Content)
             → IsTold (pruned_told (X.excludes self.old.exclusion) (T.tells self.old.tree)) c
             → IfOk result (λ v. IsListAnswer (list_result c path.now) (entries_of v.items)) }
@@ -124,6 +131,7 @@ fn look_kept<T: Tree, X: Exclusion>(
     names: &mut String<T::Alloc>,
     path: &str,
 ) -> Result<Look, AllocError>
+    ensures downward { OnOk result (is_downward path.now ≡ true) }
     ensures content { T.tells tree.new ≡ T.tells tree.old }
     ensures few { T.asks tree.new ≤ T.asks tree.old + 1 }
     ensures spared { is_above_excluded (X.excludes exclusion.now) (names_of_path path.now) ≡ true
@@ -150,11 +158,16 @@ fn list_kept<T: Tree, X: Exclusion>(
     names: &mut String<T::Alloc>,
     path: &str,
 ) -> Result<Vec<Entry<T::Alloc>, T::Alloc>, ListError>
+    ensures downward { OnOk result (is_downward path.now ≡ true) }
     ensures content { T.tells tree.new ≡ T.tells tree.old }
     ensures few { (c : Content) → IsTold (T.tells tree.old) c
         → ListsAtMostOnce (list_result c path.now) (T.asks tree.old) (T.asks tree.new) }
     ensures spared { is_excluded (X.excludes exclusion.now) (names_of_path path.now) true ≡ true
         → tree.new ≡ tree.old }
+    ensures absent { is_excluded (X.excludes exclusion.now) (names_of_path path.now) true ≡ true
+        → IsErr result }
+    ensures not_found { is_excluded (X.excludes exclusion.now) (names_of_path path.now) true ≡ true
+        → IfErr result (λ e. IsListError (Fails ErrorKind.NotFound) e) }
     ensures entries { (c : Content)
         → IsTold (pruned_told (X.excludes exclusion.now) (T.tells tree.old)) c
         → IfOk result (λ v. IsListAnswer (list_result c path.now) (entries_of v.items)) }

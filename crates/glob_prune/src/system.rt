@@ -1,5 +1,5 @@
 //! What the system says of paths, and of the entries of a directory.
-ghost use Rattle.std.specs.Prelude.{◌≡◌, ◌≢◌, ◌∷◌, [], IfOk, IfErr, IfSome, OnOk};
+ghost use Rattle.std.specs.Prelude.{◌≡◌, ◌≢◌, ◌⊎◌, ◌∷◌, [], IfOk, IfErr, IfSome, OnOk};
 ghost use Rattle.std.specs.IoError.{error_kind};
 ghost use Rattle.std.specs.Io.KnownBytes.{IsAtEnd};
 ghost use Rattle.glob_tree.specs.Answers.{entries_of, names_of};
@@ -240,6 +240,8 @@ fn settle<S: Strays>(
 ) -> Result<Option<Metadata>, AllocError>
     ensures names { S.names strays.new ≡ S.names strays.old }
     ensures known { OnOk answer (S.paths strays.new ≡ S.paths strays.old) }
+    ensures missing { IfErr answer (λ error. (error_kind error ≡ ErrorKind.NotFound)
+        ⊎ (error_kind error ≡ ErrorKind.NotADirectory) → S.paths strays.new ≡ S.paths strays.old) }
     ensures unsettled { IfErr answer (λ error. error_kind error ≢ ErrorKind.NotFound
         → error_kind error ≢ ErrorKind.NotADirectory
         → OnOk result (S.paths strays.new ≡ and_then (S.paths strays.old) (path.now ∷ []))) }
