@@ -16,8 +16,8 @@ use crate::replay::calls::Calls;
 use crate::replay::walking::taken;
 use crate::words::{add_fault, number_of, options_of, out_of_memory, pattern_of, unusable};
 use glob::{Disk, Pattern, glob_in};
-use glob_captures::{captures, reach, tokens};
-use glob_set::{PatternSet, SetRefusal};
+use glob_captures::{CapturesError, captures, reach, tokens};
+use glob_set::{BraceSetRefusal, PatternSet, SetRefusal};
 use std::io::{self, Write};
 use std::path::Path;
 
@@ -32,7 +32,7 @@ pub fn answer_lines(rt: HostRuntime) -> io::Result<()> {
             ["match", pattern, texts @ ..] => add_matches(&mut calls, pattern, texts)?,
             ["captures", fields @ ..] => add_captures(&mut calls, fields)?,
             ["walk", fields @ ..] => add_walk(&mut calls, rt, fields)?,
-            ["set", fields @ ..] => add_set(&mut calls, fields)?,
+            ["set", ..] => add_set(&mut calls, fields.as_slice())?,
             _ => return Err(unusable()),
         }
         calls.words.push('\n')?;
@@ -70,19 +70,27 @@ pub fn add_captures(calls: &mut Calls<'_>, fields: &[&str]) -> io::Result<()> {
     for token in tokens(alloc, &pattern)?.iter() {
         write!(words, "{:?} {} ", token.kind, token.piece.end)?;
     }
-    match captures(alloc, &pattern, text, options).map_err(|_| out_of_memory())? {
-        Some(pieces) => {
-            words.push_str("| ")?;
+    words.push('|')?;
+    match captures(alloc, &pattern, text, options) {
+        Ok(Some(pieces)) => {
             for piece in pieces.iter() {
-                write!(words, "{} ", piece.end)?;
+                write!(words, " {}", piece.end)?;
             }
         }
-        None => words.push_str("| no ")?,
+        Ok(None) => words.push_str(" no")?,
+        Err(CapturesError::TooLarge) => words.push_str(" too large")?,
+        Err(CapturesError::Memory) => return Err(out_of_memory()),
     }
-    let reached = reach(alloc, &pattern, text, options).map_err(|_| out_of_memory())?;
-    write!(words, "| {}", reached.place)?;
-    for token in reached.waiting.iter() {
-        write!(words, " {token}")?;
+    words.push_str(" |")?;
+    match reach(alloc, &pattern, text, options) {
+        Ok(reached) => {
+            write!(words, " {}", reached.place)?;
+            for token in reached.waiting.iter() {
+                write!(words, " {token}")?;
+            }
+        }
+        Err(CapturesError::TooLarge) => words.push_str(" too large")?,
+        Err(CapturesError::Memory) => return Err(out_of_memory()),
     }
     Ok(())
 }
@@ -102,21 +110,30 @@ fn add_walk(calls: &mut Calls<'_>, rt: HostRuntime, fields: &[&str]) -> io::Resu
     }
 }
 
-/// Adds the answer to `set`, or the number of the pattern that has a fault. About the text as a path each answer is the
-/// same.
-pub fn add_set(calls: &mut Calls<'_>, fields: &[&str]) -> io::Result<()> {
-    let [letters, many, fields @ ..] = fields else {
+/// Adds the answer to `set` or to a row of a set: of the pattern that has a fault the number, or where patterns have
+/// braces what is printed of it. About the text as a path each answer is the same.
+pub fn add_set(calls: &mut Calls<'_>, row: &[&str]) -> io::Result<()> {
+    let [call, letters, many, fields @ ..] = row else {
         return Err(unusable());
     };
-    let (alloc, words) = (calls.alloc, &mut calls.words);
+    let (alloc, words, have_braces) = (calls.alloc, &mut calls.words, call.ends_with("braces"));
     let (patterns, texts) = fields.split_at_checked(number_of(many)?).ok_or(unusable())?;
     let options = options_of(letters)?;
-    let set = match PatternSet::from_texts(alloc, patterns, options) {
-        Ok(set) => set,
-        Err(SetRefusal::Syntax(number, _)) => return Ok(write!(words, "\tfault {number}")?),
-        Err(SetRefusal::Memory) => return Err(out_of_memory()),
+    let set = if have_braces {
+        match PatternSet::from_braces(alloc, patterns, options) {
+            Ok(set) => set,
+            Err(BraceSetRefusal::Memory) => return Err(out_of_memory()),
+            Err(refusal) => return Ok(write!(words, "\t{refusal}")?),
+        }
+    } else {
+        match PatternSet::from_texts(alloc, patterns, options) {
+            Ok(set) => set,
+            Err(SetRefusal::Memory) => return Err(out_of_memory()),
+            Err(SetRefusal::Syntax(number, _)) => return Ok(write!(words, "\tfault {number}")?),
+        }
     };
-    let is_whole = set.len() == patterns.len() && set.patterns().len() == patterns.len();
+    let are_counted = have_braces || set.len() == patterns.len();
+    let is_whole = are_counted && set.len() == set.patterns().len();
     if !is_whole || set.is_empty() != patterns.is_empty() || set.options() != options {
         words.push_str("\tanother set")?;
     }

@@ -3,6 +3,7 @@
 #![tactic(auto)]
 
 pub mod answer;
+mod counts;
 mod rationing;
 pub mod replay;
 pub mod rules;

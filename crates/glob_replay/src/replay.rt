@@ -18,9 +18,9 @@ pub mod walking;
 mod walks;
 mod writes;
 
+use crate::counts::raise;
 use crate::rationing::{Memory, Rationed};
 use crate::words::cut;
-use asked_tree::raise;
 use glob::MemTree;
 use settings::Settings;
 use std::alloc::Global;

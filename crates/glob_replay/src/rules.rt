@@ -11,13 +11,13 @@ pub fn ask_lists(rt: &HostRuntime) -> io::Result<()> {
     let mut list = None;
     for record in text.split('\0') {
         match record.split_at_checked(1) {
-            Some(("L", rules)) => match IgnoreList::new(rt.alloc(), rules) {
-                Ok(rules) => list = Some(rules),
-                Err(refusal) => {
-                    list = None;
+            Some(("L", rules)) => {
+                let made = IgnoreList::new(rt.alloc(), rules);
+                if let Err(refusal) = &made {
                     println!(rt; "R {refusal}")?;
                 }
-            },
+                list = made.ok();
+            }
             Some((kind, path)) => {
                 if let Some(list) = &list {
                     let rule = list.deciding_rule(path, kind == "d")?;

@@ -1,7 +1,7 @@
 //! A stream over memory that moves few bytes a call, counts its calls, and fails at a call that is picked.
 ghost use Rattle.std.specs.Prelude.{◌≤◌, IfOk, None};
 
-use crate::replay::asked_tree::raise;
+use crate::counts::raise;
 use crate::words::{cut, number_of, unusable};
 use std::alloc::Global;
 use std::cell::Cell;
@@ -15,7 +15,7 @@ pub enum Trouble {
     Errs(u64, io::Error),
     /// It moves no byte, and answers 0.
     Idles(u64),
-    /// It is interrupted at every other call, from the first on.
+    /// It is interrupted at three of four calls, from the first on.
     Interrupts,
     /// Each flush answers this error.
     Holds(io::Error),
@@ -70,7 +70,7 @@ impl<'a> Stream<'a> {
         str::from_utf8(self.written.as_slice()).map_err(|_| unusable())
     }
 
-    /// Whether a write is due, as far as that is written.
+    /// Whether a write is due now, as each is where no times are written.
     fn is_due(&self) -> bool {
         let now = self.clock.map_or(0, |clock| clock.get());
         let times = self.due.get(self.calls as usize);
@@ -86,7 +86,7 @@ impl<'a> Stream<'a> {
         match self.trouble {
             Trouble::Errs(call, error) if call == now => Err(error),
             Trouble::Idles(call) if call == now => Ok(0),
-            Trouble::Interrupts if now % 2 == 0 => Err(io::Error::from(ErrorKind::Interrupted)),
+            Trouble::Interrupts if now % 4 < 3 => Err(io::Error::from(ErrorKind::Interrupted)),
             _ => Ok(len.min(self.most)),
         }
     }

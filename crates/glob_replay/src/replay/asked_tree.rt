@@ -2,12 +2,12 @@
 ghost use Rattle.std.specs.Prelude.{◌≡◌, ◌+◌, None};
 
 use super::contents::tree_of;
+use crate::counts::{Counts, raise};
 use crate::rationing::Memory;
 use crate::streams::error_of;
 use crate::words::unusable;
 use glob::{Asks, Entry, ListError, Look, MemTree, Name, Tree};
 use std::alloc::AllocError;
-use std::cell::Cell;
 use std::io;
 
 /// The answer of a listing.
@@ -67,29 +67,6 @@ fn entries_of<'a>(alloc: Memory<'a>, names: &str) -> Listed<Memory<'a>> {
         }
     }
     Ok(entries)
-}
-
-/// How much was asked of a tree.
-#[derive(Default, Drop)]
-pub struct Counts {
-    /// Lookups, listings and the entries of these.
-    pub asked: Cell<u64>,
-    /// How often entries or names were listed, and how often names alone.
-    pub listings: Cell<u64>,
-    pub namings: Cell<u64>,
-}
-
-impl Counts {
-    /// How often entries were listed, and how often names alone.
-    pub fn listed(&self) -> (u64, u64) {
-        let namings = self.namings.get();
-        (self.listings.get().saturating_sub(namings), namings)
-    }
-}
-
-/// Adds to a count.
-pub fn raise(count: &Cell<u64>, more: usize) {
-    count.set(count.get().saturating_add(more as u64));
 }
 
 /// A tree that counts what it is asked.

@@ -34,30 +34,24 @@ impl Exclusion for Named {
     }
 }
 
-/// A disk, and a call of it about a path.
-#[derive(Clone, Copy)]
-struct Asked<'a> {
-    disk: &'a str,
-    call: &'a str,
-    path: &'a str,
-}
-
-/// What a disk of these paths answers, or `$` if an allocation fails that was not refused, and with which system calls.
+/// What a disk of these paths answers to a call about a path, or `$` if an allocation fails that was not refused, and
+/// with which system calls.
 /// The disk is a `disk`, which follows links, one that is `pruned` of `p/s`, or a `PhysicalDisk` with links `kept` or
 /// `followed`. The error is memory that was refused.
 fn answer_of(
     alloc: Memory<'_>,
     paths: &[Planted<'_>],
-    asked: Asked<'_>,
+    disk: &str,
+    asked: (&str, &str),
 ) -> io::Result<(String, SystemCalls)> {
     let (mut calls, made) = (Calls::new(alloc), SystemCalls::default());
     let system = &made;
     let (files, noted) = (Written { paths, system }, Noted { system });
-    let answered = match asked.disk {
+    let answered = match disk {
         "disk" => calls.ask(Disk::new(files, alloc), asked),
         "followed" => {
-            let disk = PhysicalDisk::with_links(files, noted, alloc, Links::Followed);
-            calls.ask(disk, asked)
+            let followed = PhysicalDisk::with_links(files, noted, alloc, Links::Followed);
+            calls.ask(followed, asked)
         }
         "kept" => calls.ask(PhysicalDisk::new(files, noted, alloc), asked),
         _ => {
@@ -73,21 +67,17 @@ fn answer_of(
 }
 
 impl<'a> Calls<'a> {
-    /// Adds what a tree answers. What a `look` finds is `Dir`, `Other` or `Missing`. Of entries there are the names, a
-    /// directory's with `/` at its end, and a blank after each, and so of a walk the paths. After `!` there is an
-    /// error, or the path that a walk could not read.
-    fn ask<T: Tree<Alloc = Memory<'a>>>(&mut self, tree: T, asked: Asked<'_>) -> io::Result<()> {
-        let (mut tree, path, words) = (tree, asked.path, &mut self.words);
-        match asked.call {
-            "look" => Ok(write!(words, "{:?} ", tree.look(path)?)?),
-            "look a thousand times" => {
-                let seen = tree.look(path)?;
-                for _ in 1..1_000 {
-                    if tree.look(path)? != seen {
-                        words.push_str("otherwise ")?;
-                    }
+    /// Adds what a tree answers to a call about a path, or to looks at the paths between `,`. What these find is `Dir`,
+    /// `Other` or `Missing`. Of entries there are the names, a directory's with `/` at its end, and a blank after each,
+    /// and so of a walk the paths. After `!` there is an error, or the path that a walk could not read.
+    fn ask<T: Tree<Alloc = Memory<'a>>>(&mut self, tree: T, asked: (&str, &str)) -> io::Result<()> {
+        let (mut tree, (call, path), words) = (tree, asked, &mut self.words);
+        match call {
+            "look" => {
+                for path in path.split(',') {
+                    write!(words, "{:?} ", tree.look(path)?)?;
                 }
-                Ok(write!(words, "{seen:?} ")?)
+                Ok(())
             }
             "list" => add_entries(words, tree.list(path)),
             "names" => add_entries(words, tree.list_names(path)),
@@ -99,114 +89,7 @@ impl<'a> Calls<'a> {
             }
         }
     }
-}
 
-/// Makes the call of the second field of each disk of the first about each path of the third. The words are the answer
-/// and the system calls, which are the same for all.
-pub fn ask_each(calls: &mut Calls<'_>, disks: &str, call: &str, paths: &str) -> io::Result<()> {
-    for disk in disks.split(' ') {
-        for path in paths.split(' ') {
-            let path = if path == "''" { "" } else { path };
-            let asked = Asked { disk, call, path };
-            let (mut answer, system) = answer_of(calls.alloc, PATHS, asked)?;
-            add_calls(&mut answer, &system, asked)?;
-            if calls.words.is_empty() {
-                calls.words.push_str(&answer)?;
-            } else if calls.words != answer {
-                write!(calls.words, ", and {disk} {path}: {answer}")?;
-            }
-        }
-    }
-    Ok(())
-}
-
-/// Adds how often a path was looked up for a look, or else a directory opened, and whether something was reported.
-/// Nothing is opened for a look, each entry of a listing is looked up once, and none for its name alone.
-fn add_calls(words: &mut String, system: &SystemCalls, asked: Asked<'_>) -> Result<(), AllocError> {
-    let (lookups, opens) = (system.lookups.get(), system.opens.get());
-    let entries = words.split_terminator(' ').count() as u64;
-    let is_listed = asked.disk == "disk" && !words.contains(['!', '$']);
-    let (count, are_few) = match asked.call {
-        "look" => (lookups, opens == 0),
-        "names" => (opens, lookups == 0),
-        "list" if is_listed => (opens, lookups == entries),
-        _ => (opens, true),
-    };
-    write!(words, "{count}{}", if are_few { "" } else { " calls" })?;
-    match system.reports.get() {
-        0 => Ok(()),
-        1 => words.push_str(" reported"),
-        _ => words.push_str(" reported otherwise"),
-    }
-}
-
-/// Asks disks where the system fails by each of its errors, and by one with words of its own: `a`, the target of the
-/// link `l` and the entry of `e` cannot be looked up, `o` not opened, and `r` not read. Adds each disk and number of an
-/// error at which the answer is not that of the last field, where `!` is the error.
-pub fn ask_failing(calls: &mut Calls<'_>, fields: &[&str]) -> io::Result<()> {
-    let [disks, call, path, known] = *fields else {
-        return Err(unusable());
-    };
-    for code in 0..134 {
-        let error = match code {
-            0 => io::Error::new(ErrorKind::InvalidData, "words"),
-            _ => io::Error::from_raw_os_error(code),
-        };
-        let paths = &[
-            ("a e/x", Lost(error.kind())),
-            ("l", Link(error.kind())),
-            ("e/", Dir(&[b"x\0"])),
-            ("o/", Unopened(error)),
-            ("r/", Unread(error)),
-        ];
-        let printed = format!(in calls.alloc.inner; "!{error}")?;
-        let known = known.replace(calls.alloc.inner, "!", &printed)?;
-        for disk in disks.split(' ') {
-            let (answer, _) = answer_of(calls.alloc, paths, Asked { disk, call, path })?;
-            if answer.strip_suffix(' ') != Some(known.as_str()) {
-                write!(calls.words, "{disk} {code} {answer}")?;
-            }
-        }
-    }
-    Ok(())
-}
-
-/// Asks a disk about a directory, of which a read gives the first names, and each of so many further ones the others.
-/// Adds the answer, the system calls, and how many bytes the reads had room for.
-pub fn ask_large(calls: &mut Calls<'_>, fields: &[&str]) -> io::Result<()> {
-    let [disk, call, names, reads] = *fields else {
-        return Err(unusable());
-    };
-    let (first, others) = cut(names, " ")?;
-    let mut blocks = Vec::new(calls.alloc.inner);
-    blocks.push(first.as_bytes())?;
-    for _ in 0..number_of(reads)? {
-        blocks.push(others.as_bytes())?;
-    }
-    let (path, paths) = ("a", &[("a/", Dir(blocks.as_slice()))]);
-    let asked = Asked { disk, call, path };
-    let (mut answer, system) = answer_of(calls.alloc, paths, asked)?;
-    add_calls(&mut answer, &system, asked)?;
-    Ok(write!(calls.words, "{answer} {}", system.room.get())?)
-}
-
-/// Walks where the path of the first field cannot be looked up, and `a` not opened, by the error of the second, and
-/// adds the first item.
-pub fn walk_to_error(calls: &mut Calls<'_>, fields: &[&str]) -> io::Result<()> {
-    let [lost, word, pattern, limit] = *fields else {
-        return Err(unusable());
-    };
-    let (known, system) = (error_of(word)?, &SystemCalls::default());
-    let paths = &[
-        (lost, Lost(known.kind())),
-        (". a a/b", Dir(&[])),
-        ("a/", Unopened(known)),
-    ];
-    let disk = Disk::new(Written { paths, system }, calls.alloc);
-    calls.add_first_error(disk, (pattern, number_of(limit)? as u64), known)
-}
-
-impl<'a> Calls<'a> {
     /// Adds the path and the cause of a walk's first item, which is this error, and is printed with it. The calls of it
     /// take no memory. Of the path at which memory ran out nothing is said.
     fn add_first_error<T: Tree<Alloc = Memory<'a>>>(
@@ -236,6 +119,105 @@ impl<'a> Calls<'a> {
         }
         Ok(())
     }
+}
+
+/// Makes the call of the second field of each disk of the first about each path of the third. The words are the answer
+/// and the system calls, which are the same for all.
+pub fn ask_each(calls: &mut Calls<'_>, disks: &str, call: &str, paths: &str) -> io::Result<()> {
+    for disk in disks.split(' ') {
+        for path in paths.split(' ') {
+            let path = if path == "''" { "" } else { path };
+            let (mut answer, system) = answer_of(calls.alloc, PATHS, disk, (call, path))?;
+            add_calls(&mut answer, &system, call)?;
+            if calls.words.is_empty() {
+                calls.words.push_str(&answer)?;
+            } else if calls.words != answer {
+                write!(calls.words, ", and {disk} {path}: {answer}")?;
+            }
+        }
+    }
+    Ok(())
+}
+
+/// Adds of a look how often a path was looked up, of a walk how often a directory was opened, and of a listing both;
+/// then whether something was reported. Nothing is opened for a look.
+fn add_calls(words: &mut String, system: &SystemCalls, call: &str) -> Result<(), AllocError> {
+    let (lookups, opens) = (system.lookups.get(), system.opens.get());
+    match call {
+        "look" if opens == 0 => write!(words, "{lookups}")?,
+        "walk" => write!(words, "{opens}")?,
+        _ => write!(words, "{opens} {lookups}")?,
+    }
+    match system.reports.get() {
+        0 => Ok(()),
+        1 => words.push_str(" reported"),
+        _ => words.push_str(" reported otherwise"),
+    }
+}
+
+/// Asks disks where the system fails by each of its errors, and by one with words of its own: `a`, the target of the
+/// link `l` and the entry of `e` cannot be looked up, `o` not opened, and `r` not read. Adds each disk and number of an
+/// error at which the answer is not that of the last field, where `!` is the error.
+pub fn ask_failing(calls: &mut Calls<'_>, fields: &[&str]) -> io::Result<()> {
+    let [disks, call, path, known] = *fields else {
+        return Err(unusable());
+    };
+    for code in 0..134 {
+        let error = match code {
+            0 => io::Error::new(ErrorKind::InvalidData, "words"),
+            _ => io::Error::from_raw_os_error(code),
+        };
+        let paths = &[
+            ("a e/x", Lost(error.kind())),
+            ("l", Link(error.kind())),
+            ("e/", Dir(&[b"x\0"])),
+            ("o/", Unopened(error)),
+            ("r/", Unread(error)),
+        ];
+        let printed = format!(in calls.alloc.inner; "!{error}")?;
+        let known = known.replace(calls.alloc.inner, "!", &printed)?;
+        for disk in disks.split(' ') {
+            let (answer, _) = answer_of(calls.alloc, paths, disk, (call, path))?;
+            if answer.strip_suffix(' ') != Some(known.as_str()) {
+                write!(calls.words, "{disk} {code} {answer}")?;
+            }
+        }
+    }
+    Ok(())
+}
+
+/// Asks a disk about a directory, of which a read gives the first names, and each of so many further ones the others.
+/// Adds the answer, the system calls, and how many bytes the reads had room for.
+pub fn ask_large(calls: &mut Calls<'_>, fields: &[&str]) -> io::Result<()> {
+    let [disk, call, names, reads] = *fields else {
+        return Err(unusable());
+    };
+    let (first, others) = cut(names, " ")?;
+    let mut blocks = Vec::new(calls.alloc.inner);
+    blocks.push(first.as_bytes())?;
+    for _ in 0..number_of(reads)? {
+        blocks.push(others.as_bytes())?;
+    }
+    let paths = &[("a/", Dir(blocks.as_slice()))];
+    let (mut answer, system) = answer_of(calls.alloc, paths, disk, (call, "a"))?;
+    add_calls(&mut answer, &system, call)?;
+    Ok(write!(calls.words, "{answer} {}", system.room.get())?)
+}
+
+/// Walks where the path of the first field cannot be looked up, and `a` not opened, by the error of the second, and
+/// adds the first item.
+pub fn walk_to_error(calls: &mut Calls<'_>, fields: &[&str]) -> io::Result<()> {
+    let [lost, word, pattern, limit] = *fields else {
+        return Err(unusable());
+    };
+    let (known, system) = (error_of(word)?, &SystemCalls::default());
+    let paths = &[
+        (lost, Lost(known.kind())),
+        (". a a/b", Dir(&[])),
+        ("a/", Unopened(known)),
+    ];
+    let disk = Disk::new(Written { paths, system }, calls.alloc);
+    calls.add_first_error(disk, (pattern, number_of(limit)? as u64), known)
 }
 
 const BLOCKS: &[&[u8]] = &[b"f\0s\0t\0", b"u\0"];

@@ -2,10 +2,10 @@
 //! settings of each rule: as sets, and where the pattern says so, in order.
 
 use super::Report;
-use super::asked_tree::Counts;
 use super::contents::{is_directory, name_of};
 use super::settings::Settings;
 use super::walking::{Found, Job, gathered};
+use crate::counts::Counts;
 use crate::words::{options_of, pattern_of};
 use glob::{MatchOptions, is_plain};
 use std::alloc::{AllocError, Global};

@@ -1,12 +1,13 @@
 //! Rows that stand alone: `FIELDS => ANSWER`, each of whose requests for memory is refused in turn. In files of words `
 //! | ` is between two fields, and after the answer may follow ` ; `, the most requests, and the most bytes of these.
 
-use super::asked_tree::{AskedTree, Counts};
+use super::asked_tree::AskedTree;
 use super::calls::{Calls, FREELY, Most, found_at_each, found_by, found_if_refused};
 use super::contents::tree_of;
 use super::walking::{Job, gathered, stepped};
 use super::{Report, copies, disks, judges, matches, trees, writes};
 use crate::answer::{add_captures, add_set};
+use crate::counts::Counts;
 use crate::rationing::Rationed;
 use crate::words::{
     add_fault, in_words, number_of, out_of_memory, pattern_of, refused, text_of, unusable,
@@ -64,16 +65,16 @@ pub fn make(calls: &mut Calls<'_>, row: &[&str]) -> io::Result<()> {
         ["change a tree", changes @ ..] => trees::change(calls, changes),
         ["walk", content, pattern] => walk(calls, content, pattern),
         ["walk far", content, pattern, most] => walk_far(calls, content, pattern, most),
-        ["list", content] => trees::list(calls, content),
         ["match", pattern, text] => add_answer(calls, pattern, text),
         ["copy", fields @ ..] => copies::add_copy(calls, fields),
         ["write", fields @ ..] => writes::add_run(calls, fields),
+        ["write whole", writer, text] => writes::add_whole(calls, writer, text),
         ["list kinds", content, pattern] => writes::add_listings(calls, content, pattern),
         ["ask disks", disks, call, paths] => disks::ask_each(calls, disks, call, paths),
         ["ask failing disks", fields @ ..] => disks::ask_failing(calls, fields),
         ["ask a large directory", fields @ ..] => disks::ask_large(calls, fields),
         ["walk to an error", fields @ ..] => disks::walk_to_error(calls, fields),
-        ["ask a set", fields @ ..] => add_set(calls, fields),
+        ["ask a set" | "ask a set of braces", ..] => add_set(calls, row),
         ["capture", fields @ ..] => add_captures(calls, fields),
         ["ask an ignore list", lines, paths] => ask_list(calls, lines, paths),
         _ => Err(unusable()),
@@ -181,8 +182,9 @@ fn ask_list(calls: &mut Calls<'_>, lines: &str, paths: &str) -> io::Result<()> {
         let name = path.trim_end_matches('/');
         let is_directory = name.len() < path.len();
         let is_ignored = list.is_ignored(name, is_directory)?;
-        let rule = list.deciding_rule(name, is_directory)?;
-        let line = rule.map(|rule| rule.line);
+        let line = list
+            .deciding_rule(name, is_directory)?
+            .map(|rule| rule.line);
         write!(calls.words, "{is_ignored} {line:?} ")?;
     }
     Ok(())

@@ -1,7 +1,8 @@
 //! What the lines before a row have set.
 
-use super::asked_tree::{AskedTree, Counts, Source};
+use super::asked_tree::{AskedTree, Source};
 use super::contents::tree_of;
+use crate::counts::Counts;
 use crate::rationing::Memory;
 use crate::words::{cut, unusable};
 use std::alloc::{AllocError, Global};

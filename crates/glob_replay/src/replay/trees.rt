@@ -3,7 +3,6 @@
 use super::Report;
 use super::asked_tree::Listed;
 use super::calls::Calls;
-use super::contents::tree_of;
 use crate::rationing::Memory;
 use crate::words::{cut, has_word, out_of_memory, text_of, unusable};
 use glob::{ListError, MemTree, Tree, TreeRefusal};
@@ -40,21 +39,6 @@ pub fn change(calls: &mut Calls<'_>, changes: &[&str]) -> io::Result<()> {
         }
     }
     Ok(())
-}
-
-/// Adds how many entries the root of a content has. A look asks for no memory.
-pub fn list(calls: &mut Calls<'_>, content: &str) -> io::Result<()> {
-    let ration = &calls.alloc.ration;
-    let mut tree = tree_of(calls.alloc, ("", ""), content)?;
-    let asked = ration.asked();
-    tree.look("./f0")?;
-    if ration.asked() != asked {
-        calls.words.push_str("looks with memory ")?;
-    }
-    match tree.list("/") {
-        Ok(entries) => Ok(write!(calls.words, "{}", entries.len())?),
-        Err(_) => Err(out_of_memory()),
-    }
 }
 
 /// Adds what a call and its path are answered, in words.

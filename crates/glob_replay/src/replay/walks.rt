@@ -1,9 +1,9 @@
 //! Rows of walks: `PATTERNS => ITEMS`, after which units of work may follow, as in `PATTERNS => ITEMS ; 13`. Other
 //! lines say what holds for the rows after them.
 
-use super::asked_tree::Counts;
 use super::walking::{Found, Job, gathered, stepped};
 use super::{Report, disk, goals};
+use crate::counts::Counts;
 use crate::words::{in_words, number_of, options_of, text_of};
 use std::io::{self, Write};
 

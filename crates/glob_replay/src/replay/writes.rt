@@ -1,13 +1,15 @@
 //! Rows of what programs write, and when: `JOB | CONTENT | OUTPUT | ERRORS`, where the last two are writers.
 
-use super::asked_tree::{AskedTree, Counts};
+use super::asked_tree::AskedTree;
 use super::calls::Calls;
 use super::walking::{Job, gathered};
+use crate::counts::Counts;
 use crate::rationing::Memory;
 use crate::streams::{Stream, Trouble, error_of};
 use crate::words::{cut, out_of_memory, unusable};
 use glob::MatchOptions;
 use glob_console::{ErrorLines, Every, WalkSettings, find_in, write_text};
+use glob_lines::write_whole;
 use std::io::{self, Write};
 
 /// What a job came to.
@@ -59,14 +61,24 @@ fn run<'a>(alloc: Memory<'a>, row: &[&str], counts: &'a Counts) -> io::Result<Ra
     })
 }
 
-/// Does a row's job: adds the status, and of each writer what was written, or how many bytes if it awaits its writes,
-/// and before it how many writes of many bytes there were. None that fails is flushed twice.
+/// Does a row's job: adds the status, and of each writer what was written, or how many bytes if its writes are due at
+/// some time, and before it how many writes of many bytes there were. None that fails is flushed twice.
 pub fn add_run(calls: &mut Calls<'_>, row: &[&str]) -> io::Result<()> {
     let counts = Counts::default();
     let ran = run(calls.alloc, row, &counts)?;
     write!(calls.words, "{}", ran.status)?;
     add_written(&ran.output, &mut calls.words)?;
     add_written(&ran.errors, &mut calls.words)
+}
+
+/// Writes a text by `write_whole`. Adds its error, if there is one, how many writes there were, and what was written.
+pub fn add_whole(calls: &mut Calls<'_>, writer: &str, text: &str) -> io::Result<()> {
+    let (alloc, words) = (calls.alloc.inner, &mut calls.words);
+    let mut output = Stream::new(alloc, b"", writer)?;
+    if let Err(error) = write_whole(&mut output, text.as_bytes()) {
+        write!(words, "{:?} {error}: ", error.kind())?;
+    }
+    Ok(write!(words, "{} {}", output.calls, output.text()?)?)
 }
 
 fn add_written(writer: &Stream<'_>, words: &mut String) -> io::Result<()> {
@@ -84,13 +96,14 @@ fn add_written(writer: &Stream<'_>, words: &mut String) -> io::Result<()> {
     Ok(words.push_str(writer.text()?)?)
 }
 
-/// Adds how often entries are asked for, and how often names alone, by `find_in` and by `walk_in`.
+/// Adds how often a directory is listed, and how often its names alone, by `find_in` and by `walk_in`.
 pub fn add_listings(calls: &mut Calls<'_>, content: &str, pattern: &str) -> io::Result<()> {
     let (alloc, counts, others) = (calls.alloc, Counts::default(), Counts::default());
     let job = format!(in alloc.inner; "find {pattern}")?;
     drop(run(alloc, &[job.as_str(), content, "99", "99"], &counts)?);
     let tree = AskedTree::of(alloc, content, &others)?;
     gathered(alloc, tree, Job::of(pattern))?.add_to(&mut String::new(alloc.inner))?;
-    let ((entries, names), (others, other_names)) = (counts.listed(), others.listed());
-    Ok(write!(calls.words, "{entries} {names} {others} {other_names}")?)
+    let (found, found_by_name) = (counts.listings.get(), counts.namings.get());
+    let (walked, by_name) = (others.listings.get(), others.namings.get());
+    Ok(write!(calls.words, "{found} {found_by_name} {walked} {by_name}")?)
 }

@@ -1,11 +1,13 @@
-//! Each call of `glob_examples` once, with ample memory: that it answers. What it answers is proved.
-use glob::Pattern;
+//! Each call of `glob_examples`, and each law that takes arguments, once, with ample memory: that it answers.
+use glob::laws::{path_matches_as_its_text, text_is_an_equal_pattern};
+use glob::{MatchOptions, Pattern};
 use glob_examples::copy::{CopyRules, paths_to_copy, pattern_below};
 use glob_examples::literals::matches_main;
 use glob_examples::names::PathPattern;
 use glob_examples::one_file::{OneFile, walk_over_main};
 use glob_examples::sources::sources;
 use glob_examples::texts::{matches_text, reread};
+use std::path::Path;
 use std::test::Fail;
 
 #[test]
@@ -13,7 +15,10 @@ fn examples_answer(rt: HostRuntime) -> Result<(), Fail> {
     let alloc = rt.alloc();
     assert!(rt; matches_main(alloc)?);
     assert!(rt; !matches_text(alloc, "[", "[")?);
-    reread(alloc, &Pattern::new(alloc, "a*")?)?;
+    let pattern = Pattern::new(alloc, "a*")?;
+    reread(alloc, &pattern)?;
+    text_is_an_equal_pattern(alloc, &pattern)?;
+    assert!(rt; path_matches_as_its_text(&pattern, Path::new("a/b"), MatchOptions::new())?);
     pattern_below(alloc, "a[1]")?;
     assert!(rt; walk_over_main(alloc).is_ok());
     assert!(rt; sources(alloc, OneFile::new(alloc, "main.rs"), "*.rs", 3).is_ok());

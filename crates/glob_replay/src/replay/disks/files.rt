@@ -1,5 +1,5 @@
 //! A scripted file system, which counts its calls.
-use crate::replay::asked_tree::raise;
+use crate::counts::raise;
 use crate::words::has_word;
 use glob_prune::Strays;
 use std::cell::Cell;
