@@ -1,5 +1,6 @@
 -- What the calls answer, as numbers.
-use Rattle.std.specs.Prelude.{ℕ, ◌==◌, if◌then◌else◌, List, bytes_eq}
+use Rattle.std.specs.Prelude.{ℕ, ◌==◌, nat_eq, if◌then◌else◌, Bool, List, [], ◌∷◌, bytes_eq}
+use Rattle.std.specs.List.{list_any}
 use Rattle.glob_pattern.specs.Grammar.Faults.{Fault, wildcards_message, recursive_message, range_message}
 
 -- the call did what it is for
@@ -33,6 +34,18 @@ in_use = 6
 -- the handle is empty
 abbrev pub empty : ℕ
 empty = 7
+
+-- the walk did not ask that
+abbrev pub not_asked : ℕ
+not_asked = 9
+
+-- the text is no name
+abbrev pub no_name : ℕ
+no_name = 10
+
+-- what an entry of a walk is answered by
+abbrev pub answers_entry : ℕ → Bool
+answers_entry n = list_any (nat_eq n) (done ∷ out_of_memory ∷ not_utf8 ∷ not_asked ∷ no_name ∷ [])
 
 -- the text does not match
 abbrev pub no : ℕ

@@ -1,5 +1,5 @@
 -- A walk that is driven through C.
-use Rattle.std.specs.Prelude.{◌≡◌, ℕ, true, false, nat_eq, if◌then◌else◌, Ok, Err, List, Option, Some, None, ⊤}
+use Rattle.std.specs.Prelude.{◌≡◌, ℕ, true, false, nat_eq, if◌then◌else◌, Ok, Err, List, [], Option, Some, None, ⊤}
 use Rattle.std.specs.IoError.{error_kind}
 use Rattle.std.specs.declared.alloc.Global.{Global}
 use Rattle.std.specs.declared.io.ErrorKind.{ErrorKind}
@@ -70,6 +70,11 @@ pub record Counts (said : Saying) (r : Reply) (old : MachineState Global) (s : S
 abbrev pub entries_so_far : Reply → Option (List DirEntry)
 entries_so_far (reply.Entries v) = Some (entries_of v.items)
 entries_so_far _ = None
+
+-- nothing was answered since the step: no entry, where entries are asked for
+abbrev pub IsUnanswered : Saying → Reply → Type 0
+IsUnanswered (AsksList kinds) r = entries_so_far r ≡ Some []
+IsUnanswered _ r = r ≡ reply.Nothing
 
 -- these entries are the answer
 abbrev pub AreListed : List DirEntry → Reply → Type 0

@@ -7,7 +7,7 @@ use Rattle.glob_walk.specs.Marks.{Item, Mark}
 use Rattle.glob_walk.specs.Driven.{HasGiven, GivesNext}
 use Rattle.std.specs.declared.option.Option.{Option}
 use Rattle.std.specs.declared.option.Option.TheVariants.{None, Some}
-use Rattle.glob_c.specs.Sessions.{Sitting, Counts, entries_so_far, kind_of, AreListed, IsUnread}
+use Rattle.glob_c.specs.Sessions.{Sitting, Counts, entries_so_far, kind_of, AreListed, IsUnanswered, IsUnread}
 
 -- the slot has a walk that has done nothing yet, over this listing
 abbrev pub IsBegun : List Mark → Content → Option Sitting → Type 0
@@ -28,6 +28,16 @@ IsAdvanced all c given kind (Some s) = (kind ≡ kind_of s.said) × GivesNext al
 abbrev pub IsCounted : Sitting → Option Sitting → Type 0
 IsCounted old None = ⊥
 IsCounted old (Some s) = Counts old.said old.reply old.machine s.said s.machine
+
+-- the slot has a walk whose last step has this number
+abbrev pub HasStep : ℕ → Option Sitting → Type 0
+HasStep kind None = ⊥
+HasStep kind (Some s) = kind ≡ kind_of s.said
+
+-- the slot has a walk, and nothing was answered since its last step
+abbrev pub HasNoAnswer : Option Sitting → Type 0
+HasNoAnswer None = ⊥
+HasNoAnswer (Some s) = IsUnanswered s.said s.reply
 
 -- these entries were answered so far
 abbrev pub HasEntries : Sitting → List DirEntry → Option Sitting → Type 0

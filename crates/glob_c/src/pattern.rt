@@ -2,7 +2,7 @@ ghost use Rattle.std.specs.Prelude.{◌≡◌, ◌≤◌, ℕ, List, IsUtf8, IsS
 ghost use Rattle.std.specs.declared.option.Option.TheVariants.{None, Some};
 ghost use Rattle.glob_pattern.specs.Grammar.Units.{IsAccepted};
 ghost use Rattle.glob_pattern.specs.Grammar.Faults.{IsFault};
-ghost use Rattle.glob_c.specs.Answers.{done, syntax_fault, not_utf8, in_use, fault_of};
+ghost use Rattle.glob_c.specs.Answers.{done, syntax_fault, not_utf8, too_short, unknown_flag, in_use, fault_of};
 ghost use Rattle.glob_c.specs.Matches.{Answers, IsPromised};
 ghost use Rattle.glob_c.specs.Slots.{PatternRow};
 ghost use base.Fml.{Lft, Share, fsep, flft};
@@ -42,15 +42,18 @@ pub extern "C" fn cadmiumdove_pattern_new(
     fault: &mut Fault,
 ) -> u32
     ensures range { result ≤ in_use }
+    ensures not_short { ¬ (result ≡ too_short) }
+    ensures no_flag { ¬ (result ≡ unknown_flag) }
     ensures was_empty { result ≡ done → handle.old.slot.text ≡ None }
     ensures accepted { result ≡ done → IsAccepted (chars pattern.now) }
-    ensures utf8 { result ≡ done → IsUtf8 pattern.now }
+    ensures utf8 { result ≤ syntax_fault → IsUtf8 pattern.now }
     ensures text { result ≡ done → handle.new.slot.text ≡ Some pattern.now }
     ensures syntax { result ≡ syntax_fault →
         IsFault (chars pattern.now) (fault_of fault.new.place fault.new.message) }
     ensures message { result ≡ syntax_fault → fault.new.message ≤ 2 }
     ensures not_utf8 { result ≡ not_utf8 → ¬ (IsUtf8 pattern.now) }
     ensures in_use { result ≡ in_use → IsSome handle.old.slot.text }
+    ensures full { IsSome handle.old.slot.text → result ≡ in_use }
     ensures refused { ¬ (result ≡ done) → handle.new.slot.text ≡ handle.old.slot.text }
     ensures untold { ¬ (result ≡ syntax_fault) → fault.new ≡ fault.old }
 {

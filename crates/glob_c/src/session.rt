@@ -1,15 +1,16 @@
 //! A walk that is driven through C: its last step, and what was answered since.
-ghost use Rattle.std.specs.Prelude.{◌≡◌, ◌++◌, [], ◌∷◌, Bool, List, None, Some, IsSome};
+ghost use Rattle.std.specs.Prelude.{◌≡◌, ◌++◌, [], ◌∷◌, Bool, true, false, List, None, Some, IsSome, IsTrue, IsUtf8};
 ghost use Rattle.std.specs.IoError.{os_error_kind};
 ghost use Rattle.glob_tree.specs.Content.{Content, DirEntry};
+ghost use Rattle.glob_tree.specs.Paths.{is_proper};
 ghost use Rattle.glob_walk.specs.Machines.{AsksList, AsksLook, Ends, IsAskedAfter, Says, saying};
 ghost use Rattle.glob_text.specs.Text.{Text};
 ghost use Rattle.glob_walk.specs.Questions.{question_path};
 ghost use Rattle.glob_walk.specs.Walks.{Gives, outcome};
 ghost use Rattle.glob_walk.specs.Marks.{Found, Item, Mark};
 ghost use Rattle.glob_walk.specs.Driven.{HasGiven, GivesNext};
-ghost use Rattle.glob_c.specs.Answers.{done};
-ghost use Rattle.glob_c.specs.Sessions.{AreListed, Counts, IsUnread, Replies, RepliesTo, entries_so_far, error_path, kind_of};
+ghost use Rattle.glob_c.specs.Answers.{answers_entry, done, no_name, not_asked, not_utf8, out_of_memory};
+ghost use Rattle.glob_c.specs.Sessions.{AreListed, Counts, IsUnanswered, IsUnread, Replies, RepliesTo, entries_so_far, error_path, kind_of};
 
 use crate::pattern::{DONE, NOT_UTF8, OUT_OF_MEMORY};
 use glob_tree::{Entry, ListError, Look, Name};
@@ -64,6 +65,7 @@ impl Session {
         requires { machine.asked ≡ None }
         ensures machine { result.machine ≡ machine }
         ensures said { result.said ≡ Ends }
+        ensures unanswered { IsUnanswered result.said result.reply }
     {
         Session {
             machine,
@@ -75,8 +77,7 @@ impl Session {
     /// Goes on to the next step, with what was answered. A question that was not answered in full is asked again.
     pub(crate) fn advance(&mut self, alloc: Global) -> u32
         ensures kind { result ≡ kind_of self.new.said }
-        ensures begun { (kinds : Bool) → self.new.said ≡ AsksList kinds
-            → entries_so_far self.new.reply ≡ Some [] }
+        ensures unanswered { IsUnanswered self.new.said self.new.reply }
         ensures counts { Counts self.old.said self.old.reply self.old.machine
             self.new.said self.new.machine }
         ensures driven { (c : Content) → (all : List Mark) → (given : List Item)
@@ -95,6 +96,7 @@ impl Session {
         ensures answered { result ≡ done
             → self.new ≡ record self.old { reply = Reply.Look seen } }
         ensures asked { self.old.said ≡ AsksLook → result ≡ done }
+        ensures unasked { ¬ (self.old.said ≡ AsksLook) → result ≡ not_asked }
         ensures kept { ¬ (result ≡ done) → self.new ≡ self.old }
     {
         match self.step {
@@ -116,6 +118,14 @@ impl Session {
             → entries_so_far self.new.reply ≡ Some (es ++ (name.now, is_dir) ∷ []) }
         ensures refused { ¬ (result ≡ done)
             → entries_so_far self.new.reply ≡ entries_so_far self.old.reply }
+        ensures range { IsTrue (answers_entry result) }
+        ensures asked { result ≡ not_asked → entries_so_far self.old.reply ≡ None }
+        ensures unasked { entries_so_far self.old.reply ≡ None → result ≡ not_asked }
+        ensures utf8 { result ≡ done → IsUtf8 name.now }
+        ensures not_utf8 { result ≡ not_utf8 → ¬ (IsUtf8 name.now) }
+        ensures proper { result ≡ done → is_proper name.now ≡ true }
+        ensures no_name { result ≡ no_name → is_proper name.now ≡ false }
+        ensures kept { ¬ (result ≡ done) → ¬ (result ≡ out_of_memory) → self.new ≡ self.old }
     {
         let Reply::Entries(entries) = &mut self.reply else {
             return NOT_ASKED;
@@ -143,6 +153,7 @@ impl Session {
             → AreListed es self.new.reply }
         ensures done { (es : List DirEntry) → entries_so_far self.old.reply ≡ Some es
             → result ≡ done }
+        ensures unasked { entries_so_far self.old.reply ≡ None → result ≡ not_asked }
         ensures kept { ¬ (result ≡ done) → self.new ≡ self.old }
     {
         match mem::replace(&mut self.reply, Reply::Nothing) {
@@ -163,6 +174,8 @@ impl Session {
         ensures said { self.new.said ≡ self.old.said }
         ensures failed { result ≡ done → IsUnread (os_error_kind code) self.new.reply }
         ensures asked { (kinds : Bool) → self.old.said ≡ AsksList kinds → result ≡ done }
+        ensures unasked { ((kinds : Bool) → ¬ (self.old.said ≡ AsksList kinds))
+            → result ≡ not_asked }
         ensures kept { ¬ (result ≡ done) → self.new ≡ self.old }
     {
         match self.step {
@@ -183,6 +196,7 @@ impl Session {
             → result.now ≡ path }
         ensures error { (path : Text) → error_path self.now.said ≡ Some path
             → result.now ≡ path }
+        ensures ended { self.now.said ≡ Ends → result.now ≡ [] }
     {
         match &self.step {
             Step::Look | Step::List | Step::ListNames | Step::Done => self.machine.path(),
@@ -194,8 +208,7 @@ impl Session {
 
 /// What is answered before anything is: no entries where they are asked for.
 fn first_reply(alloc: Global, step: &Step<Global>) -> Reply
-    ensures { (kinds : Bool) → saying step.now ≡ AsksList kinds
-        → entries_so_far result ≡ Some [] }
+    ensures { IsUnanswered (saying step.now) result }
 {
     match step {
         Step::List | Step::ListNames => Reply::Entries(Vec::new(alloc)),

@@ -1,21 +1,22 @@
 //! Walks for C: the caller answers what a walk asks for.
-ghost use Rattle.std.specs.Prelude.{◌≡◌, ◌≤◌, ◌<◌, ◌++◌, ◌∷◌, Bool, IsSome, IsUtf8, [], List, length, take, drop};
+ghost use Rattle.std.specs.Prelude.{◌≡◌, ◌≤◌, ◌<◌, ◌++◌, ◌∷◌, Bool, true, false, IsSome, IsTrue, IsUtf8, [], List, length, take, drop};
 ghost use Rattle.std.specs.IoError.{os_error_kind};
 ghost use Rattle.std.specs.declared.option.Option.TheVariants.{None, Some};
 ghost use Rattle.glob_pattern.specs.Grammar.Faults.{Fault as TextFault};
 ghost use Rattle.glob_pattern.specs.Matching.Options.{options_of_bits};
 ghost use Rattle.glob_tree.specs.Content.{Content, DirEntry};
+ghost use Rattle.glob_tree.specs.Paths.{is_proper};
 ghost use Rattle.glob_text.specs.Text.{Text};
-ghost use Rattle.glob_walk.specs.Machines.{AsksList, AsksLook, Says};
+ghost use Rattle.glob_walk.specs.Machines.{AsksList, AsksLook, Ends, Says};
 ghost use Rattle.glob_walk.specs.Questions.{question_path};
 ghost use Rattle.glob_walk.specs.Walks.{Gives};
 ghost use Rattle.glob_walk.specs.Components.{walk_fault};
 ghost use Rattle.glob_walk.specs.Listing.{listing};
 ghost use Rattle.glob_walk.specs.Marks.{Found, Item, Mark};
 ghost use Rattle.glob_walk.specs.Driven.{HasGiven};
-ghost use Rattle.glob_c.specs.Answers.{done, empty, in_use, not_utf8, number_of, syntax_fault, too_short};
+ghost use Rattle.glob_c.specs.Answers.{answers_entry, done, empty, in_use, no_name, not_asked, not_utf8, number_of, out_of_memory, syntax_fault, too_short, unknown_flag};
 ghost use Rattle.glob_c.specs.Sessions.{Replies, Sitting, entries_so_far, error_path, look_of, looked_at};
-ghost use Rattle.glob_c.specs.WalkSlots.{HasEntries, HasLimit, HasListed, HasUnread, IsAdvanced, IsBegun, IsCounted};
+ghost use Rattle.glob_c.specs.WalkSlots.{HasEntries, HasLimit, HasListed, HasNoAnswer, HasStep, HasUnread, IsAdvanced, IsBegun, IsCounted};
 
 use crate::escape::TOO_SHORT;
 use crate::fault::{self, Fault};
@@ -44,13 +45,18 @@ pub extern "C" fn cadmiumdove_walk_new(
     fault: &mut Fault,
 ) -> u32
     ensures range { result ≤ in_use }
+    ensures not_short { ¬ (result ≡ too_short) }
     ensures was_empty { result ≡ done → handle.old.slot.walk ≡ None }
-    ensures utf8 { result ≡ done → IsUtf8 pattern.now }
-    ensures known { result ≡ done → flags ≤ 7 }
+    ensures utf8 { result ≤ syntax_fault → IsUtf8 pattern.now }
+    ensures known { result < too_short → flags ≤ 7 }
+    ensures unknown { result ≡ unknown_flag → 7 < flags }
+    ensures in_use { result ≡ in_use → IsSome handle.old.slot.walk }
+    ensures full { IsSome handle.old.slot.walk → result ≡ in_use }
     ensures accepted { result ≡ done → walk_fault pattern.now ≡ None }
     ensures limit { result ≡ done → HasLimit limit handle.new.slot.walk }
     ensures begun { result ≡ done → (c : Content)
         → IsBegun (listing c (options_of_bits flags) pattern.now) c handle.new.slot.walk }
+    ensures unanswered { result ≡ done → HasNoAnswer handle.new.slot.walk }
     ensures syntax { result ≡ syntax_fault → (f : TextFault) → walk_fault pattern.now ≡ Some f
         → (fault.new.place ≡ f.place) × (fault.new.message ≡ number_of f.message) }
     ensures faulty { result ≡ syntax_fault → IsSome (walk_fault pattern.now) }
@@ -95,6 +101,8 @@ pub extern "C" fn cadmiumdove_walk_new(
 pub extern "C" fn cadmiumdove_walk_next(alloc: Global, handle: &mut WalkHandle) -> u32
     ensures empty { handle.old.slot.walk ≡ None → result ≡ empty }
     ensures kept { handle.old.slot.walk ≡ None → handle.new.slot.walk ≡ None }
+    ensures step { IsSome handle.old.slot.walk → HasStep result handle.new.slot.walk }
+    ensures unanswered { IsSome handle.old.slot.walk → HasNoAnswer handle.new.slot.walk }
     ensures driven { (s : Sitting) → handle.old.slot.walk ≡ Some s
         → (c : Content) → (all : List Mark) → (given : List Item) → Replies s c
         → HasGiven all c given s.machine
@@ -141,6 +149,8 @@ pub extern "C" fn cadmiumdove_walk_path(
         → (path : Text) → s.said ≡ Says (Gives (Found path)) → needed.new ≡ length path }
     ensures needed_error { (s : Sitting) → handle.old.slot.walk ≡ Some s
         → (path : Text) → error_path s.said ≡ Some path → needed.new ≡ length path }
+    ensures ended { (s : Sitting) → handle.old.slot.walk ≡ Some s → s.said ≡ Ends
+        → needed.new ≡ 0 }
 {
     let Some(session) = handle.take(alloc) else {
         return EMPTY;
@@ -178,6 +188,8 @@ pub extern "C" fn cadmiumdove_walk_looked(alloc: Global, handle: &mut WalkHandle
         → handle.new.slot.walk ≡ Some (looked_at kind s) }
     ensures asked { (s : Sitting) → handle.old.slot.walk ≡ Some s → s.said ≡ AsksLook
         → result ≡ done }
+    ensures unasked { (s : Sitting) → handle.old.slot.walk ≡ Some s → ¬ (s.said ≡ AsksLook)
+        → result ≡ not_asked }
     ensures kept { ¬ (result ≡ done) → handle.new.slot.walk ≡ handle.old.slot.walk }
 {
     let Some(mut session) = handle.take(alloc) else {
@@ -219,6 +231,17 @@ pub extern "C" fn cadmiumdove_walk_entry(
     ensures refused { (s : Sitting) → handle.old.slot.walk ≡ Some s → ¬ (result ≡ done)
         → (es : List DirEntry) → entries_so_far s.reply ≡ Some es
         → HasEntries s es handle.new.slot.walk }
+    ensures range { IsSome handle.old.slot.walk → IsTrue (answers_entry result) }
+    ensures asked { (s : Sitting) → handle.old.slot.walk ≡ Some s → result ≡ not_asked
+        → entries_so_far s.reply ≡ None }
+    ensures unasked { (s : Sitting) → handle.old.slot.walk ≡ Some s
+        → entries_so_far s.reply ≡ None → result ≡ not_asked }
+    ensures utf8 { result ≡ done → IsUtf8 name.now }
+    ensures not_utf8 { result ≡ not_utf8 → ¬ (IsUtf8 name.now) }
+    ensures proper { result ≡ done → is_proper name.now ≡ true }
+    ensures no_name { result ≡ no_name → is_proper name.now ≡ false }
+    ensures kept { ¬ (result ≡ done) → ¬ (result ≡ out_of_memory)
+        → handle.new.slot.walk ≡ handle.old.slot.walk }
 {
     let Some(mut session) = handle.take(alloc) else {
         return EMPTY;
@@ -239,6 +262,8 @@ pub extern "C" fn cadmiumdove_walk_listed(alloc: Global, handle: &mut WalkHandle
         → HasListed s es handle.new.slot.walk }
     ensures asked { (s : Sitting) → handle.old.slot.walk ≡ Some s
         → (es : List DirEntry) → entries_so_far s.reply ≡ Some es → result ≡ done }
+    ensures unasked { (s : Sitting) → handle.old.slot.walk ≡ Some s
+        → entries_so_far s.reply ≡ None → result ≡ not_asked }
     ensures kept { ¬ (result ≡ done) → handle.new.slot.walk ≡ handle.old.slot.walk }
 {
     let Some(mut session) = handle.take(alloc) else {
@@ -259,6 +284,8 @@ pub extern "C" fn cadmiumdove_walk_unread(alloc: Global, handle: &mut WalkHandle
         → HasUnread s (os_error_kind code) handle.new.slot.walk }
     ensures asked { (s : Sitting) → handle.old.slot.walk ≡ Some s
         → (kinds : Bool) → s.said ≡ AsksList kinds → result ≡ done }
+    ensures unasked { (s : Sitting) → handle.old.slot.walk ≡ Some s
+        → ((kinds : Bool) → ¬ (s.said ≡ AsksList kinds)) → result ≡ not_asked }
     ensures kept { ¬ (result ≡ done) → handle.new.slot.walk ≡ handle.old.slot.walk }
 {
     let Some(mut session) = handle.take(alloc) else {
