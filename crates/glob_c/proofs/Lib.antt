@@ -2,4 +2,5 @@ pub mod LooseValues
 pub mod Messages
 pub mod SlotBoxes
 pub mod SlotValues
+pub mod UnreadSteps
 pub mod Written

@@ -43,9 +43,9 @@ not_asked = 9
 abbrev pub no_name : ℕ
 no_name = 10
 
--- what an entry of a walk is answered by
-abbrev pub answers_entry : ℕ → Bool
-answers_entry n = list_any (nat_eq n) (done ∷ out_of_memory ∷ not_utf8 ∷ not_asked ∷ no_name ∷ [])
+-- an entry of a walk may be answered with the number
+abbrev pub is_entry_answer : ℕ → Bool
+is_entry_answer n = list_any (nat_eq n) (done ∷ out_of_memory ∷ not_utf8 ∷ not_asked ∷ no_name ∷ [])
 
 -- the text does not match
 abbrev pub no : ℕ

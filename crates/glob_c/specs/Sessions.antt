@@ -66,6 +66,11 @@ pub record Counts (said : Saying) (r : Reply) (old : MachineState Global) (s : S
   pub answered : IsAnswered said r → StepCounts (entries_said said r) old s new
   pub waits : ¬ (IsAnswered said r) → (s ≡ said) × (new ≡ old)
 
+-- where the answer is that the directory could not be listed, the next step says so, with a reason of the same kind
+abbrev pub SaysUnread : Saying → Reply → MachineState Global → Saying → Type 0
+SaysUnread (AsksList kinds) (reply.Listed (Err (Read e))) old s = s ≡ Says (Gives (Unread (question_path old.asked) (error_kind e)))
+SaysUnread _ _ old s = ⊤
+
 -- the entries that were answered so far
 abbrev pub entries_so_far : Reply → Option (List DirEntry)
 entries_so_far (reply.Entries v) = Some (entries_of v.items)

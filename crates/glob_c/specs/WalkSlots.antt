@@ -7,7 +7,7 @@ use Rattle.glob_walk.specs.Marks.{Item, Mark}
 use Rattle.glob_walk.specs.Driven.{HasGiven, GivesNext}
 use Rattle.std.specs.declared.option.Option.{Option}
 use Rattle.std.specs.declared.option.Option.TheVariants.{None, Some}
-use Rattle.glob_c.specs.Sessions.{Sitting, Counts, entries_so_far, kind_of, AreListed, IsUnanswered, IsUnread}
+use Rattle.glob_c.specs.Sessions.{Sitting, Counts, entries_so_far, kind_of, AreListed, IsUnanswered, IsUnread, SaysUnread}
 
 -- the slot has a walk that has done nothing yet, over this listing
 abbrev pub IsBegun : List Mark → Content → Option Sitting → Type 0
@@ -38,6 +38,11 @@ HasStep kind (Some s) = kind ≡ kind_of s.said
 abbrev pub HasNoAnswer : Option Sitting → Type 0
 HasNoAnswer None = ⊥
 HasNoAnswer (Some s) = IsUnanswered s.said s.reply
+
+-- the slot has the walk after one step more, which says it if the directory could not be listed
+abbrev pub IsToldUnread : Sitting → Option Sitting → Type 0
+IsToldUnread old None = ⊥
+IsToldUnread old (Some s) = SaysUnread old.said old.reply old.machine s.said
 
 -- these entries were answered so far
 abbrev pub HasEntries : Sitting → List DirEntry → Option Sitting → Type 0

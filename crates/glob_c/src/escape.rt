@@ -31,6 +31,7 @@ pub extern "C" fn cadmiumdove_pattern_escape(
     ensures short { result ≡ too_short → length out.old < needed.new }
     ensures needed { result ≡ too_short → IsLengthOfEscaped (chars text.now) needed.new }
     ensures not_utf8 { result ≡ not_utf8 → ¬ (IsUtf8 text.now) }
+    ensures valid { ¬ (result ≡ not_utf8) → IsUtf8 text.now }
 {
     let Ok(text) = str::from_utf8(text) else {
         return NOT_UTF8;

@@ -9,8 +9,8 @@ ghost use Rattle.glob_walk.specs.Questions.{question_path};
 ghost use Rattle.glob_walk.specs.Walks.{Gives, outcome};
 ghost use Rattle.glob_walk.specs.Marks.{Found, Item, Mark};
 ghost use Rattle.glob_walk.specs.Driven.{HasGiven, GivesNext};
-ghost use Rattle.glob_c.specs.Answers.{answers_entry, done, no_name, not_asked, not_utf8, out_of_memory};
-ghost use Rattle.glob_c.specs.Sessions.{AreListed, Counts, IsUnanswered, IsUnread, Replies, RepliesTo, entries_so_far, error_path, kind_of};
+ghost use Rattle.glob_c.specs.Answers.{done, is_entry_answer, no_name, not_asked, not_utf8, out_of_memory};
+ghost use Rattle.glob_c.specs.Sessions.{AreListed, Counts, IsUnanswered, IsUnread, Replies, RepliesTo, SaysUnread, entries_so_far, error_path, kind_of};
 
 use crate::pattern::{DONE, NOT_UTF8, OUT_OF_MEMORY};
 use glob_tree::{Entry, ListError, Look, Name};
@@ -80,6 +80,7 @@ impl Session {
         ensures unanswered { IsUnanswered self.new.said self.new.reply }
         ensures counts { Counts self.old.said self.old.reply self.old.machine
             self.new.said self.new.machine }
+        ensures unread { SaysUnread self.old.said self.old.reply self.old.machine self.new.said }
         ensures driven { (c : Content) → (all : List Mark) → (given : List Item)
             → Replies self.old c → HasGiven all c given self.old.machine
             → GivesNext all c given self.new.said self.new.machine }
@@ -118,7 +119,7 @@ impl Session {
             → entries_so_far self.new.reply ≡ Some (es ++ (name.now, is_dir) ∷ []) }
         ensures refused { ¬ (result ≡ done)
             → entries_so_far self.new.reply ≡ entries_so_far self.old.reply }
-        ensures range { IsTrue (answers_entry result) }
+        ensures range { IsTrue (is_entry_answer result) }
         ensures asked { result ≡ not_asked → entries_so_far self.old.reply ≡ None }
         ensures unasked { entries_so_far self.old.reply ≡ None → result ≡ not_asked }
         ensures utf8 { result ≡ done → IsUtf8 name.now }
@@ -217,10 +218,12 @@ fn first_reply(alloc: Global, step: &Step<Global>) -> Reply
 }
 
 /// The step after another one and a reply.
+#[tactic(auto, using(crate::proofs::UnreadSteps::unread_said))]
 fn step_after(machine: &mut WalkMachine<Global>, said: Step<Global>, reply: Reply) -> Step<Global>
     requires { IsAskedAfter (saying said) machine.old.asked }
     ensures asks { IsAskedAfter (saying result) machine.new.asked }
     ensures counts { Counts (saying said) reply machine.old (saying result) machine.new }
+    ensures unread { SaysUnread (saying said) reply machine.old (saying result) }
     ensures driven { (c : Content) → (all : List Mark) → (given : List Item)
         → RepliesTo (saying said) reply machine.old c → HasGiven all c given machine.old
         → GivesNext all c given (saying result) machine.new }

@@ -14,9 +14,9 @@ ghost use Rattle.glob_walk.specs.Components.{walk_fault};
 ghost use Rattle.glob_walk.specs.Listing.{listing};
 ghost use Rattle.glob_walk.specs.Marks.{Found, Item, Mark};
 ghost use Rattle.glob_walk.specs.Driven.{HasGiven};
-ghost use Rattle.glob_c.specs.Answers.{answers_entry, done, empty, in_use, no_name, not_asked, not_utf8, number_of, out_of_memory, syntax_fault, too_short, unknown_flag};
+ghost use Rattle.glob_c.specs.Answers.{done, empty, in_use, is_entry_answer, no_name, not_asked, not_utf8, number_of, out_of_memory, syntax_fault, too_short, unknown_flag};
 ghost use Rattle.glob_c.specs.Sessions.{Replies, Sitting, entries_so_far, error_path, look_of, looked_at};
-ghost use Rattle.glob_c.specs.WalkSlots.{HasEntries, HasLimit, HasListed, HasNoAnswer, HasStep, HasUnread, IsAdvanced, IsBegun, IsCounted};
+ghost use Rattle.glob_c.specs.WalkSlots.{HasEntries, HasLimit, HasListed, HasNoAnswer, HasStep, HasUnread, IsAdvanced, IsBegun, IsCounted, IsToldUnread};
 
 use crate::escape::TOO_SHORT;
 use crate::fault::{self, Fault};
@@ -103,6 +103,8 @@ pub extern "C" fn cadmiumdove_walk_next(alloc: Global, handle: &mut WalkHandle) 
     ensures kept { handle.old.slot.walk ≡ None → handle.new.slot.walk ≡ None }
     ensures step { IsSome handle.old.slot.walk → HasStep result handle.new.slot.walk }
     ensures unanswered { IsSome handle.old.slot.walk → HasNoAnswer handle.new.slot.walk }
+    ensures unread { (s : Sitting) → handle.old.slot.walk ≡ Some s
+        → IsToldUnread s handle.new.slot.walk }
     ensures driven { (s : Sitting) → handle.old.slot.walk ≡ Some s
         → (c : Content) → (all : List Mark) → (given : List Item) → Replies s c
         → HasGiven all c given s.machine
@@ -231,7 +233,7 @@ pub extern "C" fn cadmiumdove_walk_entry(
     ensures refused { (s : Sitting) → handle.old.slot.walk ≡ Some s → ¬ (result ≡ done)
         → (es : List DirEntry) → entries_so_far s.reply ≡ Some es
         → HasEntries s es handle.new.slot.walk }
-    ensures range { IsSome handle.old.slot.walk → IsTrue (answers_entry result) }
+    ensures range { IsSome handle.old.slot.walk → IsTrue (is_entry_answer result) }
     ensures asked { (s : Sitting) → handle.old.slot.walk ≡ Some s → result ≡ not_asked
         → entries_so_far s.reply ≡ None }
     ensures unasked { (s : Sitting) → handle.old.slot.walk ≡ Some s
