@@ -1,11 +1,12 @@
 #!/usr/bin/env python3
 """Checks the page of docs/page: that it is made of the present sources, and, where Chromium is installed, that it
 answers as `globs explain` does on 200 patterns and lines from a seeded generator, piece by piece, and that it walks a
-tree as `find` does. It drives the page's own fields in a headless browser, without a network. Its last line is 'N
-passed, M failed'."""
+tree as `find` does, by the questions, answers and units of work of tests/lib/reference.py, also within limits. It drives
+the page's own fields in a headless browser, without a network. Its last line is 'N passed, M failed'."""
 
 import itertools
 import json
+import os
 import random
 import re
 import tempfile
@@ -14,11 +15,15 @@ from urllib.parse import unquote
 
 from lib.count import ROOT, Count, built, has, run
 from lib.make import place, some
+from lib.reference import FOUND, REFUSED, WORK, Walk
 
 PAGE = ROOT / "docs/page/index.html"
 CASES = 200
 TREE = ["src/main.rs", "src/walk/lines.rs", "src/walk/_x.rs", "src/walk/.hidden.rs", "src/empty/", "docs/A.md", "README.md"]
 WALKS = ["*", "**", "src/**/[!_]*.rs", "**/*.rs", "*/", "src/*/*", "docs/A*.md", "missing/*", "**/empty", "[R-S]*"]
+# In units. None of these walks takes so many as the first says, and the others cut them in a question and in a listing.
+NO_LIMIT, *LIMITS = 1000, 0, 1, 2, 4, 7, 12
+DONE = "done"
 
 # What is added to a copy of the page: it fills the fields, and writes down what the page then shows.
 DRIVER = """<script>
@@ -40,10 +45,10 @@ async function drive(cases, walks, tree) {
   }
   fill("tree", tree.join("\\n"));
   options.forEach((id) => ($(id).checked = false));
-  for (const pattern of walks) {
-    fill("pattern", pattern); changed("pattern");
+  for (const [pattern, limit] of walks) {
+    fill("pattern", pattern); fill("limit", limit); changed("pattern");
     fill("step", $("step").max); changed("step");
-    walked.push([...$("steps").querySelectorAll(".item")].map((it) => it.firstChild.textContent.slice(7)));
+    walked.push([...$("steps").children].map((it) => [it.className, ...[...it.children].map((child) => child.textContent)]));
   }
   document.body.replaceChildren(make("pre", { id: "said" }, encodeURIComponent(JSON.stringify([said, walked]))));
 }
@@ -84,9 +89,76 @@ def expected(pattern, flags, line):
     return [None, "yes", runs, None]
 
 
-def shown(browser, made):
+def charged(marks, limit):
+    """What a walk does within a limit, each with the units that were charged by then: units of work, items, the refusal of
+    a unit, and the end."""
+    spent = 0
+    for mark in marks:
+        if mark[0] == WORK and spent == limit:
+            yield REFUSED + mark[1:], spent
+            break
+        spent += mark[0] == WORK
+        yield mark, spent
+    yield DONE, spent
+
+
+def question_of(said):
+    """What a step asks for, and its path."""
+    return re.fullmatch(r"(What is at|What is in|Which names are in) “(.*)”\?", said).groups()
+
+
+def entries_of(asked, reply):
+    """The entries of a directory that are answered, in order: names, or with a / after those of directories."""
+    if asked == "What is at" or reply == "no entries":
+        return []
+    return sorted(it.removesuffix("/") if asked == "Which names are in" else it for it in reply.split("  "))
+
+
+def charged_by(steps, limit):
+    """The same, as the page's steps show it. A question is charged before its answer, and each entry of that after it,
+    as far as the limit goes."""
+    for sort, said, units, *reply in steps:
+        spent = int(units.split()[0])
+        if sort == "question":
+            asked, path = question_of(said)
+            last = min(limit, spent + len(entries_of(asked, *reply)))
+            yield from ((WORK + path, number) for number in range(spent, last + 1))
+        elif sort == "item":
+            yield FOUND + said.removeprefix("Found: "), spent
+        elif sort == "wrong":
+            yield REFUSED + re.fullmatch("Stopped at (.*): the limit is used up", said)[1], spent
+        else:
+            yield DONE, spent
+
+
+def reply_of(folder, asked, path):
+    """What the page has to answer to a question, by the disk, and for a listing how many entries that are."""
+    at = Path(folder, path)
+    if asked == "What is at":
+        return "a directory" if at.is_dir() else "no directory" if at.exists() else "nothing"
+    is_marked = asked == "What is in"
+    return sorted(name + "/" * (is_marked and Path(at, name).is_dir()) for name in os.listdir(at))
+
+
+def check_walk(count, folder, walk, steps):
+    """Compares the steps of a walk with the reference, and its answers with the disk."""
+    pattern, limit = walk
+    wanted = list(charged(Walk(pattern, "", folder).marks(), limit))
+    count.same(f"the page's walk {pattern} within {limit}", list(charged_by(steps, limit)), wanted)
+    for sort, said, _, *reply in steps:
+        if sort == "question":
+            asked, path = question_of(said)
+            found = reply[0] if asked == "What is at" else entries_of(asked, *reply)
+            count.same(f"the page's answer to {said}", found, reply_of(folder, asked, path))
+    if limit == NO_LIMIT:
+        _, wanted, _ = run([built("glob_run"), "find", "--", pattern], cwd=folder)
+        items = [said.removeprefix("Found: ") for sort, said, *_ in steps if sort == "item"]
+        count.same(f"what the page's walk {pattern} finds", items, wanted.splitlines())
+
+
+def shown(browser, made, walks):
     """What the page shows of cases and of walks, by a copy of it with the driver."""
-    asked = json.dumps([made, WALKS, TREE])[1:-1].replace("<", "\\u003c")
+    asked = json.dumps([made, walks, TREE])[1:-1].replace("<", "\\u003c")
     with tempfile.TemporaryDirectory() as folder:
         copy = Path(folder) / "page.html"
         page = PAGE.read_text(encoding="utf-8").replace("</body>", DRIVER.replace("@ASKED@", asked) + "</body>")
@@ -107,15 +179,15 @@ def main():
     if not (browser := has("chromium", "the page's answers")):
         count.end()
     made = cases()
-    said, walked = shown(browser, made)
-    count.same("answers to cases and to walks", (len(said), len(walked)), (CASES, len(WALKS)))
+    walks = [(pattern, limit) for pattern in WALKS for limit in (NO_LIMIT, *LIMITS)]
+    said, walked = shown(browser, made, walks)
+    count.same("answers to cases and to walks", (len(said), len(walked)), (CASES, len(walks)))
     for case, found in zip(made, said):
         count.same(f"the page on {case}", found, expected(*case))
     with tempfile.TemporaryDirectory() as folder:
         place(folder, TREE)
-        for pattern, found in zip(WALKS, walked):
-            _, wanted, _ = run([built("glob_run"), "find", "--", pattern], cwd=folder)
-            count.same(f"the page's walk {pattern}", found, wanted.splitlines())
+        for walk, steps in zip(walks, walked):
+            check_walk(count, folder, walk, steps)
     count.end()
 
 

@@ -1,5 +1,5 @@
 //! Answers are written to buffers of the page.
-ghost use Rattle.std.specs.Prelude.{◌≡◌, ◌≤◌, true, length, take};
+ghost use Rattle.std.specs.Prelude.{◌≡◌, ◌<◌, ◌≤◌, true, false, length, take};
 
 pub(crate) const NO: u32 = 0;
 
@@ -20,6 +20,7 @@ pub(crate) fn write(bytes: &[u8], out: &mut [u8], count: &mut usize) -> bool
     ensures count { count.new ≡ length bytes.now }
     ensures written { result ≡ true → take count.new out.new ≡ bytes.now }
     ensures fits { result ≡ true → count.new ≤ length out.old }
+    ensures short { result ≡ false → length out.old < count.new }
 {
     *count = bytes.len();
     if out.len() < bytes.len() {
@@ -34,6 +35,7 @@ pub(crate) fn write_numbers(numbers: &[usize], out: &mut [usize], count: &mut us
     ensures count { count.new ≡ length numbers.now }
     ensures written { result ≡ true → take count.new out.new ≡ numbers.now }
     ensures fits { result ≡ true → count.new ≤ length out.old }
+    ensures short { result ≡ false → length out.old < count.new }
 {
     *count = numbers.len();
     if out.len() < numbers.len() {

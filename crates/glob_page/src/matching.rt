@@ -1,13 +1,13 @@
-ghost use Rattle.std.specs.Prelude.{◌≡◌, ◌↔◌, ◌∷◌, IsTrue, IfOk, true, false, chars, take};
+ghost use Rattle.std.specs.Prelude.{◌≡◌, ◌↔◌, ◌∷◌, ◌*◌, ◌<◌, ◌⊎◌, IsTrue, IfOk, Err, true, false, chars, length, take};
 ghost use Rattle.glob_pattern.specs.Computing.Tokens.{tokens_of};
 ghost use Rattle.glob_pattern.specs.Matching.Options.{options_of_bits};
 ghost use Rattle.glob_pattern.specs.Matching.Texts.{Matches};
 ghost use Rattle.glob_captures.specs.Captures.{AreCaptures};
 ghost use Rattle.glob_captures.specs.Reaching.{IsReached};
-ghost use Rattle.glob_page.specs.Answers.{ArePieces, Decides, IsStop, no, numbers_of, yes};
+ghost use Rattle.glob_page.specs.Answers.{ArePieces, Decides, IsStop, no, numbers_of, too_large, yes};
 
 use crate::buffer::{FAULT, NO, NOT_UTF8, OUT_OF_MEMORY, TOO_LARGE, YES, write_numbers};
-use glob_captures::{CapturesError, Piece, Reached, captures, reach};
+use glob_captures::{CapturesError, MOST_STEPS, Piece, Reached, captures, reach};
 use glob_pattern::{MatchOptions, Pattern, PatternRefusal};
 use std::alloc::{AllocError, Global};
 
@@ -17,6 +17,7 @@ use std::alloc::{AllocError, Global};
 /// numbers of the tokens that stopped there. `count` says how many numbers these are. The others: 2 for bytes that are no
 /// pattern, 3 if an allocation fails, 4 for bytes that are no UTF-8, and 5 where the text or the buffer is too large or small.
 #[unsafe(no_mangle)]
+#[tactic(auto, using(glob_pattern::proofs::CallerLemmas::no_fault))]
 pub extern "C" fn page_match(
     alloc: Global,
     pattern: &[u8],
@@ -30,6 +31,9 @@ pub extern "C" fn page_match(
         → ArePieces (options_of_bits flags) pattern.now text.now (take count.new out.new) }
     ensures stop { result ≡ no
         → IsStop (options_of_bits flags) pattern.now text.now (take count.new out.new) }
+    ensures large { result ≡ too_large
+        → (MOST_STEPS < length (tokens_of (chars pattern.now)) * length text.now)
+        ⊎ (length out.old < count.new) }
 {
     let (Ok(pattern), Ok(text)) = (str::from_utf8(pattern), str::from_utf8(text)) else {
         return NOT_UTF8;
@@ -67,6 +71,8 @@ fn decided(
         (λ found. found.0 ≡ true → ArePieces options pattern.now text.now found.1.items) }
     ensures stop { IfOk result
         (λ found. found.0 ≡ false → IsStop options pattern.now text.now found.1.items) }
+    ensures large { result ≡ Err CapturesError.TooLarge
+        → MOST_STEPS < length (tokens_of (chars pattern.now)) * length text.now }
 {
     match captures(alloc, pattern, text, options)? {
         Some(pieces) => Ok((true, piece_numbers(alloc, pieces.as_slice())?)),

@@ -1,7 +1,7 @@
-ghost use Rattle.std.specs.Prelude.{◌≡◌, chars, take};
+ghost use Rattle.std.specs.Prelude.{◌≡◌, ◌<◌, ◌≤◌, IsUtf8, chars, length, take};
 ghost use Rattle.glob_pattern.specs.Grammar.Units.{IsAccepted};
 ghost use Rattle.glob_pattern.specs.Grammar.Faults.{IsFault};
-ghost use Rattle.glob_page.specs.Answers.{yes, fault};
+ghost use Rattle.glob_page.specs.Answers.{fault, no, not_utf8, too_large, yes};
 
 use crate::buffer::{FAULT, NOT_UTF8, OUT_OF_MEMORY, TOO_LARGE, YES, write};
 use glob_pattern::{Pattern, PatternError, PatternRefusal};
@@ -17,9 +17,14 @@ pub extern "C" fn page_pattern(
     count: &mut usize,
     place: &mut usize,
 ) -> u32
+    ensures range { result ≤ too_large }
+    ensures some { ¬ (result ≡ no) }
+    ensures utf8 { result ≤ fault → IsUtf8 pattern.now }
     ensures accepted { result ≡ yes → IsAccepted (chars pattern.now) }
     ensures refused { result ≡ fault → IsFault (chars pattern.now)
         (record { place = place.new; message = take count.new message.new }) }
+    ensures not_utf8 { result ≡ not_utf8 → ¬ (IsUtf8 pattern.now) }
+    ensures short { result ≡ too_large → length message.old < count.new }
 {
     let Ok(text) = str::from_utf8(pattern) else {
         return NOT_UTF8;

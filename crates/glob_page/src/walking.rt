@@ -1,6 +1,6 @@
-ghost use Rattle.std.specs.Prelude.{◌≡◌, None, Some, take};
+ghost use Rattle.std.specs.Prelude.{◌≡◌, ◌<◌, ◌≤◌, IsUtf8, None, Some, length, take};
 ghost use Rattle.glob_walk.specs.Components.{walk_fault};
-ghost use Rattle.glob_page.specs.Answers.{fault, yes};
+ghost use Rattle.glob_page.specs.Answers.{fault, no, no_path, not_utf8, too_large, yes};
 
 use crate::buffer::{FAULT, NO_PATH, NOT_UTF8, OUT_OF_MEMORY, TOO_LARGE, YES, write};
 use crate::story::Story;
@@ -27,9 +27,14 @@ pub extern "C" fn page_walk(
     count: &mut usize,
     place: &mut usize,
 ) -> u32
+    ensures range { result ≤ no_path }
+    ensures some { ¬ (result ≡ no) }
+    ensures utf8 { result ≤ fault → IsUtf8 pattern.now × IsUtf8 paths.now }
     ensures accepted { result ≡ yes → walk_fault pattern.now ≡ None }
     ensures refused { result ≡ fault → walk_fault pattern.now
         ≡ Some (record { place = place.new; message = take count.new out.new }) }
+    ensures not_utf8 { result ≡ not_utf8 → ¬ (IsUtf8 pattern.now × IsUtf8 paths.now) }
+    ensures short { result ≡ too_large → length out.old < count.new }
 {
     let (Ok(pattern), Ok(paths)) = (str::from_utf8(pattern), str::from_utf8(paths)) else {
         return NOT_UTF8;

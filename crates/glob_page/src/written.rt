@@ -1,6 +1,7 @@
-ghost use Rattle.std.specs.Prelude.{◌≡◌, ◌*◌, IfOk, length, chars};
+ghost use Rattle.std.specs.Prelude.{◌≡◌, ◌*◌, ◌<◌, ◌≤◌, IfOk, IsUtf8, length, chars, take};
 ghost use Rattle.glob_pattern.specs.Computing.Tokens.{tokens_of};
-ghost use Rattle.glob_page.specs.Answers.{yes};
+ghost use Rattle.glob_pattern.specs.Grammar.Units.{IsAccepted};
+ghost use Rattle.glob_page.specs.Answers.{AreTokens, fault, kind_number, no, not_utf8, too_large, yes};
 
 use crate::buffer::{FAULT, NOT_UTF8, OUT_OF_MEMORY, TOO_LARGE, YES, write_numbers};
 use glob_captures::{TokenKind, tokens};
@@ -13,13 +14,23 @@ use std::alloc::{AllocError, Global};
 /// The answer is 1, after which `out` begins with these numbers and `count` says how many they are; or 2 for bytes that are
 /// no pattern, 3 if an allocation fails, 4 for bytes that are no UTF-8, and 5 if `out` is too short.
 #[unsafe(no_mangle)]
+#[tactic(auto, using(glob_pattern::proofs::CallerLemmas::no_fault))]
 pub extern "C" fn page_tokens(
     alloc: Global,
     pattern: &[u8],
     out: &mut [usize],
     count: &mut usize,
 ) -> u32
-    ensures { result ≡ yes → count.new ≡ 3 * length (tokens_of (chars pattern.now)) }
+    ensures range { result ≤ too_large }
+    ensures some { ¬ (result ≡ no) }
+    ensures utf8 { result ≤ fault → IsUtf8 pattern.now }
+    ensures accepted { result ≡ yes → IsAccepted (chars pattern.now) }
+    ensures count { result ≡ yes → count.new ≡ 3 * length (tokens_of (chars pattern.now)) }
+    ensures tokens { result ≡ yes → AreTokens pattern.now (take count.new out.new) }
+    ensures refused { result ≡ fault → ¬ (IsAccepted (chars pattern.now)) }
+    ensures not_utf8 { result ≡ not_utf8 → ¬ (IsUtf8 pattern.now) }
+    ensures short { result ≡ too_large → length out.old < count.new }
+    ensures needed { result ≡ too_large → count.new ≡ 3 * length (tokens_of (chars pattern.now)) }
 {
     let Ok(text) = str::from_utf8(pattern) else {
         return NOT_UTF8;
@@ -43,8 +54,9 @@ pub extern "C" fn page_tokens(
 
 /// Of each token three numbers.
 fn token_numbers(alloc: Global, pattern: &Pattern<Global>) -> Result<Vec<usize, Global>, AllocError>
-    ensures { IfOk result
+    ensures count { IfOk result
         (λ numbers. length numbers.items ≡ 3 * length (tokens_of (chars pattern.now))) }
+    ensures tokens { IfOk result (λ numbers. AreTokens pattern.now numbers.items) }
 {
     let list = tokens(alloc, pattern)?;
     let mut numbers = Vec::new(alloc);
@@ -57,7 +69,9 @@ fn token_numbers(alloc: Global, pattern: &Pattern<Global>) -> Result<Vec<usize, 
 }
 
 /// The number of a kind.
-fn number_of(kind: TokenKind) -> usize {
+fn number_of(kind: TokenKind) -> usize
+    ensures { result ≡ kind_number kind }
+{
     match kind {
         TokenKind::Literal => 0,
         TokenKind::AnyChar => 1,
