@@ -14,28 +14,29 @@ from pathlib import Path
 from urllib.parse import unquote
 
 from lib.count import ROOT, Count, built, has, run
-from lib.make import place, some
-from lib.reference import FOUND, REFUSED, WORK, Walk
+from lib.make import SETTINGS, place, some
+from lib.reference import FOUND, REFUSED, WORK, Walk, walk_fault
 
 PAGE = ROOT / "docs/page/index.html"
 CASES = 200
 TREE = ["src/main.rs", "src/walk/lines.rs", "src/walk/_x.rs", "src/walk/.hidden.rs", "src/empty/", "docs/A.md", "README.md"]
 WALKS = ["*", "**", "src/**/[!_]*.rs", "**/*.rs", "*/", "src/*/*", "docs/A*.md", "missing/*", "**/empty", "[R-S]*"]
-# In units. None of these walks takes so many as the first says, and the others cut them in a question and in a listing.
+# In units. No walk takes as many as the first; the others cut walks at questions and in listings.
 NO_LIMIT, *LIMITS = 1000, 0, 1, 2, 4, 7, 12
 DONE = "done"
+# A walk that is refused, since a component has a fault and the whole has none; and a tree with a path that is none.
+REFUSED_WALK, NO_TREE, NO_PATH = "a[/]b", ["a/b", "../c"], "/../"
 
 # What is added to a copy of the page: it fills the fields, and writes down what the page then shows.
 DRIVER = """<script>
-async function drive(cases, walks, tree) {
+async function drive(cases, walks, tree, refusedWalk, noTree) {
   await ready;
-  const said = [], walked = [], options = ["ignore", "separator", "dot"];
+  const said = [], walked = [], refused = [];
   const fill = (id, value) => { $(id).value = value; };
+  const choose = (flags) => ["ignore", "separator", "dot"].forEach((id, i) => ($(id).checked = Boolean(flags & (1 << i))));
   const changed = (id) => $(id).dispatchEvent(new Event("input"));
   for (const [pattern, flags, line] of cases) {
-    fill("pattern", pattern); fill("lines", line);
-    options.forEach((id, i) => ($(id).checked = Boolean(flags & (1 << i))));
-    changed("pattern");
+    fill("pattern", pattern); fill("lines", line); choose(flags); changed("pattern");
     const item = $("answers").firstChild, wrong = $("reading").querySelector(".wrong");
     const chips = item ? [...item.querySelectorAll(":scope > .chips .run")] : [];
     const runs = chips.map((it) => it.textContent.replace("∅", ""));
@@ -44,13 +45,16 @@ async function drive(cases, walks, tree) {
     said.push([wrong ? wrong.textContent : null, item ? item.className : "", runs, before]);
   }
   fill("tree", tree.join("\\n"));
-  options.forEach((id) => ($(id).checked = false));
-  for (const [pattern, limit] of walks) {
-    fill("pattern", pattern); fill("limit", limit); changed("pattern");
+  for (const [pattern, flags, limit] of walks) {
+    fill("pattern", pattern); choose(flags); fill("limit", limit); changed("pattern");
     fill("step", $("step").max); changed("step");
     walked.push([...$("steps").children].map((it) => [it.className, ...[...it.children].map((child) => child.textContent)]));
   }
-  document.body.replaceChildren(make("pre", { id: "said" }, encodeURIComponent(JSON.stringify([said, walked]))));
+  fill("pattern", refusedWalk); changed("pattern");
+  refused.push($("walk-wrong").textContent);
+  fill("pattern", "*"); fill("tree", noTree.join("\\n")); changed("tree");
+  refused.push($("walk-wrong").textContent);
+  document.body.replaceChildren(make("pre", { id: "said" }, encodeURIComponent(JSON.stringify([said, walked, refused]))));
 }
 drive(@ASKED@);
 </script>"""
@@ -115,8 +119,8 @@ def entries_of(asked, reply):
 
 
 def charged_by(steps, limit):
-    """The same, as the page's steps show it. A question is charged before its answer, and each entry of that after it,
-    as far as the limit goes."""
+    """What `charged` gives, by the steps that the page shows. A question is charged before its answer, and each entry of
+    that after it, as far as the limit goes."""
     for sort, said, units, *reply in steps:
         spent = int(units.split()[0])
         if sort == "question":
@@ -132,7 +136,7 @@ def charged_by(steps, limit):
 
 
 def reply_of(folder, asked, path):
-    """What the page has to answer to a question, by the disk, and for a listing how many entries that are."""
+    """What the page has to answer to a question, by the disk."""
     at = Path(folder, path)
     if asked == "What is at":
         return "a directory" if at.is_dir() else "no directory" if at.exists() else "nothing"
@@ -142,23 +146,25 @@ def reply_of(folder, asked, path):
 
 def check_walk(count, folder, walk, steps):
     """Compares the steps of a walk with the reference, and its answers with the disk."""
-    pattern, limit = walk
-    wanted = list(charged(Walk(pattern, "", folder).marks(), limit))
-    count.same(f"the page's walk {pattern} within {limit}", list(charged_by(steps, limit)), wanted)
+    pattern, letters, limit = walk
+    wanted = list(charged(Walk(pattern, letters, folder).marks(), limit))
+    count.same(f"the page's walk {walk}", list(charged_by(steps, limit)), wanted)
     for sort, said, _, *reply in steps:
         if sort == "question":
             asked, path = question_of(said)
             found = reply[0] if asked == "What is at" else entries_of(asked, *reply)
             count.same(f"the page's answer to {said}", found, reply_of(folder, asked, path))
     if limit == NO_LIMIT:
-        _, wanted, _ = run([built("glob_run"), "find", "--", pattern], cwd=folder)
+        options = [f"-{letter}" for letter in letters]
+        _, wanted, _ = run([built("glob_run"), "find", *options, "--", pattern], cwd=folder)
         items = [said.removeprefix("Found: ") for sort, said, *_ in steps if sort == "item"]
-        count.same(f"what the page's walk {pattern} finds", items, wanted.splitlines())
+        count.same(f"what the page's walk {walk} finds", items, wanted.splitlines())
 
 
 def shown(browser, made, walks):
-    """What the page shows of cases and of walks, by a copy of it with the driver."""
-    asked = json.dumps([made, walks, TREE])[1:-1].replace("<", "\\u003c")
+    """What the page shows of cases, of walks and of what it refuses to walk, by a copy of it with the driver."""
+    flagged = [(pattern, sum(1 << "isd".index(letter) for letter in letters), limit) for pattern, letters, limit in walks]
+    asked = json.dumps([made, flagged, TREE, REFUSED_WALK, NO_TREE])[1:-1].replace("<", "\\u003c")
     with tempfile.TemporaryDirectory() as folder:
         copy = Path(folder) / "page.html"
         page = PAGE.read_text(encoding="utf-8").replace("</body>", DRIVER.replace("@ASKED@", asked) + "</body>")
@@ -167,7 +173,7 @@ def shown(browser, made, walks):
         words += ["--virtual-time-budget=60000", "--dump-dom", copy.as_uri()]
         _, dumped, _ = run(words, timeout=300)
     found = re.search(r'<pre id="said">([^<]*)</pre>', dumped)
-    return json.loads(unquote(found[1])) if found else [[], []]
+    return json.loads(unquote(found[1])) if found else [[], [], []]
 
 
 def main():
@@ -179,9 +185,12 @@ def main():
     if not (browser := has("chromium", "the page's answers")):
         count.end()
     made = cases()
-    walks = [(pattern, limit) for pattern in WALKS for limit in (NO_LIMIT, *LIMITS)]
-    said, walked = shown(browser, made, walks)
+    walks = list(itertools.product(WALKS, SETTINGS, (NO_LIMIT, *LIMITS)))
+    said, walked, refused = shown(browser, made, walks)
     count.same("answers to cases and to walks", (len(said), len(walked)), (CASES, len(walks)))
+    place_of_fault, message = walk_fault(REFUSED_WALK)
+    wanted = [f"At character {place_of_fault}: {message}", f"This is no path of a tree: {NO_PATH}"]
+    count.same("why the page does not walk", refused, wanted)
     for case, found in zip(made, said):
         count.same(f"the page on {case}", found, expected(*case))
     with tempfile.TemporaryDirectory() as folder:
