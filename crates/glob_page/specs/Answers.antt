@@ -1,5 +1,5 @@
 -- What the calls answer, as numbers.
-use Rattle.std.specs.Prelude.{◌≡◌, ℕ, ◌≤◌, List, [], ◌∷◌, length, map, IsUtf8, chars}
+use Rattle.std.specs.Prelude.{◌≡◌, ℕ, ◌<◌, ◌≤◌, List, [], ◌∷◌, length, map, AllPairs, IsUtf8, chars}
 use Rattle.glob_pattern.specs.Computing.Tokens.{tokens_of, kind_of}
 use Rattle.glob_pattern.specs.Grammar.Units.{IsAccepted}
 use Rattle.glob_pattern.specs.Matching.Options.{options_of_bits}
@@ -80,8 +80,9 @@ unfoldable pub ArePieces : MatchOptions → (pattern text numbers : List ℕ) �
 ArePieces o pattern text numbers =
     (pieces : List Piece) × AreCaptures o (tokens_of (chars pattern)) (chars text) pieces × (numbers ≡ numbers_of pieces)
 
--- the first of the numbers is how far the text can be taken, and the others are the tokens that wait there
+-- the first of the numbers is how far the text can be taken, and the others are the tokens that wait there, each once and
+-- in order
 unfoldable pub IsStop : MatchOptions → (pattern text numbers : List ℕ) → Type 0
 IsStop o pattern text numbers =
     (place : ℕ) × (waiting : List ℕ) × IsReached o (tokens_of (chars pattern)) (chars text) place waiting
-    × (numbers ≡ place ∷ waiting)
+    × AllPairs (λ number later. number < later) waiting × (numbers ≡ place ∷ waiting)

@@ -16,5 +16,6 @@ returns-in_ok-stop_numbers-in-None-clause-stop c = λ _. (
   c.in_ok-reached-in-None.reached.place,
   c.in_ok-reached-in-None.reached.waiting.items,
   c.in_ok-reached-in-None.ensures.reached,
+  c.in_ok-reached-in-None.ensures.ascending,
   c.in_ok-stop_numbers-in-None.ensures,
 )
