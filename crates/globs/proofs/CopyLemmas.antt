@@ -2,42 +2,34 @@
 use Rattle.std.proofs.Common.{◌≡◌, ◌≢◌, ℕ, Bool, true, false, ◌&&◌, ◌||◌, not, List, Option, None, Some, Result, Ok, Err, IsErr, IsErrAnd, IsTrue, refl, sym, ap, ◌∙◌, arith}
 use Rattle.std.specs.Str.{is_utf8, IsUtf8}
 use Rattle.std.proofs.lemmas.Str.{IsUtf8-from_is_utf8, is_utf8-from_IsUtf8}
-use Rattle.std.specs.Io.KnownBytes.{Appends}
-use Rattle.std.proofs.KnownBytes.{Keeps-refl}
+use Rattle.std.specs.Io.KnownBytes.{Appends, IsAtEnd}
 use Rattle.std.proofs.lemmas.Bool.{false≢true}
 use Rattle.glob_text.specs.Text.{Text}
 use Rattle.glob_rules.specs.Lists.{Ignores}
 use Rattle.glob_rules.specs.Deciding.{is_ignored}
 use Rattle.glob_lines.specs.Lines.{CopiesSelected, CopiesSelectedBytes, CopiesWholeSelected}
-use Rattle.glob_lines.proofs.CallerLemmas.{selected_bytes_by_keeping}
 use Rattle.globs.specs.Copying.{Copies, Input}
 use Rattle.globs.specs.Unignored.{is_directory, is_here, is_selected, path_of}
 
 module _ (end : ℕ) (selects : List ℕ → Bool) (input : Input) (old new : Option (List ℕ)) where
   -- a copy of some records has the status 0
-  pub copies_some : (n : ℕ) → n ≢ 0 → ¬ (IsTrue input.failed) → CopiesSelected end selects input.before old new n → Copies end selects input old new 0
+  pub copies_some : (n : ℕ) → n ≢ 0 → ¬ (IsTrue input.failed) → IsAtEnd input.after → CopiesSelected end selects input.before old new n → Copies end selects input old new 0
   unfolding Copies
-  copies_some n any read copied =
-      (λ _. (n, omega (arith, any), copied), λ one. absurd (omega (arith, one)), λ two. absurd (omega (arith, two)), λ failed. absurd (read failed))
+  copies_some n any read ends copied =
+      (λ _. (n, omega (arith, any), copied), λ one. absurd (omega (arith, one)), λ _. ends, λ two. absurd (omega (arith, two)), λ failed. absurd (read failed))
 
   -- a copy of none has the status 1
-  pub copies_none : ¬ (IsTrue input.failed) → CopiesSelected end selects input.before old new 0 → Copies end selects input old new 1
+  pub copies_none : ¬ (IsTrue input.failed) → IsAtEnd input.after → CopiesSelected end selects input.before old new 0 → Copies end selects input old new 1
   unfolding Copies
-  copies_none read copied =
-      (λ zero. absurd (omega (arith, zero)), λ _. copied, λ two. absurd (omega (arith, two)), λ failed. absurd (read failed))
+  copies_none read ends copied =
+      (λ zero. absurd (omega (arith, zero)), λ _. copied, λ _. ends, λ two. absurd (omega (arith, two)), λ failed. absurd (read failed))
 
   -- at the status 2 a beginning was written
   pub copies_bytes : (status : ℕ) → status ≡ 2 → CopiesSelectedBytes end selects input.before old new
       → (IsTrue input.failed → CopiesWholeSelected end selects input.before input.after old new) → Copies end selects input old new status
   unfolding Copies
   copies_bytes status is some whole =
-      (λ none. absurd (omega (arith, is, none)), λ one. absurd (omega (arith, is, one)), λ _. some, λ failed. (is, whole failed))
-
--- where nothing was read or written and the status is 2
-pub copies_at_fault : (end : ℕ) (selects : List ℕ → Bool) (input : Input) (known : Option (List ℕ)) (status : ℕ) → input.failed ≡ false → status ≡ 2 → Copies end selects input known known status
-copies_at_fault end selects input known status read is =
-    copies_bytes end selects input known known status is (selected_bytes_by_keeping end selects input.before known known (Keeps-refl known))
-    (λ failed. absurd (false≢true (sym read ∙ failed)))
+      (λ none. absurd (omega (arith, is, none)), λ one. absurd (omega (arith, is, one)), λ other. absurd (other is), λ _. some, λ failed. (is, whole failed))
 
 -- a call that succeeded did not fail
 pub no_failure : {E : Type 0} (r : Result ℕ E) (n : ℕ) (failed : Bool) → r ≡ Ok n → (IsTrue failed → IsErr r) → ¬ (IsTrue failed)

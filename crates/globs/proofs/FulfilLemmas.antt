@@ -9,6 +9,7 @@ use Rattle.glob_console.proofs.CallerLemmas.{text_at_fault}
 use Rattle.glob_pattern.specs.Grammar.Units.{IsAccepted}
 use Rattle.glob_pattern.specs.declared.options.MatchOptions.{MatchOptions}
 use Rattle.glob_text.specs.Text.{Text}
+use Rattle.globs.specs.Copying.{IsUnread}
 use Rattle.globs.specs.Escaping.{WritesEscaped}
 use Rattle.globs.specs.Explain.Outcomes.{Answers, Explains}
 use Rattle.globs.specs.Faults.{WritesUsage, usage_words}
@@ -46,16 +47,16 @@ module _ {W : Type 0} (contents : W → Option (List ℕ)) (known : W) (status :
   answers_refused o (p ∷ t ∷ x ∷ more) = (is, refl)
 
   -- a fault before anything was done with the output fulfils each request
-  pub fulfils_refused : (world : World) (request : Request) → world.input.failed ≡ false → Fulfils contents world request known known status
+  pub fulfils_refused : (world : World) (request : Request) → IsUnread world.input → Fulfils contents world request known known status
   unfolding Fulfils FindsUnignored CopiesMatches CopiesUnignored WritesEscaped
-  fulfils_refused world (Runs Find o operands) unread = inl (is, refl)
+  fulfils_refused world (Runs Find o operands) unread = (unread, inl (is, refl))
   fulfils_refused world (Runs Match o operands) unread = inl (unread, (is, refl))
   fulfils_refused world (Runs Ignore o operands) unread = inl (unread, (is, refl))
-  fulfils_refused world (Runs Explain o operands) unread = answers_refused o.settings.options operands
-  fulfils_refused world (Runs Escape o operands) unread = inl (is, Keeps-refl (contents known))
-  fulfils_refused world (Helps name) unread = text_at_fault _ (contents known) status is
-  fulfils_refused world VersionLine unread = text_at_fault _ (contents known) status is
-  fulfils_refused world (Refused name why word) unread = (is, refl)
+  fulfils_refused world (Runs Explain o operands) unread = (unread, answers_refused o.settings.options operands)
+  fulfils_refused world (Runs Escape o operands) unread = (unread, inl (is, Keeps-refl (contents known)))
+  fulfils_refused world (Helps name) unread = (unread, text_at_fault _ (contents known) status is)
+  fulfils_refused world VersionLine unread = (unread, text_at_fault _ (contents known) status is)
+  fulfils_refused world (Refused name why word) unread = (unread, (is, refl))
 
 module _ {E : Type 0} (contents : E → Option (List ℕ)) (prefix : Text) (old new : E) where
   -- of what is no usage fault nothing is said

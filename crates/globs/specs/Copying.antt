@@ -1,5 +1,6 @@
 -- What a copy of records comes to: its status, and what its output gained.
-use Rattle.std.specs.Prelude.{◌≡◌, ℕ, ◌<◌, Bool, List, Option, IsTrue}
+use Rattle.std.specs.Prelude.{◌≡◌, ◌≢◌, ℕ, ◌<◌, Bool, false, List, Option, IsTrue}
+use Rattle.std.specs.Io.KnownBytes.{IsAtEnd}
 use Rattle.glob_lines.specs.Lines.{CopiesSelected, CopiesSelectedBytes, CopiesWholeSelected}
 use Rattle.glob_lines.specs.Watch.{Watched}
 
@@ -14,13 +15,18 @@ abbrev pub input_of : {R : Type 0} → (remaining : R → Option (List ℕ)) →
 input_of remaining old new =
     record { before = remaining old.inner; after = remaining new.inner; failed = new.failed }
 
+-- nothing was read of the input
+abbrev pub IsUnread : Input → Type 0
+IsUnread input = (input.failed ≡ false) × (input.after ≡ input.before)
+
 -- Status 0: some records are selected, and just those were written, in order. Status 1: none is selected, and none was
--- written. Status 2: of the bytes of the selected records, the first n were written, for some n; where a read failed,
--- just the selected ones of the records whose end was read.
+-- written. After both all of the input was read. Status 2: of the bytes of the selected records, the first n were
+-- written, for some n; where a read failed, just the selected ones of the records whose end was read.
 unfoldable pub Copies : (end : ℕ) → (selects : List ℕ → Bool) → Input → (old new : Option (List ℕ)) → (status : ℕ)
     → Type 0
 Copies end selects input old new status =
     (status ≡ 0 → (n : ℕ) × (0 < n) × CopiesSelected end selects input.before old new n)
     × (status ≡ 1 → CopiesSelected end selects input.before old new 0)
+    × (status ≢ 2 → IsAtEnd input.after)
     × (status ≡ 2 → CopiesSelectedBytes end selects input.before old new)
     × (IsTrue input.failed → (status ≡ 2) × CopiesWholeSelected end selects input.before input.after old new)

@@ -3,7 +3,7 @@ use Rattle.std.specs.Prelude.{ℕ, Bool, List, Option}
 use Rattle.glob_console.specs.Outcomes.{IsRefused, WritesText}
 use Rattle.glob_text.specs.Text.{Text}
 use Rattle.glob_tree.specs.Content.{Content}
-use Rattle.globs.specs.Copying.{Input}
+use Rattle.globs.specs.Copying.{Input, IsUnread}
 use Rattle.globs.specs.Escaping.{WritesEscaped}
 use Rattle.globs.specs.Explain.Outcomes.{Answers}
 use Rattle.globs.specs.Find.Outcomes.{FindsUnignored}
@@ -21,19 +21,23 @@ pub record World : Type 0 where
   pub holds : (path : Text) → Option Text
   pub input : Input
 
--- what fulfils a request; a usage fault has the status 2, and leaves the output as it was
+-- What fulfils a request. A usage fault has the status 2, and leaves the output as it was. Nothing is read of the input,
+-- but for a match and for ignore files.
 unfoldable pub Fulfils : {W : Type 0} → (contents : W → Option (List ℕ)) → World → Request → (old new : W)
     → (status : ℕ) → Type 0
 Fulfils contents world (Runs Find o operands) old new status =
-    FindsUnignored contents (world.content o.settings.follows) world.holds o operands old new status
+    IsUnread world.input
+    × FindsUnignored contents (world.content o.settings.follows) world.holds o operands old new status
 Fulfils contents world (Runs Match o operands) old new status =
     CopiesMatches contents o.settings operands world.input old new status
 Fulfils contents world (Runs Ignore o operands) old new status =
     CopiesUnignored contents world.holds o.settings.end operands world.input old new status
 Fulfils contents world (Runs Explain o operands) old new status =
-    Answers contents o.settings.options operands old new status
+    IsUnread world.input × Answers contents o.settings.options operands old new status
 Fulfils contents world (Runs Escape o operands) old new status =
-    WritesEscaped operands (contents old) (contents new) status
-Fulfils contents world (Helps name) old new status = WritesText (page_of name) (contents old) (contents new) status
-Fulfils contents world VersionLine old new status = WritesText VERSION.now (contents old) (contents new) status
-Fulfils contents world (Refused name why word) old new status = IsRefused old new status
+    IsUnread world.input × WritesEscaped operands (contents old) (contents new) status
+Fulfils contents world (Helps name) old new status =
+    IsUnread world.input × WritesText (page_of name) (contents old) (contents new) status
+Fulfils contents world VersionLine old new status =
+    IsUnread world.input × WritesText VERSION.now (contents old) (contents new) status
+Fulfils contents world (Refused name why word) old new status = IsUnread world.input × IsRefused old new status

@@ -1,5 +1,5 @@
 -- The patterns of a command line.
-use Rattle.std.specs.Prelude.{◌≡◌, Bool, false, List, Contains, ⊤}
+use Rattle.std.specs.Prelude.{◌≡◌, Bool, true, false, List, ◌∷◌, ◌++◌, Contains, ⊤}
 use Rattle.std.specs.List.{list_any}
 use Rattle.std.specs.Str.{chars}
 use Rattle.glob_text.specs.Text.{Text}
@@ -7,8 +7,9 @@ use Rattle.glob_pattern.specs.Computing.Deciding.{is_match}
 use Rattle.glob_pattern.specs.Grammar.Faults.{IsFault}
 use Rattle.glob_pattern.specs.declared.options.MatchOptions.{MatchOptions}
 use Rattle.glob_set.specs.Braces.{IsBraceFault, lexemes}
+use Rattle.glob_set.specs.BraceSets.{AreAccepted}
 use Rattle.glob_set.specs.Sets.{Set}
-use Rattle.globs.specs.Find.Planning.{is_below}
+use Rattle.globs.specs.Find.Planning.{are_below, is_below}
 use Rattle.globs.specs.declared.patterns.PatternFault.{PatternFault}
 use Rattle.globs.specs.declared.patterns.PatternFault.TheVariants.{Astray, Syntax, Braces, Memory}
 
@@ -20,10 +21,18 @@ set_of o patterns = record { patterns = patterns; options = o }
 unfoldable pub is_any_match : Set → (text : Text) → Bool
 is_any_match set text = list_any (λ pattern. is_match set.options (chars pattern) (chars text)) set.patterns
 
--- one of the texts does not lead below the current directory, or has this fault; or memory was missing
+-- it is the first of the texts that does not lead below the current directory
+abbrev pub IsFirstAstray : (texts : List Text) → (text : Text) → Type 0
+IsFirstAstray texts text =
+    (before after : List Text) × (texts ≡ before ++ text ∷ after)
+    × (are_below before ≡ true) × (is_below text ≡ false)
+
+-- the first of the texts that does not lead below the current directory, or is not accepted, has this fault; one of
+-- them has this fault of its braces; or memory was missing
 abbrev pub IsPatternFault : (texts : List Text) → PatternFault → Type 0
-IsPatternFault texts (Astray pattern column) = Contains texts pattern.now × (is_below pattern.now ≡ false)
+IsPatternFault texts (Astray pattern column) = IsFirstAstray texts pattern.now
 IsPatternFault texts (Syntax pattern e) =
-    Contains texts pattern.now × IsFault (chars pattern.now) (record { place = e.pos; message = e.msg.now })
+    (before after : List Text) × (texts ≡ before ++ pattern.now ∷ after)
+    × AreAccepted before × IsFault (chars pattern.now) (record { place = e.pos; message = e.msg.now })
 IsPatternFault texts (Braces pattern e) = Contains texts pattern.now × IsBraceFault (lexemes (chars pattern.now)) e
 IsPatternFault texts Memory = ⊤

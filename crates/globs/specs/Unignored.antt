@@ -1,5 +1,5 @@
 -- The path of a record, and which records are copied.
-use Rattle.std.specs.Prelude.{◌≡◌, ◌-◌, ◌⊎◌, ℕ, List, [], Option, Bool, false, ◌&&◌, ◌||◌, not, if◌then◌else◌, length, take, drop, codes, bytes_eq}
+use Rattle.std.specs.Prelude.{◌≡◌, ◌-◌, ◌⊎◌, ℕ, List, [], Option, Bool, ◌&&◌, ◌||◌, not, if◌then◌else◌, length, take, drop, codes, bytes_eq}
 use Rattle.std.specs.Str.{is_utf8}
 use Rattle.glob_console.specs.Outcomes.{IsRefused}
 use Rattle.glob_text.specs.Characters.{dot, slash}
@@ -7,7 +7,7 @@ use Rattle.glob_text.specs.Text.{Text, has}
 use Rattle.glob_text.specs.Pieces.{is_empty}
 use Rattle.glob_rules.specs.Deciding.{is_ignored}
 use Rattle.glob_rules.specs.Lists.{Ignores}
-use Rattle.globs.specs.Copying.{Copies, Input}
+use Rattle.globs.specs.Copying.{Copies, Input, IsUnread}
 use Rattle.globs.specs.Ignoring.{HasRules}
 
 -- without a `./` at the start
@@ -43,10 +43,10 @@ unfoldable pub CopiesList : (list : Ignores) → (end : ℕ) → Input → (old 
 CopiesList list end input old new status =
     (copied : ℕ) × Copies end (is_selected list) input old new copied × ((status ≡ copied) ⊎ (status ≡ 2))
 
--- The list is refused before anything is read of the input; or the records were copied that the rules of the files of
--- these names do not ignore.
+-- The list is refused before anything is read of the input or written; or the records were copied that the rules of the
+-- files of these names do not ignore.
 unfoldable pub CopiesUnignored : {W : Type 0} → (contents : W → Option (List ℕ)) → (holds : Text → Option Text)
     → (end : ℕ) → (names : List Text) → Input → (old new : W) → (status : ℕ) → Type 0
 CopiesUnignored contents holds end names input old new status =
-    ((input.failed ≡ false) × IsRefused old new status)
+    (IsUnread input × IsRefused old new status)
     ⊎ ((list : Ignores) × HasRules holds names [] list × CopiesList list end input (contents old) (contents new) status)

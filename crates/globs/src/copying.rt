@@ -1,5 +1,6 @@
 //! Copies of records of the input.
-ghost use Rattle.std.specs.Prelude.{◌≡◌, ◌≤◌, false, IfOk, IsErr, IsTrue, OnErr};
+ghost use Rattle.std.specs.Prelude.{◌≡◌, ◌≤◌, false, IfOk, IsErr, IsTrue, OnErr, OnOk};
+ghost use Rattle.std.specs.Io.KnownBytes.{IsAtEnd};
 ghost use Rattle.glob_lines.specs.Lines.{CopiesSelected, CopiesSelectedBytes, CopiesWholeSelected};
 ghost use Rattle.globs.specs.Copying.{Copies, input_of};
 
@@ -45,6 +46,7 @@ fn copy_input<A: Allocator + Copy, S: Selection, R: Read, W: Write>(
     requires { input.old.failed ≡ false }
     ensures records { IfOk result (CopiesSelected end (S.selects selection.now)
         (R.remaining input.old.inner) (W.contents output.old) (W.contents output.new)) }
+    ensures end { OnOk result (IsAtEnd (R.remaining input.new.inner)) }
     ensures some { OnErr result (CopiesSelectedBytes end (S.selects selection.now)
         (R.remaining input.old.inner) (W.contents output.old) (W.contents output.new)) }
     ensures failed { IsTrue input.new.failed → IsErr result }

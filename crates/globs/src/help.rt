@@ -68,8 +68,8 @@ globs help shows what a PATTERN may have: ?, *, **, brackets and braces.
   -L             a symbolic link to a directory is one, and is entered. One that leads back to a
                  directory of its own path, from the current directory on, is reported, and is none.
                  Without -L nothing is below a link: link/a is not found
-  -n LIMIT       the walk spends at most LIMIT units: one for each lookup, listing and entry. At the
-                 limit the output is incomplete, and a line says so
+  -n LIMIT       the walk spends at most LIMIT units: one for each lookup, listing and entry. Where
+                 it takes more, paths may be missing, and a line says so
   -t KIND        -t d writes only directories. -t f writes all else: files, pipes, devices, and
                  symbolic links, unless -L makes one a directory
   -x RULE        ignore what RULE names, as a line of an ignore file: -x target -x '*.o' -x '!a.o'.

@@ -1,10 +1,8 @@
 //! `globs match`: the records of the input that one of the patterns matches, or those that none matches.
-ghost use Rattle.std.specs.Prelude.{◌≡◌, ◌≢◌, ◌≤◌, ◌↔◌, false, map, IfOk, IsTrue};
+ghost use Rattle.std.specs.Prelude.{◌≡◌, ◌≤◌, ◌↔◌, false, map, IfOk, IsTrue};
 ghost use Rattle.std.specs.Str.{chars};
-ghost use Rattle.glob_set.specs.BraceSets.{AreAccepted};
-ghost use Rattle.globs.specs.Copying.{Copies, input_of};
-ghost use Rattle.globs.specs.Matching.{CopiesMatches, is_chosen, is_record_match};
-ghost use Rattle.globs.specs.Patterns.{set_of};
+ghost use Rattle.globs.specs.Copying.{input_of};
+ghost use Rattle.globs.specs.Matching.{CopiesChosen, CopiesMatches, is_chosen, is_record_match};
 
 use crate::braces::expand_words;
 use crate::copying::copy;
@@ -48,6 +46,7 @@ pub fn match_words<A: Allocator + Copy, R: Read, W: Write, E: Write>(
 /// none matches, and returns the status. A pattern that is refused is a fault, before anything is read or written.
 ///
 /// Over the input `"a.rs\nb.c\n"` the pattern `*.rs` writes `"a.rs\n"`, and inverted `"b.c\n"`.
+#[tactic(auto, unfolding(crate::specs::Matching::CopiesChosen))]
 fn run_match<A: Allocator + Copy, R: Read, W: Write, E: Write>(
     alloc: A,
     settings: Settings,
@@ -58,11 +57,8 @@ fn run_match<A: Allocator + Copy, R: Read, W: Write, E: Write>(
 ) -> u8
     requires { input.old.failed ≡ false }
     ensures most { result ≤ 2 }
-    ensures accepted { result ≢ 2 → AreAccepted (map (λ p. p.now) patterns.now) }
-    ensures copied { Copies settings.end
-        (is_chosen (set_of settings.options (map (λ p. p.now) patterns.now)) settings.inverts)
-        (input_of R.remaining input.old input.new)
-        (W.contents output.old) (W.contents output.new) result }
+    ensures copied { CopiesChosen W.contents settings (map (λ p. p.now) patterns.now)
+        (input_of R.remaining input.old input.new) output.old output.new result }
 {
     match read_set(alloc, patterns, settings.options) {
         Ok(set) => {

@@ -6,7 +6,7 @@ pub returns-in-Ok-clause-usage : goal.returns-in-Ok-clause-usage
 returns-in-Ok-clause-usage g c = no_usage g.E.Write.contents _ _ _ c.in-Ok.command _ c.in-Ok.ensures.asked
 
 pub returns-in-Err-clause-request : goal.returns-in-Err-clause-request
-returns-in-Err-clause-request g c = fulfils_refused g.W.Write.contents c.args.output.now 2 refl _ _ c.requires
+returns-in-Err-clause-request g c = fulfils_refused g.W.Write.contents c.args.output.now 2 refl _ _ (c.requires, refl)
 
 pub returns-in-Err-clause-usage : goal.returns-in-Err-clause-usage
 returns-in-Err-clause-usage g c =

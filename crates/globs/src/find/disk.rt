@@ -32,8 +32,8 @@ impl<T: Drop, A: Allocator> Disks<'_, T, A> {
     }
 }
 
-/// The disk that `rt` reaches. Names that are not UTF-8 are lines of `errors`, and paths that cannot be looked up,
-/// unless the rules ignore them. That there was one is noted.
+/// The disk that `rt` reaches. Each name that is not UTF-8, ignored or not, is a line of `errors`, and so is each path
+/// that cannot be looked up and that the rules do not ignore. That there was one is noted. Tests, not clauses, show it.
 pub fn disk_of<'a, R: Files + AllocGlobal + Copy + Drop, E: Write>(
     rt: R,
     links: Links,

@@ -17,8 +17,9 @@ use std::collections::BTreeSet;
 use std::fmt::{self, Display};
 use std::io::{self, Write};
 
-/// Writes a line for each name that is not UTF-8 and each path that could not be looked up, unless the rules ignore it,
-/// and notes that there was one. A path has one line, however often it is looked up.
+/// Writes a line for each name that is not UTF-8, ignored or not, and for each path that could not be looked up and
+/// that the rules do not ignore; and notes that there was one. A path has one line, however often it is looked up, as
+/// far as there is memory to know it. Tests, not clauses, show it.
 #[derive(Drop)]
 pub struct StrayLines<'a, A: Allocator, E> {
     pub alloc: A,

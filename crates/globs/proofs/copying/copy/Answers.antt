@@ -5,12 +5,12 @@ use Rattle.globs.proofs.copying.copy.Goals as goal
 pub returns-in-Ok-eq0-clause-copied : goal.returns-in-Ok-eq0-clause-copied
 returns-in-Ok-eq0-clause-copied g c =
     copies_none c.args.end _ (input_of g.R.Read.remaining c.args.input.now c.copy_input.new.input) _ _
-    (no_failure c.copy_input.result _ _ c.in-Ok-eq0.is c.copy_input.ensures.failed) (rw c.in-Ok-eq0.field-0-test at c.in-Ok-eq0.ensures.records)
+    (no_failure c.copy_input.result _ _ c.in-Ok-eq0.is c.copy_input.ensures.failed) c.in-Ok-eq0.ensures.end (rw c.in-Ok-eq0.field-0-test at c.in-Ok-eq0.ensures.records)
 
 pub returns-in-Ok-clause-copied : goal.returns-in-Ok-clause-copied
 returns-in-Ok-clause-copied g c =
     copies_some c.args.end _ (input_of g.R.Read.remaining c.args.input.now c.copy_input.new.input) _ _ _ c.in-Ok.field-0-test.1
-    (no_failure c.copy_input.result _ _ c.in-Ok.is c.copy_input.ensures.failed) c.in-Ok.ensures.records
+    (no_failure c.copy_input.result _ _ c.in-Ok.is c.copy_input.ensures.failed) c.in-Ok.ensures.end c.in-Ok.ensures.records
 
 pub returns-in-Err-Write-clause-copied : goal.returns-in-Err-Write-clause-copied
 returns-in-Err-Write-clause-copied g c =

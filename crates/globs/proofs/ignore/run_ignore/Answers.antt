@@ -8,4 +8,4 @@ returns-in-Ok-clause-copied g c = inr (c.in-Ok.list, c.in-Ok.ensures, c.copy_uni
 
 pub returns-in-Err-clause-copied : goal.returns-in-Err-clause-copied
 unfolding CopiesUnignored
-returns-in-Err-clause-copied g c = inl (c.requires, (c.fault.ensures.status, refl))
+returns-in-Err-clause-copied g c = inl ((c.requires, refl), (c.fault.ensures.status, refl))
