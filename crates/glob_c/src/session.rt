@@ -110,7 +110,7 @@ impl Session {
     }
 
     /// Answers one entry more: 0, or 2 if an allocation fails, 3 for bytes that are no UTF-8, 9 where no entries are
-    /// asked for, and 10 for what is no name. After all but 0 nothing has changed.
+    /// asked for, and 10 for what is no name. After all but 0 the entries are those of before.
     pub(crate) fn entry(&mut self, alloc: Global, name: &[u8], is_dir: bool) -> u32
         ensures machine { self.new.machine ≡ self.old.machine }
         ensures said { self.new.said ≡ self.old.said }

@@ -41,7 +41,7 @@ no_path = 6
 pub record Decides (pattern text : List ℕ) (flags answer : ℕ) : Type 0 where
   pub range : answer ≤ too_large
   pub accepted : answer ≤ yes → IsAccepted (chars pattern)
-  pub utf8 : answer ≤ fault → IsUtf8 pattern × IsUtf8 text
+  pub utf8 : ¬ (answer ≡ not_utf8) → IsUtf8 pattern × IsUtf8 text
   pub yes : answer ≡ yes → Matches (options_of_bits flags) (chars pattern) (chars text)
   pub no : answer ≡ no → ¬ (Matches (options_of_bits flags) (chars pattern) (chars text))
   pub fault : answer ≡ fault → ¬ (IsAccepted (chars pattern))

@@ -1,4 +1,4 @@
-ghost use Rattle.std.specs.Prelude.{◌≡◌, ◌↔◌, ◌∷◌, ◌*◌, ◌<◌, ◌⊎◌, IsTrue, IfOk, Err, true, false, chars, length, take};
+ghost use Rattle.std.specs.Prelude.{◌≡◌, ◌↔◌, ◌∷◌, ◌*◌, ◌<◌, ◌≤◌, ◌⊎◌, IsTrue, IfOk, Err, true, false, chars, length, take};
 ghost use Rattle.glob_pattern.specs.Computing.Tokens.{tokens_of};
 ghost use Rattle.glob_pattern.specs.Matching.Options.{options_of_bits};
 ghost use Rattle.glob_pattern.specs.Matching.Texts.{Matches};
@@ -31,6 +31,7 @@ pub extern "C" fn page_match(
         → ArePieces (options_of_bits flags) pattern.now text.now (take count.new out.new) }
     ensures stop { result ≡ no
         → IsStop (options_of_bits flags) pattern.now text.now (take count.new out.new) }
+    ensures fits { result ≤ yes → count.new ≤ length out.old }
     ensures large { result ≡ too_large
         → (MOST_STEPS < length (tokens_of (chars pattern.now)) * length text.now)
         ⊎ (length out.old < count.new) }

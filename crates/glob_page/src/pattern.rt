@@ -19,10 +19,11 @@ pub extern "C" fn page_pattern(
 ) -> u32
     ensures range { result ≤ too_large }
     ensures some { ¬ (result ≡ no) }
-    ensures utf8 { result ≤ fault → IsUtf8 pattern.now }
+    ensures utf8 { ¬ (result ≡ not_utf8) → IsUtf8 pattern.now }
     ensures accepted { result ≡ yes → IsAccepted (chars pattern.now) }
     ensures refused { result ≡ fault → IsFault (chars pattern.now)
         (record { place = place.new; message = take count.new message.new }) }
+    ensures fits { result ≡ fault → count.new ≤ length message.old }
     ensures not_utf8 { result ≡ not_utf8 → ¬ (IsUtf8 pattern.now) }
     ensures short { result ≡ too_large → length message.old < count.new }
 {

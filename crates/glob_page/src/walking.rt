@@ -29,10 +29,11 @@ pub extern "C" fn page_walk(
 ) -> u32
     ensures range { result ≤ no_path }
     ensures some { ¬ (result ≡ no) }
-    ensures utf8 { result ≤ fault → IsUtf8 pattern.now × IsUtf8 paths.now }
+    ensures utf8 { ¬ (result ≡ not_utf8) → IsUtf8 pattern.now × IsUtf8 paths.now }
     ensures accepted { result ≡ yes → walk_fault pattern.now ≡ None }
     ensures refused { result ≡ fault → walk_fault pattern.now
         ≡ Some (record { place = place.new; message = take count.new out.new }) }
+    ensures fits { result ≤ fault → count.new ≤ length out.old }
     ensures not_utf8 { result ≡ not_utf8 → ¬ (IsUtf8 pattern.now × IsUtf8 paths.now) }
     ensures short { result ≡ too_large → length out.old < count.new }
 {

@@ -23,7 +23,7 @@ pub extern "C" fn page_tokens(
 ) -> u32
     ensures range { result ≤ too_large }
     ensures some { ¬ (result ≡ no) }
-    ensures utf8 { result ≤ fault → IsUtf8 pattern.now }
+    ensures utf8 { ¬ (result ≡ not_utf8) → IsUtf8 pattern.now }
     ensures accepted { result ≡ yes → IsAccepted (chars pattern.now) }
     ensures count { result ≡ yes → count.new ≡ 3 * length (tokens_of (chars pattern.now)) }
     ensures tokens { result ≡ yes → AreTokens pattern.now (take count.new out.new) }
