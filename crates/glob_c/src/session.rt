@@ -126,7 +126,8 @@ impl Session {
         ensures not_utf8 { result ≡ not_utf8 → ¬ (IsUtf8 name.now) }
         ensures proper { result ≡ done → is_proper name.now ≡ true }
         ensures no_name { result ≡ no_name → is_proper name.now ≡ false }
-        ensures kept { ¬ (result ≡ done) → ¬ (result ≡ out_of_memory) → self.new ≡ self.old }
+        ensures kept { ¬ (result ≡ done) → ¬ (result ≡ out_of_memory)
+            → self.new ≡ self.old }
     {
         let Reply::Entries(entries) = &mut self.reply else {
             return NOT_ASKED;
