@@ -7,9 +7,9 @@ import itertools
 import random
 
 from lib import reference
-from lib.count import ROOT, Count
+from lib.count import ROOT, Count, built
 from lib.make import SETTINGS, some
-from lib.sides import ANSWERS, ask
+from lib.sides import ask
 
 # The kinds of tokens as the program names them, and in the reference.
 KINDS = {"Literal": "literal", "AnyChar": "?", "AnySequence": "*", "Recursive": "**", "OneOf": "[]", "NoneOf": "[!]"}
@@ -59,7 +59,7 @@ def read(line):
 
 
 def answers(cases):
-    return map(read, ask([ANSWERS, "answer"], ["\t".join(["captures", *case]) for case in cases]))
+    return map(read, ask([built("glob_vectors"), "answer"], ["\t".join(["captures", *case]) for case in cases]))
 
 
 def compare(count, found):

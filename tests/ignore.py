@@ -17,9 +17,8 @@ import subprocess
 import sys
 import tempfile
 
-from lib.count import ROOT, Count, has, run
+from lib.count import ROOT, Count, built, has, run
 from lib.make import grown, place, some
-from lib.sides import ANSWERS
 
 # How many lists one process of git is asked about.
 BATCH = 400
@@ -87,7 +86,7 @@ def git_says(folder, cases):
 
 def answers(asked):
     """The lines that the program answers."""
-    return subprocess.check_output([ANSWERS, "rules"], input=asked).decode().splitlines()
+    return subprocess.check_output([built("glob_vectors"), "rules"], input=asked).decode().splitlines()
 
 
 def ours(cases):

@@ -9,7 +9,7 @@ import subprocess
 import tempfile
 from pathlib import Path
 
-from lib.count import ROOT, Count, has, run
+from lib.count import ROOT, Count, built, has, run
 
 README, TUTORIAL = ((ROOT / name).read_text(encoding="utf-8") for name in ("README.md", "rust/TUTORIAL.md"))
 PROGRAMS = sorted(page.stem for page in ROOT.glob("man/*.1"))
@@ -121,6 +121,7 @@ class Manual:
 
     def install(self):
         """All is installed."""
+        _ = built("glob_run"), built("globs")
         status, _, errors = run([ROOT / "bin/install", self.prefix])
         files = sorted(str(it.relative_to(self.prefix)) for it in self.prefix.rglob("*") if it.is_file())
         self.count.same(f"bin/install {errors}", (status, files), (0, INSTALLED))

@@ -19,9 +19,9 @@ import time
 from pathlib import Path
 
 from lib import make, reference
-from lib.count import ROOT, Count, has, left_out
+from lib.count import ROOT, Count, built, has, left_out
 from lib.reference import FOUND, REFUSED, UNREAD
-from lib.sides import ANSWERS, MAY_SHUT, as_user, ask, built_over, original
+from lib.sides import MAY_SHUT, as_user, ask, built_over, original
 
 PATTERNS, TEXTS, SETS, TREES = 1000, 4, 20, 30
 # One of so many patterns is also compared with the reference, which is slower.
@@ -157,7 +157,7 @@ class Comparer:
 
 def sides_in(folder):
     """The programs that are asked, each with the rules by which it walks."""
-    sides = {"ours": ([shutil.copy(ANSWERS, folder), "answer"], reference.OURS)}
+    sides = {"ours": ([shutil.copy(built("glob_vectors"), folder), "answer"], reference.OURS)}
     if not has("cargo", "random input to the Rust crate"):
         return sides
     crates = [("rust/", ROOT / "rust", reference.OURS)]

@@ -49,6 +49,9 @@ uses() {
     done
 }
 
+built globs globs 'rt ci'
+built glob_run glob_run 'rt ci'
+built glob_c libcadmiumdove.a bin/c_library
 check 'a release' "$root/bin/release" "$work/made"
 mkdir "$work/there"
 check 'it is unpacked' tar -C "$work/there" --strip-components=1 -xf "$work/made"/*.tar.gz

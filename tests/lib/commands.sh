@@ -23,6 +23,14 @@ check() {
     fi
 }
 
+# built NAME FILE COMMAND: ends all where the file is not newer than the sources of the crate
+built() {
+    "$root/bin/is_built" "$1" "$2" && return
+    failed=1
+    echo "failed: crates/$1/out/$2 is not built from these sources: $3 builds it"
+    exit
+}
+
 left_out() {
     echo "left out: $1"
 }

@@ -3,6 +3,7 @@
 import shutil
 import subprocess
 import sys
+from functools import cache
 from pathlib import Path
 
 ROOT = Path(__file__).resolve().parent.parent.parent
@@ -42,8 +43,11 @@ def has(tool, what):
     return shutil.which(tool) or left_out(f"{what}, since there is no {tool}")
 
 
+@cache
 def built(name):
-    """A program that `rt ci` built."""
+    """A program that `rt ci` built. Where it is not newer than its sources, all ends with a line that says so."""
+    if run([ROOT / "bin/is_built", name, name])[0]:
+        sys.exit(f"{name} is not built from these sources: `rt ci` builds it")
     return ROOT / f"crates/{name}/out/{name}"
 
 
