@@ -11,6 +11,10 @@ RULES = {"i": "case-insensitive", "s": "separator rule", "d": "dot rule"}
 Row = namedtuple("Row", "name words times times_of_crate", defaults=(1, 0))
 
 
+# A word that is a file with this content, behind a mark.
+Text = namedtuple("Text", "content mark")
+
+
 def said(letters):
     """The options in words, after a comma."""
     return "".join(f", {RULES[letter]}" for letter in letters)
@@ -65,6 +69,34 @@ def of_texts(command, verb):
 
 PARSES, COPIES = of_texts("compile", "parse"), of_texts("clone", "copy")
 
+# Shapes for which matching could be slow: a name, the pattern, the text and the options.
+TEN, CYRILLIC = "abcdefghij", "документы/проект/отчёт.txt"
+LONG_PATH = "/home/somebody/projects/a-rather-long-name/src/{}/generated/{}_test.rs"
+ATTACKS = [
+    (f"`{CYRILLIC}` on itself", CYRILLIC, CYRILLIC, ""),
+    (f"`{CYRILLIC}` on a text with another first character", CYRILLIC, "архив/проект/отчёт.txt", ""),
+    ("`*` and 60 Cyrillic letters on 1,000", "*" + "а" * 60, "а" * 1000, "s"),
+    ("`*привет*`", "*привет*", "мир/" * 10 + "привет" + "д" * 20, ""),
+    ("`*.txt` on a Cyrillic path", "*.txt", CYRILLIC, ""),
+    ("`**/*.txt` on a Cyrillic path", "**/*.txt", CYRILLIC, "s"),
+    ("a path of 76 characters with `**` and `*`", LONG_PATH.format("**", "[a-z]*"), LONG_PATH.format("walk/inner", "x"), "s"),
+    ("`**/`, 72 literals and `/*`", f"**/{'abcdefgh' * 9}/*", f"x/y/{'abcdefgh' * 9}/z", ""),
+    *((f"`*`, {10 * often:,} literals of a period of ten and `*`, found at the start", f"*{TEN * often}*", f"{TEN * often}zz",
+        "") for often in (30, 200, 10_000)),
+    ("`*`, 500 `?` and `*` on 600 letters", f"*{'?' * 500}*", "a" * 600, ""),
+    ("`*`, 600 `a` and `*` on 599", f"*{'a' * 600}*", "a" * 599, ""),
+    ("`*a*`", "*a*", "bbbbbbbbbbabbbbbb", ""),
+    ("`????????`", "????????", "abcdefgh", ""),
+    ("`?`", "?", "a", ""),
+    ("the empty pattern on the empty text", "", "", ""),
+]
+ESCAPES = [Row("escape `a*` 500 times", ("escape", "a*" * 500), 10_000)]
+# Patterns whose bytes after a match of a text are counted.
+WEIGHED = ["*.rs", "*a*", "*test*", "**/node_modules/**", "[a-z]*/[!.]*", "src/**/*.rs"]
+WEIGHED_AFTER = "aaaaaaaaaaaaaaaaaaaaaaaatestaaa"
+# Patterns, each with options, that are matched beside globset and wildmatch with paths.
+BESIDE_PEERS = [("*a*e*i*", ""), ("*[a-z][0-9]*", ""), ("????????*", ""), ("**/[a-c]*/**/*e*", "s")]
+
 # The programs, whose standard input is the paths.
 FILTERS = [Row(f"program `{it}`{said(letters)}", ("match", *(f"-{letter}" for letter in letters), it))
     for it, letters, _ in PATTERNS]
@@ -90,8 +122,18 @@ QUESTIONS = ["all", "first", "last", "any"]
 ASKED, MADE = 500_000, 50_000
 
 
+# Kinds of patterns, in each the place of a number. The first ones are also measured alone, in sets of these sizes.
+KINDS = ["name{}/**", "**/name{}/**", "src/mod{0}/file{0}.rs", "x/*/{}/*", "*.ext{}", "**/file{}.c", "src/mod{}/*.rs", "*n{}*x",
+    "**/*.ext{}", "**/name{}*", "**/*-{}.js", "lib{}.a", "docs/{}/**", "**/*[0-9]{}?.log"]
+KINDS_ALONE, SIZES_ALONE = KINDS[:8], (500, 5_000)
+# How many random sets and shapes there are, and how many of the worst are printed.
+RANDOM_SETS, RANDOM_SHAPES, WORST = 800, 8_000, 10
+# About how many microseconds each side works in a round: on a shape, a random one, a set, or a million paths. And how many
+# seconds a report takes at most.
+ROUND, RANDOM_ROUND, SET_ROUND, SECONDS = 10_000, 150, 400, 600
+
+
 # Work of a size n, which is to be in proportion to it: the words of the program, of which long ones are a Text.
-Text = namedtuple("Text", "content mark")
 Growth = namedtuple("Growth", "name size words")
 
 

@@ -1,5 +1,5 @@
 #!/usr/bin/env python3
-"""Writes what pages say of the reports in results/: the table of docs/PERFORMANCE.md, and README's sentence and the
+"""Writes what pages say of the reports in results/: the tables of docs/PERFORMANCE.md, and README's sentence and the
 words for its chart, which gnuplot draws.
 
     bench/report.py [--check | --plot]    --check writes nothing, and fails where a page says something else"""
@@ -60,10 +60,25 @@ def rows():
                 yield [f"`{report['name']}`", title, head, str(len(found)), *some, f"`{report['commit']}`"]
 
 
-def with_table(page):
-    lines = [HEADS, ["---"] * 3 + ["--:"] * 4 + ["---"], *rows()]
+def spread_rows():
+    """The heads and the rows of the page's table of random cases, whose ratios are spread. No such report, no heads."""
+    found = [(report, table) for report in reports().values() for table in report["tables"] if "median" in table["heads"]]
+    heads = [["Report", "What", *map(str.capitalize, table["heads"]), "Commit"] for _, table in found[:1]]
+    return heads + [[f"`{report['name']}`", table["title"], *row, f"`{report['commit']}`"]
+        for report, table in found for row in table["rows"]]
+
+
+def written(heads, *rows):
+    """A table, of which the first three columns and the last one are words."""
+    marks = ["---"] * 3 + ["--:"] * (len(heads) - 4) + ["---"]
+    return "".join(f"| {' | '.join(row)} |\n" for row in (heads, marks, *rows))
+
+
+def with_tables(page):
+    tables = [[HEADS, *rows()], spread_rows()]
     before, _, after = page.partition(MARK)
-    return before + MARK + "".join(f"| {' | '.join(row)} |\n" for row in lines) + re.sub(r"\A(\|.*\n)*", "", after)
+    after = re.sub(r"\A(\|.*\n|\n(?=\|))*", "", after)
+    return before + MARK + "\n".join(written(*table) for table in tables if table) + after
 
 
 def found_in(name, title, head):
@@ -75,7 +90,7 @@ def found_in(name, title, head):
 def with_sentence(page):
     chart = found_in("instructions", "Matching", "to the crate")
     parsing, copies = (found_in("process-instructions", it, "to the crate") for it in ("Parsing", "Copies"))
-    walks, sets = found_in("process-walks", "Walks", "to the crate"), found_in("sets", "Sets", "to globset")
+    walks, sets = found_in("process-walks", "Walks", "to the crate"), found_in("sets", "Sets,", "to globset")
     ends = (end(found) for found in (parsing, copies, walks) for end in (min, max))
     sentence = SENTENCE.format(*ends, max(sets))
     page = re.sub(r'alt="\d+ patterns: [^"]*"', CHART.format(len(chart), min(chart), max(chart)), page)
@@ -93,7 +108,7 @@ def plot():
 
 
 def main():
-    for file, changed in ((PAGE, with_table), (README, with_sentence)):
+    for file, changed in ((PAGE, with_tables), (README, with_sentence)):
         page = file.read_text(encoding="utf-8")
         if "--check" not in sys.argv:
             file.write_text(changed(page), encoding="utf-8")

@@ -44,9 +44,15 @@ def has(tool, what):
 
 
 @cache
+def is_built(name):
+    """Whether `rt ci` built a program from these sources."""
+    return run([ROOT / "bin/is_built", name, name])[0] == 0
+
+
+@cache
 def built(name):
     """A program that `rt ci` built. Where it is not newer than its sources, all ends with a line that says so."""
-    if run([ROOT / "bin/is_built", name, name])[0]:
+    if not is_built(name):
         sys.exit(f"{name} is not built from these sources: `rt ci` builds it")
     return ROOT / f"crates/{name}/out/{name}"
 

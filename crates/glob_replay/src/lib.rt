@@ -1,11 +1,17 @@
-//! Replays tables of answers from outside over the crate `glob`, and answers the cases of tests. `glob_vectors` is the
-//! program on it and has the tests: so this is proved once, and not with the tests again.
+//! What replays of tables share: counts of memory, scripted trees and streams, and the loops over files and cases.
+//! `glob_replay_matches`, `glob_replay_walks` and `glob_replay_programs` make the calls of rows, each over the libraries
+//! that it is about; `glob_replay_memory` refuses each of their requests for memory; and `glob_vectors` is the program.
 #![tactic(auto)]
 
-pub mod answer;
+pub mod asked_tree;
+pub mod calls;
+pub mod cases;
+pub mod contents;
 mod counts;
-mod rationing;
-pub mod replay;
-pub mod rules;
-mod streams;
+pub mod ration;
+pub mod report;
+pub mod settings;
+pub mod streams;
 pub mod words;
+
+pub use counts::{Counts, raise};

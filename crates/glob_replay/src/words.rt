@@ -1,6 +1,6 @@
 //! What words of cases and of tables stand for.
 
-use glob::{MatchOptions, Pattern, PatternRefusal};
+use glob_pattern::{MatchOptions, Pattern, PatternRefusal};
 use std::alloc::{AllocError, Allocator, Global};
 use std::io::{self, ErrorKind, Write};
 

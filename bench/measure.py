@@ -1,0 +1,81 @@
+"""How programs are run, timed and counted, and how tables are printed and kept."""
+
+import json
+import os
+import re
+import resource
+import subprocess
+import sys
+import tempfile
+from pathlib import Path
+
+BENCH = Path(__file__).resolve().parent
+ROOT = BENCH.parent
+
+CRATE = "the crate"
+
+
+def run(words, **how):
+    """What a program writes, and its time in nanoseconds: what it writes as an error, or else the processor's."""
+    before = resource.getrusage(resource.RUSAGE_CHILDREN)
+    ran = subprocess.run(list(map(str, words)), stderr=subprocess.PIPE, **how)
+    after = resource.getrusage(resource.RUSAGE_CHILDREN)
+    if ran.returncode not in (0, 1):
+        sys.exit(f"bench: {words}: status {ran.returncode} {ran.stderr[-300:].decode()}")
+    busy = (after.ru_utime + after.ru_stime - before.ru_utime - before.ru_stime) * 1e9
+    return ran.stdout, int(ran.stderr) if ran.stderr.strip().isdigit() else busy
+
+
+def digits(number):
+    return f"{number:,.0f}" if number >= 100 else f"{number:.3g}"
+
+
+def heads_of(sides):
+    """The heads of the columns that `cells` fills."""
+    return [*sides, *(f"to {head}" for head in sides if head != "ours")]
+
+
+def counted(words):
+    """The instructions of a program. Those of one build do not vary."""
+    words = ["valgrind", "--tool=callgrind", "--callgrind-out-file=/dev/null", *map(str, words)]
+    ran = subprocess.run(words, stdout=subprocess.DEVNULL, stderr=subprocess.PIPE, text=True, check=True)
+    return int(re.search(r"Collected : (\d+)", ran.stderr)[1])
+
+
+def peak(words):
+    """The most bytes that a program has from `malloc` at once."""
+    with tempfile.NamedTemporaryFile() as file:
+        words = ["valgrind", "--tool=massif", f"--massif-out-file={file.name}", *map(str, words)]
+        subprocess.run(words, stdout=subprocess.DEVNULL, stderr=subprocess.DEVNULL, check=True)
+        return max(map(int, re.findall(r"mem_heap_B=(\d+)", Path(file.name).read_text(encoding="utf-8"))))
+
+
+class Table:
+    """A table, whose rows are printed as they are made."""
+
+    def __init__(self, title, heads):
+        self.title, self.heads, self.rows = title, heads, []
+
+    def add(self, *cells):
+        if not self.rows:
+            print(f"\n{self.title}\n\n| {' | '.join(self.heads)} |\n|{'---|' * len(self.heads)}")
+        self.rows.append(list(cells))
+        print(f"| {' | '.join(cells)} |", flush=True)
+
+
+def about(bench):
+    version = subprocess.run(["rt", "version"], capture_output=True, text=True).stdout.strip() or "no rt"
+    rust = subprocess.run(["rustc", "--version"], capture_output=True, text=True, check=True).stdout.strip()
+    load = " ".join(f"{it:.2f}" for it in os.getloadavg())
+    return [f"Built by {version} and by {rust}, beside the crate glob {bench.release}.",
+        f"The least of {bench.rounds} rounds, seed {bench.seed}. Load at the start: {load}, on {os.cpu_count()} processors."]
+
+
+def keep(name, said, tables):
+    """Writes a report, each row of a table in a line."""
+    commit = subprocess.run(["git", "-C", ROOT, "rev-parse", "--short", "HEAD"], capture_output=True, text=True, check=True)
+    report = {"name": name, "commit": commit.stdout.strip(), "about": said, "tables": [vars(it) for it in tables]}
+    text = json.dumps(report, indent=1, ensure_ascii=False)
+    row = r'\[\n\s+("(?:[^\n]*",\n\s+)*[^\n]*")\n\s+\]'
+    text = re.sub(row, lambda it: "[" + re.sub(r",\n\s+", ", ", it[1]) + "]", text)
+    (BENCH / f"results/{name}.json").write_text(text + "\n", encoding="utf-8")

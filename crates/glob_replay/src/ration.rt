@@ -1,0 +1,85 @@
+//! Counts of the requests for memory, of their bytes and of the blocks that are held, and which request is refused.
+ghost use Rattle.std.specs.Prelude.{◌≡◌, false, Option, None, ℕ};
+
+use std::alloc::{Allocator, Global};
+use std::cell::Cell;
+use std::marker::Model;
+
+/// The number of requests for memory so far and of their bytes, how many blocks were given back, and which request is
+/// refused, if any.
+#[derive(Debug, Drop)]
+pub struct Ration {
+    asked: Cell<u64>,
+    given_back: Cell<u64>,
+    bytes: Cell<u64>,
+    refused: Option<u64>,
+}
+
+// A clause sees the number of the refused request, and not the count, which a cell hides.
+impl Model for Ration {
+    ghost Value = { Option ℕ };
+
+    ghost view = { λ ration. ration.refused };
+}
+
+impl Ration {
+    /// Nothing was asked yet. The request of this number, counted from 1, is refused, if there is a number.
+    pub fn new(refused: Option<u64>) -> Self
+        ensures { result ≡ refused }
+    {
+        Ration {
+            asked: Cell::new(0),
+            given_back: Cell::new(0),
+            bytes: Cell::new(0),
+            refused,
+        }
+    }
+
+    /// How many requests were counted so far, those that were refused among them.
+    pub fn asked(&self) -> u64 {
+        self.asked.get()
+    }
+
+    /// How many bytes these requests were for, in total. To grow a block counts with its new size.
+    pub fn bytes(&self) -> u64 {
+        self.bytes.get()
+    }
+
+    /// Whether a request was refused.
+    pub fn has_refused(&self) -> bool {
+        let asked = self.asked.get();
+        self.refused
+            .is_some_and(|number| 0 < number && number <= asked)
+    }
+
+    /// How many blocks are held: those that were asked for and not refused, without those that were given back.
+    pub fn held(&self) -> u64 {
+        let given = self.asked().saturating_sub(u64::from(self.has_refused()));
+        given.saturating_sub(self.given_back.get())
+    }
+
+    /// Counts a block that is given back.
+    pub fn count_return(&self) {
+        let number = self.given_back.get().saturating_add(1);
+        self.given_back.set(number);
+    }
+
+    /// Counts a request for so many bytes, and says whether it is the refused one.
+    pub fn refuses_next(&self, size: usize) -> bool
+        ensures { self.now ≡ None → result ≡ false }
+    {
+        let number = self.asked.get().saturating_add(1);
+        self.asked.set(number);
+        self.bytes.set(self.bytes.get().saturating_add(size as u64));
+        self.refused == Some(number)
+    }
+}
+
+/// Memory whose requests are counted, one of which may be refused. What makes calls knows no more of it.
+pub trait Memory: Allocator + Copy {
+    /// What was asked so far.
+    fn ration(&self) -> &Ration;
+
+    /// Memory that is not counted, for what is written and compared.
+    fn inner(&self) -> Global;
+}

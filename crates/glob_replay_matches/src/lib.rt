@@ -1,0 +1,10 @@
+//! Replays rows about patterns, matches, sets, ignore lists and captures, and answers cases of tests about these.
+#![tactic(auto)]
+
+pub mod cases;
+mod judges;
+mod matches;
+mod rows;
+pub mod rules;
+
+pub use rows::Matches;

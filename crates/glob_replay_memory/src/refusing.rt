@@ -1,0 +1,75 @@
+//! Calls whose memory is counted, and each of whose requests is then refused in turn. The first word of a row is the name
+//! of its file or of its calls, and the others are its fields.
+
+use crate::rationing::Rationed;
+use glob_replay::calls::{Calls, Make};
+use std::alloc::Global;
+use std::io::{self, ErrorKind, Write};
+
+/// The most requests for memory, and the most bytes of these.
+pub type Most = (u64, u64);
+
+/// Where a row names none.
+pub const FREELY: Most = (u64::MAX, u64::MAX);
+
+/// What calls answer with ample memory, and what is wrong with their requests: that they or their bytes are more than
+/// the most, or that a block is held in the end. And how many requests there are.
+pub fn found_by<S: Make>(
+    subject: &S,
+    alloc: Global,
+    row: &[&str],
+    (most, room): Most,
+) -> io::Result<(String, u64)> {
+    let (ample, other) = (Rationed::ample(alloc), Rationed::ample(alloc));
+    let mut calls = Calls::new(&ample, &other);
+    if let Err(error) = subject.make(&mut calls, row) {
+        write!(calls.words, ", and then {error}")?;
+    }
+    let ration = &ample.ration;
+    let (asked, bytes, held) = (ration.asked(), ration.bytes(), ration.held());
+    let mut found = calls.words;
+    if asked > most || bytes > room || held != 0 {
+        write!(found, ", by {asked} requests, {bytes} bytes, {held} held")?;
+    }
+    Ok((found, asked))
+}
+
+/// What calls answer with ample memory, and what is wrong where one of their requests is refused.
+pub fn found_if_refused<S: Make>(
+    subject: &S,
+    alloc: Global,
+    row: &[&str],
+    most: Most,
+) -> io::Result<String> {
+    let (answer, asked) = found_by(subject, alloc, row, most)?;
+    found_at_each(subject, alloc, row, answer, asked)
+}
+
+/// The answer of calls, or what is wrong where one of their first requests is refused. They may then answer the same,
+/// as where `collect` asks again or a call is made again, or a first part and that memory ran out. No block is held in
+/// the end.
+pub fn found_at_each<S: Make>(
+    subject: &S,
+    alloc: Global,
+    row: &[&str],
+    answer: String,
+    first: u64,
+) -> io::Result<String> {
+    let other = Rationed::ample(alloc);
+    for number in 1..=first {
+        let scarce = Rationed::refusing(Some(number), alloc);
+        let mut calls = Calls::new(&scarce, &other);
+        let made = subject.make(&mut calls, row);
+        let words = calls.words;
+        let is_right = match made {
+            Ok(()) => words == answer,
+            Err(error) => {
+                error.kind() == ErrorKind::OutOfMemory && answer.starts_with(words.as_str())
+            }
+        };
+        if !is_right || scarce.ration.held() != 0 {
+            return Ok(format!(in alloc; "{words}, with request {number} refused")?);
+        }
+    }
+    Ok(answer)
+}

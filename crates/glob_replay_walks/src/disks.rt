@@ -1,0 +1,277 @@
+//! Rows of disks over a scripted file system: what they answer, and with which system calls, where names are not UTF-8
+//! and system calls fail, which no test can make on a real disk.
+ghost use Rattle.std.specs.Prelude.{bytes_eq};
+
+mod files;
+
+use crate::trees::add_entries;
+use crate::walking::Found;
+use ErrorKind::{
+    FilesystemLoop, NotADirectory, NotFound, OutOfMemory, PermissionDenied, StaleNetworkFileHandle,
+};
+use files::Kind::{Dir, File, Link, LinkToDir, LinkToFile, Lost, Torn, Unopened, Unread};
+use files::{Noted, Planted, SystemCalls, Written};
+use glob::{Disk, GlobCause, GlobError, MatchOptions, Tree, glob_in, walk_in};
+use glob_prune::{Exclusion, Links, PhysicalDisk, Pruned};
+use glob_replay::calls::Calls;
+use glob_replay::ration::Memory;
+use glob_replay::streams::error_of;
+use glob_replay::words::{are_same, cut, number_of, refused, unusable};
+use std::alloc::{AllocError, Global};
+use std::io::{self, ErrorKind, Write};
+
+/// One path is left out.
+#[derive(Drop)]
+struct Named {
+    path: &'static str,
+}
+
+impl Exclusion for Named {
+    ghost excludes = { λ x path is_dir. bytes_eq path x.path.now };
+
+    fn excludes(&self, path: &str, _is_dir: bool) -> Result<bool, AllocError> {
+        Ok(path == self.path)
+    }
+}
+
+/// What a disk of these paths answers to a call about a path, or `$` if an allocation fails that was not refused, and
+/// with which system calls.
+/// The disk is a `disk`, which follows links, one that is `pruned` of `p/s`, or a `PhysicalDisk` with links `kept` or
+/// `followed`. The error is memory that was refused.
+fn answer_of<M: Memory>(
+    alloc: M,
+    paths: &[Planted<'_>],
+    disk: &str,
+    asked: (&str, &str),
+) -> io::Result<(String, SystemCalls)> {
+    let (mut calls, made) = (Calls::new(alloc, alloc), SystemCalls::default());
+    let system = &made;
+    let (files, noted) = (Written { paths, system }, Noted { system });
+    let answered = match disk {
+        "disk" => ask(&mut calls, Disk::new(files, alloc), asked),
+        "followed" => {
+            let followed = PhysicalDisk::with_links(files, noted, alloc, Links::Followed);
+            ask(&mut calls, followed, asked)
+        }
+        "kept" => ask(&mut calls, PhysicalDisk::new(files, noted, alloc), asked),
+        _ => {
+            let named = Named { path: "p/s" };
+            let pruned = Pruned::new(alloc, Disk::new(files, alloc), named);
+            ask(&mut calls, pruned, asked)
+        }
+    };
+    match answered {
+        Ok(()) => Ok((calls.words, made)),
+        Err(error) if alloc.ration().has_refused() => Err(error),
+        Err(_) => Ok((String::from_str(alloc.inner(), "$ ")?, made)),
+    }
+}
+
+/// Adds what a tree answers to a call about a path, or to looks at the paths between `,`. What these find is `Dir`,
+/// `Other` or `Missing`. Of entries there are the names, a directory's with `/` at its end, and a blank after each,
+/// and so of a walk the paths. After `!` there is an error, or the path that a walk could not read.
+fn ask<M: Memory, T: Tree<Alloc = M>>(
+    calls: &mut Calls<M>,
+    tree: T,
+    asked: (&str, &str),
+) -> io::Result<()> {
+    let (mut tree, (call, path), words) = (tree, asked, &mut calls.words);
+    match call {
+        "look" => {
+            for path in path.split(',') {
+                write!(words, "{:?} ", tree.look(path)?)?;
+            }
+            Ok(())
+        }
+        "list" => add_entries(words, tree.list(path)),
+        "names" => add_entries(words, tree.list_names(path)),
+        _ => {
+            let options = MatchOptions::new();
+            let walk = walk_in(calls.alloc, tree, path, options, 1_000).map_err(refused)?;
+            Found::of(calls.alloc.inner(), walk)?.add_to(words)?;
+            Ok(words.push(' ')?)
+        }
+    }
+}
+
+/// Adds the path and the cause of a walk's first item, which is this error.
+fn add_first_error<M: Memory, T: Tree<Alloc = M>>(
+    calls: &mut Calls<M>,
+    tree: T,
+    (pattern, limit): (&str, u64),
+    known: io::Error,
+) -> io::Result<()> {
+    let (alloc, options) = (calls.alloc, MatchOptions::new());
+    let mut items = glob_in(alloc, tree, pattern, options, limit).map_err(refused)?;
+    match items.next() {
+        Some(Err(error)) => add_error(calls, error, known),
+        _ => Err(unusable()),
+    }
+}
+
+/// Adds the path and the cause of a walk's error, and what is wrong with it. Its calls take no memory. Of the path at
+/// which memory ran out nothing is said.
+fn add_error<M: Memory>(
+    calls: &mut Calls<M>,
+    error: GlobError<M>,
+    known: io::Error,
+) -> io::Result<()> {
+    let (alloc, words) = (calls.alloc, &mut calls.words);
+    let asked = alloc.ration().asked();
+    match error.cause() {
+        GlobCause::Memory => words.push_str("Memory")?,
+        cause => write!(words, "{} {cause:?}", error.path().as_str())?,
+    }
+    if !is_known(alloc.inner(), error, known)? || alloc.ration().asked() != asked {
+        words.push_str(", with another error or with memory")?;
+    }
+    Ok(())
+}
+
+/// Whether a walk's error is this one, and is printed with it.
+fn is_known<M: Memory>(
+    inner: Global,
+    error: GlobError<M>,
+    known: io::Error,
+) -> Result<bool, AllocError> {
+    let path = error.path().as_str();
+    let line = format!(in inner; "attempting to read `{path}` resulted in an error: {known}")?;
+    let is_printed = format!(in inner; "{error}")? == line;
+    let is_same = are_same(inner, error.error(), &known)?;
+    Ok(is_printed && is_same && are_same(inner, &error.into_error(), &known)?)
+}
+
+/// Makes the call of the second field of each disk of the first about each path of the third. The words are the answer
+/// and the system calls, which are the same for all.
+pub fn ask_each<M: Memory>(
+    calls: &mut Calls<M>,
+    disks: &str,
+    call: &str,
+    paths: &str,
+) -> io::Result<()> {
+    for disk in disks.split(' ') {
+        for path in paths.split(' ') {
+            let path = if path == "''" { "" } else { path };
+            let (mut answer, system) = answer_of(calls.alloc, PATHS, disk, (call, path))?;
+            add_calls(&mut answer, &system, call)?;
+            if calls.words.is_empty() {
+                calls.words.push_str(&answer)?;
+            } else if calls.words != answer {
+                write!(calls.words, ", and {disk} {path}: {answer}")?;
+            }
+        }
+    }
+    Ok(())
+}
+
+/// Adds of a look how often a path was looked up, of a walk how often a directory was opened, and of a listing both;
+/// then whether something was reported. Nothing is opened for a look.
+fn add_calls(words: &mut String, system: &SystemCalls, call: &str) -> Result<(), AllocError> {
+    let (lookups, opens) = (system.lookups.get(), system.opens.get());
+    match call {
+        "look" if opens == 0 => write!(words, "{lookups}")?,
+        "walk" => write!(words, "{opens}")?,
+        _ => write!(words, "{opens} {lookups}")?,
+    }
+    match system.reports.get() {
+        0 => Ok(()),
+        1 => words.push_str(" reported"),
+        _ => words.push_str(" reported otherwise"),
+    }
+}
+
+/// Asks disks where the system fails by each of its errors, and by one with words of its own: `a`, the target of the
+/// link `l` and the entry of `e` cannot be looked up, `o` not opened, and `r` not read. Adds each disk and number of an
+/// error at which the answer is not that of the last field, where `!` is the error.
+pub fn ask_failing<M: Memory>(calls: &mut Calls<M>, fields: &[&str]) -> io::Result<()> {
+    let [disks, call, path, known] = *fields else {
+        return Err(unusable());
+    };
+    for code in 0..134 {
+        let error = match code {
+            0 => io::Error::new(ErrorKind::InvalidData, "words"),
+            _ => io::Error::from_raw_os_error(code),
+        };
+        let paths = &[
+            ("a e/x", Lost(error.kind())),
+            ("l", Link(error.kind())),
+            ("e/", Dir(&[b"x\0"])),
+            ("o/", Unopened(error)),
+            ("r/", Unread(error)),
+        ];
+        let printed = format!(in calls.alloc.inner(); "!{error}")?;
+        let known = known.replace(calls.alloc.inner(), "!", &printed)?;
+        for disk in disks.split(' ') {
+            let (answer, _) = answer_of(calls.alloc, paths, disk, (call, path))?;
+            if answer.strip_suffix(' ') != Some(known.as_str()) {
+                write!(calls.words, "{disk} {code} {answer}")?;
+            }
+        }
+    }
+    Ok(())
+}
+
+/// Asks a disk about a directory, of which a read gives the first names, and each of so many further ones the others.
+/// Adds the answer, the system calls, and how many bytes the reads had room for.
+pub fn ask_large<M: Memory>(calls: &mut Calls<M>, fields: &[&str]) -> io::Result<()> {
+    let [disk, call, names, reads] = *fields else {
+        return Err(unusable());
+    };
+    let (first, others) = cut(names, " ")?;
+    let mut blocks = Vec::new(calls.alloc.inner());
+    blocks.push(first.as_bytes())?;
+    for _ in 0..number_of(reads)? {
+        blocks.push(others.as_bytes())?;
+    }
+    let paths = &[("a/", Dir(blocks.as_slice()))];
+    let (mut answer, system) = answer_of(calls.alloc, paths, disk, (call, "a"))?;
+    add_calls(&mut answer, &system, call)?;
+    Ok(write!(calls.words, "{answer} {}", system.room.get())?)
+}
+
+/// Walks where the path of the first field cannot be looked up, and `a` not opened, by the error of the second, and
+/// adds the first item.
+pub fn walk_to_error<M: Memory>(calls: &mut Calls<M>, fields: &[&str]) -> io::Result<()> {
+    let [lost, word, pattern, limit] = *fields else {
+        return Err(unusable());
+    };
+    let (known, system) = (error_of(word)?, &SystemCalls::default());
+    let paths = &[
+        (lost, Lost(known.kind())),
+        (". a a/b", Dir(&[])),
+        ("a/", Unopened(known)),
+    ];
+    let disk = Disk::new(Written { paths, system }, calls.alloc);
+    add_first_error(calls, disk, (pattern, number_of(limit)? as u64), known)
+}
+
+const BLOCKS: &[&[u8]] = &[b"f\0s\0t\0", b"u\0"];
+
+/// A file system with each kind of entry and of failure.
+static PATHS: &[Planted] = &[
+    (". d d/s d/near/ /f dots/.git dots/... large/d", Dir(&[])),
+    ("latin/d c p p/s ./p/s/ p/t/ p/u", Dir(&[])),
+    ("d/f c/f c/one/f p/f ./p//f p/s/x", File),
+    ("d/near c/one c/two c/one/one p/t", LinkToDir),
+    ("d/same", LinkToFile),
+    ("d/gone", Link(NotFound)),
+    ("d/ring", Link(FilesystemLoop)),
+    ("d/hidden", Link(PermissionDenied)),
+    ("fades", Link(OutOfMemory)),
+    ("d/s/ unseen/a p/u/", Lost(PermissionDenied)),
+    ("d/f/", Lost(NotADirectory)),
+    ("full full/ fills/a", Lost(OutOfMemory)),
+    ("./ /", Dir(&[b"f\0"])),
+    ("d/", Dir(&[b"f\0.\0s\0..\0gone\0", b"ring\0near\0same\0"])),
+    ("dots/", Dir(&[b"..foo\0.git\0...\0.a\0a~\0-\0~\0"])),
+    ("large/", Dir(&[b"a\0", b"b\0", b"c\0d\0", b"e\0"])),
+    ("torn/", Torn(&[], StaleNetworkFileHandle)),
+    ("tears/", Torn(&[b"a\0b\0", b"c\0"], StaleNetworkFileHandle)),
+    ("filling/", Torn(&[b"a\0"], OutOfMemory)),
+    ("latin/", Dir(&[b"x\0", b"y\xffz\0d\0"])),
+    ("odd/", Dir(&[b"a\0b/c\0"])),
+    ("unseen unseen/ fills/", Dir(&[b"a\0"])),
+    ("c/", Dir(&[b"f\0one\0two\0"])),
+    ("c/one/", Dir(&[b"f\0one\0"])),
+    ("p/ ./p/./", Dir(BLOCKS)),
+];

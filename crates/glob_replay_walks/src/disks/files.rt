@@ -1,0 +1,175 @@
+//! A scripted file system, which counts its calls.
+use glob_prune::Strays;
+use glob_replay::raise;
+use glob_replay::words::has_word;
+use std::cell::Cell;
+use std::fs::{File, Files, Metadata, OpenOptions};
+use std::io::{self, ErrorKind, Read};
+
+/// What stands at a path.
+#[derive(Clone, Copy)]
+pub enum Kind<'a> {
+    File,
+    /// A directory. These blocks are its names, with a NUL after each. A read gives one block.
+    Dir(&'a [&'a [u8]]),
+    /// A directory of which these blocks are read, and then a read fails, and why.
+    Torn(&'a [&'a [u8]], ErrorKind),
+    /// A directory that cannot be opened, and one that cannot be read, and why.
+    Unopened(io::Error),
+    Unread(io::Error),
+    /// A link to a file, and one to a directory.
+    LinkToFile,
+    LinkToDir,
+    /// A link that cannot be followed, and why.
+    Link(ErrorKind),
+    /// What cannot be looked at or opened, and why.
+    Lost(ErrorKind),
+}
+
+/// Paths, with a blank between each two, and what stands there.
+pub type Planted<'a> = (&'a str, Kind<'a>);
+
+/// How many system calls were made, and for how much.
+#[derive(Default, Drop)]
+pub struct SystemCalls {
+    /// How often metadata was asked for.
+    pub lookups: Cell<u64>,
+    /// How often a directory was opened.
+    pub opens: Cell<u64>,
+    /// How many bytes the reads of directories had room for, in total.
+    pub room: Cell<u64>,
+    /// How often a name that is not UTF-8, or a path that was not looked up, was reported.
+    pub reports: Cell<u64>,
+}
+
+/// Counts the names and paths that are reported: 1 for one that is known, with its error, and 9 for any other.
+#[derive(Drop)]
+pub struct Noted<'a> {
+    pub system: &'a SystemCalls,
+}
+
+impl Strays for Noted<'_> {
+    fn stray(&mut self, directory: &str, name: &[u8]) {
+        let is_known = directory == "latin/" && name == b"y\xffz".as_slice();
+        raise(&self.system.reports, if is_known { 1 } else { 9 });
+    }
+
+    fn unsettled(&mut self, path: &str, error: &io::Error) {
+        let is_known = match error.kind() {
+            ErrorKind::FilesystemLoop => path == "d/ring",
+            ErrorKind::PermissionDenied => path == "d/hidden" || path == "unseen/a",
+            _ => false,
+        };
+        raise(&self.system.reports, if is_known { 1 } else { 9 });
+    }
+}
+
+/// A file system of some paths. All others are missing. A directory's path ends in a separator where it is opened.
+#[derive(Clone, Copy)]
+pub struct Written<'a> {
+    pub paths: &'a [Planted<'a>],
+    pub system: &'a SystemCalls,
+}
+
+/// The names of a directory that are not yet read, and why no more can be read after them, if so.
+#[derive(Drop)]
+pub struct Names<'a> {
+    blocks: &'a [&'a [u8]],
+    failure: Option<io::Error>,
+    system: &'a SystemCalls,
+}
+
+impl Read for Names<'_> {
+    fn read(&mut self, buf: &mut [u8]) -> io::Result<usize> {
+        raise(&self.system.room, buf.len());
+        let [block, rest @ ..] = self.blocks else {
+            return self.failure.map_or(Ok(0), Err);
+        };
+        self.blocks = rest;
+        let count = block.len().min(buf.len());
+        buf[..count].copy_from_slice(&block[..count]);
+        Ok(count)
+    }
+}
+
+const NO_BLOCKS: &[&[u8]] = &[];
+
+impl<'a> Written<'a> {
+    /// What stands at a path.
+    fn kind(&self, path: &str) -> Kind<'a> {
+        let mut paths = self.paths.iter();
+        let found = paths.find(|(keys, _)| has_word(keys, path));
+        found.map_or(Kind::Lost(ErrorKind::NotFound), |(_, kind)| *kind)
+    }
+}
+
+impl<'a> Files for Written<'a> {
+    type File = File;
+
+    type Dir = Names<'a>;
+
+    fn open_file(&self, _how: &OpenOptions, _path: &str) -> io::Result<File> {
+        Err(ErrorKind::Unsupported.into())
+    }
+
+    fn open_dir(&self, path: &str) -> io::Result<Names<'a>> {
+        let system = self.system;
+        raise(&system.opens, 1);
+        let (blocks, failure) = match self.kind(path) {
+            Kind::Dir(blocks) => (blocks, None),
+            Kind::Torn(blocks, kind) => (blocks, Some(io::Error::from(kind))),
+            Kind::Unopened(error) => return Err(error),
+            Kind::Unread(error) => (NO_BLOCKS, Some(error)),
+            Kind::Link(kind) | Kind::Lost(kind) => return Err(io::Error::from(kind)),
+            _ => return Err(ErrorKind::Unsupported.into()),
+        };
+        Ok(Names {
+            blocks,
+            failure,
+            system,
+        })
+    }
+
+    fn metadata(&self, path: &str) -> io::Result<Metadata> {
+        raise(&self.system.lookups, 1);
+        match self.kind(path) {
+            Kind::File | Kind::LinkToFile => Ok(Metadata::of_file(0)),
+            Kind::Link(kind) | Kind::Lost(kind) => Err(io::Error::from(kind)),
+            _ => Ok(Metadata::of_dir()),
+        }
+    }
+
+    fn symlink_metadata(&self, path: &str) -> io::Result<Metadata> {
+        match self.kind(path) {
+            Kind::LinkToFile | Kind::LinkToDir | Kind::Link(_) => {
+                raise(&self.system.lookups, 1);
+                Ok(Metadata::of_symlink(0))
+            }
+            _ => self.metadata(path),
+        }
+    }
+
+    fn copy(&self, _from: &str, _to: &str) -> io::Result<u64> {
+        Err(ErrorKind::Unsupported.into())
+    }
+
+    fn rename(&self, _from: &str, _to: &str) -> io::Result<()> {
+        Err(ErrorKind::Unsupported.into())
+    }
+
+    fn remove_file(&self, _path: &str) -> io::Result<()> {
+        Err(ErrorKind::Unsupported.into())
+    }
+
+    fn create_dir(&self, _path: &str) -> io::Result<()> {
+        Err(ErrorKind::Unsupported.into())
+    }
+
+    fn remove_dir(&self, _path: &str) -> io::Result<()> {
+        Err(ErrorKind::Unsupported.into())
+    }
+
+    fn remove_dir_all<B: std::alloc::Allocator>(&self, _alloc: B, _path: &str) -> io::Result<()> {
+        Err(ErrorKind::Unsupported.into())
+    }
+}

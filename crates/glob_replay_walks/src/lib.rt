@@ -1,0 +1,13 @@
+//! Replays rows about trees, walks and disks, and answers cases of tests about walks.
+#![tactic(auto)]
+
+pub mod cases;
+pub mod disk;
+mod disks;
+mod goals;
+mod rows;
+pub mod trees;
+mod walking;
+pub mod walks;
+
+pub use rows::Walks;
