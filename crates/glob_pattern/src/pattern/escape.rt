@@ -1,5 +1,5 @@
 //! Texts escaped, as patterns that match themselves.
-ghost use Rattle.std.specs.Prelude.{◌≡◌, ◌<◌, ◌++◌, length, IsTrue, IfNone, IfSome, IfOk, chars, string_bytes, position, count_by};
+ghost use Rattle.std.specs.Prelude.{◌≡◌, ◌++◌, IfOk, OnOk, chars, count_by, encode_utf8_all, string_bytes};
 ghost use Rattle.glob_pattern.specs.Escaping.{is_special, escaped_character, escaped_text};
 
 use crate::pattern::Pattern;
@@ -16,61 +16,40 @@ impl<A: Allocator> Pattern<A> {
         if specials == 0 {
             return String::from_str(alloc, s);
         }
+        // Each special character becomes three bytes.
         let length = specials.saturating_mul(2).saturating_add(s.len());
-        let mut pattern = String::with_capacity(alloc, length)?;
-        let mut rest = s;
-        while let Some((plain, bracket, others)) = split_at_special(rest) {
-            pattern.push_str(plain)?;
-            pattern.push_str(bracket)?;
-            rest = others;
+        let mut escaped = String::with_capacity(alloc, length)?;
+        for c in s.chars() {
+            push_escaped(&mut escaped, c)?;
         }
-        pattern.push_str(rest)?;
-        Ok(pattern)
+        Ok(escaped)
     }
 }
 
 /// How many special characters there are.
 fn count_special(text: &str) -> usize
-    ensures { result ≡ count_by is_special text.now }
+    ensures { result ≡ count_by is_special (chars text.now) }
 {
-    text.bytes().filter(|byte| is_special(*byte)).count()
+    text.chars().filter(|c| is_special(*c)).count()
 }
 
-/// The text before the first special character, a bracket for it, and what follows it.
-fn split_at_special(text: &str) -> Option<(&str, &'static str, &str)>
-    ensures plain { IfNone result (escaped_text text.now ≡ text.now) }
-    ensures split { IfSome result
-        (λ p. escaped_text text.now ≡ p.0.now ++ (p.1.now ++ escaped_text p.2.now)) }
-    ensures shorter { IfSome result (λ p. length p.2.now < length text.now) }
+/// Puts an escaped character at the end.
+#[inline(always)]
+fn push_escaped<A: Allocator>(escaped: &mut String<A>, c: char) -> Result<(), AllocError>
+    ensures { OnOk result (string_bytes escaped.new
+        ≡ string_bytes escaped.old ++ encode_utf8_all (escaped_character c)) }
 {
-    let place = first_special(text)?;
-    let bracket = bracketed(text.as_bytes()[place]);
-    Some((&text[..place], bracket, &text[place + 1..]))
-}
-
-/// The bracket of a special character alone.
-fn bracketed(special: u8) -> &'static str
-    requires { IsTrue (is_special special) }
-    ensures { result.now ≡ escaped_character special }
-{
-    match special {
-        b'?' => "[?]",
-        b'*' => "[*]",
-        b'[' => "[[]",
-        _ => "[]]",
+    if !is_special(c) {
+        return escaped.push(c);
     }
+    escaped.push('[')?;
+    escaped.push(c)?;
+    escaped.push(']')
 }
 
-/// The place of the first special byte.
-fn first_special(text: &str) -> Option<usize>
-    ensures { result ≡ position is_special text.now }
+/// Whether the character is one of `?`, `*`, `[` and `]`.
+fn is_special(c: char) -> bool
+    ensures { result ≡ is_special c }
 {
-    text.bytes().position(is_special)
-}
-
-/// Whether the byte is one of `?`, `*`, `[` and `]`.
-fn is_special(byte: u8) -> bool
-    ensures { result ≡ is_special byte }
-{
-    matches!(byte, b'?' | b'*' | b'[' | b']')
+    matches!(c, '?' | '*' | '[' | ']')
 }

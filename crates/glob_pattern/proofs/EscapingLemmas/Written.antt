@@ -1,0 +1,40 @@
+-- A text is escaped when each of its characters was written escaped.
+use Rattle.std.proofs.Common.{◌≡◌, ℕ, Bool, true, false, cond, [], ◌∷◌, ◌++◌, refl, ap, sym, ◌∙◌, arith}
+use Rattle.std.proofs.lemmas.List.{append-nil}
+use Rattle.std.proofs.lemmas.List.Concat.{flat_map-append}
+use Rattle.std.proofs.lemmas.List.Sums.{sum_by-cons}
+use Rattle.std.proofs.lemmas.Str.{chars_from_encodes, encodes-append}
+use Rattle.std.specs.Prelude.{encode_utf8_all}
+use Rattle.std.specs.Str.{chars, IsUtf8}
+use Rattle.std.specs.List.{count_by, flat_map}
+use Rattle.glob_text.specs.Text.{Text}
+use Rattle.glob_pattern.specs.Escaping.{is_special, escaped_character, escaped_text}
+
+-- Another character stays as it is.
+escaped_character-plain : (c : ℕ) → is_special c ≡ false → escaped_character c ≡ c ∷ []
+escaped_character-plain c e = rw e refl
+
+-- What is not counted fails the test.
+uncounted : (b : Bool) → ◌≡◌ {A = ℕ} (cond b 1 0) 0 → b ≡ false
+uncounted true e = absurd (omega arith)
+uncounted false e = refl
+
+-- A text in which no special character is counted stays as it is.
+pub escaped_text-uncounted : (text : Text) → count_by is_special text ≡ 0 → escaped_text text ≡ text
+escaped_text-uncounted [] e = refl
+escaped_text-uncounted (c ∷ cs) e =
+    let both = sum_by-cons (λ x. cond (is_special x) 1 0) c cs in
+    let plain : is_special c ≡ false = uncounted (is_special c) (omega arith) in
+    rw (escaped_character-plain c plain, escaped_text-uncounted cs (omega arith)) refl
+
+-- What was written for each character of a text are the characters of what was written.
+pub written_chars : (f : ℕ → Text) (written cs : Text) → IsUtf8 written → written ≡ encode_utf8_all (flat_map f cs) → chars written ≡ flat_map f cs
+written_chars f written cs utf8 is = sym (chars_from_encodes (flat_map f cs) written utf8 (sym is))
+
+-- What is written for one more character.
+pub written_more : (f : ℕ → Text) (written new cs : Text) (c : ℕ) → written ≡ encode_utf8_all (flat_map f cs)
+    → new ≡ written ++ encode_utf8_all (f c) → new ≡ encode_utf8_all (flat_map f (cs ++ c ∷ []))
+written_more f written new cs c so_far is =
+    is ∙ ap (λ z. z ++ encode_utf8_all (f c)) so_far
+    ∙ sym (encodes-append (flat_map f cs) (f c))
+    ∙ ap encode_utf8_all (sym (flat_map-append f cs (c ∷ []) ∙ ap (λ z. flat_map f cs ++ z) (append-nil (f c))))
