@@ -13,47 +13,33 @@ impl Pattern {
         if specials == 0 {
             return String::from(s);
         }
+        // Each special character becomes three bytes.
         let length = specials.saturating_mul(2).saturating_add(s.len());
-        let mut pattern = String::with_capacity(length);
-        let mut rest = s;
-        while let Some((plain, bracket, others)) = split_at_special(rest) {
-            pattern.push_str(plain);
-            pattern.push_str(bracket);
-            rest = others;
+        let mut escaped = String::with_capacity(length);
+        for c in s.chars() {
+            push_escaped(&mut escaped, c);
         }
-        pattern.push_str(rest);
-        pattern
+        escaped
     }
 }
 
 /// How many special characters there are.
 fn count_special(text: &str) -> usize {
-    text.bytes().filter(|byte| is_special(*byte)).count()
+    text.chars().filter(|c| is_special(*c)).count()
 }
 
-/// The text before the first special character, a bracket for it, and what follows it.
-fn split_at_special(text: &str) -> Option<(&str, &'static str, &str)> {
-    let place = first_special(text)?;
-    let bracket = bracketed(text.as_bytes()[place]);
-    Some((&text[..place], bracket, &text[place + 1..]))
-}
-
-/// The bracket of a special character alone.
-fn bracketed(special: u8) -> &'static str {
-    match special {
-        b'?' => "[?]",
-        b'*' => "[*]",
-        b'[' => "[[]",
-        _ => "[]]",
+/// Puts an escaped character at the end.
+#[inline(always)]
+fn push_escaped(escaped: &mut String, c: char) {
+    if !is_special(c) {
+        return escaped.push(c);
     }
+    escaped.push('[');
+    escaped.push(c);
+    escaped.push(']')
 }
 
-/// The place of the first special byte.
-fn first_special(text: &str) -> Option<usize> {
-    text.bytes().position(is_special)
-}
-
-/// Whether the byte is one of `?`, `*`, `[` and `]`.
-fn is_special(byte: u8) -> bool {
-    matches!(byte, b'?' | b'*' | b'[' | b']')
+/// Whether the character is one of `?`, `*`, `[` and `]`.
+fn is_special(c: char) -> bool {
+    matches!(c, '?' | '*' | '[' | ']')
 }
