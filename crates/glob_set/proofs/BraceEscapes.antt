@@ -2,8 +2,7 @@
 use Rattle.std.proofs.Common.{◌≡◌, ℕ, suc, ◌+◌, ◌<◌, ◌≤◌, ◌≢◌, ◌⊎◌, ◌↔◌, inl, inr, ⊎_elim, Bool, true, false, ◌==◌, cond, List, [], ◌∷◌, ◌++◌, length, get_or, drop, IsTrue, IsFalse, refl, sym, ap, subst, ◌∙◌, arith, append_assoc}
 use Rattle.std.proofs.lemmas.Bool.{or_parts, or_cases, eqb-true, ne_eqb, eq-eqb, lt-ltb, le-ltb, and_right}
 use Rattle.std.proofs.lemmas.List.{append-nil}
-use Rattle.std.proofs.lemmas.List.Concat.{flat_map-append}
-use Rattle.std.proofs.lemmas.Str.{chars_from_encodes, encodes-append}
+use Rattle.std.proofs.lemmas.Str.{chars_from_encodes}
 use Rattle.std.specs.Prelude.{encode_utf8, encode_utf8_all, nat_lt}
 use Rattle.std.specs.Str.{chars, IsUtf8}
 use Rattle.glob_text.specs.Text.{Text, has}
@@ -178,15 +177,3 @@ stands_for escaped text utf8 is =
       subst (λ z. (o : MatchOptions) (other : Text) → IsTrue o.case_sensitive → (Matches o z other ↔ (chars text ≡ other))) written
           (λ o. stands_matches_itself escaped_character escaped_token stands o (chars text)),
     )
-
--- in characters
-pub escaped_chars : (escaped text : Text) → IsUtf8 escaped → escaped ≡ encode_utf8_all (escaped_text (chars text)) → chars escaped ≡ escaped_text (chars text)
-escaped_chars escaped text utf8 is = sym (chars_from_encodes (escaped_text (chars text)) escaped utf8 (sym is))
-
--- one more character is escaped
-pub escaped_more : (escaped new cs : Text) (c : ℕ) → escaped ≡ encode_utf8_all (escaped_text cs)
-    → new ≡ escaped ++ encode_utf8_all (escaped_character c) → new ≡ encode_utf8_all (escaped_text (cs ++ c ∷ []))
-escaped_more escaped new cs c so_far is =
-    is ∙ ap (λ z. z ++ encode_utf8_all (escaped_character c)) so_far
-    ∙ sym (encodes-append (escaped_text cs) (escaped_character c))
-    ∙ ap encode_utf8_all (sym (flat_map-append escaped_character cs (c ∷ []) ∙ ap (λ z. escaped_text cs ++ z) (append-nil (escaped_character c))))
