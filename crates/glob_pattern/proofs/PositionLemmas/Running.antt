@@ -4,11 +4,10 @@ use Rattle.std.proofs.lemmas.Bool.{cases_eq, cases_lt}
 use Rattle.std.proofs.lemmas.List.{drop_all, get_or_past}
 use Rattle.glob_pattern.specs.Matching.Splits.{Table, MayReach}
 use Rattle.glob_pattern.specs.Private.Prefixes.{PrefixSplits, IsAlive, HasTaken}
-use Rattle.glob_pattern.specs.Private.Positions.{word_end, IsShapeWord, AreShapeWords, IsAliveWord, AreAlive, TakesRest, CanRun, WereAsked, HasAsked, HasRun}
+use Rattle.glob_pattern.specs.Private.Positions.{word_end, IsShapeWord, AreShapeWords, AreAlive, TakesRest, CanRun, WereAsked, HasAsked, HasRun}
 use Rattle.glob_pattern.proofs.Counts.{room-after}
 use Rattle.glob_pattern.proofs.PositionLemmas.Alive.{ComesAlive, IsAlive-step, asked_more}
 use Rattle.glob_pattern.proofs.PositionLemmas.TakenPrefixes.{IsDead-from_none, IsTakenPrefix-start}
-use Rattle.glob_pattern.proofs.PositionLemmas.Words.{AreAlive-alone}
 use Rattle.glob_pattern.proofs.BitLemmas.SetBits.{IsBitSet-zero}
 use Rattle.glob_pattern.specs.declared.matcher.positions.Span.{Span}
 use Rattle.glob_pattern.specs.declared.matcher.shape_word.ShapeWord.{ShapeWord}
@@ -50,14 +49,6 @@ module _ (table : Table) (shapes : List Shape) where
         (λ early. omega (arith, asked.asked.least n (omega arith) early taken, rest.monotone))
         (λ later. omega (arith, rest.least n later n_lt taken, asked.asked.monotone))
         (cases_lt n (word_end shapes 0))) says
-
-    -- the same where the first word is alone
-    pub HasRun-kept : (took p after : ℕ) → p ≡ k + 1 → length alive ≡ 1 → length shapes ≤ 63 → HasAsked table shapes count took p after
-        → IsAliveWord table shapes 0 p (get_or alive 0 0) → HasRun table shapes from first p after alive
-    HasRun-kept took p after next alone few asked says =
-        HasRun-stepped took p after after alive next asked
-        (record { monotone = omega arith; most = omega arith; least = λ n later n_lt taken. absurd (omega arith) })
-        (AreAlive-alone table shapes p alive alone says)
 
   -- where a wildcard before `end` is alive that takes all characters, the shapes before `end` split them
   pub alive-by_rest : (end n k : ℕ) → TakesRest table shapes end n → k ≤ table.characters → get_or shapes end One ≡ One → IsAlive table shapes n k → IsAlive table shapes end table.characters

@@ -63,10 +63,6 @@ module _ (table : Table) (shapes : List Shape) (start : ℕ) (word : ShapeWord) 
         } in
         subst (λ q. IsTakenWord table shapes start q took) back taken
 
-    -- the last bit is of no token
-    pub answer-in_word : alive < 2 ^ 64 → IsBitSet took 63 → ⊥
-    answer-in_word fits set = let within = asked-in_word alive fits 63 ((answers 63 (omega arith)).0 set).0 in omega (arith, within.0)
-
     -- where none was asked none has taken the character
     pub none-taken_unasked : IsTakenWord table shapes start p took → ones (bit_and alive word.tokens) ≡ 0
         → (n : ℕ) → start ≤ n → n < word_end shapes start → HasTaken table shapes n p → ⊥
@@ -179,12 +175,6 @@ IsTakenWord-prefix table shapes start n word reached bits = record {
       let bit = bits j (omega arith) in
       let last = reached.taken.last (start + j) (omega arith) in
       (λ s. last.1 (bit.0 s), λ t. bit.1 (last.0 t));
-}
-
--- a word that is alone
-pub AreAlive-alone : (table : Table) (shapes : List Shape) (k : ℕ) (alive : List ℕ) → length alive ≡ 1 → IsAliveWord table shapes 0 k (get_or alive 0 0) → AreAlive table shapes k 0 (length alive) alive
-AreAlive-alone table shapes k alive alone says = record {
-  word = λ i le lt. let e : i ≡ 0 = omega arith in subst (λ m. IsAliveWord table shapes (63 * m) k (get_or alive m 0)) (sym e) says;
 }
 
 module _ (table : Table) (shapes : List Shape) (k : ℕ) (alive : List ℕ) (says : AreAlive table shapes k 0 (length alive) alive) where

@@ -1,6 +1,6 @@
 -- Position sets as words of bits: each has 63 shapes, and its last bit is the position after them, the first one of the
 -- next word.
-use Rattle.std.specs.Prelude.{◌≡◌, ℕ, suc, ◌+◌, ◌-◌, ◌*◌, ◌^◌, ◌<◌, ◌≤◌, ◌≢◌, ◌↔◌, Bool, false, List, length, min, slice_index, slice_index_or, IsTrue}
+use Rattle.std.specs.Prelude.{◌≡◌, ℕ, suc, ◌+◌, ◌-◌, ◌*◌, ◌^◌, ◌<◌, ◌≤◌, ◌≢◌, ◌↔◌, Bool, List, length, min, slice_index, slice_index_or, IsTrue}
 use Rattle.std.specs.Int.{IsBitSet}
 use Rattle.glob_pattern.specs.Matching.Splits.{Table, TakesAll}
 use Rattle.glob_pattern.specs.Private.Prefixes.{PrefixSplits, IsAlive, HasTaken, IsTakenPrefix, IsAskedSince}
@@ -58,13 +58,6 @@ LeadsTo word took opens whole next =
     → IsTakenWord table shapes start k took → opens ≡ table.opens k
     → IsTrue whole ↔ PrefixSplits table shapes start k → IsAliveWord table shapes start k next
 
--- `keep` is no answer of tokens, or the word is alone, and the tokens of `keep` lead from it to itself where no
--- component starts.
-abbrev pub Keeps : ShapeWord → (alone : Bool) → (alive keep : ℕ) → Type 0
-Keeps word alone alive keep =
-    ¬ (IsBitSet keep 63)
-    → IsTrue alone × LeadsTo word keep false false alive
-
 -- the shape is in the first word, and the last before `end`, its pieces may have any length, and its token takes all
 -- characters
 pub record TakesRest (table : Table) (shapes : List Shape) (end n : ℕ) : Type 0 where
@@ -107,7 +100,6 @@ pub record WereAsked (table : Table) (shapes : List Shape) (start end k before c
 pub record HasAsked (table : Table) (shapes : List Shape) (before took k count : ℕ) : Type 0 where
   pub within : k ≤ table.characters
   pub taken : IsTakenWord table shapes 0 k took
-  pub short : ¬ (IsBitSet took 63)
   pub asked : WereAsked table shapes 0 (word_end shapes 0) k before count
 
 -- The words after the first can be stepped to place k, which opens or not, after `count` questions. The first word says

@@ -1,10 +1,10 @@
 //! A bit-parallel automaton (NFA). Its states are positions: which numbers of leading tokens may have split the
 //! characters so far. Bit n of a word is set where the tokens before the word's nth are done, or the nth has begun and
 //! may go on. A character moves all positions at once.
-ghost use Rattle.std.specs.Prelude.{◌≡◌, ℕ, ◌+◌, ◌-◌, ◌*◌, ◌^◌, ◌<◌, ◌≤◌, ◌↔◌, false, length, slice_index, slice_index_or, IsTrue, IsOk, IfOk, IsSome, IfSome, bit_and, map};
+ghost use Rattle.std.specs.Prelude.{◌≡◌, ℕ, ◌+◌, ◌-◌, ◌*◌, ◌^◌, ◌<◌, ◌≤◌, ◌↔◌, length, slice_index, slice_index_or, IsTrue, IsOk, IfOk, IsSome, IfSome, map};
 ghost use Rattle.glob_pattern.specs.Matching.Splits.{Table};
 ghost use Rattle.glob_pattern.specs.Private.Prefixes.{IsAlive, IsTakenPrefix};
-ghost use Rattle.glob_pattern.specs.Private.Positions.{IsShapeWord, AreShapeWords, IsAliveWord, AreAlive, LeadsTo, Keeps, CanRun, HasAsked, CanStepRest, HasSteppedRest};
+ghost use Rattle.glob_pattern.specs.Private.Positions.{IsShapeWord, AreShapeWords, IsAliveWord, AreAlive, CanRun, HasAsked, CanStepRest, HasSteppedRest};
 
 use super::shape_word::{ShapeWord, last_before};
 use super::{Judge, Shape, Shaped, WORD};
@@ -20,9 +20,6 @@ pub struct Span {
     /// Positions of the first word. Once one is alive, the last shape before `end` takes all further characters.
     pub accepting: u64,
 }
-
-/// A value of `keep` that no answer equals, since an answer never has the last bit: it is of no token.
-const NO_ANSWER: u64 = u64::MAX;
 
 impl Span {
     /// So many shapes, from the first on.
@@ -96,24 +93,12 @@ fn run<T: Shaped, J: Judge>(
 {
     set_start(tokens, words, span.start, judge.opens(), alive);
     let first = words[0];
-    let mut keep = NO_ANSWER;
-    // `keep` is the answer of the round before, if that left the position set as it was, and else none. A round skips
-    // the characters about which the answer is the same.
-    'sets: while alive[0] & span.accepting == 0 {
-        let old = alive[0];
-        // The first word's tokens are asked until they answer otherwise, or a component starts.
-        let took = 'kept: loop {
-            let Some(took) = ask_next(tokens, first, old, judge) else {
-                return is_alive(tokens, alive, span.end);
-            };
-            if took != keep || judge.opens() {
-                break took;
-            }
+    while alive[0] & span.accepting == 0 {
+        let Some(took) = ask_next(tokens, first, alive[0], judge) else {
+            return is_alive(tokens, alive, span.end);
         };
         let opens = judge.opens();
-        let next = first.step(took, opens, false);
-        keep = answer_to_keep(first, alive.len() == 1, old, took, opens, next);
-        alive[0] = next;
+        alive[0] = first.step(took, opens, false);
         if step_rest(tokens, words, alive, opens, judge) == 0 {
             return false;
         }
@@ -147,23 +132,6 @@ fn ask_next<T: Shaped, J: Judge>(
         return None;
     }
     Some(judge.takes_each(0, alive & word.tokens))
-}
-
-/// Which answer to the next question would leave the set as it is, so that the step can be skipped: that of the step
-/// before, `took`, if it led from the set to itself and would do so where no component starts. Only for a word that is
-/// alone: with several, the others would have to be asked, too. So for `*.rs` and the text `ab.`, where `*` alone takes
-/// `a` and the set stays what it is, the same answer about `b` leaves it, and the answer about `.` does not.
-#[inline(always)]
-fn answer_to_keep(word: ShapeWord, alone: bool, old: u64, took: u64, opens: bool, next: u64) -> u64
-    requires stepped { LeadsTo word took opens false next }
-    requires unbound { bit_and took word.recursive ≡ 0 → LeadsTo word took false false next }
-    ensures { Keeps word alone next result }
-{
-    if alone && next == old && (!opens || took & word.recursive == 0) {
-        took
-    } else {
-        NO_ANSWER
-    }
 }
 
 /// Sets the words to the position set after the characters of the first `start` shapes, which took one each: as if the

@@ -1,5 +1,5 @@
 //! The shapes of neighbouring tokens as bits, and one step of a position set over them.
-ghost use Rattle.std.specs.Prelude.{◌≡◌, ℕ, ◌+◌, ◌-◌, ◌<◌, ◌≤◌, ◌≢◌, ◌⊎◌, ◌↔◌, false, length, map, bit_and, IsTrue, IfOk};
+ghost use Rattle.std.specs.Prelude.{◌≡◌, ℕ, ◌+◌, ◌-◌, ◌<◌, ◌≤◌, ◌≢◌, ◌⊎◌, ◌↔◌, length, map, IsTrue, IfOk};
 ghost use Rattle.std.specs.Int.{IsBitSet};
 ghost use Rattle.glob_pattern.specs.Private.Positions.{IsShapeWord, AreShapeWords, LeadsTo};
 
@@ -82,10 +82,7 @@ impl ShapeWord {
     /// the character. `whole`: the shapes before the first of these split the characters up to there.
     #[inline(always)]
     pub fn step(self, took: u64, opens: bool, whole: bool) -> u64
-        ensures alive { LeadsTo self took opens whole result }
-
-        // Where no `**` that others follow took it, `opens` changes nothing.
-        ensures unbound { bit_and took self.recursive ≡ 0 → LeadsTo self took false whole result }
+        ensures { LeadsTo self took opens whole result }
     {
         // A piece that ends lets the next token begin. A wildcard that begins may be empty, so that the one after it
         // begins, too: adding the mask of wildcards carries a bit through each run of them.

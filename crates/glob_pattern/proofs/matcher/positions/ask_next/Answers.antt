@@ -1,6 +1,6 @@
 use Rattle.std.proofs.Common.{◌≡◌, ◌-◌, ◌≤◌, length, count_ones, bit_and, ⊎_elim, arith, map}
 use Rattle.std.proofs.lemmas.Bool.{cases_eq}
-use Rattle.glob_pattern.proofs.PositionLemmas.Words.{asked-in_word, ones-in_word, IsTakenWord-asked, answer-in_word, none-taken_unasked}
+use Rattle.glob_pattern.proofs.PositionLemmas.Words.{asked-in_word, ones-in_word, IsTakenWord-asked, none-taken_unasked}
 use Rattle.glob_pattern.proofs.matcher.positions.ask_next.Goals as goal
 
 pub takes_each-requires-clause-tokens : goal.takes_each-requires-clause-tokens
@@ -29,7 +29,6 @@ returns-clause-asked g c =
     rw h.place (record {
       within = stepped.1;
       taken = taken;
-      short = answer-in_word T shapes 0 c.args.word from c.requires.word p alive c.takes_each.result h.took (omega arith);
       asked = record {
         monotone = omega (arith, h.count, c.step.ensures.count);
         most = omega (arith, h.count, c.step.ensures.count, few);

@@ -23,7 +23,7 @@ loop-n-preserved g c =
     let are = c.requires.words.word n (record { tokens = 0; wildcards = 0; recursive = 0 }) (omega (arith, i.count, c.requires.length)) in
     let next : (table : Table) → IsTakenPrefix table shapes c.args.start → c.args.opens ≡ table.opens c.args.start → AreAlive table shapes c.args.start 0 (n + 1) (set c.loop-n.alive n c.step-word.result) = λ table reached opens.
     AreAlive-set table shapes c.args.start n c.loop-n.alive c.step-word.result (i.done table reached opens) lt
-    (c.step-word.ensures.alive table shapes start c.args.start from are
+    (c.step-word.ensures table shapes start c.args.start from are
     (IsTakenWord-prefix table shapes start c.args.start c.last_before.result reached c.last_before.ensures) opens (i.whole table reached opens from)) in
     record {
       count = length-set c.loop-n.alive n _ ∙ i.count;

@@ -65,7 +65,7 @@ loop-n-preserved g c =
     let h = rw (i.same, i.place) at c.takes_each-took.ensures in
     let taken = IsTakenWord-asked table shapes start _ from are p old c.takes_each-took.result h.took c.requires.stepped (i.rest.word n (le_refl n) c.loop-n-test.true) in
     let whole = carry-whole table shapes p n c.loop-n.alive i.done c.loop-n.auto.n from c.loop-n.last c.loop-n.auto.last-fits.fits i.last in
-    let says = c.step-last.ensures.alive table shapes start p from are taken c.requires.opens whole in
+    let says = c.step-last.ensures table shapes start p from are taken c.requires.opens whole in
     record {
       count = length-set c.loop-n.alive n _ ∙ i.count;
       head = get_or-set_other c.loop-n.alive n 0 c.step-last.result 0 (not_first n c.loop-n.auto.n) ∙ i.head;
