@@ -1,5 +1,6 @@
 pub mod Mapped
 pub mod Alive
+pub mod DeadWords
 pub mod LastOnes
 pub mod Prefixes
 pub mod Running

@@ -173,3 +173,23 @@ module _ (table : Table) (shapes : List Shape) where
   asked_more from start k next old new at more before n le alive =
       let (m, within, was) = IsAlive-before n k le (rw (at, add-one) at alive) in
       omega (arith, more n le alive, before m within was)
+
+  -- no shapes split no characters, and no others
+  pub PrefixSplits-none : (k : ℕ) → 0 < k → ¬ (PrefixSplits table shapes 0 k)
+  unfolding PrefixSplits
+  PrefixSplits-none k later h = omega (arith, later, h)
+
+  -- where the first m shapes are not whole, and no token from there on has taken the last character, no more are whole
+  pub none_whole : (k m n : ℕ) → m ≤ n → n ≤ length shapes → ¬ (PrefixSplits table shapes m k) → ((t : ℕ) → m ≤ t → t < n → ¬ (HasTaken table shapes t k)) → ¬ (PrefixSplits table shapes n k)
+  none_whole k m zero le within none taken h = none (let e : zero ≡ m = omega (arith, le) in subst (λ x. PrefixSplits table shapes x k) e h)
+  none_whole k m (suc n) le within none taken h =
+      let step : PrefixSplits table shapes (suc n) k ↔ ComesWhole table shapes (get_or shapes n One) n k = PrefixSplits-step table shapes n (omega (arith, within)) k in
+      ⊎_elim
+      (λ e. none (subst (λ x. PrefixSplits table shapes x k) (sym e) h))
+      (λ ne.
+      let before : m ≤ n = omega (arith, le, ne) in
+      ⊎_elim
+      (λ (w, grows). none_whole k m n before (omega (arith, within)) none (λ t from below. taken t from (omega (arith, below))) w)
+      (λ (t, ends). taken n before (omega arith) t)
+      (step.0 h))
+      (cases_eq m (suc n))

@@ -1,14 +1,19 @@
 -- A run over a position set: at its start, after a character, and where a wildcard takes the rest.
-use Rattle.std.proofs.Common.{◌≡◌, ℕ, zero, suc, ◌+◌, ◌-◌, ◌*◌, ◌^◌, ◌<◌, ◌≤◌, ◌≢◌, ◌↔◌, ◌∙◌, List, [], ◌∷◌, length, get_or, drop, refl, sym, subst, inl, ⊎_elim, arith}
-use Rattle.std.proofs.lemmas.Bool.{cases_eq, cases_lt}
+use Rattle.std.proofs.Common.{◌≡◌, ℕ, zero, suc, ◌+◌, ◌-◌, ◌*◌, ◌^◌, ◌<◌, ◌≤◌, ◌≢◌, ◌↔◌, ◌∙◌, Bool, false, true, IsTrue, List, [], ◌∷◌, length, get_or, drop, bit_and, refl, sym, subst, inl, ⊎_elim, arith, zero-add}
+use Rattle.std.proofs.Math.Nat.{le_refl, le_trans, le-add_right}
+use Rattle.std.specs.Int.{IsBitSet}
+use Rattle.std.proofs.lemmas.Bool.{cases_eq, false≢true}
+use Rattle.std.proofs.lemmas.Nat.{and_le_l, and_le_r}
 use Rattle.std.proofs.lemmas.List.{drop_all, get_or_past}
 use Rattle.glob_pattern.specs.Matching.Splits.{Table, MayReach}
 use Rattle.glob_pattern.specs.Private.Prefixes.{PrefixSplits, IsAlive, HasTaken}
-use Rattle.glob_pattern.specs.Private.Positions.{word_end, IsShapeWord, AreShapeWords, AreAlive, TakesRest, CanRun, WereAsked, HasAsked, HasRun}
-use Rattle.glob_pattern.proofs.Counts.{room-after}
+use Rattle.glob_pattern.specs.Private.Positions.{IsShapeWord, AreShapeWords, AreAlive, TakesRest, CanRun, WereAsked, HasRun, HasDecided}
+use Rattle.glob_pattern.proofs.Counts.{mul-left, room-after}
 use Rattle.glob_pattern.proofs.PositionLemmas.Alive.{ComesAlive, IsAlive-step, asked_more}
 use Rattle.glob_pattern.proofs.PositionLemmas.TakenPrefixes.{IsDead-from_none, IsTakenPrefix-start}
-use Rattle.glob_pattern.proofs.BitLemmas.SetBits.{IsBitSet-zero}
+use Rattle.glob_pattern.proofs.PositionLemmas.Words.{none-at_end}
+use Rattle.glob_pattern.proofs.BitLemmas.LowestBits.{lowest_set}
+use Rattle.glob_pattern.proofs.BitLemmas.SetBits.{IsBitSet-zero, IsBitSet-and}
 use Rattle.glob_pattern.specs.declared.matcher.positions.Span.{Span}
 use Rattle.glob_pattern.specs.declared.matcher.shape_word.ShapeWord.{ShapeWord}
 use Rattle.glob_pattern.specs.declared.matcher.Shape.{Shape}
@@ -24,31 +29,25 @@ asked-for_alive table shapes (suc k) asked later none n le alive =
 module _ (table : Table) (shapes : List Shape) where
   module _ (from first k count : ℕ) (alive : List ℕ) (run : HasRun table shapes from first k count alive) where
     -- after the questions about a character
-    HasRun-next : (p after : ℕ) (moved : List ℕ) → p ≡ k + 1 → p ≤ table.characters
-        → count ≤ after → after ≤ count + length shapes → ((n : ℕ) → n < length shapes → HasTaken table shapes n p → count < after)
+    pub HasRun-stepped : (p after : ℕ) (moved : List ℕ) → p ≡ k + 1 → p ≤ table.characters → WereAsked table shapes 0 (length shapes) p count after
         → AreAlive table shapes p 0 (length moved) moved → HasRun table shapes from first p after moved
-    HasRun-next p after moved next within more most asked says =
-        let back : p - 1 ≡ k = omega arith in
-        let left = room-after (length shapes) table.characters p (after - count) count after (omega arith) within (omega arith) (omega arith) in
-        let some = asked-for_alive table shapes p (after - count) (omega arith) (λ none m lt taken. let up = asked m lt taken in absurd (omega (arith, up, none, more))) in
+    HasRun-stepped p after moved next within asked says =
+        let back : p - 1 ≡ k = omega (arith, next) in
+        let left = room-after (length shapes) table.characters p (after - count) count after (omega (arith, next)) within (omega (arith, asked.most)) (omega (arith, asked.monotone)) in
+        let some = asked-for_alive table shapes p (after - count) (omega (arith, next)) (λ none m lt taken. let up = asked.least m (omega arith) lt taken in absurd (omega (arith, up, none))) in
         record {
           alive = says;
           within = within;
           most = omega (arith, rw back at left, run.most);
-          least = asked_more table shapes from first k p count after next (λ m le_m here. omega (arith, some m le_m here, more)) run.least;
-          monotone = omega (arith, run.monotone, more);
+          least = asked_more table shapes from first k p count after next (λ m le_m here. omega (arith, some m le_m here)) run.least;
+          monotone = omega (arith, run.monotone, asked.monotone);
         }
 
-    -- after the questions about a character to the first word, and then to the others
-    pub HasRun-stepped : (took p between after : ℕ) (moved : List ℕ) → p ≡ k + 1 → HasAsked table shapes count took p between
-        → WereAsked table shapes (word_end shapes 0) (length shapes) p between after
-        → AreAlive table shapes p 0 (length moved) moved → HasRun table shapes from first p after moved
-    HasRun-stepped took p between after moved next asked rest says =
-        HasRun-next p after moved next asked.within (omega (arith, asked.asked.monotone, rest.monotone)) (omega (arith, asked.asked.most, rest.most))
-        (λ n n_lt taken. ⊎_elim
-        (λ early. omega (arith, asked.asked.least n (omega arith) early taken, rest.monotone))
-        (λ later. omega (arith, rest.least n later n_lt taken, asked.asked.monotone))
-        (cases_lt n (word_end shapes 0))) says
+    -- there is room for the questions about one character more
+    pub HasRun-room : k < table.characters → first + length shapes * (table.characters - from) < 2 ^ 128 → count + length shapes < 2 ^ 128
+    HasRun-room more room =
+        let left = mul-left (length shapes) table.characters k (omega (arith, more)) in
+        omega (arith, left, run.most, room)
 
   -- where a wildcard before `end` is alive that takes all characters, the shapes before `end` split them
   pub alive-by_rest : (end n k : ℕ) → TakesRest table shapes end n → k ≤ table.characters → get_or shapes end One ≡ One → IsAlive table shapes n k → IsAlive table shapes end table.characters
@@ -62,6 +61,46 @@ module _ (table : Table) (shapes : List Shape) where
       reach One is ne = absurd (ne refl)
       reach Run is ne = omega arith
       reach Deep is ne = (omega arith, inl (let all : length shapes ≤ suc n = omega (arith, rest.ends is, rest.last) in rw drop_all refl))
+
+module _ (table : Table) (shapes : List Shape) (span : Span) (first k count : ℕ) (alive : List ℕ) (run : HasRun table shapes span.start first k count alive) (within : span.end ≤ length shapes) where
+  -- a run that has stepped over all characters
+  pub HasDecided-ended : (found : Bool) → k ≡ table.characters → IsTrue found ↔ IsAlive table shapes span.end k → HasDecided table shapes span first count found
+  HasDecided-ended found all answer = record {
+    answer = subst (λ p. IsTrue found ↔ IsAlive table shapes span.end p) all answer;
+    most = le_trans (le-add_right _ _) run.most;
+    least = λ t none. rw all at (run.least span.end within (answer.0 t));
+    monotone = run.monotone;
+  }
+
+  -- one in which nothing is alive
+  pub HasDecided-dead : length shapes ≤ 63 * length alive → 0 < length alive → ((i : ℕ) → i < length alive → get_or alive i 0 ≡ 0) → HasDecided table shapes span first count false
+  HasDecided-dead long some none = record {
+    answer = (λ t. absurd (false≢true t), λ here. absurd (none-at_end table shapes k alive run.alive long some none run.within span.end within here));
+    most = le_trans (le-add_right _ _) run.most;
+    least = λ t. absurd (false≢true t);
+    monotone = run.monotone;
+  }
+
+  -- one in which a position is alive that takes all that is left
+  pub HasDecided-accepting : 0 < length alive → get_or alive 0 0 < 2 ^ 64 → 0 < bit_and (get_or alive 0 0) span.accepting → get_or shapes span.end One ≡ One
+      → ((j : ℕ) → IsBitSet span.accepting j → TakesRest table shapes span.end j) → HasDecided table shapes span first count true
+  HasDecided-accepting some fits meets one accepting =
+      let (lt, set, none) = lowest_set (bit_and (get_or alive 0 0) span.accepting) meets (omega (arith, and_le_l (get_or alive 0 0) span.accepting, fits)) in
+      let both = (IsBitSet-and (get_or alive 0 0) span.accepting _).0 set in
+      let rest = accepting _ both.1 in
+      let here = (run.alive.word 0 (le_refl 0) some).alive _ (omega (arith, rest.first, rest.last, within)) in
+      record {
+        answer = (λ t. alive-by_rest table shapes span.end _ k rest run.within one (rw (zero-add _) at (here.0 both.0)), λ a. refl);
+        most = le_trans (le-add_right _ _) run.most;
+        least = λ t zero. absurd (omega (arith, and_le_r (get_or alive 0 0) span.accepting, zero, meets));
+        monotone = run.monotone;
+      }
+
+-- the list of one word
+pub words-alone : (words : List ShapeWord) (d : ShapeWord) → length words ≡ 1 → words ≡ get_or words 0 d ∷ []
+words-alone [] d one = absurd (omega (arith, one))
+words-alone (word ∷ []) d one = refl
+words-alone (word ∷ next ∷ others) d one = absurd (omega (arith, one))
 
 -- the word of all shapes, which is alone
 pub one-word : (shapes : List Shape) (word : ShapeWord) → length shapes < 64 → IsShapeWord shapes 0 word → AreShapeWords shapes (word ∷ [])

@@ -4,7 +4,7 @@ use Rattle.std.proofs.lemmas.Bool.{cases_lt}
 use Rattle.std.proofs.lemmas.List.{get_or_past}
 use Rattle.glob_pattern.specs.Matching.Splits.{Table, Splits}
 use Rattle.glob_pattern.specs.Private.Prefixes.{PrefixSplits, IsAlive, HasTaken, TakenByLast, IsTakenPrefix}
-use Rattle.glob_pattern.proofs.PositionLemmas.Alive.{ComesAlive, ComesWhole, IsAlive-step, PrefixSplits-step, IsAlive-before, Splits-iff_alive}
+use Rattle.glob_pattern.proofs.PositionLemmas.Alive.{ComesAlive, ComesWhole, IsAlive-step, PrefixSplits-step, IsAlive-before, Splits-iff_alive, PrefixSplits-none, none_whole}
 use Rattle.glob_pattern.specs.declared.matcher.Shape.{Shape}
 use Rattle.glob_pattern.specs.declared.matcher.Shape.TheVariants.{One}
 
@@ -61,21 +61,12 @@ module _ (table : Table) (shapes : List Shape) where
         let e = (IsAlive-by_last n (omega arith)).0 a in
         none (subst (λ m. IsTrue (table.takes m k)) e t)
 
-  -- where no token has taken a character, nothing is whole after it
-  none_whole : (k : ℕ) → ((n : ℕ) → n < length shapes → HasTaken table shapes n (suc k) → ⊥) → (n : ℕ) → n ≤ length shapes → PrefixSplits table shapes n (suc k) → ⊥
-  unfolding PrefixSplits
-  none_whole k none zero le h = absurd (omega arith)
-  none_whole k none (suc n) le h =
-      let lt : n < length shapes = omega arith in
-      let step : PrefixSplits table shapes (suc n) (suc k) ↔ ComesWhole table shapes (get_or shapes n One) n (suc k) = PrefixSplits-step table shapes n lt (suc k) in
-      ⊎_elim (λ (w, grows). none_whole k none n (omega arith) w) (λ (t, ends). none n lt t) (step.0 h)
-
-  -- and nothing alive
+  -- where no token has taken a character, nothing is alive after it
   pub IsDead-from_none : (k : ℕ) → ((n : ℕ) → n < length shapes → HasTaken table shapes n (suc k) → ⊥) → IsDead table shapes (suc k)
   IsDead-from_none k none = record {
     none = λ n le alive.
         let step : IsAlive table shapes n (suc k) ↔ ComesAlive table shapes (get_or shapes n One) n (suc k) = IsAlive-step table shapes n (suc k) in
-        ⊎_elim (none_whole k none n le) (λ (t, grows). none n (growing_within n grows) t) (step.0 alive);
+        ⊎_elim (none_whole table shapes (suc k) 0 n (omega arith) le (PrefixSplits-none table shapes (suc k) (omega arith)) (λ t from below. none t (omega (arith, below, le)))) (λ (t, grows). none n (growing_within n grows) t) (step.0 alive);
   }
 
   -- where nothing is alive, nothing is later

@@ -1,5 +1,5 @@
 -- Words of 63 shapes after a character, from the tokens that have taken it.
-use Rattle.std.proofs.Common.{◌≡◌, ℕ, zero, suc, ◌+◌, ◌-◌, ◌*◌, ◌%◌, ◌^◌, ◌<◌, ◌≤◌, ◌≢◌, ◌⊎◌, ◌↔◌, Bool, false, IsTrue, nat_eq, not, List, length, get_or, set, bit_and, bit_or, bit_xor, sym, subst, get_or-set_other, get_or-set_same, ◌/◌, inl, inr, ⊎_elim, arith, add-zero, add-suc}
+use Rattle.std.proofs.Common.{◌≡◌, ℕ, zero, suc, ◌+◌, ◌-◌, ◌*◌, ◌%◌, ◌^◌, ◌<◌, ◌≤◌, ◌≢◌, ◌⊎◌, ◌↔◌, Bool, false, IsTrue, nat_eq, not, List, [], ◌∷◌, length, get_or, set, bit_and, bit_or, sym, subst, get_or-set_other, get_or-set_same, ◌/◌, inl, inr, ⊎_elim, arith, add-zero, add-suc}
 use mir.Val.{bool_byte}
 use Rattle.std.specs.Int.Count.{ones}
 use Rattle.std.proofs.lemmas.Bool.{cases_eq, cases_lt, eqb-true, eq-eqb, eqb-false, ne_eqb, not-true, false≢true}
@@ -12,18 +12,15 @@ use Rattle.glob_pattern.specs.Private.Positions.{word_end, IsShapeWord, IsAliveW
 use Rattle.glob_pattern.proofs.PositionLemmas.Alive.{MayEnd, ComesAlive, ComesWhole, IsAlive-step, PrefixSplits-step}
 use Rattle.glob_pattern.proofs.PositionLemmas.TakenPrefixes.{IsDead-later}
 use Rattle.glob_pattern.proofs.PositionLemmas.Spreading.{spread}
-use Rattle.glob_pattern.proofs.BitLemmas.SetBits.{IsBitSet-cases, IsBitSet-or, IsBitSet-and, IsBitSet-zero, IsBitSet-spread_low, IsBitSet-spread_next, IsBitSet-moved_low, IsBitSet-moved_next, IsBitSet-closed, bit_below, highest_set}
+use Rattle.glob_pattern.proofs.BitLemmas.SetBits.{IsBitSet-cases, IsBitSet-or, IsBitSet-and, IsBitSet-zero, IsBitSet-spread_low, IsBitSet-spread_next, IsBitSet-moved_low, IsBitSet-moved_next, bit_below, highest_set}
 use Rattle.glob_pattern.proofs.BitLemmas.LowestBits.{ones_within}
 use Rattle.glob_pattern.specs.declared.matcher.Shape.{Shape}
 use Rattle.glob_pattern.specs.declared.matcher.Shape.TheVariants.{One, Deep}
 use Rattle.glob_pattern.specs.declared.matcher.shape_word.ShapeWord.{ShapeWord}
 
--- what `ShapeWord::step` computes: the positions that pieces end at, and those that are whole
+-- the positions that pieces end at, and the first if those before are whole
 abbrev pub begun_of : (ending : ℕ) (whole : Bool) → ℕ
 begun_of ending whole = bit_or (ending * 2 ^ 1 % 2 ^ 64) (bool_byte whole)
-
-abbrev pub closed_of : (begun wildcards : ℕ) → ℕ
-closed_of begun wildcards = bit_or begun (bit_xor ((bit_and begun wildcards + wildcards) % 2 ^ 64) wildcards)
 
 -- whether no shapes split the characters, at the start and later
 pub whole-at_start : (table : Table) (shapes : List Shape) (k : ℕ) → IsTrue (nat_eq k 0) ↔ PrefixSplits table shapes 0 k
@@ -108,29 +105,31 @@ module _ (table : Table) (shapes : List Shape) (start : ℕ) (word : ShapeWord) 
           λ h. s.1 (⊎_elim (λ (w, g). inr (grows.1 g, ih.1 w)) (λ e. inl (next.1 (ended.1 e))) (step.0 h)),
         )
 
-    closed-whole : (j : ℕ) → start + j ≤ word_end shapes start → IsBitSet (closed_of (begun_of ending whole) word.wildcards) j ↔ PrefixSplits table shapes (start + j) k
-    closed-whole j within =
-        let closed = IsBitSet-closed (begun_of ending whole) word.wildcards j (omega arith) in
+    closed-whole : (closed : ℕ) → ((j : ℕ) → j < 64 → IsBitSet closed j ↔ IsBitSet (spread (begun_of ending whole) word.wildcards 0) j)
+        → (j : ℕ) → start + j ≤ word_end shapes start → IsBitSet closed j ↔ PrefixSplits table shapes (start + j) k
+    closed-whole closed spreads j within =
+        let same = spreads j (omega arith) in
         let prefix = spread-whole j within in
-        (λ h. prefix.0 (closed.0 h), λ h. closed.1 (prefix.1 h))
+        (λ h. prefix.0 (same.0 h), λ h. same.1 (prefix.1 h))
 
-    -- what the word says after the character
-    pub IsAliveWord-stepped : IsAliveWord table shapes start k (bit_or (bit_and took word.wildcards) (closed_of (begun_of ending whole) word.wildcards))
-    IsAliveWord-stepped = record {
+    -- what the word says after the character, where `closed` has the positions to which those spread that have begun
+    pub IsAliveWord-stepped : (closed : ℕ) → ((j : ℕ) → j < 64 → IsBitSet closed j ↔ IsBitSet (spread (begun_of ending whole) word.wildcards 0) j)
+        → IsAliveWord table shapes start k (bit_or (bit_and took word.wildcards) closed)
+    IsAliveWord-stepped closed spreads = record {
       alive = λ j within.
-          let or = IsBitSet-or (bit_and took word.wildcards) (closed_of (begun_of ending whole) word.wildcards) j in
+          let or = IsBitSet-or (bit_and took word.wildcards) closed j in
           let and = IsBitSet-and took word.wildcards j in
           let step : IsAlive table shapes (start + j) k ↔ ComesAlive table shapes (get_or shapes (start + j) One) (start + j) k = IsAlive-step table shapes (start + j) k in
-          let prefix = closed-whole j (omega arith) in
+          let prefix = closed-whole closed spreads j (omega arith) in
           let grows = wildcards-are j within in
           let token = taken.taken j within in (
             λ h. step.1 (⊎_elim (λ s. let b = and.0 s in inr (token.0 b.0, grows.0 b.1)) (λ c. inl (prefix.0 c)) (or.0 h)),
             λ h. or.1 (⊎_elim (λ w. inr (prefix.1 w)) (λ (t, g). inl (and.1 (token.1 t, grows.1 g))) (step.0 h)),
           );
       whole = λ j e.
-          let or = IsBitSet-or (bit_and took word.wildcards) (closed_of (begun_of ending whole) word.wildcards) j in
+          let or = IsBitSet-or (bit_and took word.wildcards) closed j in
           let and = IsBitSet-and took word.wildcards j in
-          let prefix = rw e at (closed-whole j (omega arith)) in (
+          let prefix = rw e at (closed-whole closed spreads j (omega arith)) in (
             λ h. ⊎_elim (λ s. absurd (let past = ((are.wildcards j (omega arith)).0 (and.0 s).1).0 in omega arith)) (λ c. prefix.0 c) (or.0 h),
             λ w. or.1 (inr (prefix.1 w)),
           );
@@ -213,3 +212,9 @@ module _ (table : Table) (shapes : List Shape) (k : ℕ) (alive : List ℕ) (say
       let e : table.characters - k + k ≡ table.characters = omega arith in
       let dead = IsDead-later table shapes (table.characters - k) k (record { none = none-in_words all some none }) in
       (rw e at dead).none n le here
+
+-- a word that is alone
+pub AreAlive-alone : (table : Table) (shapes : List Shape) (k word : ℕ) → IsAliveWord table shapes 0 k word → AreAlive table shapes k 0 1 (word ∷ [])
+AreAlive-alone table shapes k word says = record {
+  word = λ i le lt. let e : i ≡ 0 = omega (arith, lt) in subst (λ m. IsAliveWord table shapes (63 * m) k (get_or (word ∷ []) m 0)) (sym e) says;
+}

@@ -1,6 +1,6 @@
 -- Position sets as words of bits: each has 63 shapes, and its last bit is the position after them, the first one of the
 -- next word.
-use Rattle.std.specs.Prelude.{◌≡◌, ℕ, suc, ◌+◌, ◌-◌, ◌*◌, ◌^◌, ◌<◌, ◌≤◌, ◌≢◌, ◌↔◌, Bool, List, length, min, slice_index, slice_index_or, IsTrue}
+use Rattle.std.specs.Prelude.{◌≡◌, ℕ, suc, ◌+◌, ◌-◌, ◌*◌, ◌^◌, ◌<◌, ◌≤◌, ◌≢◌, ◌⊎◌, ◌↔◌, Bool, List, length, min, slice_index, slice_index_or, IsTrue}
 use Rattle.std.specs.Int.{IsBitSet}
 use Rattle.glob_pattern.specs.Matching.Splits.{Table, TakesAll}
 use Rattle.glob_pattern.specs.Private.Prefixes.{PrefixSplits, IsAlive, HasTaken, IsTakenPrefix, IsAskedSince}
@@ -96,29 +96,43 @@ pub record WereAsked (table : Table) (shapes : List Shape) (start end k before c
   pub most : count ≤ before + (end - start)
   pub least : (n : ℕ) → start ≤ n → n < end → HasTaken table shapes n k → before < count
 
--- the tokens of the first word were asked about a further character, and `took` has those that took it
-pub record HasAsked (table : Table) (shapes : List Shape) (before took k count : ℕ) : Type 0 where
-  pub within : k ≤ table.characters
-  pub taken : IsTakenWord table shapes 0 k took
-  pub asked : WereAsked table shapes 0 (word_end shapes 0) k before count
-
--- The words after the first can be stepped to place k, which opens or not, after `count` questions. The first word says
--- what is alive at place k already.
-pub record CanStepRest (table : Table) (shapes : List Shape) (list : List ShapeWord) (alive : List ℕ) (opened : Bool) (k count : ℕ) : Type 0 where
-  pub words : AreShapeWords shapes list
-  pub many : length alive ≡ length list
+-- The tokens of word i can be asked about the character before place k, after `count` questions: `alive` says which of
+-- them were alive at the place before it.
+pub record CanAsk (table : Table) (shapes : List Shape) (word : ShapeWord) (i alive k count : ℕ) : Type 0 where
   pub stepped : 0 < k
-  pub opens : opened ≡ table.opens k
-  pub few : length shapes < 2 ^ 64
+  pub from : 63 * i ≤ length shapes
+  pub shaped : IsShapeWord shapes (63 * i) word
+  pub fits : length shapes < 2 ^ 64
   pub tokens : length shapes ≤ table.tokens
-  pub room : count + (length shapes - word_end shapes 0) < 2 ^ 128
-  pub first : AreAlive table shapes k 0 1 alive
-  pub rest : AreAlive table shapes (k - 1) 1 (length alive) alive
+  pub before : IsAliveWord table shapes (63 * i) (k - 1) alive
+  pub room : count + (word_end shapes (63 * i) - 63 * i) < 2 ^ 128
 
--- They are: all words say what is alive at place k, and `any` is 0 only where nothing is.
-pub record HasSteppedRest (table : Table) (shapes : List Shape) (before after : List ℕ) (any k old new : ℕ) : Type 0 where
-  pub alive : AreAlive table shapes k 0 (length after) after
+-- of the words before number `end` only those from number `low` up to `high` may not be 0
+pub record IsLive (words : List ℕ) (end low high : ℕ) : Type 0 where
+  pub within : low ≤ length words
+  pub none : (i : ℕ) → i < end → ((i < low) ⊎ (high ≤ i)) → slice_index words i ≡ 0
+
+-- the words, of which those from number `low` up to `high` are live, can be stepped to place k, after `count` questions
+pub record CanStep (table : Table) (shapes : List Shape) (words : List ShapeWord) (alive : List ℕ) (low high k count : ℕ) : Type 0 where
+  pub shaped : AreShapeWords shapes words
+  pub many : length alive ≡ length words
+  pub stepped : 0 < k
+  pub fits : length shapes < 2 ^ 64
+  pub tokens : length shapes ≤ table.tokens
+  pub room : count + length shapes < 2 ^ 128
+  pub live : IsLive alive (length alive) low high
+  pub before : AreAlive table shapes (k - 1) 0 (length alive) alive
+
+-- they are: all words say what is alive at place k
+pub record HasStepped (table : Table) (shapes : List Shape) (before after : List ℕ) (k old new : ℕ) : Type 0 where
   pub many : length after ≡ length before
-  pub head : slice_index after 0 ≡ slice_index before 0
-  pub none : any ≡ 0 → (i : ℕ) → i < length after → slice_index after i ≡ 0
-  pub asked : WereAsked table shapes (word_end shapes 0) (length shapes) k old new
+  pub alive : AreAlive table shapes k 0 (length after) after
+  pub asked : WereAsked table shapes 0 (length shapes) k old new
+
+-- A run over a span, which began when `first` questions were asked, has its answer after `count`: whether the shapes
+-- before the span's end split all characters.
+pub record HasDecided (table : Table) (shapes : List Shape) (span : Span) (first count : ℕ) (yes : Bool) : Type 0 where
+  pub answer : IsTrue yes ↔ IsAlive table shapes span.end table.characters
+  pub most : count ≤ first + length shapes * (table.characters - span.start)
+  pub least : IsTrue yes → span.accepting ≡ 0 → first + table.characters ≤ count + span.start
+  pub monotone : first ≤ count

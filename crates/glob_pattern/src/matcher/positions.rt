@@ -1,10 +1,10 @@
 //! A bit-parallel automaton (NFA). Its states are positions: which numbers of leading tokens may have split the
 //! characters so far. Bit n of a word is set where the tokens before the word's nth are done, or the nth has begun and
 //! may go on. A character moves all positions at once.
-ghost use Rattle.std.specs.Prelude.{◌≡◌, ℕ, ◌+◌, ◌-◌, ◌*◌, ◌^◌, ◌<◌, ◌≤◌, ◌↔◌, length, slice_index, slice_index_or, IsTrue, IsOk, IfOk, IsSome, IfSome, map};
+ghost use Rattle.std.specs.Prelude.{◌≡◌, ℕ, ◌+◌, ◌-◌, ◌*◌, ◌^◌, ◌<◌, ◌≤◌, ◌↔◌, List, [], ◌∷◌, length, slice_index, slice_index_or, IsTrue, IsOk, IfOk, map};
 ghost use Rattle.glob_pattern.specs.Matching.Splits.{Table};
-ghost use Rattle.glob_pattern.specs.Private.Prefixes.{IsAlive, IsTakenPrefix};
-ghost use Rattle.glob_pattern.specs.Private.Positions.{IsShapeWord, AreShapeWords, IsAliveWord, AreAlive, CanRun, HasAsked, CanStepRest, HasSteppedRest};
+ghost use Rattle.glob_pattern.specs.Private.Prefixes.{PrefixSplits, IsAlive, IsTakenPrefix};
+ghost use Rattle.glob_pattern.specs.Private.Positions.{word_end, AreShapeWords, IsAliveWord, IsTakenWord, AreAlive, IsLive, CanRun, HasDecided, CanAsk, WereAsked, CanStep, HasStepped};
 
 use super::shape_word::{ShapeWord, last_before};
 use super::{Judge, Shape, Shaped, WORD};
@@ -19,6 +19,13 @@ pub struct Span {
     pub end: usize,
     /// Positions of the first word. Once one is alive, the last shape before `end` takes all further characters.
     pub accepting: u64,
+}
+
+/// The words from number `low` up to `high`: nothing is alive in any other.
+#[derive(Clone, Copy)]
+struct Live {
+    low: usize,
+    high: usize,
 }
 
 impl Span {
@@ -61,16 +68,39 @@ pub fn decide<A: Allocator + Copy, T: Shaped, J: Judge>(
     ensures short { length words.now ≡ 1 → IsOk result }
 {
     if words.len() == 1 {
-        Ok(run(tokens, words, &mut [0], span, judge))
+        Ok(run(tokens, words[0], span, judge))
     } else {
         let mut alive = vec![in alloc; 0; words.len()]?;
-        Ok(run(tokens, words, alive.as_mut_slice(), span, judge))
+        Ok(run_words(tokens, words, alive.as_mut_slice(), span, judge))
     }
 }
 
-/// [`decide`], with room for the position set.
+/// [`decide`] where there is one word.
 #[inline(always)]
-fn run<T: Shaped, J: Judge>(
+fn run<T: Shaped, J: Judge>(tokens: &[T], word: ShapeWord, span: Span, judge: &mut J) -> bool
+    requires ready { CanRun (J.table judge.old) (map T.shape tokens.now) (word ∷ []) span
+        (J.place judge.old) (J.count judge.old) }
+    ensures decided { HasDecided (J.table judge.old) (map T.shape tokens.now) span
+        (J.count judge.old) (J.count judge.new) result }
+    ensures same { J.table judge.new ≡ J.table judge.old }
+{
+    let mut alive = word.step(last_before(span.start, 0), judge.opens(), span.start == 0);
+    while alive != 0 {
+        if alive & span.accepting != 0 {
+            return true;
+        }
+        if !judge.step() {
+            return is_alive(tokens, &[alive], span.end);
+        }
+        let took = ask(tokens, word, 0, alive, judge);
+        alive = word.step(took, judge.opens(), false);
+    }
+    false
+}
+
+/// [`decide`] where there are several words, with room for the position set: a zero for each word.
+#[inline(always)]
+fn run_words<T: Shaped, J: Judge>(
     tokens: &[T],
     words: &[ShapeWord],
     alive: &mut [u64],
@@ -80,62 +110,45 @@ fn run<T: Shaped, J: Judge>(
     requires ready { CanRun (J.table judge.old) (map T.shape tokens.now) words.now span
         (J.place judge.old) (J.count judge.old) }
     requires length { length alive.old ≡ length words.now }
-    ensures answer { IsTrue result
-        ↔ IsAlive (J.table judge.old) (map T.shape tokens.now)
-        span.end (J.table judge.old).characters }
-    ensures most { J.count judge.new
-        ≤ J.count judge.old
-        + length (map T.shape tokens.now) * ((J.table judge.old).characters - span.start) }
-    ensures least { IsTrue result → span.accepting ≡ 0
-        → J.count judge.old + (J.table judge.old).characters ≤ J.count judge.new + span.start }
-    ensures monotone { J.count judge.old ≤ J.count judge.new }
+    requires none { IsLive alive.old (length alive.old) 0 0 }
+    ensures decided { HasDecided (J.table judge.old) (map T.shape tokens.now) span
+        (J.count judge.old) (J.count judge.new) result }
     ensures same { J.table judge.new ≡ J.table judge.old }
 {
-    set_start(tokens, words, span.start, judge.opens(), alive);
-    let first = words[0];
-    while alive[0] & span.accepting == 0 {
-        let Some(took) = ask_next(tokens, first, alive[0], judge) else {
+    let mut live = set_start(tokens, words, span.start, judge.opens(), alive);
+    while live.high != 0 {
+        if !judge.step() {
             return is_alive(tokens, alive, span.end);
-        };
-        let opens = judge.opens();
-        alive[0] = first.step(took, opens, false);
-        if step_rest(tokens, words, alive, opens, judge) == 0 {
-            return false;
         }
+        live = step_words(tokens, words, alive, live, judge);
     }
-    true
+    false
 }
 
-/// Steps over a character and asks the tokens of the first word that are alive. Returns those that take it, or `None`
-/// if no character is left.
+/// Asks the tokens of word `n` that are alive about the character last stepped over. Returns those that take it.
 #[inline(always)]
-fn ask_next<T: Shaped, J: Judge>(
+fn ask<T: Shaped, J: Judge>(
     tokens: &[T],
     word: ShapeWord,
+    n: usize,
     alive: u64,
     judge: &mut J,
-) -> Option<u64>
-    requires word { IsShapeWord (map T.shape tokens.now) 0 word }
-    requires alive { IsAliveWord (J.table judge.old) (map T.shape tokens.now) 0
-        (J.place judge.old) alive }
-    requires tokens { length (map T.shape tokens.now) ≤ (J.table judge.old).tokens }
-    requires room { J.place judge.old < (J.table judge.old).characters
-        → J.count judge.old + length (map T.shape tokens.now) < 2 ^ 128 }
-    ensures end { result ≡ None → (J.place judge.new ≡ (J.table judge.old).characters)
-        × (J.place judge.new ≡ J.place judge.old) × (J.count judge.new ≡ J.count judge.old) }
-    ensures place { IsSome result → J.place judge.new ≡ J.place judge.old + 1 }
-    ensures asked { IfSome result (λ took. HasAsked (J.table judge.old) (map T.shape tokens.now)
-        (J.count judge.old) took (J.place judge.new) (J.count judge.new)) }
+) -> u64
+    requires { CanAsk (J.table judge.old) (map T.shape tokens.now) word n alive
+        (J.place judge.old) (J.count judge.old) }
+    ensures taken { IsTakenWord (J.table judge.old) (map T.shape tokens.now) (63 * n)
+        (J.place judge.old) result }
+    ensures asked { WereAsked (J.table judge.old) (map T.shape tokens.now) (63 * n)
+        (word_end (map T.shape tokens.now) (63 * n)) (J.place judge.old) (J.count judge.old)
+        (J.count judge.new) }
+    ensures place { J.place judge.new ≡ J.place judge.old }
     ensures same { J.table judge.new ≡ J.table judge.old }
 {
-    if !judge.step() {
-        return None;
-    }
-    Some(judge.takes_each(0, alive & word.tokens))
+    judge.takes_each(n, alive & word.tokens)
 }
 
 /// Sets the words to the position set after the characters of the first `start` shapes, which took one each: as if the
-/// last of them had just taken its character.
+/// last of them had just taken its character. The words must be 0.
 #[inline(always)]
 fn set_start<T: Shaped>(
     tokens: &[T],
@@ -143,19 +156,28 @@ fn set_start<T: Shaped>(
     start: usize,
     opens: bool,
     alive: &mut [u64],
-)
+) -> Live
     requires words { AreShapeWords (map T.shape tokens.now) words.now }
     requires length { length alive.old ≡ length words.now }
+    requires none { IsLive alive.old (length alive.old) 0 0 }
     ensures length { length alive.new ≡ length alive.old }
+    ensures live { IsLive alive.new (length alive.new) result.low result.high }
     ensures alive { (table : Table)
         → IsTakenPrefix table (map T.shape tokens.now) start → opens ≡ table.opens start
         → AreAlive table (map T.shape tokens.now) start 0 (length alive.new) alive.new }
 {
     let mut whole = start == 0;
     for n in 0..alive.len() {
+        if !whole && start <= WORD * n {
+            return Live { low: 0, high: n };
+        }
         let word = words[n].step(last_before(start, WORD * n), opens, whole);
         alive[n] = word;
         whole = word >> WORD != 0;
+    }
+    Live {
+        low: 0,
+        high: alive.len(),
     }
 }
 
@@ -175,30 +197,89 @@ fn is_alive<T: Shaped>(tokens: &[T], alive: &[u64], position: usize) -> bool
     (alive[word] >> (position - WORD * word)) & 1 != 0
 }
 
-/// Steps the words after the first, which is of the judge's place already. Returns 0 if no position is alive.
+/// Steps the words to the judge's place, and returns those that are live there. Words in which nothing is alive are
+/// neither asked nor stepped, unless the word before them has come to its end.
 #[inline(always)]
-fn step_rest<T: Shaped, J: Judge>(
+fn step_words<T: Shaped, J: Judge>(
     tokens: &[T],
     words: &[ShapeWord],
     alive: &mut [u64],
-    opens: bool,
+    live: Live,
     judge: &mut J,
-) -> u64
-    requires { CanStepRest (J.table judge.old) (map T.shape tokens.now) words.now alive.old opens
-        (J.place judge.old) (J.count judge.old) }
-    ensures rest { HasSteppedRest (J.table judge.old) (map T.shape tokens.now) alive.old alive.new
-        result (J.place judge.old) (J.count judge.old) (J.count judge.new) }
+) -> Live
+    requires { CanStep (J.table judge.old) (map T.shape tokens.now) words.now alive.old
+        live.low live.high (J.place judge.old) (J.count judge.old) }
+    ensures stepped { HasStepped (J.table judge.old) (map T.shape tokens.now) alive.old alive.new
+        (J.place judge.old) (J.count judge.old) (J.count judge.new) }
+    ensures live { IsLive alive.new (length alive.new) result.low result.high }
     ensures place { J.place judge.new ≡ J.place judge.old }
     ensures same { J.table judge.new ≡ J.table judge.old }
 {
-    let mut last = alive[0];
-    let mut any = last;
-    for n in 1..alive.len() {
-        let word = words[n];
-        let took = judge.takes_each(n, alive[n] & word.tokens);
-        last = word.step(took, opens, last >> WORD != 0);
-        alive[n] = last;
-        any |= last;
+    let opens = judge.opens();
+    let mut next = Live {
+        low: alive.len(),
+        high: 0,
+    };
+    let mut whole = false;
+    for n in live.low..alive.len() {
+        if !whole && live.high <= n {
+            return next;
+        }
+        let word = step_word(tokens, words[n], n, alive[n], opens, whole, judge);
+        alive[n] = word;
+        next = next.with(n, word);
+        whole = word >> WORD != 0;
     }
-    any
+    next
+}
+
+/// What is alive in word `n` after the character last stepped over. `opens` and `whole` are as in [`ShapeWord::step`].
+#[inline(always)]
+fn step_word<T: Shaped, J: Judge>(
+    tokens: &[T],
+    word: ShapeWord,
+    n: usize,
+    alive: u64,
+    opens: bool,
+    whole: bool,
+    judge: &mut J,
+) -> u64
+    requires ready { CanAsk (J.table judge.old) (map T.shape tokens.now) word n alive
+        (J.place judge.old) (J.count judge.old) }
+    requires opens { opens ≡ (J.table judge.old).opens (J.place judge.old) }
+    requires whole { IsTrue whole
+        ↔ PrefixSplits (J.table judge.old) (map T.shape tokens.now) (63 * n) (J.place judge.old) }
+    ensures alive { IsAliveWord (J.table judge.old) (map T.shape tokens.now) (63 * n)
+        (J.place judge.old) result }
+    ensures asked { WereAsked (J.table judge.old) (map T.shape tokens.now) (63 * n)
+        (word_end (map T.shape tokens.now) (63 * n)) (J.place judge.old) (J.count judge.old)
+        (J.count judge.new) }
+    ensures place { J.place judge.new ≡ J.place judge.old }
+    ensures same { J.table judge.new ≡ J.table judge.old }
+{
+    if alive == 0 && !whole {
+        return 0;
+    }
+    let took = ask(tokens, word, n, alive, judge);
+    word.step(took, opens, whole)
+}
+
+impl Live {
+    /// These words and number `n`, unless that is 0.
+    #[inline(always)]
+    fn with(self, n: usize, word: u64) -> Self
+        requires { n + 1 < 2 ^ 64 }
+        ensures { (words : List ℕ) → n < length words → slice_index words n ≡ word
+            → IsLive words n self.low self.high
+            → IsLive words (n + 1) result.low result.high }
+    {
+        if word == 0 {
+            self
+        } else {
+            Live {
+                low: self.low.min(n),
+                high: n + 1,
+            }
+        }
+    }
 }

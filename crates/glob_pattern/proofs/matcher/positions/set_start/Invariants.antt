@@ -1,4 +1,4 @@
-use Rattle.std.proofs.Common.{◌≡◌, ◌*◌, ◌≤◌, ◌↔◌, length, IsTrue, map}
+use Rattle.std.proofs.Common.{◌≡◌, ℕ, ◌*◌, ◌<◌, ◌≤◌, ◌↔◌, length, slice_index, IsTrue, map}
 use Rattle.glob_pattern.specs.Matching.Splits.{Table}
 use Rattle.glob_pattern.specs.Private.Prefixes.{PrefixSplits, IsTakenPrefix}
 use Rattle.glob_pattern.specs.Private.Positions.{AreAlive}
@@ -7,6 +7,7 @@ use Rattle.glob_pattern.proofs.matcher.positions.set_start.Given as goal
 abbrev pub invariant-loop-n : goal.invariant-loop-n
 invariant-loop-n g l = record {
   count : length l.alive ≡ length l.fn.alive;
+  zeros : (i : ℕ) → l.n ≤ i → i < length l.alive → slice_index l.alive i ≡ 0;
   done : (table : Table) → IsTakenPrefix table (map g.T.Shaped.shape l.tokens) l.start → l.opens ≡ table.opens l.start → AreAlive table (map g.T.Shaped.shape l.tokens) l.start 0 l.n l.alive;
   whole : (table : Table) → IsTakenPrefix table (map g.T.Shaped.shape l.tokens) l.start → l.opens ≡ table.opens l.start → 63 * l.n ≤ length (map g.T.Shaped.shape l.tokens) → IsTrue l.whole ↔ PrefixSplits table (map g.T.Shaped.shape l.tokens) (63 * l.n) l.start;
 }

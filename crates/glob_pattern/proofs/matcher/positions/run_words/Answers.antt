@@ -1,0 +1,92 @@
+use Rattle.std.proofs.Common.{◌≡◌, ◌-◌, ◌∙◌, length, refl, sym, inr, arith, map}
+use Rattle.std.proofs.Math.Nat.{le_refl}
+use Rattle.glob_pattern.proofs.PositionLemmas.Running.{HasRun-stepped, HasRun-room, HasDecided-ended, HasDecided-dead}
+use Rattle.glob_pattern.proofs.matcher.positions.run_words.Goals as goal
+
+pub set_start-live-requires-clause-words : goal.set_start-live-requires-clause-words
+set_start-live-requires-clause-words g c = c.requires.ready.shaped
+
+pub loop-live-init : goal.loop-live-init
+loop-live-init g c =
+    let ready = c.requires.ready in
+    let start = c.set_start-live.ensures in
+    record {
+      count = start.length;
+      run = rw ready.place (record {
+        alive = start.alive (g.J.Judge.table c.args.judge.now) ready.reached (rw ready.place at c.opens.ensures);
+        within = ready.within;
+        most = le_refl _;
+        least = λ n le alive. le_refl _;
+        monotone = le_refl _;
+      });
+      live = start.live;
+      same = refl;
+    }
+
+pub step_words-live-requires : goal.step_words-live-requires
+step_words-live-requires g c =
+    let i = c.loop-live.invariant in
+    let ready = c.requires.ready in
+    let shapes = map g.T.Shaped.shape c.args.tokens.now in
+    let same = c.step.ensures.same ∙ i.same in
+    let (next, within) = rw same at (c.step.ensures.stepped c.if-not-step.false) in
+    let back : g.J.Judge.place c.step.new.self - 1 ≡ g.J.Judge.place c.loop-live.judge = omega (arith, next) in
+    let room = HasRun-room (g.J.Judge.table c.args.judge.now) shapes _ _ _ _ _ i.run (omega (arith, next, within)) ready.room in
+    rw same (record {
+      shaped = ready.shaped;
+      many = i.count ∙ c.requires.length;
+      stepped = omega (arith, next);
+      fits = ready.fits;
+      tokens = ready.tokens;
+      room = rw c.step.ensures.count room;
+      live = i.live;
+      before = rw back i.run.alive;
+    })
+
+pub loop-live-preserved : goal.loop-live-preserved
+loop-live-preserved g c =
+    let i = c.loop-live.invariant in
+    let T = g.J.Judge.table c.args.judge.now in
+    let shapes = map g.T.Shaped.shape c.args.tokens.now in
+    let same = c.step.ensures.same ∙ i.same in
+    let (next, within) = rw same at (c.step.ensures.stepped c.if-not-step.false) in
+    let s = rw (same, c.step.ensures.count) at c.step_words-live.ensures in
+    record {
+      count = s.stepped.many ∙ i.count;
+      run = rw s.place (HasRun-stepped T shapes _ _ _ _ c.loop-live.alive i.run _ _ c.step_words-live.new.alive next within s.stepped.asked s.stepped.alive);
+      live = s.live;
+      same = s.same;
+    }
+
+pub loop-live-smaller : goal.loop-live-smaller
+loop-live-smaller g c =
+    let (next, within) = rw (c.step.ensures.same ∙ c.loop-live.invariant.same) at (c.step.ensures.stepped c.if-not-step.false) in
+    omega (arith, next, within, c.step_words-live.ensures.place)
+
+pub is_alive-requires-clause-some : goal.is_alive-requires-clause-some
+is_alive-requires-clause-some g c = rw (c.loop-live.invariant.count, c.requires.length) c.requires.ready.shaped.some
+
+pub is_alive-requires-clause-all : goal.is_alive-requires-clause-all
+is_alive-requires-clause-all g c = rw (c.loop-live.invariant.count, c.requires.length) c.requires.ready.shaped.all
+
+pub is_alive-requires-clause-within : goal.is_alive-requires-clause-within
+is_alive-requires-clause-within g c = c.requires.ready.end
+
+pub is_alive-requires-clause-one : goal.is_alive-requires-clause-one
+is_alive-requires-clause-one g c = c.requires.ready.one
+
+pub returns-then-not-step-clause-decided : goal.returns-then-not-step-clause-decided
+returns-then-not-step-clause-decided g c =
+    let i = c.loop-live.invariant in
+    let T = g.J.Judge.table c.args.judge.now in
+    let (stays, ended) = c.step.ensures.ended c.if-not-step.true in
+    rw c.step.ensures.count
+    (HasDecided-ended T (map g.T.Shaped.shape c.args.tokens.now) c.args.span _ _ _ _ i.run c.requires.ready.end c.is_alive.result (sym (rw (c.step.ensures.same, i.same) at ended)) (c.is_alive.ensures T _ i.run.alive))
+
+pub returns-clause-decided : goal.returns-clause-decided
+returns-clause-decided g c =
+    let i = c.loop-live.invariant in
+    let ready = c.requires.ready in
+    let long : length c.loop-live.alive ≡ length c.args.words.now = i.count ∙ c.requires.length in
+    HasDecided-dead (g.J.Judge.table c.args.judge.now) (map g.T.Shaped.shape c.args.tokens.now) c.args.span _ _ _ _ i.run ready.end
+    (rw long ready.shaped.all) (rw long ready.shaped.some) (λ m lt. i.live.none m lt (inr (omega (arith, c.loop-live-test.false))))
