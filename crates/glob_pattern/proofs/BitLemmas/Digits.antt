@@ -1,5 +1,5 @@
 -- Which binary digits of a word are 1, after the operations on words.
-use Rattle.std.proofs.Common.{◌≡◌, ℕ, suc, ◌+◌, ◌-◌, ◌*◌, ◌/◌, ◌%◌, ◌^◌, ◌<◌, ◌≢◌, ◌⊎◌, ◌↔◌, min, max, Bool, true, false, not, nat_eq, IsTrue, bit_and, bit_or, bit_xor, refl, sym, ap, ◌∙◌, inl, inr, ⊎_elim, arith, add-zero}
+use Rattle.std.proofs.Common.{◌≡◌, ℕ, zero, suc, ◌+◌, ◌-◌, ◌*◌, ◌/◌, ◌%◌, ◌^◌, ◌<◌, ◌≢◌, ◌⊎◌, ◌↔◌, min, max, Bool, true, false, not, nat_eq, IsTrue, bit_and, bit_or, bit_xor, refl, sym, ap, ◌∙◌, inl, inr, ⊎_elim, arith, add-zero}
 use Rattle.std.specs.Int.{bit_at, bit_not, w64}
 use mir.Val.{bool_byte}
 use Rattle.std.proofs.lemmas.Bool.{cases_eq, false≢true, eqb-false, ne_eqb, not-true}
@@ -74,11 +74,23 @@ IsOne-spread_next word mask j =
     let one = max_set (bit_at word (suc j)) (min (bit_at mask j) (bit_at (spread word mask 0) j)) (bit_at-lt word (suc j)) (let a = bit_at-lt mask j in omega arith) in
     rw next (λ h. ⊎_elim inl (λ s. inr (both.0 s)) (one.0 h), λ h. one.1 (⊎_elim inl (λ s. inr (both.1 s)) h))
 
--- the low bit of a word that is moved up by one
+-- a word that is moved up by one
+bit_at-moved_low : (a : ℕ) → bit_at (a * 2 ^ 1 % 2 ^ 64) 0 ≡ 0
+bit_at-moved_low a = bit_at_lowest (a * 2 ^ 1 % 2 ^ 64) ∙ omega arith
+
+bit_at-moved_next : (a j : ℕ) → suc j < 64 → bit_at (a * 2 ^ 1 % 2 ^ 64) (suc j) ≡ bit_at a j
+bit_at-moved_next a j lt =
+    let half : a * 2 ^ 1 / 2 ≡ a = omega arith in
+    bit_at-word (a * 2 ^ 1) (suc j) lt ∙ bit_at-suc (a * 2 ^ 1) j ∙ ap (λ x. bit_at x j) half
+
+pub IsOne-moved : (a j : ℕ) → suc j < 64 → IsOne (a * 2 ^ 1 % 2 ^ 64) (suc j) ↔ IsOne a j
+IsOne-moved a j lt = let up = bit_at-moved_next a j lt in (λ h. sym up ∙ h, λ h. up ∙ h)
+
+-- its low bit, where one is added
 pub IsOne-moved_low : (a : ℕ) (low : Bool) → IsOne (bit_or (a * 2 ^ 1 % 2 ^ 64) (bool_byte low)) 0 ↔ IsTrue low
 IsOne-moved_low a low =
     let or = IsOne-or (a * 2 ^ 1 % 2 ^ 64) (bool_byte low) 0 in
-    let even : bit_at (a * 2 ^ 1 % 2 ^ 64) 0 ≡ 0 = bit_at_lowest (a * 2 ^ 1 % 2 ^ 64) ∙ omega arith in
+    let even = bit_at-moved_low a in
     (λ h. ⊎_elim (λ s. absurd (omega arith)) (low_set low) (or.0 h), λ t. or.1 (inr (set_low low t)))
   where
     low_set : (b : Bool) → IsOne (bool_byte b) 0 → IsTrue b
@@ -93,13 +105,34 @@ IsOne-moved_low a low =
 pub IsOne-moved_next : (a : ℕ) (low : Bool) (j : ℕ) → suc j < 64 → IsOne (bit_or (a * 2 ^ 1 % 2 ^ 64) (bool_byte low)) (suc j) ↔ IsOne a j
 IsOne-moved_next a low j lt =
     let or = IsOne-or (a * 2 ^ 1 % 2 ^ 64) (bool_byte low) (suc j) in
-    let half : a * 2 ^ 1 / 2 ≡ a = omega arith in
-    let up : bit_at (a * 2 ^ 1 % 2 ^ 64) (suc j) ≡ bit_at a j = bit_at-word (a * 2 ^ 1) (suc j) lt ∙ bit_at-suc (a * 2 ^ 1) j ∙ ap (λ x. bit_at x j) half in
+    let up = bit_at-moved_next a j lt in
     (λ h. ⊎_elim (λ s. omega arith) (λ s. absurd (only_low low s)) (or.0 h), λ s. or.1 (inl (omega arith)))
   where
     only_low : (b : Bool) → IsOne (bool_byte b) (suc j) → ⊥
     only_low true s = IsOne-zero j (sym (bit_at-suc 1 j) ∙ s)
     only_low false s = IsOne-zero (suc j) s
+
+-- Where no two ones of a mask are neighbours, bits spread over one of them at most: as if they were moved up by one.
+module _ (word mask : ℕ) (apart : (j : ℕ) → IsOne mask j → IsOne mask (suc j) → ⊥) where
+  spread_from : (j : ℕ) → IsOne mask j → IsOne (spread word mask 0) j → IsOne word j
+  spread_from zero m s = (IsOne-spread_low word mask).0 s
+  spread_from (suc j) m s = ⊎_elim (λ w. w) (λ (below, t). absurd (apart j below m)) ((IsOne-spread_next word mask j).0 s)
+
+  pub IsOne-flat : (j : ℕ) → j < 64 → IsOne (bit_or word (bit_and word mask * 2 ^ 1 % 2 ^ 64)) j ↔ IsOne (spread word mask 0) j
+  IsOne-flat zero lt =
+      let or = IsOne-or word (bit_and word mask * 2 ^ 1 % 2 ^ 64) 0 in
+      let none = bit_at-moved_low (bit_and word mask) in
+      let low = IsOne-spread_low word mask in
+      (λ h. ⊎_elim (λ w. low.1 w) (λ m. absurd (omega (arith, m, none))) (or.0 h), λ s. or.1 (inl (low.0 s)))
+  IsOne-flat (suc j) lt =
+      let or = IsOne-or word (bit_and word mask * 2 ^ 1 % 2 ^ 64) (suc j) in
+      let moved = IsOne-moved (bit_and word mask) j lt in
+      let and = IsOne-and word mask j in
+      let next = IsOne-spread_next word mask j in
+      let kept = IsOne-or word (bit_xor (bit_and word mask + mask + 0) mask) j in (
+        λ h. next.1 (⊎_elim inl (λ m. let (w, t) = and.0 (moved.0 m) in inr (t, kept.1 (inl w))) (or.0 h)),
+        λ s. or.1 (⊎_elim inl (λ (m, t). inr (moved.1 (and.1 (spread_from j m t, m)))) (next.0 s)),
+      )
 
 -- the bits that spread within a word
 pub IsOne-closed : (word mask j : ℕ) → j < 64 → IsOne (bit_or word (bit_xor ((bit_and word mask + mask) % 2 ^ 64) mask)) j ↔ IsOne (spread word mask 0) j

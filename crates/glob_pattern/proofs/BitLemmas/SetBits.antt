@@ -104,6 +104,12 @@ IsBitSet-moved_low a low = one_from _ (bit_or (a * 2 ^ 1 % 2 ^ 64) (bool_byte lo
 pub IsBitSet-moved_next : (a : ℕ) (low : Bool) (j : ℕ) → suc j < 64 → IsBitSet (bit_or (a * 2 ^ 1 % 2 ^ 64) (bool_byte low)) (suc j) ↔ IsBitSet a j
 IsBitSet-moved_next a low j lt = two_from (bit_or (a * 2 ^ 1 % 2 ^ 64) (bool_byte low)) a (suc j) j (digits.IsOne-moved_next a low j lt)
 
+-- where no two ones of the mask are neighbours
+pub IsBitSet-flat : (word mask : ℕ) → ((j : ℕ) → IsBitSet mask j → ¬ (IsBitSet mask (suc j))) → (j : ℕ) → j < 64 → IsBitSet (bit_or word (bit_and word mask * 2 ^ 1 % 2 ^ 64)) j ↔ IsBitSet (spread word mask 0) j
+IsBitSet-flat word mask apart j lt =
+    two_from (bit_or word (bit_and word mask * 2 ^ 1 % 2 ^ 64)) (spread word mask 0) j j
+    (digits.IsOne-flat word mask (λ i m n. apart i ((IsBitSet-iff_one mask i).1 m) ((IsBitSet-iff_one mask (suc i)).1 n)) j lt)
+
 -- the bits that spread within a word
 pub IsBitSet-closed : (word mask j : ℕ) → j < 64 → IsBitSet (bit_or word (bit_xor ((bit_and word mask + mask) % 2 ^ 64) mask)) j ↔ IsBitSet (spread word mask 0) j
 IsBitSet-closed word mask j lt = two_from (bit_or word (bit_xor ((bit_and word mask + mask) % 2 ^ 64) mask)) (spread word mask 0) j j (digits.IsOne-closed word mask j lt)
@@ -134,3 +140,9 @@ pub bit_below : (word j : ℕ) → word < 2 ^ 64 → IsBitSet word j → j < 64
 bit_below word j fits set =
     let one = (IsBitSet-iff_one word j).0 set in
     ⊎_elim (λ lt. lt) (λ le. let none = bit_at_above word 64 j fits le in absurd (omega (arith, one, none))) (cases_lt j 64)
+
+-- no two bits of a mask are neighbours if it has none in common with itself moved up by one
+pub IsBitSet-apart : (mask : ℕ) → mask < 2 ^ 64 → bit_and mask (mask * 2 ^ 1 % 2 ^ 64) ≡ 0 → (j : ℕ) → IsBitSet mask j → ¬ (IsBitSet mask (suc j))
+IsBitSet-apart mask fits none j set next =
+    let moved = two_from (mask * 2 ^ 1 % 2 ^ 64) mask (suc j) j (digits.IsOne-moved mask j (bit_below mask (suc j) fits next)) in
+    IsBitSet-zero (suc j) (rw none at ((IsBitSet-and mask (mask * 2 ^ 1 % 2 ^ 64) (suc j)).1 (next, moved.1 set)))

@@ -49,6 +49,11 @@ pub record IsTakenWord (table : Table) (shapes : List Shape) (start k word : ℕ
 pub record AreAlive (table : Table) (shapes : List Shape) (k low high : ℕ) (alive : List ℕ) : Type 0 where
   pub word : (i : ℕ) → low ≤ i → i < high → IsAliveWord table shapes (63 * i) k (slice_index alive i)
 
+-- pieces end anywhere, and no two wildcards are neighbours
+pub record IsFlat (word : ShapeWord) : Type 0 where
+  pub free : (j : ℕ) → ¬ (IsBitSet word.recursive j)
+  pub apart : (j : ℕ) → IsBitSet word.wildcards j → ¬ (IsBitSet word.wildcards (suc j))
+
 -- A step leads to the word `next` of any place k: `took` has the tokens that took the character before place k, `opens`
 -- says whether place k opens, and `whole` whether the shapes before `start` split the characters up to it.
 abbrev pub LeadsTo : ShapeWord → (took : ℕ) → (opens whole : Bool) → (next : ℕ) → Type 0

@@ -4,7 +4,7 @@
 ghost use Rattle.std.specs.Prelude.{◌≡◌, ℕ, ◌+◌, ◌-◌, ◌*◌, ◌^◌, ◌<◌, ◌≤◌, ◌↔◌, List, [], ◌∷◌, length, slice_index, slice_index_or, IsTrue, IsOk, IfOk, map};
 ghost use Rattle.glob_pattern.specs.Matching.Splits.{Table};
 ghost use Rattle.glob_pattern.specs.Private.Prefixes.{PrefixSplits, IsAlive, IsTakenPrefix};
-ghost use Rattle.glob_pattern.specs.Private.Positions.{word_end, AreShapeWords, IsAliveWord, IsTakenWord, AreAlive, IsLive, CanRun, HasDecided, CanAsk, WereAsked, CanStep, HasStepped};
+ghost use Rattle.glob_pattern.specs.Private.Positions.{word_end, AreShapeWords, IsAliveWord, IsTakenWord, AreAlive, IsFlat, IsLive, CanRun, HasDecided, CanAsk, WereAsked, CanStep, HasStepped};
 
 use super::shape_word::{ShapeWord, last_before};
 use super::{Judge, Shape, Shaped, WORD};
@@ -68,18 +68,41 @@ pub fn decide<A: Allocator + Copy, T: Shaped, J: Judge>(
     ensures short { length words.now ≡ 1 → IsOk result }
 {
     if words.len() == 1 {
-        Ok(run(tokens, words[0], span, judge))
+        Ok(run_word(tokens, words[0], span, judge))
     } else {
         let mut alive = vec![in alloc; 0; words.len()]?;
         Ok(run_words(tokens, words, alive.as_mut_slice(), span, judge))
     }
 }
 
-/// [`decide`] where there is one word.
+/// [`decide`] where there is one word. The two loops differ in their step alone.
 #[inline(always)]
-fn run<T: Shaped, J: Judge>(tokens: &[T], word: ShapeWord, span: Span, judge: &mut J) -> bool
+fn run_word<T: Shaped, J: Judge>(tokens: &[T], word: ShapeWord, span: Span, judge: &mut J) -> bool
+    requires { CanRun (J.table judge.old) (map T.shape tokens.now) (word ∷ []) span
+        (J.place judge.old) (J.count judge.old) }
+    ensures decided { HasDecided (J.table judge.old) (map T.shape tokens.now) span
+        (J.count judge.old) (J.count judge.new) result }
+    ensures same { J.table judge.new ≡ J.table judge.old }
+{
+    if word.is_flat() {
+        run(tokens, word, true, span, judge)
+    } else {
+        run(tokens, word, false, span, judge)
+    }
+}
+
+/// [`run_word`], by the step of flat shapes if these are `flat`.
+#[inline(always)]
+fn run<T: Shaped, J: Judge>(
+    tokens: &[T],
+    word: ShapeWord,
+    flat: bool,
+    span: Span,
+    judge: &mut J,
+) -> bool
     requires ready { CanRun (J.table judge.old) (map T.shape tokens.now) (word ∷ []) span
         (J.place judge.old) (J.count judge.old) }
+    requires flat { IsTrue flat → IsFlat word }
     ensures decided { HasDecided (J.table judge.old) (map T.shape tokens.now) span
         (J.count judge.old) (J.count judge.new) result }
     ensures same { J.table judge.new ≡ J.table judge.old }
@@ -93,7 +116,7 @@ fn run<T: Shaped, J: Judge>(tokens: &[T], word: ShapeWord, span: Span, judge: &m
             return is_alive(tokens, &[alive], span.end);
         }
         let took = ask(tokens, word, 0, alive, judge);
-        alive = word.step(took, judge.opens(), false);
+        alive = word.step_by(flat, took, judge.opens());
     }
     false
 }

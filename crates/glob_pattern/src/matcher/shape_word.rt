@@ -1,7 +1,7 @@
 //! The shapes of neighbouring tokens as bits, and one step of a position set over them.
-ghost use Rattle.std.specs.Prelude.{◌≡◌, ℕ, ◌+◌, ◌-◌, ◌<◌, ◌≤◌, ◌≢◌, ◌⊎◌, ◌↔◌, length, map, IsTrue, IfOk};
+ghost use Rattle.std.specs.Prelude.{◌≡◌, ℕ, ◌+◌, ◌-◌, ◌<◌, ◌≤◌, ◌≢◌, ◌⊎◌, ◌↔◌, false, length, map, IsTrue, IfOk};
 ghost use Rattle.std.specs.Int.{IsBitSet};
-ghost use Rattle.glob_pattern.specs.Private.Positions.{IsShapeWord, AreShapeWords, LeadsTo};
+ghost use Rattle.glob_pattern.specs.Private.Positions.{IsShapeWord, AreShapeWords, IsFlat, LeadsTo};
 
 use super::{Shape, Shaped, WORD};
 use std::alloc::{AllocError, Allocator};
@@ -91,6 +91,28 @@ impl ShapeWord {
         let sum = (begun & self.wildcards).wrapping_add(self.wildcards);
         let closed = begun | (sum ^ self.wildcards);
         (took & self.wildcards) | closed
+    }
+
+    /// Whether pieces end anywhere and no two wildcards are neighbours: so in `*a?b*`, but not in `**/*`.
+    pub fn is_flat(self) -> bool
+        ensures { IsTrue result → IsFlat self }
+    {
+        self.recursive == 0 && self.wildcards & (self.wildcards << 1) == 0
+    }
+
+    /// [`step`](Self::step) after the first character. If the shapes are `flat`, a piece that ends lets at most one
+    /// wildcard begin after it: a shift takes the place of the sum.
+    #[inline(always)]
+    pub fn step_by(self, flat: bool, took: u64, opens: bool) -> u64
+        requires { IsTrue flat → IsFlat self }
+        ensures { LeadsTo self took opens false result }
+    {
+        if !flat {
+            return self.step(took, opens, false);
+        }
+        let begun = took << 1;
+        let growing = took & self.wildcards;
+        growing | (begun | ((begun & self.wildcards) << 1))
     }
 
     /// The bit of the last token before number `end`, if its pieces may have any length and end anywhere.

@@ -54,9 +54,9 @@ loop-alive-preserved g c =
     let (next, within) = rw same at (c.step.ensures.stepped c.if-not-step.false) in
     let asked = rw (same, c.step.ensures.count) at c.ask-took.ensures in
     let all : word_end shapes 0 ≡ length shapes = omega (arith, ready.shaped.all) in
-    let says = c.step-alive-in-loop-alive.ensures T shapes 0 p (omega arith) (ready.shaped.word 0 c.args.word ready.shaped.some) asked.taken (rw (asked.place, asked.same) at c.opens-in-loop-alive.ensures) (whole-later T shapes p (omega (arith, next))) in
+    let says = c.step_by-alive.ensures T shapes 0 p (omega arith) (ready.shaped.word 0 c.args.word ready.shaped.some) asked.taken (rw (asked.place, asked.same) at c.opens-in-loop-alive.ensures) (whole-later T shapes p (omega (arith, next))) in
     record {
-      run = rw asked.place (HasRun-stepped T shapes _ _ _ _ _ i.run p _ (c.step-alive-in-loop-alive.result ∷ []) next within (rw all at asked.asked) (AreAlive-alone T shapes p c.step-alive-in-loop-alive.result says));
+      run = rw asked.place (HasRun-stepped T shapes _ _ _ _ _ i.run p _ (c.step_by-alive.result ∷ []) next within (rw all at asked.asked) (AreAlive-alone T shapes p c.step_by-alive.result says));
       same = asked.same;
     }
 

@@ -1,7 +1,7 @@
 use Rattle.std.proofs.Common.{◌≡◌, ℕ, ◌+◌, ◌-◌, ◌*◌, ◌<◌, ◌≤◌, ◌≢◌, ◌∙◌, false, IsTrue, length, min, get_or, set, refl, sym, inl, inr, ⊎_elim, arith, length-set, get_or-set_other, get_or-set_same, map}
 use Rattle.std.proofs.Math.Nat.{le_refl}
 use Rattle.std.proofs.lemmas.Bool.{cases_lt, false≢true}
-use Rattle.glob_pattern.specs.Private.Prefixes.{HasTaken}
+use Rattle.glob_pattern.specs.Private.Prefixes.{PrefixSplits, HasTaken}
 use Rattle.glob_pattern.specs.Private.Positions.{word_end, AreAlive}
 use Rattle.glob_pattern.proofs.PositionLemmas.Alive.{PrefixSplits-none, none_whole}
 use Rattle.glob_pattern.proofs.PositionLemmas.DeadWords.{none-taken_in_words, AreAlive-zeros, WereAsked-joined, WereAsked-none, IsLive-set}
@@ -32,7 +32,7 @@ loop-n-init g c =
       zeros = λ i from lt high. r.live.none i lt (inr high);
       next = record { within = le_refl (length alive); none = λ i lt out. zeros i (omega arith) lt };
       whole = λ fits. (
-        λ t. absurd (false≢true t),
+        λ t. absurd {A = PrefixSplits T shapes (63 * low) p} (false≢true t),
         λ whole. absurd {A = IsTrue false} (none_whole T shapes p 0 (63 * low) (omega arith) fits (PrefixSplits-none T shapes p r.stepped) (λ t a lt. taken t (omega arith) lt (omega (arith, lt, fits))) whole),
       );
       asked = WereAsked-none T shapes 0 (min (63 * low) (length shapes)) p (g.J.Judge.count c.args.judge.now) (λ t a lt. taken t (omega arith) (omega (arith, lt)) (omega (arith, lt)));
