@@ -1,5 +1,5 @@
 -- What a run over the position sets of a text needs and says.
-use Rattle.std.proofs.Common.{◌≡◌, ℕ, ◌-◌, ◌^◌, ◌<◌, ◌↔◌, Bool, IsTrue, List, length, map, take, chars, arith}
+use Rattle.std.proofs.Common.{◌≡◌, ℕ, ◌-◌, ◌^◌, ◌<◌, ◌↔◌, Bool, IsTrue, List, length, map, take, chars, refl, arith}
 use Rattle.std.proofs.lemmas.List.{length-map}
 use Rattle.std.specs.Int.{IsBitSet}
 use Rattle.std.specs.Str.{IsUtf8}
@@ -15,44 +15,42 @@ use Rattle.glob_pattern.specs.declared.matcher.shape_word.ShapeWord.{ShapeWord}
 use Rattle.glob_pattern.specs.declared.options.MatchOptions.{MatchOptions}
 use Rattle.glob_pattern.proofs.Counts.{length-chars, product_fits}
 use Rattle.glob_pattern.proofs.MatchingLemmas.PiecesAndSplits.{Splits-from_TokensMatch, TokensMatch-from_Splits}
-use Rattle.glob_pattern.proofs.MatchingLemmas.Trims.{trimmed-start, one-trimmed, length-trimmed}
+use Rattle.glob_pattern.proofs.MatchingLemmas.Trims.{one-trimmed}
 use Rattle.glob_pattern.proofs.PositionLemmas.Alive.{Splits-iff_alive}
 use Rattle.glob_pattern.proofs.PositionLemmas.Running.{CanRun-all}
 
--- between the characters that the ends decide
-pub CanRun-trimmed : (o : MatchOptions) (tokens : List Token) (bytes : List ℕ) (words : List ShapeWord) (span : Span) (end count : ℕ) → IsUtf8 bytes → IsTrim o tokens bytes span.start end
+-- before the characters that the ends decide
+pub CanRun-trimmed : (o : MatchOptions) (tokens : List Token) (bytes : List ℕ) (words : List ShapeWord) (span : Span) (start end count : ℕ) → IsUtf8 bytes → IsTrim o tokens bytes start end
     → AreShapeWords (map shape_of tokens) words → span.end ≡ length tokens - end
     → ((j : ℕ) → IsBitSet span.accepting j → TakesRest (table_of o tokens (chars (take (length bytes - end) bytes))) (map shape_of tokens) span.end j)
     → count ≡ 0 → length tokens < 2 ^ 64 → length (take (length bytes - end) bytes) < 2 ^ 64
-    → CanRun (table_of o tokens (chars (take (length bytes - end) bytes))) (map shape_of tokens) words span span.start count
+    → CanRun (table_of o tokens (chars (take (length bytes - end) bytes))) (map shape_of tokens) words span 0 count
 unfolding table_of
-CanRun-trimmed o tokens bytes words span end count utf8 trim shaped last accepting none few short =
+CanRun-trimmed o tokens bytes words span start end count utf8 trim shaped last accepting none few short =
     let many = length-map tokens shape_of in
     let front = chars (take (length bytes - end) bytes) in
-    let fits = product_fits (length (map shape_of tokens)) (length front - span.start) (omega (arith, many)) (omega (arith, length-chars (take (length bytes - end) bytes), short)) in
+    let fits = product_fits (length (map shape_of tokens)) (length front) (omega (arith, many)) (omega (arith, length-chars (take (length bytes - end) bytes), short)) in
     record {
       shaped = shaped;
       fits = omega (arith, many);
       tokens = omega (arith, many);
-      place = cc;
-      within = length-trimmed o tokens bytes span.start end utf8 trim;
-      reached = trimmed-start o tokens bytes span.start end utf8 trim;
+      place = refl;
       end = omega (arith, many, last);
-      one = rw last (one-trimmed o tokens bytes span.start end utf8 trim);
+      one = rw last (one-trimmed o tokens bytes start end utf8 trim);
       accepting = accepting;
       room = omega (arith, none, fits);
     }
 
 -- over a whole text
-pub CanRun-text : (o : MatchOptions) (tokens : List Token) (bytes : List ℕ) (words : List ShapeWord) (span : Span) (k count : ℕ)
-    → AreShapeWords (map shape_of tokens) words → span.start ≡ 0 → span.end ≡ length (map shape_of tokens) → span.accepting ≡ 0
-    → k ≡ 0 → count ≡ 0 → length tokens < 2 ^ 64 → length bytes < 2 ^ 64
-    → CanRun (table_of o tokens (chars bytes)) (map shape_of tokens) words span k count
+pub CanRun-text : (o : MatchOptions) (tokens : List Token) (bytes : List ℕ) (words : List ShapeWord) (span : Span)
+    → AreShapeWords (map shape_of tokens) words → span.end ≡ length (map shape_of tokens) → span.accepting ≡ 0
+    → length tokens < 2 ^ 64 → length bytes < 2 ^ 64
+    → CanRun (table_of o tokens (chars bytes)) (map shape_of tokens) words span 0 0
 unfolding table_of
-CanRun-text o tokens bytes words span k count shaped start end accepting place none few short =
+CanRun-text o tokens bytes words span shaped end accepting few short =
     let many = length-map tokens shape_of in
     let fits = product_fits (length (map shape_of tokens)) (length (chars bytes)) (omega (arith, many)) (omega (arith, length-chars bytes, short)) in
-    CanRun-all (table_of o tokens (chars bytes)) (map shape_of tokens) words span k count shaped start end accepting (omega (arith, many)) (omega (arith, many)) place (omega (arith, none, fits))
+    CanRun-all (table_of o tokens (chars bytes)) (map shape_of tokens) words span 0 0 shaped end accepting (omega (arith, many)) (omega (arith, many)) refl (omega (arith, fits))
 
 -- its answer
 pub TokensMatch-by_run : {yes : Bool} (o : MatchOptions) (tokens : List Token) (text : Text) (end : ℕ) → end ≡ length (map shape_of tokens)

@@ -166,11 +166,11 @@ module _ (table : Table) (shapes : List Shape) where
   IsAlive-before n k le alive =
       ⊎_elim (PrefixSplits-before n k le) (λ (taken, grows). (n, le, taken.0)) ((IsAlive-step table shapes n (suc k)).0 alive)
 
-  -- As long as something is alive, each character is asked about: the count was `start` at place `from`, and the
-  -- character before place k + 1 raised it from `old` to `new`.
-  pub asked_more : (from start k next old new : ℕ) → next ≡ k + 1 → ((n : ℕ) → n ≤ length shapes → IsAlive table shapes n next → old < new)
-      → ((n : ℕ) → n ≤ length shapes → IsAlive table shapes n k → start + k ≤ old + from) → (n : ℕ) → n ≤ length shapes → IsAlive table shapes n next → start + next ≤ new + from
-  asked_more from start k next old new at more before n le alive =
+  -- As long as something is alive, each character is asked about: that before place k + 1 raised the count from `old` to
+  -- `new`.
+  pub asked_more : (first k next old new : ℕ) → next ≡ k + 1 → ((n : ℕ) → n ≤ length shapes → IsAlive table shapes n next → old < new)
+      → ((n : ℕ) → n ≤ length shapes → IsAlive table shapes n k → first + k ≤ old) → (n : ℕ) → n ≤ length shapes → IsAlive table shapes n next → first + next ≤ new
+  asked_more first k next old new at more before n le alive =
       let (m, within, was) = IsAlive-before n k le (rw (at, add-one) at alive) in
       omega (arith, more n le alive, before m within was)
 
@@ -193,3 +193,8 @@ module _ (table : Table) (shapes : List Shape) where
       (λ (t, ends). taken n before (omega arith) t)
       (step.0 h))
       (cases_eq m (suc n))
+
+  -- before the first character no token has taken one
+  pub HasTaken-none : (n : ℕ) → ¬ (HasTaken table shapes n 0)
+  unfolding HasTaken
+  HasTaken-none n taken = taken

@@ -1,5 +1,5 @@
 -- A run over a position set: at its start, after a character, and where a wildcard takes the rest.
-use Rattle.std.proofs.Common.{◌≡◌, ℕ, zero, suc, ◌+◌, ◌-◌, ◌*◌, ◌^◌, ◌<◌, ◌≤◌, ◌≢◌, ◌↔◌, ◌∙◌, Bool, false, true, IsTrue, List, [], ◌∷◌, length, get_or, drop, bit_and, refl, sym, subst, inl, ⊎_elim, arith, zero-add}
+use Rattle.std.proofs.Common.{◌≡◌, ℕ, zero, suc, ◌+◌, ◌-◌, ◌*◌, ◌^◌, ◌<◌, ◌≤◌, ◌≢◌, ◌↔◌, Bool, false, true, IsTrue, List, [], ◌∷◌, length, get_or, drop, bit_and, refl, sym, subst, inl, ⊎_elim, arith, zero-add}
 use Rattle.std.proofs.Math.Nat.{le_refl, le_trans, le-add_right}
 use Rattle.std.specs.Int.{IsBitSet}
 use Rattle.std.proofs.lemmas.Bool.{cases_eq, false≢true}
@@ -10,7 +10,7 @@ use Rattle.glob_pattern.specs.Private.Prefixes.{PrefixSplits, IsAlive, HasTaken}
 use Rattle.glob_pattern.specs.Private.Positions.{IsShapeWord, AreShapeWords, AreAlive, TakesRest, CanRun, WereAsked, HasRun, HasDecided}
 use Rattle.glob_pattern.proofs.Counts.{mul-left, room-after}
 use Rattle.glob_pattern.proofs.PositionLemmas.Alive.{ComesAlive, IsAlive-step, asked_more}
-use Rattle.glob_pattern.proofs.PositionLemmas.TakenPrefixes.{IsDead-from_none, IsTakenPrefix-start}
+use Rattle.glob_pattern.proofs.PositionLemmas.TakenPrefixes.{IsDead-from_none}
 use Rattle.glob_pattern.proofs.PositionLemmas.Words.{none-at_end}
 use Rattle.glob_pattern.proofs.BitLemmas.LowestBits.{lowest_set}
 use Rattle.glob_pattern.proofs.BitLemmas.SetBits.{IsBitSet-zero, IsBitSet-and}
@@ -27,10 +27,10 @@ asked-for_alive table shapes (suc k) asked later none n le alive =
     ⊎_elim (λ e. absurd ((IsDead-from_none table shapes k (none e)).none n le alive)) (λ ne. omega arith) (cases_eq asked 0)
 
 module _ (table : Table) (shapes : List Shape) where
-  module _ (from first k count : ℕ) (alive : List ℕ) (run : HasRun table shapes from first k count alive) where
+  module _ (first k count : ℕ) (alive : List ℕ) (run : HasRun table shapes first k count alive) where
     -- after the questions about a character
     pub HasRun-stepped : (p after : ℕ) (moved : List ℕ) → p ≡ k + 1 → p ≤ table.characters → WereAsked table shapes 0 (length shapes) p count after
-        → AreAlive table shapes p 0 (length moved) moved → HasRun table shapes from first p after moved
+        → AreAlive table shapes p 0 (length moved) moved → HasRun table shapes first p after moved
     HasRun-stepped p after moved next within asked says =
         let back : p - 1 ≡ k = omega (arith, next) in
         let left = room-after (length shapes) table.characters p (after - count) count after (omega (arith, next)) within (omega (arith, asked.most)) (omega (arith, asked.monotone)) in
@@ -39,12 +39,12 @@ module _ (table : Table) (shapes : List Shape) where
           alive = says;
           within = within;
           most = omega (arith, rw back at left, run.most);
-          least = asked_more table shapes from first k p count after next (λ m le_m here. omega (arith, some m le_m here)) run.least;
+          least = asked_more table shapes first k p count after next (λ m le_m here. omega (arith, some m le_m here)) run.least;
           monotone = omega (arith, run.monotone, asked.monotone);
         }
 
     -- there is room for the questions about one character more
-    pub HasRun-room : k < table.characters → first + length shapes * (table.characters - from) < 2 ^ 128 → count + length shapes < 2 ^ 128
+    pub HasRun-room : k < table.characters → first + length shapes * table.characters < 2 ^ 128 → count + length shapes < 2 ^ 128
     HasRun-room more room =
         let left = mul-left (length shapes) table.characters k (omega (arith, more)) in
         omega (arith, left, run.most, room)
@@ -62,7 +62,7 @@ module _ (table : Table) (shapes : List Shape) where
       reach Run is ne = omega arith
       reach Deep is ne = (omega arith, inl (let all : length shapes ≤ suc n = omega (arith, rest.ends is, rest.last) in rw drop_all refl))
 
-module _ (table : Table) (shapes : List Shape) (span : Span) (first k count : ℕ) (alive : List ℕ) (run : HasRun table shapes span.start first k count alive) (within : span.end ≤ length shapes) where
+module _ (table : Table) (shapes : List Shape) (span : Span) (first k count : ℕ) (alive : List ℕ) (run : HasRun table shapes first k count alive) (within : span.end ≤ length shapes) where
   -- a run that has stepped over all characters
   pub HasDecided-ended : (found : Bool) → k ≡ table.characters → IsTrue found ↔ IsAlive table shapes span.end k → HasDecided table shapes span first count found
   HasDecided-ended found all answer = record {
@@ -111,21 +111,27 @@ one-word shapes word few is = record {
   word = λ i d lt. let e : i ≡ 0 = omega arith in subst (λ m. IsShapeWord shapes (63 * m) (get_or (word ∷ []) m d)) (sym e) is;
 }
 
--- a run over all shapes from the start
+-- a run over all shapes
 pub CanRun-all : (table : Table) (shapes : List Shape) (words : List ShapeWord) (span : Span) (k count : ℕ) → AreShapeWords shapes words
-    → span.start ≡ 0 → span.end ≡ length shapes → span.accepting ≡ 0 → length shapes < 2 ^ 64 → length shapes ≤ table.tokens → k ≡ 0 → count + length shapes * table.characters < 2 ^ 128
+    → span.end ≡ length shapes → span.accepting ≡ 0 → length shapes < 2 ^ 64 → length shapes ≤ table.tokens → k ≡ 0 → count + length shapes * table.characters < 2 ^ 128
     → CanRun table shapes words span k count
-CanRun-all table shapes words span k count shaped start end accepting fits tokens place room =
-    let left : table.characters - span.start ≡ table.characters = omega arith in
-    record {
-      shaped = shaped;
-      fits = fits;
-      tokens = tokens;
-      place = place ∙ sym start;
-      within = omega arith;
-      reached = rw start (IsTakenPrefix-start table shapes);
-      end = omega arith;
-      one = get_or_past shapes span.end One (omega arith);
-      accepting = λ j set. absurd (IsBitSet-zero j (rw accepting at set));
-      room = rw left room;
-    }
+CanRun-all table shapes words span k count shaped end accepting fits tokens place room = record {
+  shaped = shaped;
+  fits = fits;
+  tokens = tokens;
+  place = place;
+  end = omega (arith, end);
+  one = get_or_past shapes span.end One (omega (arith, end));
+  accepting = λ j set. absurd (IsBitSet-zero j (rw accepting at set));
+  room = room;
+}
+
+-- before the first character
+pub HasRun-start : (table : Table) (shapes : List Shape) (first k : ℕ) (alive : List ℕ) → k ≡ 0 → AreAlive table shapes 0 0 (length alive) alive → HasRun table shapes first k first alive
+HasRun-start table shapes first k alive start says = record {
+  alive = rw start says;
+  within = omega (arith, start);
+  most = let all : table.characters - k ≡ table.characters = omega (arith, start) in rw all (le_refl _);
+  least = λ n le here. omega (arith, start);
+  monotone = le_refl _;
+}

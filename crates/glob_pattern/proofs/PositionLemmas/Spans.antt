@@ -3,7 +3,7 @@ use Rattle.std.proofs.Common.{◌≡◌, ℕ, zero, suc, ◌<◌, ◌≤◌, ◌
 use Rattle.std.proofs.lemmas.Bool.{and_parts, and_from, lt-ltb, ltb-true}
 use Rattle.glob_pattern.specs.Matching.Splits.{Table, MayReach, TakesAll}
 use Rattle.glob_pattern.specs.Private.Positions.{CanRun}
-use Rattle.glob_pattern.specs.Private.Prefixes.{PrefixSplits, IsAlive, HasTaken, IsTakenPrefix}
+use Rattle.glob_pattern.specs.Private.Prefixes.{PrefixSplits, IsAlive}
 use Rattle.glob_pattern.specs.Private.Spans.{table_before}
 use Rattle.glob_pattern.specs.declared.matcher.Shape.{Shape}
 use Rattle.glob_pattern.specs.declared.matcher.Shape.TheVariants.{One, Run, Deep}
@@ -54,42 +54,14 @@ module _ (table : Table) (shapes : List Shape) (end : ℕ) where
       let same = PrefixSplits-before end k (omega arith) in
       (λ a. before.1 (same.0 (whole.0 a)), λ a. whole.1 (same.1 (before.0 a)))
 
-  -- and their tokens have taken the same characters
-  HasTaken-before : (n k : ℕ) → n < end → HasTaken table shapes n k ↔ HasTaken (table_before table end) shapes n k
-  unfolding HasTaken
-  HasTaken-before n zero lt = (λ h. h, λ h. h)
-  HasTaken-before n (suc k) lt = (
-    λ (alive, t). ((IsAlive-before n k lt).0 alive, (taken_before n k lt).0 t),
-    λ (alive, t). ((IsAlive-before n k lt).1 alive, (taken_before n k lt).1 t),
-  )
-
-  HasTaken-end : (n k : ℕ) → HasTaken (table_before table end) shapes n k → n < end
-  unfolding HasTaken
-  HasTaken-end n zero none = absurd none
-  HasTaken-end n (suc k) (alive, t) = none_from n k t
-
-  IsTakenPrefix-before : (n : ℕ) → n ≤ end → IsTakenPrefix table shapes n → IsTakenPrefix (table_before table end) shapes n
-  IsTakenPrefix-before n le reached = record {
-    within = reached.within;
-    ones = reached.ones;
-    taken = record {
-      last = λ m lt. (
-        λ t. (reached.taken.last m lt).0 ((HasTaken-before m n (HasTaken-end m n t)).1 t),
-        λ e. (HasTaken-before m n (omega arith)).0 ((reached.taken.last m lt).1 e),
-      );
-    };
-  }
-
 -- a run over a span needs the tokens before its end alone
-pub CanRun-before : (table : Table) (shapes : List Shape) (words : List ShapeWord) (span : Span) (k count : ℕ) → span.start ≤ span.end
+pub CanRun-before : (table : Table) (shapes : List Shape) (words : List ShapeWord) (span : Span) (k count : ℕ)
     → CanRun table shapes words span k count → CanRun (table_before table span.end) shapes words span k count
-CanRun-before table shapes words span k count order can = record {
+CanRun-before table shapes words span k count can = record {
   shaped = can.shaped;
   fits = can.fits;
   tokens = can.tokens;
   place = can.place;
-  within = can.within;
-  reached = IsTakenPrefix-before table shapes span.end span.start order can.reached;
   end = can.end;
   one = can.one;
   accepting = λ j set. let rest = can.accepting j set in record {

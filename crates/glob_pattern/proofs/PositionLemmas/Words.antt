@@ -6,10 +6,10 @@ use Rattle.std.proofs.lemmas.Bool.{cases_eq, cases_lt, eqb-true, eq-eqb, eqb-fal
 use Rattle.std.proofs.lemmas.Nat.{zero_from_ones}
 use Rattle.std.proofs.lemmas.List.{get_or_past}
 use Rattle.glob_pattern.specs.Matching.Splits.{Table}
-use Rattle.glob_pattern.specs.Private.Prefixes.{PrefixSplits, IsAlive, HasTaken, IsTakenPrefix}
+use Rattle.glob_pattern.specs.Private.Prefixes.{PrefixSplits, IsAlive, HasTaken}
 use Rattle.std.specs.Int.{IsBitSet}
 use Rattle.glob_pattern.specs.Private.Positions.{word_end, IsShapeWord, IsAliveWord, IsTakenWord, AreAlive}
-use Rattle.glob_pattern.proofs.PositionLemmas.Alive.{MayEnd, ComesAlive, ComesWhole, IsAlive-step, PrefixSplits-step}
+use Rattle.glob_pattern.proofs.PositionLemmas.Alive.{MayEnd, ComesAlive, ComesWhole, IsAlive-step, PrefixSplits-step, HasTaken-none}
 use Rattle.glob_pattern.proofs.PositionLemmas.TakenPrefixes.{IsDead-later}
 use Rattle.glob_pattern.proofs.PositionLemmas.Spreading.{spread}
 use Rattle.glob_pattern.proofs.BitLemmas.SetBits.{IsBitSet-cases, IsBitSet-or, IsBitSet-and, IsBitSet-zero, IsBitSet-spread_low, IsBitSet-spread_next, IsBitSet-moved_low, IsBitSet-moved_next, bit_below, highest_set}
@@ -166,15 +166,9 @@ module _ (table : Table) (shapes : List Shape) (k n : ℕ) (alive : List ℕ) wh
         λ w. rw (ne_eqb (last / 2 ^ 63) 0 (high.1 (bit.1 (rw end w)))) cc,
       )
 
--- the tokens of leading shapes that took a character each
-pub IsTakenWord-prefix : (table : Table) (shapes : List Shape) (start n word : ℕ) → IsTakenPrefix table shapes n
-    → ((j : ℕ) → j < 64 → IsBitSet word j ↔ (start + j + 1 ≡ n)) → IsTakenWord table shapes start n word
-IsTakenWord-prefix table shapes start n word reached bits = record {
-  taken = λ j within.
-      let bit = bits j (omega arith) in
-      let last = reached.taken.last (start + j) (omega arith) in
-      (λ s. last.1 (bit.0 s), λ t. bit.1 (last.0 t));
-}
+-- before the first character no token has taken one
+pub IsTakenWord-none : (table : Table) (shapes : List Shape) (start : ℕ) → IsTakenWord table shapes start 0 0
+IsTakenWord-none table shapes start = record { taken = λ j within. (λ set. absurd (IsBitSet-zero j set), λ taken. absurd (HasTaken-none table shapes (start + j) taken)) }
 
 module _ (table : Table) (shapes : List Shape) (k : ℕ) (alive : List ℕ) (says : AreAlive table shapes k 0 (length alive) alive) where
   -- a bit says whether its position is alive, where no longer piece may begin

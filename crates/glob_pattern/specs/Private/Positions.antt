@@ -3,7 +3,7 @@
 use Rattle.std.specs.Prelude.{◌≡◌, ℕ, suc, ◌+◌, ◌-◌, ◌*◌, ◌^◌, ◌<◌, ◌≤◌, ◌≢◌, ◌⊎◌, ◌↔◌, Bool, List, length, min, slice_index, slice_index_or, IsTrue}
 use Rattle.std.specs.Int.{IsBitSet}
 use Rattle.glob_pattern.specs.Matching.Splits.{Table, TakesAll}
-use Rattle.glob_pattern.specs.Private.Prefixes.{PrefixSplits, IsAlive, HasTaken, IsTakenPrefix, IsAskedSince}
+use Rattle.glob_pattern.specs.Private.Prefixes.{PrefixSplits, IsAlive, HasTaken, AreAllAsked}
 use Rattle.glob_pattern.specs.declared.matcher.Shape.{Shape}
 use Rattle.glob_pattern.specs.declared.matcher.Shape.TheVariants.{One, Deep}
 use Rattle.glob_pattern.specs.declared.matcher.positions.Span.{Span}
@@ -77,21 +77,19 @@ pub record CanRun (table : Table) (shapes : List Shape) (words : List ShapeWord)
   pub shaped : AreShapeWords shapes words
   pub fits : length shapes < 2 ^ 64
   pub tokens : length shapes ≤ table.tokens
-  pub place : k ≡ span.start
-  pub within : span.start ≤ table.characters
-  pub reached : IsTakenPrefix table shapes span.start
+  pub place : k ≡ 0
   pub end : span.end ≤ length shapes
   pub one : slice_index_or shapes span.end One ≡ One
   pub accepting : (j : ℕ) → IsBitSet span.accepting j → TakesRest table shapes span.end j
-  pub room : count + length shapes * (table.characters - span.start) < 2 ^ 128
+  pub room : count + length shapes * table.characters < 2 ^ 128
 
--- A run that began at place `from`, when `first` questions were asked, is at place k after `count` questions, where the
--- words say what is alive.
-pub record HasRun (table : Table) (shapes : List Shape) (from first k count : ℕ) (words : List ℕ) : Type 0 where
+-- A run that began when `first` questions were asked is at place k after `count` questions, where the words say what is
+-- alive.
+pub record HasRun (table : Table) (shapes : List Shape) (first k count : ℕ) (words : List ℕ) : Type 0 where
   pub alive : AreAlive table shapes k 0 (length words) words
   pub within : k ≤ table.characters
-  pub most : count + length shapes * (table.characters - k) ≤ first + length shapes * (table.characters - from)
-  pub least : IsAskedSince table shapes first from k count
+  pub most : count + length shapes * (table.characters - k) ≤ first + length shapes * table.characters
+  pub least : AreAllAsked table shapes first k count
   pub monotone : first ≤ count
 
 -- Tokens were asked about the character before place k, those from number `start` up to `end`, after `before` questions:
@@ -138,6 +136,6 @@ pub record HasStepped (table : Table) (shapes : List Shape) (before after : List
 -- before the span's end split all characters.
 pub record HasDecided (table : Table) (shapes : List Shape) (span : Span) (first count : ℕ) (yes : Bool) : Type 0 where
   pub answer : IsTrue yes ↔ IsAlive table shapes span.end table.characters
-  pub most : count ≤ first + length shapes * (table.characters - span.start)
-  pub least : IsTrue yes → span.accepting ≡ 0 → first + table.characters ≤ count + span.start
+  pub most : count ≤ first + length shapes * table.characters
+  pub least : IsTrue yes → span.accepting ≡ 0 → first + table.characters ≤ count
   pub monotone : first ≤ count

@@ -34,7 +34,7 @@ pub record IsTakenPrefix (table : Table) (shapes : List Shape) (n : ℕ) : Type 
   pub ones : (j : ℕ) → j < n → slice_index_or shapes j One ≡ One
   pub taken : TakenByLast table shapes n
 
--- Where something is alive at place k, each character since place `from` was asked about: the count was `start` there.
-abbrev pub IsAskedSince : Table → List Shape → (start from k count : ℕ) → Type 0
-IsAskedSince table shapes start from k count =
-    (n : ℕ) → n ≤ length shapes → IsAlive table shapes n k → start + k ≤ count + from
+-- where something is alive at place k, each character before it was asked about since the count was `first`
+abbrev pub AreAllAsked : Table → List Shape → (first k count : ℕ) → Type 0
+AreAllAsked table shapes first k count =
+    (n : ℕ) → n ≤ length shapes → IsAlive table shapes n k → first + k ≤ count

@@ -1,20 +1,18 @@
 //! A bit-parallel automaton (NFA). Its states are positions: which numbers of leading tokens may have split the
 //! characters so far. Bit n of a word is set where the tokens before the word's nth are done, or the nth has begun and
 //! may go on. A character moves all positions at once.
-ghost use Rattle.std.specs.Prelude.{◌≡◌, ℕ, ◌+◌, ◌-◌, ◌*◌, ◌^◌, ◌<◌, ◌≤◌, ◌↔◌, List, [], ◌∷◌, length, slice_index, slice_index_or, IsTrue, IsOk, IfOk, map};
+ghost use Rattle.std.specs.Prelude.{◌≡◌, ℕ, ◌+◌, ◌*◌, ◌^◌, ◌<◌, ◌≤◌, ◌↔◌, List, [], ◌∷◌, length, slice_index, slice_index_or, IsTrue, IsOk, IfOk, map};
 ghost use Rattle.glob_pattern.specs.Matching.Splits.{Table};
-ghost use Rattle.glob_pattern.specs.Private.Prefixes.{PrefixSplits, IsAlive, IsTakenPrefix};
+ghost use Rattle.glob_pattern.specs.Private.Prefixes.{PrefixSplits, IsAlive};
 ghost use Rattle.glob_pattern.specs.Private.Positions.{word_end, AreShapeWords, IsAliveWord, IsTakenWord, AreAlive, IsFlat, IsLive, CanRun, HasDecided, CanAsk, WereAsked, CanStep, HasStepped};
 
-use super::shape_word::{ShapeWord, last_before};
+use super::shape_word::ShapeWord;
 use super::{Judge, Shape, Shaped, WORD};
 use std::alloc::{AllocError, Allocator};
 
 /// Which part of the shapes a run goes over.
 #[derive(Clone, Copy)]
 pub struct Span {
-    /// How many leading shapes have a character each behind the judge.
-    pub start: usize,
     /// How many leading shapes have to split all characters.
     pub end: usize,
     /// Positions of the first word. Once one is alive, the last shape before `end` takes all further characters.
@@ -31,12 +29,10 @@ struct Live {
 impl Span {
     /// So many shapes, from the first on.
     pub fn all(count: usize) -> Self
-        ensures start { result.start ≡ 0 }
         ensures end { result.end ≡ count }
         ensures accepting { result.accepting ≡ 0 }
     {
         Span {
-            start: 0,
             end: count,
             accepting: 0,
         }
@@ -60,9 +56,9 @@ pub fn decide<A: Allocator + Copy, T: Shaped, J: Judge>(
         span.end (J.table judge.old).characters) }
     ensures most { J.count judge.new
         ≤ J.count judge.old
-        + length (map T.shape tokens.now) * ((J.table judge.old).characters - span.start) }
+        + length (map T.shape tokens.now) * (J.table judge.old).characters }
     ensures least { IfOk result (λ yes. IsTrue yes → span.accepting ≡ 0
-        → J.count judge.old + (J.table judge.old).characters ≤ J.count judge.new + span.start) }
+        → J.count judge.old + (J.table judge.old).characters ≤ J.count judge.new) }
     ensures monotone { J.count judge.old ≤ J.count judge.new }
     ensures same { J.table judge.new ≡ J.table judge.old }
     ensures short { length words.now ≡ 1 → IsOk result }
@@ -107,7 +103,7 @@ fn run<T: Shaped, J: Judge>(
         (J.count judge.old) (J.count judge.new) result }
     ensures same { J.table judge.new ≡ J.table judge.old }
 {
-    let mut alive = word.step(last_before(span.start, 0), judge.opens(), span.start == 0);
+    let mut alive = word.step(0, judge.opens(), true);
     while alive != 0 {
         if alive & span.accepting != 0 {
             return true;
@@ -138,7 +134,7 @@ fn run_words<T: Shaped, J: Judge>(
         (J.count judge.old) (J.count judge.new) result }
     ensures same { J.table judge.new ≡ J.table judge.old }
 {
-    let mut live = set_start(tokens, words, span.start, judge.opens(), alive);
+    let mut live = set_start(tokens, words, judge.opens(), alive);
     while live.high != 0 {
         if !judge.step() {
             return is_alive(tokens, alive, span.end);
@@ -170,31 +166,23 @@ fn ask<T: Shaped, J: Judge>(
     judge.takes_each(n, alive & word.tokens)
 }
 
-/// Sets the words to the position set after the characters of the first `start` shapes, which took one each: as if the
-/// last of them had just taken its character. The words must be 0.
+/// Sets the words, which must be 0, to the position set before the first character.
 #[inline(always)]
-fn set_start<T: Shaped>(
-    tokens: &[T],
-    words: &[ShapeWord],
-    start: usize,
-    opens: bool,
-    alive: &mut [u64],
-) -> Live
+fn set_start<T: Shaped>(tokens: &[T], words: &[ShapeWord], opens: bool, alive: &mut [u64]) -> Live
     requires words { AreShapeWords (map T.shape tokens.now) words.now }
     requires length { length alive.old ≡ length words.now }
     requires none { IsLive alive.old (length alive.old) 0 0 }
     ensures length { length alive.new ≡ length alive.old }
     ensures live { IsLive alive.new (length alive.new) result.low result.high }
-    ensures alive { (table : Table)
-        → IsTakenPrefix table (map T.shape tokens.now) start → opens ≡ table.opens start
-        → AreAlive table (map T.shape tokens.now) start 0 (length alive.new) alive.new }
+    ensures alive { (table : Table) → opens ≡ table.opens 0
+        → AreAlive table (map T.shape tokens.now) 0 0 (length alive.new) alive.new }
 {
-    let mut whole = start == 0;
+    let mut whole = true;
     for n in 0..alive.len() {
-        if !whole && start <= WORD * n {
+        if !whole {
             return Live { low: 0, high: n };
         }
-        let word = words[n].step(last_before(start, WORD * n), opens, whole);
+        let word = words[n].step(0, opens, whole);
         alive[n] = word;
         whole = word >> WORD != 0;
     }

@@ -1,7 +1,7 @@
 //! What a match reads of a pattern, and how a match goes: the ends of the text are compared, a needle is searched for,
 //! and what is left goes through the position sets.
-ghost use Rattle.std.specs.Prelude.{◌≡◌, ℕ, suc, ◌+◌, ◌-◌, ◌*◌, ◌<◌, ◌≤◌, ◌↔◌, List, [], length, map, take, IsTrue, IsOk, IfOk, IfNone, IfSome, MatchOption, chars, slice_index_or};
-ghost use Rattle.std.specs.Str.{is_utf8, IsAscii};
+ghost use Rattle.std.specs.Prelude.{◌≡◌, ℕ, suc, ◌+◌, ◌*◌, ◌<◌, ◌≤◌, ◌↔◌, List, [], length, map, IsTrue, IsOk, IfOk, IfNone, IfSome, MatchOption, chars, slice_index_or};
+ghost use Rattle.std.specs.Str.{is_utf8};
 ghost use Rattle.std.specs.Int.{IsBitSet};
 ghost use Rattle.glob_pattern.specs.Grammar.Tokens.{shape_of};
 ghost use Rattle.glob_pattern.specs.Matching.Texts.{TokensMatch};
@@ -152,7 +152,6 @@ impl<A: Allocator + Copy> Compiled<A> {
         let front = &text[..text.len() - trimmed.end];
         let end = self.tokens.len() - trimmed.end;
         let span = Span {
-            start: trimmed.start,
             end,
             accepting: self.accepting(end, options),
         };
@@ -177,8 +176,7 @@ impl<A: Allocator + Copy> Compiled<A> {
         self.run_counted(text, Span::all(self.tokens.len()), options)
     }
 
-    /// Whether the tokens before the span's end split the text, whose characters before its start have a token each,
-    /// and how many questions it took. With at most 63 tokens the call succeeds.
+    /// Whether the tokens before the span's end split the text, and how many questions it took. With at most 63 tokens the call succeeds.
     #[inline(always)]
     fn run_counted(
         &self,
@@ -186,23 +184,21 @@ impl<A: Allocator + Copy> Compiled<A> {
         span: Span,
         options: MatchOptions,
     ) -> Result<(bool, u128), AllocError>
-        requires within { span.start ≤ length text.now }
-        requires ascii { IsAscii (take span.start text.now) }
         requires ready { (words : List ShapeWord) → AreShapeWords (map shape_of self.now) words
             → CanRun (table_of options self.now (chars text.now)) (map shape_of self.now) words
-            span span.start 0 }
+            span 0 0 }
         ensures answer { IfOk result (λ counted. IsTrue counted.0
             ↔ IsAlive (table_of options self.now (chars text.now)) (map shape_of self.now)
             span.end (length (chars text.now))) }
         ensures most { IfOk result (λ counted. counted.1
-            ≤ length self.now * (length (chars text.now) - span.start)) }
+            ≤ length self.now * length (chars text.now)) }
         ensures least { IfOk result (λ counted. IsTrue counted.0 → span.accepting ≡ 0
-            → length (chars text.now) ≤ counted.1 + span.start) }
+            → length (chars text.now) ≤ counted.1) }
         ensures short { length self.now < 64 → IsOk result }
     {
         let tokens = self.tokens.as_slice();
         let masks = self.masks.as_slice();
-        let mut judge = TextJudge::new(tokens, masks, text, span.start, options);
+        let mut judge = TextJudge::new(tokens, masks, text, 0, options);
         let alloc = *self.tokens.allocator();
         let answer = decide(alloc, tokens, self.words(), span, &mut judge)?;
         Ok((answer, judge.asked()))
@@ -211,12 +207,9 @@ impl<A: Allocator + Copy> Compiled<A> {
     /// [`run_counted`](Self::run_counted) without the count, and by a judge that needs no masks where there are none.
     #[inline(always)]
     fn run_span(&self, text: &str, span: Span, options: MatchOptions) -> Result<bool, AllocError>
-        requires within { span.start ≤ length text.now }
-        requires ascii { IsAscii (take span.start text.now) }
         requires ready { (words : List ShapeWord) → AreShapeWords (map shape_of self.now) words
             → CanRun (table_of options self.now (chars text.now)) (map shape_of self.now) words
-            span span.start 0 }
-        requires order { span.start ≤ span.end }
+            span 0 0 }
         requires end { span.end ≤ length self.now }
         ensures answer { IfOk result (λ yes. IsTrue yes
             ↔ IsAlive (table_of options self.now (chars text.now)) (map shape_of self.now)
@@ -230,7 +223,7 @@ impl<A: Allocator + Copy> Compiled<A> {
         }
         let tokens = self.tokens.as_slice();
         let masks = self.masks.as_slice();
-        let judge = TextJudge::new(tokens, masks, text, span.start, options);
+        let judge = TextJudge::new(tokens, masks, text, 0, options);
         let mut judge = SpanJudge::new(judge, self.first, span.end);
         let alloc = *self.tokens.allocator();
         decide(alloc, tokens, self.words(), span, &mut judge)

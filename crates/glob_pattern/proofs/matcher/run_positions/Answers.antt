@@ -1,5 +1,5 @@
 -- All shapes, in one word or in several.
-use Rattle.std.proofs.Common.{◌≡◌, ◌-◌, ◌<◌, ◌↔◌, ℕ, List, Bool, Result, IfOk, IsTrue, length, arith}
+use Rattle.std.proofs.Common.{◌≡◌, ◌<◌, ◌↔◌, ℕ, List, Bool, Result, IfOk, IsTrue, length, arith}
 use Rattle.std.proofs.lemmas.List.{map-id}
 use Rattle.std.proofs.lemmas.Result.{IfOk-weaker}
 use Rattle.glob_pattern.specs.Matching.Splits.{Table, Splits}
@@ -25,7 +25,7 @@ decide-requires g c =
     let few : length shapes < 64 = omega (arith, c.if-shapes-le-WORD.true) in
     rw same (CanRun-all (g.J.Judge.table c.args.judge.now) shapes _ c.all-span.result _ _
     (one-word shapes c.new.result few (rw same at c.new.ensures))
-    span.start span.end span.accepting (omega arith) c.requires.tokens c.requires.start c.requires.room)
+    span.end span.accepting (omega arith) c.requires.tokens c.requires.start c.requires.room)
 
 pub decide-requires-else-shapes-le-WORD : goal.decide-requires-else-shapes-le-WORD
 decide-requires-else-shapes-le-WORD g c =
@@ -34,7 +34,7 @@ decide-requires-else-shapes-le-WORD g c =
     let same = map-id shapes in
     rw same (CanRun-all (g.J.Judge.table c.args.judge.now) shapes _ c.all-span.result _ _
     (rw c.as_slice.ensures.value (rw same at c.in_ok-words.ensures))
-    span.start span.end span.accepting (omega arith) c.requires.tokens c.requires.start c.requires.room)
+    span.end span.accepting (omega arith) c.requires.tokens c.requires.start c.requires.room)
 
 pub returns-then-shapes-le-WORD-clause-answer : goal.returns-then-shapes-le-WORD-clause-answer
 returns-then-shapes-le-WORD-clause-answer g c =
@@ -50,24 +50,15 @@ returns-in_ok-words-clause-answer g c =
     (rw (map-id shapes) at run.ensures.answer)
 
 pub returns-then-shapes-le-WORD-clause-most : goal.returns-then-shapes-le-WORD-clause-most
-returns-then-shapes-le-WORD-clause-most g c =
-    let characters = (g.J.Judge.table c.args.judge.now).characters in
-    let all : characters - c.all-span.result.start ≡ characters = omega (arith, c.all-span.ensures.start) in
-    rw (map-id c.args.shapes.now, all) at c.decide.ensures.most
+returns-then-shapes-le-WORD-clause-most g c = rw (map-id c.args.shapes.now) at c.decide.ensures.most
 
 pub returns-in_ok-words-clause-most : goal.returns-in_ok-words-clause-most
-returns-in_ok-words-clause-most g c =
-    let characters = (g.J.Judge.table c.args.judge.now).characters in
-    let all : characters - c.all-span.result.start ≡ characters = omega (arith, c.all-span.ensures.start) in
-    rw (map-id c.args.shapes.now, all) at c.decide-else-shapes-le-WORD.ensures.most
+returns-in_ok-words-clause-most g c = rw (map-id c.args.shapes.now) at c.decide-else-shapes-le-WORD.ensures.most
 
 pub returns-then-shapes-le-WORD-clause-least : goal.returns-then-shapes-le-WORD-clause-least
-returns-then-shapes-le-WORD-clause-least g c =
-    let all = c.all-span.ensures in
-    IfOk-weaker c.decide.result _ _ (λ yes asks t. omega (arith, asks t all.accepting, all.start)) c.decide.ensures.least
+returns-then-shapes-le-WORD-clause-least g c = IfOk-weaker c.decide.result _ _ (λ yes asks t. asks t c.all-span.ensures.accepting) c.decide.ensures.least
 
 pub returns-in_ok-words-clause-least : goal.returns-in_ok-words-clause-least
 returns-in_ok-words-clause-least g c =
-    let all = c.all-span.ensures in
     let run = c.decide-else-shapes-le-WORD in
-    IfOk-weaker run.result _ _ (λ yes asks t. omega (arith, asks t all.accepting, all.start)) run.ensures.least
+    IfOk-weaker run.result _ _ (λ yes asks t. asks t c.all-span.ensures.accepting) run.ensures.least

@@ -1,8 +1,8 @@
 use Rattle.std.proofs.Common.{◌≡◌, ◌-◌, ◌∙◌, [], ◌∷◌, length, refl, sym, arith, map}
 use Rattle.std.proofs.Math.Nat.{le_refl}
 use Rattle.glob_pattern.specs.Private.Positions.{word_end}
-use Rattle.glob_pattern.proofs.PositionLemmas.Words.{whole-at_start, whole-later, IsTakenWord-prefix, AreAlive-alone}
-use Rattle.glob_pattern.proofs.PositionLemmas.Running.{HasRun-stepped, HasRun-room, HasDecided-ended, HasDecided-dead, HasDecided-accepting}
+use Rattle.glob_pattern.proofs.PositionLemmas.Words.{whole-at_start, whole-later, IsTakenWord-none, AreAlive-alone}
+use Rattle.glob_pattern.proofs.PositionLemmas.Running.{HasRun-start, HasRun-stepped, HasRun-room, HasDecided-ended, HasDecided-dead, HasDecided-accepting}
 use Rattle.glob_pattern.proofs.matcher.positions.run.Goals as goal
 
 pub loop-alive-init : goal.loop-alive-init
@@ -10,19 +10,8 @@ loop-alive-init g c =
     let ready = c.requires.ready in
     let T = g.J.Judge.table c.args.judge.now in
     let shapes = map g.T.Shaped.shape c.args.tokens.now in
-    let start = c.args.span.start in
-    let says = c.step-alive.ensures T shapes 0 start (omega arith) (ready.shaped.word 0 c.args.word ready.shaped.some)
-    (IsTakenWord-prefix T shapes 0 start c.last_before.result ready.reached c.last_before.ensures) (rw ready.place at c.opens.ensures) (whole-at_start T shapes start) in
-    record {
-      run = rw ready.place (record {
-        alive = AreAlive-alone T shapes start c.step-alive.result says;
-        within = ready.within;
-        most = le_refl _;
-        least = λ n le alive. le_refl _;
-        monotone = le_refl _;
-      });
-      same = refl;
-    }
+    let says = c.step-alive.ensures T shapes 0 0 (omega arith) (ready.shaped.word 0 c.args.word ready.shaped.some) (IsTakenWord-none T shapes 0) (rw ready.place at c.opens.ensures) (whole-at_start T shapes 0) in
+    record { run = HasRun-start T shapes _ _ (c.step-alive.result ∷ []) ready.place (AreAlive-alone T shapes 0 c.step-alive.result says); same = refl }
 
 pub ask-took-requires : goal.ask-took-requires
 ask-took-requires g c =
@@ -32,7 +21,7 @@ ask-took-requires g c =
     let same = c.step.ensures.same ∙ i.same in
     let (next, within) = rw same at (c.step.ensures.stepped c.if-not-step.false) in
     let back : g.J.Judge.place c.step.new.self - 1 ≡ g.J.Judge.place c.loop-alive.judge = omega (arith, next) in
-    let room = HasRun-room (g.J.Judge.table c.args.judge.now) shapes _ _ _ _ _ i.run (omega (arith, next, within)) ready.room in
+    let room = HasRun-room (g.J.Judge.table c.args.judge.now) shapes _ _ _ _ i.run (omega (arith, next, within)) ready.room in
     rw same (record {
       stepped = omega (arith, next);
       from = omega arith;
@@ -56,7 +45,7 @@ loop-alive-preserved g c =
     let all : word_end shapes 0 ≡ length shapes = omega (arith, ready.shaped.all) in
     let says = c.step_by-alive.ensures T shapes 0 p (omega arith) (ready.shaped.word 0 c.args.word ready.shaped.some) asked.taken (rw (asked.place, asked.same) at c.opens-in-loop-alive.ensures) (whole-later T shapes p (omega (arith, next))) in
     record {
-      run = rw asked.place (HasRun-stepped T shapes _ _ _ _ _ i.run p _ (c.step_by-alive.result ∷ []) next within (rw all at asked.asked) (AreAlive-alone T shapes p c.step_by-alive.result says));
+      run = rw asked.place (HasRun-stepped T shapes _ _ _ _ i.run p _ (c.step_by-alive.result ∷ []) next within (rw all at asked.asked) (AreAlive-alone T shapes p c.step_by-alive.result says));
       same = asked.same;
     }
 

@@ -1,6 +1,5 @@
 use Rattle.std.proofs.Common.{◌≡◌, ◌-◌, ◌∙◌, length, refl, sym, inr, arith, map}
-use Rattle.std.proofs.Math.Nat.{le_refl}
-use Rattle.glob_pattern.proofs.PositionLemmas.Running.{HasRun-stepped, HasRun-room, HasDecided-ended, HasDecided-dead}
+use Rattle.glob_pattern.proofs.PositionLemmas.Running.{HasRun-start, HasRun-stepped, HasRun-room, HasDecided-ended, HasDecided-dead}
 use Rattle.glob_pattern.proofs.matcher.positions.run_words.Goals as goal
 
 pub set_start-live-requires-clause-words : goal.set_start-live-requires-clause-words
@@ -12,13 +11,7 @@ loop-live-init g c =
     let start = c.set_start-live.ensures in
     record {
       count = start.length;
-      run = rw ready.place (record {
-        alive = start.alive (g.J.Judge.table c.args.judge.now) ready.reached (rw ready.place at c.opens.ensures);
-        within = ready.within;
-        most = le_refl _;
-        least = λ n le alive. le_refl _;
-        monotone = le_refl _;
-      });
+      run = HasRun-start (g.J.Judge.table c.args.judge.now) (map g.T.Shaped.shape c.args.tokens.now) _ _ _ ready.place (start.alive (g.J.Judge.table c.args.judge.now) (rw ready.place at c.opens.ensures));
       live = start.live;
       same = refl;
     }
@@ -31,7 +24,7 @@ step_words-live-requires g c =
     let same = c.step.ensures.same ∙ i.same in
     let (next, within) = rw same at (c.step.ensures.stepped c.if-not-step.false) in
     let back : g.J.Judge.place c.step.new.self - 1 ≡ g.J.Judge.place c.loop-live.judge = omega (arith, next) in
-    let room = HasRun-room (g.J.Judge.table c.args.judge.now) shapes _ _ _ _ _ i.run (omega (arith, next, within)) ready.room in
+    let room = HasRun-room (g.J.Judge.table c.args.judge.now) shapes _ _ _ _ i.run (omega (arith, next, within)) ready.room in
     rw same (record {
       shaped = ready.shaped;
       many = i.count ∙ c.requires.length;
@@ -53,7 +46,7 @@ loop-live-preserved g c =
     let s = rw (same, c.step.ensures.count) at c.step_words-live.ensures in
     record {
       count = s.stepped.many ∙ i.count;
-      run = rw s.place (HasRun-stepped T shapes _ _ _ _ c.loop-live.alive i.run _ _ c.step_words-live.new.alive next within s.stepped.asked s.stepped.alive);
+      run = rw s.place (HasRun-stepped T shapes _ _ _ c.loop-live.alive i.run _ _ c.step_words-live.new.alive next within s.stepped.asked s.stepped.alive);
       live = s.live;
       same = s.same;
     }

@@ -1,6 +1,6 @@
 use Rattle.std.proofs.Common.{◌≡◌, ℕ, ◌*◌, ◌<◌, ◌≤◌, ◌↔◌, length, slice_index, IsTrue, map}
 use Rattle.glob_pattern.specs.Matching.Splits.{Table}
-use Rattle.glob_pattern.specs.Private.Prefixes.{PrefixSplits, IsTakenPrefix}
+use Rattle.glob_pattern.specs.Private.Prefixes.{PrefixSplits}
 use Rattle.glob_pattern.specs.Private.Positions.{AreAlive}
 use Rattle.glob_pattern.proofs.matcher.positions.set_start.Given as goal
 
@@ -8,6 +8,6 @@ abbrev pub invariant-loop-n : goal.invariant-loop-n
 invariant-loop-n g l = record {
   count : length l.alive ≡ length l.fn.alive;
   zeros : (i : ℕ) → l.n ≤ i → i < length l.alive → slice_index l.alive i ≡ 0;
-  done : (table : Table) → IsTakenPrefix table (map g.T.Shaped.shape l.tokens) l.start → l.opens ≡ table.opens l.start → AreAlive table (map g.T.Shaped.shape l.tokens) l.start 0 l.n l.alive;
-  whole : (table : Table) → IsTakenPrefix table (map g.T.Shaped.shape l.tokens) l.start → l.opens ≡ table.opens l.start → 63 * l.n ≤ length (map g.T.Shaped.shape l.tokens) → IsTrue l.whole ↔ PrefixSplits table (map g.T.Shaped.shape l.tokens) (63 * l.n) l.start;
+  done : (table : Table) → l.opens ≡ table.opens 0 → AreAlive table (map g.T.Shaped.shape l.tokens) 0 0 l.n l.alive;
+  whole : (table : Table) → l.opens ≡ table.opens 0 → 63 * l.n ≤ length (map g.T.Shaped.shape l.tokens) → IsTrue l.whole ↔ PrefixSplits table (map g.T.Shaped.shape l.tokens) (63 * l.n) 0;
 }

@@ -1,7 +1,6 @@
-use Rattle.std.proofs.Common.{◌≡◌, ◌+◌, ◌-◌, ℕ, List, length, take, chars, ap, refl, sym, subst, ◌∙◌, arith}
+use Rattle.std.proofs.Common.{◌≡◌, ◌+◌, ◌-◌, ℕ, List, length, take, chars, ap, refl, ◌∙◌, arith}
 use Rattle.std.specs.List.{slice_range}
-use Rattle.std.specs.Str.{IsAscii}
-use Rattle.std.proofs.lemmas.List.{length-take-le, length-map, get_or-drop, take-take}
+use Rattle.std.proofs.lemmas.List.{length-take-le, length-map, get_or-drop}
 use Rattle.std.proofs.lemmas.Result.{IfOk-weaker}
 use Rattle.glob_pattern.specs.Grammar.Tokens.{shape_of}
 use Rattle.glob_pattern.proofs.MatchingLemmas.Running.{CanRun-trimmed}
@@ -25,17 +24,6 @@ range-front-requires-clause-end_boundary g c =
 pub overflow_sub-end : goal.overflow_sub-end
 overflow_sub-end g c = omega (arith, c.requires.ones.within, length-map c.args.self.now shape_of, c.len.ensures, ap length c.self.view_is)
 
-pub run_span-requires-clause-within : goal.run_span-requires-clause-within
-run_span-requires-clause-within g c = omega (arith, c.requires.within, c.range-front.ensures.len)
-
-pub run_span-requires-clause-ascii : goal.run_span-requires-clause-ascii
-run_span-requires-clause-ascii g c =
-    let text = c.args.text.now in
-    let m = length text - c.args.trimmed.end in
-    let front : c.range-front.result.now ≡ take m text = c.range-front.ensures.value ∙ front-is text m in
-    let cut = take-take c.args.trimmed.start m text (omega (arith, c.requires.within)) in
-    subst (λ bytes. IsAscii (take c.args.trimmed.start bytes)) (sym front) (subst IsAscii (sym cut) c.requires.front)
-
 pub run_span-requires-clause-ready : goal.run_span-requires-clause-ready
 run_span-requires-clause-ready g c = λ words shaped.
     let text = c.args.text.now in
@@ -44,7 +32,7 @@ run_span-requires-clause-ready g c = λ words shaped.
     let long = length-take-le m text (omega arith) in
     let many : c.len.result ≡ length c.args.self.now = omega (arith, c.len.ensures, ap length c.self.view_is) in
     rw front
-    (CanRun-trimmed c.args.options c.args.self.now text words _ c.args.trimmed.end 0 c.utf8.text c.requires shaped
+    (CanRun-trimmed c.args.options c.args.self.now text words _ c.args.trimmed.start c.args.trimmed.end 0 c.utf8.text c.requires shaped
     (ap (λ n. n - c.args.trimmed.end) many) (c.accepting.ensures (chars (take m text))) refl (omega (arith, many)) (omega (arith, long)))
 
 pub returns-clause-answer : goal.returns-clause-answer

@@ -16,8 +16,8 @@ decide-requires g c =
     let span = c.new-judge-2.ensures in
     let read = c.as_slice-tokens.ensures.value ∙ c.self.view_is in
     rw (span.judge, span.end, judge.options, judge.tokens ∙ read, judge.text, judge.start, judge.count, read)
-    (CanRun-before (table_of c.args.options c.args.self.now (chars c.args.text.now)) (map shape_of c.args.self.now) c.words.result.now c.args.span c.args.span.start 0
-    c.requires.order (c.requires.ready c.words.result.now c.words.ensures.words))
+    (CanRun-before (table_of c.args.options c.args.self.now (chars c.args.text.now)) (map shape_of c.args.self.now) c.words.result.now c.args.span 0 0
+    (c.requires.ready c.words.result.now c.words.ensures.words))
 
 pub returns-clause-answer : goal.returns-clause-answer
 unfolding table_of
