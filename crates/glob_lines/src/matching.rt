@@ -3,7 +3,7 @@ ghost use Rattle.std.specs.Prelude.{◌≡◌, ◌↔◌, IsTrue, IfOk};
 ghost use Rattle.glob_lines.specs.Lines.{RecordMatches, record_matches};
 
 use crate::selection::Selection;
-use glob_pattern::{MatchOptions, Pattern, match_trimmed, trim};
+use glob_pattern::{MatchOptions, Pattern, may_match};
 use std::alloc::{AllocError, Allocator};
 use std::str;
 
@@ -31,11 +31,11 @@ fn record_matches<B: Allocator + Copy>(
     ensures { IfOk result (λ yes. IsTrue yes ↔ RecordMatches options pattern.now bytes.now) }
 {
     // This says of most records that they do not match, and costs less than the test for UTF-8.
-    let Some(trimmed) = trim(pattern, bytes, options) else {
+    if !may_match(pattern, bytes, options) {
         return Ok(false);
-    };
+    }
     match str::from_utf8(bytes) {
-        Ok(text) => match_trimmed(pattern, text, options, trimmed),
+        Ok(text) => pattern.matches_with(text, options),
         Err(_) => Ok(false),
     }
 }

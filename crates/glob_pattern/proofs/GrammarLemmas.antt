@@ -4,4 +4,5 @@ pub mod Closing
 pub mod Folding
 pub mod Reading
 pub mod Units
+pub mod Written
 pub mod WrittenUnits

@@ -1,12 +1,13 @@
 pub mod Case
 pub mod Computed
 pub mod Deciding
+pub mod EndBytes
+pub mod Ends
 pub mod Freely
-pub mod Lengths
 pub mod Literals
 pub mod Matched
 pub mod Needles
-pub mod Passing
+pub mod Parts
 pub mod PiecesAndSplits
 pub mod PlainPatterns
 pub mod PlainTokens
@@ -15,6 +16,6 @@ pub mod Running
 pub mod Spans
 pub mod Splits
 pub mod Stepping
+pub mod Stripped
 pub mod Tokens
 pub mod TokensOf
-pub mod Trims

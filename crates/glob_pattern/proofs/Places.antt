@@ -1,5 +1,5 @@
 -- Lists from a place on: what is there, and what a piece at its front leaves.
-use Rattle.std.proofs.Common.{◌≡◌, ℕ, suc, ◌+◌, ◌-◌, ◌<◌, ◌≤◌, List, [], ◌∷◌, ◌++◌, length, get_or, drop, refl, sym, ap, ◌∙◌, arith}
+use Rattle.std.proofs.Common.{◌≡◌, ℕ, suc, ◌+◌, ◌-◌, ◌<◌, ◌≤◌, ◌⊎◌, inl, inr, ⊎_elim, List, [], ◌∷◌, ◌++◌, length, get_or, drop, refl, sym, ap, ◌∙◌, arith}
 use Rattle.std.proofs.lemmas.List.{get_or-drop, drop-drop, drop_at, length-drop, length-append, get_or_append_left}
 
 -- an element of the list is one of what is dropped to
@@ -42,3 +42,8 @@ pub length-after_piece : {X : Type 0} (xs piece rest : List X) (n : ℕ) → dro
 length-after_piece xs piece rest n e h =
     let l : length xs - n ≡ length piece + length rest = sym (length-drop n xs) ∙ ap length e ∙ length-append piece rest in
     omega arith
+
+-- a list is empty, or it has a last element
+pub at_last : {X : Type 0} (xs : List X) → (xs ≡ []) ⊎ ((ys : List X) × (c : X) × (xs ≡ ys ++ c ∷ []))
+at_last [] = inl refl
+at_last (x ∷ xs) = ⊎_elim (λ e. inr ([], x, ap (λ zs. x ∷ zs) e)) (λ (ys, c, e). inr (x ∷ ys, c, ap (λ zs. x ∷ zs) e)) (at_last xs)

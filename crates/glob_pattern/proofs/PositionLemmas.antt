@@ -1,7 +1,8 @@
-pub mod Mapped
 pub mod Alive
+pub mod Cut
 pub mod DeadWords
 pub mod LastOnes
+pub mod Mapped
 pub mod Prefixes
 pub mod Running
 pub mod Spans

@@ -5,4 +5,3 @@ pub mod Short
 pub mod Splits
 pub mod Taking
 pub mod Texts
-pub mod Trims

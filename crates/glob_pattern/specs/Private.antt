@@ -1,9 +1,11 @@
+pub mod Automata
 pub mod Brackets
 pub mod CharMasks
 pub mod Compiled
+pub mod Ends
 pub mod Needles
+pub mod Parts
 pub mod Positions
-pub mod Prefilters
 pub mod Prefixes
 pub mod Spans
 pub mod Stepping

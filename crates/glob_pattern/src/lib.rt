@@ -14,7 +14,6 @@ pub use grammar::{characters_of, close_from, opens};
 pub use matcher::{Judge, Shape, run_positions};
 pub use options::MatchOptions;
 pub use pattern::{
-    Pattern, TokenKind, Trimmed, literal_at, match_trimmed, token_kind, token_takes, tokens_len,
-    trim,
+    Pattern, TokenKind, literal_at, may_match, token_kind, token_takes, tokens_len,
 };
 pub use token::taking::is_open;

@@ -1,7 +1,6 @@
 //! Patterns: parsing, and matching texts.
-ghost use Rattle.std.specs.Prelude.{◌≡◌, ℕ, ◌*◌, ◌≤◌, ◌↔◌, [], length, IsTrue, IsOk, IfOk, IfErr, IfNone, IfSome, MatchOption, chars};
+ghost use Rattle.std.specs.Prelude.{◌≡◌, ℕ, ◌*◌, ◌≤◌, ◌↔◌, [], length, IsTrue, IsOk, IfOk, IfErr, IfNone, IfSome, chars};
 ghost use Rattle.std.specs.Str.{is_utf8};
-ghost use Rattle.glob_pattern.specs.Matching.Trims.{IsTrimmed};
 ghost use Rattle.glob_pattern.specs.Matching.Literals.{HasLiteral};
 ghost use Rattle.glob_pattern.specs.Matching.Short.{IsShort};
 ghost use Rattle.std.specs.Path.{path_bytes};
@@ -10,20 +9,20 @@ ghost use Rattle.glob_pattern.specs.Grammar.Faults.{Refuses};
 ghost use Rattle.glob_pattern.specs.Matching.Texts.{Matches};
 ghost use Rattle.glob_pattern.specs.Matching.Options.{new_options};
 
+mod automaton;
 mod char_masks;
 mod compare;
 mod compiled;
+mod ends;
 mod escape;
 mod judge;
 mod needle;
-mod prefilter;
 mod tokens;
 
 use crate::error::PatternRefusal;
 use crate::grammar;
 use crate::options::MatchOptions;
 use compiled::Compiled;
-pub use prefilter::Trimmed;
 use std::alloc::{AllocError, Allocator, Global};
 use std::marker::Model;
 use std::path::Path;
@@ -138,10 +137,7 @@ impl<A: Allocator + Copy> Pattern<A> {
             (λ yes. IsTrue yes ↔ Matches options (chars self.now) (chars str.now)) }
         ensures short { IsShort (chars self.now) → IsOk result }
     {
-        match trim(self, str.as_bytes(), options) {
-            Some(trimmed) => match_trimmed(self, str, options, trimmed),
-            None => Ok(false),
-        }
+        self.compiled.matches(self.text.as_str(), str, options)
     }
 
     /// The answer of [`matches_with`](Self::matches_with), and how many questions it takes without the prefilter: how
@@ -189,36 +185,18 @@ impl<A: Allocator + Copy> Pattern<A> {
     }
 }
 
-/// Whether a text of these bytes may be one that the pattern matches, by its ends and a search for a needle: `None`
-/// says that it is not, so for `*.rs` and the bytes of `main.c`. Otherwise it says how much of the ends is decided, for
-/// [`match_trimmed`]. The bytes need not be UTF-8.
+/// Whether a text of these bytes may be one that the pattern matches, by its ends and a search for a needle: so for
+/// `*.rs` it may be `main.rs`, and not `main.c`. The bytes need not be UTF-8.
 #[inline(always)]
-pub fn trim<A: Allocator>(
+pub fn may_match<A: Allocator>(
     pattern: &Pattern<A>,
     bytes: &[u8],
     options: MatchOptions,
-) -> Option<Trimmed>
-    ensures { MatchOption result
-        (IsTrue (is_utf8 bytes.now) → ¬ (Matches options (chars pattern.now) (chars bytes.now)))
-        (IsTrimmed options (chars pattern.now) bytes.now) }
+) -> bool
+    ensures { IsTrue (is_utf8 bytes.now)
+        → Matches options (chars pattern.now) (chars bytes.now) → IsTrue result }
 {
-    pattern.compiled.trim(bytes, options)
-}
-
-/// The answer of [`matches_with`](Pattern::matches_with), and its error, for a text whose ends [`trim`] has decided.
-#[inline(always)]
-pub fn match_trimmed<A: Allocator + Copy>(
-    pattern: &Pattern<A>,
-    str: &str,
-    options: MatchOptions,
-    trimmed: Trimmed,
-) -> Result<bool, AllocError>
-    requires { IsTrimmed options (chars pattern.now) str.now trimmed }
-    ensures answer { IfOk result
-        (λ yes. IsTrue yes ↔ Matches options (chars pattern.now) (chars str.now)) }
-    ensures short { IsShort (chars pattern.now) → IsOk result }
-{
-    pattern.compiled.matches(str, options, trimmed)
+    pattern.compiled.may_match(pattern.text.as_str(), bytes, options)
 }
 
 /// The character that the token of this number is, counted from 0, or `None` if it is a wildcard or a bracket, or there

@@ -80,7 +80,7 @@ small-same case c x same =
     (or_cases (c == x) (not case && is_ascii c && is_ascii x && to_ascii_lowercase c == to_ascii_lowercase x) same)
 
 -- and so for whole texts
-small-SameTexts : (case : Bool) (xs ys : Text) → SameTexts case xs ys → map to_ascii_lowercase (encode_utf8_all xs) ≡ map to_ascii_lowercase (encode_utf8_all ys)
+pub small-SameTexts : (case : Bool) (xs ys : Text) → SameTexts case xs ys → map to_ascii_lowercase (encode_utf8_all xs) ≡ map to_ascii_lowercase (encode_utf8_all ys)
 small-SameTexts case [] [] same = refl
 small-SameTexts case [] (y ∷ ys) same = absurd (omega arith)
 small-SameTexts case (x ∷ xs) [] same = absurd (omega arith)

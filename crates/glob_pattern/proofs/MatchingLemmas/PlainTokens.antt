@@ -30,7 +30,7 @@ allowed-after_front o text k (t ∷ ts) rest (piece ∷ pieces) (took, form, oth
     (piece ∷ before, after, ap (λ ps. piece ∷ ps) e, subst (λ i. AreAllowed o text i rest after) at allowed, λ nil. absurd (cc))
 
 -- one more character that is the same
-SameTexts-more : (case : Bool) (d c : ℕ) (xs ys : Text) → IsTrue (is_same case d c) → SameTexts case xs ys → SameTexts case (d ∷ xs) (c ∷ ys)
+pub SameTexts-more : (case : Bool) (d c : ℕ) (xs ys : Text) → IsTrue (is_same case d c) → SameTexts case xs ys → SameTexts case (d ∷ xs) (c ∷ ys)
 SameTexts-more case d c xs ys first (lengths, rest) = (omega arith, each)
   where
     each : (k : ℕ) → k < length (c ∷ ys) → IsTrue (is_same case (slice_index (d ∷ xs) k) (slice_index (c ∷ ys) k))

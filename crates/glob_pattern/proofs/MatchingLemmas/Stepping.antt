@@ -4,6 +4,7 @@ use Rattle.std.proofs.Math.Seq.{drop-cons}
 use Rattle.std.proofs.lemmas.Bool.Decides.{nat_tests}
 use Rattle.glob_text.specs.Text.{Text, opens}
 use Rattle.glob_text.specs.Characters.{slash}
+use Rattle.glob_pattern.specs.Private.TextTable.{opens_within}
 use Rattle.glob_pattern.specs.Private.Stepping.{place_before, IsSteppedTo}
 
 -- the rest is no longer than the text
@@ -27,23 +28,34 @@ opens-suc text p =
     let later : (suc p == 0) ≡ false = grind (arith, nat_tests) in
     rw (back, later) refl
 
+-- at the start of a text
+pub IsSteppedTo-start : (start : Bool) (text : Text) (current : ℕ) (opened : Bool) → (current == slash) ≡ start → IsSteppedTo start text text current opened (current == slash)
+IsSteppedTo-start start text current opened is =
+    let first : place_before text text ≡ 0 = omega arith in
+    record {
+      left = rw first refl;
+      here = rw first is;
+      last = λ lt. absurd (omega (arith, lt));
+      before = λ lt. absurd (omega (arith, lt));
+    }
+
 -- one step on
-pub IsSteppedTo-step : (text rest : Text) (c current : ℕ) (opened opening : Bool)
-    → IsSteppedTo text (c ∷ rest) current opened opening → IsSteppedTo text rest c opening (c == slash)
-IsSteppedTo-step text rest c current opened opening s =
+pub IsSteppedTo-step : (start : Bool) (text rest : Text) (c current : ℕ) (opened opening : Bool)
+    → IsSteppedTo start text (c ∷ rest) current opened opening → IsSteppedTo start text rest c opening (c == slash)
+IsSteppedTo-step start text rest c current opened opening s =
     let next = place_before-cons text rest c s.left in
     let split = drop-split text rest c (place_before text (c ∷ rest)) s.left next.1 in
     let back : place_before text rest - 1 ≡ place_before text (c ∷ rest) = omega (arith, next.0) in
     record {
       left = split.1 ∙ ap (λ p. drop p text) (sym next.0);
-      here = ap (λ d. d == slash) split.0 ∙ (sym (opens-suc text (place_before text (c ∷ rest))) ∙ ap (opens text) (sym next.0));
+      here = ap (λ d. d == slash) split.0 ∙ ap (opens_within start text) (sym next.0);
       last = λ _. split.0 ∙ ap (λ p. slice_index text p) (sym back);
-      before = λ _. s.here ∙ ap (opens text) (sym back);
+      before = λ _. s.here ∙ ap (opens_within start text) (sym back);
     }
 
 -- one step on, in places
-pub place_before-step : (text rest : Text) (c current : ℕ) (opened opening : Bool)
-    → IsSteppedTo text (c ∷ rest) current opened opening
+pub place_before-step : (start : Bool) (text rest : Text) (c current : ℕ) (opened opening : Bool)
+    → IsSteppedTo start text (c ∷ rest) current opened opening
     → (place_before text rest ≡ place_before text (c ∷ rest) + 1) × (place_before text rest ≤ length text)
-place_before-step text rest c current opened opening s =
+place_before-step start text rest c current opened opening s =
     let next = place_before-cons text rest c s.left in (omega (arith, next.0), omega (arith, next.0, next.1))

@@ -1,5 +1,5 @@
 -- Last shapes of one character: splits up to them, over any table that answers the same before them.
-use Rattle.std.proofs.Common.{◌≡◌, ℕ, zero, suc, ◌+◌, ◌-◌, ◌<◌, ◌≤◌, ◌↔◌, List, get_or, IsTrue, refl, sym, subst, ◌∙◌, inl, inr, ⊎_elim, arith}
+use Rattle.std.proofs.Common.{◌≡◌, ℕ, zero, suc, ◌+◌, ◌<◌, ◌≤◌, ◌↔◌, List, get_or, IsTrue, refl, sym, subst, ◌∙◌, inl, inr, ⊎_elim, arith}
 use Rattle.glob_pattern.specs.Matching.Splits.{Table, MayReach}
 use Rattle.glob_pattern.specs.Private.Prefixes.{PrefixSplits, IsAlive}
 use Rattle.glob_pattern.specs.declared.matcher.Shape.{Shape}
@@ -45,26 +45,8 @@ module _ (table : Table) (shapes : List Shape) where
       let at : i ≡ k = omega arith in
       (all k (omega arith) (omega arith), subst (PrefixSplits table shapes n) at prefix)
 
-  PrefixSplits-one : (n k : ℕ) → get_or shapes n One ≡ One → IsTrue (table.takes n k) → PrefixSplits table shapes n k → PrefixSplits table shapes (suc n) (suc k)
+  -- and one that takes it may be added
+  pub PrefixSplits-one : (n k : ℕ) → get_or shapes n One ≡ One → IsTrue (table.takes n k) → PrefixSplits table shapes n k → PrefixSplits table shapes (suc n) (suc k)
   unfolding PrefixSplits
   PrefixSplits-one n k one takes prefix =
       (k, prefix, rw one (omega arith), λ j low high. let at : k ≡ j = omega arith in subst (λ p. IsTrue (table.takes n p)) at takes)
-
-  -- last shapes of one character that take the last characters leave the others to the shapes before
-  pub PrefixSplits-less : (n k e : ℕ) → e ≤ n → e ≤ k → ((i : ℕ) → i < e → get_or shapes (n - 1 - i) One ≡ One) → ((i : ℕ) → i < e → IsTrue (table.takes (n - 1 - i) (k - 1 - i)))
-      → PrefixSplits table shapes n k ↔ PrefixSplits table shapes (n - e) (k - e)
-  PrefixSplits-less n k zero fits within ones takes =
-      let shape : n - 0 ≡ n = omega arith in
-      let place : k - 0 ≡ k = omega arith in
-      rw (shape, place) (λ p. p, λ p. p)
-  PrefixSplits-less n k (suc e) fits within ones takes =
-      let shape : n - e ≡ suc (n - 1 - e) = omega arith in
-      let place : k - e ≡ suc (k - 1 - e) = omega arith in
-      let before = rw (shape, place) at (PrefixSplits-less n k e (omega arith) (omega arith) (λ i lt. ones i (omega arith)) (λ i lt. takes i (omega arith))) in
-      let shape_left : n - suc e ≡ n - 1 - e = omega arith in
-      let place_left : k - suc e ≡ k - 1 - e = omega arith in
-      let one = ones e (omega arith) in
-      rw (shape_left, place_left) (
-        λ p. (one-from_PrefixSplits (n - 1 - e) (k - 1 - e) one (before.0 p)).1,
-        λ p. before.1 (PrefixSplits-one (n - 1 - e) (k - 1 - e) one (takes e (omega arith)) p),
-      )

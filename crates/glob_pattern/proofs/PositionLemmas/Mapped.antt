@@ -4,7 +4,7 @@ use Rattle.std.proofs.lemmas.Bool.{cases_eq}
 use Rattle.std.proofs.lemmas.List.{get_or-map}
 use Rattle.std.specs.Int.{IsBitSet}
 use Rattle.glob_pattern.specs.Private.Positions.{HasShapes}
-use Rattle.glob_pattern.specs.Matching.Trims.{HasOnes}
+use Rattle.glob_pattern.specs.Private.Ends.{HasOnes}
 use Rattle.glob_pattern.specs.declared.matcher.Shape.{Shape}
 use Rattle.glob_pattern.specs.declared.matcher.Shape.TheVariants.{One, Deep}
 use Rattle.glob_pattern.specs.declared.matcher.shape_word.ShapeWord.{ShapeWord}

@@ -1,16 +1,16 @@
 -- What a match reads of a pattern's tokens.
-use Rattle.std.specs.Prelude.{◌<◌, List, length, map}
-use Rattle.glob_pattern.specs.Grammar.Tokens.{Token, shape_of}
-use Rattle.glob_pattern.specs.Private.CharMasks.{AreCharMasks}
-use Rattle.glob_pattern.specs.Private.Positions.{IsShapeWord, AreShapeWords}
-use Rattle.glob_pattern.specs.Private.Prefilters.{IsPrefilter}
+use Rattle.std.specs.Prelude.{List}
+use Rattle.glob_pattern.specs.Grammar.Tokens.{Token}
+use Rattle.glob_pattern.specs.Private.Automata.{IsAutomaton}
+use Rattle.glob_pattern.specs.Private.Ends.{IsEnds, middle_of}
+use Rattle.glob_pattern.specs.Private.Needles.{IsNeedle}
 use Rattle.glob_pattern.specs.declared.matcher.shape_word.ShapeWord.{ShapeWord}
 use Rattle.glob_pattern.specs.declared.pattern.char_masks.CharMasks.{CharMasks}
-use Rattle.glob_pattern.specs.declared.pattern.prefilter.Prefilter.{Prefilter}
+use Rattle.glob_pattern.specs.declared.pattern.ends.Ends.{Ends}
+use Rattle.glob_pattern.specs.declared.pattern.needle.Needle.{Needle}
 
--- the shapes, masks and prefilter of the tokens
-pub record IsCompiled (tokens : List Token) (first : ShapeWord) (words : List ShapeWord) (masks : List CharMasks) (prefilter : Prefilter) : Type 0 where
-  pub first_word : IsShapeWord (map shape_of tokens) 0 first
-  pub all_words : 63 < length tokens → AreShapeWords (map shape_of tokens) words
-  pub masked : AreCharMasks tokens masks
-  pub filters : IsPrefilter tokens prefilter
+-- the ends of the tokens, a needle, and the shapes and masks of those between the ends
+pub record IsCompiled (tokens : List Token) (ends : Ends) (needle : Needle) (first : ShapeWord) (words : List ShapeWord) (masks : List CharMasks) : Type 0 where
+  pub at_ends : IsEnds tokens ends
+  pub inside : IsNeedle tokens needle
+  pub between : IsAutomaton (middle_of tokens ends) first words masks

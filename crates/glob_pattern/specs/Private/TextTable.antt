@@ -1,5 +1,6 @@
 -- The table of a pattern's tokens and a text: which token takes which character.
-use Rattle.std.specs.Prelude.{ℕ, ◌+◌, Bool, List, length, slice_index, slice_index_or, IsTrue}
+use Rattle.std.specs.Prelude.{ℕ, zero, suc, ◌+◌, ◌==◌, Bool, List, length, slice_index, slice_index_or, IsTrue}
+use Rattle.glob_text.specs.Characters.{slash}
 use Rattle.glob_text.specs.Text.{Text, opens}
 use Rattle.glob_pattern.specs.Grammar.Tokens.{Token}
 use Rattle.glob_pattern.specs.Matching.Taking.{takes}
@@ -15,6 +16,21 @@ table_of o tokens text = record {
   opens = opens text;
   takes = λ token place.
       takes o (opens text place) (slice_index text place) (slice_index_or tokens token AnyChar);
+}
+
+-- a component begins at the place of a part of a text; `opening`: one begins at its start
+abbrev pub opens_within : (opening : Bool) → Text → ℕ → Bool
+opens_within opening part zero = opening
+opens_within opening part (suc k) = slice_index part k == slash
+
+-- the table of a part of a text; `opening`: a component begins at its start
+unfoldable pub table_within : (opening : Bool) → MatchOptions → List Token → Text → Table
+table_within opening o tokens part = record {
+  characters = length part;
+  tokens = length tokens;
+  opens = opens_within opening part;
+  takes = λ token place.
+      takes o (opens_within opening part place) (slice_index part place) (slice_index_or tokens token AnyChar);
 }
 
 -- the token that is the j-th from `start` on takes the character

@@ -1,12 +1,11 @@
 //! The judge of a text's characters and a pattern's tokens.
-ghost use Rattle.std.specs.Prelude.{◌≡◌, ℕ, false, ◌+◌, ◌-◌, ◌*◌, ◌^◌, ◌<◌, ◌≤◌, ◌↔◌, length, take, drop, ◌==◌, IsTrue, chars};
+ghost use Rattle.std.specs.Prelude.{◌≡◌, ℕ, false, ◌+◌, ◌-◌, ◌*◌, ◌^◌, ◌<◌, ◌≤◌, ◌↔◌, length, drop, ◌==◌, IsTrue, chars};
 ghost use Rattle.glob_text.specs.Characters.{slash};
 ghost use Rattle.std.specs.Int.{IsBitSet};
-ghost use Rattle.std.specs.Str.{IsAscii};
 ghost use Rattle.std.specs.Str.Iter.{chars_rest};
 ghost use Rattle.glob_pattern.specs.Matching.Taking as taking;
 ghost use Rattle.glob_pattern.specs.Private.Stepping.{IsSteppedTo, place_before};
-ghost use Rattle.glob_pattern.specs.Private.TextTable.{table_of, TakesBit};
+ghost use Rattle.glob_pattern.specs.Private.TextTable.{table_within, TakesBit};
 ghost use Rattle.glob_pattern.specs.Private.CharMasks.{AreCharMasks};
 
 mod span_judge;
@@ -28,52 +27,47 @@ pub struct TextJudge<'a, A: Allocator> {
     masks: &'a [CharMasks],
     options: MatchOptions,
     text: &'a str,
+    // a component starts at the start of the text
+    opening: bool,
     rest: Chars<'a>,
-    // the character last stepped over and the one before it: `/` comes before the text, too, since a component starts
+    // the character last stepped over and the one before it: `/` comes before the text, too, where a component starts
     // there
     current: char,
     before: char,
     count: u128,
     ghost masked: { AreCharMasks tokens.now masks.now },
-    ghost stepped: { IsSteppedTo (chars text.now) (chars (chars_rest rest)) current
+    ghost stepped: { IsSteppedTo opening (chars text.now) (chars (chars_rest rest)) current
         (before == slash) (current == slash) },
 }
 
 impl<'a, A: Allocator> TextJudge<'a, A> {
-    /// A judge that has stepped over the first `start` bytes, which are ASCII characters, and was asked nothing.
+    /// A judge at the start of a text that was asked nothing. `opening`: a component starts there, as it does at the
+    /// start of a whole text, and at that of `b/c` in `a/b/c`.
     #[inline(always)]
     pub fn new(
         tokens: &'a [Token<Bracket<A>>],
         masks: &'a [CharMasks],
         text: &'a str,
-        start: usize,
+        opening: bool,
         options: MatchOptions,
     ) -> Self
-        requires masks { AreCharMasks tokens.now masks.now }
-        requires within { start ≤ length text.now }
-        requires ascii { IsAscii (take start text.now) }
+        requires { AreCharMasks tokens.now masks.now }
         ensures tokens { result.tokens.now ≡ tokens.now }
         ensures text { result.text.now ≡ text.now }
+        ensures opening { result.opening ≡ opening }
         ensures options { result.options ≡ options }
         ensures count { result.count ≡ 0 }
-        ensures start { place_before (chars text.now) (chars (chars_rest result.rest)) ≡ start }
+        ensures start { place_before (chars text.now) (chars (chars_rest result.rest)) ≡ 0 }
     {
-        let bytes = text.as_bytes();
-        let (current, before) = if start == 0 {
-            ('/', '/')
-        } else if start == 1 {
-            (bytes[0] as char, '/')
-        } else {
-            (bytes[start - 1] as char, bytes[start - 2] as char)
-        };
         TextJudge {
             tokens,
             masks,
             options,
             text,
-            rest: text[start..].chars(),
-            current,
-            before,
+            opening,
+            rest: text.chars(),
+            current: if opening { '/' } else { '\0' },
+            before: '/',
             count: 0,
         }
     }
@@ -83,6 +77,7 @@ impl<'a, A: Allocator> TextJudge<'a, A> {
     fn advance(&mut self) -> bool
         ensures tokens { self.new.tokens ≡ self.old.tokens }
         ensures text { self.new.text ≡ self.old.text }
+        ensures opening { self.new.opening ≡ self.old.opening }
         ensures options { self.new.options ≡ self.old.options }
         ensures count { self.new.count ≡ self.old.count }
         ensures stepped { IsTrue result
@@ -113,7 +108,8 @@ impl<'a, A: Allocator> TextJudge<'a, A> {
             (chars (chars_rest self.now.rest)) }
         requires token { token < length self.now.tokens.now }
         ensures { result
-            ≡ (table_of self.now.options self.now.tokens.now (chars self.now.text.now)).takes token
+            ≡ (table_within self.now.opening self.now.options self.now.tokens.now
+            (chars self.now.text.now)).takes token
             (place_before (chars self.now.text.now) (chars (chars_rest self.now.rest)) - 1) }
     {
         takes(
@@ -125,9 +121,9 @@ impl<'a, A: Allocator> TextJudge<'a, A> {
     }
 }
 
-#[tactic(auto, unfolding(crate::specs::Private::TextTable::table_of))]
+#[tactic(auto, unfolding(crate::specs::Private::TextTable::table_within))]
 impl<A: Allocator> Judge for TextJudge<'_, A> {
-    ghost table = { λ j. table_of j.options j.tokens.now (chars j.text.now) };
+    ghost table = { λ j. table_within j.opening j.options j.tokens.now (chars j.text.now) };
 
     ghost place = { λ j. place_before (chars j.text.now) (chars (chars_rest j.rest)) };
 

@@ -18,18 +18,21 @@ pub fn takes<A: Allocator>(
 ) -> bool
     ensures { result ≡ taking.takes options opening c token.now }
 {
-    if let Token::Literal(x) = token {
-        return bracket::is_same(options.case_sensitive, c, *x);
+    match token {
+        Token::Literal(x) => bracket::is_same(options.case_sensitive, c, *x),
+        Token::AnyChar => is_free(options, opening, c),
+        _ => {
+            // The call needs the options in memory. With a copy, which is made on this path alone, those of the caller
+            // stay in registers.
+            let copy = MatchOptions { ..options };
+            takes_other(token, copy, opening, c)
+        }
     }
-    // The call needs the options in memory. With a copy, which is made on this path alone, those of the caller stay in
-    // registers.
-    let copy = MatchOptions { ..options };
-    takes_nonliteral(token, copy, opening, c)
 }
 
-/// [`takes`], out of line, for a token that is no literal.
+/// [`takes`], out of line, for a token that is neither a literal nor `?`.
 #[inline(never)]
-fn takes_nonliteral<A: Allocator>(
+fn takes_other<A: Allocator>(
     token: &Token<Bracket<A>>,
     options: MatchOptions,
     opening: bool,
@@ -51,6 +54,7 @@ fn takes_nonliteral<A: Allocator>(
 }
 
 /// Whether no rule excludes the character from wildcards.
+#[inline(always)]
 fn is_free(options: MatchOptions, opening: bool, c: char) -> bool
     ensures { result ≡ taking.is_free options opening c }
 {

@@ -7,7 +7,7 @@ ghost use Rattle.glob_pattern.specs.Private.CharMasks.{IsMask};
 ghost use Rattle.glob_pattern.specs.Private.Positions.{IsShapeWord};
 ghost use Rattle.glob_pattern.specs.Private.Spans.{takes_many, wildcard_takes, table_before};
 ghost use Rattle.glob_pattern.specs.Private.Stepping.{place_before};
-ghost use Rattle.glob_pattern.specs.Private.TextTable.{table_of};
+ghost use Rattle.glob_pattern.specs.Private.TextTable.{table_within};
 
 use super::{TextJudge, take_left};
 use crate::matcher::{Judge, ShapeWord, last_before};
@@ -73,10 +73,10 @@ impl<'a, A: Allocator> SpanJudge<'a, A> {
     }
 }
 
-#[tactic(auto, unfolding(crate::specs::Private::TextTable::table_of))]
+#[tactic(auto, unfolding(crate::specs::Private::TextTable::table_within))]
 impl<A: Allocator> Judge for SpanJudge<'_, A> {
-    ghost table = { λ j. table_before (table_of j.judge.options j.judge.tokens.now
-        (chars j.judge.text.now)) j.end };
+    ghost table = { λ j. table_before (table_within j.judge.opening j.judge.options
+        j.judge.tokens.now (chars j.judge.text.now)) j.end };
 
     ghost place = { λ j. place_before (chars j.judge.text.now) (chars (chars_rest j.judge.rest)) };
 

@@ -1,14 +1,12 @@
 use Rattle.std.proofs.Common.{◌≡◌, ◌∙◌, arith}
-use Rattle.std.specs.List.{each_same}
 use Rattle.std.proofs.lemmas.List.Elements.{same_from_all_zip}
 use Rattle.glob_pattern.proofs.pattern.compiled.Compiled.clone.Goals as goal
 
 pub invariant_of-result : goal.invariant_of-result
 invariant_of-result g c =
     let tokens : c.in_ok-clone.field-0.items ≡ c.self.inside.tokens.items = same_from_all_zip _ _ _ c.in_ok-clone.ensures.cases.0 (λ x y same. grind arith) in
-    let words : c.in_ok-clone-2.field-0.items ≡ c.self.inside.words.items = each_same _ _ c.in_ok-clone-2.ensures.cases.0 in
-    let masks : c.in_ok-clone-3.field-0.items ≡ c.self.inside.masks.items = each_same _ _ c.in_ok-clone-3.ensures.cases.0 in
-    rw (tokens, words, masks) c.self.invariant
+    let automaton = c.in_ok-clone-2.ensures in
+    rw (tokens, automaton.first, automaton.words, automaton.masks) c.self.invariant
 
 pub returns : goal.returns
 returns g c = same_from_all_zip _ _ _ c.in_ok-clone.ensures.cases.0 (λ x y same. grind arith) ∙ c.self.view_is

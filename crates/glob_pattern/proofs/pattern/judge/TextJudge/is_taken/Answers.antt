@@ -1,10 +1,10 @@
 use Rattle.std.proofs.lemmas.List.{get_or_default}
-use Rattle.glob_pattern.specs.Private.TextTable.{table_of}
+use Rattle.glob_pattern.specs.Private.TextTable.{table_within}
 use Rattle.glob_pattern.specs.declared.token.Token.TheVariants.{AnyChar}
 use Rattle.glob_pattern.proofs.pattern.judge.TextJudge.is_taken.Goals as goal
 
 pub returns : goal.returns
-unfolding table_of
+unfolding table_within
 returns g c =
     let judge = c.args.self.now in
     let stepped = judge.stepped in

@@ -1,24 +1,24 @@
 use Rattle.std.proofs.Common.{◌*◌, ◌<◌, ◌==◌, bit_and, get_or, refl, inl, inr, ⊎_elim, sym, subst, ◌∙◌, arith}
 use Rattle.glob_text.specs.Characters.{slash}
 use Rattle.glob_pattern.specs.Private.CharMasks.{IsCharMasks}
-use Rattle.glob_pattern.specs.Private.TextTable.{table_of}
+use Rattle.glob_pattern.specs.Private.TextTable.{table_within}
 use Rattle.glob_pattern.proofs.BitLemmas.SetBits.{IsBitSet-zero, IsBitSet-and, IsBitSet-or}
 use Rattle.glob_pattern.proofs.MaskLemmas.Classes.{class-below}
 use Rattle.glob_pattern.proofs.MaskLemmas.Known.{known-taken, taken-known}
 use Rattle.glob_pattern.proofs.pattern.judge.TextJudgeJudge.takes_each.Goals as goal
 
 pub take_left-requires : goal.take_left-requires
-unfolding table_of
+unfolding table_within
 take_left-requires g c = λ j a. let at = c.requires.tokens j a in (at.1, at.2)
 
 pub returns-in_default-clause-took : goal.returns-in_default-clause-took
-unfolding table_of
+unfolding table_within
 returns-in_default-clause-took g c =
     let stepped = c.args.self.now.stepped in
     rw (← (stepped.last c.requires.stepped), ← (stepped.before c.requires.stepped)) c.take_left.ensures
 
 pub returns-then-class-ne-BEYOND-clause-took : goal.returns-then-class-ne-BEYOND-clause-took
-unfolding table_of
+unfolding table_within
 returns-then-class-ne-BEYOND-clause-took g c = λ j lt.
     let judge = c.args.self.now in
     let stepped = judge.stepped in
@@ -34,7 +34,7 @@ returns-then-class-ne-BEYOND-clause-took g c = λ j lt.
     )
 
 pub returns-then-left-eq0-clause-took : goal.returns-then-left-eq0-clause-took
-unfolding table_of
+unfolding table_within
 returns-then-left-eq0-clause-took g c = λ j lt.
     let judge = c.args.self.now in
     let stepped = judge.stepped in
@@ -50,11 +50,11 @@ returns-then-left-eq0-clause-took g c = λ j lt.
     )
 
 pub take_left-requires-2 : goal.take_left-requires-2
-unfolding table_of
+unfolding table_within
 take_left-requires-2 g c = λ j l. let at = c.requires.tokens j ((IsBitSet-and c.args.asked c.in-Some.masks.now.undecided j).0 l).0 in (at.1, at.2)
 
 pub returns-clause-took : goal.returns-clause-took
-unfolding table_of
+unfolding table_within
 returns-clause-took g c = λ j lt.
     let judge = c.args.self.now in
     let stepped = judge.stepped in

@@ -1,0 +1,333 @@
+-- What the ends of a pattern leave of a text, and of its tokens.
+use Rattle.std.proofs.Common.{◌≡◌, ℕ, ◌+◌, ◌-◌, ◌<◌, ◌≤◌, ◌⊎◌, ◌↔◌, Bool, true, ◌&&◌, List, [], ◌∷◌, ◌++◌, Option, None, Some, MatchOption, length, map, take, drop, get_or, refl, sym, ap, ap₂, subst, subst₂, ◌∙◌, inl, inr, ⊎_elim, arith, chars, append-nil}
+use Rattle.std.proofs.Math.Seq.{drop-append_seam, take-append_seam}
+use Rattle.std.proofs.lemmas.Bool.{and_from, and_parts, cases_eq}
+use Rattle.std.proofs.lemmas.List.{drop-drop, drop-map, drop_more, get_or-drop, get_or-map, get_or-take, get_or_past, length-append, length-drop, length-map, length-take-le, map-append, nil_from_length, take-append-drop, take-map, take_all, take_more}
+use Rattle.std.proofs.lemmas.List.Folds.{drop_split}
+use Rattle.std.proofs.lemmas.Str.{IsUtf8-take, IsUtf8-drop, IsCharBoundary-from_drop, chars-append, chars-encodes, encodes-append, encodes-chars, length-encode, scalars-chars}
+use Rattle.std.specs.List.{slice_range}
+use Rattle.std.specs.Str.{IsUtf8, IsCharBoundary, encode_utf8_all}
+use Rattle.std.specs.Char.{len_utf8}
+use lib.Utf8.{encode, scalar, scalars}
+use Rattle.glob_text.specs.Text.{Text}
+use Rattle.glob_pattern.specs.Grammar.Tokens.{Token, shape_of}
+use Rattle.glob_pattern.specs.Grammar.Units.{HasTokens}
+use Rattle.glob_pattern.specs.Laws.{SameTexts}
+use Rattle.glob_pattern.specs.Matching.Texts.{TokensMatch}
+use Rattle.glob_pattern.specs.Private.Ends.{AreOnes, HasLiterals, IsEnds, HasEnds, SameBytes, middle_of}
+use Rattle.glob_pattern.specs.Private.Parts.{SplitsPart, EndsAt}
+use Rattle.glob_pattern.specs.Private.Prefixes.{PrefixSplits}
+use Rattle.glob_pattern.specs.Private.TextTable.{opens_within}
+use Rattle.glob_pattern.specs.declared.matcher.Shape.TheVariants.{One}
+use Rattle.glob_pattern.specs.declared.options.MatchOptions.{MatchOptions}
+use Rattle.glob_pattern.specs.declared.pattern.ends.Ends.{Ends}
+use Rattle.glob_pattern.specs.declared.token.Token.TheVariants.{AnyChar, Literal}
+use Rattle.glob_pattern.proofs.Counts.{length-chars}
+use Rattle.glob_pattern.proofs.GrammarLemmas.Written.{text-begins, text-ends}
+use Rattle.glob_pattern.proofs.MatchingLemmas.EndBytes.{SameTexts-from_bytes, boundary-first, boundary-last, chars-cut, HasEnds-from_texts}
+use Rattle.glob_pattern.proofs.MatchingLemmas.Ends.{length-literals, TakesFirst-literals, first-from_SplitsPart, TakesLast-literals, last-from_SplitsPart}
+use Rattle.glob_pattern.proofs.MatchingLemmas.Parts.{TokensMatch-iff_part, SplitsPart-cut}
+
+-- the rest of a list from a place on
+pub range-end : {X : Type 0} (xs : List X) (i : ℕ) → take (length xs - i) (drop i xs) ≡ drop i xs
+range-end xs i = take_all (length xs - i) (drop i xs) (omega (arith, length-drop i xs))
+
+pub length-range : {X : Type 0} (xs : List X) (i j : ℕ) → i ≤ j → j ≤ length xs → length (slice_range xs i j) ≡ j - i
+length-range xs i j le within = length-take-le (j - i) (drop i xs) (omega (arith, length-drop i xs))
+
+-- each of two parts of characters is of characters
+scalars-parts : (xs ys : Text) → scalars (xs ++ ys) ≡ true → (scalars xs ≡ true) × (scalars ys ≡ true)
+scalars-parts [] ys all = (refl, all)
+scalars-parts (x ∷ xs) ys all =
+    let (first, rest) = and_parts (scalar x) (scalars (xs ++ ys)) all in
+    let (front, back) = scalars-parts xs ys rest in
+    (and_from (scalar x) (scalars xs) first front, back)
+
+module _ (tokens : List Token) (ends : Ends) (is : IsEnds tokens ends) where
+  fits : ends.lead + ends.trail ≤ length tokens
+  fits = omega (arith, is.ones.within, length-map tokens shape_of)
+
+  count-first : length is.first.plain ≡ ends.prefix.count
+  count-first = sym (length-literals is.first.plain _ is.first.tokens_are) ∙ length-take-le ends.prefix.count tokens (omega (arith, fits, is.few_first))
+
+  count-last : length is.last.plain ≡ ends.suffix.count
+  count-last =
+      let long = length-drop (length tokens - ends.suffix.count) tokens in
+      omega (arith, long, length-literals is.last.plain _ is.last.tokens_are, fits, is.few_last)
+
+  tokens-first : tokens ≡ map Literal is.first.plain ++ drop ends.prefix.count tokens
+  tokens-first = sym (take-append-drop ends.prefix.count tokens) ∙ ap (λ ts. ts ++ drop ends.prefix.count tokens) is.first.tokens_are
+
+  tokens-last : drop ends.prefix.count tokens ≡ slice_range tokens ends.prefix.count (length tokens - ends.suffix.count) ++ (map Literal is.last.plain ++ [])
+  tokens-last =
+      drop_split tokens ends.prefix.count (length tokens - ends.suffix.count) (omega (arith, fits, is.few_first, is.few_last))
+      ∙ ap (λ ts. slice_range tokens ends.prefix.count (length tokens - ends.suffix.count) ++ ts) (is.last.tokens_are ∙ sym (append-nil (map Literal is.last.plain)))
+
+  count-inside : length (slice_range tokens ends.prefix.count (length tokens - ends.suffix.count)) ≡ length tokens - ends.prefix.count - ends.suffix.count
+  count-inside =
+      let long = length-range tokens ends.prefix.count (length tokens - ends.suffix.count) (omega (arith, fits, is.few_first, is.few_last)) (omega arith) in
+      omega (arith, long)
+
+  -- the pattern's text begins and ends with the bytes of the literals
+  module _ (pattern : List ℕ) (u : IsUtf8 pattern) (has : HasTokens (chars pattern) tokens) where
+    pub pattern-first : (take ends.prefix.bytes pattern ≡ encode_utf8_all is.first.plain) × (ends.prefix.bytes ≤ length pattern) × (scalars is.first.plain ≡ true)
+    pattern-first =
+        let (rest, split) = text-begins (chars pattern) is.first.plain tokens (drop ends.prefix.count tokens) has tokens-first in
+        let a = encode_utf8_all is.first.plain in
+        let spelled : pattern ≡ a ++ encode_utf8_all rest = sym (encodes-chars pattern u) ∙ ap encode_utf8_all split ∙ encodes-append is.first.plain rest in (
+          ap₂ take is.first.count_is spelled ∙ take-append_seam a (encode_utf8_all rest),
+          omega (arith, is.first.count_is, ap length spelled, length-append a (encode_utf8_all rest)),
+          (scalars-parts is.first.plain rest (ap scalars (sym split) ∙ scalars-chars pattern u)).0,
+        )
+
+    pub pattern-last : (drop (length pattern - ends.suffix.bytes) pattern ≡ encode_utf8_all is.last.plain) × (ends.suffix.bytes ≤ length pattern) × (scalars is.last.plain ≡ true)
+    pattern-last =
+        let front = take (length tokens - ends.suffix.count) tokens in
+        let whole : tokens ≡ front ++ map Literal is.last.plain = sym (take-append-drop (length tokens - ends.suffix.count) tokens) ∙ ap (λ ts. front ++ ts) is.last.tokens_are in
+        let (rest, split) = text-ends (chars pattern) is.last.plain tokens front has whole in
+        let z = encode_utf8_all is.last.plain in
+        let r = encode_utf8_all rest in
+        let spelled : pattern ≡ r ++ z = sym (encodes-chars pattern u) ∙ ap encode_utf8_all split ∙ encodes-append rest is.last.plain in
+        let long : length pattern ≡ length r + length z = ap length spelled ∙ length-append r z in
+        let place : length pattern - ends.suffix.bytes ≡ length r = omega (arith, long, is.last.count_is) in (
+          ap₂ drop place spelled ∙ drop-append_seam r z,
+          omega (arith, is.last.count_is, long),
+          (scalars-parts rest is.last.plain (ap scalars (sym split) ∙ scalars-chars pattern u)).1,
+        )
+
+  -- a text that the tokens match has the literals at its ends
+  pub ends-from_match : (o : MatchOptions) (bytes : List ℕ) → IsUtf8 bytes → TokensMatch o tokens (chars bytes)
+      → HasEnds o.case_sensitive (encode_utf8_all is.first.plain) (encode_utf8_all is.last.plain) bytes
+  ends-from_match o bytes u match =
+      let text = chars bytes in
+      let behind = drop ends.prefix.count tokens in
+      let inside = slice_range tokens ends.prefix.count (length tokens - ends.suffix.count) in
+      let many : length tokens ≡ length is.first.plain + (length tokens - ends.prefix.count) = omega (arith, count-first, fits, is.few_first) in
+      let all : SplitsPart o true (map Literal is.first.plain ++ behind) (length tokens) text =
+      subst (λ ts. SplitsPart o true ts (length tokens) text) tokens-first ((TokensMatch-iff_part o tokens text).0 match) in
+      let (here, rest, first, begins) = first-from_SplitsPart o is.first.plain true behind (length tokens - ends.prefix.count) (length tokens) text many all in
+      let taken = TakesFirst-literals o is.first.plain here true rest begins behind (length tokens - ends.prefix.count) (length tokens) (omega (arith, many, length-literals is.first.plain (map Literal is.first.plain) refl)) in
+      let left = taken.0 (subst (SplitsPart o true (map Literal is.first.plain ++ behind) (length tokens)) first all) in
+      let (between, there, last, stops) = last-from_SplitsPart o is.last.plain (opens_within true here (length here)) inside [] (length inside) (length tokens - ends.prefix.count) rest refl
+      (omega (arith, count-inside, count-last, fits, is.few_first, is.few_last)) (subst (λ ts. SplitsPart o (opens_within true here (length here)) ts (length tokens - ends.prefix.count) rest) tokens-last left) in
+      HasEnds-from_texts o.case_sensitive is.first.plain is.last.plain bytes here between there u (first ∙ ap (λ xs. here ++ xs) last) begins stops
+
+  -- and one that has them matches where what is between them is split
+  module _ (o : MatchOptions) (bytes : List ℕ) (u : IsUtf8 bytes) (start end : ℕ) (s : start ≡ length (encode_utf8_all is.first.plain)) (e : end ≡ length bytes - length (encode_utf8_all is.last.plain))
+      (a : scalars is.first.plain ≡ true) (z : scalars is.last.plain ≡ true) (has : HasEnds o.case_sensitive (encode_utf8_all is.first.plain) (encode_utf8_all is.last.plain) bytes) where
+    pub start-boundary : IsCharBoundary bytes start
+    start-boundary = subst (IsCharBoundary bytes) (sym s) (boundary-first o.case_sensitive bytes (encode_utf8_all is.first.plain) u (is.first.plain, (a, refl)) (omega (arith, has.within)) has.first)
+
+    pub end-boundary : IsCharBoundary bytes end
+    end-boundary = subst (IsCharBoundary bytes) (sym e) (boundary-last o.case_sensitive bytes (encode_utf8_all is.last.plain) u (is.last.plain, (z, refl)) (omega (arith, has.within)) has.last)
+
+    pub in_order : start ≤ end
+    in_order = omega (arith, s, e, has.within)
+
+    rest-split : chars (drop start bytes) ≡ chars (slice_range bytes start end) ++ chars (drop end bytes)
+    rest-split =
+        let back : drop (end - start) (drop start bytes) ≡ drop end bytes = drop-drop (end - start) start bytes ∙ ap (λ k. drop k bytes) (omega (arith, in_order)) in
+        let later = IsUtf8-drop bytes start u start-boundary in
+        let at = IsCharBoundary-from_drop (drop start bytes) (end - start) (omega (arith, in_order, length-drop start bytes, end-boundary.0)) (subst IsUtf8 (sym back) (IsUtf8-drop bytes end u end-boundary)) in
+        ap chars (drop_split bytes start end in_order) ∙ chars-append (slice_range bytes start end) (drop end bytes) (IsUtf8-take (drop start bytes) (end - start) later at)
+
+    pub inside-fewer : length (chars (slice_range bytes start end)) ≤ length (chars bytes)
+    inside-fewer =
+        let front = chars (take start bytes) in
+        let inside = chars (slice_range bytes start end) in
+        omega (arith, ap length (chars-cut bytes start u start-boundary), length-append front (chars (drop start bytes)), ap length rest-split, length-append inside (chars (drop end bytes)))
+
+    same-first : SameTexts o.case_sensitive (chars (take start bytes)) is.first.plain
+    same-first =
+        subst (SameTexts o.case_sensitive (chars (take start bytes))) (chars-encodes is.first.plain a)
+        (SameTexts-from_bytes o.case_sensitive (take start bytes) (encode_utf8_all is.first.plain) (IsUtf8-take bytes start u start-boundary) (is.first.plain, (a, refl))
+        (subst (λ n. SameBytes o.case_sensitive (take n bytes) (encode_utf8_all is.first.plain)) (sym s) has.first))
+
+    same-last : SameTexts o.case_sensitive (chars (drop end bytes)) is.last.plain
+    same-last =
+        subst (SameTexts o.case_sensitive (chars (drop end bytes))) (chars-encodes is.last.plain z)
+        (SameTexts-from_bytes o.case_sensitive (drop end bytes) (encode_utf8_all is.last.plain) (IsUtf8-drop bytes end u end-boundary) (is.last.plain, (z, refl))
+        (subst (λ n. SameBytes o.case_sensitive (drop n bytes) (encode_utf8_all is.last.plain)) (sym e) has.last))
+
+    pub match-iff_inside : TokensMatch o tokens (chars bytes)
+        ↔ SplitsPart o (opens_within true (chars (take start bytes)) (length (chars (take start bytes)))) (drop ends.prefix.count tokens) (length tokens - ends.prefix.count - ends.suffix.count) (chars (slice_range bytes start end))
+    match-iff_inside =
+        let here = chars (take start bytes) in
+        let opening = opens_within true here (length here) in
+        let behind = drop ends.prefix.count tokens in
+        let inside = slice_range tokens ends.prefix.count (length tokens - ends.suffix.count) in
+        let left : ℕ = length tokens - ends.prefix.count in
+        let whole = TokensMatch-iff_part o tokens (chars bytes) in
+        let first = subst₂ (λ ts text. SplitsPart o true ts (length tokens) text ↔ SplitsPart o opening behind left (chars (drop start bytes))) (sym tokens-first) (sym (chars-cut bytes start u start-boundary))
+        (TakesFirst-literals o is.first.plain here true (chars (drop start bytes)) same-first behind left (length tokens) (omega (arith, count-first, fits, is.few_first, length-literals is.first.plain (map Literal is.first.plain) refl))) in
+        let last = subst₂ (λ ts text. SplitsPart o opening ts left text ↔ SplitsPart o opening ts (length inside) (chars (slice_range bytes start end))) (sym tokens-last) (sym rest-split)
+        (TakesLast-literals o is.last.plain (chars (drop end bytes)) opening (chars (slice_range bytes start end)) same-last inside [] (length inside) left refl
+        (omega (arith, count-inside, count-last, fits, is.few_first, is.few_last, length-literals is.last.plain (map Literal is.last.plain) refl))) in
+        subst (λ n. TokensMatch o tokens (chars bytes) ↔ SplitsPart o opening behind n (chars (slice_range bytes start end))) count-inside
+        (λ match. last.0 (first.0 (whole.0 match)), λ splits. whole.1 (first.1 (last.1 splits)))
+
+  -- by the pattern's text
+  module _ (pattern : List ℕ) (v : IsUtf8 pattern) (read : HasTokens (chars pattern) tokens) (o : MatchOptions) (bytes : List ℕ) (u : IsUtf8 bytes) where
+    pub match-needs_ends : (HasEnds o.case_sensitive (take ends.prefix.bytes pattern) (drop (length pattern - ends.suffix.bytes) pattern) bytes → ⊥) → TokensMatch o tokens (chars bytes) → ⊥
+    match-needs_ends none match =
+        none (subst₂ (λ a z. HasEnds o.case_sensitive a z bytes) (sym (pattern-first pattern v read).0) (sym (pattern-last pattern v read).0) (ends-from_match o bytes u match))
+
+    module _ (found : HasEnds o.case_sensitive (take ends.prefix.bytes pattern) (drop (length pattern - ends.suffix.bytes) pattern) bytes) where
+      literal-ends : HasEnds o.case_sensitive (encode_utf8_all is.first.plain) (encode_utf8_all is.last.plain) bytes
+      literal-ends = subst₂ (λ a z. HasEnds o.case_sensitive a z bytes) (pattern-first pattern v read).0 (pattern-last pattern v read).0 found
+
+      pub cut-within : ends.prefix.bytes + ends.suffix.bytes ≤ length bytes
+      cut-within = omega (arith, literal-ends.within, is.first.count_is, is.last.count_is)
+
+      pub cut-start : IsCharBoundary bytes ends.prefix.bytes
+      cut-start = start-boundary o bytes u ends.prefix.bytes (length bytes - ends.suffix.bytes) is.first.count_is (ap (λ n. length bytes - n) is.last.count_is)
+          (pattern-first pattern v read).2 (pattern-last pattern v read).2 literal-ends
+
+      pub cut-end : IsCharBoundary bytes (length bytes - ends.suffix.bytes)
+      cut-end = end-boundary o bytes u ends.prefix.bytes (length bytes - ends.suffix.bytes) is.first.count_is (ap (λ n. length bytes - n) is.last.count_is)
+          (pattern-first pattern v read).2 (pattern-last pattern v read).2 literal-ends
+
+      pub cut-fewer : length (chars (slice_range bytes ends.prefix.bytes (length bytes - ends.suffix.bytes))) ≤ length (chars bytes)
+      cut-fewer = inside-fewer o bytes u ends.prefix.bytes (length bytes - ends.suffix.bytes) is.first.count_is (ap (λ n. length bytes - n) is.last.count_is)
+          (pattern-first pattern v read).2 (pattern-last pattern v read).2 literal-ends
+
+      pub cut-match : TokensMatch o tokens (chars bytes)
+          ↔ SplitsPart o (opens_within true (chars (take ends.prefix.bytes bytes)) (length (chars (take ends.prefix.bytes bytes)))) (drop ends.prefix.count tokens) (length tokens - ends.prefix.count - ends.suffix.count)
+          (chars (slice_range bytes ends.prefix.bytes (length bytes - ends.suffix.bytes)))
+      cut-match = match-iff_inside o bytes u ends.prefix.bytes (length bytes - ends.suffix.bytes) is.first.count_is (ap (λ n. length bytes - n) is.last.count_is)
+          (pattern-first pattern v read).2 (pattern-last pattern v read).2 literal-ends
+
+  tokens-behind : drop ends.lead tokens
+      ≡ slice_range tokens ends.lead (length tokens - ends.trail) ++ (slice_range tokens (length tokens - ends.trail) (length tokens - ends.suffix.count) ++ drop (length tokens - ends.suffix.count) tokens)
+  tokens-behind =
+      drop_split tokens ends.lead (length tokens - ends.trail) (omega (arith, fits))
+      ∙ ap (λ ts. slice_range tokens ends.lead (length tokens - ends.trail) ++ ts) (drop_split tokens (length tokens - ends.trail) (length tokens - ends.suffix.count) (omega (arith, is.few_last)))
+
+  -- the tokens behind the first literals: others of one character, those between the ends, and again others
+  pub tokens-inside : drop ends.prefix.count tokens
+      ≡ slice_range tokens ends.prefix.count ends.lead
+      ++ (slice_range tokens ends.lead (length tokens - ends.trail) ++ (slice_range tokens (length tokens - ends.trail) (length tokens - ends.suffix.count) ++ drop (length tokens - ends.suffix.count) tokens))
+  tokens-inside =
+      drop_split tokens ends.prefix.count ends.lead is.few_first ∙ ap (λ ts. slice_range tokens ends.prefix.count ends.lead ++ ts) tokens-behind
+
+  pub count-between : length (slice_range tokens ends.lead (length tokens - ends.trail)) ≡ length tokens - ends.lead - ends.trail
+  count-between =
+      let long = length-range tokens ends.lead (length tokens - ends.trail) (omega (arith, fits)) (omega arith) in
+      omega (arith, long)
+
+  pub count-around : length (slice_range tokens ends.prefix.count ends.lead) + length (slice_range tokens ends.lead (length tokens - ends.trail))
+      + length (slice_range tokens (length tokens - ends.trail) (length tokens - ends.suffix.count)) ≡ length tokens - ends.prefix.count - ends.suffix.count
+  count-around =
+      let first = length-range tokens ends.prefix.count ends.lead is.few_first (omega (arith, fits)) in
+      let last = length-range tokens (length tokens - ends.trail) (length tokens - ends.suffix.count) (omega (arith, is.few_last)) (omega arith) in
+      omega (arith, first, last, count-between, fits, is.few_first, is.few_last)
+
+  -- a token of the ends takes one character
+  one-token : (n : ℕ) → n < length tokens → get_or (map shape_of tokens) n One ≡ One → shape_of (get_or tokens n AnyChar) ≡ One
+  one-token n lt one = sym (get_or-map shape_of tokens n AnyChar One lt) ∙ one
+
+  pub ones-first : AreOnes (slice_range tokens ends.prefix.count ends.lead)
+  ones-first = record {
+    each = λ j lt.
+        let long = length-range tokens ends.prefix.count ends.lead is.few_first (omega (arith, fits)) in
+        let at = get_or-take (ends.lead - ends.prefix.count) (drop ends.prefix.count tokens) j AnyChar (omega (arith, lt, long)) ∙ get_or-drop ends.prefix.count tokens j AnyChar in
+        ap shape_of at ∙ one-token (ends.prefix.count + j) (omega (arith, lt, long, fits)) (is.ones.first (ends.prefix.count + j) (omega (arith, lt, long)));
+  }
+
+  pub ones-last : AreOnes (slice_range tokens (length tokens - ends.trail) (length tokens - ends.suffix.count))
+  ones-last = record {
+    each = λ j lt.
+        let long = length-range tokens (length tokens - ends.trail) (length tokens - ends.suffix.count) (omega (arith, is.few_last)) (omega arith) in
+        let n : ℕ = length tokens - ends.trail + j in
+        let at = get_or-take (length tokens - ends.suffix.count - (length tokens - ends.trail)) (drop (length tokens - ends.trail) tokens) j AnyChar (omega (arith, lt, long)) ∙ get_or-drop (length tokens - ends.trail) tokens j AnyChar in
+        let place : length (map shape_of tokens) - 1 - (ends.trail - 1 - j) ≡ n = omega (arith, lt, long, fits, is.few_last, length-map tokens shape_of) in
+        ap shape_of at ∙ one-token n (omega (arith, lt, long, fits, is.few_last)) (rw place at (is.ones.last (ends.trail - 1 - j) (omega (arith, lt, long, fits, is.few_last))));
+  }
+
+  -- the tokens between the ends
+  long-middle : length (middle_of tokens ends) ≡ length tokens - (ends.trail - 1) - ends.lead
+  long-middle = length-range tokens ends.lead (length tokens - (ends.trail - 1)) (omega (arith, fits)) (omega arith)
+
+  pub few-middle : length (middle_of tokens ends) ≤ length tokens
+  few-middle = omega (arith, long-middle)
+
+  pub EndsAt-middle : EndsAt (middle_of tokens ends) (length tokens - ends.lead - ends.trail)
+  EndsAt-middle = record {
+    within = omega (arith, long-middle, fits);
+    one = ⊎_elim
+        (λ none. get_or_past (map shape_of (middle_of tokens ends)) n One (omega (arith, none, long-middle, fits, length-map (middle_of tokens ends) shape_of)))
+        (λ some.
+        let place : length (map shape_of tokens) - 1 - (ends.trail - 1) ≡ ends.lead + n = omega (arith, some, fits, length-map tokens shape_of) in
+        ap (λ ss. get_or ss n One) mapped ∙ get_or-take m (drop ends.lead (map shape_of tokens)) n One (omega (arith, some, fits)) ∙ get_or-drop ends.lead (map shape_of tokens) n One
+        ∙ rw place at (is.ones.last (ends.trail - 1) (omega (arith, some))))
+        (cases_eq ends.trail 0);
+  }
+    where
+      n : ℕ
+      n = length tokens - ends.lead - ends.trail
+
+      m : ℕ
+      m = length tokens - (ends.trail - 1) - ends.lead
+
+      mapped : map shape_of (middle_of tokens ends) ≡ take m (drop ends.lead (map shape_of tokens))
+      mapped = sym (ap (take m) (drop-map shape_of ends.lead tokens) ∙ take-map shape_of m (drop ends.lead tokens))
+
+  pub part-middle : (o : MatchOptions) (opening : Bool) (part : Text)
+      → SplitsPart o opening (drop ends.lead tokens) (length tokens - ends.lead - ends.trail) part ↔ SplitsPart o opening (middle_of tokens ends) (length tokens - ends.lead - ends.trail) part
+  part-middle o opening part =
+      SplitsPart-cut o opening (drop ends.lead tokens) (length tokens - ends.lead - ends.trail) (length tokens - (ends.trail - 1) - ends.lead) part
+      (⊎_elim (λ none. inr (omega (arith, none, length-drop ends.lead tokens))) (λ some. inl (omega (arith, some, fits))) (cases_eq ends.trail 0))
+
+  -- so where the ends leave a part, it is matched by the tokens between
+  module _ (o : MatchOptions) (opening : Bool) (part text : Text) (match : TokensMatch o tokens text ↔ SplitsPart o opening (drop ends.prefix.count tokens) (length tokens - ends.prefix.count - ends.suffix.count) part) where
+    -- without other tokens than literals at the ends
+    pub match-iff_literals : ends.lead ≡ ends.prefix.count → ends.trail ≡ ends.suffix.count → TokensMatch o tokens text ↔ SplitsPart o opening (middle_of tokens ends) (length tokens - ends.lead - ends.trail) part
+    match-iff_literals lead trail =
+        let all = subst₂ (λ a z. TokensMatch o tokens text ↔ SplitsPart o opening (drop a tokens) (length tokens - a - z) part) (sym lead) (sym trail) match in
+        let middle = part-middle o opening part in
+        (λ m. middle.0 (all.0 m), λ splits. all.1 (middle.1 splits))
+
+    -- with them
+    module _ (m : ℕ) (count : m ≡ length tokens - ends.prefix.count - ends.suffix.count) where
+      pub match-stopped : (SplitsPart o opening (drop ends.prefix.count tokens) m part → ⊥) → TokensMatch o tokens text → ⊥
+      match-stopped stops found = stops (subst (λ n. SplitsPart o opening (drop ends.prefix.count tokens) n part) (sym count) (match.0 found))
+
+      pub match-iff_left : (left : Bool) (rest : Text) → SplitsPart o opening (drop ends.prefix.count tokens) m part
+          ↔ SplitsPart o left (slice_range tokens ends.lead (length tokens - ends.trail) ++ (slice_range tokens (length tokens - ends.trail) (length tokens - ends.suffix.count) ++ drop (length tokens - ends.suffix.count) tokens))
+          (length (slice_range tokens ends.lead (length tokens - ends.trail))) rest
+          → TokensMatch o tokens text ↔ SplitsPart o left (middle_of tokens ends) (length tokens - ends.lead - ends.trail) rest
+      match-iff_left left rest ends-taken =
+          let taken = subst₂ (λ ts k. SplitsPart o opening (drop ends.prefix.count tokens) m part ↔ SplitsPart o left ts k rest) (sym tokens-behind) count-between ends-taken in
+          let all = subst (λ n. TokensMatch o tokens text ↔ SplitsPart o opening (drop ends.prefix.count tokens) n part) (sym count) match in
+          let middle = part-middle o left rest in
+          (λ found. middle.0 (taken.0 (all.0 found)), λ splits. all.1 (taken.1 (middle.1 splits)))
+
+-- what holds of an answer or of none, from what does
+pub MatchOption-map : {T : Type 0} {P R : Type 0} {Q S : T → Type 0} (x : Option T) → (P → R) → ((t : T) → Q t → S t) → MatchOption x P Q → MatchOption x R S
+MatchOption-map None p q h = p h
+MatchOption-map (Some t) p q h = q t h
+
+-- one more literal at the end of some, or at the start
+pub HasLiterals-next : (tokens : List Token) (n c bytes : ℕ) (t : Token) → n < length tokens → t ≡ get_or tokens n t → t ≡ Literal c → HasLiterals (take n tokens) bytes → HasLiterals (take (n + 1) tokens) (bytes + len_utf8 c)
+HasLiterals-next tokens n c bytes t lt at is before = record {
+  plain = before.plain ++ c ∷ [];
+  tokens_are = take_more tokens n t lt ∙ ap₂ (λ ts u. ts ++ u ∷ []) before.tokens_are (sym at ∙ is) ∙ sym (map-append Literal before.plain (c ∷ []));
+  count_is =
+      let long = length-append (encode_utf8_all before.plain) (encode_utf8_all (c ∷ [])) in
+      omega (arith, before.count_is, ap length (encodes-append before.plain (c ∷ [])), long, ap length (append-nil (encode c)), length-encode c);
+}
+
+pub HasLiterals-before : (tokens : List Token) (n c bytes : ℕ) (t : Token) → n < length tokens → t ≡ get_or tokens n t → t ≡ Literal c → HasLiterals (drop (n + 1) tokens) bytes → HasLiterals (drop n tokens) (bytes + len_utf8 c)
+HasLiterals-before tokens n c bytes t lt at is after = record {
+  plain = c ∷ after.plain;
+  tokens_are = drop_more tokens n t lt ∙ ap₂ (λ u ts. u ∷ ts) (sym at ∙ is) after.tokens_are;
+  count_is = omega (arith, after.count_is, length-append (encode c) (encode_utf8_all after.plain), length-encode c);
+}
+
+-- no tokens split no characters alone
+pub SplitsPart-none : (o : MatchOptions) (opening : Bool) (tokens : List Token) (bytes : List ℕ) → IsUtf8 bytes → SplitsPart o opening tokens 0 (chars bytes) ↔ (length bytes ≡ 0)
+unfolding SplitsPart PrefixSplits
+SplitsPart-none o opening tokens bytes u = (
+  λ none. ap length (sym (encodes-chars bytes u) ∙ ap encode_utf8_all (nil_from_length (chars bytes) none)),
+  λ none. omega (arith, none, length-chars bytes),
+)

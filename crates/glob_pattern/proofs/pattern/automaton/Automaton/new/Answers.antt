@@ -1,0 +1,13 @@
+use Rattle.std.proofs.Common.{◌<◌, length, map, arith}
+use Rattle.glob_pattern.specs.Grammar.Tokens.{shape_of}
+use Rattle.glob_pattern.specs.Private.Positions.{AreShapeWords}
+use Rattle.glob_pattern.proofs.pattern.automaton.Automaton.new.Goals as goal
+use Rattle.glob_pattern.proofs.pattern.automaton.Automaton.new.Goals.{then-tokens-le-WORD, else-tokens-le-WORD+in_ok-words}
+
+pub returns : goal.returns
+returns g c =
+    let words : 63 < length c.args.tokens.now → AreShapeWords (map shape_of c.args.tokens.now) c.if-tokens-le-WORD.words.items = elim c.if-tokens-le-WORD.branch [
+      | then-tokens-le-WORD w ↦ λ more. absurd (omega (arith, more, w.if-tokens-le-WORD.true))
+      | else-tokens-le-WORD+in_ok-words w ↦ λ more. rw w.words-is w.in_ok-words.ensures
+    ] in
+    record { first_word = c.new.ensures; all_words = words; masked = c.in_ok-masks.ensures }

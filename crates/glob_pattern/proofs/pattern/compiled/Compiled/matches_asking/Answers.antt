@@ -1,0 +1,69 @@
+use Rattle.std.proofs.Common.{◌≡◌, ◌+◌, ◌-◌, ◌*◌, ◌^◌, ◌<◌, ◌≤◌, ◌∙◌, length, chars, sym, ap, subst, suc, arith}
+use Rattle.std.proofs.Math.Nat.{mul-suc, mul-le-mul_left, mul-le-mul_right}
+use Rattle.std.proofs.lemmas.Bool.{eqb-true, eq-eqb, false≢true}
+use Rattle.std.proofs.lemmas.List.{length-map}
+use Rattle.glob_pattern.specs.Grammar.Tokens.{shape_of}
+use Rattle.glob_pattern.specs.Matching.Texts.{TokensMatch}
+use Rattle.glob_pattern.specs.Private.Ends.{IsEnds}
+use Rattle.glob_pattern.proofs.Counts.{length-chars, product_fits}
+use Rattle.glob_pattern.proofs.MatchingLemmas.Needles.{ContainsFolded-from_needle}
+use Rattle.glob_pattern.proofs.MatchingLemmas.Stripped.{SplitsPart-none, EndsAt-middle, few-middle}
+use Rattle.glob_pattern.proofs.pattern.compiled.Compiled.matches_asking.Goals as goal
+
+pub returns-then-between-eq0-clause-answer : goal.returns-then-between-eq0-clause-answer
+returns-then-between-eq0-clause-answer g c =
+    let read = c.as_slice-tokens.ensures.value ∙ c.self.view_is in
+    let (utf8, fewer, found) = c.in-Some.ensures in
+    let none = SplitsPart-none c.args.options c.in-Some.part.opening _ c.in-Some.part.text.now utf8 in
+    rw (← read) (
+      λ t. found.1 (rw c.if-between-eq0.true (none.1 (eqb-true _ _ (sym c.is_empty.ensures ∙ t)))),
+      λ m. c.is_empty.ensures ∙ eq-eqb _ _ (none.0 (rw c.if-between-eq0.true at (found.0 m))),
+    )
+
+pub returns-then-not-may_be_in-clause-answer : goal.returns-then-not-may_be_in-clause-answer
+returns-then-not-may_be_in-clause-answer g c = (
+  λ t. absurd (false≢true t),
+  λ m. absurd (false≢true (sym c.if-not-may_be_in.true ∙ (rw c.as_bytes.ensures.value at c.may_be_in.ensures)
+      (ContainsFolded-from_needle c.args.options c.self.inside.tokens.items c.self.inside.needle c.args.text.now c.self.invariant.inside c.utf8.text
+      (subst (λ ts. TokensMatch c.args.options ts (chars c.args.text.now)) (sym c.self.view_is) m)))),
+)
+
+pub matches-requires-clause-end : goal.matches-requires-clause-end
+matches-requires-clause-end g c =
+    let is = subst (λ ts. IsEnds ts c.self.inside.ends) (sym c.as_slice-tokens.ensures.value) c.self.invariant.at_ends in
+    rw c.middle-middle.ensures (EndsAt-middle c.as_slice-tokens.result.now c.self.inside.ends is)
+
+pub returns-clause-answer : goal.returns-clause-answer
+returns-clause-answer g c =
+    let read = c.as_slice-tokens.ensures.value ∙ c.self.view_is in
+    let (utf8, fewer, found) = c.in-Some.ensures in
+    let answer = rw c.middle-middle.ensures at c.in_ok-answer.ensures.answer in
+    rw (← read) (λ t. found.1 (answer.0 t), λ m. answer.1 (found.0 m))
+
+pub returns-in_err-answer-clause-short : goal.returns-in_err-answer-clause-short
+returns-in_err-answer-clause-short g c = λ lt.
+    let is = subst (λ ts. IsEnds ts c.self.inside.ends) (sym c.as_slice-tokens.ensures.value) c.self.invariant.at_ends in
+    let few = few-middle c.as_slice-tokens.result.now c.self.inside.ends is in
+    absurd (false≢true (c.in_err-answer.ensures.short (omega (arith, lt, few, ap length c.middle-middle.ensures, ap length (c.as_slice-tokens.ensures.value ∙ c.self.view_is)))))
+
+pub returns-clause-most : goal.returns-clause-most
+returns-clause-most g c =
+    let tokens = c.as_slice-tokens.result.now in
+    let is = subst (λ ts. IsEnds ts c.self.inside.ends) (sym c.as_slice-tokens.ensures.value) c.self.invariant.at_ends in
+    let read : length tokens ≡ length c.args.self.now = ap length (c.as_slice-tokens.ensures.value ∙ c.self.view_is) in
+    let (utf8, fewer, found) = c.in-Some.ensures in
+    let few : length c.middle-middle.result.now ≤ length c.args.self.now = omega (arith, few-middle tokens c.self.inside.ends is, ap length c.middle-middle.ensures, read) in
+    let all = mul-le-mul_right (length (chars c.in-Some.part.text.now)) few in
+    let whole = mul-le-mul_left (length c.args.self.now) fewer in
+    omega (arith, all, whole, c.in_ok-answer.ensures.most, is.ones.within, length-map tokens shape_of, read)
+
+pub overflow_add-result : goal.overflow_add-result
+overflow_add-result g c =
+    let tokens = c.as_slice-tokens.result.now in
+    let is = subst (λ ts. IsEnds ts c.self.inside.ends) (sym c.as_slice-tokens.ensures.value) c.self.invariant.at_ends in
+    let (utf8, fewer, found) = c.in-Some.ensures in
+    let few : length c.middle-middle.result.now ≤ length tokens = omega (arith, few-middle tokens c.self.inside.ends is, ap length c.middle-middle.ensures) in
+    let all = mul-le-mul_right (length (chars c.in-Some.part.text.now)) few in
+    let one = mul-suc (length tokens) (length (chars c.in-Some.part.text.now)) in
+    let fits = product_fits (length tokens) (suc (length (chars c.in-Some.part.text.now))) (omega arith) (omega (arith, fewer, length-chars c.args.text.now)) in
+    omega (arith, all, one, fits, c.in_ok-answer.ensures.most, is.ones.within, length-map tokens shape_of)

@@ -1,0 +1,49 @@
+-- The ends of a pattern: tokens of one character each, and literals among them, which are compared as bytes.
+use Rattle.std.specs.Prelude.{◌≡◌, ℕ, ◌+◌, ◌-◌, ◌<◌, ◌≤◌, Bool, true, false, List, length, map, take, drop, encode_utf8_all, slice_index_or}
+use Rattle.std.specs.Char.{to_ascii_lowercase}
+use Rattle.std.specs.List.{slice_range}
+use Rattle.glob_text.specs.Text.{Text}
+use Rattle.glob_pattern.specs.Grammar.Tokens.{Token, shape_of}
+use Rattle.glob_pattern.specs.declared.matcher.Shape.{Shape}
+use Rattle.glob_pattern.specs.declared.matcher.Shape.TheVariants.{One}
+use Rattle.glob_pattern.specs.declared.pattern.ends.Ends.{Ends}
+use Rattle.glob_pattern.specs.declared.token.Token.TheVariants.{AnyChar, Literal}
+
+-- the first `lead` shapes and the last `trail` are of one character, and they do not overlap
+pub record HasOnes (shapes : List Shape) (lead trail : ℕ) : Type 0 where
+  pub within : lead + trail ≤ length shapes
+  pub first : (j : ℕ) → j < lead → slice_index_or shapes j One ≡ One
+  pub last : (i : ℕ) → i < trail → slice_index_or shapes (length shapes - 1 - i) One ≡ One
+
+-- each token takes one character
+pub record AreOnes (tokens : List Token) : Type 0 where
+  pub each : (j : ℕ) → j < length tokens → shape_of (slice_index_or tokens j AnyChar) ≡ One
+
+-- the tokens are literals, of so many bytes of UTF-8
+pub record HasLiterals (tokens : List Token) (count : ℕ) : Type 0 where
+  pub plain : Text
+  pub tokens_are : tokens ≡ map Literal plain
+  pub count_is : count ≡ length (encode_utf8_all plain)
+
+-- the tokens of one character at both ends, and the literals among them
+pub record IsEnds (tokens : List Token) (ends : Ends) : Type 0 where
+  pub ones : HasOnes (map shape_of tokens) ends.lead ends.trail
+  pub few_first : ends.prefix.count ≤ ends.lead
+  pub few_last : ends.suffix.count ≤ ends.trail
+  pub first : HasLiterals (take ends.prefix.count tokens) ends.prefix.bytes
+  pub last : HasLiterals (drop (length tokens - ends.suffix.count) tokens) ends.suffix.bytes
+
+-- the tokens between the ends, and the first of those after them, if there are any
+abbrev pub middle_of : List Token → Ends → List Token
+middle_of tokens ends = slice_range tokens ends.lead (length tokens - (ends.trail - 1))
+
+-- the bytes are the same, or case-insensitively they are once letters are in lower case
+abbrev pub SameBytes : (case : Bool) → List ℕ → List ℕ → Type 0
+SameBytes true bytes other = bytes ≡ other
+SameBytes false bytes other = map to_ascii_lowercase bytes ≡ map to_ascii_lowercase other
+
+-- the bytes begin with the prefix and end with the suffix, which do not overlap
+pub record HasEnds (case : Bool) (prefix suffix bytes : List ℕ) : Type 0 where
+  pub within : length prefix + length suffix ≤ length bytes
+  pub first : SameBytes case (take (length prefix) bytes) prefix
+  pub last : SameBytes case (drop (length bytes - length suffix) bytes) suffix

@@ -1,0 +1,41 @@
+-- Parts of a text that the first of some tokens split.
+use Rattle.std.specs.Prelude.{◌≡◌, ℕ, ◌+◌, ◌≤◌, ◌↔◌, Bool, List, ◌++◌, length, map, slice_index_or}
+use Rattle.glob_text.specs.Text.{Text}
+use Rattle.glob_pattern.specs.Grammar.Tokens.{Token, shape_of}
+use Rattle.glob_pattern.specs.Private.Prefixes.{PrefixSplits}
+use Rattle.glob_pattern.specs.Private.TextTable.{table_within}
+use Rattle.glob_pattern.specs.declared.matcher.Shape.TheVariants.{One}
+use Rattle.glob_pattern.specs.declared.options.MatchOptions.{MatchOptions}
+
+-- the first n of the tokens split the part; `opening`: a component begins at its start
+unfoldable pub SplitsPart : MatchOptions → (opening : Bool) → List Token → (n : ℕ) → (part : Text) → Type 0
+SplitsPart o opening tokens n part = PrefixSplits (table_within opening o tokens part) (map shape_of tokens) n (length part)
+
+-- the tokens before number `end` are followed by one of one character, or by none
+pub record EndsAt (tokens : List Token) (end : ℕ) : Type 0 where
+  pub within : end ≤ length tokens
+  pub one : slice_index_or (map shape_of tokens) end One ≡ One
+
+-- tokens take the start of the part, and leave the rest, at whose start a component begins or not (`left`), to those
+-- after them
+abbrev pub TakesFirst : MatchOptions → List Token → (opening : Bool) → (part : Text) → (left : Bool) → (rest : Text) → Type 0
+TakesFirst o tokens opening part left rest =
+    (more : List Token) (n m : ℕ) → m ≡ length tokens + n
+    → SplitsPart o opening (tokens ++ more) m part ↔ SplitsPart o left more n rest
+
+-- no part of the start is one that tokens take
+abbrev pub StopsFirst : MatchOptions → List Token → (opening : Bool) → (part : Text) → Type 0
+StopsFirst o tokens opening part =
+    (more : List Token) (n m : ℕ) → m ≡ length tokens + n → ¬ (SplitsPart o opening (tokens ++ more) m part)
+
+-- tokens take the end of the part, and leave the rest to those before them
+abbrev pub TakesLast : MatchOptions → List Token → (opening : Bool) → (part rest : Text) → Type 0
+TakesLast o tokens opening part rest =
+    (front more : List Token) (n m : ℕ) → n ≡ length front → m ≡ n + length tokens
+    → SplitsPart o opening (front ++ (tokens ++ more)) m part ↔ SplitsPart o opening (front ++ (tokens ++ more)) n rest
+
+-- no part of the end is one that tokens take
+abbrev pub StopsLast : MatchOptions → List Token → (opening : Bool) → (part : Text) → Type 0
+StopsLast o tokens opening part =
+    (front more : List Token) (n m : ℕ) → n ≡ length front → m ≡ n + length tokens
+    → ¬ (SplitsPart o opening (front ++ (tokens ++ more)) m part)

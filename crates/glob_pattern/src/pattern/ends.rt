@@ -1,0 +1,375 @@
+//! What a text has to have at its ends: the literals with which a pattern begins and ends, compared as bytes, and the
+//! characters that other tokens of one character take there.
+ghost use Rattle.std.specs.Prelude.{◌≡◌, ◌+◌, ◌-◌, ◌≤◌, ◌↔◌, ◌++◌, List, length, map, take, drop, IsTrue, IfSome, MatchOption, chars};
+ghost use Rattle.std.specs.Char.{len_utf8};
+ghost use Rattle.std.specs.Str.{IsUtf8};
+ghost use Rattle.glob_pattern.specs.Grammar.Tokens.{Token as TokenOf, shape_of};
+ghost use Rattle.glob_pattern.specs.Grammar.Units.{HasTokens};
+ghost use Rattle.glob_pattern.specs.Matching.Texts.{TokensMatch};
+ghost use Rattle.glob_pattern.specs.Private.Ends.{HasOnes, AreOnes, HasLiterals, IsEnds, SameBytes, HasEnds, middle_of};
+ghost use Rattle.glob_pattern.specs.Private.Parts.{SplitsPart, TakesFirst, StopsFirst, TakesLast, StopsLast};
+ghost use Rattle.glob_pattern.specs.Private.TextTable.{opens_within};
+
+use crate::matcher::{Shape, Shaped};
+use crate::options::MatchOptions;
+use crate::token::Token;
+use crate::token::bracket::Bracket;
+use crate::token::taking::takes;
+use std::alloc::Allocator;
+
+/// The tokens at both ends that take one character each, and the literals among them.
+#[derive(Clone, Copy)]
+pub struct Ends {
+    /// How many tokens at the start take one character each.
+    pub lead: usize,
+    /// How many of the other tokens at the end do.
+    pub trail: usize,
+    /// The literals with which the leading tokens begin.
+    pub prefix: Literals,
+    /// The literals with which the trailing tokens end.
+    pub suffix: Literals,
+}
+
+/// Neighbouring literals.
+#[derive(Clone, Copy)]
+pub struct Literals {
+    /// How many there are.
+    pub count: usize,
+    /// How many bytes they have in UTF-8.
+    pub bytes: usize,
+}
+
+/// What the tokens at the ends leave of a text.
+#[derive(Clone, Copy)]
+pub struct Part<'a> {
+    /// The characters that are left.
+    pub text: &'a str,
+    /// Whether a component starts with them.
+    pub opening: bool,
+}
+
+impl Literals {
+    /// No literals.
+    const NONE: Literals = Literals { count: 0, bytes: 0 };
+
+    /// These and one more. `None`: there are more bytes than can be counted.
+    fn with(self, c: char) -> Option<Literals>
+        ensures count { IfSome result (λ more. more.count ≡ self.count + 1) }
+        ensures bytes { IfSome result (λ more. more.bytes ≡ self.bytes + len_utf8 c) }
+    {
+        Some(Literals {
+            count: self.count.checked_add(1)?,
+            bytes: self.bytes.checked_add(c.len_utf8())?,
+        })
+    }
+}
+
+impl Ends {
+    /// Those of no tokens.
+    pub const NONE: Ends = Ends {
+        lead: 0,
+        trail: 0,
+        prefix: Literals::NONE,
+        suffix: Literals::NONE,
+    };
+
+    /// Those of the tokens: for `src/*.rs` four literals at the start, and three at the end.
+    pub fn of<A: Allocator>(tokens: &[Token<Bracket<A>>]) -> Self
+        ensures { IsEnds tokens.now result }
+    {
+        let lead = leading_ones(tokens);
+        let trail = trailing_ones(tokens, lead);
+        Ends {
+            lead,
+            trail,
+            prefix: leading_literals(&tokens[..lead]),
+            suffix: trailing_literals(&tokens[tokens.len() - trail..]),
+        }
+    }
+
+    /// The tokens between the ends, and the first of those after them, if there are any.
+    #[inline(always)]
+    pub fn middle<'a, A: Allocator>(
+        &self,
+        tokens: &'a [Token<Bracket<A>>],
+    ) -> &'a [Token<Bracket<A>>]
+        requires { IsEnds tokens.now self.now }
+        ensures { result.now ≡ middle_of tokens.now self.now }
+    {
+        &tokens[self.lead..tokens.len() - self.trail.saturating_sub(1)]
+    }
+
+    /// Whether the bytes begin and end with the pattern's literals. They need not be UTF-8.
+    #[inline(always)]
+    pub fn have_literals<A: Allocator>(
+        &self,
+        tokens: &[Token<Bracket<A>>],
+        pattern: &str,
+        bytes: &[u8],
+        options: MatchOptions,
+    ) -> bool
+        requires ends { IsEnds tokens.now self.now }
+        requires pattern { HasTokens (chars pattern.now) tokens.now }
+        ensures { IsTrue result ↔ HasEnds options.case_sensitive
+            (take self.now.prefix.bytes pattern.now)
+            (drop (length pattern.now - self.now.suffix.bytes) pattern.now) bytes.now }
+    {
+        let literals = pattern.as_bytes();
+        let prefix = &literals[..self.prefix.bytes];
+        let suffix = &literals[literals.len() - self.suffix.bytes..];
+        has_ends(bytes, prefix, suffix, options)
+    }
+
+    /// Takes the ends from a text: so those of `src/*.rs` leave `main` of `src/main.rs`. `None`: the text does not match.
+    #[inline(always)]
+    pub fn strip<'a, A: Allocator>(
+        &self,
+        tokens: &[Token<Bracket<A>>],
+        pattern: &str,
+        text: &'a str,
+        options: MatchOptions,
+    ) -> Option<Part<'a>>
+        requires ends { IsEnds tokens.now self.now }
+        requires pattern { HasTokens (chars pattern.now) tokens.now }
+        ensures { MatchOption result (¬ (TokensMatch options tokens.now (chars text.now)))
+            (λ part. IsUtf8 part.text.now
+            × (length (chars part.text.now) ≤ length (chars text.now))
+            × (TokensMatch options tokens.now (chars text.now)
+            ↔ SplitsPart options part.opening (middle_of tokens.now self.now)
+            (length tokens.now - self.now.lead - self.now.trail) (chars part.text.now))) }
+    {
+        let part = self.strip_literals(tokens, pattern, text, options)?;
+        let first = &tokens[self.prefix.count..self.lead];
+        let last = &tokens[tokens.len() - self.trail..tokens.len() - self.suffix.count];
+        if first.is_empty() && last.is_empty() {
+            return Some(part);
+        }
+        take_ends(first, last, part, options)
+    }
+
+    /// Takes the literals from the ends of a text. `None`: it does not have them.
+    #[inline(always)]
+    fn strip_literals<'a, A: Allocator>(
+        &self,
+        tokens: &[Token<Bracket<A>>],
+        pattern: &str,
+        text: &'a str,
+        options: MatchOptions,
+    ) -> Option<Part<'a>>
+        requires ends { IsEnds tokens.now self.now }
+        requires pattern { HasTokens (chars pattern.now) tokens.now }
+        ensures { MatchOption result (¬ (TokensMatch options tokens.now (chars text.now)))
+            (λ part. IsUtf8 part.text.now
+            × (length (chars part.text.now) ≤ length (chars text.now))
+            × (TokensMatch options tokens.now (chars text.now)
+            ↔ SplitsPart options part.opening (drop self.now.prefix.count tokens.now)
+            (length tokens.now - self.now.prefix.count - self.now.suffix.count)
+            (chars part.text.now))) }
+    {
+        if !self.have_literals(tokens, pattern, text.as_bytes(), options) {
+            return None;
+        }
+        let (start, end) = (self.prefix.bytes, text.len() - self.suffix.bytes);
+        let before = &text[..start];
+        let left = &text[start..end];
+        Some(Part {
+            text: left,
+            opening: opens_after(before, true),
+        })
+    }
+}
+
+/// Whether the bytes begin with a prefix and end with a suffix, which do not overlap, in either case where the options
+/// say so.
+#[inline(always)]
+fn has_ends(bytes: &[u8], prefix: &[u8], suffix: &[u8], options: MatchOptions) -> bool
+    ensures { IsTrue result ↔ HasEnds options.case_sensitive prefix.now suffix.now bytes.now }
+{
+    bytes.len() >= prefix.len()
+        && bytes.len() - prefix.len() >= suffix.len()
+        && are_same(&bytes[bytes.len() - suffix.len()..], suffix, options)
+        && are_same(&bytes[..prefix.len()], prefix, options)
+}
+
+/// Whether two texts of the same length are the same, in either case where the options say so.
+#[inline(always)]
+fn are_same(bytes: &[u8], other: &[u8], options: MatchOptions) -> bool
+    requires { length bytes.now ≡ length other.now }
+    ensures { IsTrue result ↔ SameBytes options.case_sensitive bytes.now other.now }
+{
+    // A call that compares no bytes may be slow.
+    if other.is_empty() {
+        return true;
+    }
+    if options.case_sensitive {
+        bytes == other
+    } else {
+        bytes.eq_ignore_ascii_case(other)
+    }
+}
+
+/// Whether a component starts after the text: after a `/`, and after no characters if one starts before them.
+#[inline(always)]
+fn opens_after(text: &str, opening: bool) -> bool
+    ensures { result ≡ opens_within opening (chars text.now) (length (chars text.now)) }
+{
+    match text.as_bytes() {
+        [] => opening,
+        [.., last] => *last == b'/',
+    }
+}
+
+/// Has the first tokens take a character each from the start of a part, and the last ones from its end.
+#[inline(never)]
+fn take_ends<'a, A: Allocator>(
+    first: &[Token<Bracket<A>>],
+    last: &[Token<Bracket<A>>],
+    part: Part<'a>,
+    options: MatchOptions,
+) -> Option<Part<'a>>
+    requires utf8 { IsUtf8 part.text.now }
+    requires first { AreOnes first.now }
+    requires last { AreOnes last.now }
+    ensures { (all between after : List TokenOf)
+        → all ≡ first.now ++ (between ++ (last.now ++ after))
+        → MatchOption result
+        (¬ (SplitsPart options part.entry.opening all
+        (length first.now + length between + length last.now) (chars part.entry.text.now)))
+        (λ left. IsUtf8 left.text.now
+        × (length (chars left.text.now) ≤ length (chars part.entry.text.now))
+        × (SplitsPart options part.entry.opening all
+        (length first.now + length between + length last.now) (chars part.entry.text.now)
+        ↔ SplitsPart options left.opening (between ++ (last.now ++ after)) (length between)
+        (chars left.text.now))) }
+{
+    let left = take_first(first, part, options)?;
+    take_last(last, left, options)
+}
+
+/// Has the tokens take a character each from the start of a part. `None`: they do not.
+#[inline(always)]
+fn take_first<'a, A: Allocator>(
+    tokens: &[Token<Bracket<A>>],
+    part: Part<'a>,
+    options: MatchOptions,
+) -> Option<Part<'a>>
+    requires utf8 { IsUtf8 part.text.now }
+    requires ones { AreOnes tokens.now }
+    ensures { MatchOption result
+        (StopsFirst options tokens.now part.entry.opening (chars part.entry.text.now))
+        (λ left. IsUtf8 left.text.now
+        × (length (chars left.text.now) ≤ length (chars part.entry.text.now))
+        × TakesFirst options tokens.now part.entry.opening (chars part.entry.text.now)
+        left.opening (chars left.text.now)) }
+{
+    let mut rest = part.text.chars();
+    let mut opening = part.opening;
+    let mut count = 0;
+    while count < tokens.len() {
+        let Some(c) = rest.next() else {
+            return None;
+        };
+        if !takes(&tokens[count], options, opening, c) {
+            return None;
+        }
+        opening = c == '/';
+        count += 1;
+    }
+    Some(Part {
+        text: rest.as_str(),
+        opening,
+    })
+}
+
+/// Has the tokens take a character each from the end of a part. `None`: they do not.
+#[inline(always)]
+fn take_last<'a, A: Allocator>(
+    tokens: &[Token<Bracket<A>>],
+    part: Part<'a>,
+    options: MatchOptions,
+) -> Option<Part<'a>>
+    requires utf8 { IsUtf8 part.text.now }
+    requires ones { AreOnes tokens.now }
+    ensures { MatchOption result
+        (StopsLast options tokens.now part.entry.opening (chars part.entry.text.now))
+        (λ left. (left.opening ≡ part.entry.opening) × IsUtf8 left.text.now
+        × (length (chars left.text.now) ≤ length (chars part.entry.text.now))
+        × TakesLast options tokens.now part.entry.opening (chars part.entry.text.now)
+        (chars left.text.now)) }
+{
+    let mut rest = part.text.chars();
+    let mut count = tokens.len();
+    while count > 0 {
+        let Some(c) = rest.next_back() else {
+            return None;
+        };
+        count -= 1;
+        let opening = opens_after(rest.as_str(), part.opening);
+        if !takes(&tokens[count], options, opening, c) {
+            return None;
+        }
+    }
+    let text = rest.as_str();
+    Some(Part {
+        text,
+        opening: part.opening,
+    })
+}
+
+/// How many tokens of one character there are before the first other: of those of `src/*.rs` four.
+fn leading_ones<A: Allocator>(tokens: &[Token<Bracket<A>>]) -> usize
+    ensures { HasOnes (map shape_of tokens.now) result 0 }
+{
+    let mut lead = 0;
+    while lead < tokens.len() && tokens[lead].shape() == Shape::One {
+        lead += 1;
+    }
+    lead
+}
+
+/// How many tokens of one character there are after the last other and the first `lead`: of those of `src/*.rs` three,
+/// and of those of `main.rs` none.
+fn trailing_ones<A: Allocator>(tokens: &[Token<Bracket<A>>], lead: usize) -> usize
+    requires { HasOnes (map shape_of tokens.now) lead 0 }
+    ensures { HasOnes (map shape_of tokens.now) lead result }
+{
+    let mut trail = 0;
+    while lead + trail < tokens.len() && tokens[tokens.len() - 1 - trail].shape() == Shape::One {
+        trail += 1;
+    }
+    trail
+}
+
+/// The literals with which the tokens begin.
+fn leading_literals<A: Allocator>(tokens: &[Token<Bracket<A>>]) -> Literals
+    ensures within { result.count ≤ length tokens.now }
+    ensures literals { HasLiterals (take result.count tokens.now) result.bytes }
+{
+    let mut literals = Literals::NONE;
+    while let Some(Token::Literal(c)) = tokens.get(literals.count) {
+        let Some(more) = literals.with(*c) else {
+            break;
+        };
+        literals = more;
+    }
+    literals
+}
+
+/// The literals with which the tokens end.
+fn trailing_literals<A: Allocator>(tokens: &[Token<Bracket<A>>]) -> Literals
+    ensures within { result.count ≤ length tokens.now }
+    ensures literals { HasLiterals (drop (length tokens.now - result.count) tokens.now)
+        result.bytes }
+{
+    let mut literals = Literals::NONE;
+    while literals.count < tokens.len() {
+        let Token::Literal(c) = &tokens[tokens.len() - 1 - literals.count] else {
+            break;
+        };
+        let Some(more) = literals.with(*c) else {
+            break;
+        };
+        literals = more;
+    }
+    literals
+}
