@@ -28,6 +28,7 @@ class Fallible:
 
     def __init__(self, texts):
         self.known = {(kind, name): True for kind in ("Vec", "String", None) for name in ALLOCATES}
+        self.known["Box", "new"] = True
         self.hearers = set()  # whose arguments are such answers
         for text in texts:
             for found in re.finditer(r"\bfn (\w+)", text):

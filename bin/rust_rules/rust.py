@@ -20,18 +20,10 @@ REWRITES = [
     (r"\bVec::from_slice\(", "Vec::from("),
     (r"\bString::from_str\(", "String::from("),
     (r"(pub trait \w+): Drop \{", r"\1 {"),
-    (r"(?m)^pub struct (PatternSet|Bucket|IgnoreList) \{", r"#[derive(Clone)]\npub struct \1 {"),
+    (r"(?m)^pub struct (PatternSet|Bucket|Keyed|IgnoreList) \{", r"#[derive(Clone)]\npub struct \1 {"),
     # memory that is asked for as zeros never comes from what was freed last
     (r"\blet mut (\w+) = vec!\[(.*?); (.*)\];", r"let mut \1 = Vec::with_capacity(\3);\n\1.resize(\3, \2);"),
-    # lists that are made by the first match that reads them
-    (r"\b(masks|words): Vec<(CharMasks|ShapeWord)>", r"\1: crate::late::Late<\2>"),
-    (r"\blet masks = masks_of\(list, (.*)\);", r"let masks = crate::late::Late::new(\1);"),
-    (r"\blet words = if list\.len\(\) <= WORD [^;]*;", r"let words = crate::late::Late::new(list.len() > WORD);"),
-    (r"\b(masks|words): Vec::new\(\)", r"\1: crate::late::Late::new(false)"),
-    (r"\bself\.masks\.as_slice\(\)", "self.masks.get(|| masks_of(tokens, true))"),
-    (r"\bself\.words\.as_slice\(\)", "self.words.get(|| shape_words(self.tokens()))"),
     (r"\bpub fn from_(texts|braces)\(", r"pub(crate) fn of_\1("),  # by hand they take all kinds of lists
-    (r"'(sets|kept): ", ""),  # labels that proofs name
     (r"const (\w+): &'static str", r"const \1: &str"),
     (r"\bis refused with `Syntax`: ", "is refused: "),
     (r"\bAfter the last two only\b", "After that only"),

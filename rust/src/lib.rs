@@ -34,7 +34,6 @@ compile_error!("paths of Windows have prefixes and `\\`, which no pattern of thi
 mod debug;
 mod disk;
 mod lanes;
-mod late;
 mod pattern;
 mod proved;
 

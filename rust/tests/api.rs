@@ -72,8 +72,8 @@ fn answers(pattern: &Pattern) -> Vec<bool> {
     texts.iter().flat_map(|text| options.map(|options| pattern.matches_with(text, options))).collect()
 }
 
-/// Of patterns without masks, with those of one word, and of several: the masks are made by the first match, which may
-/// be one of several at once, and copies are made before and after it.
+/// Of patterns without masks, with those of one word, and of several: several threads match at once, and copies are made
+/// before and after it.
 #[test]
 fn copies_and_threads() {
     let mut seen = HashSet::new();

@@ -1,5 +1,6 @@
 pub mod BitLemmas
 pub mod CallerLemmas
+pub mod ClassLemmas
 pub mod Counts
 pub mod EscapingLemmas
 pub mod GrammarLemmas

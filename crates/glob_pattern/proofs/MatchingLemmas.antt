@@ -13,7 +13,6 @@ pub mod PlainPatterns
 pub mod PlainTokens
 pub mod Rests
 pub mod Running
-pub mod Spans
 pub mod Splits
 pub mod Stepping
 pub mod Stripped

@@ -1,5 +1,6 @@
 pub mod Alive
 pub mod Cut
+pub mod DeadPlaces
 pub mod DeadWords
 pub mod LastOnes
 pub mod Mapped
@@ -7,5 +8,4 @@ pub mod Prefixes
 pub mod Running
 pub mod Spans
 pub mod Spreading
-pub mod TakenPrefixes
 pub mod Words

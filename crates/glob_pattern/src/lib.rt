@@ -13,7 +13,5 @@ pub use error::{PatternError, PatternRefusal};
 pub use grammar::{characters_of, close_from, opens};
 pub use matcher::{Judge, Shape, run_positions};
 pub use options::MatchOptions;
-pub use pattern::{
-    Pattern, TokenKind, literal_at, may_match, token_kind, token_takes, tokens_len,
-};
+pub use pattern::{Pattern, TokenKind, literal_at, may_match, token_kind, token_takes, tokens_len};
 pub use token::taking::is_open;

@@ -11,6 +11,7 @@ ghost use Rattle.glob_pattern.specs.Matching.Options.{new_options};
 
 mod automaton;
 mod char_masks;
+mod classes;
 mod compare;
 mod compiled;
 mod ends;
@@ -140,10 +141,10 @@ impl<A: Allocator + Copy> Pattern<A> {
         self.compiled.matches(self.text.as_str(), str, options)
     }
 
-    /// The answer of [`matches_with`](Self::matches_with), and how many questions it takes without the prefilter: how
-    /// often it is asked whether a token takes a character. Their number is at most the pattern's characters times the
-    /// text's, and for a match at least the text's characters. So `a` and the text `a` take one question, and the
-    /// answer is `(true, 1)`. The error is that of [`matches_with`](Self::matches_with).
+    /// The answer of [`matches_with`](Self::matches_with), and how many questions it takes if the ends are not compared
+    /// beforehand: how often it is asked whether a token takes a character. Their number is at most the pattern's
+    /// characters times the text's, and for a match at least the text's characters. So `a` and the text `a` take one
+    /// question, and the answer is `(true, 1)`. The error is that of [`matches_with`](Self::matches_with).
     #[inline(always)]
     pub fn matches_counted(
         &self,
@@ -188,15 +189,13 @@ impl<A: Allocator + Copy> Pattern<A> {
 /// Whether a text of these bytes may be one that the pattern matches, by its ends and a search for a needle: so for
 /// `*.rs` it may be `main.rs`, and not `main.c`. The bytes need not be UTF-8.
 #[inline(always)]
-pub fn may_match<A: Allocator>(
-    pattern: &Pattern<A>,
-    bytes: &[u8],
-    options: MatchOptions,
-) -> bool
+pub fn may_match<A: Allocator>(pattern: &Pattern<A>, bytes: &[u8], options: MatchOptions) -> bool
     ensures { IsTrue (is_utf8 bytes.now)
         → Matches options (chars pattern.now) (chars bytes.now) → IsTrue result }
 {
-    pattern.compiled.may_match(pattern.text.as_str(), bytes, options)
+    pattern
+        .compiled
+        .may_match(pattern.text.as_str(), bytes, options)
 }
 
 /// The character that the token of this number is, counted from 0, or `None` if it is a wildcard or a bracket, or there

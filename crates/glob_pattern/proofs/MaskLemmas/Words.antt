@@ -1,15 +1,16 @@
--- Masks of the first tokens, and of one token more.
-use Rattle.std.proofs.Common.{◌≡◌, ◌≢◌, ℕ, ◌+◌, ◌-◌, ◌*◌, ◌^◌, ◌<◌, ◌≤◌, ◌↔◌, ◌⊎◌, Bool, true, false, not, ◌&&◌, ◌||◌, if◌then◌else◌, IsTrue, List, [], ◌∷◌, ◌++◌, length, get_or, set, bit_and, bit_or, bit_xor, refl, sym, ◌∙◌, inl, inr, ⊎_elim, arith}
+-- Masks of the first tokens, and of one token more; and rows of masks.
+use Rattle.std.proofs.Common.{◌≡◌, ℕ, ◌+◌, ◌-◌, ◌^◌, ◌<◌, ◌≤◌, ◌↔◌, ◌⊎◌, Bool, true, false, not, ◌&&◌, ◌||◌, if◌then◌else◌, IsTrue, List, ◌++◌, length, get_or, take, drop, set, bit_and, bit_or, bit_xor, refl, sym, ap, ◌∙◌, inl, inr, ⊎_elim, arith}
 use Rattle.std.proofs.lemmas.Bool.{cases_eq, false≢true, both_ways, and_parts, or_cases, or_left, or_right, not-true, false_from_ne_true}
-use Rattle.std.proofs.lemmas.List.{length_push, get_or_push, get_or_append_left, length-set, get_or-set_same, get_or-set_other}
-use Rattle.std.proofs.Math.Seq.{set-append_seam}
+use Rattle.std.proofs.lemmas.List.{get_or_append_left, get_or-append_right, get_or-take, get_or-drop, length-append, length-drop, length-take-le, length-set, get_or-set_same, get_or-set_other}
+use borrow.Rule.Slice.PartMut.{put_mid, post_of}
 use Rattle.std.specs.Int.{IsBitSet, bit_not, w64}
 use Rattle.glob_pattern.specs.Grammar.Tokens.{Token}
-use Rattle.glob_pattern.specs.Private.CharMasks.{mask_at, is_undecided, takes_all_but_listed, AreMasks, IsCharMasks, AreCharMasks, IsMask, IsWith}
-use Rattle.glob_pattern.specs.declared.pattern.char_masks.CharMasks.{CharMasks}
+use Rattle.glob_pattern.specs.Matching.Taking.{takes}
+use Rattle.glob_pattern.specs.Private.Classes.{Partition, IsPartition, class_in, columns_of}
+use Rattle.glob_pattern.specs.Private.CharMasks.{class_of, mask_at, case_options, takes_separator, takes_dot, IsMask, IsRow, IsWith}
 use Rattle.glob_pattern.specs.declared.token.Token.TheVariants.{AnyChar}
 use Rattle.glob_pattern.proofs.BitLemmas.SetBits.{IsBitSet-zero, IsBitSet-or, IsBitSet-xor, IsBitSet-without}
-use Rattle.glob_pattern.proofs.MaskLemmas.Classes.{class-cases}
+use Rattle.glob_pattern.proofs.MaskLemmas.Classes.{class-cases, class-below}
 
 -- what is inverted where another test is met
 inverted : (within here other both : Type 0) (p q : Bool) → here ↔ (within × IsTrue p) → other ↔ (within × IsTrue q)
@@ -103,60 +104,85 @@ module _ (tokens : List Token) (start : ℕ) where
   }
 
 -- the mask of a class has the bit of a token that takes a character of it
-at_class : (masks : List ℕ) (j class r : ℕ) (a b : Bool) → class ≡ r → b ≡ a → IsBitSet (mask_at masks r) j ↔ IsTrue a → IsBitSet (mask_at masks class) j ↔ IsTrue b
-at_class masks j class r a b e f h = rw (e, f) h
+at_class : (masks : List ℕ) (j class r : ℕ) (a b : Bool) (within : Type 0) → class ≡ r → b ≡ a → IsBitSet (mask_at masks r) j ↔ (within × IsTrue a) → IsBitSet (mask_at masks class) j ↔ (within × IsTrue b)
+at_class masks j class r a b within e f h = rw (e, f) h
 
-here : (bit within is : Type 0) → within → bit ↔ (within × is) → bit ↔ is
-here bit within is w h = (λ s. (h.0 s).1, λ t. h.1 (w, t))
+wider : (bit within below is : Type 0) → within ↔ below → bit ↔ (within × is) → bit ↔ (below × is)
+wider bit within below is same h = (λ s. (same.0 (h.0 s).0, (h.0 s).1), λ t. h.1 (same.1 t.0, t.1))
 
--- masks of all tokens of a word say which of them take a character
-pub IsCharMasks-all : (tokens : List Token) (start end : ℕ) (masks : CharMasks) → AreMasks tokens start end masks
-    → ((j : ℕ) → j < 63 → start + j < length tokens → start + j < end) → IsCharMasks tokens start masks
-IsCharMasks-all tokens start end masks are all = record {
-  takes = λ o opening c j lt below decided.
+-- where each column is the mask of its class, the row says which tokens take a character
+pub IsRow-from : (tokens : List Token) (start end : ℕ) (p : Partition) (case : Bool) (row : List ℕ)
+    → IsMask tokens start end takes_separator (mask_at row 0) → IsMask tokens start end takes_dot (mask_at row 1)
+    → ((c : ℕ) → IsMask tokens start end (takes (case_options case) false c) (mask_at row (class_in p c)))
+    → ((j : ℕ) → j < 63 → (start + j < end) ↔ (start + j < length tokens)) → IsRow tokens start p case row 0
+IsRow-from tokens start end p case row separator dots others all = record {
+  takes = λ o opening c j same lt.
       let t = get_or tokens (start + j) AnyChar in
-      let within = all j lt below in
+      let within = all j lt in
       let bit : j < 64 = omega arith in
-      let known : (c < 128) ⊎ (is_undecided t ≡ false) = ⊎_elim inl (λ none. inr (false_from_ne_true _ (λ is. none ((are.undecided.bits j bit).1 (within, is))))) decided in
-      ⊎_elim (λ (e, f). at_class _ j _ _ _ _ e f (here _ _ _ within (are.beyond.bits j bit)))
-      (⊎_elim (λ (e, f). at_class _ j _ _ _ _ e f (here _ _ _ within (are.separator.bits j bit)))
-      (⊎_elim (λ (e, f). at_class _ j _ _ _ _ e f (here _ _ _ within (are.dot.bits j bit)))
-      (λ (low, e, f). at_class _ j _ _ _ _ e f (here _ _ _ within ((are.ascii o.case_sensitive c low).bits j bit)))))
-      (class-cases o opening c t known);
-  undecided = λ j lt s t. both_ways _ (not-true _ (and_parts (takes_all_but_listed _) _ ((are.beyond.bits j lt).0 t).1).1) ((are.undecided.bits j lt).0 s).1;
+      let at : 0 + class_of p o opening c ≡ class_of p o opening c = omega arith in
+      ⊎_elim (λ (e, f). at_class _ j _ _ _ _ _ (at ∙ e) f (wider _ _ _ _ within (separator.bits j bit)))
+      (⊎_elim (λ (e, f). at_class _ j _ _ _ _ _ (at ∙ e) f (wider _ _ _ _ within (dots.bits j bit)))
+      (λ (e, f). at_class _ j _ _ _ _ _ (at ∙ e) f (rw same (wider _ _ _ _ within ((others c).bits j bit)))))
+      (class-cases o opening p c t);
 }
 
--- what is last is filled where it is
-pub filled_last : (list : List CharMasks) (n : ℕ) (blank masks : CharMasks) → length list ≡ n → set (list ++ blank ∷ []) n masks ≡ list ++ masks ∷ []
-filled_last list n blank masks count = rw (← count) (set-append_seam list blank [] masks)
-
--- the masks of 63 tokens more at the end of a list
-pub AreCharMasks-push : (tokens : List Token) (n : ℕ) (list : List CharMasks) (masks : CharMasks) → length list ≡ n → AreCharMasks tokens list → IsCharMasks tokens (63 * n) masks
-    → AreCharMasks tokens (list ++ masks ∷ [])
-AreCharMasks-push tokens n list masks count are here = record {
-  each = λ i d lt.
-      ⊎_elim
-      (λ (e : i ≡ n). rw (get_or_push list masks d i (omega arith), e) here)
-      (λ (ne : i ≢ n).
-      let within : i < length list = omega (arith, length_push list masks) in
-      rw (get_or_append_left list (masks ∷ []) d i within) (are.each i d within))
-      (cases_eq i n);
-}
-
--- the masks of the classes of the rules beside those of ASCII
-pub stored_rules : (masks : List ℕ) (separator dot beyond : ℕ) → length masks ≡ 259
-    → (mask_at (set (set (set masks 256 separator) 257 dot) 258 beyond) 256 ≡ separator)
-    × (mask_at (set (set (set masks 256 separator) 257 dot) 258 beyond) 257 ≡ dot)
-    × (mask_at (set (set (set masks 256 separator) 257 dot) 258 beyond) 258 ≡ beyond)
-    × ((r : ℕ) → r < 256 → mask_at (set (set (set masks 256 separator) 257 dot) 258 beyond) r ≡ mask_at masks r)
-stored_rules masks separator dot beyond long =
-    let first = set masks 256 separator in
-    let second = set first 257 dot in
-    let at_first : 256 < length masks = omega arith in
-    let at_second : 257 < length first = omega (arith, length-set masks 256 separator) in
-    let at_third : 258 < length second = omega (arith, length-set masks 256 separator, length-set first 257 dot) in (
-      get_or-set_other second 258 256 beyond 0 (λ e. omega arith) ∙ get_or-set_other first 257 256 dot 0 (λ e. omega arith) ∙ get_or-set_same masks 256 separator 0 at_first,
-      get_or-set_other second 258 257 beyond 0 (λ e. omega arith) ∙ get_or-set_same first 257 dot 0 at_second,
-      get_or-set_same second 258 beyond 0 at_third,
-      λ r low. get_or-set_other second 258 r beyond 0 (λ e. omega arith) ∙ get_or-set_other first 257 r dot 0 (λ e. omega arith) ∙ get_or-set_other masks 256 r separator 0 (λ e. omega arith),
+-- the masks of the classes of the rules beside the others
+pub stored_rules : (masks : List ℕ) (separator dot : ℕ) → 1 < length masks
+    → (mask_at (set (set masks 0 separator) 1 dot) 0 ≡ separator)
+    × (mask_at (set (set masks 0 separator) 1 dot) 1 ≡ dot)
+    × ((r : ℕ) → 2 ≤ r → mask_at (set (set masks 0 separator) 1 dot) r ≡ mask_at masks r)
+stored_rules masks separator dot long =
+    let first = set masks 0 separator in
+    let at_first : 0 < length masks = omega arith in
+    let at_second : 1 < length first = omega (arith, length-set masks 0 separator) in (
+      get_or-set_other first 1 0 dot 0 (λ e. omega arith) ∙ get_or-set_same masks 0 separator 0 at_first,
+      get_or-set_same first 1 dot 0 at_second,
+      λ r low. get_or-set_other first 1 r dot 0 (λ e. omega arith) ∙ get_or-set_other masks 0 r separator 0 (λ e. omega arith),
     )
+
+-- a part of a list that is written, and what is before it
+module _ (a k : ℕ) (xs ys : List ℕ) (within : a + k ≤ length xs) (long : length ys ≡ k) where
+  pub placed : (r : ℕ) → r < k → mask_at (put_mid a k xs ys) (a + r) ≡ mask_at ys r
+  placed r lt =
+      let front : length (take a xs) ≡ a = length-take-le a xs (omega arith) in
+      let back : a + r - a ≡ r = omega arith in
+      get_or-append_right (take a xs) (ys ++ post_of a k xs) a (a + r) 0 front (omega arith)
+      ∙ ap (λ i. get_or (ys ++ post_of a k xs) i 0) back ∙ get_or_append_left ys (post_of a k xs) 0 r (omega (arith, lt, long))
+
+  pub before : (r : ℕ) → r < a → mask_at (put_mid a k xs ys) r ≡ mask_at xs r
+  before r lt =
+      let front : length (take a xs) ≡ a = length-take-le a xs (omega arith) in
+      get_or_append_left (take a xs) (ys ++ post_of a k xs) 0 r (omega (arith, lt, front)) ∙ get_or-take a xs r 0 lt
+
+module _ (tokens : List Token) (start : ℕ) (p : Partition) (is : IsPartition p) (case : Bool) where
+  -- a row is where it is written
+  pub IsRow-placed : (a : ℕ) (xs ys : List ℕ) → a + columns_of p ≤ length xs → length ys ≡ columns_of p → IsRow tokens start p case ys 0 → IsRow tokens start p case (put_mid a (columns_of p) xs ys) a
+  IsRow-placed a xs ys within long row = record {
+    takes = λ o opening c j same lt.
+        let at : 0 + class_of p o opening c ≡ class_of p o opening c = omega arith in
+        rw (placed a (columns_of p) xs ys within long (class_of p o opening c) (class-below o opening p is c), ← at) (row.takes o opening c j same lt);
+  }
+
+  -- and those before it stay
+  pub IsRow-before : (a at : ℕ) (xs ys : List ℕ) → a + columns_of p ≤ length xs → length ys ≡ columns_of p → at + columns_of p ≤ a → IsRow tokens start p case xs at → IsRow tokens start p case (put_mid a (columns_of p) xs ys) at
+  IsRow-before a at xs ys within long earlier row = record {
+    takes = λ o opening c j same lt.
+        rw (before a (columns_of p) xs ys within long (at + class_of p o opening c) (omega (arith, earlier, class-below o opening p is c))) (row.takes o opening c j same lt);
+  }
+
+-- what is after a part that is written stays
+pub past : (a k : ℕ) (xs ys : List ℕ) → a + k ≤ length xs → length ys ≡ k → (r : ℕ) → a + k ≤ r → mask_at (put_mid a k xs ys) r ≡ mask_at xs r
+past a k xs ys within long r le =
+    let front : length (take a xs) ≡ a = length-take-le a xs (omega arith) in
+    let rest : k + (r - a - k) ≡ r - a = omega arith in
+    let whole : a + (k + (r - a - k)) ≡ r = omega arith in
+    get_or-append_right (take a xs) (ys ++ post_of a k xs) a r 0 front (omega arith)
+    ∙ get_or-append_right ys (post_of a k xs) k (r - a) 0 long (omega arith)
+    ∙ get_or-drop k (drop a xs) (r - a - k) 0 ∙ get_or-drop a xs (k + (r - a - k)) 0 ∙ ap (λ i. get_or xs i 0) whole
+
+-- and the list keeps its length
+pub length-written : (a k : ℕ) (xs ys : List ℕ) → a + k ≤ length xs → length ys ≡ k → length (put_mid a k xs ys) ≡ length xs
+length-written a k xs ys within long =
+    let front : length (take a xs) ≡ a = length-take-le a xs (omega arith) in
+    omega (arith, within, long, front, length-append (take a xs) (ys ++ post_of a k xs), length-append ys (post_of a k xs), length-drop k (drop a xs), length-drop a xs)

@@ -1,9 +1,9 @@
 -- Characters that are the same case-insensitively.
-use Rattle.std.proofs.Common.{◌≡◌, ℕ, ◌+◌, ◌-◌, ◌*◌, ◌^◌, ◌<◌, ◌≤◌, ◌⊎◌, ◌∙◌, Bool, false, not, ◌&&◌, ◌==◌, IsTrue, bit_or, ap, sym, inl, inr, ⊎_elim, arith}
-use Rattle.std.proofs.lemmas.Bool.{both_ways, or_cases, or_from, and_parts, and_right, ne_eqb, eq-eqb, eqb-true, cases_lt}
+use Rattle.std.proofs.Common.{◌≡◌, ℕ, ◌+◌, ◌-◌, ◌*◌, ◌^◌, ◌<◌, ◌≤◌, ◌⊎◌, ◌∙◌, Bool, false, ◌==◌, bit_or, ap, sym, inl, inr, ⊎_elim, arith}
+use Rattle.std.proofs.lemmas.Bool.{both_ways, or_from, and_right, ne_eqb, eq-eqb, cases_lt}
 use Rattle.std.proofs.lemmas.Nat.{or_block}
 use Rattle.std.proofs.lemmas.Str.Ascii.{lowercase_is}
-use Rattle.std.specs.Char.{is_ascii, to_ascii_lowercase}
+use Rattle.std.specs.Char.{to_ascii_lowercase}
 use Rattle.glob_pattern.specs.Grammar.Brackets.{is_same}
 use Rattle.glob_text.specs.Characters.{slash}
 
@@ -40,11 +40,3 @@ case_set c =
 -- so the bits set are equal in both cases
 pub case_set_same : (c x : ℕ) → to_ascii_lowercase c ≡ to_ascii_lowercase x → bit_or c 32 ≡ bit_or x 32
 case_set_same c x e = case_set c ∙ ap (λ n. bit_or n 32) e ∙ sym (case_set x)
-
--- characters that are the same, case-sensitively or not, have the same lower case
-pub lower-same : (case : Bool) (c x : ℕ) → IsTrue (is_same case c x) → to_ascii_lowercase c ≡ to_ascii_lowercase x
-lower-same case c x same =
-    ⊎_elim
-    (λ is. ap to_ascii_lowercase (eqb-true c x is))
-    (λ both. eqb-true (to_ascii_lowercase c) (to_ascii_lowercase x) (and_parts (not case && is_ascii c && is_ascii x) (to_ascii_lowercase c == to_ascii_lowercase x) both).1)
-    (or_cases (c == x) (not case && is_ascii c && is_ascii x && to_ascii_lowercase c == to_ascii_lowercase x) same)

@@ -1,5 +1,5 @@
 -- Literals at the ends of a text, as bytes and as characters.
-use Rattle.std.proofs.Common.{◌≡◌, ℕ, suc, ◌+◌, ◌-◌, ◌<◌, ◌≤◌, Bool, true, false, not, ◌&&◌, ◌==◌, List, [], ◌∷◌, ◌++◌, length, map, take, drop, get_or, slice_index, IsTrue, refl, sym, ap, ap₂, subst, ◌∙◌, ⊎_elim, arith, chars, append_assoc, append-nil}
+use Rattle.std.proofs.Common.{◌≡◌, ℕ, suc, ◌+◌, ◌-◌, ◌<◌, ◌≤◌, Bool, true, false, not, ◌&&◌, ◌==◌, List, [], ◌∷◌, ◌++◌, length, map, take, drop, get_or, IsTrue, refl, sym, ap, ap₂, subst, ◌∙◌, ⊎_elim, arith, chars, append_assoc, append-nil}
 use Rattle.std.proofs.Math.Seq.{drop-append_seam, take-append_seam}
 use Rattle.std.proofs.lemmas.Bool.{or_left, or_right, or_cases, and_from, and_parts, lt-ltb, eq-eqb, eqb-true, ne_eqb, cases_Bool, cases_lt, false≢true}
 use Rattle.std.proofs.lemmas.List.{drop_more, get_or_at, get_or-map, length-append, length-map, map-append, take-append-drop, take-map, drop-map}

@@ -1,8 +1,8 @@
 -- Each text that a pattern matches contains the pattern's needle, in either case.
-use Rattle.std.proofs.Common.{◌≡◌, ℕ, suc, ◌+◌, ◌⊎◌, Bool, not, ◌&&◌, ◌==◌, List, [], ◌∷◌, ◌++◌, length, map, take, drop, IsTrue, ⊎_elim, refl, sym, ap, ap₂, subst, ◌∙◌, arith, chars, append_assoc, append-nil}
+use Rattle.std.proofs.Common.{◌≡◌, ℕ, suc, ◌+◌, ◌≤◌, ◌⊎◌, Bool, not, ◌&&◌, ◌==◌, List, [], ◌∷◌, ◌++◌, length, map, take, drop, IsTrue, ⊎_elim, refl, sym, ap, ap₂, subst, ◌∙◌, arith, chars, append_assoc, append-nil}
 use Rattle.std.proofs.Math.Seq.{drop-append_seam, take-append_seam}
 use Rattle.std.proofs.lemmas.Bool.{or_cases, and_parts, eqb-true, ltb-true}
-use Rattle.std.proofs.lemmas.List.{length-append, length-map, map-append, take-append-drop}
+use Rattle.std.proofs.lemmas.List.{length-append, length-map, length-take-le, map-append, take-append-drop}
 use Rattle.std.proofs.lemmas.Str.{encode_ascii, encodes-append, encodes-chars}
 use Rattle.std.specs.Char.{is_ascii, to_ascii_lowercase}
 use Rattle.std.specs.Str.{IsUtf8, encode_utf8_all}
@@ -12,10 +12,13 @@ use Rattle.glob_pattern.specs.Grammar.Brackets.{is_same}
 use Rattle.glob_pattern.specs.Grammar.Tokens.{Token}
 use Rattle.glob_pattern.specs.Matching.Texts.{TokensMatch}
 use Rattle.glob_pattern.specs.Laws.{SameTexts, StandsIn}
+use Rattle.glob_pattern.specs.Private.Parts.{SplitsPart}
 use Rattle.glob_pattern.specs.Private.Needles.{IsNeedle, IsAt, ContainsFolded}
 use Rattle.glob_pattern.specs.declared.options.MatchOptions.{MatchOptions}
 use Rattle.glob_pattern.specs.declared.pattern.needle.Needle.{Needle}
 use Rattle.glob_pattern.specs.declared.token.Token.TheVariants.{Literal}
+use Rattle.glob_pattern.proofs.MatchingLemmas.Ends.{length-literals, last-from_SplitsPart}
+use Rattle.glob_pattern.proofs.MatchingLemmas.Parts.{SplitsPart-fewer}
 use Rattle.glob_pattern.proofs.MatchingLemmas.PlainTokens.{plain_tokens_stand}
 
 -- a needle of some of the tokens is one of all
@@ -113,4 +116,27 @@ ContainsFolded-from_needle o tokens needle bytes is utf8 match =
           (sym (encodes-chars bytes utf8) ∙ ap encode_utf8_all stands.split ∙ encodes-append stands.before (stands.here ++ stands.after)
           ∙ ap (λ xs. encode_utf8_all stands.before ++ xs) (encodes-append stands.here stands.after))
           (small-SameTexts o.case_sensitive stands.here is.plain stands.same ∙ ap (map to_ascii_lowercase) (sym is.bytes_are));
+    }
+
+-- a part that the first of some tokens split contains the needle of these
+pub ContainsFolded-from_part : (o : MatchOptions) (opening : Bool) (tokens : List Token) (n : ℕ) (needle : Needle) (bytes : List ℕ) → n ≤ length tokens → IsNeedle (take n tokens) needle → IsUtf8 bytes
+    → SplitsPart o opening tokens n (chars bytes) → ContainsFolded bytes (take needle.len needle.bytes)
+ContainsFolded-from_part o opening tokens n needle bytes within is utf8 splits =
+    let text = chars bytes in
+    let rest = is.back ++ drop n tokens in
+    let m : ℕ = length is.front + length is.plain in
+    let whole : tokens ≡ is.front ++ (map Literal is.plain ++ rest) =
+    sym (take-append-drop n tokens) ∙ ap (λ ts. ts ++ drop n tokens) is.tokens_are ∙ append_assoc is.front (map Literal is.plain ++ is.back) (drop n tokens)
+    ∙ ap (λ ts. is.front ++ ts) (append_assoc (map Literal is.plain) is.back (drop n tokens)) in
+    let few : m ≤ n =
+    omega (arith, length-take-le n tokens within, ap length is.tokens_are, length-append is.front (map Literal is.plain ++ is.back), length-append (map Literal is.plain) is.back, length-literals is.plain (map Literal is.plain) refl) in
+    let (j, fewer) = SplitsPart-fewer o opening tokens n m text few splits in
+    let (before, here, split, same) = last-from_SplitsPart o is.plain opening is.front rest (length is.front) m (take j text) refl refl (subst (λ ts. SplitsPart o opening ts m (take j text)) whole fewer) in
+    let after = drop j text in
+    let all : text ≡ before ++ (here ++ after) = sym (take-append-drop j text) ∙ ap (λ xs. xs ++ after) split ∙ append_assoc before here after in
+    record {
+      offset = length (encode_utf8_all before);
+      stands = IsAt-from_split (encode_utf8_all before) (encode_utf8_all here) (encode_utf8_all after) bytes (take needle.len needle.bytes)
+          (sym (encodes-chars bytes utf8) ∙ ap encode_utf8_all all ∙ encodes-append before (here ++ after) ∙ ap (λ xs. encode_utf8_all before ++ xs) (encodes-append here after))
+          (small-SameTexts o.case_sensitive here is.plain same ∙ ap (map to_ascii_lowercase) (sym is.bytes_are));
     }

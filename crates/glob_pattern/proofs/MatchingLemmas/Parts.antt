@@ -1,11 +1,11 @@
 -- Parts of a text that tokens split: a character less at either end, and the tokens of a whole text.
-use Rattle.std.proofs.Common.{◌≡◌, ℕ, zero, suc, ◌+◌, ◌<◌, ◌≤◌, ◌⊎◌, ◌↔◌, ◌==◌, Bool, true, List, [], ◌∷◌, ◌++◌, length, map, take, drop, get_or, slice_index, IsTrue, refl, sym, ap, ap₂, subst, subst₂, ◌∙◌, inl, inr, ⊎_elim, arith}
+use Rattle.std.proofs.Common.{◌≡◌, ℕ, zero, suc, ◌+◌, ◌<◌, ◌≤◌, ◌⊎◌, ◌↔◌, ◌==◌, Bool, true, List, [], ◌∷◌, ◌++◌, length, map, take, get_or, IsTrue, refl, sym, ap, ap₂, subst, subst₂, ◌∙◌, inl, inr, ⊎_elim, arith}
 use Rattle.std.proofs.lemmas.List.{get_or-map, get_or_append_left, get_or-take, get_or_at, length-append, length-map, length-drop, length-take-le, take_all, take-map}
-use Rattle.std.proofs.lemmas.Bool.{cases_lt}
+use Rattle.std.proofs.lemmas.Bool.{cases_eq, cases_lt}
 use Rattle.glob_text.specs.Characters.{slash}
 use Rattle.glob_text.specs.Text.{Text, opens}
 use Rattle.glob_pattern.specs.Grammar.Tokens.{Token, shape_of}
-use Rattle.glob_pattern.specs.Matching.Splits.{MayReach, TakesAll, Splits}
+use Rattle.glob_pattern.specs.Matching.Splits.{Table, MayReach, TakesAll, Splits}
 use Rattle.glob_pattern.specs.Matching.Taking.{takes}
 use Rattle.glob_pattern.specs.Matching.Texts.{TokensMatch}
 use Rattle.glob_pattern.specs.Private.Parts.{SplitsPart}
@@ -68,8 +68,7 @@ module _ (o : MatchOptions) (opening : Bool) (t : Token) (ts : List Token) (c : 
     PrefixSplits-to_rest (suc n) k (i, prefix, reach, all) =
         let (took, j, e, before) = PrefixSplits-to_rest n i prefix in
         let le = MayReach-le (table_within opening o (t ∷ ts) (c ∷ cs)) (get_or (map shape_of ts) n One) _ i k reach in
-        let (m, at) : (m : ℕ) × (k ≡ suc m) = before_some k (omega arith) in
-        (
+        let (m, at) : (m : ℕ) × (k ≡ suc m) = before_some k (omega arith) in (
           took,
           m,
           at,
@@ -216,3 +215,37 @@ SplitsPart-cut o opening tokens n m part cut =
     (λ short. ⊎_elim (λ lt. SplitsPart-some o opening tokens n m part lt short) (λ le. absurd (omega arith)) cut)
     (λ le. rw (take_all m tokens le) (λ s. s, λ s. s))
     (cases_lt m (length tokens))
+
+-- fewer of the shapes split some of the characters
+PrefixSplits-fewer : (table : Table) (shapes : List Shape) (n m k : ℕ) → m ≤ n → PrefixSplits table shapes n k → (j : ℕ) × (j ≤ k) × PrefixSplits table shapes m j
+unfolding PrefixSplits
+PrefixSplits-fewer table shapes zero m k le start =
+    let none : 0 ≡ m = omega arith in
+    (k, omega arith, subst (λ q. PrefixSplits table shapes q k) none start)
+PrefixSplits-fewer table shapes (suc n) m k le (i, prefix, reach, all) =
+    ⊎_elim
+    (λ e. (k, omega arith, subst (λ q. PrefixSplits table shapes q k) (sym e) (i, prefix, reach, all)))
+    (λ other.
+    let (j, fewer, before) = PrefixSplits-fewer table shapes n m i (omega arith) prefix in
+    let from = MayReach-le table (get_or shapes n One) _ i k reach in
+    (j, omega arith, before))
+    (cases_eq m (suc n))
+
+opens-take : (opening : Bool) (text : Text) (j k : ℕ) → k ≤ j → opens_within opening text k ≡ opens_within opening (take j text) k
+opens-take opening text j zero le = refl
+opens-take opening text j (suc k) le = ap (λ d. d == slash) (sym (get_or-take j text k 0 (omega arith)))
+
+same-take : (o : MatchOptions) (opening : Bool) (tokens : List Token) (text : Text) (j : ℕ) → SameBefore (table_within opening o tokens text) (table_within opening o tokens (take j text)) j
+unfolding table_within
+same-take o opening tokens text j = record {
+  takes = λ m k lt. ap₂ (λ b d. takes o b d (get_or tokens m AnyChar)) (opens-take opening text j k (omega arith)) (sym (get_or-take j text k 0 lt));
+  opens = λ k le. opens-take opening text j k le;
+}
+
+-- fewer of the tokens split the start of the part
+pub SplitsPart-fewer : (o : MatchOptions) (opening : Bool) (tokens : List Token) (n m : ℕ) (text : Text) → m ≤ n → SplitsPart o opening tokens n text → (j : ℕ) × SplitsPart o opening tokens m (take j text)
+unfolding SplitsPart
+SplitsPart-fewer o opening tokens n m text within splits =
+    let (j, le, fewer) = PrefixSplits-fewer (table_within opening o tokens text) (map shape_of tokens) n m (length text) within splits in
+    let long : j ≡ length (take j text) = sym (length-take-le j text le) in
+    (j, subst (PrefixSplits (table_within opening o tokens (take j text)) (map shape_of tokens) m) long (PrefixSplits-same _ _ (map shape_of tokens) j m j (same-take o opening tokens text j) (omega arith) fewer))

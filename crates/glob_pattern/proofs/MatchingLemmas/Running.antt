@@ -1,5 +1,5 @@
 -- What a run over the position sets of a text needs and says.
-use Rattle.std.proofs.Common.{◌≡◌, ℕ, ◌-◌, ◌^◌, ◌<◌, ◌↔◌, Bool, true, IsTrue, List, length, map, chars, refl, sym, ◌∙◌, inl, arith}
+use Rattle.std.proofs.Common.{◌≡◌, ℕ, ◌^◌, ◌<◌, ◌↔◌, Bool, true, IsTrue, List, length, map, chars, refl, inl, arith}
 use Rattle.std.proofs.lemmas.List.{get_or_past, length-map}
 use Rattle.std.specs.Int.{IsBitSet}
 use Rattle.glob_text.specs.Text.{Text}

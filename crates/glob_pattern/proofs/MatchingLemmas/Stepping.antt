@@ -28,17 +28,6 @@ opens-suc text p =
     let later : (suc p == 0) ≡ false = grind (arith, nat_tests) in
     rw (back, later) refl
 
--- at the start of a text
-pub IsSteppedTo-start : (start : Bool) (text : Text) (current : ℕ) (opened : Bool) → (current == slash) ≡ start → IsSteppedTo start text text current opened (current == slash)
-IsSteppedTo-start start text current opened is =
-    let first : place_before text text ≡ 0 = omega arith in
-    record {
-      left = rw first refl;
-      here = rw first is;
-      last = λ lt. absurd (omega (arith, lt));
-      before = λ lt. absurd (omega (arith, lt));
-    }
-
 -- one step on
 pub IsSteppedTo-step : (start : Bool) (text rest : Text) (c current : ℕ) (opened opening : Bool)
     → IsSteppedTo start text (c ∷ rest) current opened opening → IsSteppedTo start text rest c opening (c == slash)

@@ -1,5 +1,5 @@
 -- What the ends of a pattern leave of a text, and of its tokens.
-use Rattle.std.proofs.Common.{◌≡◌, ℕ, ◌+◌, ◌-◌, ◌<◌, ◌≤◌, ◌⊎◌, ◌↔◌, Bool, true, ◌&&◌, List, [], ◌∷◌, ◌++◌, Option, None, Some, MatchOption, length, map, take, drop, get_or, refl, sym, ap, ap₂, subst, subst₂, ◌∙◌, inl, inr, ⊎_elim, arith, chars, append-nil}
+use Rattle.std.proofs.Common.{◌≡◌, ℕ, ◌+◌, ◌-◌, ◌<◌, ◌≤◌, ◌↔◌, Bool, true, List, [], ◌∷◌, ◌++◌, Option, None, Some, MatchOption, length, map, take, drop, get_or, refl, sym, ap, ap₂, subst, subst₂, ◌∙◌, inl, inr, ⊎_elim, arith, chars, append-nil}
 use Rattle.std.proofs.Math.Seq.{drop-append_seam, take-append_seam}
 use Rattle.std.proofs.lemmas.Bool.{and_from, and_parts, cases_eq}
 use Rattle.std.proofs.lemmas.List.{drop-drop, drop-map, drop_more, get_or-drop, get_or-map, get_or-take, get_or_past, length-append, length-drop, length-map, length-take-le, map-append, nil_from_length, take-append-drop, take-map, take_all, take_more}

@@ -1,5 +1,5 @@
 -- Splits by the first of some shapes: what they depend on.
-use Rattle.std.proofs.Common.{◌≡◌, ℕ, zero, suc, ◌+◌, ◌<◌, ◌≤◌, List, [], length, get_or, drop, sym, subst, ◌∙◌, inl, inr, ⊎_elim, arith}
+use Rattle.std.proofs.Common.{◌≡◌, ℕ, zero, suc, ◌+◌, ◌<◌, ◌≤◌, List, [], get_or, drop, sym, subst, ◌∙◌, inl, inr, ⊎_elim, arith}
 use Rattle.glob_pattern.specs.Matching.Splits.{Table, MayReach}
 use Rattle.glob_pattern.specs.Private.Prefixes.{PrefixSplits}
 use Rattle.glob_pattern.specs.declared.matcher.Shape.{Shape}

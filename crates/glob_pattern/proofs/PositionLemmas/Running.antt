@@ -10,7 +10,7 @@ use Rattle.glob_pattern.specs.Private.Prefixes.{PrefixSplits, IsAlive, HasTaken}
 use Rattle.glob_pattern.specs.Private.Positions.{IsShapeWord, AreShapeWords, AreAlive, TakesRest, CanRun, WereAsked, HasRun, HasDecided}
 use Rattle.glob_pattern.proofs.Counts.{mul-left, room-after}
 use Rattle.glob_pattern.proofs.PositionLemmas.Alive.{ComesAlive, IsAlive-step, asked_more}
-use Rattle.glob_pattern.proofs.PositionLemmas.TakenPrefixes.{IsDead-from_none}
+use Rattle.glob_pattern.proofs.PositionLemmas.DeadPlaces.{IsDead-from_none}
 use Rattle.glob_pattern.proofs.PositionLemmas.Words.{none-at_end}
 use Rattle.glob_pattern.proofs.BitLemmas.LowestBits.{lowest_set}
 use Rattle.glob_pattern.proofs.BitLemmas.SetBits.{IsBitSet-zero, IsBitSet-and}

@@ -4,7 +4,7 @@ use Rattle.std.proofs.lemmas.Bool.{and_parts, and_from, lt-ltb, ltb-true}
 use Rattle.glob_pattern.specs.Matching.Splits.{Table, MayReach, TakesAll}
 use Rattle.glob_pattern.specs.Private.Positions.{CanRun}
 use Rattle.glob_pattern.specs.Private.Prefixes.{PrefixSplits, IsAlive}
-use Rattle.glob_pattern.specs.Private.Spans.{table_before}
+use Rattle.glob_pattern.specs.Private.TextTable.{table_before}
 use Rattle.glob_pattern.specs.declared.matcher.Shape.{Shape}
 use Rattle.glob_pattern.specs.declared.matcher.Shape.TheVariants.{One, Run, Deep}
 use Rattle.glob_pattern.specs.declared.matcher.positions.Span.{Span}

@@ -10,7 +10,7 @@ use Rattle.glob_pattern.specs.Private.Prefixes.{PrefixSplits, IsAlive, HasTaken}
 use Rattle.std.specs.Int.{IsBitSet}
 use Rattle.glob_pattern.specs.Private.Positions.{word_end, IsShapeWord, IsAliveWord, IsTakenWord, AreAlive}
 use Rattle.glob_pattern.proofs.PositionLemmas.Alive.{MayEnd, ComesAlive, ComesWhole, IsAlive-step, PrefixSplits-step, HasTaken-none}
-use Rattle.glob_pattern.proofs.PositionLemmas.TakenPrefixes.{IsDead-later}
+use Rattle.glob_pattern.proofs.PositionLemmas.DeadPlaces.{IsDead-later}
 use Rattle.glob_pattern.proofs.PositionLemmas.Spreading.{spread}
 use Rattle.glob_pattern.proofs.BitLemmas.SetBits.{IsBitSet-cases, IsBitSet-or, IsBitSet-and, IsBitSet-zero, IsBitSet-spread_low, IsBitSet-spread_next, IsBitSet-moved_low, IsBitSet-moved_next, bit_below, highest_set}
 use Rattle.glob_pattern.proofs.BitLemmas.LowestBits.{ones_within}

@@ -1,45 +1,26 @@
--- Which of 63 neighbouring tokens take each class of characters.
-use Rattle.std.specs.Prelude.{◌≡◌, ℕ, ◌+◌, ◌*◌, ◌<◌, ◌↔◌, ◌⊎◌, Bool, true, false, ◌&&◌, not, nat_le, if◌then◌else◌, List, length, slice_index_or, IsTrue}
-use Rattle.std.specs.Char.{is_ascii}
+-- Which of 63 neighbouring tokens take the characters of each class.
+use Rattle.std.specs.Prelude.{◌≡◌, ℕ, ◌+◌, ◌*◌, ◌<◌, ◌≤◌, ◌↔◌, ◌⊎◌, Bool, true, false, if◌then◌else◌, List, [], length, slice_index_or, IsTrue}
 use Rattle.std.specs.Int.{IsBitSet}
-use Rattle.std.specs.List.{list_any}
 use Rattle.glob_text.specs.Characters.{slash, dot}
 use Rattle.glob_pattern.specs.Grammar.Brackets.{is_same, holds}
 use Rattle.glob_pattern.specs.Grammar.Tokens.{Token, is_recursive}
 use Rattle.glob_pattern.specs.Matching.Options.{new_options}
 use Rattle.glob_pattern.specs.Matching.Taking.{takes, is_excluded_separator, is_excluded_dot}
+use Rattle.glob_pattern.specs.Private.Classes.{Partition, IsPartition, partition_of, class_in, columns_of}
 use Rattle.glob_pattern.specs.declared.options.MatchOptions.{MatchOptions}
 use Rattle.glob_pattern.specs.declared.pattern.char_masks.CharMasks.{CharMasks}
-use Rattle.glob_pattern.specs.declared.pattern.char_masks.Kinds.{Kinds}
+use Rattle.glob_pattern.specs.declared.pattern.char_masks.CharMasks.TheVariants.{Plain, Listed}
+use Rattle.glob_pattern.specs.declared.pattern.char_masks.Listed as listed
+use Rattle.glob_pattern.specs.declared.pattern.char_masks.row.Kinds.{Kinds}
+use Rattle.glob_pattern.specs.declared.pattern.char_masks.Rows.{Rows}
 use Rattle.glob_pattern.specs.declared.token.Token.TheVariants.{Literal, AnyChar, AnySequence, Recursive, OneOf, NoneOf}
-use Rattle.glob_pattern.specs.declared.token.bracket.Entry.{Entry}
-use Rattle.glob_pattern.specs.declared.token.bracket.Entry.TheVariants.{Single, Range}
-
--- the first character beyond ASCII
-abbrev pub beyond : ℕ
-beyond = 128
-
--- the class of a character of ASCII that no rule excludes from wildcards
-abbrev pub ascii_class : (case : Bool) → ℕ → ℕ
-ascii_class case c = if case then c else 128 + c
-
--- the classes of what the separator rule and the dot rule exclude from wildcards, and of all characters beyond ASCII
-abbrev pub separator_class : ℕ
-separator_class = 256
-
-abbrev pub dot_class : ℕ
-dot_class = 257
-
-abbrev pub beyond_class : ℕ
-beyond_class = 258
 
 -- the class of a character; `opening`: a component begins at its place
-abbrev pub class_of : MatchOptions → (opening : Bool) → ℕ → ℕ
-class_of o opening c =
-    if not (is_ascii c) then beyond_class
-    else if is_excluded_separator o c then separator_class
-    else if is_excluded_dot o opening c then dot_class
-    else ascii_class o.case_sensitive c
+abbrev pub class_of : Partition → MatchOptions → (opening : Bool) → ℕ → ℕ
+class_of p o opening c =
+    if is_excluded_separator o c then 0
+    else if is_excluded_dot o opening c then 1
+    else class_in p c
 
 -- the mask of a class
 abbrev pub mask_at : List ℕ → (class : ℕ) → ℕ
@@ -48,20 +29,6 @@ mask_at masks class = slice_index_or masks class 0
 -- case-sensitively or not, and neither rule
 abbrev pub case_options : (case : Bool) → MatchOptions
 case_options case = record new_options { case_sensitive = case }
-
--- the last character of the entry is beyond ASCII
-abbrev pub is_beyond : Entry → Bool
-is_beyond (Single x) = nat_le beyond x
-is_beyond (Range x y) = nat_le beyond y
-
--- The token is a character beyond ASCII, or a bracket with an entry that ends there: it is asked about each of them.
-abbrev pub is_undecided : Token → Bool
-is_undecided (Literal x) = nat_le beyond x
-is_undecided AnyChar = false
-is_undecided AnySequence = false
-is_undecided Recursive = false
-is_undecided (OneOf entries) = list_any is_beyond entries
-is_undecided (NoneOf entries) = list_any is_beyond entries
 
 -- the token takes a `/` that the separator rule excludes from wildcards
 abbrev pub takes_separator : Token → Bool
@@ -79,10 +46,6 @@ takes_all_but_listed AnySequence = true
 takes_all_but_listed Recursive = true
 takes_all_but_listed (OneOf entries) = false
 takes_all_but_listed (NoneOf entries) = true
-
--- the token takes all characters beyond ASCII, and need not be asked about them
-abbrev pub takes_beyond : Token → Bool
-takes_beyond t = takes_all_but_listed t && not (is_undecided t)
 
 -- the token is a bracket
 abbrev pub is_bracket : Token → Bool
@@ -112,36 +75,55 @@ pub record IsMask (tokens : List Token) (start end : ℕ) (test : Token → Bool
       → IsBitSet mask j
       ↔ ((start + j < end) × IsTrue (test (slice_index_or tokens (start + j) AnyChar)))
 
--- of the tokens from number `start` up to `end`, those of each kind, and those that list each character of ASCII
-pub record AreListed (tokens : List Token) (start end : ℕ) (masks : List ℕ) (kinds : Kinds) : Type 0 where
-  pub ascii : (case : Bool) (c : ℕ) → c < 128
-      → IsMask tokens start end (lists case c) (mask_at masks (ascii_class case c))
+-- the token lists no character: it is neither a literal nor a bracket
+abbrev pub is_plain : Token → Bool
+is_plain (Literal c) = false
+is_plain AnyChar = true
+is_plain AnySequence = true
+is_plain Recursive = true
+is_plain (OneOf entries) = false
+is_plain (NoneOf entries) = false
+
+-- of the tokens from number `start` up to `end`, those of each kind, and those that list each character
+pub record AreListed (tokens : List Token) (start end : ℕ) (p : Partition) (case : Bool) (row : List ℕ) (kinds : Kinds) : Type 0 where
+  pub listed : (c : ℕ) → IsMask tokens start end (lists case c) (mask_at row (class_in p c))
   pub others : IsMask tokens start end takes_all_but_listed kinds.others
   pub brackets : IsMask tokens start end is_bracket kinds.brackets
   pub recursive : IsMask tokens start end is_recursive kinds.recursive
-  pub undecided : IsMask tokens start end is_undecided kinds.undecided
 
--- of the tokens from number `start` up to `end`, those that take the characters of each class
-pub record AreMasks (tokens : List Token) (start end : ℕ) (masks : CharMasks) : Type 0 where
-  pub ascii : (case : Bool) (c : ℕ) → c < 128
-      → IsMask tokens start end (takes (case_options case) false c)
-      (mask_at masks.masks (ascii_class case c))
-  pub separator : IsMask tokens start end takes_separator (mask_at masks.masks separator_class)
-  pub dot : IsMask tokens start end takes_dot (mask_at masks.masks dot_class)
-  pub beyond : IsMask tokens start end takes_beyond (mask_at masks.masks beyond_class)
-  pub undecided : IsMask tokens start end is_undecided masks.undecided
+-- the masks from number `at` on say which of the 63 tokens from number `start` on take the characters of each class
+pub record IsRow (tokens : List Token) (start : ℕ) (p : Partition) (case : Bool) (masks : List ℕ) (at : ℕ) : Type 0 where
+  pub takes : (o : MatchOptions) (opening : Bool) (c j : ℕ) → o.case_sensitive ≡ case → j < 63
+      → IsBitSet (mask_at masks (at + class_of p o opening c)) j
+      ↔ ((start + j < length tokens) × IsTrue (takes o opening c (slice_index_or tokens (start + j) AnyChar)))
 
--- What the masks of the tokens from number `start` on say of a character, which is of ASCII where the token is
--- undecided; such a token is not in the mask of the characters beyond ASCII.
-pub record IsCharMasks (tokens : List Token) (start : ℕ) (masks : CharMasks) : Type 0 where
-  pub takes : (o : MatchOptions) (opening : Bool) (c j : ℕ) → j < 63 → start + j < length tokens
-      → (c < 128) ⊎ ¬ (IsBitSet masks.undecided j)
-      → IsBitSet (mask_at masks.masks (class_of o opening c)) j
-      ↔ IsTrue (takes o opening c (slice_index_or tokens (start + j) AnyChar))
-  pub undecided : (j : ℕ) → j < 64 → IsBitSet masks.undecided j
-      → ¬ (IsBitSet (mask_at masks.masks beyond_class) j)
+-- each of so many words has a row of masks, two rows after that of the word before
+pub record AreRows (tokens : List Token) (words : ℕ) (case : Bool) (p : Partition) (masks : List ℕ) (half : ℕ) : Type 0 where
+  pub partition : IsPartition p
+  pub within : (word : ℕ) → word < words
+      → (2 * word + half) * columns_of p + columns_of p ≤ length masks
+  pub row : (word : ℕ) → word < words
+      → IsRow tokens (63 * word) p case masks ((2 * word + half) * columns_of p)
 
--- each is the masks of 63 tokens, the first ones those of the first 63
-pub record AreCharMasks (tokens : List Token) (list : List CharMasks) : Type 0 where
-  pub each : (i : ℕ) (d : CharMasks) → i < length list
-      → IsCharMasks tokens (63 * i) (slice_index_or list i d)
+-- the rows are of the tokens, in one case
+pub record AreRowsOf (tokens : List Token) (words : ℕ) (case : Bool) (rows : Rows) : Type 0 where
+  pub columns : rows.columns ≡ columns_of (partition_of rows.classes)
+  pub are : AreRows tokens words case (partition_of rows.classes) rows.masks.now rows.half
+
+-- where all characters are of one class
+abbrev pub no_partition : Partition
+no_partition = record { ascii = []; last = 2; beyond = [] }
+
+-- which of a word's two rows is of this case
+abbrev pub half_of : (case : Bool) → ℕ
+half_of case = if case then 0 else 1
+
+-- the classes that are stored beside masks
+abbrev pub partition_in : {A : Type 0} → listed.Listed A → Partition
+partition_in l = record { ascii = l.ascii; last = l.last; beyond = l.beyond.items }
+
+-- the masks are of the tokens, and of so many words
+abbrev pub AreCharMasks : {A : Type 0} → List Token → (words : ℕ) → CharMasks A → Type 0
+AreCharMasks tokens words (Plain masks) = (case : Bool) → AreRows tokens words case no_partition masks 0
+AreCharMasks tokens words (Listed l) =
+    (case : Bool) → AreRows tokens words case (partition_in l.value) l.value.masks.items (half_of case)

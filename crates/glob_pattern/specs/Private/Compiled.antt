@@ -1,5 +1,5 @@
 -- What a match reads of a pattern's tokens.
-use Rattle.std.specs.Prelude.{List}
+use Rattle.std.specs.Prelude.{◌-◌, List, length, take}
 use Rattle.glob_pattern.specs.Grammar.Tokens.{Token}
 use Rattle.glob_pattern.specs.Private.Automata.{IsAutomaton}
 use Rattle.glob_pattern.specs.Private.Ends.{IsEnds, middle_of}
@@ -10,7 +10,7 @@ use Rattle.glob_pattern.specs.declared.pattern.ends.Ends.{Ends}
 use Rattle.glob_pattern.specs.declared.pattern.needle.Needle.{Needle}
 
 -- the ends of the tokens, a needle, and the shapes and masks of those between the ends
-pub record IsCompiled (tokens : List Token) (ends : Ends) (needle : Needle) (first : ShapeWord) (words : List ShapeWord) (masks : List CharMasks) : Type 0 where
+pub record IsCompiled {A : Type 0} (tokens : List Token) (ends : Ends) (needle : Needle) (first : ShapeWord) (words : List ShapeWord) (masks : CharMasks A) : Type 0 where
   pub at_ends : IsEnds tokens ends
-  pub inside : IsNeedle tokens needle
-  pub between : IsAutomaton (middle_of tokens ends) first words masks
+  pub inside : IsNeedle (take (length tokens - ends.lead - ends.trail) (middle_of tokens ends)) needle
+  pub between : IsAutomaton (middle_of tokens ends) (length tokens - ends.lead - ends.trail) first words masks

@@ -1,5 +1,5 @@
 -- How far prefixes of the shapes reach: what the position sets of a match say.
-use Rattle.std.specs.Prelude.{◌≡◌, ℕ, zero, suc, ◌+◌, ◌<◌, ◌≤◌, ◌≢◌, ◌⊎◌, ◌↔◌, List, length, drop, slice_index_or, IsTrue}
+use Rattle.std.specs.Prelude.{◌≡◌, ℕ, zero, suc, ◌+◌, ◌≤◌, ◌≢◌, ◌⊎◌, List, length, drop, slice_index_or, IsTrue}
 use Rattle.glob_pattern.specs.Matching.Splits.{Table, TakesAll, MayReach}
 use Rattle.glob_pattern.specs.declared.matcher.Shape.{Shape}
 use Rattle.glob_pattern.specs.declared.matcher.Shape.TheVariants.{One}
@@ -23,16 +23,6 @@ IsAlive table shapes n k =
 unfoldable pub HasTaken : Table → List Shape → (n k : ℕ) → Type 0
 HasTaken table shapes n zero = ⊥
 HasTaken table shapes n (suc k) = IsAlive table shapes n k × IsTrue (table.takes n k)
-
--- of all tokens, the one before place k alone has taken the character before it
-pub record TakenByLast (table : Table) (shapes : List Shape) (k : ℕ) : Type 0 where
-  pub last : (n : ℕ) → n < length shapes → HasTaken table shapes n k ↔ (n + 1 ≡ k)
-
--- the first n shapes are of one character, and the token of each takes the character of its own number
-pub record IsTakenPrefix (table : Table) (shapes : List Shape) (n : ℕ) : Type 0 where
-  pub within : n ≤ length shapes
-  pub ones : (j : ℕ) → j < n → slice_index_or shapes j One ≡ One
-  pub taken : TakenByLast table shapes n
 
 -- where something is alive at place k, each character before it was asked about since the count was `first`
 abbrev pub AreAllAsked : Table → List Shape → (first k count : ℕ) → Type 0

@@ -1,20 +1,18 @@
 //! The automaton of a pattern's tokens between the ends: their shapes as words of bits, and which of them take which
 //! characters.
-ghost use Rattle.std.specs.Prelude.{◌≡◌, ℕ, ◌*◌, ◌<◌, ◌≤◌, ◌↔◌, Bool, List, [], length, map, IsTrue, IsOk, IfOk, chars};
+ghost use Rattle.std.specs.Prelude.{◌≡◌, ℕ, ◌+◌, ◌*◌, ◌<◌, ◌≤◌, ◌↔◌, Bool, List, [], length, map, IsTrue, IsOk, IfOk, chars};
 ghost use Rattle.std.specs.Int.{IsBitSet};
 ghost use Rattle.glob_text.specs.Text.{Text};
-ghost use Rattle.glob_pattern.specs.Grammar.Tokens.{shape_of};
+ghost use Rattle.glob_pattern.specs.Grammar.Tokens.{Token as TokenOf, shape_of};
 ghost use Rattle.glob_pattern.specs.Private.Automata.{IsAutomaton};
 ghost use Rattle.glob_pattern.specs.Private.Parts.{SplitsPart, EndsAt};
-ghost use Rattle.glob_pattern.specs.Private.Positions.{AreShapeWords, TakesRest, CanRun};
-ghost use Rattle.glob_pattern.specs.Private.Prefixes.{IsAlive};
+ghost use Rattle.glob_pattern.specs.Private.Positions.{IsShapeWord, AreShapeWords, TakesRest};
 ghost use Rattle.glob_pattern.specs.Private.TextTable.{table_within};
-ghost use Rattle.glob_pattern.specs.declared.matcher.shape_word.ShapeWord.{ShapeWord};
 
-use crate::matcher::{Judge, Shape, ShapeWord, Shaped, Span, WORD, decide, shape_words};
+use crate::matcher::{Judge, ShapeWord, Span, WORD, decide, shape_words};
 use crate::options::MatchOptions;
-use crate::pattern::char_masks::{CharMasks, masks_of};
-use crate::pattern::judge::{SpanJudge, TextJudge};
+use crate::pattern::char_masks::CharMasks;
+use crate::pattern::judge::{MaskJudge, TextJudge};
 use crate::token::Token;
 use crate::token::bracket::Bracket;
 use crate::token::taking::has_rules;
@@ -27,26 +25,23 @@ pub struct Automaton<A: Allocator> {
     // the shapes as bits: those of the first 63 tokens, and if there are more tokens, those of all
     first: ShapeWord,
     words: Vec<ShapeWord, A>,
-    // empty where no run reads them
-    masks: Vec<CharMasks, A>,
+    masks: CharMasks<A>,
 }
 
 impl<A: Allocator + Copy> Automaton<A> {
-    /// That of the tokens, where those before number `end` are to split a text. Fails only if allocation fails.
+    /// That of the tokens, where those before number `end`, all or all but one, are to split a text. Fails only if
+    /// allocation fails.
     pub fn new(alloc: A, tokens: &[Token<Bracket<A>>], end: usize) -> Result<Self, AllocError>
-        requires { end ≤ length tokens.now }
-        ensures { IfOk result
-            (λ a. IsAutomaton tokens.now a.first a.words.items a.masks.items) }
+        requires end { end ≤ length tokens.now }
+        requires last { length tokens.now ≤ end + 1 }
+        ensures { IfOk result (λ a. IsAutomaton tokens.now end a.first a.words.items a.masks) }
     {
         let words = if tokens.len() <= WORD {
             Vec::new(alloc)
         } else {
             shape_words(alloc, tokens)?
         };
-        // Wildcards alone, of at most one word, are asked without masks.
-        let has_one = tokens[..end].iter().any(|token| token.shape() == Shape::One);
-        let is_long = end > 0 && tokens.len() > WORD;
-        let masks = masks_of(alloc, tokens, has_one || is_long)?;
+        let masks = CharMasks::new(alloc, &tokens[..end], words_of(tokens))?;
         Ok(Automaton {
             first: ShapeWord::new(tokens, 0),
             words,
@@ -56,20 +51,20 @@ impl<A: Allocator + Copy> Automaton<A> {
 
     /// That of no tokens. It allocates nothing.
     pub fn empty(alloc: A) -> Self
-        ensures { IsAutomaton [] result.first result.words.items result.masks.items }
+        ensures { IsAutomaton [] 0 result.first result.words.items result.masks }
     {
         Automaton {
             first: ShapeWord::NONE,
             words: Vec::new(alloc),
-            masks: Vec::new(alloc),
+            masks: CharMasks::Plain([0; 3]),
         }
     }
 
     /// The same on the same allocator. Fails only if allocation fails.
     pub fn clone(&self) -> Result<Self, AllocError>
-        ensures first { IfOk result (λ a. a.first ≡ self.now.first) }
-        ensures words { IfOk result (λ a. a.words.items ≡ self.now.words.items) }
-        ensures masks { IfOk result (λ a. a.masks.items ≡ self.now.masks.items) }
+        ensures { IfOk result (λ a. (tokens : List TokenOf) (end : ℕ)
+            → IsAutomaton tokens end self.now.first self.now.words.items self.now.masks
+            → IsAutomaton tokens end a.first a.words.items a.masks) }
     {
         Ok(Automaton {
             first: self.first,
@@ -89,8 +84,8 @@ impl<A: Allocator + Copy> Automaton<A> {
         opening: bool,
         options: MatchOptions,
     ) -> Result<(bool, u128), AllocError>
-        requires automaton { IsAutomaton tokens.now self.now.first self.now.words.items
-            self.now.masks.items }
+        requires automaton { IsAutomaton tokens.now end self.now.first self.now.words.items
+            self.now.masks }
         requires end { EndsAt tokens.now end }
         ensures answer { IfOk result (λ counted. IsTrue counted.0
             ↔ SplitsPart options opening tokens.now end (chars text.now)) }
@@ -104,47 +99,19 @@ impl<A: Allocator + Copy> Automaton<A> {
             return Ok((true, 0));
         }
         let span = Span { end, accepting };
-        let mut judge = TextJudge::new(tokens, self.masks.as_slice(), text, opening, options);
-        if self.masks.is_empty() && tokens.len() <= WORD {
-            let mut judge = SpanJudge::new(judge, self.first, end);
-            self.run(tokens, span, &mut judge)
-        } else {
-            self.run(tokens, span, &mut judge)
-        }
-    }
-
-    /// Whether the tokens before the span's end split the characters of a judge that was asked nothing, and how many
-    /// questions it took.
-    #[inline(always)]
-    fn run<J: Judge>(
-        &self,
-        tokens: &[Token<Bracket<A>>],
-        span: Span,
-        judge: &mut J,
-    ) -> Result<(bool, u128), AllocError>
-        requires automaton { IsAutomaton tokens.now self.now.first self.now.words.items
-            self.now.masks.items }
-        requires ready { (words : List ShapeWord) → AreShapeWords (map shape_of tokens.now) words
-            → CanRun (J.table judge.old) (map shape_of tokens.now) words span
-            (J.place judge.old) (J.count judge.old) }
-        requires unasked { J.count judge.old ≡ 0 }
-        ensures answer { IfOk result (λ counted. IsTrue counted.0
-            ↔ IsAlive (J.table judge.old) (map shape_of tokens.now) span.end
-            (J.table judge.old).characters) }
-        ensures most { IfOk result
-            (λ counted. counted.1 ≤ length tokens.now * (J.table judge.old).characters) }
-        ensures short { length tokens.now < 64 → IsOk result }
-    {
+        let one_by_one = TextJudge::new(tokens, text, opening, options);
+        let mut judge = MaskJudge::new(one_by_one, &self.masks, end, words_of(tokens));
         let alloc = *self.words.allocator();
-        let answer = decide(alloc, tokens, self.words(tokens), span, judge)?;
+        let answer = decide(alloc, tokens, self.words(tokens), span, &mut judge)?;
         Ok((answer, judge.asked()))
     }
 
     /// The shapes as bits.
     #[inline(always)]
     fn words(&self, tokens: &[Token<Bracket<A>>]) -> &[ShapeWord]
-        requires { IsAutomaton tokens.now self.now.first self.now.words.items
-            self.now.masks.items }
+        requires first { IsShapeWord (map shape_of tokens.now) 0 self.now.first }
+        requires all { 63 < length tokens.now
+            → AreShapeWords (map shape_of tokens.now) self.now.words.items }
         ensures words { AreShapeWords (map shape_of tokens.now) result.now }
         ensures short { length tokens.now < 64 → length result.now ≡ 1 }
     {
@@ -158,14 +125,8 @@ impl<A: Allocator + Copy> Automaton<A> {
     /// The bit of the last token before number `end`, if it is a wildcard that takes all that is left of any text: once
     /// it is alive, these tokens match.
     #[inline(always)]
-    fn accepting(
-        &self,
-        tokens: &[Token<Bracket<A>>],
-        end: usize,
-        options: MatchOptions,
-    ) -> u64
-        requires { IsAutomaton tokens.now self.now.first self.now.words.items
-            self.now.masks.items }
+    fn accepting(&self, tokens: &[Token<Bracket<A>>], end: usize, options: MatchOptions) -> u64
+        requires { IsShapeWord (map shape_of tokens.now) 0 self.now.first }
         ensures { (opening : Bool) (text : Text) (j : ℕ) → IsBitSet result j
             → TakesRest (table_within opening options tokens.now text)
             (map shape_of tokens.now) end j }
@@ -175,4 +136,13 @@ impl<A: Allocator + Copy> Automaton<A> {
         }
         self.first.free_before(end)
     }
+}
+
+/// How many words of 63 the tokens fill.
+#[inline(always)]
+fn words_of<A: Allocator>(tokens: &[Token<Bracket<A>>]) -> usize
+    ensures enough { length tokens.now ≤ 63 * result }
+    ensures few { 63 * result < length tokens.now + 63 }
+{
+    tokens.len().div_ceil(WORD)
 }

@@ -42,7 +42,7 @@ impl<A: Allocator> Model for Compiled<A> {
     ghost view = { λ c. c.tokens.items };
 
     ghost invariant = { λ c. IsCompiled c.tokens.items c.ends c.needle c.automaton.first
-        c.automaton.words.items c.automaton.masks.items };
+        c.automaton.words.items c.automaton.masks };
 }
 
 impl<A: Allocator> Compiled<A> {
@@ -170,12 +170,13 @@ impl<A: Allocator + Copy> Compiled<A> {
         if between == 0 {
             return Ok((part.text.is_empty(), asked));
         }
-        if !self.needle.may_be_in(text.as_bytes()) {
+        if !self.needle.may_be_in(part.text.as_bytes()) {
             return Ok((false, asked));
         }
         let middle = ends.middle(tokens);
-        let (answer, count) =
-            self.automaton.matches(middle, between, part.text, part.opening, options)?;
+        let (answer, count) = self
+            .automaton
+            .matches(middle, between, part.text, part.opening, options)?;
         Ok((answer, asked + count))
     }
 
@@ -225,7 +226,7 @@ fn ask_all<A: Allocator + Copy>(
         (λ counted. IsTrue counted.0 → length (chars text.now) ≤ counted.1) }
     ensures short { length words.now ≡ 1 → IsOk result }
 {
-    let mut judge = TextJudge::new(tokens, &[], text, true, options);
+    let mut judge = TextJudge::new(tokens, text, true, options);
     let answer = decide(alloc, tokens, words, Span::all(tokens.len()), &mut judge)?;
     Ok((answer, judge.asked()))
 }

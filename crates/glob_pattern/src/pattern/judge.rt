@@ -1,30 +1,25 @@
 //! The judge of a text's characters and a pattern's tokens.
-ghost use Rattle.std.specs.Prelude.{◌≡◌, ℕ, false, ◌+◌, ◌-◌, ◌*◌, ◌^◌, ◌<◌, ◌≤◌, ◌↔◌, length, drop, ◌==◌, IsTrue, chars};
+ghost use Rattle.std.specs.Prelude.{◌≡◌, false, ◌+◌, ◌-◌, ◌<◌, ◌≤◌, length, ◌==◌, IsTrue, chars};
 ghost use Rattle.glob_text.specs.Characters.{slash};
-ghost use Rattle.std.specs.Int.{IsBitSet};
 ghost use Rattle.std.specs.Str.Iter.{chars_rest};
-ghost use Rattle.glob_pattern.specs.Matching.Taking as taking;
 ghost use Rattle.glob_pattern.specs.Private.Stepping.{IsSteppedTo, place_before};
-ghost use Rattle.glob_pattern.specs.Private.TextTable.{table_within, TakesBit};
-ghost use Rattle.glob_pattern.specs.Private.CharMasks.{AreCharMasks};
+ghost use Rattle.glob_pattern.specs.Private.TextTable.{table_within};
 
-mod span_judge;
+mod mask_judge;
 
-use crate::matcher::{Judge, WORD};
+use crate::matcher::Judge;
 use crate::options::MatchOptions;
-use crate::pattern::char_masks::{BEYOND, CharMasks, class_of};
 use crate::token::Token;
 use crate::token::bracket::Bracket;
 use crate::token::taking::takes;
-pub use span_judge::SpanJudge;
+pub use mask_judge::MaskJudge;
 use std::alloc::Allocator;
 use std::str::Chars;
 
-/// A judge of a text's characters and a pattern's tokens.
+/// A judge of a text's characters and a pattern's tokens, which asks the tokens one by one.
 #[derive(Drop)]
 pub struct TextJudge<'a, A: Allocator> {
     tokens: &'a [Token<Bracket<A>>],
-    masks: &'a [CharMasks],
     options: MatchOptions,
     text: &'a str,
     // a component starts at the start of the text
@@ -35,7 +30,6 @@ pub struct TextJudge<'a, A: Allocator> {
     current: char,
     before: char,
     count: u128,
-    ghost masked: { AreCharMasks tokens.now masks.now },
     ghost stepped: { IsSteppedTo opening (chars text.now) (chars (chars_rest rest)) current
         (before == slash) (current == slash) },
 }
@@ -46,12 +40,10 @@ impl<'a, A: Allocator> TextJudge<'a, A> {
     #[inline(always)]
     pub fn new(
         tokens: &'a [Token<Bracket<A>>],
-        masks: &'a [CharMasks],
         text: &'a str,
         opening: bool,
         options: MatchOptions,
     ) -> Self
-        requires { AreCharMasks tokens.now masks.now }
         ensures tokens { result.tokens.now ≡ tokens.now }
         ensures text { result.text.now ≡ text.now }
         ensures opening { result.opening ≡ opening }
@@ -61,7 +53,6 @@ impl<'a, A: Allocator> TextJudge<'a, A> {
     {
         TextJudge {
             tokens,
-            masks,
             options,
             text,
             opening,
@@ -146,56 +137,7 @@ impl<A: Allocator> Judge for TextJudge<'_, A> {
     }
 
     #[inline(always)]
-    fn takes_each(&mut self, word: usize, asked: u64) -> u64 {
-        self.count += u128::from(asked.count_ones());
-        let opening = self.before == '/';
-        let Some(masks) = self.masks.get(word) else {
-            // Without masks only counted matches come here, and those by more than 63 tokens of one character each.
-            let options = self.options;
-            return take_left(self.tokens, word, asked, options, opening, self.current);
-        };
-        let class = class_of(self.options, opening, self.current);
-        let took = asked & masks.masks[class];
-        if class != BEYOND {
-            return took;
-        }
-        let left = asked & masks.undecided;
-        if left == 0 {
-            return took;
-        }
-        let options = self.options;
-        took | take_left(self.tokens, word, left, options, opening, self.current)
-    }
-
-    #[inline(always)]
     fn asked(&self) -> u128 {
         self.count
     }
-}
-
-/// Those of the tokens that are left, in a word of 63, that take the character, asked one by one.
-#[inline(never)]
-fn take_left<A: Allocator>(
-    tokens: &[Token<Bracket<A>>],
-    word: usize,
-    left: u64,
-    options: MatchOptions,
-    opening: bool,
-    c: char,
-) -> u64
-    requires { (j : ℕ) → IsBitSet left j
-        → (63 * word + j < 2 ^ 64) × (63 * word + j < length tokens.now) }
-    ensures { (j : ℕ) → j < 64 → IsBitSet result j
-        ↔ (IsBitSet left j × TakesBit options opening c tokens.now (63 * word) j) }
-{
-    let mut rest = left;
-    let mut took = 0u64;
-    while rest != 0 {
-        let bit = rest.trailing_zeros();
-        if takes(&tokens[WORD * word + bit as usize], options, opening, c) {
-            took |= 1 << bit;
-        }
-        rest &= rest - 1;
-    }
-    took
 }

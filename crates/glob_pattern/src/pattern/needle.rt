@@ -12,7 +12,7 @@ use std::simd::prelude::*;
 const LANES: usize = 16;
 
 /// In this bit alone an ASCII letter in upper case differs from lower case.
-pub const CASE: u8 = 0x20;
+const CASE: u8 = 0x20;
 
 /// Bytes that each matching text contains, in either case.
 #[derive(Clone, Copy)]

@@ -1,6 +1,7 @@
 //! Brackets: which characters they hold.
 ghost use Rattle.std.specs.Prelude.{◌≡◌, IfOk};
 ghost use Rattle.glob_pattern.specs.Grammar.Brackets.{entries_of, is_same, in_folded_range, entry_holds, holds};
+ghost use Rattle.glob_pattern.specs.Private.Brackets.{first_of, last_of};
 
 use std::alloc::{AllocError, Allocator, Global};
 use std::marker::Model;
@@ -19,6 +20,17 @@ pub enum Entry {
 }
 
 impl Entry {
+    /// The first and the last character. A single character is both.
+    pub fn ends(self) -> (char, char)
+        ensures first { result.0 ≡ first_of self }
+        ensures last { result.1 ≡ last_of self }
+    {
+        match self {
+            Entry::Single(x) => (x, x),
+            Entry::Range(x, y) => (x, y),
+        }
+    }
+
     /// Whether the entry holds `c`.
     fn holds(self, c: char, case_sensitive: bool) -> bool
         ensures { result ≡ entry_holds case_sensitive c self }

@@ -15,5 +15,5 @@ pub use error::PatternError;
 pub use grammar::{characters_of, close_from, opens};
 pub use matcher::{run_positions, Judge, Shape};
 pub use options::MatchOptions;
-pub use pattern::{literal_at, match_trimmed, token_kind, token_takes, tokens_len, trim, Pattern, TokenKind, Trimmed};
+pub use pattern::{literal_at, may_match, token_kind, token_takes, tokens_len, Pattern, TokenKind};
 pub use token::taking::is_open;

@@ -3,20 +3,21 @@
 //!
 //! Patterns: parsing, and matching texts.
 
+mod automaton;
 mod char_masks;
+mod classes;
 mod compare;
 mod compiled;
+mod ends;
 mod escape;
 mod judge;
 mod needle;
-mod prefilter;
 mod tokens;
 
 use crate::proved::glob_pattern::error::PatternError;
 use crate::proved::glob_pattern::grammar;
 use crate::proved::glob_pattern::options::MatchOptions;
 use compiled::Compiled;
-pub use prefilter::Trimmed;
 pub use tokens::{token_kind, token_takes, tokens_len, TokenKind};
 
 /// A parsed pattern, which matches texts.
@@ -89,34 +90,24 @@ impl Pattern {
     /// `*.rs` matches `src/main.rs`, and with the separator rule it does not.
     #[inline(always)]
     pub fn matches_with(&self, str: &str, options: MatchOptions) -> bool {
-        match trim(self, str.as_bytes(), options) {
-            Some(trimmed) => match_trimmed(self, str, options, trimmed),
-            None => false,
-        }
+        self.compiled.matches(self.text.as_str(), str, options)
     }
 
-    /// The answer of [`matches_with`](Self::matches_with), and how many questions it takes without the prefilter: how
-    /// often it is asked whether a token takes a character. Their number is at most the pattern's characters times the
-    /// text's, and for a match at least the text's characters. So `a` and the text `a` take one question, and the
-    /// answer is `(true, 1)`.
+    /// The answer of [`matches_with`](Self::matches_with), and how many questions it takes if the ends are not compared
+    /// beforehand: how often it is asked whether a token takes a character. Their number is at most the pattern's
+    /// characters times the text's, and for a match at least the text's characters. So `a` and the text `a` take one
+    /// question, and the answer is `(true, 1)`.
     #[inline(always)]
     pub fn matches_counted(&self, str: &str, options: MatchOptions) -> (bool, u128) {
         self.compiled.matches_counted(str, options)
     }
 }
 
-/// Whether a text of these bytes may be one that the pattern matches, by its ends and a search for a needle: `None`
-/// says that it is not, so for `*.rs` and the bytes of `main.c`. Otherwise it says how much of the ends is decided, for
-/// [`match_trimmed`]. The bytes need not be UTF-8.
+/// Whether a text of these bytes may be one that the pattern matches, by its ends and a search for a needle: so for
+/// `*.rs` it may be `main.rs`, and not `main.c`. The bytes need not be UTF-8.
 #[inline(always)]
-pub fn trim(pattern: &Pattern, bytes: &[u8], options: MatchOptions) -> Option<Trimmed> {
-    pattern.compiled.trim(bytes, options)
-}
-
-/// The answer of [`matches_with`](Pattern::matches_with), for a text whose ends [`trim`] has decided.
-#[inline(always)]
-pub fn match_trimmed(pattern: &Pattern, str: &str, options: MatchOptions, trimmed: Trimmed) -> bool {
-    pattern.compiled.matches(str, options, trimmed)
+pub fn may_match(pattern: &Pattern, bytes: &[u8], options: MatchOptions) -> bool {
+    pattern.compiled.may_match(pattern.text.as_str(), bytes, options)
 }
 
 /// The character that the token of this number is, counted from 0, or `None` if it is a wildcard or a bracket, or there

@@ -5,27 +5,29 @@
 //! characters so far. Bit n of a word is set where the tokens before the word's nth are done, or the nth has begun and
 //! may go on. A character moves all positions at once.
 
-use super::shape_word::{last_before, ShapeWord};
+use super::shape_word::ShapeWord;
 use super::{Judge, Shaped, WORD};
 
 /// Which part of the shapes a run goes over.
 #[derive(Clone, Copy)]
 pub struct Span {
-    /// How many leading shapes have a character each behind the judge.
-    pub start: usize,
     /// How many leading shapes have to split all characters.
     pub end: usize,
     /// Positions of the first word. Once one is alive, the last shape before `end` takes all further characters.
     pub accepting: u64,
 }
 
-/// A value of `keep` that no answer equals, since an answer never has the last bit: it is of no token.
-const NO_ANSWER: u64 = u64::MAX;
+/// The words from number `low` up to `high`: nothing is alive in any other.
+#[derive(Clone, Copy)]
+struct Live {
+    low: usize,
+    high: usize,
+}
 
 impl Span {
     /// So many shapes, from the first on.
     pub fn all(count: usize) -> Self {
-        Span { start: 0, end: count, accepting: 0 }
+        Span { end: count, accepting: 0 }
     }
 }
 
@@ -34,77 +36,79 @@ impl Span {
 #[inline(always)]
 pub fn decide<T: Shaped, J: Judge>(tokens: &[T], words: &[ShapeWord], span: Span, judge: &mut J) -> bool {
     if words.len() == 1 {
-        run(tokens, words, &mut [0], span, judge)
+        run_word(tokens, words[0], span, judge)
     } else {
         let mut alive = Vec::with_capacity(words.len());
         alive.resize(words.len(), 0);
-        run(tokens, words, alive.as_mut_slice(), span, judge)
+        run_words(tokens, words, alive.as_mut_slice(), span, judge)
     }
 }
 
-/// [`decide`], with room for the position set.
+/// [`decide`] where there is one word. The two loops differ in their step alone.
 #[inline(always)]
-fn run<T: Shaped, J: Judge>(tokens: &[T], words: &[ShapeWord], alive: &mut [u64], span: Span, judge: &mut J) -> bool {
-    set_start(tokens, words, span.start, judge.opens(), alive);
-    let first = words[0];
-    let mut keep = NO_ANSWER;
-    // `keep` is the answer of the round before, if that left the position set as it was, and else none. A round skips
-    // the characters about which the answer is the same.
-    while alive[0] & span.accepting == 0 {
-        let old = alive[0];
-        // The first word's tokens are asked until they answer otherwise, or a component starts.
-        let took = loop {
-            let Some(took) = ask_next(tokens, first, old, judge) else {
-                return is_alive(tokens, alive, span.end);
-            };
-            if took != keep || judge.opens() {
-                break took;
-            }
-        };
-        let opens = judge.opens();
-        let next = first.step(took, opens, false);
-        keep = answer_to_keep(first, alive.len() == 1, old, took, opens, next);
-        alive[0] = next;
-        if step_rest(tokens, words, alive, opens, judge) == 0 {
-            return false;
-        }
-    }
-    true
-}
-
-/// Steps over a character and asks the tokens of the first word that are alive. Returns those that take it, or `None`
-/// if no character is left.
-#[inline(always)]
-fn ask_next<T: Shaped, J: Judge>(tokens: &[T], word: ShapeWord, alive: u64, judge: &mut J) -> Option<u64> {
-    if !judge.step() {
-        return None;
-    }
-    Some(judge.takes_each(0, alive & word.tokens))
-}
-
-/// Which answer to the next question would leave the set as it is, so that the step can be skipped: that of the step
-/// before, `took`, if it led from the set to itself and would do so where no component starts. Only for a word that is
-/// alone: with several, the others would have to be asked, too. So for `*.rs` and the text `ab.`, where `*` alone takes
-/// `a` and the set stays what it is, the same answer about `b` leaves it, and the answer about `.` does not.
-#[inline(always)]
-fn answer_to_keep(word: ShapeWord, alone: bool, old: u64, took: u64, opens: bool, next: u64) -> u64 {
-    if alone && next == old && (!opens || took & word.recursive == 0) {
-        took
+fn run_word<T: Shaped, J: Judge>(tokens: &[T], word: ShapeWord, span: Span, judge: &mut J) -> bool {
+    if word.is_flat() {
+        run(tokens, word, true, span, judge)
     } else {
-        NO_ANSWER
+        run(tokens, word, false, span, judge)
     }
 }
 
-/// Sets the words to the position set after the characters of the first `start` shapes, which took one each: as if the
-/// last of them had just taken its character.
+/// [`run_word`], by the step of flat shapes if these are `flat`.
 #[inline(always)]
-fn set_start<T: Shaped>(tokens: &[T], words: &[ShapeWord], start: usize, opens: bool, alive: &mut [u64]) {
-    let mut whole = start == 0;
+fn run<T: Shaped, J: Judge>(tokens: &[T], word: ShapeWord, flat: bool, span: Span, judge: &mut J) -> bool {
+    let mut alive = word.step(0, judge.opens(), true);
+    while alive != 0 {
+        if alive & span.accepting != 0 {
+            return true;
+        }
+        if !judge.step() {
+            return is_alive(tokens, &[alive], span.end);
+        }
+        let took = ask(tokens, word, 0, alive, judge);
+        alive = word.step_by(flat, took, judge.opens());
+    }
+    false
+}
+
+/// [`decide`] where there are several words, with room for the position set: a zero for each word.
+#[inline(always)]
+fn run_words<T: Shaped, J: Judge>(
+    tokens: &[T],
+    words: &[ShapeWord],
+    alive: &mut [u64],
+    span: Span,
+    judge: &mut J,
+) -> bool {
+    let mut live = set_start(tokens, words, judge.opens(), alive);
+    while live.high != 0 {
+        if !judge.step() {
+            return is_alive(tokens, alive, span.end);
+        }
+        live = step_words(tokens, words, alive, live, judge);
+    }
+    false
+}
+
+/// Asks the tokens of word `n` that are alive about the character last stepped over. Returns those that take it.
+#[inline(always)]
+fn ask<T: Shaped, J: Judge>(tokens: &[T], word: ShapeWord, n: usize, alive: u64, judge: &mut J) -> u64 {
+    judge.takes_each(n, alive & word.tokens)
+}
+
+/// Sets the words, which must be 0, to the position set before the first character.
+#[inline(always)]
+fn set_start<T: Shaped>(tokens: &[T], words: &[ShapeWord], opens: bool, alive: &mut [u64]) -> Live {
+    let mut whole = true;
     for n in 0..alive.len() {
-        let word = words[n].step(last_before(start, WORD * n), opens, whole);
+        if !whole {
+            return Live { low: 0, high: n };
+        }
+        let word = words[n].step(0, opens, whole);
         alive[n] = word;
         whole = word >> WORD != 0;
     }
+    Live { low: 0, high: alive.len() }
 }
 
 /// Whether the position is in the set.
@@ -115,23 +119,57 @@ fn is_alive<T: Shaped>(tokens: &[T], alive: &[u64], position: usize) -> bool {
     (alive[word] >> (position - WORD * word)) & 1 != 0
 }
 
-/// Steps the words after the first, which is of the judge's place already. Returns 0 if no position is alive.
+/// Steps the words to the judge's place, and returns those that are live there. Words in which nothing is alive are
+/// neither asked nor stepped, unless the word before them has come to its end.
 #[inline(always)]
-fn step_rest<T: Shaped, J: Judge>(
+fn step_words<T: Shaped, J: Judge>(
     tokens: &[T],
     words: &[ShapeWord],
     alive: &mut [u64],
+    live: Live,
+    judge: &mut J,
+) -> Live {
+    let opens = judge.opens();
+    let mut next = Live { low: alive.len(), high: 0 };
+    let mut whole = false;
+    for n in live.low..alive.len() {
+        if !whole && live.high <= n {
+            return next;
+        }
+        let word = step_word(tokens, words[n], n, alive[n], opens, whole, judge);
+        alive[n] = word;
+        next = next.with(n, word);
+        whole = word >> WORD != 0;
+    }
+    next
+}
+
+/// What is alive in word `n` after the character last stepped over. `opens` and `whole` are as in [`ShapeWord::step`].
+#[inline(always)]
+fn step_word<T: Shaped, J: Judge>(
+    tokens: &[T],
+    word: ShapeWord,
+    n: usize,
+    alive: u64,
     opens: bool,
+    whole: bool,
     judge: &mut J,
 ) -> u64 {
-    let mut last = alive[0];
-    let mut any = last;
-    for n in 1..alive.len() {
-        let word = words[n];
-        let took = judge.takes_each(n, alive[n] & word.tokens);
-        last = word.step(took, opens, last >> WORD != 0);
-        alive[n] = last;
-        any |= last;
+    if alive == 0 && !whole {
+        return 0;
     }
-    any
+    let took = ask(tokens, word, n, alive, judge);
+    word.step(took, opens, whole)
+}
+
+impl Live {
+    /// These words and number `n`, unless that is 0.
+    #[inline(always)]
+    fn with(self, n: usize, word: u64) -> Self {
+        if word == 0 {
+            self
+        } else {
+            Live { low: self.low.min(n), high: n + 1 }
+        }
+    }
 }

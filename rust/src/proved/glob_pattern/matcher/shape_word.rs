@@ -69,6 +69,23 @@ impl ShapeWord {
         (took & self.wildcards) | closed
     }
 
+    /// Whether pieces end anywhere and no two wildcards are neighbours: so in `*a?b*`, but not in `**/*`.
+    pub fn is_flat(self) -> bool {
+        self.recursive == 0 && self.wildcards & (self.wildcards << 1) == 0
+    }
+
+    /// [`step`](Self::step) after the first character. If the shapes are `flat`, a piece that ends lets at most one
+    /// wildcard begin after it: a shift takes the place of the sum.
+    #[inline(always)]
+    pub fn step_by(self, flat: bool, took: u64, opens: bool) -> u64 {
+        if !flat {
+            return self.step(took, opens, false);
+        }
+        let begun = took << 1;
+        let growing = took & self.wildcards;
+        growing | (begun | ((begun & self.wildcards) << 1))
+    }
+
     /// The bit of the last token before number `end`, if its pieces may have any length and end anywhere.
     #[inline(always)]
     pub fn free_before(self, end: usize) -> u64 {

@@ -2,27 +2,27 @@
 //! Contracts are there, and their proofs in `crates/glob_pattern/proofs`; it is changed there alone.
 //!
 //! What a match reads of a pattern, and how a match goes: the ends of the text are compared, a needle is searched for,
-//! and what is left goes through the position sets.
+//! and what is between goes through the automaton.
 
-use crate::proved::glob_pattern::matcher::{decide, shape_words, Judge, Shape, ShapeWord, Shaped, Span, WORD};
+use crate::proved::glob_pattern::matcher::{decide, shape_words, Judge, ShapeWord, Span, WORD};
 use crate::proved::glob_pattern::options::MatchOptions;
-use crate::proved::glob_pattern::pattern::char_masks::{masks_of, CharMasks};
-use crate::proved::glob_pattern::pattern::judge::{SpanJudge, TextJudge};
-use crate::proved::glob_pattern::pattern::prefilter::{Prefilter, Trimmed};
+use crate::proved::glob_pattern::pattern::automaton::Automaton;
+use crate::proved::glob_pattern::pattern::ends::Ends;
+use crate::proved::glob_pattern::pattern::judge::TextJudge;
+use crate::proved::glob_pattern::pattern::needle::Needle;
 use crate::proved::glob_pattern::token::bracket::Bracket;
-use crate::proved::glob_pattern::token::taking::has_rules;
 use crate::proved::glob_pattern::token::Token;
-use std::slice;
+
+/// How many tokens between the ends are searched for a needle: a run of literals behind them seldom rejects more texts.
+const SEARCHED: usize = 128;
 
 /// What a match reads of a pattern's tokens, made once when it is parsed.
 pub struct Compiled {
     tokens: Vec<Token<Bracket>>,
-    // their shapes as bits: those of the first 63 tokens, and if there are more tokens, those of all
-    first: ShapeWord,
-    words: crate::late::Late<ShapeWord>,
-    // empty where no match reads them
-    masks: crate::late::Late<CharMasks>,
-    prefilter: Prefilter,
+    ends: Ends,
+    needle: Needle,
+    // that of the tokens between the ends
+    automaton: Automaton,
 }
 
 impl Compiled {
@@ -32,11 +32,12 @@ impl Compiled {
         self.tokens.as_slice()
     }
 
-    /// How many characters at the ends of the text are taken by tokens of one character each. `None`: the text does not
-    /// match. The bytes need not be UTF-8.
+    /// Whether the tokens, which are the pattern's, may match a text of these bytes: by the literals at its ends, and
+    /// by a needle. The bytes need not be UTF-8.
     #[inline(always)]
-    pub fn trim(&self, bytes: &[u8], options: MatchOptions) -> Option<Trimmed> {
-        self.prefilter.trim(self.tokens.as_slice(), bytes, options)
+    pub fn may_match(&self, pattern: &str, bytes: &[u8], options: MatchOptions) -> bool {
+        let tokens = self.tokens.as_slice();
+        self.ends.have_literals(tokens, pattern, bytes, options) && self.needle.may_be_in(bytes)
     }
 
     /// The character of the token of this number, if there is one and it is a literal.
@@ -52,25 +53,17 @@ impl Compiled {
     /// Compiles the tokens.
     pub fn new(tokens: Vec<Token<Bracket>>) -> Self {
         let list = tokens.as_slice();
-        let prefilter = Prefilter::of(list);
-        let words = crate::late::Late::new(list.len() > WORD);
-        let between = &list[prefilter.lead..list.len() - prefilter.trail];
-        // Wildcards alone, of at most one word, are asked without masks.
-        let has_one = between.iter().any(|token| token.shape() == Shape::One);
-        let is_long = !between.is_empty() && list.len() > WORD;
-        let masks = crate::late::Late::new(has_one || is_long);
-        Compiled { first: ShapeWord::new(list, 0), tokens, words, masks, prefilter }
+        let ends = Ends::of(list);
+        let middle = ends.middle(list);
+        let between = list.len() - ends.lead - ends.trail;
+        // Of fewer than three tokens none is a literal between others.
+        let needle = if between < 3 { Needle::NONE } else { Needle::of(&middle[..between.min(SEARCHED)]) };
+        Compiled { automaton: Automaton::new(middle, between), tokens, ends, needle }
     }
 
     /// No tokens.
     pub fn empty() -> Self {
-        Compiled {
-            tokens: Vec::new(),
-            first: ShapeWord::NONE,
-            words: crate::late::Late::new(false),
-            masks: crate::late::Late::new(false),
-            prefilter: Prefilter::NONE,
-        }
+        Compiled { tokens: Vec::new(), ends: Ends::NONE, needle: Needle::NONE, automaton: Automaton::empty() }
     }
 }
 
@@ -78,73 +71,61 @@ impl Clone for Compiled {
     fn clone(&self) -> Self {
         Compiled {
             tokens: self.tokens.clone(),
-            first: self.first,
-            words: self.words.clone(),
-            masks: self.masks.clone(),
-            prefilter: self.prefilter,
+            ends: self.ends,
+            needle: self.needle,
+            automaton: self.automaton.clone(),
         }
     }
 }
 
 impl Compiled {
-    /// Whether the tokens match the text, of which [`trim`](Self::trim) has decided the ends.
+    /// Whether the tokens, which are the pattern's, match the text.
     #[inline(never)]
-    pub fn matches(&self, text: &str, options: MatchOptions, trimmed: Trimmed) -> bool {
-        let front = &text[..text.len() - trimmed.end];
-        let end = self.tokens.len() - trimmed.end;
-        let span = Span { start: trimmed.start, end, accepting: self.accepting(end, options) };
-        self.run_span(front, span, options)
+    pub fn matches(&self, pattern: &str, text: &str, options: MatchOptions) -> bool {
+        // A count that is dropped here is none in what is compiled.
+        let (answer, _) = self.matches_asking(pattern, text, options);
+        answer
     }
 
-    /// Whether the tokens match the text, and how many questions it took.
+    /// The answer of [`matches`](Self::matches), and how many questions it took: how often a token was asked whether it
+    /// takes a character. Each token at an end counts, though the text may be rejected before it is asked.
+    #[inline(always)]
+    fn matches_asking(&self, pattern: &str, text: &str, options: MatchOptions) -> (bool, u128) {
+        let tokens = self.tokens.as_slice();
+        let ends = self.ends;
+        let asked = (ends.lead + ends.trail) as u128;
+        let Some(part) = ends.strip(tokens, pattern, text, options) else {
+            return (false, asked);
+        };
+        let between = tokens.len() - ends.lead - ends.trail;
+        if between == 0 {
+            return (part.text.is_empty(), asked);
+        }
+        if !self.needle.may_be_in(part.text.as_bytes()) {
+            return (false, asked);
+        }
+        let middle = ends.middle(tokens);
+        let (answer, count) = self.automaton.matches(middle, between, part.text, part.opening, options);
+        (answer, asked + count)
+    }
+
+    /// Whether the tokens match the text, and how many questions it takes to ask all of them about all of it.
     #[inline(never)]
     pub fn matches_counted(&self, text: &str, options: MatchOptions) -> (bool, u128) {
-        self.run_counted(text, Span::all(self.tokens.len()), options)
-    }
-
-    /// Whether the tokens before the span's end split the text, whose characters before its start have a token each,
-    /// and how many questions it took.
-    #[inline(always)]
-    fn run_counted(&self, text: &str, span: Span, options: MatchOptions) -> (bool, u128) {
         let tokens = self.tokens.as_slice();
-        let masks = self.masks.get(|| masks_of(tokens, true));
-        let mut judge = TextJudge::new(tokens, masks, text, span.start, options);
-        let answer = decide(tokens, self.words(), span, &mut judge);
-        (answer, judge.asked())
-    }
-
-    /// [`run_counted`](Self::run_counted) without the count, and by a judge that needs no masks where there are none.
-    #[inline(always)]
-    fn run_span(&self, text: &str, span: Span, options: MatchOptions) -> bool {
-        if !self.masks.is_empty() || self.tokens.len() > WORD {
-            // A count that is dropped here is none in what is compiled.
-            let (answer, _) = self.run_counted(text, span, options);
-            return answer;
-        }
-        let tokens = self.tokens.as_slice();
-        let masks = self.masks.get(|| masks_of(tokens, true));
-        let judge = TextJudge::new(tokens, masks, text, span.start, options);
-        let mut judge = SpanJudge::new(judge, self.first, span.end);
-        decide(tokens, self.words(), span, &mut judge)
-    }
-
-    /// The shapes as bits.
-    #[inline(always)]
-    fn words(&self) -> &[ShapeWord] {
-        if self.tokens.len() <= WORD {
-            slice::from_ref(&self.first)
+        if tokens.len() <= WORD {
+            ask_all(tokens, &[ShapeWord::new(tokens, 0)], text, options)
         } else {
-            self.words.get(|| shape_words(self.tokens()))
+            let words = shape_words(tokens);
+            ask_all(tokens, words.as_slice(), text, options)
         }
     }
+}
 
-    /// The bit of the last token before number `end`, if it is a wildcard that takes all that is left of any text: once
-    /// it is alive, these tokens match.
-    #[inline(always)]
-    fn accepting(&self, end: usize, options: MatchOptions) -> u64 {
-        if has_rules(options) || self.tokens.len() > WORD {
-            return 0;
-        }
-        self.first.free_before(end)
-    }
+/// Whether the tokens match the text, and how many questions it takes, by their shapes as bits.
+#[inline(always)]
+fn ask_all(tokens: &[Token<Bracket>], words: &[ShapeWord], text: &str, options: MatchOptions) -> (bool, u128) {
+    let mut judge = TextJudge::new(tokens, text, true, options);
+    let answer = decide(tokens, words, Span::all(tokens.len()), &mut judge);
+    (answer, judge.asked())
 }

@@ -18,6 +18,14 @@ pub enum Entry {
 }
 
 impl Entry {
+    /// The first and the last character. A single character is both.
+    pub fn ends(self) -> (char, char) {
+        match self {
+            Entry::Single(x) => (x, x),
+            Entry::Range(x, y) => (x, y),
+        }
+    }
+
     /// Whether the entry holds `c`.
     fn holds(self, c: char, case_sensitive: bool) -> bool {
         match self {

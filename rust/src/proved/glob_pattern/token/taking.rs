@@ -10,18 +10,21 @@ use crate::proved::glob_pattern::token::Token;
 /// Whether the token takes the character. `opening`: a component starts at its place.
 #[inline(always)]
 pub fn takes(token: &Token<Bracket>, options: MatchOptions, opening: bool, c: char) -> bool {
-    if let Token::Literal(x) = token {
-        return bracket::is_same(options.case_sensitive, c, *x);
+    match token {
+        Token::Literal(x) => bracket::is_same(options.case_sensitive, c, *x),
+        Token::AnyChar => is_free(options, opening, c),
+        _ => {
+            // The call needs the options in memory. With a copy, which is made on this path alone, those of the caller
+            // stay in registers.
+            let copy = MatchOptions { ..options };
+            takes_other(token, copy, opening, c)
+        }
     }
-    // The call needs the options in memory. With a copy, which is made on this path alone, those of the caller stay in
-    // registers.
-    let copy = MatchOptions { ..options };
-    takes_nonliteral(token, copy, opening, c)
 }
 
-/// [`takes`], out of line, for a token that is no literal.
+/// [`takes`], out of line, for a token that is neither a literal nor `?`.
 #[inline(never)]
-fn takes_nonliteral(token: &Token<Bracket>, options: MatchOptions, opening: bool, c: char) -> bool {
+fn takes_other(token: &Token<Bracket>, options: MatchOptions, opening: bool, c: char) -> bool {
     match token {
         Token::Literal(x) => bracket::is_same(options.case_sensitive, c, *x),
         Token::AnyChar | Token::AnySequence => is_free(options, opening, c),
@@ -32,6 +35,7 @@ fn takes_nonliteral(token: &Token<Bracket>, options: MatchOptions, opening: bool
 }
 
 /// Whether no rule excludes the character from wildcards.
+#[inline(always)]
 fn is_free(options: MatchOptions, opening: bool, c: char) -> bool {
     !is_excluded_separator(options, c) && !is_excluded_dot(options, opening, c)
 }

@@ -1,4 +1,4 @@
-use Rattle.std.proofs.Common.{◌≡◌, ◌-◌, length, map, chars, refl, ◌∙◌, arith}
+use Rattle.std.proofs.Common.{chars, refl, arith}
 use Rattle.std.proofs.lemmas.List.{length-map}
 use Rattle.glob_pattern.specs.Grammar.Tokens.{shape_of}
 use Rattle.glob_pattern.specs.Private.TextTable.{table_within}

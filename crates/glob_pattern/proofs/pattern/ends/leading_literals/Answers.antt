@@ -1,4 +1,4 @@
-use Rattle.std.proofs.Common.{◌∙◌, sym, arith}
+use Rattle.std.proofs.Common.{arith}
 use Rattle.glob_pattern.proofs.MatchingLemmas.Stripped.{HasLiterals-next}
 use Rattle.glob_pattern.proofs.pattern.ends.leading_literals.Goals as goal
 

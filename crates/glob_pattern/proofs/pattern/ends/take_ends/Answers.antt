@@ -1,4 +1,4 @@
-use Rattle.std.proofs.Common.{◌≡◌, ◌+◌, ◌++◌, length, refl, subst, chars, arith}
+use Rattle.std.proofs.Common.{◌+◌, ◌++◌, length, refl, subst, chars, arith}
 use Rattle.glob_pattern.specs.Private.Parts.{SplitsPart}
 use Rattle.glob_pattern.proofs.MatchingLemmas.Stripped.{MatchOption-map}
 use Rattle.glob_pattern.proofs.pattern.ends.take_ends.Goals as goal

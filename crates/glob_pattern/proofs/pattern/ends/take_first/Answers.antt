@@ -1,7 +1,6 @@
 use Rattle.std.proofs.Common.{◌∙◌, get_or, length, sym, ap, subst, chars, arith}
 use Rattle.std.proofs.lemmas.List.{get_or_default, nil_from_length, take_all}
 use Rattle.std.proofs.lemmas.Str.{chars_past_char, chars-nil, IsUtf8-past_char}
-use Rattle.std.specs.Str.{IsUtf8}
 use Rattle.std.specs.Str.Iter.{chars_rest}
 use Rattle.glob_pattern.specs.Private.Parts.{TakesFirst}
 use Rattle.glob_pattern.specs.declared.token.Token.TheVariants.{AnyChar}

@@ -1,9 +1,8 @@
-use Rattle.std.proofs.Common.{◌≡◌, ◌+◌, ◌-◌, ◌∙◌, ◌++◌, ◌∷◌, [], get_or, length, drop, refl, sym, ap, subst, chars, arith}
+use Rattle.std.proofs.Common.{◌≡◌, ◌+◌, ◌-◌, ◌∙◌, ◌∷◌, [], get_or, length, refl, sym, ap, subst, chars, arith}
 use Rattle.std.proofs.lemmas.List.{get_or_default, length-append, nil_from_length, drop_all}
 use Rattle.std.proofs.lemmas.Str.{chars-nil}
 use Rattle.std.specs.Str.{IsUtf8}
 use Rattle.std.specs.Str.Iter.{chars_rest}
-use Rattle.glob_pattern.specs.Private.Parts.{TakesLast}
 use Rattle.glob_pattern.specs.declared.token.Token.TheVariants.{AnyChar}
 use Rattle.glob_pattern.proofs.MatchingLemmas.EndBytes.{chars_past_last}
 use Rattle.glob_pattern.proofs.MatchingLemmas.Ends.{TakesLast-none, TakesLast-next, StopsLast-next, StopsLast-end}

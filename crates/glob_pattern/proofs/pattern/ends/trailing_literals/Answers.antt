@@ -1,4 +1,4 @@
-use Rattle.std.proofs.Common.{◌≡◌, ◌+◌, ◌-◌, ◌∙◌, length, sym, arith}
+use Rattle.std.proofs.Common.{◌≡◌, ◌+◌, ◌-◌, length, arith}
 use Rattle.glob_pattern.proofs.MatchingLemmas.Stripped.{HasLiterals-before}
 use Rattle.glob_pattern.proofs.pattern.ends.trailing_literals.Goals as goal
 

@@ -1,8 +1,10 @@
+use Rattle.std.proofs.Common.{take}
 use Rattle.std.specs.List.{each_same}
 use Rattle.glob_pattern.proofs.pattern.automaton.Automaton.clone.Goals as goal
 
-pub returns-clause-words : goal.returns-clause-words
-returns-clause-words g c = each_same _ _ c.in_ok-clone.ensures.cases.0
-
-pub returns-clause-masks : goal.returns-clause-masks
-returns-clause-masks g c = each_same _ _ c.in_ok-clone-2.ensures.cases.0
+pub returns : goal.returns
+returns g c = λ tokens end is. rw (each_same _ _ c.in_ok-clone.ensures.cases.0) (record {
+  first_word = is.first_word;
+  all_words = is.all_words;
+  masked = λ count enough few. c.in_ok-clone-2.ensures.cases (take end tokens) count (is.masked count enough few);
+})

@@ -1,6 +1,6 @@
-use Rattle.std.proofs.Common.{◌≡◌, ◌≤◌, ◌<◌, length, map, chars, refl, sym, subst, ◌∙◌, arith}
+use Rattle.std.proofs.Common.{length, map, chars, refl, sym, subst, arith}
 use Rattle.std.specs.Int.{IsBitSet}
-use Rattle.std.proofs.lemmas.Result.{IfOk-weaker}
+use Rattle.std.proofs.lemmas.List.{length-map}
 use Rattle.glob_pattern.specs.Grammar.Tokens.{shape_of}
 use Rattle.glob_pattern.specs.Private.TextTable.{table_within}
 use Rattle.glob_pattern.proofs.MatchingLemmas.Running.{CanRun-part, SplitsPart-by_run, SplitsPart-at_once}
@@ -15,42 +15,33 @@ returns-then-accepting-eq1-clause-answer g c =
     (λ _. splits, λ _. refl)
 
 pub new-judge-requires : goal.new-judge-requires
-new-judge-requires g c = rw c.as_slice.ensures.value c.requires.automaton.masked
+new-judge-requires g c =
+    let judge = c.new-one_by_one.ensures in
+    let count = c.words_of.ensures in
+    record {
+      enough = rw judge.tokens count.enough;
+      masks = rw judge.tokens (c.requires.automaton.masked c.words_of.result count.enough count.few);
+    }
 
-pub run-requires-clause-ready : goal.run-requires-clause-ready
-run-requires-clause-ready g c = λ words shaped.
-    let judge = c.new-judge.ensures in
-    let span = c.new-judge-then-tokens-le-WORD.ensures in
-    rw (span.judge, span.end, judge.opening, judge.options, judge.tokens, judge.text, judge.start, judge.count)
-    (CanRun-before (table_within c.args.opening c.args.options c.args.tokens.now (chars c.args.text.now)) (map shape_of c.args.tokens.now) words _ 0 0
-    (CanRun-part c.args.opening c.args.options c.args.tokens.now c.args.text.now words _ 0 0 shaped c.requires.end (c.accepting-accepting.ensures c.args.opening (chars c.args.text.now)) refl refl (omega arith) (omega arith)))
+pub decide-requires : goal.decide-requires
+decide-requires g c =
+    let judge = c.new-one_by_one.ensures in
+    let masked = c.new-judge.ensures in
+    rw (masked.judge, masked.end, judge.opening, judge.options, judge.tokens, judge.text, judge.start, judge.count)
+    (CanRun-before (table_within c.args.opening c.args.options c.args.tokens.now (chars c.args.text.now)) (map shape_of c.args.tokens.now) c.words.result.now _ 0 0
+    (CanRun-part c.args.opening c.args.options c.args.tokens.now c.args.text.now c.words.result.now _ 0 0 c.words.ensures.words c.requires.end (c.accepting-accepting.ensures c.args.opening (chars c.args.text.now)) refl refl (omega arith) (omega arith)))
 
-pub run-requires-else-is_empty-clause-ready : goal.run-requires-else-is_empty-clause-ready
-run-requires-else-is_empty-clause-ready g c = λ words shaped.
-    let judge = c.new-judge.ensures in
-    rw (judge.opening, judge.options, judge.tokens, judge.text, judge.start, judge.count)
-    (CanRun-part c.args.opening c.args.options c.args.tokens.now c.args.text.now words _ 0 0 shaped c.requires.end (c.accepting-accepting.ensures c.args.opening (chars c.args.text.now)) refl refl (omega arith) (omega arith))
-
-pub returns-then-tokens-le-WORD-clause-answer : goal.returns-then-tokens-le-WORD-clause-answer
+pub returns-clause-answer : goal.returns-clause-answer
 unfolding table_within
-returns-then-tokens-le-WORD-clause-answer g c =
-    let judge = c.new-judge.ensures in
-    let span = c.new-judge-then-tokens-le-WORD.ensures in
+returns-clause-answer g c =
+    let judge = c.new-one_by_one.ensures in
+    let masked = c.new-judge.ensures in
     let (to, from) = IsAlive-end (table_within c.args.opening c.args.options c.args.tokens.now (chars c.args.text.now)) (map shape_of c.args.tokens.now) c.args.end (length (chars c.args.text.now)) c.requires.end.one in
-    IfOk-weaker c.run.result _ _ (λ counted h. SplitsPart-by_run c.args.opening c.args.options c.args.tokens.now c.args.end (chars c.args.text.now) c.requires.end (λ t. from (h.0 t), λ a. h.1 (to a)))
-    (rw (span.judge, span.end, judge.opening, judge.options, judge.tokens, judge.text) at c.run.ensures.answer)
+    let h = rw (masked.judge, masked.end, judge.opening, judge.options, judge.tokens, judge.text) at c.in_ok-answer.ensures.answer in
+    SplitsPart-by_run c.args.opening c.args.options c.args.tokens.now c.args.end (chars c.args.text.now) c.requires.end (λ t. from (h.0 t), λ a. h.1 (to a))
 
-pub returns-then-tokens-le-WORD-clause-most : goal.returns-then-tokens-le-WORD-clause-most
+pub returns-clause-most : goal.returns-clause-most
 unfolding table_within
-returns-then-tokens-le-WORD-clause-most g c = rw (c.new-judge-then-tokens-le-WORD.ensures.judge, c.new-judge.ensures.text) at c.run.ensures.most
-
-pub returns-else-is_empty-clause-answer : goal.returns-else-is_empty-clause-answer
-unfolding table_within
-returns-else-is_empty-clause-answer g c =
-    let judge = c.new-judge.ensures in
-    IfOk-weaker c.run-else-is_empty.result _ _ (λ counted h. SplitsPart-by_run c.args.opening c.args.options c.args.tokens.now c.args.end (chars c.args.text.now) c.requires.end h)
-    (rw (judge.opening, judge.options, judge.tokens, judge.text) at c.run-else-is_empty.ensures.answer)
-
-pub returns-else-is_empty-clause-most : goal.returns-else-is_empty-clause-most
-unfolding table_within
-returns-else-is_empty-clause-most g c = rw c.new-judge.ensures.text at c.run-else-is_empty.ensures.most
+returns-clause-most g c =
+    let most = rw (c.new-judge.ensures.judge, c.new-one_by_one.ensures.text, length-map c.args.tokens.now shape_of) at c.in_ok-answer.ensures.most in
+    omega (arith, most, c.asked.ensures, c.new-judge.ensures.judge, c.new-one_by_one.ensures.count)

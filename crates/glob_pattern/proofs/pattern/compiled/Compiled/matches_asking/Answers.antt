@@ -1,12 +1,12 @@
-use Rattle.std.proofs.Common.{◌≡◌, ◌+◌, ◌-◌, ◌*◌, ◌^◌, ◌<◌, ◌≤◌, ◌∙◌, length, chars, sym, ap, subst, suc, arith}
+use Rattle.std.proofs.Common.{◌≡◌, ◌-◌, ◌≤◌, ◌∙◌, length, chars, sym, ap, subst, suc, arith}
 use Rattle.std.proofs.Math.Nat.{mul-suc, mul-le-mul_left, mul-le-mul_right}
 use Rattle.std.proofs.lemmas.Bool.{eqb-true, eq-eqb, false≢true}
 use Rattle.std.proofs.lemmas.List.{length-map}
 use Rattle.glob_pattern.specs.Grammar.Tokens.{shape_of}
 use Rattle.glob_pattern.specs.Matching.Texts.{TokensMatch}
-use Rattle.glob_pattern.specs.Private.Ends.{IsEnds}
+use Rattle.glob_pattern.specs.Private.Ends.{IsEnds, middle_of}
 use Rattle.glob_pattern.proofs.Counts.{length-chars, product_fits}
-use Rattle.glob_pattern.proofs.MatchingLemmas.Needles.{ContainsFolded-from_needle}
+use Rattle.glob_pattern.proofs.MatchingLemmas.Needles.{ContainsFolded-from_part}
 use Rattle.glob_pattern.proofs.MatchingLemmas.Stripped.{SplitsPart-none, EndsAt-middle, few-middle}
 use Rattle.glob_pattern.proofs.pattern.compiled.Compiled.matches_asking.Goals as goal
 
@@ -21,12 +21,17 @@ returns-then-between-eq0-clause-answer g c =
     )
 
 pub returns-then-not-may_be_in-clause-answer : goal.returns-then-not-may_be_in-clause-answer
-returns-then-not-may_be_in-clause-answer g c = (
-  λ t. absurd (false≢true t),
-  λ m. absurd (false≢true (sym c.if-not-may_be_in.true ∙ (rw c.as_bytes.ensures.value at c.may_be_in.ensures)
-      (ContainsFolded-from_needle c.args.options c.self.inside.tokens.items c.self.inside.needle c.args.text.now c.self.invariant.inside c.utf8.text
-      (subst (λ ts. TokensMatch c.args.options ts (chars c.args.text.now)) (sym c.self.view_is) m)))),
-)
+returns-then-not-may_be_in-clause-answer g c =
+    let list = c.as_slice-tokens.ensures.value in
+    let ends = c.self.inside.ends in
+    let (utf8, fewer, found) = rw list at c.in-Some.ensures in
+    let is = EndsAt-middle c.self.inside.tokens.items ends c.self.invariant.at_ends in (
+      λ t. absurd (false≢true t),
+      λ m. absurd (false≢true (sym c.if-not-may_be_in.true ∙ (rw c.as_bytes.ensures.value at c.may_be_in.ensures)
+          (ContainsFolded-from_part c.args.options c.in-Some.part.opening (middle_of c.self.inside.tokens.items ends) (length c.self.inside.tokens.items - ends.lead - ends.trail)
+          c.self.inside.needle c.in-Some.part.text.now is.within c.self.invariant.inside utf8
+          (found.0 (subst (λ ts. TokensMatch c.args.options ts (chars c.args.text.now)) (sym c.self.view_is) m))))),
+    )
 
 pub matches-requires-clause-end : goal.matches-requires-clause-end
 matches-requires-clause-end g c =

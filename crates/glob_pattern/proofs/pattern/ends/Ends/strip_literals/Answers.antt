@@ -1,6 +1,5 @@
-use Rattle.std.proofs.Common.{◌≡◌, ◌-◌, ◌∙◌, false, true, length, take, drop, ap, sym, subst, chars, arith}
+use Rattle.std.proofs.Common.{◌≡◌, ◌-◌, ◌∙◌, take, ap, sym, arith}
 use Rattle.std.proofs.lemmas.Bool.{false≢true}
-use Rattle.std.specs.Str.{IsUtf8}
 use Rattle.glob_pattern.proofs.MatchingLemmas.Stripped.{match-needs_ends, cut-within, cut-start, cut-end, cut-fewer, cut-match}
 use Rattle.glob_pattern.proofs.pattern.ends.Ends.strip_literals.Goals as goal
 

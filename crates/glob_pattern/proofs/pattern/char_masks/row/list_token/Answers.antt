@@ -1,0 +1,54 @@
+use Rattle.std.proofs.Common.{⊎_elim}
+use Rattle.glob_pattern.specs.declared.token.bracket.Entry.TheVariants.{Single}
+use Rattle.glob_pattern.proofs.ClassLemmas.Folding.{held-ends}
+use Rattle.glob_pattern.proofs.MaskLemmas.Putting.{with_none}
+use Rattle.glob_pattern.proofs.pattern.char_masks.row.list_token.Goals as goal
+
+pub list_cases-requires-clause-apart : goal.list_cases-requires-clause-apart
+list_cases-requires-clause-apart g c = rw c.in-Literal.is at c.requires.apart
+
+pub list_all-requires-clause-apart : goal.list_all-requires-clause-apart
+list_all-requires-clause-apart g c = rw c.entries.ensures (rw c.in-OneOf.is at c.requires.apart)
+
+pub list_all-requires-in-NoneOf-clause-apart : goal.list_all-requires-in-NoneOf-clause-apart
+list_all-requires-in-NoneOf-clause-apart g c = rw c.entries-in-NoneOf.ensures (rw c.in-NoneOf.is at c.requires.apart)
+
+pub returns-in-Literal : goal.returns-in-Literal
+returns-in-Literal g c = rw c.in-Literal.is (record {
+  listed = λ d. rw (held-ends c.args.case_sensitive d (Single c.in-Literal.c)) at (c.list_cases.ensures d);
+  others = with_none _ _;
+  brackets = with_none _ _;
+  recursive = with_none _ _;
+})
+
+pub returns-in-Recursive : goal.returns-in-Recursive
+returns-in-Recursive g c = rw c.in-Recursive.is (record {
+  listed = λ d. with_none _ _;
+  others = c.put_bit.ensures;
+  brackets = with_none _ _;
+  recursive = c.put_bit-in-Recursive.ensures;
+})
+
+pub returns-in-OneOf : goal.returns-in-OneOf
+returns-in-OneOf g c =
+    rw c.in-OneOf.is (record {
+      listed = rw c.entries.ensures at c.list_all.ensures;
+      others = with_none _ _;
+      brackets = c.put_bit-in-OneOf.ensures;
+      recursive = with_none _ _;
+    })
+
+pub returns-in-NoneOf : goal.returns-in-NoneOf
+returns-in-NoneOf g c =
+    rw c.in-NoneOf.is (record {
+      listed = rw c.entries-in-NoneOf.ensures at c.list_all-in-NoneOf.ensures;
+      others = c.put_bit-in-NoneOf.ensures;
+      brackets = c.put_bit-in-NoneOf-2.ensures;
+      recursive = with_none _ _;
+    })
+
+pub returns-in-AnyChar : goal.returns-in-AnyChar
+returns-in-AnyChar g c = ⊎_elim
+    (λ e. rw e (record { listed = λ d. with_none _ _; others = c.put_bit-in-AnyChar.ensures; brackets = with_none _ _; recursive = with_none _ _ }))
+    (λ e. rw e (record { listed = λ d. with_none _ _; others = c.put_bit-in-AnyChar.ensures; brackets = with_none _ _; recursive = with_none _ _ }))
+    c.in-AnyChar.is

@@ -1,0 +1,109 @@
+-- Classes of characters: what is between two boundaries of the intervals that tokens list.
+use Rattle.std.specs.Prelude.{◌≡◌, ℕ, ◌+◌, ◌<◌, ◌≤◌, ◌⊎◌, Bool, true, ◌==◌, ◌&&◌, nat_lt, nat_le, if◌then◌else◌, List, length, slice_index}
+use Rattle.std.specs.Char.{is_ascii_alphabetic, to_ascii_lowercase, to_ascii_uppercase}
+use Rattle.std.specs.Int.{bit_at}
+use Rattle.std.specs.List.{All, Contains, prefix_len}
+use Rattle.std.specs.List.Sorted.{IsNonDecreasing}
+use Rattle.glob_pattern.specs.Grammar.Brackets.{in_range}
+use Rattle.glob_pattern.specs.Grammar.Tokens.{Token}
+use Rattle.glob_pattern.specs.Private.Brackets.{first_of, last_of}
+use Rattle.glob_pattern.specs.declared.pattern.classes.Boundaries.{Boundaries}
+use Rattle.glob_pattern.specs.declared.pattern.classes.Classes.{Classes}
+use Rattle.glob_pattern.specs.declared.token.Token.TheVariants.{Literal, AnyChar, AnySequence, Recursive, OneOf, NoneOf}
+use Rattle.glob_pattern.specs.declared.token.bracket.Entry.{Entry}
+
+-- The classes of the first characters, the highest of these, and at which others a further class begins; the classes of
+-- these are numbered on.
+pub record Partition : Type 0 where
+  pub ascii : List ℕ
+  pub last : ℕ
+  pub beyond : List ℕ
+
+abbrev pub partition_of : Classes → Partition
+partition_of c = record { ascii = c.ascii.now; last = c.last; beyond = c.beyond.now }
+
+-- the class of a character after as many beginnings beyond the first ones
+abbrev pub class_after : (last begun : ℕ) → ℕ
+class_after last begun = if begun == 0 then 2 else last + begun
+
+-- the class of a character
+abbrev pub class_in : Partition → ℕ → ℕ
+class_in p c =
+    if nat_lt c (length p.ascii) then slice_index p.ascii c
+    else class_after p.last (prefix_len (λ first. nat_le first c) p.beyond)
+
+-- how many classes there are
+abbrev pub columns_of : Partition → ℕ
+columns_of p = p.last + 1 + length p.beyond
+
+-- the first characters have classes up to the last, and the others begin in order
+pub record IsPartition (p : Partition) : Type 0 where
+  pub least : 2 ≤ p.last
+  pub each : (c : ℕ) → c < length p.ascii
+      → (2 ≤ slice_index p.ascii c) × (slice_index p.ascii c ≤ p.last)
+  pub rising : IsNonDecreasing p.beyond
+
+-- an interval begins at c, or ends before it
+abbrev pub IsCut : (cuts c : ℕ) → Type 0
+IsCut cuts c = bit_at cuts c ≡ 1
+
+-- Of the ASCII characters before `end`, those that are covered have classes of their own, which rise, and rise at each
+-- cut.
+pub record AreAsciiClasses (cuts covered end : ℕ) (ascii : List ℕ) (last : ℕ) : Type 0 where
+  pub long : length ascii ≡ 128
+  pub least : (c : ℕ) → c < 128 → 2 ≤ slice_index ascii c
+  pub most : (c : ℕ) → c < 128 → slice_index ascii c ≤ last
+  pub order : (c d : ℕ) → c ≤ d → d < end
+      → (slice_index ascii d ≡ 2) ⊎ (slice_index ascii c ≤ slice_index ascii d)
+  pub apart : (c k d : ℕ) → c < k → k ≤ d → d < end → IsCut cuts k
+      → (slice_index ascii d ≡ 2) ⊎ (slice_index ascii c < slice_index ascii d)
+  pub listed : (k c : ℕ) → IsCut cuts k → k ≤ c → c < end
+      → ((i : ℕ) → k ≤ i → i ≤ c → bit_at covered i ≡ 1) → 2 < slice_index ascii c
+
+-- the boundaries of the characters from x to y are known, and those of ASCII are covered
+pub record HasInterval {A : Type 0} (b : Boundaries A) (x y : ℕ) : Type 0 where
+  pub first : x < 128 → IsCut b.cuts x
+  pub after : y + 1 < 128 → IsCut b.cuts (y + 1)
+  pub covered : (c : ℕ) → x ≤ c → c ≤ y → c < 128 → bit_at b.covered c ≡ 1
+  pub first_beyond : 128 ≤ x → Contains b.beyond.items x
+  pub border : x < 128 → 128 ≤ y → Contains b.beyond.items 128
+  pub after_beyond : 128 ≤ y → Contains b.beyond.items (y + 1)
+
+-- all boundaries are still there
+pub record Grows {A : Type 0} (old new : Boundaries A) : Type 0 where
+  pub cuts : (c : ℕ) → IsCut old.cuts c → IsCut new.cuts c
+  pub covered : (c : ℕ) → bit_at old.covered c ≡ 1 → bit_at new.covered c ≡ 1
+  pub beyond : (c : ℕ) → Contains old.beyond.items c → Contains new.beyond.items c
+
+-- both are letters of ASCII
+abbrev pub are_letters : ℕ → ℕ → Bool
+are_letters x y = is_ascii_alphabetic x && is_ascii_alphabetic y
+
+-- P holds of the characters from x to y, and if both are letters, of those in each case
+pub record EachCase (P : ℕ → ℕ → Type 0) (x y : ℕ) : Type 0 where
+  pub plain : x ≤ y → P x y
+  pub lower : are_letters x y ≡ true → to_ascii_lowercase x ≤ to_ascii_lowercase y
+      → P (to_ascii_lowercase x) (to_ascii_lowercase y)
+  pub upper : are_letters x y ≡ true → to_ascii_uppercase x ≤ to_ascii_uppercase y
+      → P (to_ascii_uppercase x) (to_ascii_uppercase y)
+
+-- P holds of the characters of an entry
+abbrev pub EntryIntervals : (P : ℕ → ℕ → Type 0) → Entry → Type 0
+EntryIntervals P e = EachCase P (first_of e) (last_of e)
+
+-- P holds of the characters of each interval that the token lists
+abbrev pub TokenIntervals : (P : ℕ → ℕ → Type 0) → Token → Type 0
+TokenIntervals P (Literal x) = EachCase P x x
+TokenIntervals P AnyChar = Unit {0}
+TokenIntervals P AnySequence = Unit {0}
+TokenIntervals P Recursive = Unit {0}
+TokenIntervals P (OneOf entries) = All (EntryIntervals P) entries
+TokenIntervals P (NoneOf entries) = All (EntryIntervals P) entries
+
+-- P holds of each interval that a token lists
+abbrev pub EachInterval : (P : ℕ → ℕ → Type 0) → List Token → Type 0
+EachInterval P tokens = All (TokenIntervals P) tokens
+
+-- the characters from x to y are those whose classes are from that of x to that of y
+abbrev pub Separates : Partition → (x y : ℕ) → Type 0
+Separates p x y = (c : ℕ) → in_range (class_in p x) (class_in p y) (class_in p c) ≡ in_range x y c

@@ -1,0 +1,248 @@
+//! A row of masks: for each class of characters, which of 63 neighbouring tokens take its characters.
+ghost use Rattle.std.specs.Prelude.{◌≡◌, ℕ, ◌+◌, ◌<◌, ◌≤◌, ◌↔◌, ◌==◌, ◌&&◌, not, List, length, true, bit_xor};
+ghost use Rattle.std.specs.List.{All};
+ghost use Rattle.glob_pattern.specs.Grammar.Brackets.{in_range, holds, entry_holds};
+ghost use Rattle.glob_pattern.specs.Grammar.Tokens.{Token as TokenOf, is_recursive};
+ghost use Rattle.glob_pattern.specs.Private.Classes.{IsPartition, Separates, EachInterval, EachCase, EntryIntervals, TokenIntervals, partition_of, class_in, columns_of, are_letters};
+ghost use Rattle.glob_pattern.specs.Private.CharMasks.{IsRow, AreListed, IsWith, mask_at, lists, is_bracket, takes_all_but_listed};
+ghost use Rattle.glob_pattern.specs.declared.token.bracket.Entry.TheVariants.{Range};
+
+use crate::matcher::WORD;
+use crate::pattern::classes::{Classes, are_letters};
+use crate::token::Token;
+use crate::token::bracket::{Bracket, Entry};
+use std::alloc::Allocator;
+
+/// The class of a `/` that the separator rule excludes from wildcards.
+pub const SEPARATOR: usize = 0;
+
+/// The class of a `.` that the dot rule excludes from wildcards.
+pub const DOT: usize = 1;
+
+/// Of 63 neighbouring tokens, those of some kinds.
+#[derive(Clone, Copy)]
+struct Kinds {
+    /// Those that take all characters but those they list: wildcards and `[!..]`.
+    others: u64,
+    /// Brackets.
+    brackets: u64,
+    /// Recursive wildcards.
+    recursive: u64,
+}
+
+impl Kinds {
+    /// No tokens.
+    const NONE: Kinds = Kinds {
+        others: 0,
+        brackets: 0,
+        recursive: 0,
+    };
+}
+
+/// Makes a row of zeros that of the tokens from number `start` on.
+pub fn fill<A: Allocator>(
+    row: &mut [u64],
+    classes: Classes<'_>,
+    tokens: &[Token<Bracket<A>>],
+    start: usize,
+    case_sensitive: bool,
+)
+    requires partition { IsPartition (partition_of classes) }
+    requires long { length row.old ≡ columns_of (partition_of classes) }
+    requires apart { EachInterval (Separates (partition_of classes)) tokens.now }
+    requires start { start ≤ length tokens.now }
+    requires empty { (r : ℕ) → mask_at row.old r ≡ 0 }
+    ensures { IsRow tokens.now start (partition_of classes.entry) case_sensitive row.new 0 }
+{
+    let mut kinds = Kinds::NONE;
+    for n in start..tokens.len().min(start.saturating_add(WORD)) {
+        kinds = list_token(row, classes, kinds, n - start, &tokens[n], case_sensitive);
+    }
+    finish(row, classes, kinds, case_sensitive);
+}
+
+/// Makes the masks of the tokens that list a character those of the tokens that take it.
+#[inline(always)]
+fn finish(row: &mut [u64], classes: Classes<'_>, kinds: Kinds, case_sensitive: bool)
+    requires partition { IsPartition (partition_of classes) }
+    requires long { length row.old ≡ columns_of (partition_of classes) }
+    ensures { (tokens : List TokenOf) (start end : ℕ)
+        → AreListed tokens start end (partition_of classes.entry) case_sensitive row.old kinds
+        → ((j : ℕ) → j < 63 → (start + j < end) ↔ (start + j < length tokens))
+        → IsRow tokens start (partition_of classes.entry) case_sensitive row.new 0 }
+{
+    let separator = (row[classes.class('/')] & !kinds.brackets) | kinds.recursive;
+    let dot = row[classes.class('.')] & !kinds.brackets;
+    invert(row, kinds.others);
+    row[SEPARATOR] = separator;
+    row[DOT] = dot;
+}
+
+/// Inverts these bits in all masks.
+fn invert(row: &mut [u64], bits: u64)
+    ensures { (n : ℕ) → n < length row.old
+        → mask_at row.new n ≡ bit_xor (mask_at row.old n) bits }
+{
+    for mask in row.iter_mut() {
+        *mask ^= bits;
+    }
+}
+
+/// Lists a token: sets its bit in the masks of the characters that it lists, and in those of its kinds.
+#[inline(always)]
+fn list_token<A: Allocator>(
+    row: &mut [u64],
+    classes: Classes<'_>,
+    kinds: Kinds,
+    bit: usize,
+    token: &Token<Bracket<A>>,
+    case_sensitive: bool,
+) -> Kinds
+    requires partition { IsPartition (partition_of classes) }
+    requires bit { bit < 63 }
+    requires long { length row.old ≡ columns_of (partition_of classes) }
+    requires apart { TokenIntervals (Separates (partition_of classes)) token.now }
+    ensures listed { (c : ℕ) → IsWith (mask_at row.old (class_in (partition_of classes.entry) c))
+        (mask_at row.new (class_in (partition_of classes.entry) c)) bit
+        (lists case_sensitive c token.now) }
+    ensures others { IsWith kinds.others result.others bit (takes_all_but_listed token.now) }
+    ensures brackets { IsWith kinds.brackets result.brackets bit (is_bracket token.now) }
+    ensures recursive { IsWith kinds.recursive result.recursive bit (is_recursive token.now) }
+{
+    match token {
+        Token::Literal(c) => {
+            list_cases(row, classes, bit, *c, *c, case_sensitive);
+            kinds
+        }
+        Token::AnyChar | Token::AnySequence => Kinds {
+            others: put_bit(kinds.others, bit),
+            ..kinds
+        },
+        Token::Recursive => Kinds {
+            others: put_bit(kinds.others, bit),
+            recursive: put_bit(kinds.recursive, bit),
+            ..kinds
+        },
+        Token::OneOf(bracket) => {
+            list_all(row, classes, bit, bracket.entries(), case_sensitive);
+            Kinds {
+                brackets: put_bit(kinds.brackets, bit),
+                ..kinds
+            }
+        }
+        Token::NoneOf(bracket) => {
+            list_all(row, classes, bit, bracket.entries(), case_sensitive);
+            Kinds {
+                others: put_bit(kinds.others, bit),
+                brackets: put_bit(kinds.brackets, bit),
+                ..kinds
+            }
+        }
+    }
+}
+
+/// Sets the bit in the masks of the characters that some entry holds.
+fn list_all(
+    row: &mut [u64],
+    classes: Classes<'_>,
+    bit: usize,
+    entries: &[Entry],
+    case_sensitive: bool,
+)
+    requires partition { IsPartition (partition_of classes) }
+    requires bit { bit < 63 }
+    requires long { length row.old ≡ columns_of (partition_of classes) }
+    requires apart { All (EntryIntervals (Separates (partition_of classes))) entries.now }
+    ensures { (c : ℕ) → IsWith (mask_at row.old (class_in (partition_of classes.entry) c))
+        (mask_at row.new (class_in (partition_of classes.entry) c)) bit
+        (holds case_sensitive c entries.now) }
+{
+    for entry in entries {
+        let (first, last) = entry.ends();
+        list_cases(row, classes, bit, first, last, case_sensitive);
+    }
+}
+
+/// Sets the bit in the masks of the characters from the first to the last, and case-insensitively of those of the other
+/// case, if both are letters.
+#[inline(always)]
+fn list_cases(
+    row: &mut [u64],
+    classes: Classes<'_>,
+    bit: usize,
+    first: char,
+    last: char,
+    case_sensitive: bool,
+)
+    requires partition { IsPartition (partition_of classes) }
+    requires bit { bit < 63 }
+    requires long { length row.old ≡ columns_of (partition_of classes) }
+    requires apart { EachCase (Separates (partition_of classes)) first last }
+    ensures { (c : ℕ) → IsWith (mask_at row.old (class_in (partition_of classes.entry) c))
+        (mask_at row.new (class_in (partition_of classes.entry) c)) bit
+        (entry_holds case_sensitive c (Range first last)) }
+{
+    list_interval(row, classes, bit, first, last);
+    if !has_cases(case_sensitive, first, last) {
+        return;
+    }
+    let (lower, last_lower) = (first.to_ascii_lowercase(), last.to_ascii_lowercase());
+    list_interval(row, classes, bit, lower, last_lower);
+    let (upper, last_upper) = (first.to_ascii_uppercase(), last.to_ascii_uppercase());
+    list_interval(row, classes, bit, upper, last_upper);
+}
+
+/// Whether the characters between are listed in either case: case-insensitively, if both ends are letters.
+#[inline(always)]
+fn has_cases(case_sensitive: bool, first: char, last: char) -> bool
+    ensures { result ≡ (not case_sensitive && are_letters first last) }
+{
+    !case_sensitive && are_letters(first, last)
+}
+
+/// Sets the bit in the masks of the characters from the first to the last.
+#[inline(always)]
+fn list_interval(row: &mut [u64], classes: Classes<'_>, bit: usize, first: char, last: char)
+    requires partition { IsPartition (partition_of classes) }
+    requires bit { bit < 63 }
+    requires long { length row.old ≡ columns_of (partition_of classes) }
+    requires apart { first ≤ last → Separates (partition_of classes) first last }
+    ensures { (c : ℕ) → IsWith (mask_at row.old (class_in (partition_of classes.entry) c))
+        (mask_at row.new (class_in (partition_of classes.entry) c)) bit
+        (in_range first last c) }
+{
+    if first <= last {
+        paint(row, bit, classes.class(first), classes.class(last));
+    }
+}
+
+/// Sets the bit in the masks from the first to the last.
+#[inline(always)]
+fn paint(row: &mut [u64], bit: usize, first: usize, last: usize)
+    requires bit { bit < 63 }
+    requires last { last < length row.old }
+    ensures { (n : ℕ) → IsWith (mask_at row.old n) (mask_at row.new n) bit (in_range first last n) }
+{
+    for class in first..last + 1 {
+        list_class(row, bit, class);
+    }
+}
+
+/// Sets the bit in the mask of the class.
+#[inline(always)]
+fn list_class(row: &mut [u64], bit: usize, class: usize)
+    requires bit { bit < 63 }
+    requires class { class < length row.old }
+    ensures { (n : ℕ) → IsWith (mask_at row.old n) (mask_at row.new n) bit (n == class) }
+{
+    row[class] = put_bit(row[class], bit);
+}
+
+/// The word with one more bit set.
+#[inline(always)]
+fn put_bit(word: u64, bit: usize) -> u64
+    requires { bit < 63 }
+    ensures { IsWith word result bit true }
+{
+    word | (1 << bit)
+}

@@ -1,0 +1,85 @@
+//! A judge that asks all tokens of a word at once.
+ghost use Rattle.std.specs.Prelude.{◌≡◌, ◌*◌, ◌<◌, ◌≤◌, length, take, chars};
+ghost use Rattle.std.specs.Str.Iter.{chars_rest};
+ghost use Rattle.glob_pattern.specs.Private.CharMasks.{AreCharMasks, AreRowsOf};
+ghost use Rattle.glob_pattern.specs.Private.Stepping.{place_before};
+ghost use Rattle.glob_pattern.specs.Private.TextTable.{table_within, table_before};
+
+use super::TextJudge;
+use crate::matcher::Judge;
+use crate::pattern::char_masks::{CharMasks, Rows};
+use std::alloc::Allocator;
+
+/// A judge that reads from masks which tokens take a character. Those from number `end` on take nothing: it is not asked
+/// what follows the tokens that have to split a text.
+#[derive(Drop)]
+pub struct MaskJudge<'a, A: Allocator> {
+    judge: TextJudge<'a, A>,
+    rows: Rows<'a>,
+    end: usize,
+    // how many words the masks have
+    words: usize,
+    ghost enough: { length judge.tokens.now ≤ 63 * words },
+    ghost masked: { AreRowsOf (take end judge.tokens.now) words judge.options.case_sensitive rows },
+}
+
+impl<'a, A: Allocator> MaskJudge<'a, A> {
+    /// The judge with the masks of its tokens before number `end`, of so many words.
+    #[inline(always)]
+    pub fn new(judge: TextJudge<'a, A>, masks: &'a CharMasks<A>, end: usize, words: usize) -> Self
+        requires enough { length judge.tokens.now ≤ 63 * words }
+        requires masks { AreCharMasks (take end judge.tokens.now) words masks.now }
+        ensures judge { result.judge ≡ judge.entry }
+        ensures end { result.end ≡ end }
+    {
+        let rows = masks.rows(judge.options.case_sensitive);
+        MaskJudge {
+            judge,
+            rows,
+            end,
+            words,
+        }
+    }
+}
+
+#[tactic(auto, unfolding(crate::specs::Private::TextTable::table_within))]
+impl<A: Allocator> Judge for MaskJudge<'_, A> {
+    ghost table = { λ j. table_before (table_within j.judge.opening j.judge.options
+        j.judge.tokens.now (chars j.judge.text.now)) j.end };
+
+    ghost place = { λ j. place_before (chars j.judge.text.now) (chars (chars_rest j.judge.rest)) };
+
+    ghost count = { λ j. j.judge.count };
+
+    #[inline(always)]
+    fn step(&mut self) -> bool {
+        self.judge.advance()
+    }
+
+    #[inline(always)]
+    fn opens(&self) -> bool {
+        self.judge.opens()
+    }
+
+    #[inline(always)]
+    fn takes(&mut self, token: usize) -> bool {
+        self.judge.count += 1;
+        token < self.end && self.judge.is_taken(token)
+    }
+
+    #[inline(always)]
+    fn takes_each(&mut self, word: usize, asked: u64) -> u64 {
+        if asked == 0 {
+            return 0;
+        }
+        self.judge.count += u128::from(asked.count_ones());
+        let opening = self.judge.before == '/';
+        let options = self.judge.options;
+        asked & self.rows.taking(word, options, opening, self.judge.current)
+    }
+
+    #[inline(always)]
+    fn asked(&self) -> u128 {
+        self.judge.asked()
+    }
+}

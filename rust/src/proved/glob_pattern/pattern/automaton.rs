@@ -1,0 +1,93 @@
+//! Made by `bin/rust_crate` from `crates/glob_pattern/src/pattern/automaton.rt`.
+//! Contracts are there, and their proofs in `crates/glob_pattern/proofs`; it is changed there alone.
+//!
+//! The automaton of a pattern's tokens between the ends: their shapes as words of bits, and which of them take which
+//! characters.
+
+use crate::proved::glob_pattern::matcher::{decide, shape_words, Judge, ShapeWord, Span, WORD};
+use crate::proved::glob_pattern::options::MatchOptions;
+use crate::proved::glob_pattern::pattern::char_masks::CharMasks;
+use crate::proved::glob_pattern::pattern::judge::{MaskJudge, TextJudge};
+use crate::proved::glob_pattern::token::bracket::Bracket;
+use crate::proved::glob_pattern::token::taking::has_rules;
+use crate::proved::glob_pattern::token::Token;
+use std::slice;
+
+/// What a run over tokens reads of them besides.
+pub struct Automaton {
+    // the shapes as bits: those of the first 63 tokens, and if there are more tokens, those of all
+    first: ShapeWord,
+    words: Vec<ShapeWord>,
+    masks: CharMasks,
+}
+
+impl Automaton {
+    /// That of the tokens, where those before number `end`, all or all but one, are to split a text.
+    pub fn new(tokens: &[Token<Bracket>], end: usize) -> Self {
+        let words = if tokens.len() <= WORD { Vec::new() } else { shape_words(tokens) };
+        let masks = CharMasks::new(&tokens[..end], words_of(tokens));
+        Automaton { first: ShapeWord::new(tokens, 0), words, masks }
+    }
+
+    /// That of no tokens.
+    pub fn empty() -> Self {
+        Automaton { first: ShapeWord::NONE, words: Vec::new(), masks: CharMasks::Plain([0; 3]) }
+    }
+}
+
+impl Clone for Automaton {
+    fn clone(&self) -> Self {
+        Automaton { first: self.first, words: self.words.clone(), masks: self.masks.clone() }
+    }
+}
+
+impl Automaton {
+    /// Whether the tokens before number `end` split the text, at whose start a component starts or not, and how many
+    /// questions it took.
+    #[inline(always)]
+    pub fn matches(
+        &self,
+        tokens: &[Token<Bracket>],
+        end: usize,
+        text: &str,
+        opening: bool,
+        options: MatchOptions,
+    ) -> (bool, u128) {
+        let accepting = self.accepting(tokens, end, options);
+        // The first token takes all that there may be.
+        if accepting == 1 {
+            return (true, 0);
+        }
+        let span = Span { end, accepting };
+        let one_by_one = TextJudge::new(tokens, text, opening, options);
+        let mut judge = MaskJudge::new(one_by_one, &self.masks, end, words_of(tokens));
+        let answer = decide(tokens, self.words(tokens), span, &mut judge);
+        (answer, judge.asked())
+    }
+
+    /// The shapes as bits.
+    #[inline(always)]
+    fn words(&self, tokens: &[Token<Bracket>]) -> &[ShapeWord] {
+        if tokens.len() <= WORD {
+            slice::from_ref(&self.first)
+        } else {
+            self.words.as_slice()
+        }
+    }
+
+    /// The bit of the last token before number `end`, if it is a wildcard that takes all that is left of any text: once
+    /// it is alive, these tokens match.
+    #[inline(always)]
+    fn accepting(&self, tokens: &[Token<Bracket>], end: usize, options: MatchOptions) -> u64 {
+        if has_rules(options) || tokens.len() > WORD {
+            return 0;
+        }
+        self.first.free_before(end)
+    }
+}
+
+/// How many words of 63 the tokens fill.
+#[inline(always)]
+fn words_of(tokens: &[Token<Bracket>]) -> usize {
+    tokens.len().div_ceil(WORD)
+}

@@ -1,0 +1,143 @@
+//! Made by `bin/rust_crate` from `crates/glob_pattern/src/pattern/char_masks/row.rt`.
+//! Contracts are there, and their proofs in `crates/glob_pattern/proofs`; it is changed there alone.
+//!
+//! A row of masks: for each class of characters, which of 63 neighbouring tokens take its characters.
+
+use crate::proved::glob_pattern::matcher::WORD;
+use crate::proved::glob_pattern::pattern::classes::{are_letters, Classes};
+use crate::proved::glob_pattern::token::bracket::{Bracket, Entry};
+use crate::proved::glob_pattern::token::Token;
+
+/// The class of a `/` that the separator rule excludes from wildcards.
+pub const SEPARATOR: usize = 0;
+
+/// The class of a `.` that the dot rule excludes from wildcards.
+pub const DOT: usize = 1;
+
+/// Of 63 neighbouring tokens, those of some kinds.
+#[derive(Clone, Copy)]
+struct Kinds {
+    /// Those that take all characters but those they list: wildcards and `[!..]`.
+    others: u64,
+    /// Brackets.
+    brackets: u64,
+    /// Recursive wildcards.
+    recursive: u64,
+}
+
+impl Kinds {
+    /// No tokens.
+    const NONE: Kinds = Kinds { others: 0, brackets: 0, recursive: 0 };
+}
+
+/// Makes a row of zeros that of the tokens from number `start` on.
+pub fn fill(row: &mut [u64], classes: Classes<'_>, tokens: &[Token<Bracket>], start: usize, case_sensitive: bool) {
+    let mut kinds = Kinds::NONE;
+    for n in start..tokens.len().min(start.saturating_add(WORD)) {
+        kinds = list_token(row, classes, kinds, n - start, &tokens[n], case_sensitive);
+    }
+    finish(row, classes, kinds, case_sensitive);
+}
+
+/// Makes the masks of the tokens that list a character those of the tokens that take it.
+#[inline(always)]
+fn finish(row: &mut [u64], classes: Classes<'_>, kinds: Kinds, case_sensitive: bool) {
+    let separator = (row[classes.class('/')] & !kinds.brackets) | kinds.recursive;
+    let dot = row[classes.class('.')] & !kinds.brackets;
+    invert(row, kinds.others);
+    row[SEPARATOR] = separator;
+    row[DOT] = dot;
+}
+
+/// Inverts these bits in all masks.
+fn invert(row: &mut [u64], bits: u64) {
+    for mask in row.iter_mut() {
+        *mask ^= bits;
+    }
+}
+
+/// Lists a token: sets its bit in the masks of the characters that it lists, and in those of its kinds.
+#[inline(always)]
+fn list_token(
+    row: &mut [u64],
+    classes: Classes<'_>,
+    kinds: Kinds,
+    bit: usize,
+    token: &Token<Bracket>,
+    case_sensitive: bool,
+) -> Kinds {
+    match token {
+        Token::Literal(c) => {
+            list_cases(row, classes, bit, *c, *c, case_sensitive);
+            kinds
+        }
+        Token::AnyChar | Token::AnySequence => Kinds { others: put_bit(kinds.others, bit), ..kinds },
+        Token::Recursive => {
+            Kinds { others: put_bit(kinds.others, bit), recursive: put_bit(kinds.recursive, bit), ..kinds }
+        }
+        Token::OneOf(bracket) => {
+            list_all(row, classes, bit, bracket.entries(), case_sensitive);
+            Kinds { brackets: put_bit(kinds.brackets, bit), ..kinds }
+        }
+        Token::NoneOf(bracket) => {
+            list_all(row, classes, bit, bracket.entries(), case_sensitive);
+            Kinds { others: put_bit(kinds.others, bit), brackets: put_bit(kinds.brackets, bit), ..kinds }
+        }
+    }
+}
+
+/// Sets the bit in the masks of the characters that some entry holds.
+fn list_all(row: &mut [u64], classes: Classes<'_>, bit: usize, entries: &[Entry], case_sensitive: bool) {
+    for entry in entries {
+        let (first, last) = entry.ends();
+        list_cases(row, classes, bit, first, last, case_sensitive);
+    }
+}
+
+/// Sets the bit in the masks of the characters from the first to the last, and case-insensitively of those of the other
+/// case, if both are letters.
+#[inline(always)]
+fn list_cases(row: &mut [u64], classes: Classes<'_>, bit: usize, first: char, last: char, case_sensitive: bool) {
+    list_interval(row, classes, bit, first, last);
+    if !has_cases(case_sensitive, first, last) {
+        return;
+    }
+    let (lower, last_lower) = (first.to_ascii_lowercase(), last.to_ascii_lowercase());
+    list_interval(row, classes, bit, lower, last_lower);
+    let (upper, last_upper) = (first.to_ascii_uppercase(), last.to_ascii_uppercase());
+    list_interval(row, classes, bit, upper, last_upper);
+}
+
+/// Whether the characters between are listed in either case: case-insensitively, if both ends are letters.
+#[inline(always)]
+fn has_cases(case_sensitive: bool, first: char, last: char) -> bool {
+    !case_sensitive && are_letters(first, last)
+}
+
+/// Sets the bit in the masks of the characters from the first to the last.
+#[inline(always)]
+fn list_interval(row: &mut [u64], classes: Classes<'_>, bit: usize, first: char, last: char) {
+    if first <= last {
+        paint(row, bit, classes.class(first), classes.class(last));
+    }
+}
+
+/// Sets the bit in the masks from the first to the last.
+#[inline(always)]
+fn paint(row: &mut [u64], bit: usize, first: usize, last: usize) {
+    for class in first..last + 1 {
+        list_class(row, bit, class);
+    }
+}
+
+/// Sets the bit in the mask of the class.
+#[inline(always)]
+fn list_class(row: &mut [u64], bit: usize, class: usize) {
+    row[class] = put_bit(row[class], bit);
+}
+
+/// The word with one more bit set.
+#[inline(always)]
+fn put_bit(word: u64, bit: usize) -> u64 {
+    word | (1 << bit)
+}

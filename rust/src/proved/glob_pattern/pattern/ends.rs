@@ -1,0 +1,250 @@
+//! Made by `bin/rust_crate` from `crates/glob_pattern/src/pattern/ends.rt`.
+//! Contracts are there, and their proofs in `crates/glob_pattern/proofs`; it is changed there alone.
+//!
+//! What a text has to have at its ends: the literals with which a pattern begins and ends, compared as bytes, and the
+//! characters that other tokens of one character take there.
+
+use crate::proved::glob_pattern::matcher::{Shape, Shaped};
+use crate::proved::glob_pattern::options::MatchOptions;
+use crate::proved::glob_pattern::token::bracket::Bracket;
+use crate::proved::glob_pattern::token::taking::takes;
+use crate::proved::glob_pattern::token::Token;
+
+/// The tokens at both ends that take one character each, and the literals among them.
+#[derive(Clone, Copy)]
+pub struct Ends {
+    /// How many tokens at the start take one character each.
+    pub lead: usize,
+    /// How many of the other tokens at the end do.
+    pub trail: usize,
+    /// The literals with which the leading tokens begin.
+    pub prefix: Literals,
+    /// The literals with which the trailing tokens end.
+    pub suffix: Literals,
+}
+
+/// Neighbouring literals.
+#[derive(Clone, Copy)]
+pub struct Literals {
+    /// How many there are.
+    pub count: usize,
+    /// How many bytes they have in UTF-8.
+    pub bytes: usize,
+}
+
+/// What the tokens at the ends leave of a text.
+#[derive(Clone, Copy)]
+pub struct Part<'a> {
+    /// The characters that are left.
+    pub text: &'a str,
+    /// Whether a component starts with them.
+    pub opening: bool,
+}
+
+impl Literals {
+    /// No literals.
+    const NONE: Literals = Literals { count: 0, bytes: 0 };
+
+    /// These and one more. `None`: there are more bytes than can be counted.
+    fn with(self, c: char) -> Option<Literals> {
+        Some(Literals { count: self.count.checked_add(1)?, bytes: self.bytes.checked_add(c.len_utf8())? })
+    }
+}
+
+impl Ends {
+    /// Those of no tokens.
+    pub const NONE: Ends = Ends { lead: 0, trail: 0, prefix: Literals::NONE, suffix: Literals::NONE };
+
+    /// Those of the tokens: for `src/*.rs` four literals at the start, and three at the end.
+    pub fn of(tokens: &[Token<Bracket>]) -> Self {
+        let lead = leading_ones(tokens);
+        let trail = trailing_ones(tokens, lead);
+        Ends {
+            lead,
+            trail,
+            prefix: leading_literals(&tokens[..lead]),
+            suffix: trailing_literals(&tokens[tokens.len() - trail..]),
+        }
+    }
+
+    /// The tokens between the ends, and the first of those after them, if there are any.
+    #[inline(always)]
+    pub fn middle<'a>(&self, tokens: &'a [Token<Bracket>]) -> &'a [Token<Bracket>] {
+        &tokens[self.lead..tokens.len() - self.trail.saturating_sub(1)]
+    }
+
+    /// Whether the bytes begin and end with the pattern's literals. They need not be UTF-8.
+    #[inline(always)]
+    pub fn have_literals(&self, tokens: &[Token<Bracket>], pattern: &str, bytes: &[u8], options: MatchOptions) -> bool {
+        let literals = pattern.as_bytes();
+        let prefix = &literals[..self.prefix.bytes];
+        let suffix = &literals[literals.len() - self.suffix.bytes..];
+        has_ends(bytes, prefix, suffix, options)
+    }
+
+    /// Takes the ends from a text: so those of `src/*.rs` leave `main` of `src/main.rs`. `None`: the text does not
+    /// match.
+    #[inline(always)]
+    pub fn strip<'a>(
+        &self,
+        tokens: &[Token<Bracket>],
+        pattern: &str,
+        text: &'a str,
+        options: MatchOptions,
+    ) -> Option<Part<'a>> {
+        let part = self.strip_literals(tokens, pattern, text, options)?;
+        let first = &tokens[self.prefix.count..self.lead];
+        let last = &tokens[tokens.len() - self.trail..tokens.len() - self.suffix.count];
+        if first.is_empty() && last.is_empty() {
+            return Some(part);
+        }
+        take_ends(first, last, part, options)
+    }
+
+    /// Takes the literals from the ends of a text. `None`: it does not have them.
+    #[inline(always)]
+    fn strip_literals<'a>(
+        &self,
+        tokens: &[Token<Bracket>],
+        pattern: &str,
+        text: &'a str,
+        options: MatchOptions,
+    ) -> Option<Part<'a>> {
+        if !self.have_literals(tokens, pattern, text.as_bytes(), options) {
+            return None;
+        }
+        let (start, end) = (self.prefix.bytes, text.len() - self.suffix.bytes);
+        let before = &text[..start];
+        let left = &text[start..end];
+        Some(Part { text: left, opening: opens_after(before, true) })
+    }
+}
+
+/// Whether the bytes begin with a prefix and end with a suffix, which do not overlap, in either case where the options
+/// say so.
+#[inline(always)]
+fn has_ends(bytes: &[u8], prefix: &[u8], suffix: &[u8], options: MatchOptions) -> bool {
+    bytes.len() >= prefix.len()
+        && bytes.len() - prefix.len() >= suffix.len()
+        && are_same(&bytes[bytes.len() - suffix.len()..], suffix, options)
+        && are_same(&bytes[..prefix.len()], prefix, options)
+}
+
+/// Whether two texts of the same length are the same, in either case where the options say so.
+#[inline(always)]
+fn are_same(bytes: &[u8], other: &[u8], options: MatchOptions) -> bool {
+    // A call that compares no bytes may be slow.
+    if other.is_empty() {
+        return true;
+    }
+    if options.case_sensitive {
+        bytes == other
+    } else {
+        bytes.eq_ignore_ascii_case(other)
+    }
+}
+
+/// Whether a component starts after the text: after a `/`, and after no characters if one starts before them.
+#[inline(always)]
+fn opens_after(text: &str, opening: bool) -> bool {
+    match text.as_bytes() {
+        [] => opening,
+        [.., last] => *last == b'/',
+    }
+}
+
+/// Has the first tokens take a character each from the start of a part, and the last ones from its end.
+#[inline(never)]
+fn take_ends<'a>(
+    first: &[Token<Bracket>],
+    last: &[Token<Bracket>],
+    part: Part<'a>,
+    options: MatchOptions,
+) -> Option<Part<'a>> {
+    let left = take_first(first, part, options)?;
+    take_last(last, left, options)
+}
+
+/// Has the tokens take a character each from the start of a part. `None`: they do not.
+#[inline(always)]
+fn take_first<'a>(tokens: &[Token<Bracket>], part: Part<'a>, options: MatchOptions) -> Option<Part<'a>> {
+    let mut rest = part.text.chars();
+    let mut opening = part.opening;
+    let mut count = 0;
+    while count < tokens.len() {
+        let Some(c) = rest.next() else {
+            return None;
+        };
+        if !takes(&tokens[count], options, opening, c) {
+            return None;
+        }
+        opening = c == '/';
+        count += 1;
+    }
+    Some(Part { text: rest.as_str(), opening })
+}
+
+/// Has the tokens take a character each from the end of a part. `None`: they do not.
+#[inline(always)]
+fn take_last<'a>(tokens: &[Token<Bracket>], part: Part<'a>, options: MatchOptions) -> Option<Part<'a>> {
+    let mut rest = part.text.chars();
+    let mut count = tokens.len();
+    while count > 0 {
+        let Some(c) = rest.next_back() else {
+            return None;
+        };
+        count -= 1;
+        let opening = opens_after(rest.as_str(), part.opening);
+        if !takes(&tokens[count], options, opening, c) {
+            return None;
+        }
+    }
+    let text = rest.as_str();
+    Some(Part { text, opening: part.opening })
+}
+
+/// How many tokens of one character there are before the first other: of those of `src/*.rs` four.
+fn leading_ones(tokens: &[Token<Bracket>]) -> usize {
+    let mut lead = 0;
+    while lead < tokens.len() && tokens[lead].shape() == Shape::One {
+        lead += 1;
+    }
+    lead
+}
+
+/// How many tokens of one character there are after the last other and the first `lead`: of those of `src/*.rs` three,
+/// and of those of `main.rs` none.
+fn trailing_ones(tokens: &[Token<Bracket>], lead: usize) -> usize {
+    let mut trail = 0;
+    while lead + trail < tokens.len() && tokens[tokens.len() - 1 - trail].shape() == Shape::One {
+        trail += 1;
+    }
+    trail
+}
+
+/// The literals with which the tokens begin.
+fn leading_literals(tokens: &[Token<Bracket>]) -> Literals {
+    let mut literals = Literals::NONE;
+    while let Some(Token::Literal(c)) = tokens.get(literals.count) {
+        let Some(more) = literals.with(*c) else {
+            break;
+        };
+        literals = more;
+    }
+    literals
+}
+
+/// The literals with which the tokens end.
+fn trailing_literals(tokens: &[Token<Bracket>]) -> Literals {
+    let mut literals = Literals::NONE;
+    while literals.count < tokens.len() {
+        let Token::Literal(c) = &tokens[tokens.len() - 1 - literals.count] else {
+            break;
+        };
+        let Some(more) = literals.with(*c) else {
+            break;
+        };
+        literals = more;
+    }
+    literals
+}

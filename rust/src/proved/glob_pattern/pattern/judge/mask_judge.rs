@@ -1,0 +1,61 @@
+//! Made by `bin/rust_crate` from `crates/glob_pattern/src/pattern/judge/mask_judge.rt`.
+//! Contracts are there, and their proofs in `crates/glob_pattern/proofs`; it is changed there alone.
+//!
+//! A judge that asks all tokens of a word at once.
+
+use super::TextJudge;
+use crate::proved::glob_pattern::matcher::Judge;
+use crate::proved::glob_pattern::pattern::char_masks::{CharMasks, Rows};
+
+/// A judge that reads from masks which tokens take a character. Those from number `end` on take nothing: it is not
+/// asked what follows the tokens that have to split a text.
+pub struct MaskJudge<'a> {
+    judge: TextJudge<'a>,
+    rows: Rows<'a>,
+    end: usize,
+    // how many words the masks have
+    words: usize,
+}
+
+impl<'a> MaskJudge<'a> {
+    /// The judge with the masks of its tokens before number `end`, of so many words.
+    #[inline(always)]
+    pub fn new(judge: TextJudge<'a>, masks: &'a CharMasks, end: usize, words: usize) -> Self {
+        let rows = masks.rows(judge.options.case_sensitive);
+        MaskJudge { judge, rows, end, words }
+    }
+}
+
+impl Judge for MaskJudge<'_> {
+    #[inline(always)]
+    fn step(&mut self) -> bool {
+        self.judge.advance()
+    }
+
+    #[inline(always)]
+    fn opens(&self) -> bool {
+        self.judge.opens()
+    }
+
+    #[inline(always)]
+    fn takes(&mut self, token: usize) -> bool {
+        self.judge.count += 1;
+        token < self.end && self.judge.is_taken(token)
+    }
+
+    #[inline(always)]
+    fn takes_each(&mut self, word: usize, asked: u64) -> u64 {
+        if asked == 0 {
+            return 0;
+        }
+        self.judge.count += u128::from(asked.count_ones());
+        let opening = self.judge.before == '/';
+        let options = self.judge.options;
+        asked & self.rows.taking(word, options, opening, self.judge.current)
+    }
+
+    #[inline(always)]
+    fn asked(&self) -> u128 {
+        self.judge.asked()
+    }
+}
