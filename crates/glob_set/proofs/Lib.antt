@@ -1,3 +1,5 @@
+pub mod AskingLemmas
+pub mod MatchLists
 pub mod BraceAnswers
 pub mod BraceCounting
 pub mod BraceEscapes
@@ -6,6 +8,9 @@ pub mod BraceTexts
 pub mod BraceReadings
 pub mod BraceSetLemmas
 pub mod BucketLemmas
+pub mod KeyLemmas
+pub mod KeyLists
+pub mod KeyedLemmas
 pub mod ListReading
 pub mod MappedErrors
 pub mod NeedLists

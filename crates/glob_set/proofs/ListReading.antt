@@ -1,5 +1,5 @@
--- A list of patterns that is read from its start or from its end.
-use Rattle.std.proofs.Common.{◌≡◌, ℕ, suc, ◌+◌, ◌<◌, ◌≤◌, ◌↔◌, Bool, true, false, List, [], ◌∷◌, ◌++◌, length, get_or, Option, Some, None, cond, IsTrue, bit_or, Result, Ok, Err, IfOk, OnErr, sym, ap, subst, ◌∙◌, arith, refl}
+-- What a pattern of a list answers, and the first match of the list.
+use Rattle.std.proofs.Common.{◌≡◌, ℕ, suc, ◌<◌, ◌≤◌, ◌↔◌, Bool, true, false, List, [], ◌∷◌, ◌++◌, length, get_or, Option, Some, None, cond, IsTrue, bit_or, Result, Ok, Err, IfOk, sym, ap, subst, ◌∙◌, refl}
 use Rattle.std.proofs.lemmas.List.{get_or_default}
 use Rattle.std.proofs.lemmas.Bool.{false≢true}
 use Rattle.std.specs.Option.{is_some}
@@ -11,41 +11,13 @@ use Rattle.glob_pattern.specs.declared.options.MatchOptions.{MatchOptions}
 use Rattle.glob_pattern.proofs.CallerLemmas.{match_decided}
 use Rattle.glob_set.specs.Private.Pairs.{text_bits, HasBits, IsNeed, AreNeeds}
 use Rattle.glob_set.specs.declared.pairs.Need.{Need}
-use Rattle.glob_set.specs.Sets.{MatchesAt, AnyMatch, FirstMatch, LastMatch, matches_below, all_matches, AreFirstMatches, AreShort}
+use Rattle.glob_set.specs.Sets.{MatchesAt, AnyMatch, FirstMatch, matches_below, AreFirstMatches, AreShort}
 
 not_true : (b : Bool) → ¬ (b ≡ true) → b ≡ false
 not_true true not = absurd (not refl)
 not_true false not = refl
 
 module _ (o : MatchOptions) (patterns : List Text) (text : Text) where
-  -- none of the patterns before a number matches
-  abbrev pub NoneBelow : ℕ → Type 0
-  NoneBelow n = (k : ℕ) → k < n → ¬ (MatchesAt o patterns text k)
-
-  -- none of the patterns from a number on matches
-  abbrev pub NoneFrom : ℕ → Type 0
-  NoneFrom n = (k : ℕ) → n ≤ k → ¬ (MatchesAt o patterns text k)
-
-  pub NoneBelow-end : (n : ℕ) → length patterns ≤ n → NoneBelow n → ¬ (AnyMatch o patterns text)
-  unfolding AnyMatch MatchesAt
-  NoneBelow-end n end none any = none any.0 (omega (arith, end, any.1.0)) any.1
-
-  pub FirstMatch-at : (number : ℕ) → NoneBelow number → MatchesAt o patterns text number → FirstMatch o patterns text (Some number)
-  unfolding FirstMatch
-  FirstMatch-at number none at = (at, none)
-
-  pub FirstMatch-end : (n : ℕ) → length patterns ≤ n → NoneBelow n → FirstMatch o patterns text None
-  unfolding FirstMatch
-  FirstMatch-end n end none = NoneBelow-end n end none
-
-  pub LastMatch-at : (number : ℕ) → NoneFrom (number + 1) → MatchesAt o patterns text number → LastMatch o patterns text (Some number)
-  unfolding LastMatch
-  LastMatch-at number none at = (at, λ k above. none k (omega arith))
-
-  pub LastMatch-end : NoneFrom 0 → LastMatch o patterns text None
-  unfolding LastMatch AnyMatch
-  LastMatch-end none any = none any.0 (omega arith) any.1
-
   -- the first match says whether there is any
   pub AnyMatch-Some : (number : ℕ) → FirstMatch o patterns text (Some number) → AnyMatch o patterns text
   unfolding FirstMatch AnyMatch
@@ -86,10 +58,6 @@ module _ (o : MatchOptions) (patterns : List Text) (text : Text) where
       ap (λ b. cond b (matches_below o patterns text n ++ n ∷ []) (matches_below o patterns text n))
       (not_true _ (λ yes. not_at (below, (match_decided o (chars (get_or patterns n [])) (chars text)).0 yes)))
 
-  pub all_matches-end : (n : ℕ) → n ≡ length patterns → (numbers : List ℕ) → numbers ≡ matches_below o patterns text n → numbers ≡ all_matches o patterns text
-  unfolding all_matches
-  all_matches-end n end numbers are = are ∙ ap (matches_below o patterns text) end
-
   pub AreFirstMatches-at : (n : ℕ) (numbers : List ℕ) → n ≤ length patterns → numbers ≡ matches_below o patterns text n → AreFirstMatches o patterns text numbers
   unfolding AreFirstMatches
   AreFirstMatches-at n numbers within are = (n, within, are)
@@ -109,8 +77,3 @@ pub AnyMatch-iff : (o : MatchOptions) (patterns : List Text) (text : Text) (firs
     → FirstMatch o patterns text first → IsTrue b ↔ AnyMatch o patterns text
 AnyMatch-iff o patterns text (Some number) b is first = (λ _. AnyMatch-Some o patterns text number first, λ _. is)
 AnyMatch-iff o patterns text None b is none = (λ t. absurd (false≢true (sym is ∙ t)), λ any. absurd (AnyMatch-None o patterns text none any))
-
--- what holds, holds on an error
-pub OnErr-always : {T E : Type 0} (r : Result T E) (P : Type 0) → P → OnErr r P
-OnErr-always (Ok x) P known = tt
-OnErr-always (Err e) P known = known

@@ -31,7 +31,7 @@ lower_same c =
     (cases_lt c 65)
 
 -- a character that is the same as one of ASCII is of ASCII, and has its five low bits
-same_ascii : (case : Bool) (c x : ℕ) → x < 128 → IsTrue (is_same case c x) → (c < 128) × (c % 32 ≡ x % 32)
+pub same_ascii : (case : Bool) (c x : ℕ) → x < 128 → IsTrue (is_same case c x) → (c < 128) × (c % 32 ≡ x % 32)
 same_ascii case c x low same =
     ⊎_elim
     (λ is. let e = eqb-true c x is in (subst (λ y. y < 128) (sym e) low, ap (λ y. y % 32) e))
@@ -45,7 +45,7 @@ class_same : (a b x y : ℕ) → a % 32 ≡ x % 32 → b % 32 ≡ y % 32 → pai
 class_same a b x y first second = ap₂ (λ m n. (m * 13 + n * 3) % 128) first second
 
 -- a token that is a literal is one of the list
-literal_within : (tokens : List Token) (k y : ℕ) → get_or tokens k AnyChar ≡ Literal y → k < length tokens
+pub literal_within : (tokens : List Token) (k y : ℕ) → get_or tokens k AnyChar ≡ Literal y → k < length tokens
 literal_within [] k y is = absurd (cc)
 literal_within (t ∷ ts) zero y is = omega arith
 literal_within (t ∷ ts) (suc k) y is = omega (arith, literal_within ts k y is)

@@ -1,4 +1,7 @@
+pub mod Asking
 pub mod BraceCounts
 pub mod BraceSteps
 pub mod Buckets
+pub mod Components
+pub mod Keyed
 pub mod Pairs

@@ -1,6 +1,6 @@
-//! Lists of the patterns that may match a text, by the class of its last two bytes.
-ghost use Rattle.std.specs.Prelude.{◌≡◌, ◌≢◌, false, length, IfOk, IsSomeAnd};
-ghost use Rattle.glob_set.specs.Private.Buckets.{IsBucket, AreBuckets};
+//! Lists of the patterns without a key that may match a text, by the class of its last two bytes.
+ghost use Rattle.std.specs.Prelude.{◌≡◌, ◌≢◌, Option, ℕ, false, length, IfOk, IsSome, IsSomeAnd, ◌⊎◌};
+ghost use Rattle.glob_set.specs.Private.Buckets.{IsAll, IsBucket, AreBuckets};
 ghost use Rattle.glob_set.specs.Private.Pairs.{AreNeeds};
 
 use crate::pairs::Need;
@@ -35,40 +35,64 @@ impl<A: Allocator> Bucket<A> {
     }
 }
 
-/// For each class the numbers of the patterns that may match a text of it.
+/// For each class the numbers of the patterns without a key that may match a text of it.
 pub fn buckets_of<A: Allocator + Copy>(
     alloc: A,
     patterns: &[Pattern<A>],
     needs: &[Need],
+    keys: &[Option<u32>],
 ) -> Result<Vec<Bucket<A>, A>, AllocError>
-    requires { AreNeeds patterns.now needs.now }
-    ensures { IfOk result (λ buckets. AreBuckets patterns.now buckets.items) }
+    requires needs { AreNeeds patterns.now needs.now }
+    requires keys { length keys.now ≡ length patterns.now }
+    ensures { IfOk result (λ buckets. AreBuckets patterns.now keys.now buckets.items) }
 {
     let mut buckets = Vec::new(alloc);
     for class in 0..CLASSES {
-        buckets.push(bucket_of(alloc, patterns, needs, class)?)?;
+        buckets.push(bucket_of(alloc, patterns, needs, keys, class)?)?;
     }
     Ok(buckets)
 }
 
-/// The numbers of the patterns that may match a text of the class.
+/// The numbers of the patterns without a key that may match a text of the class.
 fn bucket_of<A: Allocator + Copy>(
     alloc: A,
     patterns: &[Pattern<A>],
     needs: &[Need],
+    keys: &[Option<u32>],
     class: u8,
 ) -> Result<Bucket<A>, AllocError>
-    requires { AreNeeds patterns.now needs.now }
-    ensures { IfOk result (λ bucket. IsBucket patterns.now class (length patterns.now) bucket) }
+    requires needs { AreNeeds patterns.now needs.now }
+    requires keys { length keys.now ≡ length patterns.now }
+    ensures { IfOk result
+        (λ bucket. IsBucket patterns.now keys.now class (length patterns.now) bucket) }
 {
     let _ = patterns;
     let mut numbers = Vec::new(alloc);
     for number in 0..needs.len() {
-        if may_be_of(&needs[number], class) {
+        if is_listed(keys[number], &needs[number], class) {
             numbers.push(number)?;
         }
     }
     Ok(Bucket { numbers })
+}
+
+/// All numbers of so many patterns.
+pub fn bucket_of_all<A: Allocator + Copy>(alloc: A, count: usize) -> Result<Bucket<A>, AllocError>
+    ensures { IfOk result (IsAll count) }
+{
+    let mut numbers = Vec::new(alloc);
+    for number in 0..count {
+        numbers.push(number)?;
+    }
+    Ok(Bucket { numbers })
+}
+
+/// Whether a pattern with this key and this need is listed under the class.
+fn is_listed(key: Option<u32>, need: &Need, class: u8) -> bool
+    ensures { result ≡ false
+        → IsSome key ⊎ IsSomeAnd need.now.class (λ known. known ≢ class) }
+{
+    key.is_none() && may_be_of(need, class)
 }
 
 /// Whether a text of the class may have what is needed.

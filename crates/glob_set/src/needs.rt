@@ -60,7 +60,7 @@ fn pair_at<A: Allocator>(pattern: &Pattern<A>, number: usize) -> Option<u8>
 }
 
 /// The byte that the token of this number is, if it is a literal of ASCII.
-fn byte_at<A: Allocator>(pattern: &Pattern<A>, number: usize) -> Option<u8>
+pub fn byte_at<A: Allocator>(pattern: &Pattern<A>, number: usize) -> Option<u8>
     ensures literal { IfSome result (HasLiteral (chars pattern.now) number) }
     ensures ascii { IfSome result (λ b. b < 128) }
 {

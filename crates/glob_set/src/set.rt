@@ -1,16 +1,20 @@
 //! Sets of patterns: which of them match a text.
-ghost use Rattle.std.specs.Prelude.{◌≡◌, ℕ, List, ◌<◌, ◌↔◌, length, map, IsTrue, IsOk, IfOk, IfErr, OnOk, OnErr};
+ghost use Rattle.std.specs.Prelude.{◌≡◌, ℕ, List, ◌↔◌, length, map, IsTrue, IsOk, IfOk, IfErr, OnOk, OnErr};
 ghost use Rattle.std.specs.Path.{path_bytes};
-ghost use Rattle.glob_set.specs.Private.Buckets.{IsBucket};
-ghost use Rattle.glob_set.specs.Private.Pairs.{text_bits, text_class};
 ghost use Rattle.glob_set.specs.BraceSets.{AnyAlternativeMatches, AreAccepted, AreAlternativesOf, RefusesBraceTexts};
-ghost use Rattle.glob_set.specs.Sets.{MatchesAt, AnyMatch, FirstMatch, LastMatch, all_matches, AreFirstMatches, AreShort, RefusesTexts};
+ghost use Rattle.glob_set.specs.Sets.{AnyMatch, FirstMatch, LastMatch, all_matches, AreFirstMatches, AreShort, RefusesTexts};
 
-use crate::buckets::{Bucket, buckets_of};
+mod asking;
+
+use crate::buckets::{Bucket, bucket_of_all, buckets_of};
 use crate::error::{BraceSetRefusal, SetRefusal};
+use crate::found::Found;
+use crate::keyed::{Keyed, slots_for};
 use crate::needs::needs_of;
-use crate::pairs::{Need, text_bits, text_class};
+use crate::pairs::Need;
+use crate::pattern_keys::keys_of;
 use crate::reading::{read_braces, read_patterns};
+use asking::{bits_for, earlier, later};
 use glob_pattern::{MatchOptions, Pattern};
 use std::alloc::{AllocError, Allocator, Global};
 use std::marker::Model;
@@ -18,6 +22,7 @@ use std::path::Path;
 
 /// Patterns in order, and the options that they match by. It reports which of them match a text by their **numbers**,
 /// counted from 0. Most patterns are rejected untried, since the text lacks bytes that each text has that they match.
+/// Of many patterns, those with a component that few of them have are looked up by the components of the text.
 ///
 /// ```text
 /// let ignored = PatternSet::from_texts(alloc, &["**/*.o", "**/target/**"], options)?;
@@ -31,13 +36,19 @@ pub struct PatternSet<A: Allocator = Global> {
     patterns: Vec<Pattern<A>, A>,
     // for each pattern what each text has that it matches
     needs: Vec<Need, A>,
-    // for each class of texts the numbers of the patterns that may match one
+    // the keys of those that are found by one
+    keyed: Keyed<A>,
+    // for each class of texts the numbers of the other patterns that may match one
     buckets: Vec<Bucket<A>, A>,
+    // the numbers of all patterns, for a text by which too many are found
+    all: Bucket<A>,
     options: MatchOptions,
 }
 
 impl<A: Allocator> Model for PatternSet<A> {
-    ghost use Rattle.glob_set.specs.Private.Buckets.{AreBuckets};
+    ghost use Rattle.std.specs.Prelude.{length};
+    ghost use Rattle.glob_set.specs.Private.Buckets.{AreBuckets, IsAll};
+    ghost use Rattle.glob_set.specs.Private.Components.{AreKeys};
     ghost use Rattle.glob_set.specs.Private.Pairs.{AreNeeds};
     ghost use Rattle.glob_set.specs.Sets.{Set};
 
@@ -46,7 +57,9 @@ impl<A: Allocator> Model for PatternSet<A> {
     ghost view = { λ set. record { patterns = set.patterns.items; options = set.options } };
 
     ghost invariant = { λ set. AreNeeds set.patterns.items set.needs.items
-        × AreBuckets set.patterns.items set.buckets.items };
+        × AreKeys set.patterns.items set.keyed
+        × AreBuckets set.patterns.items set.keyed set.buckets.items
+        × IsAll (length set.patterns.items) set.all };
 }
 
 impl<A: Allocator> PatternSet<A> {
@@ -90,11 +103,22 @@ impl<A: Allocator + Copy> PatternSet<A> {
             (λ set. set ≡ record { patterns = patterns.items; options = options }) }
     {
         let needs = needs_of(alloc, patterns.as_slice())?;
-        let buckets = buckets_of(alloc, patterns.as_slice(), needs.as_slice())?;
+        let slots = slots_for(patterns.len());
+        let keys = keys_of(alloc, patterns.as_slice(), slots)?;
+        let buckets = buckets_of(
+            alloc,
+            patterns.as_slice(),
+            needs.as_slice(),
+            keys.as_slice(),
+        )?;
+        let keyed = Keyed::new(alloc, keys, slots)?;
+        let all = bucket_of_all(alloc, patterns.len())?;
         Ok(PatternSet {
             patterns,
             needs,
+            keyed,
             buckets,
+            all,
             options,
         })
     }
@@ -155,13 +179,12 @@ impl<A: Allocator + Copy> PatternSet<A> {
             (FirstMatch self.now.options self.now.patterns text.now) }
         ensures short { AreShort self.now.patterns → IsOk result }
     {
-        let (numbers, bits) = self.numbers_for(text);
-        for number in numbers {
-            if self.matches_at(*number, text, bits)? {
-                return Ok(Some(*number));
-            }
-        }
-        Ok(None)
+        let mut found = Found::new();
+        let listed = self.listed_for(text, &mut found);
+        let bits = bits_for(text, listed, found.numbers());
+        let listed = self.first_of(listed, text, bits)?;
+        let found = self.first_of(found.numbers(), text, bits)?;
+        Ok(earlier(listed, found))
     }
 
     /// The number of the last pattern that matches the text, or `None`: by `a*` and `*b`, 1 of `ab`, and 0 of `a`.
@@ -172,15 +195,12 @@ impl<A: Allocator + Copy> PatternSet<A> {
             (LastMatch self.now.options self.now.patterns text.now) }
         ensures short { AreShort self.now.patterns → IsOk result }
     {
-        let (numbers, bits) = self.numbers_for(text);
-        let mut left = numbers.len();
-        while left > 0 {
-            left -= 1;
-            if self.matches_at(numbers[left], text, bits)? {
-                return Ok(Some(numbers[left]));
-            }
-        }
-        Ok(None)
+        let mut found = Found::new();
+        let listed = self.listed_for(text, &mut found);
+        let bits = bits_for(text, listed, found.numbers());
+        let listed = self.last_of(listed, text, bits)?;
+        let found = self.last_of(found.numbers(), text, bits)?;
+        Ok(later(listed, found))
     }
 
     /// Replaces the content of `numbers` by the numbers of all patterns that match the text, in ascending order: by
@@ -197,14 +217,17 @@ impl<A: Allocator + Copy> PatternSet<A> {
         ensures first { OnErr result
             (AreFirstMatches self.now.options self.now.patterns text.now numbers.new.items) }
     {
-        numbers.clear();
-        let (asked, bits) = self.numbers_for(text);
-        for number in asked {
-            if self.matches_at(*number, text, bits)? {
-                numbers.push(*number)?;
+        match self.find_matches(text, numbers) {
+            Ok(()) => {
+                numbers.as_mut_slice().sort_unstable();
+                numbers.dedup();
+                Ok(())
+            }
+            Err(error) => {
+                numbers.clear();
+                Err(error)
             }
         }
-        Ok(())
     }
 
     /// [`is_match`](Self::is_match) of the path's text, with its error.
@@ -246,35 +269,5 @@ impl<A: Allocator + Copy> PatternSet<A> {
             self.now.options self.now.patterns (path_bytes path.entry) numbers.new.items) }
     {
         self.matches_into(path.as_str(), numbers)
-    }
-
-    /// The numbers of the patterns that may match the text, and if there are some, its bits.
-    #[inline(always)]
-    fn numbers_for(&self, text: &str) -> (&[usize], u128)
-        ensures numbers { IsBucket self.now.patterns (text_class text.now)
-            (length self.now.patterns) result.0.now }
-        ensures bits { 0 < length result.0.now → result.1 ≡ text_bits text.now }
-    {
-        let bytes = text.as_bytes();
-        let numbers = self.buckets[text_class(bytes) as usize].numbers();
-        if numbers.is_empty() {
-            return (numbers, 0);
-        }
-        (numbers, text_bits(bytes))
-    }
-
-    /// Whether the pattern of this number matches the text of these bits.
-    #[inline(always)]
-    fn matches_at(&self, number: usize, text: &str, bits: u128) -> Result<bool, AllocError>
-        requires number { number < length self.now.patterns }
-        requires bits { bits ≡ text_bits text.now }
-        ensures answer { IfOk result (λ yes. IsTrue yes
-            ↔ MatchesAt self.now.options self.now.patterns text.now number) }
-        ensures short { AreShort self.now.patterns → IsOk result }
-    {
-        if self.needs[number].bits | bits != bits {
-            return Ok(false);
-        }
-        self.patterns[number].matches_with(text, self.options)
     }
 }

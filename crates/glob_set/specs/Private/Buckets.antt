@@ -1,6 +1,7 @@
--- Which patterns may match a text of a given class.
-use Rattle.std.specs.Prelude.{◌≡◌, ℕ, zero, suc, ◌+◌, ◌<◌, ◌≤◌, List, [], length, slice_index, slice_index_or, chars}
+-- Which patterns without a key may match a text of a given class.
+use Rattle.std.specs.Prelude.{◌≡◌, ℕ, ◌<◌, ◌⊎◌, List, [], length, slice_index_or, chars, Option, None, IsNone, All, Contains}
 use Rattle.std.specs.Str.{IsUtf8}
+use Rattle.std.specs.List.Sorted.{IsNonDecreasing}
 use Rattle.glob_text.specs.Text.{Text}
 use Rattle.glob_pattern.specs.Matching.Texts.{Matches}
 use Rattle.glob_pattern.specs.declared.options.MatchOptions.{MatchOptions}
@@ -12,21 +13,20 @@ Avoids pattern class =
     (o : MatchOptions) (bytes : List ℕ) → IsUtf8 bytes → text_class bytes ≡ class
     → Matches o (chars pattern) (chars bytes) → ⊥
 
--- the number after the first j ones of ascending numbers
-abbrev pub number_after : (numbers : List ℕ) → ℕ → ℕ
-number_after numbers zero = 0
-number_after numbers (suc j) = slice_index numbers j + 1
-
--- the numbers of patterns below n, in order, without some that match no text of the class
-pub record IsBucket (patterns : List Text) (class n : ℕ) (numbers : List ℕ) : Type 0 where
-  pub within : (j : ℕ) → j < length numbers → slice_index numbers j < n
-  pub order : (j : ℕ) → j < length numbers → number_after numbers j ≤ slice_index numbers j
-  pub gaps : (j : ℕ) → j < length numbers → (k : ℕ) → number_after numbers j ≤ k → k < slice_index numbers j
-      → Avoids (slice_index_or patterns k []) class
-  pub rest : (k : ℕ) → number_after numbers (length numbers) ≤ k → k < n
-      → Avoids (slice_index_or patterns k []) class
+-- ascending numbers of patterns below n, and each pattern without a key that matches a text of the class is among them
+pub record IsBucket (patterns : List Text) (keys : List (Option ℕ)) (class n : ℕ) (numbers : List ℕ) : Type 0 where
+  pub within : All (λ k. k < n) numbers
+  pub order : IsNonDecreasing numbers
+  pub all : (k : ℕ) → k < n → IsNone (slice_index_or keys k None) → Contains numbers k ⊎ Avoids (slice_index_or patterns k []) class
 
 -- a bucket for each class
-pub record AreBuckets (patterns : List Text) (buckets : List (List ℕ)) : Type 0 where
+pub record AreBuckets (patterns : List Text) (keys : List (Option ℕ)) (buckets : List (List ℕ)) : Type 0 where
   pub as_many : length buckets ≡ 128
-  pub each : (class : ℕ) → class < 128 → IsBucket patterns class (length patterns) (slice_index_or buckets class [])
+  pub each : (class : ℕ) → class < 128
+      → IsBucket patterns keys class (length patterns) (slice_index_or buckets class [])
+
+-- all numbers below n, ascending
+pub record IsAll (n : ℕ) (numbers : List ℕ) : Type 0 where
+  pub within : All (λ k. k < n) numbers
+  pub order : IsNonDecreasing numbers
+  pub all : (k : ℕ) → k < n → Contains numbers k

@@ -1,7 +1,7 @@
 //! Made by `bin/rust_crate` from `crates/glob_set/src/buckets.rt`.
 //! Contracts are there, and their proofs in `crates/glob_set/proofs`; it is changed there alone.
 //!
-//! Lists of the patterns that may match a text, by the class of its last two bytes.
+//! Lists of the patterns without a key that may match a text, by the class of its last two bytes.
 
 use crate::proved::glob_pattern::Pattern;
 use crate::proved::glob_set::pairs::Need;
@@ -23,25 +23,39 @@ impl Bucket {
     }
 }
 
-/// For each class the numbers of the patterns that may match a text of it.
-pub fn buckets_of(patterns: &[Pattern], needs: &[Need]) -> Vec<Bucket> {
+/// For each class the numbers of the patterns without a key that may match a text of it.
+pub fn buckets_of(patterns: &[Pattern], needs: &[Need], keys: &[Option<u32>]) -> Vec<Bucket> {
     let mut buckets = Vec::new();
     for class in 0..CLASSES {
-        buckets.push(bucket_of(patterns, needs, class));
+        buckets.push(bucket_of(patterns, needs, keys, class));
     }
     buckets
 }
 
-/// The numbers of the patterns that may match a text of the class.
-fn bucket_of(patterns: &[Pattern], needs: &[Need], class: u8) -> Bucket {
+/// The numbers of the patterns without a key that may match a text of the class.
+fn bucket_of(patterns: &[Pattern], needs: &[Need], keys: &[Option<u32>], class: u8) -> Bucket {
     let _ = patterns;
     let mut numbers = Vec::new();
     for number in 0..needs.len() {
-        if may_be_of(&needs[number], class) {
+        if is_listed(keys[number], &needs[number], class) {
             numbers.push(number);
         }
     }
     Bucket { numbers }
+}
+
+/// All numbers of so many patterns.
+pub fn bucket_of_all(count: usize) -> Bucket {
+    let mut numbers = Vec::new();
+    for number in 0..count {
+        numbers.push(number);
+    }
+    Bucket { numbers }
+}
+
+/// Whether a pattern with this key and this need is listed under the class.
+fn is_listed(key: Option<u32>, need: &Need, class: u8) -> bool {
+    key.is_none() && may_be_of(need, class)
 }
 
 /// Whether a text of the class may have what is needed.

@@ -7,9 +7,13 @@
 
 pub mod braces;
 mod buckets;
+mod components;
 mod error;
+mod found;
+mod keyed;
 mod needs;
 mod pairs;
+mod pattern_keys;
 mod reading;
 mod set;
 

@@ -46,7 +46,7 @@ fn pair_at(pattern: &Pattern, number: usize) -> Option<u8> {
 }
 
 /// The byte that the token of this number is, if it is a literal of ASCII.
-fn byte_at(pattern: &Pattern, number: usize) -> Option<u8> {
+pub fn byte_at(pattern: &Pattern, number: usize) -> Option<u8> {
     match literal_at(pattern, number) {
         Some(c) if c.is_ascii() => Some(c as u8),
         _ => None,

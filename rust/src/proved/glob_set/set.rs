@@ -3,15 +3,22 @@
 //!
 //! Sets of patterns: which of them match a text.
 
+mod asking;
+
 use crate::proved::glob_pattern::{MatchOptions, Pattern};
-use crate::proved::glob_set::buckets::{buckets_of, Bucket};
+use crate::proved::glob_set::buckets::{bucket_of_all, buckets_of, Bucket};
 use crate::proved::glob_set::error::{BraceSetRefusal, SetRefusal};
+use crate::proved::glob_set::found::Found;
+use crate::proved::glob_set::keyed::{slots_for, Keyed};
 use crate::proved::glob_set::needs::needs_of;
-use crate::proved::glob_set::pairs::{text_bits, text_class, Need};
+use crate::proved::glob_set::pairs::Need;
+use crate::proved::glob_set::pattern_keys::keys_of;
 use crate::proved::glob_set::reading::{read_braces, read_patterns};
+use asking::{bits_for, earlier, later};
 
 /// Patterns in order, and the options that they match by. It reports which of them match a text by their **numbers**,
 /// counted from 0. Most patterns are rejected untried, since the text lacks bytes that each text has that they match.
+/// Of many patterns, those with a component that few of them have are looked up by the components of the text.
 ///
 /// ```text
 /// let ignored = PatternSet::from_texts(&["**/*.o", "**/target/**"], options)?;
@@ -23,8 +30,12 @@ pub struct PatternSet {
     patterns: Vec<Pattern>,
     // for each pattern what each text has that it matches
     needs: Vec<Need>,
-    // for each class of texts the numbers of the patterns that may match one
+    // the keys of those that are found by one
+    keyed: Keyed,
+    // for each class of texts the numbers of the other patterns that may match one
     buckets: Vec<Bucket>,
+    // the numbers of all patterns, for a text by which too many are found
+    all: Bucket,
     options: MatchOptions,
 }
 
@@ -54,8 +65,12 @@ impl PatternSet {
     /// A set of these patterns, in this order.
     pub fn new(patterns: Vec<Pattern>, options: MatchOptions) -> Self {
         let needs = needs_of(patterns.as_slice());
-        let buckets = buckets_of(patterns.as_slice(), needs.as_slice());
-        PatternSet { patterns, needs, buckets, options }
+        let slots = slots_for(patterns.len());
+        let keys = keys_of(patterns.as_slice(), slots);
+        let buckets = buckets_of(patterns.as_slice(), needs.as_slice(), keys.as_slice());
+        let keyed = Keyed::new(keys, slots);
+        let all = bucket_of_all(patterns.len());
+        PatternSet { patterns, needs, keyed, buckets, all, options }
     }
 
     /// [`new`](Self::new) of the patterns that are parsed from the texts, as from `*.o` and `target/**`.
@@ -85,57 +100,30 @@ impl PatternSet {
 
     /// The number of the first pattern that matches the text, or `None`: by `a*` and `*b`, 0 of `ab`, and 1 of `b`.
     pub fn first_match(&self, text: &str) -> Option<usize> {
-        let (numbers, bits) = self.numbers_for(text);
-        for number in numbers {
-            if self.matches_at(*number, text, bits) {
-                return Some(*number);
-            }
-        }
-        None
+        let mut found = Found::new();
+        let listed = self.listed_for(text, &mut found);
+        let bits = bits_for(text, listed, found.numbers());
+        let listed = self.first_of(listed, text, bits);
+        let found = self.first_of(found.numbers(), text, bits);
+        earlier(listed, found)
     }
 
     /// The number of the last pattern that matches the text, or `None`: by `a*` and `*b`, 1 of `ab`, and 0 of `a`.
     pub fn last_match(&self, text: &str) -> Option<usize> {
-        let (numbers, bits) = self.numbers_for(text);
-        let mut left = numbers.len();
-        while left > 0 {
-            left -= 1;
-            if self.matches_at(numbers[left], text, bits) {
-                return Some(numbers[left]);
-            }
-        }
-        None
+        let mut found = Found::new();
+        let listed = self.listed_for(text, &mut found);
+        let bits = bits_for(text, listed, found.numbers());
+        let listed = self.last_of(listed, text, bits);
+        let found = self.last_of(found.numbers(), text, bits);
+        later(listed, found)
     }
 
     /// Replaces the content of `numbers` by the numbers of all patterns that match the text, in ascending order: by
     /// `a*` and `*b`, 0 and 1 for `ab`, and none for `c`.
     pub fn matches_into(&self, text: &str, numbers: &mut Vec<usize>) {
-        numbers.clear();
-        let (asked, bits) = self.numbers_for(text);
-        for number in asked {
-            if self.matches_at(*number, text, bits) {
-                numbers.push(*number);
-            }
-        }
-    }
+        self.find_matches(text, numbers);
 
-    /// The numbers of the patterns that may match the text, and if there are some, its bits.
-    #[inline(always)]
-    fn numbers_for(&self, text: &str) -> (&[usize], u128) {
-        let bytes = text.as_bytes();
-        let numbers = self.buckets[text_class(bytes) as usize].numbers();
-        if numbers.is_empty() {
-            return (numbers, 0);
-        }
-        (numbers, text_bits(bytes))
-    }
-
-    /// Whether the pattern of this number matches the text of these bits.
-    #[inline(always)]
-    fn matches_at(&self, number: usize, text: &str, bits: u128) -> bool {
-        if self.needs[number].bits | bits != bits {
-            return false;
-        }
-        self.patterns[number].matches_with(text, self.options)
+        numbers.as_mut_slice().sort_unstable();
+        numbers.dedup();
     }
 }

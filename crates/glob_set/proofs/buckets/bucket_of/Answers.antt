@@ -1,30 +1,30 @@
 use Rattle.std.proofs.Common.{◌≡◌, length, subst, refl, sym, ap, ◌∙◌, arith}
 use Rattle.glob_set.specs.Private.Buckets.{IsBucket}
-use Rattle.glob_set.proofs.NeedLists.{Avoids-need}
 use Rattle.glob_set.proofs.BucketLemmas.{bucket_keeps, bucket_skips, bucket_start}
 use Rattle.glob_set.proofs.buckets.bucket_of.Goals as goal
-use Rattle.glob_set.proofs.buckets.bucket_of.Goals.{then-may_be_of+in_ok-push, else-may_be_of}
+use Rattle.glob_set.proofs.buckets.bucket_of.Goals.{then-is_listed+in_ok-push, else-is_listed}
 
 pub loop-number-init : goal.loop-number-init
-loop-number-init g c = subst (IsBucket c.args.patterns.now c.args.class 0) (sym c.new-numbers.ensures.items) (bucket_start _ _)
+loop-number-init g c = subst (IsBucket c.args.patterns.now c.args.keys.now c.args.class 0) (sym c.new-numbers.ensures.items) (bucket_start _ _ _)
 
 pub loop-number-preserved : goal.loop-number-preserved
 loop-number-preserved g c =
     let patterns = c.args.patterns.now in
+    let keys = c.args.keys.now in
     let class = c.args.class in
     let l = c.loop-number in
-    elim c.if-may_be_of.branch [
-      | then-may_be_of+in_ok-push w ↦
-          bucket_keeps patterns class l.number l.numbers.items c.if-may_be_of.numbers.items (ap (λ v. v.items) w.numbers-is ∙ w.in_ok-push.ensures.items) l.invariant
-      | else-may_be_of w ↦
-          subst (IsBucket patterns class _) (sym (ap (λ v. v.items) w.numbers-is))
-          (bucket_skips patterns class l.number l.numbers.items
-          (Avoids-need _ _ class (c.requires.each l.number _ (omega (arith, c.requires.same_length))) (w.if-may_be_of.ensures refl)) l.invariant)
+    elim c.if-is_listed.branch [
+      | then-is_listed+in_ok-push w ↦
+          bucket_keeps patterns keys class l.number l.numbers.items c.if-is_listed.numbers.items (ap (λ v. v.items) w.numbers-is ∙ w.in_ok-push.ensures.items) l.invariant
+      | else-is_listed w ↦
+          subst (IsBucket patterns keys class _) (sym (ap (λ v. v.items) w.numbers-is))
+          (bucket_skips patterns keys class l.number l.numbers.items _ (c.requires.needs.each l.number _ (omega (arith, c.requires.needs.same_length)))
+          (w.if-is_listed.ensures refl) l.invariant)
     ]
 
 pub returns : goal.returns
 returns g c =
     let patterns = c.args.patterns.now in
     let l = c.loop-number in
-    let end : l.number ≡ length patterns = omega (arith, c.requires.same_length) in
-    subst (λ n. IsBucket patterns c.args.class n l.numbers.items) end l.invariant
+    let end : l.number ≡ length patterns = omega (arith, c.requires.needs.same_length) in
+    subst (λ n. IsBucket patterns c.args.keys.now c.args.class n l.numbers.items) end l.invariant

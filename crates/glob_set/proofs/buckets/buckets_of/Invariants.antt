@@ -6,5 +6,5 @@ use Rattle.glob_set.proofs.buckets.buckets_of.Given as goal
 abbrev pub invariant-loop-class : goal.invariant-loop-class
 invariant-loop-class g l = record {
   as_many : length l.buckets.items ≡ l.class;
-  each : (k : ℕ) → k < l.class → IsBucket l.patterns k (length l.patterns) (get_or l.buckets.items k []);
+  each : (k : ℕ) → k < l.class → IsBucket l.patterns l.keys k (length l.patterns) (get_or l.buckets.items k []);
 }

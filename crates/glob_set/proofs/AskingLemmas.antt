@@ -1,0 +1,226 @@
+-- Patterns that are asked about a text in two lists, and what the lists answer together.
+use Rattle.std.proofs.Common.{◌≡◌, ℕ, ◌+◌, ◌<◌, ◌≤◌, ◌⊎◌, inl, inr, min, max, false, List, [], ◌∷◌, ◌++◌, length, get_or, Option, Some, None, IfSome, IsNone, IsTrue, Result, Ok, Err, OnOk, All, Contains, refl, sym, ap, subst, ◌∙◌, arith, ⊎_elim, below_more}
+use Rattle.std.proofs.lemmas.Bool.{cases_lt, false≢true}
+use Rattle.std.proofs.lemmas.List.{get_or_default}
+use Rattle.std.proofs.lemmas.List.Elements.{Contains-append_left, Contains-push, Contains-push_cases}
+use Rattle.std.specs.List.Sorted.{IsNonDecreasing}
+use Rattle.std.specs.Str.{IsUtf8}
+use Rattle.glob_text.specs.Text.{Text}
+use Rattle.glob_pattern.specs.declared.options.MatchOptions.{MatchOptions}
+use Rattle.glob_set.specs.Private.Asking.{AreAsked, AreMatches, IsFirstOf, IsLastOf, earlier, later}
+use Rattle.glob_set.specs.Private.Buckets.{Avoids, IsBucket, AreBuckets, IsAll}
+use Rattle.glob_set.specs.Private.Components.{start, text_keys, HasKey, AreKeys}
+use Rattle.glob_set.specs.Private.Keyed.{FoundNumbers, Finds}
+use Rattle.glob_set.specs.Private.Pairs.{text_class}
+use Rattle.glob_set.specs.Sets.{MatchesAt, AnyMatch, FirstMatch, LastMatch}
+
+module _ (o : MatchOptions) (patterns : List Text) (text : Text) where
+  -- the pattern of a number that is none does not match
+  within_patterns : (k : ℕ) → MatchesAt o patterns text k → k < length patterns
+  unfolding MatchesAt
+  within_patterns k at = at.0
+
+  -- a pattern with a key is found by it
+  found_by_key : IsUtf8 text → (keys : List (Option ℕ)) (found : FoundNumbers) → AreKeys patterns keys → Finds keys (text_keys start text) found
+      → (k : ℕ) → MatchesAt o patterns text k → IsNone (get_or keys k None) ⊎ (IsTrue found.is_full ⊎ Contains found.items k)
+  unfolding MatchesAt HasKey Finds
+  found_by_key utf8 keys found are finds k at = of (get_or keys k None) refl (are.each k at.0)
+    where
+      of : (key : Option ℕ) → get_or keys k None ≡ key → IfSome key (HasKey (get_or patterns k []))
+          → IsNone key ⊎ (IsTrue found.is_full ⊎ Contains found.items k)
+      of None is has = inl refl
+      of (Some key) is has = inr (finds k key (omega (arith, at.0, are.same_length)) is (has o text utf8 at.1))
+
+  -- one without a key is in the bucket
+  listed_without_key : IsUtf8 text → (keys : List (Option ℕ)) (numbers : List ℕ) → IsBucket patterns keys (text_class text) (length patterns) numbers
+      → (k : ℕ) → MatchesAt o patterns text k → IsNone (get_or keys k None) → Contains numbers k
+  unfolding MatchesAt Avoids
+  listed_without_key utf8 keys numbers bucket k at none =
+      ⊎_elim (λ has. has) (λ avoids. absurd (avoids o text utf8 refl at.1)) (bucket.all k at.0 none)
+
+  -- the numbers of a bucket, and those that are found
+  pub AreAsked-bucket : IsUtf8 text → (keys : List (Option ℕ)) (listed : List ℕ) (found : FoundNumbers) → AreKeys patterns keys
+      → IsBucket patterns keys (text_class text) (length patterns) listed → found.is_full ≡ false
+      → All (λ k. k < length keys) found.items → IsNonDecreasing found.items → Finds keys (text_keys start text) found
+      → AreAsked o patterns text listed found.items
+  AreAsked-bucket utf8 keys listed found are bucket room within order finds = record {
+    listed_within = bucket.within;
+    found_within = subst (λ n. All (λ k. k < n) found.items) are.same_length within;
+    listed_order = bucket.order;
+    found_order = order;
+    all = λ k at.
+        ⊎_elim (λ none. inl (listed_without_key utf8 keys listed bucket k at none))
+        (λ keyed. ⊎_elim (λ full. absurd (false≢true (sym room ∙ full))) (λ has. inr has) keyed)
+        (found_by_key utf8 keys found are finds k at);
+  }
+
+  -- all numbers
+  pub AreAsked-all : (keys : List (Option ℕ)) (listed : List ℕ) (found : List ℕ) → length keys ≡ length patterns → IsAll (length patterns) listed
+      → All (λ k. k < length keys) found → IsNonDecreasing found → AreAsked o patterns text listed found
+  AreAsked-all keys listed found same all within order = record {
+    listed_within = all.within;
+    found_within = subst (λ n. All (λ k. k < n) found) same within;
+    listed_order = all.order;
+    found_order = order;
+    all = λ k at. inl (all.all k (within_patterns k at));
+  }
+
+  -- none of the numbers before a place of the list is that of a match
+  abbrev pub NoneBefore : (numbers : List ℕ) → ℕ → Type 0
+  NoneBefore numbers n = (j : ℕ) → j < n → ¬ (MatchesAt o patterns text (get_or numbers j 0))
+
+  -- none of those from a place on
+  abbrev pub NoneAfter : (numbers : List ℕ) → ℕ → Type 0
+  NoneAfter numbers n = (j : ℕ) → n ≤ j → j < length numbers → ¬ (MatchesAt o patterns text (get_or numbers j 0))
+
+  none_of : (numbers : List ℕ) → ((j : ℕ) → j < length numbers → ¬ (MatchesAt o patterns text (get_or numbers j 0)))
+      → (k : ℕ) → Contains numbers k → ¬ (MatchesAt o patterns text k)
+  none_of numbers none k (j, below, is) at =
+      none j below (subst (MatchesAt o patterns text) (sym (sym (get_or_default numbers j k 0 below) ∙ is)) at)
+
+  pub IsFirstOf-none : (numbers : List ℕ) → NoneBefore numbers (length numbers) → IsFirstOf o patterns text numbers None
+  unfolding IsFirstOf
+  IsFirstOf-none numbers none = none_of numbers none
+
+  pub IsLastOf-none : (numbers : List ℕ) → NoneAfter numbers 0 → IsLastOf o patterns text numbers None
+  unfolding IsLastOf
+  IsLastOf-none numbers none = none_of numbers (λ j below. none j (omega arith) below)
+
+  pub IsFirstOf-at : (numbers : List ℕ) (i : ℕ) → IsNonDecreasing numbers → i < length numbers → NoneBefore numbers i
+      → MatchesAt o patterns text (get_or numbers i 0) → IsFirstOf o patterns text numbers (Some (get_or numbers i 0))
+  unfolding IsFirstOf
+  IsFirstOf-at numbers i order below none at = (
+    at,
+    λ k (j, within, is) under here.
+        let same : get_or numbers j 0 ≡ k = sym (get_or_default numbers j k 0 within) ∙ is in
+        ⊎_elim
+        (λ before. none j before (subst (MatchesAt o patterns text) (sym same) here))
+        (λ from. absurd (omega (arith, under, same, order i j 0 from within)))
+        (cases_lt j i),
+  )
+
+  pub IsLastOf-at : (numbers : List ℕ) (i : ℕ) → IsNonDecreasing numbers → i < length numbers → NoneAfter numbers (i + 1)
+      → MatchesAt o patterns text (get_or numbers i 0) → IsLastOf o patterns text numbers (Some (get_or numbers i 0))
+  unfolding IsLastOf
+  IsLastOf-at numbers i order below none at = (
+    at,
+    λ k (j, within, is) above here.
+        let same : get_or numbers j 0 ≡ k = sym (get_or_default numbers j k 0 within) ∙ is in
+        ⊎_elim
+        (λ upto. absurd (omega (arith, above, same, order j i 0 (omega (arith, upto)) below)))
+        (λ past. none j past within (subst (MatchesAt o patterns text) (sym same) here))
+        (cases_lt j (i + 1)),
+  )
+
+  module _ (listed found : List ℕ) (asked : AreAsked o patterns text listed found) where
+    -- a number that is lower than what both lists have answered
+    pub FirstMatch-of : (one other : Option ℕ) → IsFirstOf o patterns text listed one → IsFirstOf o patterns text found other
+        → FirstMatch o patterns text (earlier one other)
+    unfolding IsFirstOf FirstMatch AnyMatch
+    FirstMatch-of None None first second = λ any. ⊎_elim (λ has. first any.0 has any.1) (λ has. second any.0 has any.1) (asked.all any.0 any.1)
+    FirstMatch-of (Some m) None first second = (
+      first.0,
+      λ k below at. ⊎_elim (λ has. first.1 k has below at) (λ has. second k has at) (asked.all k at),
+    )
+    FirstMatch-of None (Some n) first second = (
+      second.0,
+      λ k below at. ⊎_elim (λ has. first k has at) (λ has. second.1 k has below at) (asked.all k at),
+    )
+    FirstMatch-of (Some m) (Some n) first second = (
+      ⊎_elim
+          (λ less. subst (MatchesAt o patterns text) (let e : m ≡ min m n = omega (arith, less) in e) first.0)
+          (λ more. subst (MatchesAt o patterns text) (let e : n ≡ min m n = omega (arith, more) in e) second.0)
+          (cases_lt m n),
+      λ k below at. ⊎_elim (λ has. first.1 k has (omega (arith, below)) at) (λ has. second.1 k has (omega (arith, below)) at) (asked.all k at),
+    )
+
+    pub LastMatch-of : (one other : Option ℕ) → IsLastOf o patterns text listed one → IsLastOf o patterns text found other
+        → LastMatch o patterns text (later one other)
+    unfolding IsLastOf LastMatch AnyMatch
+    LastMatch-of None None first second = λ any. ⊎_elim (λ has. first any.0 has any.1) (λ has. second any.0 has any.1) (asked.all any.0 any.1)
+    LastMatch-of (Some m) None first second = (
+      first.0,
+      λ k above at. ⊎_elim (λ has. first.1 k has above at) (λ has. second k has at) (asked.all k at),
+    )
+    LastMatch-of None (Some n) first second = (
+      second.0,
+      λ k above at. ⊎_elim (λ has. first k has at) (λ has. second.1 k has above at) (asked.all k at),
+    )
+    LastMatch-of (Some m) (Some n) first second = (
+      ⊎_elim
+          (λ less. subst (MatchesAt o patterns text) (let e : n ≡ max m n = omega (arith, less) in e) second.0)
+          (λ more. subst (MatchesAt o patterns text) (let e : m ≡ max m n = omega (arith, more) in e) first.0)
+          (cases_lt m n),
+      λ k above at. ⊎_elim (λ has. first.1 k has (omega (arith, above)) at) (λ has. second.1 k has (omega (arith, above)) at) (asked.all k at),
+    )
+
+    -- the numbers of the matches, after both lists
+    pub AreMatches-of : (first second : List ℕ)
+        → ((k : ℕ) → Contains first k → MatchesAt o patterns text k)
+        → ((k : ℕ) → Contains listed k → MatchesAt o patterns text k → Contains first k)
+        → ((k : ℕ) → Contains second k → Contains first k ⊎ MatchesAt o patterns text k) → ((k : ℕ) → Contains first k → Contains second k)
+        → ((k : ℕ) → Contains found k → MatchesAt o patterns text k → Contains second k) → AreMatches o patterns text second
+    unfolding AreMatches
+    AreMatches-of first second only all_first more kept all_second = (
+      λ k has. ⊎_elim (only k) (λ at. at) (more k has),
+      λ k at. ⊎_elim (λ has. kept k (all_first k has at)) (λ has. all_second k has at) (asked.all k at),
+    )
+
+-- what follows from what a call ensures where it succeeds
+pub OnOk-follow : {T E : Type 0} (r : Result T E) (P Q : Type 0) → (P → Q) → OnOk r P → OnOk r Q
+OnOk-follow (Ok x) P Q follows known = follows known
+OnOk-follow (Err e) P Q follows known = tt
+
+-- The numbers with those that were there before, and of the first ones of a list those of the matches.
+pub record PushedSoFar (o : MatchOptions) (patterns : List Text) (text : Text) (before asked : List ℕ) (count : ℕ) (numbers : List ℕ) : Type 0 where
+  pub only : (k : ℕ) → Contains numbers k → Contains before k ⊎ MatchesAt o patterns text k
+  pub kept : (k : ℕ) → Contains before k → Contains numbers k
+  pub all : (j : ℕ) → j < count → MatchesAt o patterns text (get_or asked j 0) → Contains numbers (get_or asked j 0)
+
+module _ (o : MatchOptions) (patterns : List Text) (text : Text) (before asked : List ℕ) where
+  pub PushedSoFar-start : PushedSoFar o patterns text before asked 0 before
+  PushedSoFar-start = record {
+    only = λ k has. inl has;
+    kept = λ k has. has;
+    all = λ j below. absurd (omega (arith, below));
+  }
+
+  pub PushedSoFar-yes : (i : ℕ) (numbers new : List ℕ) → MatchesAt o patterns text (get_or asked i 0) → new ≡ numbers ++ get_or asked i 0 ∷ []
+      → PushedSoFar o patterns text before asked i numbers → PushedSoFar o patterns text before asked (i + 1) new
+  PushedSoFar-yes i numbers new at is so_far =
+      let n = get_or asked i 0 in
+      subst (PushedSoFar o patterns text before asked (i + 1)) (sym is) (record {
+        only = λ k has. ⊎_elim (so_far.only k) (λ same. inr (subst (MatchesAt o patterns text) same at)) (Contains-push_cases numbers n k has);
+        kept = λ k has. Contains-append_left numbers (n ∷ []) k (so_far.kept k has);
+        all = below_more (λ j. MatchesAt o patterns text (get_or asked j 0) → Contains (numbers ++ n ∷ []) (get_or asked j 0)) i
+            (λ j below here. Contains-append_left numbers (n ∷ []) (get_or asked j 0) (so_far.all j below here)) (λ _. Contains-push numbers n);
+      })
+
+  pub PushedSoFar-no : (i : ℕ) (numbers : List ℕ) → ¬ (MatchesAt o patterns text (get_or asked i 0))
+      → PushedSoFar o patterns text before asked i numbers → PushedSoFar o patterns text before asked (i + 1) numbers
+  PushedSoFar-no i numbers not so_far = record {
+    only = so_far.only;
+    kept = so_far.kept;
+    all = below_more (λ j. MatchesAt o patterns text (get_or asked j 0) → Contains numbers (get_or asked j 0)) i so_far.all (λ at. absurd (not at));
+  }
+
+  pub PushedSoFar-end : (count : ℕ) (numbers : List ℕ) → length asked ≤ count → PushedSoFar o patterns text before asked count numbers
+      → (k : ℕ) → Contains asked k → MatchesAt o patterns text k → Contains numbers k
+  PushedSoFar-end count numbers end so_far k (j, below, is) at =
+      let same : get_or asked j 0 ≡ k = sym (get_or_default asked j k 0 below) ∙ is in
+      subst (Contains numbers) same (so_far.all j (omega (arith, below, end)) (subst (MatchesAt o patterns text) (sym same) at))
+
+-- none are there in an empty list
+pub only_matches : (P : ℕ → Type 0) (before numbers : List ℕ) → before ≡ [] → ((k : ℕ) → Contains numbers k → Contains before k ⊎ P k)
+    → (k : ℕ) → Contains numbers k → P k
+only_matches P before numbers none only k has =
+    ⊎_elim (λ (j, below, is). absurd (omega (arith, below, ap length none))) (λ at. at) (only k has)
+
+-- the bucket of a text
+pub bucket_for : (patterns : List Text) (keys : List (Option ℕ)) (buckets : List (List ℕ)) (class : ℕ) (text : Text) (bucket : List ℕ)
+    → AreBuckets patterns keys buckets → class < 128 → class ≡ text_class text → bucket ≡ get_or buckets class bucket
+    → IsBucket patterns keys (text_class text) (length patterns) bucket
+bucket_for patterns keys buckets class text bucket are small of is =
+    subst (λ c. IsBucket patterns keys c (length patterns) bucket) of
+    (subst (IsBucket patterns keys class (length patterns))
+    (sym (is ∙ get_or_default buckets class bucket [] (omega (arith, small, are.as_many)))) (are.each class small))

@@ -1,0 +1,51 @@
+-- The patterns that have a key by which a text is looked up.
+use Rattle.std.specs.Prelude.{◌≡◌, ◌≢◌, ℕ, ◌+◌, ◌-◌, ◌<◌, ◌≤◌, ◌⊎◌, Bool, true, ◌==◌, cond, List, [], ◌∷◌, ◌++◌, length, slice_index, slice_index_or, Option, Some, None, IsTrue, Contains}
+use Rattle.std.specs.List.{list_any}
+use Rattle.glob_set.specs.Private.Components.{slot_of}
+
+-- numbers, and whether one more had no room
+pub record FoundNumbers : Type 0 where
+  pub items : List ℕ
+  pub is_full : Bool
+
+-- the numbers with one more, unless it is there or has no room
+abbrev pub pushed : FoundNumbers → ℕ → FoundNumbers
+pushed found number =
+    cond (list_any (λ y. y == number) found.items) found
+    (cond (length found.items == 16)
+    (record { items = found.items; is_full = true })
+    (record { items = found.items ++ number ∷ []; is_full = found.is_full }))
+
+-- the number is there, or one had no room
+abbrev pub Keeps : FoundNumbers → ℕ → Type 0
+Keeps found number = IsTrue found.is_full ⊎ Contains found.items number
+
+-- each number that is in the first is in the second
+unfoldable pub KeepsAll : (old new : FoundNumbers) → Type 0
+KeepsAll old new = (number : ℕ) → Keeps old number → Keeps new number
+
+-- each pattern that has one of the keys is there
+unfoldable pub Finds : (keys : List (Option ℕ)) → (asked : List ℕ) → FoundNumbers → Type 0
+Finds keys asked found =
+    (number key : ℕ) → number < length keys → slice_index_or keys number None ≡ Some key → Contains asked key
+    → Keeps found number
+
+-- the slot of a key in a table of so many, or that of patterns without one
+abbrev pub key_slot : (key : Option ℕ) → (slots : ℕ) → ℕ
+key_slot (Some key) slots = slot_of key slots
+key_slot None slots = slots
+
+-- the first pattern in a slot from a number on is this one, or there is none
+pub record IsNext (keys : List (Option ℕ)) (slots slot from next : ℕ) : Type 0 where
+  pub after : from ≤ next
+  pub within : next ≤ length keys
+  pub here : next < length keys → key_slot (slice_index_or keys next None) slots ≡ slot
+  pub between : (k : ℕ) → from ≤ k → k < next → key_slot (slice_index_or keys k None) slots ≢ slot
+
+-- each slot leads to its first pattern, and each pattern to the next in its slot
+pub record AreLinked (keys : List (Option ℕ)) (firsts nexts : List ℕ) : Type 0 where
+  pub some : 1 < length firsts
+  pub as_many : length nexts ≡ length keys
+  pub first : (slot : ℕ) → slot < length firsts → IsNext keys (length firsts - 1) slot 0 (slice_index firsts slot)
+  pub each : (k : ℕ) → k < length keys
+      → IsNext keys (length firsts - 1) (key_slot (slice_index_or keys k None) (length firsts - 1)) (k + 1) (slice_index nexts k)

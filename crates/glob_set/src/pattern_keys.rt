@@ -1,0 +1,211 @@
+//! The keys of patterns: what each text has that they match, by which few patterns are found for a text.
+ghost use Rattle.std.specs.Prelude.{◌≡◌, ◌+◌, ◌<◌, length, chars, All, Contains, IfOk, IfSome, IsTrue, OnOk};
+ghost use Rattle.glob_text.specs.Characters.{slash};
+ghost use Rattle.glob_pattern.specs.Computing.Tokens.{tokens_of};
+ghost use Rattle.glob_pattern.specs.Matching.Literals.{HasLiteral};
+ghost use Rattle.glob_set.specs.Private.Components.{HasKey, IsInnerRecursive, IsReadAt, AreKeys};
+
+use crate::components::{Component, slot_of};
+use crate::needs::byte_at;
+use glob_pattern::{Pattern, TokenKind, token_kind, tokens_len};
+use std::alloc::{AllocError, Allocator};
+
+/// How many patterns have keys at least, if any does: fewer are asked faster than keys are looked up.
+const MANY: usize = 64;
+
+/// How many keys of patterns a slot has at least whose keys are not rare.
+const COMMON: u8 = 12;
+
+/// For each of the patterns its rarest key, if that is rare, as that of `mod17` for `src/mod17/*.rs`. If few patterns
+/// have one, none has.
+pub fn keys_of<A: Allocator + Copy>(
+    alloc: A,
+    patterns: &[Pattern<A>],
+    slots: usize,
+) -> Result<Vec<Option<u32>, A>, AllocError>
+    requires { 0 < slots }
+    ensures { IfOk result (λ keys. AreKeys patterns.now keys.items) }
+{
+    if patterns.len() < MANY {
+        return no_keys(alloc, patterns);
+    }
+    let counts = counts_of(alloc, patterns, slots)?;
+    let mut found = Vec::new(alloc);
+    let mut keys = Vec::new(alloc);
+    for pattern in patterns {
+        find_keys(pattern, &mut found)?;
+        keys.push(rarest(found.as_slice(), counts.as_slice()))?;
+    }
+    if count_some(keys.as_slice()) < MANY {
+        return no_keys(alloc, patterns);
+    }
+    Ok(keys)
+}
+
+/// No key for any of the patterns.
+fn no_keys<A: Allocator + Copy>(
+    alloc: A,
+    patterns: &[Pattern<A>],
+) -> Result<Vec<Option<u32>, A>, AllocError>
+    ensures { IfOk result (λ keys. AreKeys patterns.now keys.items) }
+{
+    vec![in alloc; None; patterns.len()]
+}
+
+/// How many keys there are.
+fn count_some(keys: &[Option<u32>]) -> usize {
+    let mut count = 0;
+    for key in keys {
+        if key.is_some() {
+            count += 1;
+        }
+    }
+    count
+}
+
+/// For each slot how many keys of patterns are in it, 255 at most.
+fn counts_of<A: Allocator + Copy>(
+    alloc: A,
+    patterns: &[Pattern<A>],
+    slots: usize,
+) -> Result<Vec<u8, A>, AllocError>
+    requires { 0 < slots }
+    ensures { IfOk result (λ counts. length counts.items ≡ slots) }
+{
+    let mut counts = vec![in alloc; 0; slots]?;
+    let mut keys = Vec::new(alloc);
+    for pattern in patterns {
+        find_keys(pattern, &mut keys)?;
+        count_keys(keys.as_slice(), counts.as_mut_slice());
+    }
+    Ok(counts)
+}
+
+/// Counts each of the keys in its slot.
+fn count_keys(keys: &[u32], counts: &mut [u8])
+    requires { 0 < length counts.old }
+    ensures { length counts.new ≡ length counts.old }
+{
+    for key in keys {
+        let slot = slot_of(*key, counts.len());
+        counts[slot] = counts[slot].saturating_add(1);
+    }
+}
+
+/// The key with the fewest in its slot, if they are few.
+fn rarest(keys: &[u32], counts: &[u8]) -> Option<u32>
+    requires { 0 < length counts.now }
+    ensures { IfSome result (Contains keys.now) }
+{
+    let mut rarest = None;
+    let mut least = COMMON;
+    for key in keys {
+        let count = counts[slot_of(*key, counts.len())];
+        if count < least {
+            rarest = Some(*key);
+            least = count;
+        }
+    }
+    rarest
+}
+
+/// Replaces the content of `keys` by the keys of the pattern: each component without wildcards, and each beginning of a
+/// component that is as long as a head.
+fn find_keys<A: Allocator>(pattern: &Pattern<A>, keys: &mut Vec<u32, A>) -> Result<(), AllocError>
+    ensures { OnOk result (All (HasKey pattern.now) keys.new.items) }
+{
+    keys.clear();
+    let mut component = Some(Component::start());
+    for token in 0..tokens_len(pattern) {
+        push_key(pattern, token, component, keys)?;
+        component = read_token(pattern, token, component);
+    }
+    if let Some(last) = component {
+        keys.push(last.hash)?;
+    }
+    Ok(())
+}
+
+/// Adds the key before the token of this number, if there is one.
+fn push_key<A: Allocator>(
+    pattern: &Pattern<A>,
+    token: usize,
+    component: Option<Component>,
+    keys: &mut Vec<u32, A>,
+) -> Result<(), AllocError>
+    requires component { IfSome component (IsReadAt pattern.now token) }
+    requires keys { All (HasKey pattern.now) keys.old.items }
+    ensures { OnOk result (All (HasKey pattern.now) keys.new.items) }
+{
+    if let Some(key) = key_before(pattern, token, component) {
+        keys.push(key)?;
+    }
+    Ok(())
+}
+
+/// The key before the token of this number, where a component has been read.
+fn key_before<A: Allocator>(
+    pattern: &Pattern<A>,
+    token: usize,
+    component: Option<Component>,
+) -> Option<u32>
+    requires { IfSome component (IsReadAt pattern.now token) }
+    ensures { IfSome result (HasKey pattern.now) }
+{
+    let component = component?;
+    if component.is_head() || is_separator(pattern, token) {
+        return Some(component.hash);
+    }
+    None
+}
+
+/// The component after the token of this number, if it is known.
+fn read_token<A: Allocator>(
+    pattern: &Pattern<A>,
+    token: usize,
+    component: Option<Component>,
+) -> Option<Component>
+    requires token { token < length (tokens_of (chars pattern.now)) }
+    requires component { IfSome component (IsReadAt pattern.now token) }
+    ensures { IfSome result (IsReadAt pattern.now (token + 1)) }
+{
+    if is_separator(pattern, token) {
+        return Some(Component::start());
+    }
+    let component = component?;
+    match byte_at(pattern, token) {
+        Some(byte) => Some(component.after(byte)),
+        None => read_wildcard(pattern, token, component),
+    }
+}
+
+/// Whether the token of this number is `/`.
+fn is_separator<A: Allocator>(pattern: &Pattern<A>, token: usize) -> bool
+    ensures { IsTrue result → HasLiteral (chars pattern.now) token slash }
+{
+    matches!(byte_at(pattern, token), Some(b'/'))
+}
+
+/// The component after the wildcard of this number, if it is known: after `**` one of which nothing has been read.
+fn read_wildcard<A: Allocator>(
+    pattern: &Pattern<A>,
+    token: usize,
+    component: Component,
+) -> Option<Component>
+    requires token { token < length (tokens_of (chars pattern.now)) }
+    requires component { IsReadAt pattern.now token component }
+    ensures { IfSome result (IsReadAt pattern.now (token + 1)) }
+{
+    if component.hash == 0 && component.len == 0 && is_inner_recursive(pattern, token) {
+        return Some(component);
+    }
+    None
+}
+
+/// Whether the token of this number is `**`, and not the last one.
+fn is_inner_recursive<A: Allocator>(pattern: &Pattern<A>, token: usize) -> bool
+    requires { token < length (tokens_of (chars pattern.now)) }
+    ensures { IsTrue result → IsInnerRecursive (chars pattern.now) token }
+{
+    token < tokens_len(pattern) - 1 && matches!(token_kind(pattern, token), TokenKind::Recursive)
+}

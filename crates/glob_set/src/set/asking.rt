@@ -1,0 +1,181 @@
+//! Asking the patterns of a set that may match a text.
+ghost use Rattle.std.specs.Prelude.{◌≡◌, ℕ, [], ◌<◌, false, ◌⊎◌, ◌↔◌, length, All, Contains, IsTrue, IsOk, IfOk, OnOk};
+ghost use Rattle.std.specs.List.Sorted.{IsNonDecreasing};
+ghost use Rattle.glob_set.specs.Private.Asking.{AreAsked, AreMatches, IsFirstOf, IsLastOf, earlier, later};
+ghost use Rattle.glob_set.specs.Private.Pairs.{text_bits};
+ghost use Rattle.glob_set.specs.Sets.{AreShort, MatchesAt};
+
+use crate::found::Found;
+use crate::pairs::{text_bits, text_class};
+use crate::set::PatternSet;
+use std::alloc::{AllocError, Allocator};
+
+impl<A: Allocator + Copy> PatternSet<A> {
+    /// The numbers of the patterns without a key that may match the text. Those of the others go into `found`; if it
+    /// has no room for them, all patterns are listed.
+    #[inline(always)]
+    pub(crate) fn listed_for(&self, text: &str, found: &mut Found) -> &[usize]
+        requires { found.old ≡ record { items = []; is_full = false } }
+        ensures { AreAsked self.now.options self.now.patterns text.now result.now found.new.items }
+    {
+        let bytes = text.as_bytes();
+        self.keyed.find_in(bytes, found);
+        if found.is_full() {
+            return self.all.numbers();
+        }
+        self.buckets[text_class(bytes) as usize].numbers()
+    }
+
+    /// The first of the numbers whose pattern matches the text.
+    #[inline(always)]
+    pub(crate) fn first_of(
+        &self,
+        numbers: &[usize],
+        text: &str,
+        bits: u128,
+    ) -> Result<Option<usize>, AllocError>
+        requires within { All (λ k. k < length self.now.patterns) numbers.now }
+        requires order { IsNonDecreasing numbers.now }
+        requires bits { 0 < length numbers.now → bits ≡ text_bits text.now }
+        ensures answer { IfOk result
+            (IsFirstOf self.now.options self.now.patterns text.now numbers.now) }
+        ensures short { AreShort self.now.patterns → IsOk result }
+    {
+        for number in numbers {
+            if self.matches_at(*number, text, bits)? {
+                return Ok(Some(*number));
+            }
+        }
+        Ok(None)
+    }
+
+    /// The last of the numbers whose pattern matches the text.
+    #[inline(always)]
+    pub(crate) fn last_of(
+        &self,
+        numbers: &[usize],
+        text: &str,
+        bits: u128,
+    ) -> Result<Option<usize>, AllocError>
+        requires within { All (λ k. k < length self.now.patterns) numbers.now }
+        requires order { IsNonDecreasing numbers.now }
+        requires bits { 0 < length numbers.now → bits ≡ text_bits text.now }
+        ensures answer { IfOk result
+            (IsLastOf self.now.options self.now.patterns text.now numbers.now) }
+        ensures short { AreShort self.now.patterns → IsOk result }
+    {
+        let mut left = numbers.len();
+        while left > 0 {
+            left -= 1;
+            if self.matches_at(numbers[left], text, bits)? {
+                return Ok(Some(numbers[left]));
+            }
+        }
+        Ok(None)
+    }
+
+    /// Replaces the content of `numbers` by the numbers of all patterns that match the text, in any order.
+    pub(crate) fn find_matches<B: Allocator>(
+        &self,
+        text: &str,
+        numbers: &mut Vec<usize, B>,
+    ) -> Result<(), AllocError>
+        ensures { OnOk result
+            (AreMatches self.now.options self.now.patterns text.now numbers.new.items) }
+    {
+        numbers.clear();
+        self.push_matches(text, numbers)
+    }
+
+    /// Adds the numbers of all patterns that match the text, in any order.
+    fn push_matches<B: Allocator>(
+        &self,
+        text: &str,
+        numbers: &mut Vec<usize, B>,
+    ) -> Result<(), AllocError>
+        requires { numbers.old.items ≡ [] }
+        ensures { OnOk result
+            (AreMatches self.now.options self.now.patterns text.now numbers.new.items) }
+    {
+        let mut found = Found::new();
+        let listed = self.listed_for(text, &mut found);
+        let bits = bits_for(text, listed, found.numbers());
+        self.push_of(listed, text, bits, numbers)?;
+        self.push_of(found.numbers(), text, bits, numbers)
+    }
+
+    /// Adds those of the numbers whose patterns match the text.
+    fn push_of<B: Allocator>(
+        &self,
+        asked: &[usize],
+        text: &str,
+        bits: u128,
+        numbers: &mut Vec<usize, B>,
+    ) -> Result<(), AllocError>
+        requires within { All (λ k. k < length self.now.patterns) asked.now }
+        requires bits { 0 < length asked.now → bits ≡ text_bits text.now }
+        ensures only { (k : ℕ) → Contains numbers.new.items k
+            → Contains numbers.old.items k
+            ⊎ MatchesAt self.now.options self.now.patterns text.now k }
+        ensures kept { (k : ℕ) → Contains numbers.old.items k → Contains numbers.new.items k }
+        ensures all { OnOk result ((k : ℕ) → Contains asked.now k
+            → MatchesAt self.now.options self.now.patterns text.now k
+            → Contains numbers.new.items k) }
+    {
+        for number in asked {
+            if self.matches_at(*number, text, bits)? {
+                numbers.push(*number)?;
+            }
+        }
+        Ok(())
+    }
+
+    /// Whether the pattern of this number matches the text of these bits.
+    #[inline(always)]
+    fn matches_at(&self, number: usize, text: &str, bits: u128) -> Result<bool, AllocError>
+        requires number { number < length self.now.patterns }
+        requires bits { bits ≡ text_bits text.now }
+        ensures answer { IfOk result (λ yes. IsTrue yes
+            ↔ MatchesAt self.now.options self.now.patterns text.now number) }
+        ensures short { AreShort self.now.patterns → IsOk result }
+    {
+        if self.needs[number].bits | bits != bits {
+            return Ok(false);
+        }
+        self.patterns[number].matches_with(text, self.options)
+    }
+}
+
+/// The bits of the text, if patterns of any numbers are asked about it.
+#[inline(always)]
+pub(crate) fn bits_for(text: &str, listed: &[usize], found: &[usize]) -> u128
+    ensures listed { 0 < length listed.now → result ≡ text_bits text.now }
+    ensures found { 0 < length found.now → result ≡ text_bits text.now }
+{
+    if listed.is_empty() && found.is_empty() {
+        return 0;
+    }
+    text_bits(text.as_bytes())
+}
+
+/// The lower of two numbers, or the one that there is.
+pub(crate) fn earlier(one: Option<usize>, other: Option<usize>) -> Option<usize>
+    ensures { result ≡ earlier one other }
+{
+    match (one, other) {
+        (Some(one), Some(other)) => Some(one.min(other)),
+        (one, None) => one,
+        (None, other) => other,
+    }
+}
+
+/// The higher of two numbers, or the one that there is.
+pub(crate) fn later(one: Option<usize>, other: Option<usize>) -> Option<usize>
+    ensures { result ≡ later one other }
+{
+    match (one, other) {
+        (Some(one), Some(other)) => Some(one.max(other)),
+        (one, None) => one,
+        (None, other) => other,
+    }
+}

@@ -1,0 +1,51 @@
+//! Made by `bin/rust_crate` from `crates/glob_set/src/components.rt`.
+//! Contracts are there, and their proofs in `crates/glob_set/proofs`; it is changed there alone.
+//!
+//! Components of texts, and what they are looked up by.
+
+/// How many bytes the head of a component has, by which it is looked up besides.
+const HEAD: u8 = 4;
+
+/// A component as far as it has been read: a hash of its bytes, the same in upper and in lower case, and how many of
+/// them there are, 255 at most.
+#[derive(Clone, Copy)]
+pub struct Component {
+    pub hash: u32,
+    pub len: u8,
+}
+
+impl Component {
+    /// A component of which nothing has been read.
+    #[inline(always)]
+    pub fn start() -> Component {
+        Component { hash: 0, len: 0 }
+    }
+
+    /// The component with one byte more, or after `/` the next one.
+    #[inline(always)]
+    pub fn after(self, byte: u8) -> Component {
+        if byte == b'/' {
+            return Component::start();
+        }
+        let hash = (u64::from(self.hash) * 33 + u64::from(byte % 32)) % (1 << 32);
+        Component { hash: hash as u32, len: self.len.saturating_add(1) }
+    }
+
+    /// Whether a head has been read.
+    #[inline(always)]
+    pub fn is_head(self) -> bool {
+        self.len == HEAD
+    }
+
+    /// Whether texts are looked up by what has been read, before this byte: all of a component, or its head.
+    #[inline(always)]
+    pub fn is_asked(self, byte: u8) -> bool {
+        byte == b'/' || self.is_head()
+    }
+}
+
+/// The slot of a hash in a table of so many.
+#[inline(always)]
+pub fn slot_of(hash: u32, slots: usize) -> usize {
+    hash as usize & (slots - 1)
+}
