@@ -1,6 +1,6 @@
 //! Every public name of `glob` 0.3.4, with its traits. Release 0.3.0 lacks some.
 
-use std::collections::HashSet;
+use std::collections::{HashMap, HashSet};
 use std::error::Error;
 use std::fmt::{Debug, Display};
 use std::hash::Hash;
@@ -92,6 +92,17 @@ fn copies_and_threads() {
         }
         assert!(wanted[0].contains(&true) && seen.insert(wanted[0].clone()));
     }
+}
+
+/// A pattern is a key that nothing changes: clippy would say so of one with interior mutability.
+#[test]
+fn patterns_are_keys() {
+    let mut counts: HashMap<Pattern, u8> = HashMap::new();
+    let pattern = Pattern::new("*a*").unwrap();
+    *counts.entry(pattern.clone()).or_default() += 1;
+    assert!(pattern.matches("bab"));
+    *counts.entry(pattern.clone()).or_default() += 1;
+    assert_eq!(counts.get(&pattern), Some(&2));
 }
 
 #[test]
