@@ -164,23 +164,21 @@ impl<A: Allocator> Listed<A> {
 }
 
 impl Rows<'_> {
-    /// Which of the word's tokens take the character. `opening`: a component starts at its place.
+    /// Which of the word's tokens take the characters of the class.
     #[inline(always)]
-    pub fn taking(self, word: usize, options: MatchOptions, opening: bool, c: char) -> u64
+    pub fn taking(self, word: usize, class: usize) -> u64
         requires row { (2 * word + self.half) * self.columns + self.columns
             ≤ length self.masks.now }
-        requires columns { self.columns ≡ columns_of (partition_of self.classes) }
-        requires partition { IsPartition (partition_of self.classes) }
+        requires class { class < self.columns }
         ensures { result ≡ mask_at self.entry.masks.now
-            ((2 * word + self.entry.half) * self.entry.columns
-            + class_of (partition_of self.entry.classes) options opening c) }
+            ((2 * word + self.entry.half) * self.entry.columns + class) }
     {
-        self.masks[(2 * word + self.half) * self.columns + self.class_of(options, opening, c)]
+        self.masks[(2 * word + self.half) * self.columns + class]
     }
 
     /// The class of a character. `opening`: a component starts at its place.
     #[inline(always)]
-    fn class_of(self, options: MatchOptions, opening: bool, c: char) -> usize
+    pub fn class_of(self, options: MatchOptions, opening: bool, c: char) -> usize
         requires { IsPartition (partition_of self.classes) }
         ensures { result ≡ class_of (partition_of self.entry.classes) options opening c }
     {

@@ -1,7 +1,9 @@
 //! A judge that asks all tokens of a word at once.
-ghost use Rattle.std.specs.Prelude.{◌≡◌, ◌*◌, ◌<◌, ◌≤◌, length, take, chars};
+ghost use Rattle.glob_text.specs.Characters.{slash};
+ghost use Rattle.glob_pattern.specs.Private.Classes.{partition_of};
+ghost use Rattle.std.specs.Prelude.{◌≡◌, ◌*◌, ◌<◌, ◌≤◌, ◌==◌, length, take, chars};
 ghost use Rattle.std.specs.Str.Iter.{chars_rest};
-ghost use Rattle.glob_pattern.specs.Private.CharMasks.{AreCharMasks, AreRowsOf};
+ghost use Rattle.glob_pattern.specs.Private.CharMasks.{AreCharMasks, AreRowsOf, class_of};
 ghost use Rattle.glob_pattern.specs.Private.Stepping.{place_before};
 ghost use Rattle.glob_pattern.specs.Private.TextTable.{table_within, table_before};
 
@@ -19,8 +21,12 @@ pub struct MaskJudge<'a, A: Allocator> {
     end: usize,
     // how many words the masks have
     words: usize,
+    // the class of the character last stepped over
+    class: usize,
     ghost enough: { length judge.tokens.now ≤ 63 * words },
     ghost masked: { AreRowsOf (take end judge.tokens.now) words judge.options.case_sensitive rows },
+    ghost classed: { class ≡ class_of (partition_of rows.classes) judge.options
+        (judge.before == slash) judge.current },
 }
 
 impl<'a, A: Allocator> MaskJudge<'a, A> {
@@ -33,11 +39,13 @@ impl<'a, A: Allocator> MaskJudge<'a, A> {
         ensures end { result.end ≡ end }
     {
         let rows = masks.rows(judge.options.case_sensitive);
+        let class = rows.class_of(judge.options, judge.before == '/', judge.current);
         MaskJudge {
             judge,
             rows,
             end,
             words,
+            class,
         }
     }
 }
@@ -53,7 +61,12 @@ impl<A: Allocator> Judge for MaskJudge<'_, A> {
 
     #[inline(always)]
     fn step(&mut self) -> bool {
-        self.judge.advance()
+        let stepped = self.judge.advance();
+        let judge = &self.judge;
+        self.class = self
+            .rows
+            .class_of(judge.options, judge.before == '/', judge.current);
+        stepped
     }
 
     #[inline(always)]
@@ -73,9 +86,7 @@ impl<A: Allocator> Judge for MaskJudge<'_, A> {
             return 0;
         }
         self.judge.count += u128::from(asked.count_ones());
-        let opening = self.judge.before == '/';
-        let options = self.judge.options;
-        asked & self.rows.taking(word, options, opening, self.judge.current)
+        asked & self.rows.taking(word, self.class)
     }
 
     #[inline(always)]

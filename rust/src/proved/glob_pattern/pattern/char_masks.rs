@@ -106,15 +106,15 @@ impl Listed {
 }
 
 impl Rows<'_> {
-    /// Which of the word's tokens take the character. `opening`: a component starts at its place.
+    /// Which of the word's tokens take the characters of the class.
     #[inline(always)]
-    pub fn taking(self, word: usize, options: MatchOptions, opening: bool, c: char) -> u64 {
-        self.masks[(2 * word + self.half) * self.columns + self.class_of(options, opening, c)]
+    pub fn taking(self, word: usize, class: usize) -> u64 {
+        self.masks[(2 * word + self.half) * self.columns + class]
     }
 
     /// The class of a character. `opening`: a component starts at its place.
     #[inline(always)]
-    fn class_of(self, options: MatchOptions, opening: bool, c: char) -> usize {
+    pub fn class_of(self, options: MatchOptions, opening: bool, c: char) -> usize {
         if is_excluded_separator(options, c) {
             SEPARATOR
         } else if is_excluded_dot(options, opening, c) {

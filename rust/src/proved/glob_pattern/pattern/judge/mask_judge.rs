@@ -15,6 +15,8 @@ pub struct MaskJudge<'a> {
     end: usize,
     // how many words the masks have
     words: usize,
+    // the class of the character last stepped over
+    class: usize,
 }
 
 impl<'a> MaskJudge<'a> {
@@ -22,14 +24,18 @@ impl<'a> MaskJudge<'a> {
     #[inline(always)]
     pub fn new(judge: TextJudge<'a>, masks: &'a CharMasks, end: usize, words: usize) -> Self {
         let rows = masks.rows(judge.options.case_sensitive);
-        MaskJudge { judge, rows, end, words }
+        let class = rows.class_of(judge.options, judge.before == '/', judge.current);
+        MaskJudge { judge, rows, end, words, class }
     }
 }
 
 impl Judge for MaskJudge<'_> {
     #[inline(always)]
     fn step(&mut self) -> bool {
-        self.judge.advance()
+        let stepped = self.judge.advance();
+        let judge = &self.judge;
+        self.class = self.rows.class_of(judge.options, judge.before == '/', judge.current);
+        stepped
     }
 
     #[inline(always)]
@@ -49,9 +55,7 @@ impl Judge for MaskJudge<'_> {
             return 0;
         }
         self.judge.count += u128::from(asked.count_ones());
-        let opening = self.judge.before == '/';
-        let options = self.judge.options;
-        asked & self.rows.taking(word, options, opening, self.judge.current)
+        asked & self.rows.taking(word, self.class)
     }
 
     #[inline(always)]
