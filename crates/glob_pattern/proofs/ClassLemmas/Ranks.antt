@@ -11,7 +11,7 @@ abbrev pub rank : List ℕ → ℕ → ℕ
 rank xs c = prefix_len (λ first. nat_le first c) xs
 
 module _ (xs : List ℕ) where
-  passes : (c k : ℕ) → k < rank xs c → get_or xs k 0 ≤ c
+  pub passes : (c k : ℕ) → k < rank xs c → get_or xs k 0 ≤ c
   passes c k lt = leb-true _ _ (prefix_len_passes (λ first. nat_le first c) xs k 0 lt)
 
   stops : (c : ℕ) → rank xs c < length xs → c < get_or xs (rank xs c) 0

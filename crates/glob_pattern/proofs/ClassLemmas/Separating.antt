@@ -4,7 +4,7 @@ use Rattle.std.specs.List.{Contains}
 use Rattle.std.specs.List.Sorted.{IsNonDecreasing}
 use Rattle.std.proofs.lemmas.Bool.{lt-ltb, le-ltb, le-leb, lt-leb, cases_lt, cases_eq, ne_eqb}
 use Rattle.std.proofs.Math.Bool.{and-false}
-use Rattle.glob_pattern.specs.Private.Classes.{Partition, IsPartition, AreAsciiClasses, HasInterval, IsCut, Separates, class_in, class_after, columns_of}
+use Rattle.glob_pattern.specs.Private.Classes.{Partition, IsPartition, AreCounts, AreAsciiClasses, HasInterval, IsCut, Separates, class_in, class_after, columns_of}
 use Rattle.glob_pattern.specs.declared.pattern.classes.Boundaries.{Boundaries}
 use Rattle.glob_pattern.proofs.ClassLemmas.Ranks.{rank, rank-le, rank-mono, rank-strict, rank-positive}
 
@@ -36,12 +36,12 @@ module _ (p : Partition) where
         (cases_eq (rank p.beyond c) 0))
         (cases_lt c (length p.ascii))
 
-module _ {A : Type 0} (b : Boundaries A) (ascii : List ℕ) (last : ℕ) (are : AreAsciiClasses b.cuts b.covered 128 ascii last) (least : 2 ≤ last) (up : IsNonDecreasing b.beyond.items) where
+module _ {A : Type 0} (b : Boundaries A) (ascii : List ℕ) (last : ℕ) (are : AreAsciiClasses b.cuts b.covered 128 ascii last) (least : 2 ≤ last) (up : IsNonDecreasing b.beyond.items) (begun : List ℕ) (counts : AreCounts b.beyond.items begun) where
   abbrev p : Partition
-  p = record { ascii = ascii; last = last; beyond = b.beyond.items }
+  p = record { ascii = ascii; last = last; beyond = b.beyond.items; begun = begun }
 
   pub partition : IsPartition p
-  partition = record { least = least; each = λ c lt. let within : c < 128 = omega (arith, lt, are.long) in (are.least c within, are.most c within); rising = up }
+  partition = record { least = least; each = λ c lt. let within : c < 128 = omega (arith, lt, are.long) in (are.least c within, are.most c within); rising = up; counts = counts }
 
   abbrev class : ℕ → ℕ
   class c = class_in p c

@@ -112,7 +112,7 @@ pub record AreRowsOf (tokens : List Token) (words : ℕ) (case : Bool) (rows : R
 
 -- where all characters are of one class
 abbrev pub no_partition : Partition
-no_partition = record { ascii = []; last = 2; beyond = [] }
+no_partition = record { ascii = []; last = 2; beyond = []; begun = [] }
 
 -- which of a word's two rows is of this case
 abbrev pub half_of : (case : Bool) → ℕ
@@ -120,7 +120,7 @@ half_of case = if case then 0 else 1
 
 -- the classes that are stored beside masks
 abbrev pub partition_in : {A : Type 0} → listed.Listed A → Partition
-partition_in l = record { ascii = l.ascii; last = l.last; beyond = l.beyond.items }
+partition_in l = record { ascii = l.ascii; last = l.last; beyond = l.beyond.items; begun = l.begun.items }
 
 -- the masks are of the tokens, and of so many words
 abbrev pub AreCharMasks : {A : Type 0} → List Token → (words : ℕ) → CharMasks A → Type 0

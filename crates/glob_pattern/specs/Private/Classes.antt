@@ -13,14 +13,15 @@ use Rattle.glob_pattern.specs.declared.token.Token.TheVariants.{Literal, AnyChar
 use Rattle.glob_pattern.specs.declared.token.bracket.Entry.{Entry}
 
 -- The classes of the first characters, the highest of these, and at which others a further class begins; the classes of
--- these are numbered on.
+-- these are numbered on. How many of these have begun is stored for some characters.
 pub record Partition : Type 0 where
   pub ascii : List ℕ
   pub last : ℕ
   pub beyond : List ℕ
+  pub begun : List ℕ
 
 abbrev pub partition_of : Classes → Partition
-partition_of c = record { ascii = c.ascii.now; last = c.last; beyond = c.beyond.now }
+partition_of c = record { ascii = c.ascii.now; last = c.last; beyond = c.beyond.now; begun = c.begun.now }
 
 -- the class of a character after as many beginnings beyond the first ones
 abbrev pub class_after : (last begun : ℕ) → ℕ
@@ -36,12 +37,19 @@ class_in p c =
 abbrev pub columns_of : Partition → ℕ
 columns_of p = p.last + 1 + length p.beyond
 
+-- the counts are how many boundaries there are up to each character from the first boundary on
+abbrev pub AreCounts : (boundaries counts : List ℕ) → Type 0
+AreCounts boundaries counts =
+    (i : ℕ) → i < length counts
+    → slice_index counts i ≡ prefix_len (λ first. nat_le first (slice_index boundaries 0 + i)) boundaries
+
 -- the first characters have classes up to the last, and the others begin in order
 pub record IsPartition (p : Partition) : Type 0 where
   pub least : 2 ≤ p.last
   pub each : (c : ℕ) → c < length p.ascii
       → (2 ≤ slice_index p.ascii c) × (slice_index p.ascii c ≤ p.last)
   pub rising : IsNonDecreasing p.beyond
+  pub counts : AreCounts p.beyond p.begun
 
 -- an interval begins at c, or ends before it
 abbrev pub IsCut : (cuts c : ℕ) → Type 0

@@ -9,7 +9,7 @@ mod row;
 
 use crate::matcher::WORD;
 use crate::options::MatchOptions;
-use crate::pattern::classes::{ASCII, Boundaries, Classes};
+use crate::pattern::classes::{ASCII, Boundaries, Classes, counts_of};
 use crate::token::Token;
 use crate::token::bracket::Bracket;
 use crate::token::taking::{is_excluded_dot, is_excluded_separator};
@@ -31,8 +31,9 @@ pub struct Listed<A: Allocator> {
     /// The class of each ASCII character, and the highest of these.
     ascii: [u8; ASCII],
     last: u8,
-    /// Where the classes beyond ASCII begin.
+    /// Where the classes beyond ASCII begin, and how many have begun at some characters.
     beyond: Vec<u32, A>,
+    begun: Vec<u8, A>,
     /// Two rows for each word of tokens, case-sensitive and case-insensitive, with a mask for each class.
     masks: Vec<u64, A>,
 }
@@ -110,16 +111,19 @@ impl<A: Allocator + Copy> Listed<A> {
     {
         let boundaries = Boundaries::of(alloc, tokens)?;
         let (ascii, last) = boundaries.ascii_classes();
+        let begun = counts_of(alloc, boundaries.beyond.as_slice())?;
         let classes = Classes {
             ascii: &ascii,
             last,
             beyond: boundaries.beyond.as_slice(),
+            begun: begun.as_slice(),
         };
         let masks = rows_of(alloc, tokens, words, classes)?;
         Ok(Listed {
             ascii,
             last,
             beyond: boundaries.beyond,
+            begun,
             masks,
         })
     }
@@ -135,6 +139,7 @@ impl<A: Allocator + Copy> Clone for Listed<A> {
             ascii: self.ascii,
             last: self.last,
             beyond: self.beyond.clone()?,
+            begun: self.begun.clone()?,
             masks: self.masks.clone()?,
         })
     }
@@ -153,6 +158,7 @@ impl<A: Allocator> Listed<A> {
             ascii: &self.ascii,
             last: self.last,
             beyond: self.beyond.as_slice(),
+            begun: self.begun.as_slice(),
         };
         Rows {
             classes,

@@ -5,9 +5,9 @@
 //! `y` and `z`, the same three in upper case, and one for all other characters.
 ghost use Rattle.std.specs.Prelude.{◌≡◌, ℕ, ◌+◌, ◌<◌, ◌≤◌, ◌⊎◌, length, slice_index, nat_le, IfOk};
 ghost use Rattle.std.specs.Int.{bit_at};
-ghost use Rattle.std.specs.List.{All, Contains};
+ghost use Rattle.std.specs.List.{All, Contains, prefix_len};
 ghost use Rattle.std.specs.List.Sorted.{IsNonDecreasing};
-ghost use Rattle.glob_pattern.specs.Private.Classes.{IsPartition, AreAsciiClasses, HasInterval, Grows, EachInterval, EachCase, EntryIntervals, TokenIntervals, IsCut, partition_of, class_in, columns_of, are_letters};
+ghost use Rattle.glob_pattern.specs.Private.Classes.{IsPartition, AreAsciiClasses, AreCounts, HasInterval, Grows, EachInterval, EachCase, EntryIntervals, TokenIntervals, IsCut, partition_of, class_in, columns_of, are_letters};
 
 use crate::token::Token;
 use crate::token::bracket::{Bracket, Entry};
@@ -19,6 +19,9 @@ pub const OTHER: u8 = 2;
 /// How many characters ASCII has.
 pub const ASCII: usize = 128;
 
+/// Of how many characters beyond ASCII it is stored how many boundaries there are up to them.
+const COUNTED: usize = 128;
+
 /// The class of each character.
 #[derive(Clone, Copy)]
 pub struct Classes<'a> {
@@ -28,6 +31,8 @@ pub struct Classes<'a> {
     pub last: u8,
     /// The boundaries beyond ASCII, in order. At each a class begins, and they are numbered on from `last`.
     pub beyond: &'a [u32],
+    /// How many of these there are up to each of some characters, from the first of these on.
+    pub begun: &'a [u8],
 }
 
 impl Classes<'_> {
@@ -36,6 +41,7 @@ impl Classes<'_> {
         ascii: &[],
         last: OTHER,
         beyond: &[],
+        begun: &[],
     };
 
     /// How many classes there are: all are below this number.
@@ -66,16 +72,29 @@ impl Classes<'_> {
         requires beyond { length self.ascii.now ≤ c }
         ensures { result ≡ class_in (partition_of self.entry) c }
     {
-        let c = c as u32;
-        let begun = self.beyond.partition_point(
-            |first: &u32| -> bool
-                ensures { result ≡ nat_le first.now c }
-            { *first <= c },
-        );
+        let begun = self.begun_at(c as u32);
         if begun == 0 {
             usize::from(OTHER)
         } else {
             usize::from(self.last) + begun
+        }
+    }
+
+    /// How many boundaries beyond ASCII there are up to a character.
+    #[inline(always)]
+    fn begun_at(self, c: u32) -> usize
+        requires { IsPartition (partition_of self) }
+        ensures { result ≡ prefix_len (λ first. nat_le first c) self.entry.beyond.now }
+    {
+        let Some(base) = self.beyond.first() else {
+            return 0;
+        };
+        if c < *base {
+            return 0;
+        }
+        match self.begun.get((c - *base) as usize) {
+            Some(begun) => usize::from(*begun),
+            None => begun_by_search(self.beyond, c),
         }
     }
 }
@@ -250,6 +269,64 @@ fn fill(ascii: &mut [u8; ASCII], start: usize, end: usize, class: u8)
     for c in start + 1..end {
         ascii[c] = class;
     }
+}
+
+/// How many of these boundaries there are up to a character.
+#[inline(never)]
+fn begun_by_search(boundaries: &[u32], c: u32) -> usize
+    requires { IsNonDecreasing boundaries.now }
+    ensures { result ≡ prefix_len (λ first. nat_le first c) boundaries.now }
+{
+    boundaries.partition_point(
+        |first: &u32| -> bool
+            ensures { result ≡ nat_le first.now c }
+        { *first <= c },
+    )
+}
+
+/// How many boundaries there are up to each character, from the first boundary on: for those of a script with an
+/// alphabet nothing is searched. There are none if there are too many boundaries for a byte. Fails only if allocation
+/// fails.
+pub fn counts_of<A: Allocator>(alloc: A, boundaries: &[u32]) -> Result<Vec<u8, A>, AllocError>
+    ensures { IfOk result (λ counts. AreCounts boundaries.now counts.items) }
+{
+    match boundaries.first() {
+        Some(base) if boundaries.len() < 256 => counts_from(alloc, boundaries, *base),
+        _ => Ok(Vec::new(alloc)),
+    }
+}
+
+/// How many boundaries there are up to each of so many characters, from this one on.
+fn counts_from<A: Allocator>(
+    alloc: A,
+    boundaries: &[u32],
+    base: u32,
+) -> Result<Vec<u8, A>, AllocError>
+    requires { length boundaries.now < 256 }
+    ensures { IfOk result (λ counts. (i : ℕ) → i < length counts.items
+        → slice_index counts.items i
+        ≡ prefix_len (λ first. nat_le first (base + i)) boundaries.now) }
+{
+    let mut counts = Vec::with_capacity(alloc, COUNTED)?;
+    let mut count = 0;
+    for i in 0..COUNTED {
+        count = passed(boundaries, count, u64::from(base) + i as u64);
+        counts.push(count as u8)?;
+    }
+    Ok(counts)
+}
+
+/// How many boundaries there are up to a character, if there are at least so many.
+fn passed(boundaries: &[u32], least: usize, c: u64) -> usize
+    requires within { least ≤ length boundaries.now }
+    requires least { (k : ℕ) → k < least → slice_index boundaries.now k ≤ c }
+    ensures { result ≡ prefix_len (λ first. nat_le first c) boundaries.now }
+{
+    let mut count = least;
+    while count < boundaries.len() && u64::from(boundaries[count]) <= c {
+        count += 1;
+    }
+    count
 }
 
 /// Whether both are letters of ASCII.

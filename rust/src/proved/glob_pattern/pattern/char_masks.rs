@@ -7,7 +7,7 @@ mod row;
 
 use crate::proved::glob_pattern::matcher::WORD;
 use crate::proved::glob_pattern::options::MatchOptions;
-use crate::proved::glob_pattern::pattern::classes::{Boundaries, Classes, ASCII};
+use crate::proved::glob_pattern::pattern::classes::{counts_of, Boundaries, Classes, ASCII};
 use crate::proved::glob_pattern::token::bracket::Bracket;
 use crate::proved::glob_pattern::token::taking::{is_excluded_dot, is_excluded_separator};
 use crate::proved::glob_pattern::token::Token;
@@ -26,8 +26,9 @@ pub struct Listed {
     /// The class of each ASCII character, and the highest of these.
     ascii: [u8; ASCII],
     last: u8,
-    /// Where the classes beyond ASCII begin.
+    /// Where the classes beyond ASCII begin, and how many have begun at some characters.
     beyond: Vec<u32>,
+    begun: Vec<u8>,
     /// Two rows for each word of tokens, case-sensitive and case-insensitive, with a mask for each class.
     masks: Vec<u64>,
 }
@@ -84,15 +85,22 @@ impl Listed {
     fn new(tokens: &[Token<Bracket>], words: usize) -> Self {
         let boundaries = Boundaries::of(tokens);
         let (ascii, last) = boundaries.ascii_classes();
-        let classes = Classes { ascii: &ascii, last, beyond: boundaries.beyond.as_slice() };
+        let begun = counts_of(boundaries.beyond.as_slice());
+        let classes = Classes { ascii: &ascii, last, beyond: boundaries.beyond.as_slice(), begun: begun.as_slice() };
         let masks = rows_of(tokens, words, classes);
-        Listed { ascii, last, beyond: boundaries.beyond, masks }
+        Listed { ascii, last, beyond: boundaries.beyond, begun, masks }
     }
 }
 
 impl Clone for Listed {
     fn clone(&self) -> Self {
-        Listed { ascii: self.ascii, last: self.last, beyond: self.beyond.clone(), masks: self.masks.clone() }
+        Listed {
+            ascii: self.ascii,
+            last: self.last,
+            beyond: self.beyond.clone(),
+            begun: self.begun.clone(),
+            masks: self.masks.clone(),
+        }
     }
 }
 
@@ -100,7 +108,12 @@ impl Listed {
     /// The masks of one case.
     #[inline(always)]
     fn rows(&self, case_sensitive: bool) -> Rows<'_> {
-        let classes = Classes { ascii: &self.ascii, last: self.last, beyond: self.beyond.as_slice() };
+        let classes = Classes {
+            ascii: &self.ascii,
+            last: self.last,
+            beyond: self.beyond.as_slice(),
+            begun: self.begun.as_slice(),
+        };
         Rows { classes, masks: self.masks.as_slice(), columns: classes.count(), half: usize::from(!case_sensitive) }
     }
 }

@@ -16,6 +16,9 @@ pub const OTHER: u8 = 2;
 /// How many characters ASCII has.
 pub const ASCII: usize = 128;
 
+/// Of how many characters beyond ASCII it is stored how many boundaries there are up to them.
+const COUNTED: usize = 128;
+
 /// The class of each character.
 #[derive(Clone, Copy)]
 pub struct Classes<'a> {
@@ -25,11 +28,13 @@ pub struct Classes<'a> {
     pub last: u8,
     /// The boundaries beyond ASCII, in order. At each a class begins, and they are numbered on from `last`.
     pub beyond: &'a [u32],
+    /// How many of these there are up to each of some characters, from the first of these on.
+    pub begun: &'a [u8],
 }
 
 impl Classes<'_> {
     /// Each character is of the class `OTHER`.
-    pub const NONE: Classes<'static> = Classes { ascii: &[], last: OTHER, beyond: &[] };
+    pub const NONE: Classes<'static> = Classes { ascii: &[], last: OTHER, beyond: &[], begun: &[] };
 
     /// How many classes there are: all are below this number.
     #[inline(always)]
@@ -50,12 +55,26 @@ impl Classes<'_> {
     /// The class of a character that the table does not have.
     #[inline(never)]
     fn class_beyond(self, c: char) -> usize {
-        let c = c as u32;
-        let begun = self.beyond.partition_point(|first: &u32| -> bool { *first <= c });
+        let begun = self.begun_at(c as u32);
         if begun == 0 {
             usize::from(OTHER)
         } else {
             usize::from(self.last) + begun
+        }
+    }
+
+    /// How many boundaries beyond ASCII there are up to a character.
+    #[inline(always)]
+    fn begun_at(self, c: u32) -> usize {
+        let Some(base) = self.beyond.first() else {
+            return 0;
+        };
+        if c < *base {
+            return 0;
+        }
+        match self.begun.get((c - *base) as usize) {
+            Some(begun) => usize::from(*begun),
+            None => begun_by_search(self.beyond, c),
         }
     }
 }
@@ -177,6 +196,41 @@ fn fill(ascii: &mut [u8; ASCII], start: usize, end: usize, class: u8) {
     for c in start + 1..end {
         ascii[c] = class;
     }
+}
+
+/// How many of these boundaries there are up to a character.
+#[inline(never)]
+fn begun_by_search(boundaries: &[u32], c: u32) -> usize {
+    boundaries.partition_point(|first: &u32| -> bool { *first <= c })
+}
+
+/// How many boundaries there are up to each character, from the first boundary on: for those of a script with an
+/// alphabet nothing is searched. There are none if there are too many boundaries for a byte.
+pub fn counts_of(boundaries: &[u32]) -> Vec<u8> {
+    match boundaries.first() {
+        Some(base) if boundaries.len() < 256 => counts_from(boundaries, *base),
+        _ => Vec::new(),
+    }
+}
+
+/// How many boundaries there are up to each of so many characters, from this one on.
+fn counts_from(boundaries: &[u32], base: u32) -> Vec<u8> {
+    let mut counts = Vec::with_capacity(COUNTED);
+    let mut count = 0;
+    for i in 0..COUNTED {
+        count = passed(boundaries, count, u64::from(base) + i as u64);
+        counts.push(count as u8);
+    }
+    counts
+}
+
+/// How many boundaries there are up to a character, if there are at least so many.
+fn passed(boundaries: &[u32], least: usize, c: u64) -> usize {
+    let mut count = least;
+    while count < boundaries.len() && u64::from(boundaries[count]) <= c {
+        count += 1;
+    }
+    count
 }
 
 /// Whether both are letters of ASCII.

@@ -11,7 +11,7 @@ returns g c = rw c.new.ensures.items (record {
   };
   all_words = λ more. absurd (omega arith);
   masked = λ count enough few case. record {
-    partition = record { least = omega arith; each = λ d lt. absurd (omega arith); rising = λ i j d le lt. absurd (omega arith) };
+    partition = record { least = omega arith; each = λ d lt. absurd (omega arith); rising = λ i j d le lt. absurd (omega arith); counts = λ i lt. absurd (omega arith) };
     within = λ word lt. absurd (omega (arith, few, lt));
     row = λ word lt. absurd (omega (arith, few, lt));
   };
