@@ -71,7 +71,7 @@ PARSES, COPIES = of_texts("compile", "parse"), of_texts("clone", "copy")
 
 # Shapes for which matching could be slow: a name, the pattern, the text and the options.
 TEN, CYRILLIC = "abcdefghij", "документы/проект/отчёт.txt"
-LONG_PATH = "/home/somebody/projects/a-rather-long-name/src/{}/generated/{}_test.rs"
+LONG_PATH = "/data/somebody/projects/a-rather-long-name/src/{}/generated/{}_test.rs"
 ATTACKS = [
     (f"`{CYRILLIC}` on itself", CYRILLIC, CYRILLIC, ""),
     (f"`{CYRILLIC}` on a text with another first character", CYRILLIC, "архив/проект/отчёт.txt", ""),
