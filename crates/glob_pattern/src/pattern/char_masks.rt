@@ -25,7 +25,7 @@ pub enum CharMasks<A: Allocator> {
     Listed(Box<Listed<A>, A>),
 }
 
-/// The masks of tokens, of which some list characters.
+/// The masks of tokens, if some of these list characters.
 #[derive(Drop)]
 pub struct Listed<A: Allocator> {
     /// The class of each ASCII character, and the highest of these.
@@ -50,8 +50,7 @@ pub struct Rows<'a> {
 }
 
 impl<A: Allocator + Copy> CharMasks<A> {
-    /// The masks of the tokens, and of so many words, of which the last may have no token. Fails only if allocation
-    /// fails.
+    /// The masks of the tokens, and of so many words. The last word may have no token. Fails only if allocation fails.
     pub fn new(alloc: A, tokens: &[Token<Bracket<A>>], words: usize) -> Result<Self, AllocError>
         requires { 63 * words ≤ length tokens.now + 63 }
         ensures { IfOk result (λ masks. AreCharMasks tokens.now words masks) }

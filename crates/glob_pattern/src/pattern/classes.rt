@@ -167,7 +167,8 @@ impl<A: Allocator> Boundaries<A> {
         Ok(())
     }
 
-    /// Adds the characters from the first to the last, of which there may be none. Fails only if allocation fails.
+    /// Adds the characters from the first to the last, or nothing if these are the wrong way round. Fails only if
+    /// allocation fails.
     fn mark(&mut self, first: char, last: char) -> Result<(), AllocError>
         ensures marked { IfOk result (λ _. first ≤ last → HasInterval self.new first last) }
         ensures grows { IfOk result (λ _. Grows self.old self.new) }
@@ -285,7 +286,7 @@ fn begun_by_search(boundaries: &[u32], c: u32) -> usize
 }
 
 /// How many boundaries there are up to each character, from the first boundary on: for those of a script with an
-/// alphabet nothing is searched. There are none if there are too many boundaries for a byte. Fails only if allocation
+/// alphabet nothing is searched. The list is empty if a byte cannot count the boundaries. Fails only if allocation
 /// fails.
 pub fn counts_of<A: Allocator>(alloc: A, boundaries: &[u32]) -> Result<Vec<u8, A>, AllocError>
     ensures { IfOk result (λ counts. AreCounts boundaries.now counts.items) }

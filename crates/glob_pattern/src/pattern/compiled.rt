@@ -139,7 +139,7 @@ impl<A: Allocator + Copy> Compiled<A> {
             (λ yes. IsTrue yes ↔ TokensMatch options self.now (chars text.now)) }
         ensures short { length self.now < 64 → IsOk result }
     {
-        // A count that is dropped here is none in what is compiled.
+        // The compiler leaves out a count that is dropped here.
         let (answer, _) = self.matches_asking(pattern, text, options)?;
         Ok(answer)
     }

@@ -21,7 +21,7 @@ pub enum CharMasks {
     Listed(Box<Listed>),
 }
 
-/// The masks of tokens, of which some list characters.
+/// The masks of tokens, if some of these list characters.
 pub struct Listed {
     /// The class of each ASCII character, and the highest of these.
     ascii: [u8; ASCII],
@@ -45,7 +45,7 @@ pub struct Rows<'a> {
 }
 
 impl CharMasks {
-    /// The masks of the tokens, and of so many words, of which the last may have no token.
+    /// The masks of the tokens, and of so many words. The last word may have no token.
     pub fn new(tokens: &[Token<Bracket>], words: usize) -> Self {
         if words <= 1 && are_plain(tokens) {
             let mut masks = [0; 3];

@@ -127,7 +127,7 @@ impl Boundaries {
         self.mark(first.to_ascii_uppercase(), last.to_ascii_uppercase());
     }
 
-    /// Adds the characters from the first to the last, of which there may be none.
+    /// Adds the characters from the first to the last, or nothing if these are the wrong way round.
     fn mark(&mut self, first: char, last: char) {
         if first > last {
             return;
@@ -205,7 +205,7 @@ fn begun_by_search(boundaries: &[u32], c: u32) -> usize {
 }
 
 /// How many boundaries there are up to each character, from the first boundary on: for those of a script with an
-/// alphabet nothing is searched. There are none if there are too many boundaries for a byte.
+/// alphabet nothing is searched. The list is empty if a byte cannot count the boundaries.
 pub fn counts_of(boundaries: &[u32]) -> Vec<u8> {
     match boundaries.first() {
         Some(base) if boundaries.len() < 256 => counts_from(boundaries, *base),

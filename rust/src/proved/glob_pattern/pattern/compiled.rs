@@ -82,7 +82,7 @@ impl Compiled {
     /// Whether the tokens, which are the pattern's, match the text.
     #[inline(never)]
     pub fn matches(&self, pattern: &str, text: &str, options: MatchOptions) -> bool {
-        // A count that is dropped here is none in what is compiled.
+        // The compiler leaves out a count that is dropped here.
         let (answer, _) = self.matches_asking(pattern, text, options);
         answer
     }
