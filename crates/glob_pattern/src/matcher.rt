@@ -6,8 +6,8 @@ ghost use Rattle.std.specs.Int.{IsBitSet};
 mod positions;
 mod shape_word;
 
-pub use positions::{Span, decide};
-pub use shape_word::{ShapeWord, last_before, shape_words};
+pub use positions::{Span, decide, word_before};
+pub use shape_word::{ShapeWord, shape_words};
 use std::alloc::{AllocError, Allocator};
 
 /// How many tokens a word of 64 bits has. Its last bit is the position after them, as the first bit of the next word

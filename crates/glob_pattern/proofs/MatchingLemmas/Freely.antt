@@ -1,5 +1,5 @@
 -- Wildcards where no rule applies.
-use Rattle.std.proofs.Common.{◌≡◌, ◌≢◌, ℕ, ◌+◌, ◌<◌, Bool, true, false, List, length, map, get_or, refl, ⊎_elim, zero-add, arith}
+use Rattle.std.proofs.Common.{◌≡◌, ◌≢◌, ℕ, ◌+◌, ◌<◌, ◌≤◌, Bool, true, false, List, length, map, get_or, refl, ⊎_elim, arith}
 use Rattle.std.proofs.lemmas.Bool.{cases_lt, or_parts}
 use Rattle.std.proofs.lemmas.List.{get_or-map, length-map}
 use Rattle.std.specs.Int.{IsBitSet}
@@ -22,23 +22,22 @@ takes-freely o opening c Recursive free grows = rw (or_parts o.require_literal_s
 takes-freely o opening c (OneOf e) free grows = absurd (grows refl)
 takes-freely o opening c (NoneOf e) free grows = absurd (grows refl)
 
--- a wildcard of the first word before `end` that may end anywhere takes the rest
-pub TakesRest-freely : (opening : Bool) (o : MatchOptions) (tokens : List Token) (text : Text) (word : ShapeWord) (end j : ℕ) → IsShapeWord (map shape_of tokens) 0 word
-    → has_rules o ≡ false → j < 64 → j + 1 ≡ end → IsBitSet word.wildcards j → (IsBitSet word.recursive j → ⊥) → TakesRest (table_within opening o tokens text) (map shape_of tokens) end j
+-- the last wildcard before `end`, which may end anywhere, takes the rest
+pub TakesRest-freely : (opening : Bool) (o : MatchOptions) (tokens : List Token) (text : Text) (word : ShapeWord) (start end j : ℕ) → IsShapeWord (map shape_of tokens) start word
+    → has_rules o ≡ false → j < 63 → start + j + 1 ≡ end → end ≤ length tokens → IsBitSet word.wildcards j → (IsBitSet word.recursive j → ⊥)
+    → TakesRest (table_within opening o tokens text) (map shape_of tokens) end (start + j)
 unfolding table_within
-TakesRest-freely opening o tokens text word end j is unruled lt last wild free =
+TakesRest-freely opening o tokens text word start end j is unruled lt last within wild free =
     let shapes = map shape_of tokens in
-    let here = (is.wildcards j lt).0 wild in
-    let grows : get_or shapes j One ≢ One = rw (zero-add j) at here.1 in
+    let here = (is.wildcards j (omega arith)).0 wild in
     let count = length-map tokens shape_of in
-    let shape : get_or shapes j One ≡ shape_of (get_or tokens j AnyChar) = get_or-map shape_of tokens j AnyChar One (omega (arith, here.0, count)) in
+    let shape : get_or shapes (start + j) One ≡ shape_of (get_or tokens (start + j) AnyChar) = get_or-map shape_of tokens (start + j) AnyChar One (omega (arith, last, within)) in
     record {
-      first = omega (arith, here.0);
       last = omega (arith, last);
-      grows = grows;
+      grows = here.1;
       ends = λ deep. ⊎_elim
-          (λ more. absurd (free ((is.recursive j lt).1 (here.0, rw (zero-add j) deep, omega (arith, more)))))
-          (λ all. omega (arith, all, last, here.0))
+          (λ more. absurd (free ((is.recursive j (omega arith)).1 (here.0, deep, omega (arith, more, last)))))
+          (λ all. omega (arith, all, count, within))
           (cases_lt end (length shapes));
-      takes = λ k from below. takes-freely o (opens_within opening text k) (get_or text k 0) (get_or tokens j AnyChar) unruled (λ one. grows (rw shape one));
+      takes = λ k from below. takes-freely o (opens_within opening text k) (get_or text k 0) (get_or tokens (start + j) AnyChar) unruled (λ one. here.1 (rw shape one));
     }

@@ -1,12 +1,12 @@
 -- What a run over the position sets of a text needs and says.
-use Rattle.std.proofs.Common.{◌≡◌, ℕ, ◌^◌, ◌<◌, ◌↔◌, Bool, true, IsTrue, List, length, map, chars, refl, inl, arith}
+use Rattle.std.proofs.Common.{◌≡◌, ℕ, ◌+◌, ◌*◌, ◌^◌, ◌<◌, ◌↔◌, Bool, true, IsTrue, List, length, map, chars, refl, inl, arith}
 use Rattle.std.proofs.lemmas.List.{get_or_past, length-map}
 use Rattle.std.specs.Int.{IsBitSet}
 use Rattle.glob_text.specs.Text.{Text}
 use Rattle.glob_pattern.specs.Grammar.Tokens.{Token, shape_of}
 use Rattle.glob_pattern.specs.Matching.Texts.{TokensMatch}
 use Rattle.glob_pattern.specs.Private.Parts.{SplitsPart, EndsAt}
-use Rattle.glob_pattern.specs.Private.Positions.{AreShapeWords, TakesRest, CanRun}
+use Rattle.glob_pattern.specs.Private.Positions.{AreShapeWords, TakesRest, CanRun, word_before}
 use Rattle.glob_pattern.specs.Private.Prefixes.{PrefixSplits, IsAlive}
 use Rattle.glob_pattern.specs.Private.TextTable.{table_within}
 use Rattle.glob_pattern.specs.declared.matcher.Shape.TheVariants.{One}
@@ -23,7 +23,7 @@ use Rattle.glob_pattern.proofs.PositionLemmas.Running.{alive-by_rest}
 -- over the first of some tokens, and a part of a text
 pub CanRun-part : (opening : Bool) (o : MatchOptions) (tokens : List Token) (bytes : List ℕ) (words : List ShapeWord) (span : Span) (k count : ℕ)
     → AreShapeWords (map shape_of tokens) words → EndsAt tokens span.end
-    → ((j : ℕ) → IsBitSet span.accepting j → TakesRest (table_within opening o tokens (chars bytes)) (map shape_of tokens) span.end j)
+    → ((j : ℕ) → IsBitSet span.accepting j → TakesRest (table_within opening o tokens (chars bytes)) (map shape_of tokens) span.end (63 * word_before span.end + j))
     → k ≡ 0 → count ≡ 0 → length tokens < 2 ^ 64 → length bytes < 2 ^ 64
     → CanRun (table_within opening o tokens (chars bytes)) (map shape_of tokens) words span k count
 unfolding table_within
@@ -49,12 +49,13 @@ SplitsPart-by_run opening o tokens end part ends answer =
     let alive = IsAlive-one (table_within opening o tokens part) (map shape_of tokens) end (length part) ends.one in
     (λ t. alive.0 (answer.0 t), λ splits. answer.1 (alive.1 splits))
 
--- where the first token takes all that there may be, nothing needs to be asked
-pub SplitsPart-at_once : (opening : Bool) (o : MatchOptions) (tokens : List Token) (end : ℕ) (part : Text) → EndsAt tokens end
-    → TakesRest (table_within opening o tokens part) (map shape_of tokens) end 0 → SplitsPart o opening tokens end part
+-- where the only token takes all that there may be, nothing needs to be asked
+pub SplitsPart-at_once : (opening : Bool) (o : MatchOptions) (tokens : List Token) (end n : ℕ) (part : Text) → EndsAt tokens end → end ≡ 1
+    → TakesRest (table_within opening o tokens part) (map shape_of tokens) end n → SplitsPart o opening tokens end part
 unfolding SplitsPart PrefixSplits IsAlive table_within
-SplitsPart-at_once opening o tokens end part ends rest =
-    let alive = alive-by_rest (table_within opening o tokens part) (map shape_of tokens) end 0 0 rest (omega arith) ends.one (0, omega arith, refl, TakesAll-none (table_within opening o tokens part) 0 0, inl refl) in
+SplitsPart-at_once opening o tokens end n part ends one rest =
+    let first : n ≡ 0 = omega (arith, one, rest.last) in
+    let alive = alive-by_rest (table_within opening o tokens part) (map shape_of tokens) end 0 0 (rw first at rest) (omega arith) ends.one (0, omega arith, refl, TakesAll-none (table_within opening o tokens part) 0 0, inl refl) in
     (IsAlive-one (table_within opening o tokens part) (map shape_of tokens) end (length part) ends.one).0 alive
 
 -- over all tokens, and a whole text

@@ -1,13 +1,13 @@
 -- A run over a position set: at its start, after a character, and where a wildcard takes the rest.
-use Rattle.std.proofs.Common.{◌≡◌, ℕ, zero, suc, ◌+◌, ◌-◌, ◌*◌, ◌^◌, ◌<◌, ◌≤◌, ◌≢◌, ◌↔◌, Bool, false, true, IsTrue, List, [], ◌∷◌, length, get_or, drop, bit_and, refl, sym, subst, inl, ⊎_elim, arith, zero-add}
+use Rattle.std.proofs.Common.{◌≡◌, ℕ, zero, suc, ◌+◌, ◌-◌, ◌*◌, ◌^◌, ◌<◌, ◌≤◌, ◌≢◌, ◌↔◌, Bool, false, true, IsTrue, List, [], ◌∷◌, length, get_or, drop, bit_and, refl, sym, subst, inl, ⊎_elim, arith}
 use Rattle.std.proofs.Math.Nat.{le_refl, le_trans, le-add_right}
-use Rattle.std.specs.Int.{IsBitSet}
+use Rattle.std.specs.Int.{IsBitSet, trailing_zeros, w64}
 use Rattle.std.proofs.lemmas.Bool.{cases_eq, false≢true}
 use Rattle.std.proofs.lemmas.Nat.{and_le_l, and_le_r}
 use Rattle.std.proofs.lemmas.List.{drop_all, get_or_past}
 use Rattle.glob_pattern.specs.Matching.Splits.{Table, MayReach}
 use Rattle.glob_pattern.specs.Private.Prefixes.{PrefixSplits, IsAlive, HasTaken}
-use Rattle.glob_pattern.specs.Private.Positions.{IsShapeWord, AreShapeWords, AreAlive, TakesRest, CanRun, WereAsked, HasRun, HasDecided}
+use Rattle.glob_pattern.specs.Private.Positions.{IsShapeWord, AreShapeWords, AreAlive, TakesRest, CanRun, WereAsked, HasRun, HasDecided, word_before}
 use Rattle.glob_pattern.proofs.Counts.{mul-left, room-after}
 use Rattle.glob_pattern.proofs.PositionLemmas.Alive.{ComesAlive, IsAlive-step, asked_more}
 use Rattle.glob_pattern.proofs.PositionLemmas.DeadPlaces.{IsDead-from_none}
@@ -82,17 +82,19 @@ module _ (table : Table) (shapes : List Shape) (span : Span) (first k count : �
   }
 
   -- one in which a position is alive that takes all that is left
-  pub HasDecided-accepting : 0 < length alive → get_or alive 0 0 < 2 ^ 64 → 0 < bit_and (get_or alive 0 0) span.accepting → get_or shapes span.end One ≡ One
-      → ((j : ℕ) → IsBitSet span.accepting j → TakesRest table shapes span.end j) → HasDecided table shapes span first count true
+  pub HasDecided-accepting : word_before span.end < length alive → get_or alive (word_before span.end) 0 < 2 ^ 64 → 0 < bit_and (get_or alive (word_before span.end) 0) span.accepting
+      → get_or shapes span.end One ≡ One → ((j : ℕ) → IsBitSet span.accepting j → TakesRest table shapes span.end (63 * word_before span.end + j)) → HasDecided table shapes span first count true
   HasDecided-accepting some fits meets one accepting =
-      let (lt, set, none) = lowest_set (bit_and (get_or alive 0 0) span.accepting) meets (omega (arith, and_le_l (get_or alive 0 0) span.accepting, fits)) in
-      let both = (IsBitSet-and (get_or alive 0 0) span.accepting _).0 set in
-      let rest = accepting _ both.1 in
-      let here = (run.alive.word 0 (le_refl 0) some).alive _ (omega (arith, rest.first, rest.last, within)) in
+      let w = word_before span.end in
+      let j = trailing_zeros w64 (bit_and (get_or alive w 0) span.accepting) in
+      let (lt, set, none) = lowest_set (bit_and (get_or alive w 0) span.accepting) meets (omega (arith, and_le_l (get_or alive w 0) span.accepting, fits)) in
+      let both = (IsBitSet-and (get_or alive w 0) span.accepting j).0 set in
+      let rest = accepting j both.1 in
+      let here = (run.alive.word w (omega arith) some).alive j (omega (arith, rest.last, within)) in
       record {
-        answer = (λ t. alive-by_rest table shapes span.end _ k rest run.within one (rw (zero-add _) at (here.0 both.0)), λ a. refl);
+        answer = (λ t. alive-by_rest table shapes span.end _ k rest run.within one (here.0 both.0), λ a. refl);
         most = le_trans (le-add_right _ _) run.most;
-        least = λ t zero. absurd (omega (arith, and_le_r (get_or alive 0 0) span.accepting, zero, meets));
+        least = λ t zero. absurd (omega (arith, and_le_r (get_or alive w 0) span.accepting, zero, meets));
         monotone = run.monotone;
       }
 

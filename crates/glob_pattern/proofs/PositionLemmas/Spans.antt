@@ -1,8 +1,8 @@
 -- Runs that ask the tokens before an end alone.
-use Rattle.std.proofs.Common.{◌≡◌, ℕ, zero, suc, ◌<◌, ◌≤◌, ◌↔◌, nat_lt, List, get_or, IsTrue, arith}
+use Rattle.std.proofs.Common.{◌≡◌, ℕ, zero, suc, ◌+◌, ◌*◌, ◌<◌, ◌≤◌, ◌↔◌, nat_lt, List, get_or, IsTrue, arith}
 use Rattle.std.proofs.lemmas.Bool.{and_parts, and_from, lt-ltb, ltb-true}
 use Rattle.glob_pattern.specs.Matching.Splits.{Table, MayReach, TakesAll}
-use Rattle.glob_pattern.specs.Private.Positions.{CanRun}
+use Rattle.glob_pattern.specs.Private.Positions.{CanRun, word_before}
 use Rattle.glob_pattern.specs.Private.Prefixes.{PrefixSplits, IsAlive}
 use Rattle.glob_pattern.specs.Private.TextTable.{table_before}
 use Rattle.glob_pattern.specs.declared.matcher.Shape.{Shape}
@@ -65,11 +65,10 @@ CanRun-before table shapes words span k count can = record {
   end = can.end;
   one = can.one;
   accepting = λ j set. let rest = can.accepting j set in record {
-    first = rest.first;
     last = rest.last;
     grows = rest.grows;
     ends = rest.ends;
-    takes = (all_before table shapes span.end j 0 table.characters (omega (arith, rest.last))).0 rest.takes;
+    takes = (all_before table shapes span.end (63 * word_before span.end + j) 0 table.characters (omega (arith, rest.last))).0 rest.takes;
   };
   room = can.room;
 }

@@ -1,6 +1,6 @@
 -- Position sets as words of bits: each has 63 shapes, and its last bit is the position after them, the first one of the
 -- next word.
-use Rattle.std.specs.Prelude.{◌≡◌, ℕ, suc, ◌+◌, ◌-◌, ◌*◌, ◌^◌, ◌<◌, ◌≤◌, ◌≢◌, ◌⊎◌, ◌↔◌, Bool, List, length, min, slice_index, slice_index_or, IsTrue}
+use Rattle.std.specs.Prelude.{◌≡◌, ℕ, suc, ◌+◌, ◌-◌, ◌*◌, ◌/◌, ◌^◌, ◌<◌, ◌≤◌, ◌≢◌, ◌⊎◌, ◌↔◌, Bool, List, length, min, slice_index, slice_index_or, IsTrue}
 use Rattle.std.specs.Int.{IsBitSet}
 use Rattle.glob_pattern.specs.Matching.Splits.{Table, TakesAll}
 use Rattle.glob_pattern.specs.Private.Prefixes.{PrefixSplits, IsAlive, HasTaken, AreAllAsked}
@@ -12,6 +12,10 @@ use Rattle.glob_pattern.specs.declared.matcher.shape_word.ShapeWord.{ShapeWord}
 -- the end of the word that begins at a number: 63 shapes on, or after the last
 abbrev pub word_end : List Shape → (start : ℕ) → ℕ
 word_end shapes start = min (start + 63) (length shapes)
+
+-- the number of the word that has the last shape before an end, if there is one
+abbrev pub word_before : (end : ℕ) → ℕ
+word_before end = (end - 1) / 63
 
 -- Of the shapes from number `start` up to `end`, the bits say which there are, which may have pieces of any length, and
 -- which are `Deep` and have others after them.
@@ -63,10 +67,8 @@ LeadsTo word took opens whole next =
     → IsTakenWord table shapes start k took → opens ≡ table.opens k
     → IsTrue whole ↔ PrefixSplits table shapes start k → IsAliveWord table shapes start k next
 
--- the shape is in the first word, and the last before `end`, its pieces may have any length, and its token takes all
--- characters
+-- the shape is the last before `end`, its pieces may have any length, and its token takes all characters
 pub record TakesRest (table : Table) (shapes : List Shape) (end n : ℕ) : Type 0 where
-  pub first : n < 63
   pub last : suc n ≡ end
   pub grows : slice_index_or shapes n One ≢ One
   pub ends : slice_index_or shapes n One ≡ Deep → end ≡ length shapes
@@ -80,7 +82,7 @@ pub record CanRun (table : Table) (shapes : List Shape) (words : List ShapeWord)
   pub place : k ≡ 0
   pub end : span.end ≤ length shapes
   pub one : slice_index_or shapes span.end One ≡ One
-  pub accepting : (j : ℕ) → IsBitSet span.accepting j → TakesRest table shapes span.end j
+  pub accepting : (j : ℕ) → IsBitSet span.accepting j → TakesRest table shapes span.end (63 * word_before span.end + j)
   pub room : count + length shapes * table.characters < 2 ^ 128
 
 -- A run that began when `first` questions were asked is at place k after `count` questions, where the words say what is

@@ -4,7 +4,7 @@
 ghost use Rattle.std.specs.Prelude.{◌≡◌, ℕ, ◌+◌, ◌*◌, ◌^◌, ◌<◌, ◌≤◌, ◌↔◌, List, [], ◌∷◌, length, slice_index, slice_index_or, IsTrue, IsOk, IfOk, map};
 ghost use Rattle.glob_pattern.specs.Matching.Splits.{Table};
 ghost use Rattle.glob_pattern.specs.Private.Prefixes.{PrefixSplits, IsAlive};
-ghost use Rattle.glob_pattern.specs.Private.Positions.{word_end, AreShapeWords, IsAliveWord, IsTakenWord, AreAlive, IsFlat, IsLive, CanRun, HasDecided, CanAsk, WereAsked, CanStep, HasStepped};
+ghost use Rattle.glob_pattern.specs.Private.Positions.{word_end, word_before, AreShapeWords, IsAliveWord, IsTakenWord, AreAlive, IsFlat, IsLive, CanRun, HasDecided, CanAsk, WereAsked, CanStep, HasStepped};
 
 use super::shape_word::ShapeWord;
 use super::{Judge, Shape, Shaped, WORD};
@@ -15,7 +15,8 @@ use std::alloc::{AllocError, Allocator};
 pub struct Span {
     /// How many leading shapes have to split all characters.
     pub end: usize,
-    /// Positions of the first word. Once one is alive, the last shape before `end` takes all further characters.
+    /// Positions of the word that has the last shape before `end`. Once one is alive, this shape takes all further
+    /// characters.
     pub accepting: u64,
 }
 
@@ -134,8 +135,12 @@ fn run_words<T: Shaped, J: Judge>(
         (J.count judge.old) (J.count judge.new) result }
     ensures same { J.table judge.new ≡ J.table judge.old }
 {
+    let last = word_before(span.end);
     let mut live = set_start(tokens, words, judge.opens(), alive);
     while live.high != 0 {
+        if alive[last] & span.accepting != 0 {
+            return true;
+        }
         if !judge.step() {
             return is_alive(tokens, alive, span.end);
         }
@@ -192,6 +197,14 @@ fn set_start<T: Shaped>(tokens: &[T], words: &[ShapeWord], opens: bool, alive: &
     }
 }
 
+/// The number of the word that has the last shape before number `end`, if there is one.
+#[inline(always)]
+pub fn word_before(end: usize) -> usize
+    ensures { result ≡ word_before end }
+{
+    end.saturating_sub(1) / WORD
+}
+
 /// Whether the position is in the set.
 #[inline(always)]
 fn is_alive<T: Shaped>(tokens: &[T], alive: &[u64], position: usize) -> bool
@@ -204,7 +217,7 @@ fn is_alive<T: Shaped>(tokens: &[T], alive: &[u64], position: usize) -> bool
         → IsTrue result ↔ IsAlive table (map T.shape tokens.now) position k }
 {
     // A position on a border of two words is read as the last bit of the first of them.
-    let word = position.saturating_sub(1) / WORD;
+    let word = word_before(position);
     (alive[word] >> (position - WORD * word)) & 1 != 0
 }
 

@@ -115,13 +115,14 @@ impl ShapeWord {
         growing | (begun | ((begun & self.wildcards) << 1))
     }
 
-    /// The bit of the last token before number `end`, if its pieces may have any length and end anywhere.
+    /// The bit, if it is that of a wildcard whose pieces end anywhere.
     #[inline(always)]
-    pub fn free_before(self, end: usize) -> u64
-        ensures { (j : ℕ) → j < 64 → IsBitSet result j → (j + 1 ≡ end)
-            × IsBitSet self.wildcards j × ¬ (IsBitSet self.recursive j) }
+    pub fn free_at(self, bit: usize) -> u64
+        requires { bit < 63 }
+        ensures { (j : ℕ) → IsBitSet result j
+            → (j ≡ bit) × IsBitSet self.wildcards j × ¬ (IsBitSet self.recursive j) }
     {
-        last_before(end, 0) & self.wildcards & !self.recursive
+        (1 << bit) & self.wildcards & !self.recursive
     }
 
     /// Of the tokens that took a character, those whose pieces may end after it.
@@ -141,15 +142,4 @@ fn with_bit(word: u64, bit: usize) -> u64
     ensures { (j : ℕ) → IsBitSet result j ↔ (IsBitSet word j ⊎ (j ≡ bit)) }
 {
     word | (1 << bit)
-}
-
-/// The bit of the last token before number `end`, in a word whose bit 0 is of token `start`.
-pub fn last_before(end: usize, start: usize) -> u64
-    ensures { (j : ℕ) → j < 64 → IsBitSet result j ↔ (start + j + 1 ≡ end) }
-{
-    if start < end && end - start <= 64 {
-        1 << (end - start - 1)
-    } else {
-        0
-    }
 }

@@ -6,10 +6,10 @@ ghost use Rattle.glob_text.specs.Text.{Text};
 ghost use Rattle.glob_pattern.specs.Grammar.Tokens.{Token as TokenOf, shape_of};
 ghost use Rattle.glob_pattern.specs.Private.Automata.{IsAutomaton};
 ghost use Rattle.glob_pattern.specs.Private.Parts.{SplitsPart, EndsAt};
-ghost use Rattle.glob_pattern.specs.Private.Positions.{IsShapeWord, AreShapeWords, TakesRest};
+ghost use Rattle.glob_pattern.specs.Private.Positions.{IsShapeWord, AreShapeWords, TakesRest, word_before};
 ghost use Rattle.glob_pattern.specs.Private.TextTable.{table_within};
 
-use crate::matcher::{Judge, ShapeWord, Span, WORD, decide, shape_words};
+use crate::matcher::{Judge, ShapeWord, Span, WORD, decide, shape_words, word_before};
 use crate::options::MatchOptions;
 use crate::pattern::char_masks::CharMasks;
 use crate::pattern::judge::{MaskJudge, TextJudge};
@@ -94,8 +94,8 @@ impl<A: Allocator + Copy> Automaton<A> {
         ensures short { length tokens.now < 64 → IsOk result }
     {
         let accepting = self.accepting(tokens, end, options);
-        // The first token takes all that there may be.
-        if accepting == 1 {
+        // The only token takes all that there may be.
+        if end == 1 && accepting != 0 {
             return Ok((true, 0));
         }
         let span = Span { end, accepting };
@@ -122,19 +122,22 @@ impl<A: Allocator + Copy> Automaton<A> {
         }
     }
 
-    /// The bit of the last token before number `end`, if it is a wildcard that takes all that is left of any text: once
-    /// it is alive, these tokens match.
+    /// The bit of the last token before number `end`, in the word that has it, if it is a wildcard that takes all that is
+    /// left of any text: once it is alive, these tokens match.
     #[inline(always)]
     fn accepting(&self, tokens: &[Token<Bracket<A>>], end: usize, options: MatchOptions) -> u64
-        requires { IsShapeWord (map shape_of tokens.now) 0 self.now.first }
+        requires automaton { IsAutomaton tokens.now end self.now.first self.now.words.items
+            self.now.masks }
+        requires end { EndsAt tokens.now end }
         ensures { (opening : Bool) (text : Text) (j : ℕ) → IsBitSet result j
             → TakesRest (table_within opening options tokens.now text)
-            (map shape_of tokens.now) end j }
+            (map shape_of tokens.now) end (63 * word_before end + j) }
     {
-        if has_rules(options) || tokens.len() > WORD {
+        if has_rules(options) || end == 0 {
             return 0;
         }
-        self.first.free_before(end)
+        let word = word_before(end);
+        self.words(tokens)[word].free_at(end - 1 - WORD * word)
     }
 }
 

@@ -81,6 +81,8 @@ impl<'a, A: Allocator> TextJudge<'a, A> {
             ≡ place_before (chars self.old.text.now) (chars (chars_rest self.old.rest)))
             × (length (chars self.new.text.now)
             ≡ place_before (chars self.old.text.now) (chars (chars_rest self.old.rest))) }
+        ensures stays { result ≡ false
+            → (self.new.before ≡ self.old.before) × (self.new.current ≡ self.old.current) }
     {
         // Named for the proof: what is left is UTF-8.
         let _left = self.rest.as_str();

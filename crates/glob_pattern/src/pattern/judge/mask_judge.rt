@@ -61,12 +61,14 @@ impl<A: Allocator> Judge for MaskJudge<'_, A> {
 
     #[inline(always)]
     fn step(&mut self) -> bool {
-        let stepped = self.judge.advance();
+        if !self.judge.advance() {
+            return false;
+        }
         let judge = &self.judge;
         self.class = self
             .rows
             .class_of(judge.options, judge.before == '/', judge.current);
-        stepped
+        true
     }
 
     #[inline(always)]

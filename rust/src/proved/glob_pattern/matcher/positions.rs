@@ -13,7 +13,8 @@ use super::{Judge, Shaped, WORD};
 pub struct Span {
     /// How many leading shapes have to split all characters.
     pub end: usize,
-    /// Positions of the first word. Once one is alive, the last shape before `end` takes all further characters.
+    /// Positions of the word that has the last shape before `end`. Once one is alive, this shape takes all further
+    /// characters.
     pub accepting: u64,
 }
 
@@ -80,8 +81,12 @@ fn run_words<T: Shaped, J: Judge>(
     span: Span,
     judge: &mut J,
 ) -> bool {
+    let last = word_before(span.end);
     let mut live = set_start(tokens, words, judge.opens(), alive);
     while live.high != 0 {
+        if alive[last] & span.accepting != 0 {
+            return true;
+        }
         if !judge.step() {
             return is_alive(tokens, alive, span.end);
         }
@@ -111,11 +116,17 @@ fn set_start<T: Shaped>(tokens: &[T], words: &[ShapeWord], opens: bool, alive: &
     Live { low: 0, high: alive.len() }
 }
 
+/// The number of the word that has the last shape before number `end`, if there is one.
+#[inline(always)]
+pub fn word_before(end: usize) -> usize {
+    end.saturating_sub(1) / WORD
+}
+
 /// Whether the position is in the set.
 #[inline(always)]
 fn is_alive<T: Shaped>(tokens: &[T], alive: &[u64], position: usize) -> bool {
     // A position on a border of two words is read as the last bit of the first of them.
-    let word = position.saturating_sub(1) / WORD;
+    let word = word_before(position);
     (alive[word] >> (position - WORD * word)) & 1 != 0
 }
 

@@ -86,10 +86,10 @@ impl ShapeWord {
         growing | (begun | ((begun & self.wildcards) << 1))
     }
 
-    /// The bit of the last token before number `end`, if its pieces may have any length and end anywhere.
+    /// The bit, if it is that of a wildcard whose pieces end anywhere.
     #[inline(always)]
-    pub fn free_before(self, end: usize) -> u64 {
-        last_before(end, 0) & self.wildcards & !self.recursive
+    pub fn free_at(self, bit: usize) -> u64 {
+        (1 << bit) & self.wildcards & !self.recursive
     }
 
     /// Of the tokens that took a character, those whose pieces may end after it.
@@ -106,13 +106,4 @@ impl ShapeWord {
 /// The word with one more bit set.
 fn with_bit(word: u64, bit: usize) -> u64 {
     word | (1 << bit)
-}
-
-/// The bit of the last token before number `end`, in a word whose bit 0 is of token `start`.
-pub fn last_before(end: usize, start: usize) -> u64 {
-    if start < end && end - start <= 64 {
-        1 << (end - start - 1)
-    } else {
-        0
-    }
 }

@@ -4,7 +4,7 @@
 //! The automaton of a pattern's tokens between the ends: their shapes as words of bits, and which of them take which
 //! characters.
 
-use crate::proved::glob_pattern::matcher::{decide, shape_words, Judge, ShapeWord, Span, WORD};
+use crate::proved::glob_pattern::matcher::{decide, shape_words, word_before, Judge, ShapeWord, Span, WORD};
 use crate::proved::glob_pattern::options::MatchOptions;
 use crate::proved::glob_pattern::pattern::char_masks::CharMasks;
 use crate::proved::glob_pattern::pattern::judge::{MaskJudge, TextJudge};
@@ -54,8 +54,8 @@ impl Automaton {
         options: MatchOptions,
     ) -> (bool, u128) {
         let accepting = self.accepting(tokens, end, options);
-        // The first token takes all that there may be.
-        if accepting == 1 {
+        // The only token takes all that there may be.
+        if end == 1 && accepting != 0 {
             return (true, 0);
         }
         let span = Span { end, accepting };
@@ -75,14 +75,15 @@ impl Automaton {
         }
     }
 
-    /// The bit of the last token before number `end`, if it is a wildcard that takes all that is left of any text: once
-    /// it is alive, these tokens match.
+    /// The bit of the last token before number `end`, in the word that has it, if it is a wildcard that takes all that
+    /// is left of any text: once it is alive, these tokens match.
     #[inline(always)]
     fn accepting(&self, tokens: &[Token<Bracket>], end: usize, options: MatchOptions) -> u64 {
-        if has_rules(options) || tokens.len() > WORD {
+        if has_rules(options) || end == 0 {
             return 0;
         }
-        self.first.free_before(end)
+        let word = word_before(end);
+        self.words(tokens)[word].free_at(end - 1 - WORD * word)
     }
 }
 

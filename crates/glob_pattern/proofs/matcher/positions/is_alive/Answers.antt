@@ -1,12 +1,11 @@
-use Rattle.std.proofs.Common.{◌-◌, ◌*◌, ◌/◌, get_or, arith, map}
+use Rattle.std.proofs.Common.{◌-◌, ◌*◌, get_or, arith, map}
 use Rattle.glob_pattern.proofs.BitLemmas.SetBits.{IsBitSet-test}
 use Rattle.glob_pattern.proofs.PositionLemmas.Words.{position-in_word}
 use Rattle.glob_pattern.proofs.matcher.positions.is_alive.Goals as goal
 
 pub returns : goal.returns
 returns g c = λ table k alive.
-    let less = c.saturating_sub-word.ensures in
-    let w = c.saturating_sub-word.result / 63 in
+    let w = c.word_before-word.result in
     let bit = IsBitSet-test (get_or c.args.alive.now w 0) (c.args.position - 63 * w) in
     let here = position-in_word table (map g.T.Shaped.shape c.args.tokens.now) k c.args.alive.now alive c.args.position w (c.args.position - 63 * w) (omega (arith, c.requires.all, c.requires.within, c.requires.some)) (omega arith) (omega arith) c.requires.within c.requires.one in
     (λ t. here.0 (bit.0 t), λ a. bit.1 (here.1 a))

@@ -1,6 +1,6 @@
 use Rattle.std.proofs.Common.{◌≡◌, ◌-◌, ◌∙◌, [], ◌∷◌, length, refl, sym, arith, map}
 use Rattle.std.proofs.Math.Nat.{le_refl}
-use Rattle.glob_pattern.specs.Private.Positions.{word_end}
+use Rattle.glob_pattern.specs.Private.Positions.{word_before, word_end}
 use Rattle.glob_pattern.proofs.PositionLemmas.Words.{whole-at_start, whole-later, IsTakenWord-none, AreAlive-alone}
 use Rattle.glob_pattern.proofs.PositionLemmas.Running.{HasRun-start, HasRun-stepped, HasRun-room, HasDecided-ended, HasDecided-dead, HasDecided-accepting}
 use Rattle.glob_pattern.proofs.matcher.positions.run.Goals as goal
@@ -75,8 +75,9 @@ returns-then-not-step-clause-decided g c =
 pub returns-then-alive-span-ne0-clause-decided : goal.returns-then-alive-span-ne0-clause-decided
 returns-then-alive-span-ne0-clause-decided g c =
     let ready = c.requires.ready in
-    HasDecided-accepting (g.J.Judge.table c.args.judge.now) (map g.T.Shaped.shape c.args.tokens.now) c.args.span _ _ _ _ c.loop-alive.invariant.run ready.end
-    (omega arith) (omega arith) (omega (arith, c.if-alive-span-ne0.true)) ready.one ready.accepting
+    let first : word_before c.args.span.end ≡ 0 = omega (arith, ready.shaped.all, ready.end) in
+    HasDecided-accepting (g.J.Judge.table c.args.judge.now) (map g.T.Shaped.shape c.args.tokens.now) c.args.span _ _ _ (c.loop-alive.alive ∷ []) c.loop-alive.invariant.run ready.end
+    (omega (arith, first)) (rw first (omega arith)) (rw first (omega (arith, c.if-alive-span-ne0.true))) ready.one ready.accepting
 
 pub returns-clause-decided : goal.returns-clause-decided
 returns-clause-decided g c =

@@ -1,5 +1,5 @@
-use Rattle.std.proofs.Common.{◌≡◌, ◌-◌, ◌∙◌, length, refl, sym, inr, arith, map}
-use Rattle.glob_pattern.proofs.PositionLemmas.Running.{HasRun-start, HasRun-stepped, HasRun-room, HasDecided-ended, HasDecided-dead}
+use Rattle.std.proofs.Common.{◌≡◌, ◌-◌, ◌^◌, ◌<◌, ◌∙◌, length, get_or, bit_and, refl, sym, inr, arith, map}
+use Rattle.glob_pattern.proofs.PositionLemmas.Running.{HasRun-start, HasRun-stepped, HasRun-room, HasDecided-ended, HasDecided-dead, HasDecided-accepting}
 use Rattle.glob_pattern.proofs.matcher.positions.run_words.Goals as goal
 
 pub set_start-live-requires-clause-words : goal.set_start-live-requires-clause-words
@@ -83,3 +83,13 @@ returns-clause-decided g c =
     let long : length c.loop-live.alive ≡ length c.args.words.now = i.count ∙ c.requires.length in
     HasDecided-dead (g.J.Judge.table c.args.judge.now) (map g.T.Shaped.shape c.args.tokens.now) c.args.span _ _ _ _ i.run ready.end
     (rw long ready.shaped.all) (rw long ready.shaped.some) (λ m lt. i.live.none m lt (inr (omega (arith, c.loop-live-test.false))))
+
+pub returns-then-alive-last-ne0-clause-decided : goal.returns-then-alive-last-ne0-clause-decided
+returns-then-alive-last-ne0-clause-decided g c =
+    let i = c.loop-live.invariant in
+    let ready = c.requires.ready in
+    let long : length c.loop-live.alive ≡ length c.args.words.now = i.count ∙ c.requires.length in
+    let fits : get_or c.loop-live.alive c.word_before-last.result 0 < 2 ^ 64 = omega arith in
+    let meets : 0 < bit_and (get_or c.loop-live.alive c.word_before-last.result 0) c.args.span.accepting = omega (arith, c.if-alive-last-ne0.true) in
+    HasDecided-accepting (g.J.Judge.table c.args.judge.now) (map g.T.Shaped.shape c.args.tokens.now) c.args.span _ _ _ c.loop-live.alive i.run ready.end
+    (omega (arith, long, ready.shaped.all, ready.shaped.some, ready.end)) (rw c.word_before-last.ensures at fits) (rw c.word_before-last.ensures at meets) ready.one ready.accepting

@@ -32,10 +32,12 @@ impl<'a> MaskJudge<'a> {
 impl Judge for MaskJudge<'_> {
     #[inline(always)]
     fn step(&mut self) -> bool {
-        let stepped = self.judge.advance();
+        if !self.judge.advance() {
+            return false;
+        }
         let judge = &self.judge;
         self.class = self.rows.class_of(judge.options, judge.before == '/', judge.current);
-        stepped
+        true
     }
 
     #[inline(always)]

@@ -1,17 +1,16 @@
-use Rattle.std.proofs.Common.{length, map, chars, refl, sym, subst, arith}
-use Rattle.std.specs.Int.{IsBitSet}
+use Rattle.std.proofs.Common.{length, map, chars, refl, arith}
 use Rattle.std.proofs.lemmas.List.{length-map}
 use Rattle.glob_pattern.specs.Grammar.Tokens.{shape_of}
 use Rattle.glob_pattern.specs.Private.TextTable.{table_within}
+use Rattle.glob_pattern.proofs.BitLemmas.LowestBits.{lowest_set}
 use Rattle.glob_pattern.proofs.MatchingLemmas.Running.{CanRun-part, SplitsPart-by_run, SplitsPart-at_once}
 use Rattle.glob_pattern.proofs.PositionLemmas.Spans.{CanRun-before, IsAlive-end}
 use Rattle.glob_pattern.proofs.pattern.automaton.Automaton.matches.Goals as goal
 
-pub returns-then-accepting-eq1-clause-answer : goal.returns-then-accepting-eq1-clause-answer
-returns-then-accepting-eq1-clause-answer g c =
-    let one : IsBitSet 1 0 = λ e. absurd (omega (arith, e)) in
-    let set = subst (λ w. IsBitSet w 0) (sym c.if-accepting-eq1.true) one in
-    let splits = SplitsPart-at_once c.args.opening c.args.options c.args.tokens.now c.args.end (chars c.args.text.now) c.requires.end (c.accepting-accepting.ensures c.args.opening (chars c.args.text.now) 0 set) in
+pub returns-then-accepting-ne0-clause-answer : goal.returns-then-accepting-ne0-clause-answer
+returns-then-accepting-ne0-clause-answer g c =
+    let (lt, set, none) = lowest_set c.accepting-accepting.result (omega (arith, c.if-accepting-ne0.true)) (omega arith) in
+    let splits = SplitsPart-at_once c.args.opening c.args.options c.args.tokens.now c.args.end _ (chars c.args.text.now) c.requires.end (omega (arith, c.if-end-eq1.true)) (c.accepting-accepting.ensures c.args.opening (chars c.args.text.now) _ set) in
     (λ _. splits, λ _. refl)
 
 pub new-judge-requires : goal.new-judge-requires
