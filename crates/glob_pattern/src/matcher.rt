@@ -6,7 +6,7 @@ ghost use Rattle.std.specs.Int.{IsBitSet};
 mod positions;
 mod shape_word;
 
-pub use positions::{Span, decide, word_before};
+pub use positions::{Span, decide};
 pub use shape_word::{ShapeWord, shape_words};
 use std::alloc::{AllocError, Allocator};
 

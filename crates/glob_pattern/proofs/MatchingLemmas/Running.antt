@@ -54,7 +54,7 @@ pub SplitsPart-at_once : (opening : Bool) (o : MatchOptions) (tokens : List Toke
     → TakesRest (table_within opening o tokens part) (map shape_of tokens) end n → SplitsPart o opening tokens end part
 unfolding SplitsPart PrefixSplits IsAlive table_within
 SplitsPart-at_once opening o tokens end n part ends one rest =
-    let first : n ≡ 0 = omega (arith, one, rest.last) in
+    let first : n ≡ 0 = omega (arith, one, rest.free.last) in
     let alive = alive-by_rest (table_within opening o tokens part) (map shape_of tokens) end 0 0 (rw first at rest) (omega arith) ends.one (0, omega arith, refl, TakesAll-none (table_within opening o tokens part) 0 0, inl refl) in
     (IsAlive-one (table_within opening o tokens part) (map shape_of tokens) end (length part) ends.one).0 alive
 

@@ -53,14 +53,14 @@ module _ (table : Table) (shapes : List Shape) where
   pub alive-by_rest : (end n k : ℕ) → TakesRest table shapes end n → k ≤ table.characters → get_or shapes end One ≡ One → IsAlive table shapes n k → IsAlive table shapes end table.characters
   unfolding PrefixSplits IsAlive
   alive-by_rest end n k rest within one (i, le, prefix, before, here) =
-      let whole : PrefixSplits table shapes (suc n) table.characters = (i, prefix, reach (get_or shapes n One) refl rest.grows, λ j low high. rest.takes j (omega arith) high) in
+      let whole : PrefixSplits table shapes (suc n) table.characters = (i, prefix, reach (get_or shapes n One) refl rest.free.grows, λ j low high. rest.takes j (omega arith) high) in
       let step : IsAlive table shapes end table.characters ↔ ComesAlive table shapes (get_or shapes end One) end table.characters = IsAlive-step table shapes end table.characters in
-      step.1 (inl (subst (λ m. PrefixSplits table shapes m table.characters) rest.last whole))
+      step.1 (inl (subst (λ m. PrefixSplits table shapes m table.characters) rest.free.last whole))
     where
       reach : (shape : Shape) → get_or shapes n One ≡ shape → shape ≢ One → MayReach table shape (drop (suc n) shapes) i table.characters
       reach One is ne = absurd (ne refl)
       reach Run is ne = omega arith
-      reach Deep is ne = (omega arith, inl (let all : length shapes ≤ suc n = omega (arith, rest.ends is, rest.last) in rw drop_all refl))
+      reach Deep is ne = (omega arith, inl (let all : length shapes ≤ suc n = omega (arith, rest.free.ends is, rest.free.last) in rw drop_all refl))
 
 module _ (table : Table) (shapes : List Shape) (span : Span) (first k count : ℕ) (alive : List ℕ) (run : HasRun table shapes first k count alive) (within : span.end ≤ length shapes) where
   -- a run that has stepped over all characters
@@ -90,7 +90,7 @@ module _ (table : Table) (shapes : List Shape) (span : Span) (first k count : �
       let (lt, set, none) = lowest_set (bit_and (get_or alive w 0) span.accepting) meets (omega (arith, and_le_l (get_or alive w 0) span.accepting, fits)) in
       let both = (IsBitSet-and (get_or alive w 0) span.accepting j).0 set in
       let rest = accepting j both.1 in
-      let here = (run.alive.word w (omega arith) some).alive j (omega (arith, rest.last, within)) in
+      let here = (run.alive.word w (omega arith) some).alive j (omega (arith, rest.free.last, within)) in
       record {
         answer = (λ t. alive-by_rest table shapes span.end _ k rest run.within one (here.0 both.0), λ a. refl);
         most = le_trans (le-add_right _ _) run.most;

@@ -65,10 +65,8 @@ CanRun-before table shapes words span k count can = record {
   end = can.end;
   one = can.one;
   accepting = λ j set. let rest = can.accepting j set in record {
-    last = rest.last;
-    grows = rest.grows;
-    ends = rest.ends;
-    takes = (all_before table shapes span.end (63 * word_before span.end + j) 0 table.characters (omega (arith, rest.last))).0 rest.takes;
+    free = rest.free;
+    takes = (all_before table shapes span.end (63 * word_before span.end + j) 0 table.characters (omega (arith, rest.free.last))).0 rest.takes;
   };
   room = can.room;
 }

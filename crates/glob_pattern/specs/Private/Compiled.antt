@@ -4,13 +4,12 @@ use Rattle.glob_pattern.specs.Grammar.Tokens.{Token}
 use Rattle.glob_pattern.specs.Private.Automata.{IsAutomaton}
 use Rattle.glob_pattern.specs.Private.Ends.{IsEnds, middle_of}
 use Rattle.glob_pattern.specs.Private.Needles.{IsNeedle}
-use Rattle.glob_pattern.specs.declared.matcher.shape_word.ShapeWord.{ShapeWord}
-use Rattle.glob_pattern.specs.declared.pattern.char_masks.CharMasks.{CharMasks}
+use Rattle.glob_pattern.specs.declared.pattern.automaton.Automaton.{Automaton}
 use Rattle.glob_pattern.specs.declared.pattern.ends.Ends.{Ends}
 use Rattle.glob_pattern.specs.declared.pattern.needle.Needle.{Needle}
 
 -- the ends of the tokens, a needle, and the shapes and masks of those between the ends
-pub record IsCompiled {A : Type 0} (tokens : List Token) (ends : Ends) (needle : Needle) (first : ShapeWord) (words : List ShapeWord) (masks : CharMasks A) : Type 0 where
+pub record IsCompiled {A : Type 0} (tokens : List Token) (ends : Ends) (needle : Needle) (automaton : Automaton A) : Type 0 where
   pub at_ends : IsEnds tokens ends
   pub inside : IsNeedle (take (length tokens - ends.lead - ends.trail) (middle_of tokens ends)) needle
-  pub between : IsAutomaton (middle_of tokens ends) (length tokens - ends.lead - ends.trail) first words masks
+  pub between : IsAutomaton (middle_of tokens ends) (length tokens - ends.lead - ends.trail) automaton

@@ -67,11 +67,15 @@ LeadsTo word took opens whole next =
     → IsTakenWord table shapes start k took → opens ≡ table.opens k
     → IsTrue whole ↔ PrefixSplits table shapes start k → IsAliveWord table shapes start k next
 
--- the shape is the last before `end`, its pieces may have any length, and its token takes all characters
-pub record TakesRest (table : Table) (shapes : List Shape) (end n : ℕ) : Type 0 where
+-- the shape is the last before `end`, and its pieces may have any length and end anywhere
+pub record EndsFreely (shapes : List Shape) (end n : ℕ) : Type 0 where
   pub last : suc n ≡ end
   pub grows : slice_index_or shapes n One ≢ One
   pub ends : slice_index_or shapes n One ≡ Deep → end ≡ length shapes
+
+-- and its token takes all characters
+pub record TakesRest (table : Table) (shapes : List Shape) (end n : ℕ) : Type 0 where
+  pub free : EndsFreely shapes end n
   pub takes : TakesAll table n 0 table.characters
 
 -- what a run over a span begins with, by a judge at place k that was asked `count` questions

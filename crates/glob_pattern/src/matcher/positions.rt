@@ -199,7 +199,7 @@ fn set_start<T: Shaped>(tokens: &[T], words: &[ShapeWord], opens: bool, alive: &
 
 /// The number of the word that has the last shape before number `end`, if there is one.
 #[inline(always)]
-pub fn word_before(end: usize) -> usize
+fn word_before(end: usize) -> usize
     ensures { result ≡ word_before end }
 {
     end.saturating_sub(1) / WORD

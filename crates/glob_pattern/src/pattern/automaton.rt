@@ -6,10 +6,10 @@ ghost use Rattle.glob_text.specs.Text.{Text};
 ghost use Rattle.glob_pattern.specs.Grammar.Tokens.{Token as TokenOf, shape_of};
 ghost use Rattle.glob_pattern.specs.Private.Automata.{IsAutomaton};
 ghost use Rattle.glob_pattern.specs.Private.Parts.{SplitsPart, EndsAt};
-ghost use Rattle.glob_pattern.specs.Private.Positions.{IsShapeWord, AreShapeWords, TakesRest, word_before};
+ghost use Rattle.glob_pattern.specs.Private.Positions.{IsShapeWord, AreShapeWords, EndsFreely, TakesRest, word_before};
 ghost use Rattle.glob_pattern.specs.Private.TextTable.{table_within};
 
-use crate::matcher::{Judge, ShapeWord, Span, WORD, decide, shape_words, word_before};
+use crate::matcher::{Judge, Shape, ShapeWord, Shaped, Span, WORD, decide, shape_words};
 use crate::options::MatchOptions;
 use crate::pattern::char_masks::CharMasks;
 use crate::pattern::judge::{MaskJudge, TextJudge};
@@ -25,6 +25,8 @@ pub struct Automaton<A: Allocator> {
     // the shapes as bits: those of the first 63 tokens, and if there are more tokens, those of all
     first: ShapeWord,
     words: Vec<ShapeWord, A>,
+    // the bit of the last token to split a text, in its word, if it is a wildcard whose pieces end anywhere
+    accepting: u64,
     masks: CharMasks<A>,
 }
 
@@ -34,7 +36,7 @@ impl<A: Allocator + Copy> Automaton<A> {
     pub fn new(alloc: A, tokens: &[Token<Bracket<A>>], end: usize) -> Result<Self, AllocError>
         requires end { end ≤ length tokens.now }
         requires last { length tokens.now ≤ end + 1 }
-        ensures { IfOk result (λ a. IsAutomaton tokens.now end a.first a.words.items a.masks) }
+        ensures { IfOk result (IsAutomaton tokens.now end) }
     {
         let words = if tokens.len() <= WORD {
             Vec::new(alloc)
@@ -45,17 +47,19 @@ impl<A: Allocator + Copy> Automaton<A> {
         Ok(Automaton {
             first: ShapeWord::new(tokens, 0),
             words,
+            accepting: free_end(tokens, end),
             masks,
         })
     }
 
     /// That of no tokens. It allocates nothing.
     pub fn empty(alloc: A) -> Self
-        ensures { IsAutomaton [] 0 result.first result.words.items result.masks }
+        ensures { IsAutomaton [] 0 result }
     {
         Automaton {
             first: ShapeWord::NONE,
             words: Vec::new(alloc),
+            accepting: 0,
             masks: CharMasks::Plain([0; 3]),
         }
     }
@@ -63,12 +67,12 @@ impl<A: Allocator + Copy> Automaton<A> {
     /// The same on the same allocator. Fails only if allocation fails.
     pub fn clone(&self) -> Result<Self, AllocError>
         ensures { IfOk result (λ a. (tokens : List TokenOf) (end : ℕ)
-            → IsAutomaton tokens end self.now.first self.now.words.items self.now.masks
-            → IsAutomaton tokens end a.first a.words.items a.masks) }
+            → IsAutomaton tokens end self.now → IsAutomaton tokens end a) }
     {
         Ok(Automaton {
             first: self.first,
             words: self.words.clone()?,
+            accepting: self.accepting,
             masks: self.masks.clone()?,
         })
     }
@@ -84,8 +88,7 @@ impl<A: Allocator + Copy> Automaton<A> {
         opening: bool,
         options: MatchOptions,
     ) -> Result<(bool, u128), AllocError>
-        requires automaton { IsAutomaton tokens.now end self.now.first self.now.words.items
-            self.now.masks }
+        requires automaton { IsAutomaton tokens.now end self.now }
         requires end { EndsAt tokens.now end }
         ensures answer { IfOk result (λ counted. IsTrue counted.0
             ↔ SplitsPart options opening tokens.now end (chars text.now)) }
@@ -93,7 +96,7 @@ impl<A: Allocator + Copy> Automaton<A> {
             (λ counted. counted.1 ≤ length tokens.now * length (chars text.now)) }
         ensures short { length tokens.now < 64 → IsOk result }
     {
-        let accepting = self.accepting(tokens, end, options);
+        let accepting = self.accepting(options);
         // The only token takes all that there may be.
         if end == 1 && accepting != 0 {
             return Ok((true, 0));
@@ -122,22 +125,36 @@ impl<A: Allocator + Copy> Automaton<A> {
         }
     }
 
-    /// The bit of the last token before number `end`, in the word that has it, if it is a wildcard that takes all that is
-    /// left of any text: once it is alive, these tokens match.
+    /// The bit of the last token, in its word, if it takes all that is left of any text: once it is alive, the tokens match.
     #[inline(always)]
-    fn accepting(&self, tokens: &[Token<Bracket<A>>], end: usize, options: MatchOptions) -> u64
-        requires automaton { IsAutomaton tokens.now end self.now.first self.now.words.items
-            self.now.masks }
-        requires end { EndsAt tokens.now end }
-        ensures { (opening : Bool) (text : Text) (j : ℕ) → IsBitSet result j
-            → TakesRest (table_within opening options tokens.now text)
-            (map shape_of tokens.now) end (63 * word_before end + j) }
+    fn accepting(&self, options: MatchOptions) -> u64
+        ensures { (tokens : List TokenOf) (end : ℕ) → IsAutomaton tokens end self.now
+            → end ≤ length tokens → (opening : Bool) (text : Text) (j : ℕ) → IsBitSet result j
+            → TakesRest (table_within opening options tokens text) (map shape_of tokens) end
+            (63 * word_before end + j) }
     {
-        if has_rules(options) || end == 0 {
-            return 0;
+        if has_rules(options) {
+            0
+        } else {
+            self.accepting
         }
-        let word = word_before(end);
-        self.words(tokens)[word].free_at(end - 1 - WORD * word)
+    }
+}
+
+/// The bit of the last token before number `end`, in its word, if it is a wildcard whose pieces end anywhere.
+fn free_end<A: Allocator>(tokens: &[Token<Bracket<A>>], end: usize) -> u64
+    requires { end ≤ length tokens.now }
+    ensures { (j : ℕ) → IsBitSet result j
+        → EndsFreely (map shape_of tokens.now) end (63 * word_before end + j) }
+{
+    if end == 0 {
+        return 0;
+    }
+    let last = 1 << ((end - 1) % WORD);
+    match tokens[end - 1].shape() {
+        Shape::Run => last,
+        Shape::Deep if end == tokens.len() => last,
+        Shape::One | Shape::Deep => 0,
     }
 }
 

@@ -41,8 +41,7 @@ impl<A: Allocator> Model for Compiled<A> {
 
     ghost view = { λ c. c.tokens.items };
 
-    ghost invariant = { λ c. IsCompiled c.tokens.items c.ends c.needle c.automaton.first
-        c.automaton.words.items c.automaton.masks };
+    ghost invariant = { λ c. IsCompiled c.tokens.items c.ends c.needle c.automaton };
 }
 
 impl<A: Allocator> Compiled<A> {

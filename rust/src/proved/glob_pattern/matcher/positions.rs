@@ -118,7 +118,7 @@ fn set_start<T: Shaped>(tokens: &[T], words: &[ShapeWord], opens: bool, alive: &
 
 /// The number of the word that has the last shape before number `end`, if there is one.
 #[inline(always)]
-pub fn word_before(end: usize) -> usize {
+fn word_before(end: usize) -> usize {
     end.saturating_sub(1) / WORD
 }
 

@@ -86,12 +86,6 @@ impl ShapeWord {
         growing | (begun | ((begun & self.wildcards) << 1))
     }
 
-    /// The bit, if it is that of a wildcard whose pieces end anywhere.
-    #[inline(always)]
-    pub fn free_at(self, bit: usize) -> u64 {
-        (1 << bit) & self.wildcards & !self.recursive
-    }
-
     /// Of the tokens that took a character, those whose pieces may end after it.
     #[inline(always)]
     fn ending(self, took: u64, opens: bool) -> u64 {

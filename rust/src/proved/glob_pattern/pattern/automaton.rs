@@ -4,7 +4,7 @@
 //! The automaton of a pattern's tokens between the ends: their shapes as words of bits, and which of them take which
 //! characters.
 
-use crate::proved::glob_pattern::matcher::{decide, shape_words, word_before, Judge, ShapeWord, Span, WORD};
+use crate::proved::glob_pattern::matcher::{decide, shape_words, Judge, Shape, ShapeWord, Shaped, Span, WORD};
 use crate::proved::glob_pattern::options::MatchOptions;
 use crate::proved::glob_pattern::pattern::char_masks::CharMasks;
 use crate::proved::glob_pattern::pattern::judge::{MaskJudge, TextJudge};
@@ -18,6 +18,8 @@ pub struct Automaton {
     // the shapes as bits: those of the first 63 tokens, and if there are more tokens, those of all
     first: ShapeWord,
     words: Vec<ShapeWord>,
+    // the bit of the last token to split a text, in its word, if it is a wildcard whose pieces end anywhere
+    accepting: u64,
     masks: CharMasks,
 }
 
@@ -26,18 +28,18 @@ impl Automaton {
     pub fn new(tokens: &[Token<Bracket>], end: usize) -> Self {
         let words = if tokens.len() <= WORD { Vec::new() } else { shape_words(tokens) };
         let masks = CharMasks::new(&tokens[..end], words_of(tokens));
-        Automaton { first: ShapeWord::new(tokens, 0), words, masks }
+        Automaton { first: ShapeWord::new(tokens, 0), words, accepting: free_end(tokens, end), masks }
     }
 
     /// That of no tokens.
     pub fn empty() -> Self {
-        Automaton { first: ShapeWord::NONE, words: Vec::new(), masks: CharMasks::Plain([0; 3]) }
+        Automaton { first: ShapeWord::NONE, words: Vec::new(), accepting: 0, masks: CharMasks::Plain([0; 3]) }
     }
 }
 
 impl Clone for Automaton {
     fn clone(&self) -> Self {
-        Automaton { first: self.first, words: self.words.clone(), masks: self.masks.clone() }
+        Automaton { first: self.first, words: self.words.clone(), accepting: self.accepting, masks: self.masks.clone() }
     }
 }
 
@@ -53,7 +55,7 @@ impl Automaton {
         opening: bool,
         options: MatchOptions,
     ) -> (bool, u128) {
-        let accepting = self.accepting(tokens, end, options);
+        let accepting = self.accepting(options);
         // The only token takes all that there may be.
         if end == 1 && accepting != 0 {
             return (true, 0);
@@ -75,15 +77,28 @@ impl Automaton {
         }
     }
 
-    /// The bit of the last token before number `end`, in the word that has it, if it is a wildcard that takes all that
-    /// is left of any text: once it is alive, these tokens match.
+    /// The bit of the last token, in its word, if it takes all that is left of any text: once it is alive, the tokens
+    /// match.
     #[inline(always)]
-    fn accepting(&self, tokens: &[Token<Bracket>], end: usize, options: MatchOptions) -> u64 {
-        if has_rules(options) || end == 0 {
-            return 0;
+    fn accepting(&self, options: MatchOptions) -> u64 {
+        if has_rules(options) {
+            0
+        } else {
+            self.accepting
         }
-        let word = word_before(end);
-        self.words(tokens)[word].free_at(end - 1 - WORD * word)
+    }
+}
+
+/// The bit of the last token before number `end`, in its word, if it is a wildcard whose pieces end anywhere.
+fn free_end(tokens: &[Token<Bracket>], end: usize) -> u64 {
+    if end == 0 {
+        return 0;
+    }
+    let last = 1 << ((end - 1) % WORD);
+    match tokens[end - 1].shape() {
+        Shape::Run => last,
+        Shape::Deep if end == tokens.len() => last,
+        Shape::One | Shape::Deep => 0,
     }
 }
 

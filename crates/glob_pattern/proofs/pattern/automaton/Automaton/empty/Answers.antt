@@ -3,16 +3,17 @@ use Rattle.glob_pattern.proofs.BitLemmas.SetBits.{IsBitSet-zero}
 use Rattle.glob_pattern.proofs.pattern.automaton.Automaton.empty.Goals as goal
 
 pub returns : goal.returns
-returns g c = rw c.new.ensures.items (record {
+returns g c = record {
   first_word = record {
     tokens = λ j lt. (λ set. absurd (IsBitSet-zero j set), λ below. absurd (omega arith));
     wildcards = λ j lt. (λ set. absurd (IsBitSet-zero j set), λ here. absurd (omega (arith, here.0)));
     recursive = λ j lt. (λ set. absurd (IsBitSet-zero j set), λ here. absurd (omega (arith, here.0)));
   };
   all_words = λ more. absurd (omega arith);
+  accepting = λ j set. absurd (IsBitSet-zero j set);
   masked = λ count enough few case. record {
     partition = record { least = omega arith; each = λ d lt. absurd (omega arith); rising = λ i j d le lt. absurd (omega arith); counts = λ i lt. absurd (omega arith) };
     within = λ word lt. absurd (omega (arith, few, lt));
     row = λ word lt. absurd (omega (arith, few, lt));
   };
-})
+}

@@ -10,7 +10,7 @@ use Rattle.glob_pattern.proofs.pattern.automaton.Automaton.matches.Goals as goal
 pub returns-then-accepting-ne0-clause-answer : goal.returns-then-accepting-ne0-clause-answer
 returns-then-accepting-ne0-clause-answer g c =
     let (lt, set, none) = lowest_set c.accepting-accepting.result (omega (arith, c.if-accepting-ne0.true)) (omega arith) in
-    let splits = SplitsPart-at_once c.args.opening c.args.options c.args.tokens.now c.args.end _ (chars c.args.text.now) c.requires.end (omega (arith, c.if-end-eq1.true)) (c.accepting-accepting.ensures c.args.opening (chars c.args.text.now) _ set) in
+    let splits = SplitsPart-at_once c.args.opening c.args.options c.args.tokens.now c.args.end _ (chars c.args.text.now) c.requires.end (omega (arith, c.if-end-eq1.true)) (c.accepting-accepting.ensures c.args.tokens.now c.args.end c.requires.automaton c.requires.end.within c.args.opening (chars c.args.text.now) _ set) in
     (λ _. splits, λ _. refl)
 
 pub new-judge-requires : goal.new-judge-requires
@@ -28,7 +28,7 @@ decide-requires g c =
     let masked = c.new-judge.ensures in
     rw (masked.judge, masked.end, judge.opening, judge.options, judge.tokens, judge.text, judge.start, judge.count)
     (CanRun-before (table_within c.args.opening c.args.options c.args.tokens.now (chars c.args.text.now)) (map shape_of c.args.tokens.now) c.words.result.now _ 0 0
-    (CanRun-part c.args.opening c.args.options c.args.tokens.now c.args.text.now c.words.result.now _ 0 0 c.words.ensures.words c.requires.end (c.accepting-accepting.ensures c.args.opening (chars c.args.text.now)) refl refl (omega arith) (omega arith)))
+    (CanRun-part c.args.opening c.args.options c.args.tokens.now c.args.text.now c.words.result.now _ 0 0 c.words.ensures.words c.requires.end (c.accepting-accepting.ensures c.args.tokens.now c.args.end c.requires.automaton c.requires.end.within c.args.opening (chars c.args.text.now)) refl refl (omega arith) (omega arith)))
 
 pub returns-clause-answer : goal.returns-clause-answer
 unfolding table_within

@@ -13,6 +13,7 @@ returns g c =
     record {
       first_word = c.new-2.ensures;
       all_words = words;
+      accepting = c.free_end.ensures;
       masked = λ count enough few.
           let same : c.words_of.result ≡ count = omega (arith, c.words_of.ensures.enough, c.words_of.ensures.few, enough, few) in
           rw (← same) c.in_ok-masks.ensures;
