@@ -25,27 +25,28 @@ pub struct MaskJudge<'a, A: Allocator> {
     class: usize,
     ghost enough: { length judge.tokens.now ≤ 63 * words },
     ghost masked: { AreRowsOf (take end judge.tokens.now) words judge.options.case_sensitive rows },
-    ghost classed: { class ≡ class_of (partition_of rows.classes) judge.options
-        (judge.before == slash) judge.current },
+    ghost classed: { 0 < place_before (chars judge.text.now) (chars (chars_rest judge.rest))
+        → class ≡ class_of (partition_of rows.classes) judge.options (judge.before == slash)
+        judge.current },
 }
 
 impl<'a, A: Allocator> MaskJudge<'a, A> {
-    /// The judge with the masks of its tokens before number `end`, of so many words.
+    /// The judge, which has not stepped, with the masks of its tokens before number `end`, of so many words.
     #[inline(always)]
     pub fn new(judge: TextJudge<'a, A>, masks: &'a CharMasks<A>, end: usize, words: usize) -> Self
         requires enough { length judge.tokens.now ≤ 63 * words }
         requires masks { AreCharMasks (take end judge.tokens.now) words masks.now }
+        requires start { place_before (chars judge.text.now) (chars (chars_rest judge.rest)) ≡ 0 }
         ensures judge { result.judge ≡ judge.entry }
         ensures end { result.end ≡ end }
     {
         let rows = masks.rows(judge.options.case_sensitive);
-        let class = rows.class_of(judge.options, judge.before == '/', judge.current);
         MaskJudge {
             judge,
             rows,
             end,
             words,
-            class,
+            class: 0,
         }
     }
 }

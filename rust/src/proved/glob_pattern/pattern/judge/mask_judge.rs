@@ -20,12 +20,11 @@ pub struct MaskJudge<'a> {
 }
 
 impl<'a> MaskJudge<'a> {
-    /// The judge with the masks of its tokens before number `end`, of so many words.
+    /// The judge, which has not stepped, with the masks of its tokens before number `end`, of so many words.
     #[inline(always)]
     pub fn new(judge: TextJudge<'a>, masks: &'a CharMasks, end: usize, words: usize) -> Self {
         let rows = masks.rows(judge.options.case_sensitive);
-        let class = rows.class_of(judge.options, judge.before == '/', judge.current);
-        MaskJudge { judge, rows, end, words, class }
+        MaskJudge { judge, rows, end, words, class: 0 }
     }
 }
 

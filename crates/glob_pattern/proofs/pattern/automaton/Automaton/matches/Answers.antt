@@ -20,6 +20,7 @@ new-judge-requires g c =
     record {
       enough = rw judge.tokens count.enough;
       masks = rw judge.tokens (c.requires.automaton.masked c.words_of.result count.enough count.few);
+      start = rw judge.text judge.start;
     }
 
 pub decide-requires : goal.decide-requires

@@ -19,7 +19,7 @@ taking-requires g c =
     let word : c.args.word < mask.words = omega (arith, at.2, mask.enough) in
     record {
       row = rw mask.masked.columns (mask.masked.are.within c.args.word word);
-      class = rw (mask.classed, mask.masked.columns) (class-below mask.judge.options (mask.judge.before == slash) (partition_of mask.rows.classes) mask.masked.are.partition mask.judge.current);
+      class = rw (mask.classed c.requires.stepped, mask.masked.columns) (class-below mask.judge.options (mask.judge.before == slash) (partition_of mask.rows.classes) mask.masked.are.partition mask.judge.current);
     }
 
 pub returns-then-asked-eq0-clause-took : goal.returns-then-asked-eq0-clause-took
@@ -40,7 +40,7 @@ returns-clause-took g c = λ j lt.
           let (a, m) = both.0 s in
           let at = c.requires.tokens j a in
           let row = mask.masked.are.row c.args.word (omega (arith, at.2, mask.enough)) in
-          let (below, taken) = (row.takes judge.options (judge.before == slash) judge.current j refl at.0).0 (rw (c.taking.ensures, mask.classed, mask.masked.columns) at m) in
+          let (below, taken) = (row.takes judge.options (judge.before == slash) judge.current j refl at.0).0 (rw (c.taking.ensures, mask.classed c.requires.stepped, mask.masked.columns) at m) in
           let before : 63 * c.args.word + j < mask.end = omega (arith, below, short) in
           (a, and_from _ _ (lt-ltb _ _ before) (rw (get_or-take mask.end tokens (63 * c.args.word + j) AnyChar before) at taken)),
       λ (a, t).
@@ -48,5 +48,5 @@ returns-clause-took g c = λ j lt.
           let row = mask.masked.are.row c.args.word (omega (arith, at.2, mask.enough)) in
           let (is, taken) = and_parts _ _ t in
           let before : 63 * c.args.word + j < mask.end = ltb-true _ _ is in
-          both.1 (a, rw (c.taking.ensures, mask.classed, mask.masked.columns) ((row.takes judge.options (judge.before == slash) judge.current j refl at.0).1 (omega (arith, before, short, at.2), rw (get_or-take mask.end tokens (63 * c.args.word + j) AnyChar before) taken))),
+          both.1 (a, rw (c.taking.ensures, mask.classed c.requires.stepped, mask.masked.columns) ((row.takes judge.options (judge.before == slash) judge.current j refl at.0).1 (omega (arith, before, short, at.2), rw (get_or-take mask.end tokens (63 * c.args.word + j) AnyChar before) taken))),
     )
