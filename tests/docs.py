@@ -186,6 +186,11 @@ def other_versions():
     return [name for name, text in said.items() if text not in read(name)]
 
 
+def marks_of_merges():
+    """The files in which a merge left its marks."""
+    return [name for name in FILES if re.search(r"^(<{7}|>{7}) ", (ROOT / name).read_text("utf-8", "ignore"), re.M)]
+
+
 def main():
     count = Count()
 
@@ -207,6 +212,7 @@ def main():
     check("docs/FAULTS.md: no test", unknown_tests())
     check("out of date:", stale())
     check("not of the changelog's version:", other_versions())
+    check("marks of a merge:", marks_of_merges())
     count.end()
 
 
