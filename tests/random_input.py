@@ -26,13 +26,14 @@ from lib.sides import MAY_SHUT, as_user, ask, built_over, original
 PATTERNS, TEXTS, SETS, TREES = 1000, 4, 20, 30
 # One of so many patterns is also compared with the reference, which is slower.
 RULES_IN = 4
-# Of a set at most, and for a set.
-SET_PATTERNS, SET_TEXTS = 70, 100
+# Of a set at most, of a set that looks patterns up, how many sets do, and texts for a set.
+SET_PATTERNS, KEYED_PATTERNS, SHARE_WITH_KEYS, SET_TEXTS = 70, (64, 400), 0.2, 100
 SHARE_WITH_LIMIT, HIGHEST_LIMIT, NO_LIMIT = 0.3, 30, 2**64 - 1
 # One walk in so many is repeated within each limit, if it charges at most so many units.
 EACH_LIMIT_IN, MOST_UNITS = 16, 120
 # How many cases of each kind there are at least in 20 rounds.
-LEAST = {"matches": 150_000, "no matches": 200_000, "refused patterns": 2000, "sets": 200, "refused walks": 100}
+LEAST = {"matches": 150_000, "no matches": 200_000, "refused patterns": 2000, "sets": 200, "sets with keys": 40}
+LEAST |= {"refused walks": 100}
 LEAST |= {"empty": 400, "limited": 400, "unread": 100, "found": 1500, "each limit": 150}
 # So far below a folder of our own that no pattern leads out of it by `..`.
 BELOW = "1/2/3/4/5/6"
@@ -87,8 +88,10 @@ class Comparer:
         """Sets are to match what their patterns match."""
         ours, _ = self.sides["ours"]
         for _ in range(SETS):
-            size = source.randint(1, SET_PATTERNS)
-            cases = [make.match_case(source, SET_TEXTS // size + 1) for _ in range(size)]
+            keyed = source.random() < SHARE_WITH_KEYS
+            size = source.randint(*KEYED_PATTERNS) if keyed else source.randint(1, SET_PATTERNS)
+            case = make.keyed_case if keyed else make.match_case
+            cases = [case(source, SET_TEXTS // size + 1) for _ in range(size)]
             texts = [text for _, some in cases for text in some][:SET_TEXTS]
             answers = ask(ours, ["\t".join(["match", pattern, *texts]) for pattern, _ in cases])
             rows = [answer.split("\t") for answer in answers]
@@ -96,6 +99,7 @@ class Comparer:
             if not kept or not texts:
                 continue
             self.kinds["sets"] += 1
+            self.kinds["sets with keys"] += keyed
             patterns = [pattern for pattern, _ in kept]
             asked = [["set", letters, str(len(kept)), *patterns, *texts] for letters in make.SETTINGS]
             for at, answer in enumerate(ask(ours, ["\t".join(it) for it in asked])):

@@ -32,6 +32,11 @@ FEW_COMPONENTS += ["é", "a[b]", "[b", "]*", "é**", "***", "??", "*.*", "[!.]*"
 PLAIN_COMPONENTS = ["**"] * 4 + ["*"] * 4 + ["?"] * 2 + ["a", "b", "a*", "*b", "[ab]", "[!a]*", "*.*", ".a", ".*"]
 PLAIN_COMPONENTS += [".[a-z]", "é"]
 
+# Components and extensions begin with these where a set looks its patterns up.
+WORDS = ["src", "Lib", "main", "node_", "a", "é", "отчёт"]
+KEYED = ["{0}/**", "**/{0}", "**/{0}/**", "{0}", "b/{0}*", "**/{0}?", "*.{0}", "**/*.{0}", "b/*.{0}", "{0}.[ab]", "*{0}"]
+KEYED_TEXTS = ["{0}", "b/{0}", "{0}/a", "b/{0}/a", "a.{0}", "b/a.b.{0}", "b/{0}x", "{0}.b", "b/.{0}", "{0}/{0}"]
+
 # In a pattern, the path of the folder that the tree's folder, `tree`, is in.
 ABOVE = "\0"
 # The modes of directories that cannot be listed, with what is left to do there: nothing, or to look names up.
@@ -98,6 +103,13 @@ def text(source, alphabet, lexemes):
         return found
     at = source.randint(0, len(found))
     return found[:at] + source.choice(["", source.choice(alphabet + "/.")]) + found[at + source.choice([0, 1]) :]
+
+
+def keyed_case(source, texts):
+    """A pattern that many sets find by a component, its beginning or an extension, and texts that may have it."""
+    word = source.choice(WORDS) + str(source.randint(0, 99))
+    said = [word.swapcase() if source.random() < 0.1 else word for _ in range(texts)]
+    return source.choice(KEYED).format(word), [source.choice(KEYED_TEXTS).format(it) for it in said]
 
 
 def match_case(source, texts):
