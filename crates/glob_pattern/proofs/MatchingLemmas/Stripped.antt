@@ -179,6 +179,13 @@ module _ (tokens : List Token) (ends : Ends) (is : IsEnds tokens ends) where
       pub cut-within : ends.prefix.bytes + ends.suffix.bytes ≤ length bytes
       cut-within = omega (arith, literal-ends.within, is.first.count_is, is.last.count_is)
 
+      pub first-byte : o.case_sensitive ≡ true → 0 < ends.prefix.bytes → get_or bytes 0 0 ≡ get_or pattern 0 0
+      first-byte case some =
+          let prefix = take ends.prefix.bytes pattern in
+          let long = length-take-le ends.prefix.bytes pattern (pattern-first pattern v read).1 in
+          let same : take (length prefix) bytes ≡ prefix = subst (λ sensitive. SameBytes sensitive (take (length prefix) bytes) prefix) case found.first in
+          sym (get_or-take (length prefix) bytes 0 0 (omega (arith, some, long))) ∙ ap (λ xs. get_or xs 0 0) same ∙ get_or-take ends.prefix.bytes pattern 0 0 some
+
       pub cut-start : IsCharBoundary bytes ends.prefix.bytes
       cut-start = start-boundary o bytes u ends.prefix.bytes (length bytes - ends.suffix.bytes) is.first.count_is (ap (λ n. length bytes - n) is.last.count_is)
           (pattern-first pattern v read).2 (pattern-last pattern v read).2 literal-ends

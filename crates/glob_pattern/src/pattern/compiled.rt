@@ -126,8 +126,28 @@ impl<A: Allocator + Copy> Compiled<A> {
     }
 
     /// Whether the tokens, which are the pattern's, match the text. With at most 63 tokens the call succeeds.
-    #[inline(never)]
+    #[inline(always)]
     pub fn matches(
+        &self,
+        pattern: &str,
+        text: &str,
+        options: MatchOptions,
+    ) -> Result<bool, AllocError>
+        requires { HasTokens (chars pattern.now) self.now }
+        ensures answer { IfOk result
+            (λ yes. IsTrue yes ↔ TokensMatch options self.now (chars text.now)) }
+        ensures short { length self.now < 64 → IsOk result }
+    {
+        let tokens = self.tokens.as_slice();
+        if self.ends.reject(tokens, pattern, text, options) {
+            return Ok(false);
+        }
+        self.matches_in_full(pattern, text, options)
+    }
+
+    /// The answer of [`matches`](Self::matches), out of line, for texts that may match by their first byte.
+    #[inline(never)]
+    fn matches_in_full(
         &self,
         pattern: &str,
         text: &str,
@@ -144,7 +164,8 @@ impl<A: Allocator + Copy> Compiled<A> {
     }
 
     /// The answer of [`matches`](Self::matches), and how many questions it took: how often a token was asked whether it
-    /// takes a character. Each token at an end counts, though the text may be rejected before it is asked.
+    /// takes a character. Each token at an end counts, though the text may be rejected before it is asked, and the first
+    /// counts twice: [`Ends::reject`] asks it, too.
     #[inline(always)]
     fn matches_asking(
         &self,
@@ -161,7 +182,8 @@ impl<A: Allocator + Copy> Compiled<A> {
     {
         let tokens = self.tokens.as_slice();
         let ends = self.ends;
-        let asked = (ends.lead + ends.trail) as u128;
+        let again = ends.lead.min(text.len()).min(1);
+        let asked = (ends.lead + ends.trail + again) as u128;
         let Some(part) = ends.strip(tokens, pattern, text, options) else {
             return Ok((false, asked));
         };

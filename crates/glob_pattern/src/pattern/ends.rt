@@ -120,6 +120,30 @@ impl Ends {
         has_ends(bytes, prefix, suffix, options)
     }
 
+    /// Whether the text is rejected by its length or, case-sensitively, by its first byte. It is cheap, so that callers
+    /// have it inline.
+    #[inline(always)]
+    pub fn reject<A: Allocator>(
+        &self,
+        tokens: &[Token<Bracket<A>>],
+        pattern: &str,
+        text: &str,
+        options: MatchOptions,
+    ) -> bool
+        requires ends { IsEnds tokens.now self.now }
+        requires pattern { HasTokens (chars pattern.now) tokens.now }
+        ensures { IsTrue result → ¬ (TokensMatch options tokens.now (chars text.now)) }
+    {
+        let (bytes, literals) = (text.as_bytes(), pattern.as_bytes());
+        if bytes.len() < self.prefix.bytes + self.suffix.bytes {
+            return true;
+        }
+        if !options.case_sensitive {
+            return false;
+        }
+        self.prefix.bytes > 0 && bytes[0] != literals[0]
+    }
+
     /// Takes the ends from a text: so those of `src/*.rs` leave `main` of `src/main.rs`. `None`: the text does not match.
     #[inline(always)]
     pub fn strip<'a, A: Allocator>(

@@ -80,20 +80,32 @@ impl Clone for Compiled {
 
 impl Compiled {
     /// Whether the tokens, which are the pattern's, match the text.
-    #[inline(never)]
+    #[inline(always)]
     pub fn matches(&self, pattern: &str, text: &str, options: MatchOptions) -> bool {
+        let tokens = self.tokens.as_slice();
+        if self.ends.reject(tokens, pattern, text, options) {
+            return false;
+        }
+        self.matches_in_full(pattern, text, options)
+    }
+
+    /// The answer of [`matches`](Self::matches), out of line, for texts that may match by their first byte.
+    #[inline(never)]
+    fn matches_in_full(&self, pattern: &str, text: &str, options: MatchOptions) -> bool {
         // The compiler leaves out a count that is dropped here.
         let (answer, _) = self.matches_asking(pattern, text, options);
         answer
     }
 
     /// The answer of [`matches`](Self::matches), and how many questions it took: how often a token was asked whether it
-    /// takes a character. Each token at an end counts, though the text may be rejected before it is asked.
+    /// takes a character. Each token at an end counts, though the text may be rejected before it is asked, and the
+    /// first counts twice: [`Ends::reject`] asks it, too.
     #[inline(always)]
     fn matches_asking(&self, pattern: &str, text: &str, options: MatchOptions) -> (bool, u128) {
         let tokens = self.tokens.as_slice();
         let ends = self.ends;
-        let asked = (ends.lead + ends.trail) as u128;
+        let again = ends.lead.min(text.len()).min(1);
+        let asked = (ends.lead + ends.trail + again) as u128;
         let Some(part) = ends.strip(tokens, pattern, text, options) else {
             return (false, asked);
         };

@@ -1,14 +1,46 @@
-use Rattle.std.proofs.Common.{◌≡◌, ◌-◌, ◌≤◌, ◌∙◌, length, chars, sym, ap, subst, suc, arith}
+use Rattle.std.proofs.Common.{◌≡◌, ℕ, ◌+◌, ◌-◌, ◌*◌, ◌≤◌, ◌∙◌, List, length, chars, sym, ap, subst, suc, ⊎_elim, arith}
 use Rattle.std.proofs.Math.Nat.{mul-suc, mul-le-mul_left, mul-le-mul_right}
-use Rattle.std.proofs.lemmas.Bool.{eqb-true, eq-eqb, false≢true}
-use Rattle.std.proofs.lemmas.List.{length-map}
-use Rattle.glob_pattern.specs.Grammar.Tokens.{shape_of}
+use Rattle.std.proofs.lemmas.Bool.{cases_eq, eqb-true, eq-eqb, false≢true}
+use Rattle.std.proofs.lemmas.List.{length-map, nil_from_length}
+use Rattle.std.proofs.lemmas.Str.{encodes-chars}
+use Rattle.std.specs.Str.{IsUtf8, encode_utf8_all}
+use Rattle.glob_pattern.specs.Grammar.Tokens.{Token, shape_of}
 use Rattle.glob_pattern.specs.Matching.Texts.{TokensMatch}
 use Rattle.glob_pattern.specs.Private.Ends.{IsEnds, middle_of}
+use Rattle.glob_pattern.specs.declared.pattern.ends.Ends.{Ends}
 use Rattle.glob_pattern.proofs.Counts.{length-chars, product_fits}
 use Rattle.glob_pattern.proofs.MatchingLemmas.Needles.{ContainsFolded-from_part}
 use Rattle.glob_pattern.proofs.MatchingLemmas.Stripped.{SplitsPart-none, EndsAt-middle, few-middle}
 use Rattle.glob_pattern.proofs.pattern.compiled.Compiled.matches_asking.Goals as goal
+
+-- the questions of the ends, where a token is asked twice if there is one and a text
+few-asked : (tokens self : List Token) (ends : Ends) (bytes : List ℕ) (again : ℕ) → tokens ≡ self → IsEnds tokens ends → IsUtf8 bytes
+    → again ≤ ends.lead → again ≤ length bytes → ends.lead + ends.trail + again ≤ length self + length self * length (chars bytes)
+few-asked tokens self ends bytes again same is u first some =
+    let fits : ends.lead + ends.trail ≤ length self = omega (arith, is.ones.within, length-map tokens shape_of, ap length same) in
+    ⊎_elim
+    (λ none.
+    let empty : length bytes ≡ 0 = ap length (sym (encodes-chars bytes u) ∙ ap encode_utf8_all (nil_from_length (chars bytes) none)) in
+    omega (arith, fits, some, empty))
+    (λ more.
+    let one : 1 ≤ length (chars bytes) = omega (arith, more) in
+    omega (arith, fits, first, mul-le-mul_left (length self) one))
+    (cases_eq (length (chars bytes)) 0)
+
+pub returns-in_default-clause-most : goal.returns-in_default-clause-most
+returns-in_default-clause-most g c =
+    few-asked c.self.inside.tokens.items c.args.self.now c.self.inside.ends c.args.text.now c.min-again.result c.self.view_is c.self.invariant.at_ends c.utf8.text
+    (omega (arith, c.min.ensures, c.min-again.ensures)) (omega (arith, c.min.ensures, c.min-again.ensures))
+
+pub returns-then-between-eq0-clause-most : goal.returns-then-between-eq0-clause-most
+returns-then-between-eq0-clause-most g c =
+    few-asked c.self.inside.tokens.items c.args.self.now c.self.inside.ends c.args.text.now c.min-again.result c.self.view_is c.self.invariant.at_ends c.utf8.text
+    (omega (arith, c.min.ensures, c.min-again.ensures)) (omega (arith, c.min.ensures, c.min-again.ensures))
+
+pub returns-then-not-may_be_in-clause-most : goal.returns-then-not-may_be_in-clause-most
+returns-then-not-may_be_in-clause-most g c =
+    few-asked c.self.inside.tokens.items c.args.self.now c.self.inside.ends c.args.text.now c.min-again.result c.self.view_is c.self.invariant.at_ends c.utf8.text
+    (omega (arith, c.min.ensures, c.min-again.ensures)) (omega (arith, c.min.ensures, c.min-again.ensures))
 
 pub returns-then-between-eq0-clause-answer : goal.returns-then-between-eq0-clause-answer
 returns-then-between-eq0-clause-answer g c =
@@ -60,7 +92,7 @@ returns-clause-most g c =
     let few : length c.middle-middle.result.now ≤ length c.args.self.now = omega (arith, few-middle tokens c.self.inside.ends is, ap length c.middle-middle.ensures, read) in
     let all = mul-le-mul_right (length (chars c.in-Some.part.text.now)) few in
     let whole = mul-le-mul_left (length c.args.self.now) fewer in
-    omega (arith, all, whole, c.in_ok-answer.ensures.most, is.ones.within, length-map tokens shape_of, read)
+    omega (arith, all, whole, c.in_ok-answer.ensures.most, is.ones.within, length-map tokens shape_of, read, c.if-between-eq0.false, c.min-again.ensures)
 
 pub overflow_add-result : goal.overflow_add-result
 overflow_add-result g c =
@@ -71,4 +103,4 @@ overflow_add-result g c =
     let all = mul-le-mul_right (length (chars c.in-Some.part.text.now)) few in
     let one = mul-suc (length tokens) (length (chars c.in-Some.part.text.now)) in
     let fits = product_fits (length tokens) (suc (length (chars c.in-Some.part.text.now))) (omega arith) (omega (arith, fewer, length-chars c.args.text.now)) in
-    omega (arith, all, one, fits, c.in_ok-answer.ensures.most, is.ones.within, length-map tokens shape_of)
+    omega (arith, all, one, fits, c.in_ok-answer.ensures.most, is.ones.within, length-map tokens shape_of, c.if-between-eq0.false, c.min-again.ensures)
