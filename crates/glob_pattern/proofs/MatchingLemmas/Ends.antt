@@ -1,14 +1,15 @@
 -- Tokens of one character that take the ends of a part, one after another, and literals that do.
-use Rattle.std.proofs.Common.{◌≡◌, ℕ, suc, ◌+◌, ◌<◌, ◌↔◌, ◌==◌, Bool, true, false, List, [], ◌∷◌, ◌++◌, length, map, take, drop, get_or, IsTrue, refl, sym, ap, subst, ◌∙◌, ⊎_elim, arith, append_assoc, append-nil}
+use Rattle.std.proofs.Common.{◌≡◌, ℕ, suc, ◌+◌, ◌-◌, ◌<◌, ◌≤◌, ◌↔◌, ◌==◌, Bool, true, false, List, [], ◌∷◌, ◌++◌, length, map, drop, get_or, IsTrue, chars, refl, sym, ap, subst, subst₂, ◌∙◌, ⊎_elim, arith, append_assoc, append-nil}
 use Rattle.std.proofs.lemmas.Bool.{false≢true}
-use Rattle.std.proofs.lemmas.List.{drop_more, get_or_at, get_or_read, length-append, length-map, take-append-drop, take_more}
+use Rattle.std.proofs.lemmas.List.{drop_more, get_or_at, get_or-drop, length-append, length-drop, length-map}
+use Rattle.std.specs.Str.{IsUtf8}
 use Rattle.glob_text.specs.Characters.{slash}
 use Rattle.glob_text.specs.Text.{Text}
 use Rattle.glob_pattern.specs.Grammar.Tokens.{Token, shape_of}
 use Rattle.glob_pattern.specs.Matching.Taking.{takes}
+use Rattle.glob_pattern.specs.Matching.Texts.{TokensMatch}
 use Rattle.glob_pattern.specs.Laws.{SameTexts}
-use Rattle.glob_pattern.specs.Private.Ends.{AreOnes}
-use Rattle.glob_pattern.specs.Private.Parts.{SplitsPart, TakesFirst, StopsFirst, TakesLast, StopsLast}
+use Rattle.glob_pattern.specs.Private.Parts.{SplitsPart, TakesFirst, TakesLast, Leaves}
 use Rattle.glob_pattern.specs.Private.TextTable.{opens_within}
 use Rattle.glob_pattern.specs.declared.matcher.Shape.TheVariants.{One}
 use Rattle.glob_pattern.specs.declared.options.MatchOptions.{MatchOptions}
@@ -32,96 +33,87 @@ TakesLast-none o opening part = λ front more n m size e.
     let at : n ≡ m = omega (arith, e) in
     subst (λ q. SplitsPart o opening (front ++ more) q part ↔ SplitsPart o opening (front ++ more) n part) at (λ s. s, λ s. s)
 
--- one more token after some that took the start
-module _ (o : MatchOptions) (tokens : List Token) (opening : Bool) (part : Text) (left : Bool) (t : Token) (one : shape_of t ≡ One) where
-  pub TakesFirst-more : (c : ℕ) (rest : Text) → TakesFirst o tokens opening part left (c ∷ rest) → IsTrue (takes o left c t) → TakesFirst o (tokens ++ t ∷ []) opening part (c == slash) rest
-  TakesFirst-more c rest taken took = λ more n m e.
-      let before = taken (t ∷ more) (suc n) m (omega (arith, e, length-append tokens (t ∷ []))) in
-      let step = SplitsPart-first o left t more c rest one n in
-      rw (append_assoc tokens (t ∷ []) more) (λ s. (step.0 (before.0 s)).1, λ s. before.1 (step.1 (took, s)))
-
-  pub StopsFirst-here : (rest : Text) (others : List Token) → TakesFirst o tokens opening part left rest → ((more : List Token) (n : ℕ) → SplitsPart o left (t ∷ more) (suc n) rest → ⊥) → StopsFirst o (tokens ++ t ∷ others) opening part
-  StopsFirst-here rest others taken stop = λ more n m e splits.
-      let before = taken (t ∷ (others ++ more)) (suc (length others + n)) m (omega (arith, e, length-append tokens (t ∷ others))) in
-      stop (others ++ more) (length others + n) (before.0 (subst (λ ts. SplitsPart o opening ts m part) (append_assoc tokens (t ∷ others) more) splits))
-
 -- one more token before some that took the end
-module _ (o : MatchOptions) (tokens : List Token) (opening : Bool) (part : Text) (t : Token) where
-  pub TakesLast-more : (rest : Text) (c : ℕ) → shape_of t ≡ One → TakesLast o tokens opening part (rest ++ c ∷ []) → IsTrue (takes o (opens_within opening rest (length rest)) c t)
-      → TakesLast o (t ∷ tokens) opening part rest
-  TakesLast-more rest c one taken took = λ front more n m size e.
-      let at : get_or (front ++ t ∷ (tokens ++ more)) n AnyChar ≡ t = get_or_at front t (tokens ++ more) AnyChar n (sym size) in
-      let within : n < length (front ++ t ∷ (tokens ++ more)) = omega (arith, size, length-append front (t ∷ (tokens ++ more))) in
-      let before = rw (append_assoc front (t ∷ []) (tokens ++ more)) at (taken (front ++ t ∷ []) more (suc n) m (omega (arith, size, length-append front (t ∷ []))) (omega (arith, e))) in
-      let step = SplitsPart-last o opening (front ++ t ∷ (tokens ++ more)) n within (ap shape_of at ∙ one) rest c in
-      (λ s. (step.0 (before.0 s)).1, λ s. before.1 (step.1 (rw at took, s)))
+TakesLast-more : (o : MatchOptions) (tokens : List Token) (opening : Bool) (part : Text) (t : Token) (rest : Text) (c : ℕ) → shape_of t ≡ One → TakesLast o tokens opening part (rest ++ c ∷ [])
+    → IsTrue (takes o (opens_within opening rest (length rest)) c t) → TakesLast o (t ∷ tokens) opening part rest
+TakesLast-more o tokens opening part t rest c one taken took = λ front more n m size e.
+    let at : get_or (front ++ t ∷ (tokens ++ more)) n AnyChar ≡ t = get_or_at front t (tokens ++ more) AnyChar n (sym size) in
+    let within : n < length (front ++ t ∷ (tokens ++ more)) = omega (arith, size, length-append front (t ∷ (tokens ++ more))) in
+    let before = rw (append_assoc front (t ∷ []) (tokens ++ more)) at (taken (front ++ t ∷ []) more (suc n) m (omega (arith, size, length-append front (t ∷ []))) (omega (arith, e))) in
+    let step = SplitsPart-last o opening (front ++ t ∷ (tokens ++ more)) n within (ap shape_of at ∙ one) rest c in
+    (λ s. (step.0 (before.0 s)).1, λ s. before.1 (step.1 (rw at took, s)))
 
-  pub StopsLast-here : (rest : Text) (others : List Token) → TakesLast o tokens opening part rest
-      → ((all : List Token) (n : ℕ) → n < length all → get_or all n AnyChar ≡ t → SplitsPart o opening all (suc n) rest → ⊥) → StopsLast o (others ++ t ∷ tokens) opening part
-  StopsLast-here rest others taken stop = λ front more n m size e splits.
-      let lead : List Token = front ++ others in
-      let k : ℕ = n + length others in
-      let long : length lead ≡ k = omega (arith, size, length-append front others) in
-      let assoc : front ++ ((others ++ t ∷ tokens) ++ more) ≡ lead ++ t ∷ (tokens ++ more) =
-      ap (λ ts. front ++ ts) (append_assoc others (t ∷ tokens) more) ∙ sym (append_assoc front others (t ∷ (tokens ++ more))) in
-      let before = rw (append_assoc lead (t ∷ []) (tokens ++ more)) at
-      (taken (lead ++ t ∷ []) more (suc k) m (omega (arith, long, length-append lead (t ∷ []))) (omega (arith, e, length-append others (t ∷ tokens)))) in
-      stop (lead ++ t ∷ (tokens ++ more)) k (omega (arith, long, length-append lead (t ∷ (tokens ++ more)))) (get_or_at lead t (tokens ++ more) AnyChar k long)
-      (before.0 (subst (λ ts. SplitsPart o opening ts m part) assoc splits))
+-- token number k, of one character, is the first to which a part is left
+module _ (o : MatchOptions) (tokens : List Token) (text : List ℕ) (k end : ℕ) (low : k < end) (within : end ≤ length tokens) (one : shape_of (get_or tokens k AnyChar) ≡ One)
+    (part : List ℕ) (opening : Bool) (left : Leaves o tokens text k end part opening) where
+  splits-first : TokensMatch o tokens (chars text) ↔ SplitsPart o opening (get_or tokens k AnyChar ∷ drop (k + 1) tokens) (suc (end - (k + 1))) (chars part)
+  splits-first =
+      let next : end - k ≡ suc (end - (k + 1)) = omega (arith, low) in
+      subst₂ (λ ts n. TokensMatch o tokens (chars text) ↔ SplitsPart o opening ts n (chars part)) (drop_more tokens k AnyChar (omega (arith, low, within))) next left.match
 
--- the token of a number takes a character
-module _ (o : MatchOptions) (tokens : List Token) (k : ℕ) (t : Token) (within : k < length tokens) (is : t ≡ get_or tokens k t) (ones : AreOnes tokens) (opening : Bool) (part : Text) where
-  token-at : get_or tokens k AnyChar ≡ t
-  token-at = sym (get_or_read tokens k t within is AnyChar)
-
-  token-one : shape_of t ≡ One
-  token-one = sym (ap shape_of token-at) ∙ ones.each k within
-
-  tokens-from : drop k tokens ≡ t ∷ drop (k + 1) tokens
-  tokens-from = drop_more tokens k AnyChar within ∙ ap (λ x. x ∷ drop (k + 1) tokens) token-at
-
-  tokens-around : take k tokens ++ t ∷ drop (k + 1) tokens ≡ tokens
-  tokens-around = ap (λ ts. take k tokens ++ ts) (sym tokens-from) ∙ take-append-drop k tokens
-
-  -- the next one from the start
-  module _ (left : Bool) where
-    pub TakesFirst-next : (c : ℕ) (rest : Text) → TakesFirst o (take k tokens) opening part left (c ∷ rest) → takes o left c t ≡ true → TakesFirst o (take (k + 1) tokens) opening part (c == slash) rest
-    TakesFirst-next c rest taken took =
-        subst (λ ts. TakesFirst o ts opening part (c == slash) rest) (sym (take_more tokens k AnyChar within ∙ ap (λ x. take k tokens ++ x ∷ []) token-at))
-        (TakesFirst-more o (take k tokens) opening part left t token-one c rest taken took)
-
-    -- it does not take it
-    pub StopsFirst-next : (c : ℕ) (rest : Text) → TakesFirst o (take k tokens) opening part left (c ∷ rest) → takes o left c t ≡ false → StopsFirst o tokens opening part
-    StopsFirst-next c rest taken none =
-        subst (λ ts. StopsFirst o ts opening part) tokens-around
-        (StopsFirst-here o (take k tokens) opening part left t token-one (c ∷ rest) (drop (k + 1) tokens) taken
-        (λ more n splits. false≢true (sym none ∙ ((SplitsPart-first o left t more c rest token-one n).0 splits).0)))
-
-    -- there is none
-    pub StopsFirst-end : TakesFirst o (take k tokens) opening part left [] → StopsFirst o tokens opening part
-    StopsFirst-end taken =
-        subst (λ ts. StopsFirst o ts opening part) tokens-around
-        (StopsFirst-here o (take k tokens) opening part left t token-one [] (drop (k + 1) tokens) taken (λ more n. SplitsPart-first_none o left t more n token-one))
-
-  -- the next one from the end
-  pub TakesLast-next : (rest : Text) (c : ℕ) → TakesLast o (drop (k + 1) tokens) opening part (rest ++ c ∷ []) → takes o (opens_within opening rest (length rest)) c t ≡ true → TakesLast o (drop k tokens) opening part rest
-  TakesLast-next rest c taken took =
-      subst (λ ts. TakesLast o ts opening part rest) (sym tokens-from) (TakesLast-more o (drop (k + 1) tokens) opening part t rest c token-one taken took)
+  -- it takes the first character
+  pub Leaves-next : (c : ℕ) (rest : List ℕ) → IsUtf8 rest → chars part ≡ c ∷ chars rest → takes o opening c (get_or tokens k AnyChar) ≡ true → Leaves o tokens text (k + 1) end rest (c == slash)
+  Leaves-next c rest u e took =
+      let all = subst (λ cs. TokensMatch o tokens (chars text) ↔ SplitsPart o opening (get_or tokens k AnyChar ∷ drop (k + 1) tokens) (suc (end - (k + 1))) cs) e splits-first in
+      let step = SplitsPart-first o opening (get_or tokens k AnyChar) (drop (k + 1) tokens) c (chars rest) one (end - (k + 1)) in
+      record {
+        utf8 = u;
+        fewer = omega (arith, left.fewer, ap length e);
+        match = (λ m. (step.0 (all.0 m)).1, λ splits. all.1 (step.1 (took, splits)));
+      }
 
   -- it does not take it
-  pub StopsLast-next : (rest : Text) (c : ℕ) → TakesLast o (drop (k + 1) tokens) opening part (rest ++ c ∷ []) → takes o (opens_within opening rest (length rest)) c t ≡ false → StopsLast o tokens opening part
-  StopsLast-next rest c taken none =
-      subst (λ ts. StopsLast o ts opening part) tokens-around
-      (StopsLast-here o (drop (k + 1) tokens) opening part t (rest ++ c ∷ []) (take k tokens) taken
-      (λ all n lt at splits.
-      let took = ((SplitsPart-last o opening all n lt (ap shape_of at ∙ token-one) rest c).0 splits).0 in
-      false≢true (sym none ∙ subst (λ u. takes o (opens_within opening rest (length rest)) c u ≡ true) at took)))
+  pub refuses-next : (c : ℕ) (rest : List ℕ) → chars part ≡ c ∷ chars rest → takes o opening c (get_or tokens k AnyChar) ≡ false → TokensMatch o tokens (chars text) → ⊥
+  refuses-next c rest e none m =
+      let splits = subst (SplitsPart o opening (get_or tokens k AnyChar ∷ drop (k + 1) tokens) (suc (end - (k + 1)))) e (splits-first.0 m) in
+      false≢true (sym none ∙ ((SplitsPart-first o opening (get_or tokens k AnyChar) (drop (k + 1) tokens) c (chars rest) one (end - (k + 1))).0 splits).0)
 
   -- there is none
-  pub StopsLast-end : TakesLast o (drop (k + 1) tokens) opening part [] → StopsLast o tokens opening part
-  StopsLast-end taken =
-      subst (λ ts. StopsLast o ts opening part) tokens-around
-      (StopsLast-here o (drop (k + 1) tokens) opening part t [] (take k tokens) taken (λ all n lt at. SplitsPart-last_none o opening all n lt (ap shape_of at ∙ token-one)))
+  pub lacks-next : chars part ≡ [] → TokensMatch o tokens (chars text) → ⊥
+  lacks-next none m =
+      SplitsPart-first_none o opening (get_or tokens k AnyChar) (drop (k + 1) tokens) (end - (k + 1)) one
+      (subst (SplitsPart o opening (get_or tokens k AnyChar ∷ drop (k + 1) tokens) (suc (end - (k + 1)))) none (splits-first.0 m))
+
+-- token number k, of one character, is the last
+module _ (o : MatchOptions) (tokens : List Token) (text : List ℕ) (from k end : ℕ) (next : end ≡ k + 1) (low : from ≤ k) (within : k < length tokens) (one : shape_of (get_or tokens k AnyChar) ≡ One)
+    (part : List ℕ) (opening : Bool) (left : Leaves o tokens text from end part opening) where
+  token-last : get_or (drop from tokens) (k - from) AnyChar ≡ get_or tokens k AnyChar
+  token-last =
+      let at : from + (k - from) ≡ k = omega (arith, low) in
+      get_or-drop from tokens (k - from) AnyChar ∙ ap (λ n. get_or tokens n AnyChar) at
+
+  inside : k - from < length (drop from tokens)
+  inside = omega (arith, low, within, length-drop from tokens)
+
+  splits-last : TokensMatch o tokens (chars text) ↔ SplitsPart o opening (drop from tokens) (suc (k - from)) (chars part)
+  splits-last =
+      let size : end - from ≡ suc (k - from) = omega (arith, next, low) in
+      subst (λ n. TokensMatch o tokens (chars text) ↔ SplitsPart o opening (drop from tokens) n (chars part)) size left.match
+
+  -- it takes the last character
+  pub Leaves-before : (rest : List ℕ) (c : ℕ) → IsUtf8 rest → chars part ≡ chars rest ++ c ∷ [] → takes o (opens_within opening (chars rest) (length (chars rest))) c (get_or tokens k AnyChar) ≡ true
+      → Leaves o tokens text from k rest opening
+  Leaves-before rest c u e took =
+      let all = subst (λ cs. TokensMatch o tokens (chars text) ↔ SplitsPart o opening (drop from tokens) (suc (k - from)) cs) e splits-last in
+      let step = SplitsPart-last o opening (drop from tokens) (k - from) inside (ap shape_of token-last ∙ one) (chars rest) c in
+      let taken = subst (λ t. takes o (opens_within opening (chars rest) (length (chars rest))) c t ≡ true) (sym token-last) took in
+      record {
+        utf8 = u;
+        fewer = omega (arith, left.fewer, ap length e, length-append (chars rest) (c ∷ []));
+        match = (λ m. (step.0 (all.0 m)).1, λ splits. all.1 (step.1 (taken, splits)));
+      }
+
+  -- it does not take it
+  pub refuses-before : (rest : List ℕ) (c : ℕ) → chars part ≡ chars rest ++ c ∷ [] → takes o (opens_within opening (chars rest) (length (chars rest))) c (get_or tokens k AnyChar) ≡ false → TokensMatch o tokens (chars text) → ⊥
+  refuses-before rest c e none m =
+      let splits = subst (SplitsPart o opening (drop from tokens) (suc (k - from))) e (splits-last.0 m) in
+      let took = ((SplitsPart-last o opening (drop from tokens) (k - from) inside (ap shape_of token-last ∙ one) (chars rest) c).0 splits).0 in
+      false≢true (sym none ∙ subst (λ t. takes o (opens_within opening (chars rest) (length (chars rest))) c t ≡ true) token-last took)
+
+  -- there is none
+  pub lacks-before : chars part ≡ [] → TokensMatch o tokens (chars text) → ⊥
+  lacks-before none m =
+      SplitsPart-last_none o opening (drop from tokens) (k - from) inside (ap shape_of token-last ∙ one) (subst (SplitsPart o opening (drop from tokens) (suc (k - from))) none (splits-last.0 m))
 
 -- literals take a start that is the same
 pub TakesFirst-literals : (o : MatchOptions) (plain here : Text) (opening : Bool) (rest : Text) → SameTexts o.case_sensitive here plain

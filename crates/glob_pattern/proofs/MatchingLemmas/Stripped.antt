@@ -1,5 +1,5 @@
 -- What the ends of a pattern leave of a text, and of its tokens.
-use Rattle.std.proofs.Common.{◌≡◌, ℕ, ◌+◌, ◌-◌, ◌<◌, ◌≤◌, ◌↔◌, Bool, true, List, [], ◌∷◌, ◌++◌, Option, None, Some, MatchOption, length, map, take, drop, get_or, refl, sym, ap, ap₂, subst, subst₂, ◌∙◌, inl, inr, ⊎_elim, arith, chars, append-nil}
+use Rattle.std.proofs.Common.{◌≡◌, ℕ, ◌+◌, ◌-◌, ◌<◌, ◌≤◌, ◌↔◌, Bool, true, List, [], ◌∷◌, ◌++◌, length, map, take, drop, get_or, refl, sym, ap, ap₂, subst, subst₂, ◌∙◌, inl, inr, ⊎_elim, arith, chars, append-nil}
 use Rattle.std.proofs.Math.Seq.{drop-append_seam, take-append_seam}
 use Rattle.std.proofs.lemmas.Bool.{and_from, and_parts, cases_eq}
 use Rattle.std.proofs.lemmas.List.{drop-drop, drop-map, drop_more, get_or-drop, get_or-map, get_or-take, get_or_past, length-append, length-drop, length-map, length-take-le, map-append, nil_from_length, take-append-drop, take-map, take_all, take_more}
@@ -14,8 +14,8 @@ use Rattle.glob_pattern.specs.Grammar.Tokens.{Token, shape_of}
 use Rattle.glob_pattern.specs.Grammar.Units.{HasTokens}
 use Rattle.glob_pattern.specs.Laws.{SameTexts}
 use Rattle.glob_pattern.specs.Matching.Texts.{TokensMatch}
-use Rattle.glob_pattern.specs.Private.Ends.{AreOnes, HasLiterals, IsEnds, HasEnds, SameBytes, middle_of}
-use Rattle.glob_pattern.specs.Private.Parts.{SplitsPart, EndsAt}
+use Rattle.glob_pattern.specs.Private.Ends.{HasLiterals, IsEnds, HasEnds, SameBytes, middle_of}
+use Rattle.glob_pattern.specs.Private.Parts.{SplitsPart, EndsAt, Leaves}
 use Rattle.glob_pattern.specs.Private.Prefixes.{PrefixSplits}
 use Rattle.glob_pattern.specs.Private.TextTable.{opens_within}
 use Rattle.glob_pattern.specs.declared.matcher.Shape.TheVariants.{One}
@@ -44,8 +44,14 @@ scalars-parts (x ∷ xs) ys all =
     (and_from (scalar x) (scalars xs) first front, back)
 
 module _ (tokens : List Token) (ends : Ends) (is : IsEnds tokens ends) where
-  fits : ends.lead + ends.trail ≤ length tokens
+  pub fits : ends.lead + ends.trail ≤ length tokens
   fits = omega (arith, is.ones.within, length-map tokens shape_of)
+
+  pub within-ends : ends.lead ≤ length tokens - ends.suffix.count
+  within-ends = omega (arith, fits, is.few_last)
+
+  pub count-lead : length (take ends.lead tokens) ≡ ends.lead
+  count-lead = length-take-le ends.lead tokens (omega (arith, fits))
 
   count-first : length is.first.plain ≡ ends.prefix.count
   count-first = sym (length-literals is.first.plain _ is.first.tokens_are) ∙ length-take-le ends.prefix.count tokens (omega (arith, fits, is.few_first))
@@ -63,10 +69,8 @@ module _ (tokens : List Token) (ends : Ends) (is : IsEnds tokens ends) where
       drop_split tokens ends.prefix.count (length tokens - ends.suffix.count) (omega (arith, fits, is.few_first, is.few_last))
       ∙ ap (λ ts. slice_range tokens ends.prefix.count (length tokens - ends.suffix.count) ++ ts) (is.last.tokens_are ∙ sym (append-nil (map Literal is.last.plain)))
 
-  count-inside : length (slice_range tokens ends.prefix.count (length tokens - ends.suffix.count)) ≡ length tokens - ends.prefix.count - ends.suffix.count
-  count-inside =
-      let long = length-range tokens ends.prefix.count (length tokens - ends.suffix.count) (omega (arith, fits, is.few_first, is.few_last)) (omega arith) in
-      omega (arith, long)
+  count-inside : length (slice_range tokens ends.prefix.count (length tokens - ends.suffix.count)) ≡ length tokens - ends.suffix.count - ends.prefix.count
+  count-inside = length-range tokens ends.prefix.count (length tokens - ends.suffix.count) (omega (arith, fits, is.few_first, is.few_last)) (omega arith)
 
   -- the pattern's text begins and ends with the bytes of the literals
   module _ (pattern : List ℕ) (u : IsUtf8 pattern) (has : HasTokens (chars pattern) tokens) where
@@ -150,7 +154,7 @@ module _ (tokens : List Token) (ends : Ends) (is : IsEnds tokens ends) where
         (subst (λ n. SameBytes o.case_sensitive (drop n bytes) (encode_utf8_all is.last.plain)) (sym e) has.last))
 
     pub match-iff_inside : TokensMatch o tokens (chars bytes)
-        ↔ SplitsPart o (opens_within true (chars (take start bytes)) (length (chars (take start bytes)))) (drop ends.prefix.count tokens) (length tokens - ends.prefix.count - ends.suffix.count) (chars (slice_range bytes start end))
+        ↔ SplitsPart o (opens_within true (chars (take start bytes)) (length (chars (take start bytes)))) (drop ends.prefix.count tokens) (length tokens - ends.suffix.count - ends.prefix.count) (chars (slice_range bytes start end))
     match-iff_inside =
         let here = chars (take start bytes) in
         let opening = opens_within true here (length here) in
@@ -199,57 +203,32 @@ module _ (tokens : List Token) (ends : Ends) (is : IsEnds tokens ends) where
           (pattern-first pattern v read).2 (pattern-last pattern v read).2 literal-ends
 
       pub cut-match : TokensMatch o tokens (chars bytes)
-          ↔ SplitsPart o (opens_within true (chars (take ends.prefix.bytes bytes)) (length (chars (take ends.prefix.bytes bytes)))) (drop ends.prefix.count tokens) (length tokens - ends.prefix.count - ends.suffix.count)
+          ↔ SplitsPart o (opens_within true (chars (take ends.prefix.bytes bytes)) (length (chars (take ends.prefix.bytes bytes)))) (drop ends.prefix.count tokens) (length tokens - ends.suffix.count - ends.prefix.count)
           (chars (slice_range bytes ends.prefix.bytes (length bytes - ends.suffix.bytes)))
       cut-match = match-iff_inside o bytes u ends.prefix.bytes (length bytes - ends.suffix.bytes) is.first.count_is (ap (λ n. length bytes - n) is.last.count_is)
           (pattern-first pattern v read).2 (pattern-last pattern v read).2 literal-ends
 
-  tokens-behind : drop ends.lead tokens
-      ≡ slice_range tokens ends.lead (length tokens - ends.trail) ++ (slice_range tokens (length tokens - ends.trail) (length tokens - ends.suffix.count) ++ drop (length tokens - ends.suffix.count) tokens)
-  tokens-behind =
-      drop_split tokens ends.lead (length tokens - ends.trail) (omega (arith, fits))
-      ∙ ap (λ ts. slice_range tokens ends.lead (length tokens - ends.trail) ++ ts) (drop_split tokens (length tokens - ends.trail) (length tokens - ends.suffix.count) (omega (arith, is.few_last)))
-
-  -- the tokens behind the first literals: others of one character, those between the ends, and again others
-  pub tokens-inside : drop ends.prefix.count tokens
-      ≡ slice_range tokens ends.prefix.count ends.lead
-      ++ (slice_range tokens ends.lead (length tokens - ends.trail) ++ (slice_range tokens (length tokens - ends.trail) (length tokens - ends.suffix.count) ++ drop (length tokens - ends.suffix.count) tokens))
-  tokens-inside =
-      drop_split tokens ends.prefix.count ends.lead is.few_first ∙ ap (λ ts. slice_range tokens ends.prefix.count ends.lead ++ ts) tokens-behind
-
-  pub count-between : length (slice_range tokens ends.lead (length tokens - ends.trail)) ≡ length tokens - ends.lead - ends.trail
-  count-between =
-      let long = length-range tokens ends.lead (length tokens - ends.trail) (omega (arith, fits)) (omega arith) in
-      omega (arith, long)
-
-  pub count-around : length (slice_range tokens ends.prefix.count ends.lead) + length (slice_range tokens ends.lead (length tokens - ends.trail))
-      + length (slice_range tokens (length tokens - ends.trail) (length tokens - ends.suffix.count)) ≡ length tokens - ends.prefix.count - ends.suffix.count
-  count-around =
-      let first = length-range tokens ends.prefix.count ends.lead is.few_first (omega (arith, fits)) in
-      let last = length-range tokens (length tokens - ends.trail) (length tokens - ends.suffix.count) (omega (arith, is.few_last)) (omega arith) in
-      omega (arith, first, last, count-between, fits, is.few_first, is.few_last)
+  -- without literals at the ends the whole text is left
+  pub leaves-whole : (o : MatchOptions) (text : List ℕ) → IsUtf8 text → ends.prefix.count ≡ 0 → ends.suffix.count ≡ 0 → Leaves o tokens text ends.prefix.count (length tokens - ends.suffix.count) text true
+  leaves-whole o text u first last =
+      let all : length tokens ≡ length tokens - ends.suffix.count - ends.prefix.count = omega (arith, first, last) in
+      record {
+        utf8 = u;
+        fewer = omega arith;
+        match = subst₂ (λ k n. TokensMatch o tokens (chars text) ↔ SplitsPart o true (drop k tokens) n (chars text)) (sym first) all (TokensMatch-iff_part o tokens (chars text));
+      }
 
   -- a token of the ends takes one character
   one-token : (n : ℕ) → n < length tokens → get_or (map shape_of tokens) n One ≡ One → shape_of (get_or tokens n AnyChar) ≡ One
   one-token n lt one = sym (get_or-map shape_of tokens n AnyChar One lt) ∙ one
 
-  pub ones-first : AreOnes (slice_range tokens ends.prefix.count ends.lead)
-  ones-first = record {
-    each = λ j lt.
-        let long = length-range tokens ends.prefix.count ends.lead is.few_first (omega (arith, fits)) in
-        let at = get_or-take (ends.lead - ends.prefix.count) (drop ends.prefix.count tokens) j AnyChar (omega (arith, lt, long)) ∙ get_or-drop ends.prefix.count tokens j AnyChar in
-        ap shape_of at ∙ one-token (ends.prefix.count + j) (omega (arith, lt, long, fits)) (is.ones.first (ends.prefix.count + j) (omega (arith, lt, long)));
-  }
+  pub one-first : (k : ℕ) → k < ends.lead → shape_of (get_or tokens k AnyChar) ≡ One
+  one-first k lt = one-token k (omega (arith, lt, fits)) (is.ones.first k lt)
 
-  pub ones-last : AreOnes (slice_range tokens (length tokens - ends.trail) (length tokens - ends.suffix.count))
-  ones-last = record {
-    each = λ j lt.
-        let long = length-range tokens (length tokens - ends.trail) (length tokens - ends.suffix.count) (omega (arith, is.few_last)) (omega arith) in
-        let n : ℕ = length tokens - ends.trail + j in
-        let at = get_or-take (length tokens - ends.suffix.count - (length tokens - ends.trail)) (drop (length tokens - ends.trail) tokens) j AnyChar (omega (arith, lt, long)) ∙ get_or-drop (length tokens - ends.trail) tokens j AnyChar in
-        let place : length (map shape_of tokens) - 1 - (ends.trail - 1 - j) ≡ n = omega (arith, lt, long, fits, is.few_last, length-map tokens shape_of) in
-        ap shape_of at ∙ one-token n (omega (arith, lt, long, fits, is.few_last)) (rw place at (is.ones.last (ends.trail - 1 - j) (omega (arith, lt, long, fits, is.few_last))));
-  }
+  pub one-last : (k : ℕ) → length tokens - ends.trail ≤ k → k < length tokens → shape_of (get_or tokens k AnyChar) ≡ One
+  one-last k low lt =
+      let place : length (map shape_of tokens) - 1 - (length tokens - 1 - k) ≡ k = omega (arith, lt, length-map tokens shape_of) in
+      one-token k lt (rw place at (is.ones.last (length tokens - 1 - k) (omega (arith, low, lt, fits))))
 
   -- the tokens between the ends
   long-middle : length (middle_of tokens ends) ≡ length tokens - (ends.trail - 1) - ends.lead
@@ -279,40 +258,15 @@ module _ (tokens : List Token) (ends : Ends) (is : IsEnds tokens ends) where
       mapped : map shape_of (middle_of tokens ends) ≡ take m (drop ends.lead (map shape_of tokens))
       mapped = sym (ap (take m) (drop-map shape_of ends.lead tokens) ∙ take-map shape_of m (drop ends.lead tokens))
 
-  pub part-middle : (o : MatchOptions) (opening : Bool) (part : Text)
-      → SplitsPart o opening (drop ends.lead tokens) (length tokens - ends.lead - ends.trail) part ↔ SplitsPart o opening (middle_of tokens ends) (length tokens - ends.lead - ends.trail) part
-  part-middle o opening part =
-      SplitsPart-cut o opening (drop ends.lead tokens) (length tokens - ends.lead - ends.trail) (length tokens - (ends.trail - 1) - ends.lead) part
-      (⊎_elim (λ none. inr (omega (arith, none, length-drop ends.lead tokens))) (λ some. inl (omega (arith, some, fits))) (cases_eq ends.trail 0))
-
-  -- so where the ends leave a part, it is matched by the tokens between
-  module _ (o : MatchOptions) (opening : Bool) (part text : Text) (match : TokensMatch o tokens text ↔ SplitsPart o opening (drop ends.prefix.count tokens) (length tokens - ends.prefix.count - ends.suffix.count) part) where
-    -- without other tokens than literals at the ends
-    pub match-iff_literals : ends.lead ≡ ends.prefix.count → ends.trail ≡ ends.suffix.count → TokensMatch o tokens text ↔ SplitsPart o opening (middle_of tokens ends) (length tokens - ends.lead - ends.trail) part
-    match-iff_literals lead trail =
-        let all = subst₂ (λ a z. TokensMatch o tokens text ↔ SplitsPart o opening (drop a tokens) (length tokens - a - z) part) (sym lead) (sym trail) match in
-        let middle = part-middle o opening part in
-        (λ m. middle.0 (all.0 m), λ splits. all.1 (middle.1 splits))
-
-    -- with them
-    module _ (m : ℕ) (count : m ≡ length tokens - ends.prefix.count - ends.suffix.count) where
-      pub match-stopped : (SplitsPart o opening (drop ends.prefix.count tokens) m part → ⊥) → TokensMatch o tokens text → ⊥
-      match-stopped stops found = stops (subst (λ n. SplitsPart o opening (drop ends.prefix.count tokens) n part) (sym count) (match.0 found))
-
-      pub match-iff_left : (left : Bool) (rest : Text) → SplitsPart o opening (drop ends.prefix.count tokens) m part
-          ↔ SplitsPart o left (slice_range tokens ends.lead (length tokens - ends.trail) ++ (slice_range tokens (length tokens - ends.trail) (length tokens - ends.suffix.count) ++ drop (length tokens - ends.suffix.count) tokens))
-          (length (slice_range tokens ends.lead (length tokens - ends.trail))) rest
-          → TokensMatch o tokens text ↔ SplitsPart o left (middle_of tokens ends) (length tokens - ends.lead - ends.trail) rest
-      match-iff_left left rest ends-taken =
-          let taken = subst₂ (λ ts k. SplitsPart o opening (drop ends.prefix.count tokens) m part ↔ SplitsPart o left ts k rest) (sym tokens-behind) count-between ends-taken in
-          let all = subst (λ n. TokensMatch o tokens text ↔ SplitsPart o opening (drop ends.prefix.count tokens) n part) (sym count) match in
-          let middle = part-middle o left rest in
-          (λ found. middle.0 (taken.0 (all.0 found)), λ splits. all.1 (taken.1 (middle.1 splits)))
-
--- what holds of an answer or of none, from what does
-pub MatchOption-map : {T : Type 0} {P R : Type 0} {Q S : T → Type 0} (x : Option T) → (P → R) → ((t : T) → Q t → S t) → MatchOption x P Q → MatchOption x R S
-MatchOption-map None p q h = p h
-MatchOption-map (Some t) p q h = q t h
+  -- so a part that is left to these matches where they split it
+  pub match-iff_middle : (o : MatchOptions) (text part : List ℕ) (opening : Bool) → Leaves o tokens text ends.lead (length tokens - ends.trail) part opening
+      → TokensMatch o tokens (chars text) ↔ SplitsPart o opening (middle_of tokens ends) (length tokens - ends.lead - ends.trail) (chars part)
+  match-iff_middle o text part opening left =
+      let count : length tokens - ends.trail - ends.lead ≡ length tokens - ends.lead - ends.trail = omega arith in
+      let all = subst (λ n. TokensMatch o tokens (chars text) ↔ SplitsPart o opening (drop ends.lead tokens) n (chars part)) count left.match in
+      let middle = SplitsPart-cut o opening (drop ends.lead tokens) (length tokens - ends.lead - ends.trail) (length tokens - (ends.trail - 1) - ends.lead) (chars part)
+      (⊎_elim (λ none. inr (omega (arith, none, length-drop ends.lead tokens))) (λ some. inl (omega (arith, some, fits))) (cases_eq ends.trail 0)) in
+      (λ m. middle.0 (all.0 m), λ splits. all.1 (middle.1 splits))
 
 -- one more literal at the end of some, or at the start
 pub HasLiterals-next : (tokens : List Token) (n c bytes : ℕ) (t : Token) → n < length tokens → t ≡ get_or tokens n t → t ≡ Literal c → HasLiterals (take n tokens) bytes → HasLiterals (take (n + 1) tokens) (bytes + len_utf8 c)

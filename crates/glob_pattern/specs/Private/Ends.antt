@@ -15,10 +15,6 @@ pub record HasOnes (shapes : List Shape) (lead trail : ℕ) : Type 0 where
   pub first : (j : ℕ) → j < lead → slice_index_or shapes j One ≡ One
   pub last : (i : ℕ) → i < trail → slice_index_or shapes (length shapes - 1 - i) One ≡ One
 
--- each token takes one character
-pub record AreOnes (tokens : List Token) : Type 0 where
-  pub each : (j : ℕ) → j < length tokens → shape_of (slice_index_or tokens j AnyChar) ≡ One
-
 -- the tokens are literals, of so many bytes of UTF-8
 pub record HasLiterals (tokens : List Token) (count : ℕ) : Type 0 where
   pub plain : Text

@@ -1,7 +1,9 @@
 -- Parts of a text that the first of some tokens split.
-use Rattle.std.specs.Prelude.{◌≡◌, ℕ, ◌+◌, ◌≤◌, ◌↔◌, Bool, List, ◌++◌, length, map, slice_index_or}
+use Rattle.std.specs.Prelude.{◌≡◌, ℕ, ◌+◌, ◌-◌, ◌≤◌, ◌↔◌, Bool, List, ◌++◌, chars, drop, length, map, slice_index_or}
+use Rattle.std.specs.Str.{IsUtf8}
 use Rattle.glob_text.specs.Text.{Text}
 use Rattle.glob_pattern.specs.Grammar.Tokens.{Token, shape_of}
+use Rattle.glob_pattern.specs.Matching.Texts.{TokensMatch}
 use Rattle.glob_pattern.specs.Private.Prefixes.{PrefixSplits}
 use Rattle.glob_pattern.specs.Private.TextTable.{table_within}
 use Rattle.glob_pattern.specs.declared.matcher.Shape.TheVariants.{One}
@@ -23,19 +25,14 @@ TakesFirst o tokens opening part left rest =
     (more : List Token) (n m : ℕ) → m ≡ length tokens + n
     → SplitsPart o opening (tokens ++ more) m part ↔ SplitsPart o left more n rest
 
--- no part of the start is one that tokens take
-abbrev pub StopsFirst : MatchOptions → List Token → (opening : Bool) → (part : Text) → Type 0
-StopsFirst o tokens opening part =
-    (more : List Token) (n m : ℕ) → m ≡ length tokens + n → ¬ (SplitsPart o opening (tokens ++ more) m part)
-
 -- tokens take the end of the part, and leave the rest to those before them
 abbrev pub TakesLast : MatchOptions → List Token → (opening : Bool) → (part rest : Text) → Type 0
 TakesLast o tokens opening part rest =
     (front more : List Token) (n m : ℕ) → n ≡ length front → m ≡ n + length tokens
     → SplitsPart o opening (front ++ (tokens ++ more)) m part ↔ SplitsPart o opening (front ++ (tokens ++ more)) n rest
 
--- no part of the end is one that tokens take
-abbrev pub StopsLast : MatchOptions → List Token → (opening : Bool) → (part : Text) → Type 0
-StopsLast o tokens opening part =
-    (front more : List Token) (n m : ℕ) → n ≡ length front → m ≡ n + length tokens
-    → ¬ (SplitsPart o opening (front ++ (tokens ++ more)) m part)
+-- of a text, of bytes, a part is left to the tokens from number `from` to `end`: these match the text where they split it
+pub record Leaves (o : MatchOptions) (tokens : List Token) (text : List ℕ) (from end : ℕ) (part : List ℕ) (opening : Bool) : Type 0 where
+  pub utf8 : IsUtf8 part
+  pub fewer : length (chars part) ≤ length (chars text)
+  pub match : TokensMatch o tokens (chars text) ↔ SplitsPart o opening (drop from tokens) (end - from) (chars part)

@@ -1,13 +1,13 @@
 //! What a text has to have at its ends: the literals with which a pattern begins and ends, compared as bytes, and the
 //! characters that other tokens of one character take there.
-ghost use Rattle.std.specs.Prelude.{◌≡◌, ◌+◌, ◌-◌, ◌≤◌, ◌↔◌, ◌++◌, List, length, map, take, drop, IsTrue, IfSome, MatchOption, chars};
+ghost use Rattle.std.specs.Prelude.{◌≡◌, ℕ, ◌+◌, ◌-◌, ◌≤◌, ◌↔◌, List, length, map, take, drop, IsTrue, IfSome, MatchOption, chars};
 ghost use Rattle.std.specs.Char.{len_utf8};
 ghost use Rattle.std.specs.Str.{IsUtf8};
-ghost use Rattle.glob_pattern.specs.Grammar.Tokens.{Token as TokenOf, shape_of};
+ghost use Rattle.glob_pattern.specs.Grammar.Tokens.{shape_of};
 ghost use Rattle.glob_pattern.specs.Grammar.Units.{HasTokens};
 ghost use Rattle.glob_pattern.specs.Matching.Texts.{TokensMatch};
-ghost use Rattle.glob_pattern.specs.Private.Ends.{HasOnes, AreOnes, HasLiterals, IsEnds, SameBytes, HasEnds, middle_of};
-ghost use Rattle.glob_pattern.specs.Private.Parts.{SplitsPart, TakesFirst, StopsFirst, TakesLast, StopsLast};
+ghost use Rattle.glob_pattern.specs.Private.Ends.{HasOnes, HasLiterals, IsEnds, SameBytes, HasEnds, middle_of};
+ghost use Rattle.glob_pattern.specs.Private.Parts.{Leaves};
 ghost use Rattle.glob_pattern.specs.Private.TextTable.{opens_within};
 
 use crate::matcher::{Shape, Shaped};
@@ -156,19 +156,15 @@ impl Ends {
         requires ends { IsEnds tokens.now self.now }
         requires pattern { HasTokens (chars pattern.now) tokens.now }
         ensures { MatchOption result (¬ (TokensMatch options tokens.now (chars text.now)))
-            (λ part. IsUtf8 part.text.now
-            × (length (chars part.text.now) ≤ length (chars text.now))
-            × (TokensMatch options tokens.now (chars text.now)
-            ↔ SplitsPart options part.opening (middle_of tokens.now self.now)
-            (length tokens.now - self.now.lead - self.now.trail) (chars part.text.now))) }
+            (λ left. Leaves options tokens.now text.now self.now.lead
+            (length tokens.now - self.now.trail) left.text.now left.opening) }
     {
         let part = self.strip_literals(tokens, pattern, text, options)?;
-        let first = &tokens[self.prefix.count..self.lead];
-        let last = &tokens[tokens.len() - self.trail..tokens.len() - self.suffix.count];
-        if first.is_empty() && last.is_empty() {
+        if self.prefix.count == self.lead && self.suffix.count == self.trail {
             return Some(part);
         }
-        take_ends(first, last, part, options)
+        let left = self.take_first(tokens, part, options)?;
+        self.take_last(tokens, left, options)
     }
 
     /// Takes the literals from the ends of a text. `None`: it does not have them.
@@ -183,13 +179,15 @@ impl Ends {
         requires ends { IsEnds tokens.now self.now }
         requires pattern { HasTokens (chars pattern.now) tokens.now }
         ensures { MatchOption result (¬ (TokensMatch options tokens.now (chars text.now)))
-            (λ part. IsUtf8 part.text.now
-            × (length (chars part.text.now) ≤ length (chars text.now))
-            × (TokensMatch options tokens.now (chars text.now)
-            ↔ SplitsPart options part.opening (drop self.now.prefix.count tokens.now)
-            (length tokens.now - self.now.prefix.count - self.now.suffix.count)
-            (chars part.text.now))) }
+            (λ left. Leaves options tokens.now text.now self.now.prefix.count
+            (length tokens.now - self.now.suffix.count) left.text.now left.opening) }
     {
+        if self.prefix.count == 0 && self.suffix.count == 0 {
+            return Some(Part {
+                text,
+                opening: true,
+            });
+        }
         if !self.have_literals(tokens, pattern, text.as_bytes(), options) {
             return None;
         }
@@ -199,6 +197,80 @@ impl Ends {
         Some(Part {
             text: left,
             opening: opens_after(before, true),
+        })
+    }
+
+    /// Has the tokens between the first literals and the middle take a character each from the start of a part. `None`:
+    /// they do not.
+    #[inline(always)]
+    fn take_first<'a, A: Allocator>(
+        &self,
+        tokens: &[Token<Bracket<A>>],
+        part: Part<'a>,
+        options: MatchOptions,
+    ) -> Option<Part<'a>>
+        requires utf8 { IsUtf8 part.text.now }
+        requires ends { IsEnds tokens.now self.now }
+        ensures { (text : List ℕ) → Leaves options tokens.now text self.now.prefix.count
+            (length tokens.now - self.now.suffix.count) part.entry.text.now part.entry.opening
+            → MatchOption result (¬ (TokensMatch options tokens.now (chars text)))
+            (λ left. Leaves options tokens.now text self.now.lead
+            (length tokens.now - self.now.suffix.count) left.text.now left.opening) }
+    {
+        let ones = &tokens[..self.lead];
+        let mut rest = part.text.chars();
+        let mut opening = part.opening;
+        let mut count = self.prefix.count;
+        while count < ones.len() {
+            let Some(c) = rest.next() else {
+                return None;
+            };
+            if !takes(&ones[count], options, opening, c) {
+                return None;
+            }
+            opening = c == '/';
+            count += 1;
+        }
+        Some(Part {
+            text: rest.as_str(),
+            opening,
+        })
+    }
+
+    /// Has the tokens between the middle and the last literals take a character each from the end of a part. `None`:
+    /// they do not.
+    #[inline(always)]
+    fn take_last<'a, A: Allocator>(
+        &self,
+        tokens: &[Token<Bracket<A>>],
+        part: Part<'a>,
+        options: MatchOptions,
+    ) -> Option<Part<'a>>
+        requires utf8 { IsUtf8 part.text.now }
+        requires ends { IsEnds tokens.now self.now }
+        ensures { (text : List ℕ) → Leaves options tokens.now text self.now.lead
+            (length tokens.now - self.now.suffix.count) part.entry.text.now part.entry.opening
+            → MatchOption result (¬ (TokensMatch options tokens.now (chars text)))
+            (λ left. Leaves options tokens.now text self.now.lead
+            (length tokens.now - self.now.trail) left.text.now left.opening) }
+    {
+        let mut rest = part.text.chars();
+        let start = tokens.len() - self.trail;
+        let mut end = tokens.len() - self.suffix.count;
+        while start < end {
+            let Some(c) = rest.next_back() else {
+                return None;
+            };
+            end -= 1;
+            let opening = opens_after(rest.as_str(), part.opening);
+            if !takes(&tokens[end], options, opening, c) {
+                return None;
+            }
+        }
+        let text = rest.as_str();
+        Some(Part {
+            text,
+            opening: part.opening,
         })
     }
 }
@@ -241,103 +313,6 @@ fn opens_after(text: &str, opening: bool) -> bool
         [] => opening,
         [.., last] => *last == b'/',
     }
-}
-
-/// Has the first tokens take a character each from the start of a part, and the last ones from its end.
-#[inline(never)]
-fn take_ends<'a, A: Allocator>(
-    first: &[Token<Bracket<A>>],
-    last: &[Token<Bracket<A>>],
-    part: Part<'a>,
-    options: MatchOptions,
-) -> Option<Part<'a>>
-    requires utf8 { IsUtf8 part.text.now }
-    requires first { AreOnes first.now }
-    requires last { AreOnes last.now }
-    ensures { (all between after : List TokenOf)
-        → all ≡ first.now ++ (between ++ (last.now ++ after))
-        → MatchOption result
-        (¬ (SplitsPart options part.entry.opening all
-        (length first.now + length between + length last.now) (chars part.entry.text.now)))
-        (λ left. IsUtf8 left.text.now
-        × (length (chars left.text.now) ≤ length (chars part.entry.text.now))
-        × (SplitsPart options part.entry.opening all
-        (length first.now + length between + length last.now) (chars part.entry.text.now)
-        ↔ SplitsPart options left.opening (between ++ (last.now ++ after)) (length between)
-        (chars left.text.now))) }
-{
-    let left = take_first(first, part, options)?;
-    take_last(last, left, options)
-}
-
-/// Has the tokens take a character each from the start of a part. `None`: they do not.
-#[inline(always)]
-fn take_first<'a, A: Allocator>(
-    tokens: &[Token<Bracket<A>>],
-    part: Part<'a>,
-    options: MatchOptions,
-) -> Option<Part<'a>>
-    requires utf8 { IsUtf8 part.text.now }
-    requires ones { AreOnes tokens.now }
-    ensures { MatchOption result
-        (StopsFirst options tokens.now part.entry.opening (chars part.entry.text.now))
-        (λ left. IsUtf8 left.text.now
-        × (length (chars left.text.now) ≤ length (chars part.entry.text.now))
-        × TakesFirst options tokens.now part.entry.opening (chars part.entry.text.now)
-        left.opening (chars left.text.now)) }
-{
-    let mut rest = part.text.chars();
-    let mut opening = part.opening;
-    let mut count = 0;
-    while count < tokens.len() {
-        let Some(c) = rest.next() else {
-            return None;
-        };
-        if !takes(&tokens[count], options, opening, c) {
-            return None;
-        }
-        opening = c == '/';
-        count += 1;
-    }
-    Some(Part {
-        text: rest.as_str(),
-        opening,
-    })
-}
-
-/// Has the tokens take a character each from the end of a part. `None`: they do not.
-#[inline(always)]
-fn take_last<'a, A: Allocator>(
-    tokens: &[Token<Bracket<A>>],
-    part: Part<'a>,
-    options: MatchOptions,
-) -> Option<Part<'a>>
-    requires utf8 { IsUtf8 part.text.now }
-    requires ones { AreOnes tokens.now }
-    ensures { MatchOption result
-        (StopsLast options tokens.now part.entry.opening (chars part.entry.text.now))
-        (λ left. (left.opening ≡ part.entry.opening) × IsUtf8 left.text.now
-        × (length (chars left.text.now) ≤ length (chars part.entry.text.now))
-        × TakesLast options tokens.now part.entry.opening (chars part.entry.text.now)
-        (chars left.text.now)) }
-{
-    let mut rest = part.text.chars();
-    let mut count = tokens.len();
-    while count > 0 {
-        let Some(c) = rest.next_back() else {
-            return None;
-        };
-        count -= 1;
-        let opening = opens_after(rest.as_str(), part.opening);
-        if !takes(&tokens[count], options, opening, c) {
-            return None;
-        }
-    }
-    let text = rest.as_str();
-    Some(Part {
-        text,
-        opening: part.opening,
-    })
 }
 
 /// How many tokens of one character there are before the first other: of those of `src/*.rs` four.

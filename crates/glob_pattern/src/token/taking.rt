@@ -74,7 +74,7 @@ pub fn is_excluded_separator(options: MatchOptions, c: char) -> bool
 pub fn is_excluded_dot(options: MatchOptions, opening: bool, c: char) -> bool
     ensures { result ≡ taking.is_excluded_dot options opening c }
 {
-    options.require_literal_leading_dot && opening && c == '.'
+    c == '.' && opening && options.require_literal_leading_dot
 }
 
 /// Whether `**` may take the name: no rule excludes its first character at a component start.

@@ -107,12 +107,11 @@ impl Ends {
         options: MatchOptions,
     ) -> Option<Part<'a>> {
         let part = self.strip_literals(tokens, pattern, text, options)?;
-        let first = &tokens[self.prefix.count..self.lead];
-        let last = &tokens[tokens.len() - self.trail..tokens.len() - self.suffix.count];
-        if first.is_empty() && last.is_empty() {
+        if self.prefix.count == self.lead && self.suffix.count == self.trail {
             return Some(part);
         }
-        take_ends(first, last, part, options)
+        let left = self.take_first(tokens, part, options)?;
+        self.take_last(tokens, left, options)
     }
 
     /// Takes the literals from the ends of a text. `None`: it does not have them.
@@ -124,6 +123,9 @@ impl Ends {
         text: &'a str,
         options: MatchOptions,
     ) -> Option<Part<'a>> {
+        if self.prefix.count == 0 && self.suffix.count == 0 {
+            return Some(Part { text, opening: true });
+        }
         if !self.have_literals(tokens, pattern, text.as_bytes(), options) {
             return None;
         }
@@ -131,6 +133,48 @@ impl Ends {
         let before = &text[..start];
         let left = &text[start..end];
         Some(Part { text: left, opening: opens_after(before, true) })
+    }
+
+    /// Has the tokens between the first literals and the middle take a character each from the start of a part. `None`:
+    /// they do not.
+    #[inline(always)]
+    fn take_first<'a>(&self, tokens: &[Token<Bracket>], part: Part<'a>, options: MatchOptions) -> Option<Part<'a>> {
+        let ones = &tokens[..self.lead];
+        let mut rest = part.text.chars();
+        let mut opening = part.opening;
+        let mut count = self.prefix.count;
+        while count < ones.len() {
+            let Some(c) = rest.next() else {
+                return None;
+            };
+            if !takes(&ones[count], options, opening, c) {
+                return None;
+            }
+            opening = c == '/';
+            count += 1;
+        }
+        Some(Part { text: rest.as_str(), opening })
+    }
+
+    /// Has the tokens between the middle and the last literals take a character each from the end of a part. `None`:
+    /// they do not.
+    #[inline(always)]
+    fn take_last<'a>(&self, tokens: &[Token<Bracket>], part: Part<'a>, options: MatchOptions) -> Option<Part<'a>> {
+        let mut rest = part.text.chars();
+        let start = tokens.len() - self.trail;
+        let mut end = tokens.len() - self.suffix.count;
+        while start < end {
+            let Some(c) = rest.next_back() else {
+                return None;
+            };
+            end -= 1;
+            let opening = opens_after(rest.as_str(), part.opening);
+            if !takes(&tokens[end], options, opening, c) {
+                return None;
+            }
+        }
+        let text = rest.as_str();
+        Some(Part { text, opening: part.opening })
     }
 }
 
@@ -165,56 +209,6 @@ fn opens_after(text: &str, opening: bool) -> bool {
         [] => opening,
         [.., last] => *last == b'/',
     }
-}
-
-/// Has the first tokens take a character each from the start of a part, and the last ones from its end.
-#[inline(never)]
-fn take_ends<'a>(
-    first: &[Token<Bracket>],
-    last: &[Token<Bracket>],
-    part: Part<'a>,
-    options: MatchOptions,
-) -> Option<Part<'a>> {
-    let left = take_first(first, part, options)?;
-    take_last(last, left, options)
-}
-
-/// Has the tokens take a character each from the start of a part. `None`: they do not.
-#[inline(always)]
-fn take_first<'a>(tokens: &[Token<Bracket>], part: Part<'a>, options: MatchOptions) -> Option<Part<'a>> {
-    let mut rest = part.text.chars();
-    let mut opening = part.opening;
-    let mut count = 0;
-    while count < tokens.len() {
-        let Some(c) = rest.next() else {
-            return None;
-        };
-        if !takes(&tokens[count], options, opening, c) {
-            return None;
-        }
-        opening = c == '/';
-        count += 1;
-    }
-    Some(Part { text: rest.as_str(), opening })
-}
-
-/// Has the tokens take a character each from the end of a part. `None`: they do not.
-#[inline(always)]
-fn take_last<'a>(tokens: &[Token<Bracket>], part: Part<'a>, options: MatchOptions) -> Option<Part<'a>> {
-    let mut rest = part.text.chars();
-    let mut count = tokens.len();
-    while count > 0 {
-        let Some(c) = rest.next_back() else {
-            return None;
-        };
-        count -= 1;
-        let opening = opens_after(rest.as_str(), part.opening);
-        if !takes(&tokens[count], options, opening, c) {
-            return None;
-        }
-    }
-    let text = rest.as_str();
-    Some(Part { text, opening: part.opening })
 }
 
 /// How many tokens of one character there are before the first other: of those of `src/*.rs` four.

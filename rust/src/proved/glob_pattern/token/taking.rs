@@ -49,7 +49,7 @@ pub fn is_excluded_separator(options: MatchOptions, c: char) -> bool {
 /// Whether the dot rule excludes the character from wildcards: it is a leading dot at a component start.
 #[inline(always)]
 pub fn is_excluded_dot(options: MatchOptions, opening: bool, c: char) -> bool {
-    options.require_literal_leading_dot && opening && c == '.'
+    c == '.' && opening && options.require_literal_leading_dot
 }
 
 /// Whether `**` may take the name: no rule excludes its first character at a component start.

@@ -1,7 +1,10 @@
 use Rattle.std.proofs.Common.{◌≡◌, ◌-◌, ◌∙◌, take, ap, sym, arith}
 use Rattle.std.proofs.lemmas.Bool.{false≢true}
-use Rattle.glob_pattern.proofs.MatchingLemmas.Stripped.{match-needs_ends, cut-within, cut-start, cut-end, cut-fewer, cut-match}
+use Rattle.glob_pattern.proofs.MatchingLemmas.Stripped.{match-needs_ends, cut-within, cut-start, cut-end, cut-fewer, cut-match, leaves-whole}
 use Rattle.glob_pattern.proofs.pattern.ends.Ends.strip_literals.Goals as goal
+
+pub returns-then-self-eq0-2 : goal.returns-then-self-eq0-2
+returns-then-self-eq0-2 g c = leaves-whole c.args.tokens.now c.args.self.now c.requires.ends c.args.options c.args.text.now c.utf8.text c.if-self-eq0.true c.if-self-eq0-2.true
 
 pub returns-then-not-have_literals : goal.returns-then-not-have_literals
 returns-then-not-have_literals g c =
@@ -43,4 +46,8 @@ returns g c =
     let before : c.range-before.result.now ≡ take c.args.self.now.prefix.bytes c.args.text.now = c.range-before.ensures.value ∙ ap (λ n. take n c.args.text.now) none in
     let fewer = cut-fewer c.args.tokens.now c.args.self.now c.requires.ends c.args.pattern.now c.utf8.pattern c.requires.pattern c.args.options c.args.text.now c.utf8.text
     ((rw c.as_bytes.ensures.value at c.have_literals.ensures).0 c.if-not-have_literals.false) in
-    (c.range-left.utf8, rw c.range-left.ensures.value fewer, rw (c.opens_after.ensures, before, c.range-left.ensures.value) found)
+    record {
+      utf8 = c.range-left.utf8;
+      fewer = rw c.range-left.ensures.value fewer;
+      match = rw (c.opens_after.ensures, before, c.range-left.ensures.value) found;
+    }
