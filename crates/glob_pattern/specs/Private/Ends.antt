@@ -7,7 +7,7 @@ use Rattle.glob_pattern.specs.Grammar.Tokens.{Token, shape_of}
 use Rattle.glob_pattern.specs.declared.matcher.Shape.{Shape}
 use Rattle.glob_pattern.specs.declared.matcher.Shape.TheVariants.{One}
 use Rattle.glob_pattern.specs.declared.pattern.ends.Ends.{Ends}
-use Rattle.glob_pattern.specs.declared.token.Token.TheVariants.{AnyChar, Literal}
+use Rattle.glob_pattern.specs.declared.token.Token.TheVariants.{Literal}
 
 -- the first `lead` shapes and the last `trail` are of one character, and they do not overlap
 pub record HasOnes (shapes : List Shape) (lead trail : ℕ) : Type 0 where

@@ -217,10 +217,10 @@ impl Ends {
             (λ left. Leaves options tokens.now text self.now.lead
             (length tokens.now - self.now.suffix.count) left.text.now left.opening) }
     {
-        let ones = &tokens[..self.lead];
         let mut rest = part.text.chars();
         let mut opening = part.opening;
         let mut count = self.prefix.count;
+        let ones = &tokens[..self.lead];
         while count < ones.len() {
             let Some(c) = rest.next() else {
                 return None;

@@ -1,4 +1,4 @@
-use Rattle.std.proofs.Common.{◌≡◌, ◌+◌, ◌≤◌, ◌∙◌, true, not, length, get_or, sym, ap, subst, arith}
+use Rattle.std.proofs.Common.{◌≡◌, ◌∙◌, true, not, length, get_or, sym, ap, subst, arith}
 use Rattle.std.proofs.lemmas.Bool.{eq-eqb, false≢true, not-false}
 use Rattle.glob_pattern.proofs.MatchingLemmas.Stripped.{pattern-first, pattern-last, match-needs_ends, cut-within, first-byte}
 use Rattle.glob_pattern.proofs.pattern.ends.Ends.reject.Goals as goal

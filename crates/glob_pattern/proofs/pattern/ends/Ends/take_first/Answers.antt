@@ -1,4 +1,4 @@
-use Rattle.std.proofs.Common.{◌≡◌, ◌+◌, ◌-◌, ◌<◌, ◌∙◌, true, false, get_or, length, take, sym, ap, subst, chars, arith}
+use Rattle.std.proofs.Common.{◌≡◌, ◌-◌, ◌<◌, ◌∙◌, true, false, length, take, sym, ap, subst, chars, arith}
 use Rattle.std.proofs.lemmas.List.{get_or_read, get_or-take, nil_from_length}
 use Rattle.std.proofs.lemmas.Str.{chars_past_char, chars-nil, IsUtf8-past_char}
 use Rattle.std.specs.Str.Iter.{chars_rest}
