@@ -139,10 +139,10 @@ impl Ends {
     /// they do not.
     #[inline(always)]
     fn take_first<'a>(&self, tokens: &[Token<Bracket>], part: Part<'a>, options: MatchOptions) -> Option<Part<'a>> {
-        let ones = &tokens[..self.lead];
         let mut rest = part.text.chars();
         let mut opening = part.opening;
         let mut count = self.prefix.count;
+        let ones = &tokens[..self.lead];
         while count < ones.len() {
             let Some(c) = rest.next() else {
                 return None;
