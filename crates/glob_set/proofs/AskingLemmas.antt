@@ -9,8 +9,9 @@ use Rattle.glob_text.specs.Text.{Text}
 use Rattle.glob_pattern.specs.declared.options.MatchOptions.{MatchOptions}
 use Rattle.glob_set.specs.Private.Asking.{AreAsked, AreMatches, IsFirstOf, IsLastOf, earlier, later}
 use Rattle.glob_set.specs.Private.Buckets.{Avoids, IsBucket, AreBuckets, IsAll}
-use Rattle.glob_set.specs.Private.Components.{start, text_keys, HasKey, AreKeys}
+use Rattle.glob_set.specs.declared.key.Key.{Key}
 use Rattle.glob_set.specs.Private.Keyed.{FoundNumbers, Finds}
+use Rattle.glob_set.specs.Private.Keys.{AreKeys, HasKey, IsComponentOf, IsExtensionOf}
 use Rattle.glob_set.specs.Private.Pairs.{text_class}
 use Rattle.glob_set.specs.Sets.{MatchesAt, AnyMatch, FirstMatch, LastMatch}
 
@@ -21,27 +22,27 @@ module _ (o : MatchOptions) (patterns : List Text) (text : Text) where
   within_patterns k at = at.0
 
   -- a pattern with a key is found by it
-  found_by_key : IsUtf8 text → (keys : List (Option ℕ)) (found : FoundNumbers) → AreKeys patterns keys → Finds keys (text_keys start text) found
+  found_by_key : IsUtf8 text → (keys : List (Option Key)) (found : FoundNumbers) → AreKeys patterns keys → Finds keys (λ key. IsComponentOf text key ⊎ IsExtensionOf text key) found
       → (k : ℕ) → MatchesAt o patterns text k → IsNone (get_or keys k None) ⊎ (IsTrue found.is_full ⊎ Contains found.items k)
   unfolding MatchesAt HasKey Finds
   found_by_key utf8 keys found are finds k at = of (get_or keys k None) refl (are.each k at.0)
     where
-      of : (key : Option ℕ) → get_or keys k None ≡ key → IfSome key (HasKey (get_or patterns k []))
+      of : (key : Option Key) → get_or keys k None ≡ key → IfSome key (HasKey (get_or patterns k []))
           → IsNone key ⊎ (IsTrue found.is_full ⊎ Contains found.items k)
       of None is has = inl refl
       of (Some key) is has = inr (finds k key (omega (arith, at.0, are.same_length)) is (has o text utf8 at.1))
 
   -- one without a key is in the bucket
-  listed_without_key : IsUtf8 text → (keys : List (Option ℕ)) (numbers : List ℕ) → IsBucket patterns keys (text_class text) (length patterns) numbers
+  listed_without_key : IsUtf8 text → (keys : List (Option Key)) (numbers : List ℕ) → IsBucket patterns keys (text_class text) (length patterns) numbers
       → (k : ℕ) → MatchesAt o patterns text k → IsNone (get_or keys k None) → Contains numbers k
   unfolding MatchesAt Avoids
   listed_without_key utf8 keys numbers bucket k at none =
       ⊎_elim (λ has. has) (λ avoids. absurd (avoids o text utf8 refl at.1)) (bucket.all k at.0 none)
 
   -- the numbers of a bucket, and those that are found
-  pub AreAsked-bucket : IsUtf8 text → (keys : List (Option ℕ)) (listed : List ℕ) (found : FoundNumbers) → AreKeys patterns keys
+  pub AreAsked-bucket : IsUtf8 text → (keys : List (Option Key)) (listed : List ℕ) (found : FoundNumbers) → AreKeys patterns keys
       → IsBucket patterns keys (text_class text) (length patterns) listed → found.is_full ≡ false
-      → All (λ k. k < length keys) found.items → IsNonDecreasing found.items → Finds keys (text_keys start text) found
+      → All (λ k. k < length keys) found.items → IsNonDecreasing found.items → Finds keys (λ key. IsComponentOf text key ⊎ IsExtensionOf text key) found
       → AreAsked o patterns text listed found.items
   AreAsked-bucket utf8 keys listed found are bucket room within order finds = record {
     listed_within = bucket.within;
@@ -55,7 +56,7 @@ module _ (o : MatchOptions) (patterns : List Text) (text : Text) where
   }
 
   -- all numbers
-  pub AreAsked-all : (keys : List (Option ℕ)) (listed : List ℕ) (found : List ℕ) → length keys ≡ length patterns → IsAll (length patterns) listed
+  pub AreAsked-all : (keys : List (Option Key)) (listed : List ℕ) (found : List ℕ) → length keys ≡ length patterns → IsAll (length patterns) listed
       → All (λ k. k < length keys) found → IsNonDecreasing found → AreAsked o patterns text listed found
   AreAsked-all keys listed found same all within order = record {
     listed_within = all.within;
@@ -217,7 +218,7 @@ only_matches P before numbers none only k has =
     ⊎_elim (λ (j, below, is). absurd (omega (arith, below, ap length none))) (λ at. at) (only k has)
 
 -- the bucket of a text
-pub bucket_for : (patterns : List Text) (keys : List (Option ℕ)) (buckets : List (List ℕ)) (class : ℕ) (text : Text) (bucket : List ℕ)
+pub bucket_for : (patterns : List Text) (keys : List (Option Key)) (buckets : List (List ℕ)) (class : ℕ) (text : Text) (bucket : List ℕ)
     → AreBuckets patterns keys buckets → class < 128 → class ≡ text_class text → bucket ≡ get_or buckets class bucket
     → IsBucket patterns keys (text_class text) (length patterns) bucket
 bucket_for patterns keys buckets class text bucket are small of is =

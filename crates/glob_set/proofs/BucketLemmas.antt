@@ -6,6 +6,7 @@ use Rattle.std.proofs.lemmas.List.Elements.{All-nil, All-push, All-weaker, All-g
 use Rattle.std.proofs.lemmas.List.Sorted.{IsNonDecreasingBy-push, IsNonDecreasingBy-short}
 use Rattle.std.specs.List.Sorted.{IsNonDecreasing}
 use Rattle.glob_text.specs.Text.{Text}
+use Rattle.glob_set.specs.declared.key.Key.{Key}
 use Rattle.glob_set.specs.declared.pairs.Need.{Need}
 use Rattle.glob_set.specs.Private.Pairs.{IsNeed}
 use Rattle.glob_set.specs.Private.Buckets.{Avoids, IsBucket, IsAll}
@@ -29,7 +30,7 @@ kept n k numbers new is has = subst (λ ks. Contains ks k) (sym is) (Contains-ap
 added : (n : ℕ) (numbers new : List ℕ) → new ≡ numbers ++ n ∷ [] → Contains new n
 added n numbers new is = subst (λ ks. Contains ks n) (sym is) (Contains-push numbers n)
 
-module _ (patterns : List Text) (keys : List (Option ℕ)) (class : ℕ) where
+module _ (patterns : List Text) (keys : List (Option Key)) (class : ℕ) where
   pub bucket_start : IsBucket patterns keys class 0 []
   bucket_start = record {
     within = All-nil (λ k. k < 0);
@@ -59,7 +60,7 @@ module _ (patterns : List Text) (keys : List (Option ℕ)) (class : ℕ) where
   }
 
 -- one more class has its bucket
-pub buckets_more : (patterns : List Text) (keys : List (Option ℕ)) (buckets new : List (List ℕ)) (i : ℕ) (bucket : List ℕ) → length buckets ≡ i
+pub buckets_more : (patterns : List Text) (keys : List (Option Key)) (buckets new : List (List ℕ)) (i : ℕ) (bucket : List ℕ) → length buckets ≡ i
     → ((k : ℕ) → k < i → IsBucket patterns keys k (length patterns) (get_or buckets k [])) → IsBucket patterns keys i (length patterns) bucket
     → new ≡ buckets ++ bucket ∷ []
     → record { as_many : length new ≡ i + 1; each : (k : ℕ) → k < i + 1 → IsBucket patterns keys k (length patterns) (get_or new k []) }

@@ -1,6 +1,6 @@
 -- The keys of a pattern are keys of each text that it matches.
-use Rattle.std.proofs.Common.{◌≡◌, ℕ, zero, suc, ◌+◌, ◌*◌, ◌%◌, ◌^◌, ◌<◌, ◌==◌, ◌||◌, ◌⊎◌, min, Bool, true, false, cond, List, [], ◌∷◌, ◌++◌, length, take, drop, get_or, IsTrue, fold, Contains, refl, sym, ap, ap₂, subst, ◌∙◌, arith, add-one, chars, length-drop, ⊎_elim}
-use Rattle.std.proofs.lemmas.Bool.{cond-true, cond_both, or_cases, and_parts, eqb-true, cases_lt}
+use Rattle.std.proofs.Common.{◌≡◌, ℕ, zero, suc, ◌+◌, ◌*◌, ◌%◌, ◌^◌, ◌<◌, ◌==◌, ◌||◌, ◌⊎◌, min, Bool, true, false, cond, List, [], ◌∷◌, ◌++◌, length, take, drop, get_or, IsTrue, fold, Contains, refl, sym, ap, ap₂, subst, ◌∙◌, arith, add-one, chars, length-drop, inl, ⊎_elim}
+use Rattle.std.proofs.lemmas.Bool.{cond-true, cond_both, or_cases, and_parts, eq-eqb, eqb-true, cases_lt}
 use Rattle.std.proofs.lemmas.List.{append-nil, take-append-drop, drop_all}
 use Rattle.std.proofs.lemmas.List.Elements.{Contains-append_right}
 use Rattle.std.proofs.lemmas.List.Folds.{concat-append}
@@ -9,7 +9,7 @@ use Rattle.std.proofs.lemmas.Str.{encode_ascii, encodes-append, encodes-chars}
 use Rattle.std.proofs.lemmas.Str.Ascii.{lowercase_is}
 use Rattle.std.specs.Char.{to_ascii_lowercase}
 use Rattle.std.specs.List.{concat}
-use Rattle.std.specs.Str.{encode_utf8_all}
+use Rattle.std.specs.Str.{IsUtf8, encode_utf8_all}
 use Rattle.glob_text.specs.Characters.{slash}
 use Rattle.glob_text.specs.Text.{Text}
 use Rattle.glob_pattern.specs.Computing.Tokens.{kind_of}
@@ -23,47 +23,49 @@ use Rattle.glob_pattern.specs.declared.token.Token.TheVariants.{Literal, AnyChar
 use Rattle.glob_pattern.specs.declared.pattern.tokens.TokenKind.TheVariants as kind
 use Rattle.glob_pattern.proofs.CallerLemmas.{one_reading, pieces_of_match, tokens_of_match}
 use Rattle.glob_set.specs.declared.components.Component.{Component}
-use Rattle.glob_set.specs.Private.Components.{start, after, is_asked, text_keys, HasKey, IsReadAt, IsInnerRecursive}
+use Rattle.glob_set.specs.declared.key.Key.TheVariants as variant
+use Rattle.glob_set.specs.Private.Components.{start, after, is_asked, hashes, IsReadAt, IsInnerRecursive}
+use Rattle.glob_set.specs.Private.Keys.{HasKey}
 use Rattle.glob_set.proofs.TokenPairs.{literal_within, same_ascii}
 
--- a key of what follows the next byte
-key_later : (c : Component) (b : ℕ) (bs : List ℕ) (key : ℕ) → Contains (text_keys (after c b) bs) key → Contains (text_keys c (b ∷ bs)) key
-key_later c b bs key has =
-    cond_both (is_asked c b) (c.hash ∷ text_keys (after c b) bs) (text_keys (after c b) bs) (λ keys. Contains keys key)
-    (λ _. Contains-append_right (c.hash ∷ []) (text_keys (after c b) bs) key has) (λ _. has)
+-- a hash of what follows the next byte
+hash_later : (c : Component) (b : ℕ) (bs : List ℕ) (hash : ℕ) → Contains (hashes (after c b) bs) hash → Contains (hashes c (b ∷ bs)) hash
+hash_later c b bs hash has =
+    cond_both (is_asked c b) (c.hash ∷ hashes (after c b) bs) (hashes (after c b) bs) (λ all. Contains all hash)
+    (λ _. Contains-append_right (c.hash ∷ []) (hashes (after c b) bs) hash has) (λ _. has)
 
--- a key of what follows some bytes
-keys_later : (c : Component) (xs ys : List ℕ) (key : ℕ) → Contains (text_keys (fold after c xs) ys) key → Contains (text_keys c (xs ++ ys)) key
-keys_later c [] ys key has = has
-keys_later c (x ∷ xs) ys key has = key_later c x (xs ++ ys) key (keys_later (after c x) xs ys key has)
+-- a hash of what follows some bytes
+hashes_later : (c : Component) (xs ys : List ℕ) (hash : ℕ) → Contains (hashes (fold after c xs) ys) hash → Contains (hashes c (xs ++ ys)) hash
+hashes_later c [] ys hash has = has
+hashes_later c (x ∷ xs) ys hash has = hash_later c x (xs ++ ys) hash (hashes_later (after c x) xs ys hash has)
 
 first_of : (x : ℕ) (xs : List ℕ) → Contains (x ∷ xs) x
 first_of x xs = (0, omega arith, refl)
 
--- a key here
-key_here : (c : Component) (b : ℕ) (bs : List ℕ) → IsTrue (is_asked c b) → Contains (text_keys c (b ∷ bs)) c.hash
-key_here c b bs asked =
-    subst (λ keys. Contains keys c.hash)
-    (sym (cond-true (is_asked c b) (c.hash ∷ text_keys (after c b) bs) (text_keys (after c b) bs) asked))
-    (first_of c.hash (text_keys (after c b) bs))
+-- the hash here
+hash_here : (c : Component) (b : ℕ) (bs : List ℕ) → IsTrue (is_asked c b) → Contains (hashes c (b ∷ bs)) c.hash
+hash_here c b bs asked =
+    subst (λ all. Contains all c.hash)
+    (sym (cond-true (is_asked c b) (c.hash ∷ hashes (after c b) bs) (hashes (after c b) bs) asked))
+    (first_of c.hash (hashes (after c b) bs))
 
 right_true : (a b : Bool) → IsTrue b → IsTrue (a || b)
 right_true true b is = refl
 right_true false b is = is
 
--- a head is a key, whatever follows
-key_head : (c : Component) (bytes : List ℕ) → IsTrue (c.len == 4) → Contains (text_keys c bytes) c.hash
-key_head c [] head = first_of c.hash []
-key_head c (b ∷ bs) head = key_here c b bs (right_true (b == slash) (c.len == 4) head)
+-- the hash of a head, whatever follows
+hash_of_head : (c : Component) (bytes : List ℕ) → IsTrue (c.len == 4) → Contains (hashes c bytes) c.hash
+hash_of_head c [] head = first_of c.hash []
+hash_of_head c (b ∷ bs) head = hash_here c b bs (right_true (b == slash) (c.len == 4) head)
 
--- The piece of the token of a number: one character for a literal.
-record PieceAt (o : MatchOptions) (text : Text) (tokens : List Token) (pieces : List Text) (number : ℕ) : Type 0 where
-  piece : Text
-  place : ℕ
-  more : take (suc number) pieces ≡ take number pieces ++ piece ∷ []
-  rest : drop number pieces ≡ piece ∷ drop (suc number) pieces
-  takes : TakesPiece o text (get_or tokens number AnyChar) place piece
-  form : HasForm (get_or tokens number AnyChar) (drop (suc number) tokens) piece
+-- the piece of the token of a number
+pub record PieceAt (o : MatchOptions) (text : Text) (tokens : List Token) (pieces : List Text) (number : ℕ) : Type 0 where
+  pub piece : Text
+  pub place : ℕ
+  pub more : take (suc number) pieces ≡ take number pieces ++ piece ∷ []
+  pub rest : drop number pieces ≡ piece ∷ drop (suc number) pieces
+  pub takes : TakesPiece o text (get_or tokens number AnyChar) place piece
+  pub form : HasForm (get_or tokens number AnyChar) (drop (suc number) tokens) piece
 
 piece_at : (o : MatchOptions) (text : Text) (k : ℕ) (tokens : List Token) (pieces : List Text) → AreAllowed o text k tokens pieces
     → (number : ℕ) → number < length tokens → PieceAt o text tokens pieces number
@@ -75,7 +77,7 @@ piece_at o text k (t ∷ ts) (piece ∷ pieces) (took, form, others) (suc number
     let p = piece_at o text (k + length piece) ts pieces others number (omega arith) in
     record { piece = p.piece; place = p.place; more = ap (λ ps. piece ∷ ps) p.more; rest = p.rest; takes = p.takes; form = p.form }
 
-as_many : (o : MatchOptions) (text : Text) (k : ℕ) (tokens : List Token) (pieces : List Text) → AreAllowed o text k tokens pieces → length pieces ≡ length tokens
+pub as_many : (o : MatchOptions) (text : Text) (k : ℕ) (tokens : List Token) (pieces : List Text) → AreAllowed o text k tokens pieces → length pieces ≡ length tokens
 as_many o text k [] [] allowed = refl
 as_many o text k [] (piece ∷ pieces) allowed = absurd allowed
 as_many o text k (t ∷ ts) [] allowed = absurd allowed
@@ -92,12 +94,12 @@ read_more pieces piece =
     ∙ ap (fold after start) (encodes-append (concat pieces) piece)
     ∙ fold-append after start (encode_utf8_all (concat pieces)) (encode_utf8_all piece)
 
-lower_slash : (c : ℕ) → to_ascii_lowercase c ≡ slash → c ≡ slash
-lower_slash c is =
+lower_mark : (c mark : ℕ) → mark < 65 → to_ascii_lowercase c ≡ mark → c ≡ mark
+lower_mark c mark low is =
     let cases = lowercase_is c in
-    ⊎_elim (λ low. sym (cases.1 low) ∙ is)
+    ⊎_elim (λ below. sym (cases.1 below) ∙ is)
     (λ above. ⊎_elim
-    (λ within. absurd (omega (arith, above, within, cases.0 (omega (arith, above), omega (arith, within)), is)))
+    (λ within. absurd (omega (arith, low, above, within, cases.0 (omega (arith, above), omega (arith, within)), is)))
     (λ beyond. sym (cases.2 (omega (arith, beyond))) ∙ is)
     (cases_lt c 91))
     (cases_lt c 65)
@@ -108,29 +110,42 @@ same_bools true false f g = sym (f refl)
 same_bools false true f g = g refl
 same_bools false false f g = refl
 
-same_slash : (case : Bool) (c x : ℕ) → IsTrue (is_same case c x) → c == slash ≡ x == slash
-same_slash case c x same =
+-- of two characters that are the same, either both are a mark, as `.` and `/`, or neither is
+same_mark : (mark : ℕ) → mark < 65 → (case : Bool) (c x : ℕ) → IsTrue (is_same case c x) → c == mark ≡ x == mark
+same_mark mark low case c x same =
     ⊎_elim
-    (λ is. ap (λ y. y == slash) (eqb-true c x is))
+    (λ is. ap (λ y. y == mark) (eqb-true c x is))
     (λ both.
     let lower = eqb-true (to_ascii_lowercase c) (to_ascii_lowercase x) (and_parts _ (to_ascii_lowercase c == to_ascii_lowercase x) both).1 in
-    same_bools (c == slash) (x == slash)
-    (λ is. ap (λ y. y == slash) (lower_slash x (sym lower ∙ ap to_ascii_lowercase (eqb-true c slash is))))
-    (λ is. ap (λ y. y == slash) (lower_slash c (lower ∙ ap to_ascii_lowercase (eqb-true x slash is)))))
+    let own = (lowercase_is mark).1 low in
+    same_bools (c == mark) (x == mark)
+    (λ is. eq-eqb x mark (lower_mark x mark low (sym lower ∙ ap to_ascii_lowercase (eqb-true c mark is) ∙ own)))
+    (λ is. eq-eqb c mark (lower_mark c mark low (lower ∙ ap to_ascii_lowercase (eqb-true x mark is) ∙ own))))
     (or_cases (c == x) _ same)
+
+-- a piece that is one character, the same as one of ASCII
+pub record OneCharacter (piece : Text) (x : ℕ) : Type 0 where
+  pub c : ℕ
+  pub bytes : (rest : Text) → encode_utf8_all (piece ++ rest) ≡ c ∷ encode_utf8_all rest
+  pub mark : (mark : ℕ) → mark < 65 → c == mark ≡ x == mark
+  pub low : c % 32 ≡ x % 32
+
+one_of : (case : Bool) (piece : Text) (x : ℕ) → x < 128 → length piece ≡ 1
+    → ((i : ℕ) → i < length piece → IsTrue (is_same case (get_or piece i 0) x)) → OneCharacter piece x
+one_of case [] x low one same = absurd (omega arith)
+one_of case (c ∷ []) x low one same =
+    let is = same_ascii case c x low (same 0 (omega arith)) in
+    record {
+      c = c;
+      bytes = λ rest. ap (λ p. p ++ encode_utf8_all rest) (encode_ascii c is.0);
+      mark = λ mark small. same_mark mark small case c x (same 0 (omega arith));
+      low = is.1;
+    }
+one_of case (c ∷ d ∷ cs) x low one same = absurd (omega arith)
 
 after_same : (component : Component) (c x : ℕ) → c == slash ≡ x == slash → c % 32 ≡ x % 32 → after component c ≡ after component x
 after_same component c x slashes low =
     ap₂ (λ b r. cond b start (record { hash = (component.hash * 33 + r) % 2 ^ 32; len = min (component.len + 1) 255 })) slashes low
-
--- one character that is the same as a literal of ASCII
-read_one : (case : Bool) (component : Component) (piece : Text) (x : ℕ) → x < 128 → length piece ≡ 1
-    → ((i : ℕ) → i < length piece → IsTrue (is_same case (get_or piece i 0) x)) → fold after component (encode_utf8_all piece) ≡ after component x
-read_one case component [] x low one same = absurd (omega arith)
-read_one case component (c ∷ []) x low one same =
-    let is = same_ascii case c x low (same 0 (omega arith)) in
-    ap (λ p. fold after component (p ++ [])) (encode_ascii c is.0) ∙ after_same component c x (same_slash case c x (same 0 (omega arith))) is.1
-read_one case component (c ∷ d ∷ cs) x low one same = absurd (omega arith)
 
 -- a piece of `**` before others leaves the start of a component
 read_recursive : (piece : Text) → (piece ≡ []) ⊎ EndsInSlash piece → fold after start (encode_utf8_all piece) ≡ start
@@ -143,13 +158,29 @@ read_recursive piece =
     ∙ fold-append after start (encode_utf8_all front) (slash ∷ []))
 
 module _ (o : MatchOptions) (text : Text) (tokens : List Token) (pieces : List Text) (allowed : AreAllowed o text 0 tokens pieces) where
-  after_literal : (number x : ℕ) → x < 128 → get_or tokens number AnyChar ≡ Literal x → read (take (suc number) pieces) ≡ after (read (take number pieces)) x
-  after_literal number x low is =
+  -- the piece of a literal of ASCII
+  pub one_at : (number x : ℕ) → x < 128 → get_or tokens number AnyChar ≡ Literal x
+      → (p : PieceAt o text tokens pieces number) × OneCharacter p.piece x
+  one_at number x low is =
       let p = piece_at o text 0 tokens pieces allowed number (literal_within tokens number x is) in
       let form : HasForm (Literal x) (drop (suc number) tokens) p.piece = subst (λ t. HasForm t (drop (suc number) tokens) p.piece) is p.form in
       let takes : TakesPiece o text (Literal x) p.place p.piece = subst (λ t. TakesPiece o text t p.place p.piece) is p.takes in
+      (p, one_of o.case_sensitive p.piece x low form takes)
+
+  -- the bytes of the pieces from it on
+  pub bytes_from : (number x : ℕ) (low : x < 128) (is : get_or tokens number AnyChar ≡ Literal x)
+      → encode_utf8_all (concat (drop number pieces)) ≡ (one_at number x low is).1.c ∷ encode_utf8_all (concat (drop (suc number) pieces))
+  bytes_from number x low is =
+      let (p, one) = one_at number x low is in
+      ap (λ ps. encode_utf8_all (concat ps)) p.rest ∙ one.bytes (concat (drop (suc number) pieces))
+
+  after_literal : (number x : ℕ) → x < 128 → get_or tokens number AnyChar ≡ Literal x → read (take (suc number) pieces) ≡ after (read (take number pieces)) x
+  after_literal number x low is =
+      let (p, one) = one_at number x low is in
+      let before = read (take number pieces) in
       ap read p.more ∙ read_more (take number pieces) p.piece
-      ∙ read_one o.case_sensitive (read (take number pieces)) p.piece x low form takes
+      ∙ ap (fold after before) (ap encode_utf8_all (sym (append-nil p.piece)) ∙ one.bytes [])
+      ∙ after_same before one.c x (one.mark slash (omega arith)) one.low
 
   after_recursive : (number : ℕ) → number + 1 < length tokens → get_or tokens number AnyChar ≡ Recursive → read (take number pieces) ≡ start
       → read (take (suc number) pieces) ≡ start
@@ -194,11 +225,18 @@ pub IsReadAt-start : (pattern : Text) → IsReadAt pattern 0 start
 unfolding IsReadAt
 IsReadAt-start pattern = λ o tokens text pieces has allowed. refl
 
+-- the bytes of a text in two parts, before the piece of a number and from it on
+pub parts : (number : ℕ) (pieces : List Text) (bytes : List ℕ) → IsUtf8 bytes → concat pieces ≡ chars bytes
+    → bytes ≡ encode_utf8_all (concat (take number pieces)) ++ encode_utf8_all (concat (drop number pieces))
+parts number pieces bytes utf8 are =
+    sym (encodes-chars bytes utf8) ∙ ap encode_utf8_all (sym are ∙ sym (ap concat (take-append-drop number pieces)) ∙ concat-append (take number pieces) (drop number pieces))
+    ∙ encodes-append (concat (take number pieces)) (concat (drop number pieces))
+
 -- What is read before a token is a key, if it is one whatever the pieces from there on are.
 key_of_read : (pattern : Text) (number : ℕ) (component : Component) → IsReadAt pattern number component
     → ((o : MatchOptions) (tokens : List Token) (text : Text) (pieces : List Text) → HasTokens (chars pattern) tokens → AreAllowed o text 0 tokens pieces
-    → Contains (text_keys component (encode_utf8_all (concat (drop number pieces)))) component.hash)
-    → HasKey pattern component.hash
+    → Contains (hashes component (encode_utf8_all (concat (drop number pieces)))) component.hash)
+    → HasKey pattern (variant.Component component.hash)
 unfolding HasKey IsReadAt
 key_of_read pattern number component before here =
     λ o bytes utf8 matches.
@@ -206,47 +244,33 @@ key_of_read pattern number component before here =
     let (pieces, are, allowed) = pieces_of_match o tokens (chars bytes) match in
     let front = encode_utf8_all (concat (take number pieces)) in
     let back = encode_utf8_all (concat (drop number pieces)) in
-    let split : bytes ≡ front ++ back =
-    sym (encodes-chars bytes utf8) ∙ ap encode_utf8_all (sym are ∙ sym (ap concat (take-append-drop number pieces)) ∙ concat-append (take number pieces) (drop number pieces))
-    ∙ encodes-append (concat (take number pieces)) (concat (drop number pieces)) in
-    subst (λ bs. Contains (text_keys start bs) component.hash) (sym split)
-    (keys_later start front back component.hash
-    (subst (λ c. Contains (text_keys c back) component.hash) (sym (before o tokens (chars bytes) pieces has allowed)) (here o tokens (chars bytes) pieces has allowed)))
+    inl (subst (λ bs. Contains (hashes start bs) component.hash) (sym (parts number pieces bytes utf8 are))
+    (hashes_later start front back component.hash
+    (subst (λ c. Contains (hashes c back) component.hash) (sym (before o tokens (chars bytes) pieces has allowed)) (here o tokens (chars bytes) pieces has allowed))))
 
-pub HasKey-head : (pattern : Text) (number : ℕ) (component : Component) → IsTrue (component.len == 4) → IsReadAt pattern number component → HasKey pattern component.hash
-HasKey-head pattern number component head before = key_of_read pattern number component before (λ o tokens text pieces has allowed. key_head component (encode_utf8_all (concat (drop number pieces))) head)
-
--- the first character of a piece that is a `/`
-slash_first : (case : Bool) (piece : Text) (rest : Text) → length piece ≡ 1 → ((i : ℕ) → i < length piece → IsTrue (is_same case (get_or piece i 0) slash))
-    → encode_utf8_all (piece ++ rest) ≡ slash ∷ encode_utf8_all rest
-slash_first case [] rest one same = absurd (omega arith)
-slash_first case (c ∷ []) rest one same =
-    ap (λ x. encode_utf8_all (x ∷ rest)) (eqb-true c slash (same_slash case c slash (same 0 (omega arith))))
-    ∙ ap (λ p. p ++ encode_utf8_all rest) (encode_ascii slash (omega arith))
-slash_first case (c ∷ d ∷ cs) rest one same = absurd (omega arith)
+pub HasKey-head : (pattern : Text) (number : ℕ) (component : Component) → IsTrue (component.len == 4) → IsReadAt pattern number component → HasKey pattern (variant.Component component.hash)
+HasKey-head pattern number component head before = key_of_read pattern number component before (λ o tokens text pieces has allowed. hash_of_head component (encode_utf8_all (concat (drop number pieces))) head)
 
 pub HasKey-separator : (pattern : Text) (number : ℕ) (component : Component) → HasLiteral (chars pattern) number slash → IsReadAt pattern number component
-    → HasKey pattern component.hash
+    → HasKey pattern (variant.Component component.hash)
 unfolding HasLiteral
 HasKey-separator pattern number component literal before =
     key_of_read pattern number component before
     (λ o tokens text pieces has allowed.
     let is = literal tokens has in
-    let p = piece_at o text 0 tokens pieces allowed number (literal_within tokens number slash is) in
-    let form : HasForm (Literal slash) (drop (suc number) tokens) p.piece = subst (λ t. HasForm t (drop (suc number) tokens) p.piece) is p.form in
-    let takes : TakesPiece o text (Literal slash) p.place p.piece = subst (λ t. TakesPiece o text t p.place p.piece) is p.takes in
-    let rest = concat (drop (suc number) pieces) in
-    subst (λ bs. Contains (text_keys component bs) component.hash)
-    (sym (ap (λ ps. encode_utf8_all (concat ps)) p.rest ∙ slash_first o.case_sensitive p.piece rest form takes))
-    (key_here component slash (encode_utf8_all rest) refl))
+    let low : slash < 128 = omega arith in
+    let (p, one) = one_at o text tokens pieces allowed number slash low is in
+    let rest = encode_utf8_all (concat (drop (suc number) pieces)) in
+    subst (λ bs. Contains (hashes component bs) component.hash) (sym (bytes_from o text tokens pieces allowed number slash low is))
+    (hash_here component one.c rest (ap (λ b. b || component.len == 4) (one.mark slash (omega arith)))))
 
-pub HasKey-end : (pattern : Text) (count : ℕ) (component : Component) → HasCount (chars pattern) count → IsReadAt pattern count component → HasKey pattern component.hash
+pub HasKey-end : (pattern : Text) (count : ℕ) (component : Component) → HasCount (chars pattern) count → IsReadAt pattern count component → HasKey pattern (variant.Component component.hash)
 unfolding HasCount
 HasKey-end pattern count component counted before =
     key_of_read pattern count component before
     (λ o tokens text pieces has allowed.
     let none : drop count pieces ≡ [] = drop_all count pieces (omega (arith, as_many o text 0 tokens pieces allowed, counted tokens has)) in
-    subst (λ ps. Contains (text_keys component (encode_utf8_all (concat ps))) component.hash) (sym none) (first_of component.hash []))
+    subst (λ ps. Contains (hashes component (encode_utf8_all (concat ps))) component.hash) (sym none) (first_of component.hash []))
 
 -- a token of the kind of `**`
 kind_recursive : (t : Token) → kind_of t ≡ kind.Recursive → t ≡ Recursive

@@ -8,6 +8,7 @@ pub mod BraceTexts
 pub mod BraceReadings
 pub mod BraceSetLemmas
 pub mod BucketLemmas
+pub mod ExtensionLemmas
 pub mod KeyLemmas
 pub mod KeyLists
 pub mod KeyedLemmas

@@ -1,5 +1,5 @@
 -- What a pattern of a list answers, and the first match of the list.
-use Rattle.std.proofs.Common.{◌≡◌, ℕ, suc, ◌<◌, ◌≤◌, ◌↔◌, Bool, true, false, List, [], ◌∷◌, ◌++◌, length, get_or, Option, Some, None, cond, IsTrue, bit_or, Result, Ok, Err, IfOk, sym, ap, subst, ◌∙◌, refl}
+use Rattle.std.proofs.Common.{◌≡◌, ℕ, suc, ◌<◌, ◌≤◌, ◌↔◌, Bool, true, false, List, [], ◌∷◌, ◌++◌, length, get_or, Option, Some, None, IfSome, IsSomeAnd, cond, IsTrue, bit_or, Result, Ok, Err, IfOk, sym, ap, subst, ◌∙◌, refl}
 use Rattle.std.proofs.lemmas.List.{get_or_default}
 use Rattle.std.proofs.lemmas.Bool.{false≢true}
 use Rattle.std.specs.Option.{is_some}
@@ -11,7 +11,7 @@ use Rattle.glob_pattern.specs.declared.options.MatchOptions.{MatchOptions}
 use Rattle.glob_pattern.proofs.CallerLemmas.{match_decided}
 use Rattle.glob_set.specs.Private.Pairs.{text_bits, HasBits, IsNeed, AreNeeds}
 use Rattle.glob_set.specs.declared.pairs.Need.{Need}
-use Rattle.glob_set.specs.Sets.{MatchesAt, AnyMatch, FirstMatch, matches_below, AreFirstMatches, AreShort}
+use Rattle.glob_set.specs.Sets.{MatchesAt, AnyMatch, FirstMatch, matches_below, AreShort}
 
 not_true : (b : Bool) → ¬ (b ≡ true) → b ≡ false
 not_true true not = absurd (not refl)
@@ -38,13 +38,13 @@ module _ (o : MatchOptions) (patterns : List Text) (text : Text) where
       )
 
   -- a text that lacks bits of the pattern does not match it
-  pub MatchesAt-not : (needs : List Need) (number : ℕ) (need : Need) (bits : ℕ) → AreNeeds patterns needs → IsUtf8 text → need ≡ get_or needs number need
-      → bits ≡ text_bits text → ¬ (bit_or need.bits bits ≡ bits) → ¬ (MatchesAt o patterns text number)
+  pub MatchesAt-not : (needs : List Need) (number : ℕ) (need : Need) (bits : Option ℕ) → AreNeeds patterns needs → IsUtf8 text → need ≡ get_or needs number need
+      → IfSome bits (λ known. known ≡ text_bits text) → IsSomeAnd bits (λ known. ¬ (bit_or need.bits known ≡ known)) → ¬ (MatchesAt o patterns text number)
   unfolding MatchesAt HasBits
-  MatchesAt-not needs number need bits needed utf8 is are lacks at =
-      let known : IsNeed (get_or patterns number []) need = subst (IsNeed (get_or patterns number [])) (sym is) (needed.each number need at.0) in
-      let has = known.bits o text utf8 at.1 in
-      lacks (subst (λ b. bit_or need.bits b ≡ b) (sym are) has)
+  MatchesAt-not needs number need None needed utf8 is are lacks at = absurd lacks
+  MatchesAt-not needs number need (Some known) needed utf8 is are lacks at =
+      let own : IsNeed (get_or patterns number []) need = subst (IsNeed (get_or patterns number [])) (sym is) (needed.each number need at.0) in
+      lacks (subst (λ b. bit_or need.bits b ≡ b) (sym are) (own.bits o text utf8 at.1))
 
   -- the computed matches grow by a number
   pub matches_below-yes : (n : ℕ) → MatchesAt o patterns text n → matches_below o patterns text (suc n) ≡ matches_below o patterns text n ++ n ∷ []
@@ -57,10 +57,6 @@ module _ (o : MatchOptions) (patterns : List Text) (text : Text) where
   matches_below-no n below not_at =
       ap (λ b. cond b (matches_below o patterns text n ++ n ∷ []) (matches_below o patterns text n))
       (not_true _ (λ yes. not_at (below, (match_decided o (chars (get_or patterns n [])) (chars text)).0 yes)))
-
-  pub AreFirstMatches-at : (n : ℕ) (numbers : List ℕ) → n ≤ length patterns → numbers ≡ matches_below o patterns text n → AreFirstMatches o patterns text numbers
-  unfolding AreFirstMatches
-  AreFirstMatches-at n numbers within are = (n, within, are)
 
 pub AreShort-at : (patterns : List Text) (number : ℕ) (pattern : Text) → number < length patterns → pattern ≡ get_or patterns number pattern
     → AreShort patterns → IsShort (chars pattern)

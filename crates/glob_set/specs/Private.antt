@@ -4,4 +4,5 @@ pub mod BraceSteps
 pub mod Buckets
 pub mod Components
 pub mod Keyed
+pub mod Keys
 pub mod Pairs

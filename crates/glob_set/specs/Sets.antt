@@ -1,5 +1,5 @@
 -- Which patterns of a set match a text.
-use Rattle.std.specs.Prelude.{◌≡◌, ℕ, zero, suc, ◌<◌, ◌≤◌, List, [], ◌∷◌, ◌++◌, length, slice_index_or, Option, Some, None, cond, ⊤}
+use Rattle.std.specs.Prelude.{◌≡◌, ℕ, zero, suc, ◌<◌, List, [], ◌∷◌, ◌++◌, length, slice_index_or, Option, Some, None, cond, ⊤}
 use Rattle.std.specs.Str.{chars}
 use Rattle.glob_text.specs.Text.{Text}
 use Rattle.glob_pattern.specs.Grammar.Units.{IsAccepted}
@@ -52,11 +52,6 @@ matches_below o patterns text (suc n) =
 -- the numbers of all patterns that match the text, in ascending order
 unfoldable pub all_matches : MatchOptions → (patterns : List Text) → (text : Text) → List ℕ
 all_matches o patterns text = matches_below o patterns text (length patterns)
-
--- the numbers of the first patterns that match the text, some or none of them, in ascending order
-unfoldable pub AreFirstMatches : MatchOptions → (patterns : List Text) → (text : Text) → (numbers : List ℕ) → Type 0
-AreFirstMatches o patterns text numbers =
-    (n : ℕ) × (n ≤ length patterns) × (numbers ≡ matches_below o patterns text n)
 
 -- each of the patterns has at most 63 tokens
 unfoldable pub AreShort : (patterns : List Text) → Type 0

@@ -3,6 +3,7 @@ ghost use Rattle.std.specs.Prelude.{◌≡◌, ◌≢◌, Option, ℕ, false, le
 ghost use Rattle.glob_set.specs.Private.Buckets.{IsAll, IsBucket, AreBuckets};
 ghost use Rattle.glob_set.specs.Private.Pairs.{AreNeeds};
 
+use crate::key::Key;
 use crate::pairs::Need;
 use glob_pattern::Pattern;
 use std::alloc::{AllocError, Allocator, Global};
@@ -40,7 +41,7 @@ pub fn buckets_of<A: Allocator + Copy>(
     alloc: A,
     patterns: &[Pattern<A>],
     needs: &[Need],
-    keys: &[Option<u32>],
+    keys: &[Option<Key>],
 ) -> Result<Vec<Bucket<A>, A>, AllocError>
     requires needs { AreNeeds patterns.now needs.now }
     requires keys { length keys.now ≡ length patterns.now }
@@ -58,7 +59,7 @@ fn bucket_of<A: Allocator + Copy>(
     alloc: A,
     patterns: &[Pattern<A>],
     needs: &[Need],
-    keys: &[Option<u32>],
+    keys: &[Option<Key>],
     class: u8,
 ) -> Result<Bucket<A>, AllocError>
     requires needs { AreNeeds patterns.now needs.now }
@@ -88,7 +89,7 @@ pub fn bucket_of_all<A: Allocator + Copy>(alloc: A, count: usize) -> Result<Buck
 }
 
 /// Whether a pattern with this key and this need is listed under the class.
-fn is_listed(key: Option<u32>, need: &Need, class: u8) -> bool
+fn is_listed(key: Option<Key>, need: &Need, class: u8) -> bool
     ensures { result ≡ false
         → IsSome key ⊎ IsSomeAnd need.now.class (λ known. known ≢ class) }
 {

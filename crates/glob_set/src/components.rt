@@ -1,6 +1,6 @@
 //! Components of texts, and what they are looked up by.
 ghost use Rattle.std.specs.Prelude.{◌≡◌, ◌==◌, ◌<◌};
-ghost use Rattle.glob_set.specs.Private.Components.{after, is_asked, slot_of, start};
+ghost use Rattle.glob_set.specs.Private.Components.{after, hashed, is_asked, slot_of, start};
 
 /// How many bytes the head of a component has, by which it is looked up besides.
 const HEAD: u8 = 4;
@@ -30,9 +30,8 @@ impl Component {
         if byte == b'/' {
             return Component::start();
         }
-        let hash = (u64::from(self.hash) * 33 + u64::from(byte % 32)) % (1 << 32);
         Component {
-            hash: hash as u32,
+            hash: hash_after(self.hash, byte),
             len: self.len.saturating_add(1),
         }
     }
@@ -52,6 +51,14 @@ impl Component {
     {
         byte == b'/' || self.is_head()
     }
+}
+
+/// The hash of some bytes with one more, the same in upper and in lower case. That of no byte is 0.
+#[inline(always)]
+pub fn hash_after(hash: u32, byte: u8) -> u32
+    ensures { result ≡ hashed hash byte }
+{
+    ((u64::from(hash) * 33 + u64::from(byte % 32)) % (1 << 32)) as u32
 }
 
 /// The slot of a hash in a table of so many.

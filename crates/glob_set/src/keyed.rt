@@ -1,41 +1,45 @@
 //! Patterns by their keys.
-ghost use Rattle.std.specs.Prelude.{◌≡◌, ◌+◌, ◌-◌, ◌^◌, ◌<◌, [], ◌∷◌, length, slice_index_or, replicate, Some, None, All, IfOk, IsTrue};
+ghost use Rattle.std.specs.Prelude.{◌≡◌, ◌+◌, ◌-◌, ◌^◌, ◌<◌, ◌⊎◌, ◌↔◌, [], length, slice_index_or, replicate, None, All, IfOk, IsTrue, IsSomeAnd};
 ghost use Rattle.std.specs.List.Sorted.{IsNonDecreasing};
-ghost use Rattle.glob_set.specs.Private.Components.{is_asked, start, text_keys};
-ghost use Rattle.glob_set.specs.Private.Keyed.{AreLinked, Finds, Keeps, KeepsAll, key_slot};
+ghost use Rattle.glob_set.specs.Private.Components.{is_asked};
+ghost use Rattle.glob_set.specs.Private.Keyed.{AreLinked, Finds, HasHash, Keeps, KeepsAll, key_slot};
+ghost use Rattle.glob_set.specs.Private.Keys.{IsComponentOf, IsExtensionOf};
 
 use crate::components::{Component, slot_of};
 use crate::found::Found;
+use crate::key::{Key, Kinds, extension_of, kinds_of};
 use std::alloc::{AllocError, Allocator, Global};
 use std::marker::Model;
 
 /// The keys of patterns, and the patterns by the slots of their keys.
 #[derive(Drop)]
 pub struct Keyed<A: Allocator = Global> {
-    keys: Vec<Option<u32>, A>,
+    keys: Vec<Option<Key>, A>,
     // For each slot its first pattern, and for each pattern the next in its slot, or the count of patterns. In the last
     // slot are those without a key.
     first: Vec<usize, A>,
     next: Vec<usize, A>,
-    // whether any pattern has a key
-    is_used: bool,
+    // the kinds of keys that patterns have: texts are looked up by no others
+    kinds: Kinds,
 }
 
 impl<A: Allocator> Model for Keyed<A> {
-    ghost use Rattle.std.specs.Prelude.{◌≡◌, List, ℕ, All, Option, IsNone, false};
+    ghost use Rattle.std.specs.Prelude.{List, Option};
+    ghost use Rattle.glob_set.specs.declared.key.Key.{Key};
     ghost use Rattle.glob_set.specs.Private.Keyed.{AreLinked};
+    ghost use Rattle.glob_set.specs.Private.Keys.{AreKinds};
 
-    ghost Value = { List (Option ℕ) };
+    ghost Value = { List (Option Key) };
 
     ghost view = { λ keyed. keyed.keys.items };
 
     ghost invariant = { λ keyed. AreLinked keyed.keys.items keyed.first.items keyed.next.items
-        × (keyed.is_used ≡ false → All IsNone keyed.keys.items) };
+        × AreKinds keyed.keys.items keyed.kinds };
 }
 
 impl<A: Allocator + Copy> Keyed<A> {
     /// The patterns that have these keys, in a table of so many slots.
-    pub fn new(alloc: A, keys: Vec<Option<u32>, A>, slots: usize) -> Result<Self, AllocError>
+    pub fn new(alloc: A, keys: Vec<Option<Key>, A>, slots: usize) -> Result<Self, AllocError>
         requires some { 0 < slots }
         requires few { slots < 2 ^ 64 - 1 }
         ensures { IfOk result (λ keyed. keyed ≡ keys.items) }
@@ -44,12 +48,12 @@ impl<A: Allocator + Copy> Keyed<A> {
         let mut first = vec![in alloc; count; slots + 1]?;
         let mut next = vec![in alloc; count; count]?;
         link(keys.as_slice(), first.as_mut_slice(), next.as_mut_slice());
-        let is_used = keys.iter().any(|key| key.is_some());
+        let kinds = kinds_of(keys.as_slice());
         Ok(Keyed {
             keys,
             first,
             next,
-            is_used,
+            kinds,
         })
     }
 
@@ -59,19 +63,47 @@ impl<A: Allocator + Copy> Keyed<A> {
         requires { found.old.items ≡ [] }
         ensures order { IsNonDecreasing found.new.items }
         ensures within { All (λ k. k < length self.now) found.new.items }
-        ensures all { Finds self.now (text_keys start text.now) found.new }
+        ensures all { Finds self.now
+            (λ key. IsComponentOf text.now key ⊎ IsExtensionOf text.now key) found.new }
     {
-        if self.is_used {
-            self.find_all(text, found);
-            found.sort();
+        self.find_components(text, found);
+        self.find_extension(text, found);
+        found.sort();
+    }
+
+    /// Adds the patterns that are found by a component of the text.
+    #[inline(always)]
+    fn find_components(&self, text: &[u8], found: &mut Found)
+        requires { All (λ k. k < length self.now) found.old.items }
+        ensures within { All (λ k. k < length self.now) found.new.items }
+        ensures all { Finds self.now (IsComponentOf text.now) found.new }
+    {
+        if self.kinds.components {
+            self.find_each(text, found);
         }
     }
 
-    /// Adds the patterns with a key by which the text is looked up.
-    fn find_all(&self, text: &[u8], found: &mut Found)
+    /// Adds the patterns that are found by the extension of the text.
+    #[inline(always)]
+    fn find_extension(&self, text: &[u8], found: &mut Found)
         requires { All (λ k. k < length self.now) found.old.items }
         ensures within { All (λ k. k < length self.now) found.new.items }
-        ensures all { Finds self.now (text_keys start text.now) found.new }
+        ensures kept { KeepsAll found.old found.new }
+        ensures all { Finds self.now (IsExtensionOf text.now) found.new }
+    {
+        if !self.kinds.extensions {
+            return;
+        }
+        if let Some(hash) = extension_of(text) {
+            self.find(hash, found);
+        }
+    }
+
+    /// Adds the patterns that are found by each component and each head of the text.
+    fn find_each(&self, text: &[u8], found: &mut Found)
+        requires { All (λ k. k < length self.now) found.old.items }
+        ensures within { All (λ k. k < length self.now) found.new.items }
+        ensures all { Finds self.now (IsComponentOf text.now) found.new }
     {
         let mut component = Component::start();
         for byte in text {
@@ -81,49 +113,60 @@ impl<A: Allocator + Copy> Keyed<A> {
         self.find(component.hash, found);
     }
 
-    /// Adds the patterns with the key before this byte, where this component has been read, if there is one.
+    /// Adds the patterns with the hash before this byte, where this component has been read, if there is one.
     fn find_before(&self, byte: u8, component: Component, found: &mut Found)
         requires { All (λ k. k < length self.now) found.old.items }
         ensures within { All (λ k. k < length self.now) found.new.items }
         ensures kept { KeepsAll found.old found.new }
         ensures all { IsTrue (is_asked component byte)
-            → Finds self.now (component.hash ∷ []) found.new }
+            → Finds self.now (HasHash component.hash) found.new }
     {
         if component.is_asked(byte) {
             self.find(component.hash, found);
         }
     }
 
-    /// Adds the patterns with this key.
-    fn find(&self, key: u32, found: &mut Found)
+    /// Adds the patterns whose keys have this hash.
+    fn find(&self, hash: u32, found: &mut Found)
         requires { All (λ k. k < length self.now) found.old.items }
         ensures within { All (λ k. k < length self.now) found.new.items }
         ensures kept { KeepsAll found.old found.new }
-        ensures all { Finds self.now (key ∷ []) found.new }
+        ensures all { Finds self.now (HasHash hash) found.new }
     {
-        let mut number = self.first[slot_of(key, self.first.len() - 1)];
+        let mut number = self.first[slot_of(hash, self.first.len() - 1)];
         while number < self.keys.len() {
-            self.push_if(number, key, found);
+            self.push_if(number, hash, found);
             number = self.next[number];
         }
     }
 
-    /// Adds the pattern of this number if it has this key.
-    fn push_if(&self, number: usize, key: u32, found: &mut Found)
+    /// Adds the pattern of this number if its key has this hash.
+    fn push_if(&self, number: usize, hash: u32, found: &mut Found)
         requires within { number < length self.now }
         requires found { All (λ k. k < length self.now) found.old.items }
         ensures within { All (λ k. k < length self.now) found.new.items }
         ensures kept { KeepsAll found.old found.new }
-        ensures pushed { slice_index_or self.now number None ≡ Some key → Keeps found.new number }
+        ensures pushed { IsSomeAnd (slice_index_or self.now number None) (HasHash hash)
+            → Keeps found.new number }
     {
-        if matches!(self.keys[number], Some(own) if own == key) {
+        if has_hash(self.keys[number], hash) {
             found.push(number);
         }
     }
 }
 
+/// Whether there is a key, and it has this hash.
+fn has_hash(key: Option<Key>, hash: u32) -> bool
+    ensures { IsTrue result ↔ IsSomeAnd key (HasHash hash) }
+{
+    match key {
+        Some(key) => key.hash() == hash,
+        None => false,
+    }
+}
+
 /// Links the patterns in each slot, from the last one on.
-fn link(keys: &[Option<u32>], first: &mut [usize], next: &mut [usize])
+fn link(keys: &[Option<Key>], first: &mut [usize], next: &mut [usize])
     requires some { 1 < length first.old }
     requires first { first.old ≡ replicate (length first.old) (length keys.now) }
     requires next { length next.old ≡ length keys.now }
@@ -139,21 +182,21 @@ fn link(keys: &[Option<u32>], first: &mut [usize], next: &mut [usize])
 }
 
 /// The slot of a key in a table of so many, or that of patterns without one.
-fn key_slot(key: Option<u32>, slots: usize) -> usize
+fn key_slot(key: Option<Key>, slots: usize) -> usize
     requires { 0 < slots }
     ensures slot { result ≡ key_slot key slots }
     ensures within { result < slots + 1 }
 {
     match key {
-        Some(key) => slot_of(key, slots),
+        Some(key) => slot_of(key.hash(), slots),
         None => slots,
     }
 }
 
-/// How many slots the keys of so many patterns get.
-pub fn slots_for(patterns: usize) -> usize
+/// How many slots so many keys get.
+pub fn slots_for(keys: usize) -> usize
     ensures some { 0 < result }
     ensures few { result < 2 ^ 64 - 1 }
 {
-    patterns.min(1 << 62).next_power_of_two()
+    keys.min(1 << 62).next_power_of_two()
 }

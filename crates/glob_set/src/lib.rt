@@ -8,6 +8,7 @@ mod buckets;
 mod components;
 mod error;
 mod found;
+mod key;
 mod keyed;
 mod needs;
 mod pairs;

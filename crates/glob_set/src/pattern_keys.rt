@@ -3,9 +3,13 @@ ghost use Rattle.std.specs.Prelude.{◌≡◌, ◌+◌, ◌<◌, length, chars, 
 ghost use Rattle.glob_text.specs.Characters.{slash};
 ghost use Rattle.glob_pattern.specs.Computing.Tokens.{tokens_of};
 ghost use Rattle.glob_pattern.specs.Matching.Literals.{HasLiteral};
-ghost use Rattle.glob_set.specs.Private.Components.{HasKey, IsInnerRecursive, IsReadAt, AreKeys};
+ghost use Rattle.glob_set.specs.Private.Components.{IsInnerRecursive, IsReadAt};
+ghost use Rattle.glob_set.specs.Private.Keys.{AreKeys, HasKey};
+ghost use Rattle.glob_set.specs.declared.key.Key.TheVariants.{Extension};
 
-use crate::components::{Component, slot_of};
+use crate::components::{Component, hash_after, slot_of};
+use crate::key::Key;
+use crate::keyed::slots_for;
 use crate::needs::byte_at;
 use glob_pattern::{Pattern, TokenKind, token_kind, tokens_len};
 use std::alloc::{AllocError, Allocator};
@@ -16,19 +20,21 @@ const MANY: usize = 64;
 /// How many keys of patterns a slot has at least whose keys are not rare.
 const COMMON: u8 = 12;
 
+/// How many slots there are for each pattern, so that few rare keys are counted with a common one.
+const SLOTS: usize = 16;
+
 /// For each of the patterns its rarest key, if that is rare, as that of `mod17` for `src/mod17/*.rs`. If few patterns
 /// have one, none has.
 pub fn keys_of<A: Allocator + Copy>(
     alloc: A,
     patterns: &[Pattern<A>],
-    slots: usize,
-) -> Result<Vec<Option<u32>, A>, AllocError>
-    requires { 0 < slots }
+) -> Result<Vec<Option<Key>, A>, AllocError>
     ensures { IfOk result (λ keys. AreKeys patterns.now keys.items) }
 {
     if patterns.len() < MANY {
         return no_keys(alloc, patterns);
     }
+    let slots = slots_for(patterns.len().saturating_mul(SLOTS));
     let counts = counts_of(alloc, patterns, slots)?;
     let mut found = Vec::new(alloc);
     let mut keys = Vec::new(alloc);
@@ -46,14 +52,14 @@ pub fn keys_of<A: Allocator + Copy>(
 fn no_keys<A: Allocator + Copy>(
     alloc: A,
     patterns: &[Pattern<A>],
-) -> Result<Vec<Option<u32>, A>, AllocError>
+) -> Result<Vec<Option<Key>, A>, AllocError>
     ensures { IfOk result (λ keys. AreKeys patterns.now keys.items) }
 {
     vec![in alloc; None; patterns.len()]
 }
 
 /// How many keys there are.
-fn count_some(keys: &[Option<u32>]) -> usize {
+fn count_some(keys: &[Option<Key>]) -> usize {
     let mut count = 0;
     for key in keys {
         if key.is_some() {
@@ -82,25 +88,25 @@ fn counts_of<A: Allocator + Copy>(
 }
 
 /// Counts each of the keys in its slot.
-fn count_keys(keys: &[u32], counts: &mut [u8])
+fn count_keys(keys: &[Key], counts: &mut [u8])
     requires { 0 < length counts.old }
     ensures { length counts.new ≡ length counts.old }
 {
     for key in keys {
-        let slot = slot_of(*key, counts.len());
+        let slot = slot_of(key.hash(), counts.len());
         counts[slot] = counts[slot].saturating_add(1);
     }
 }
 
 /// The key with the fewest in its slot, if they are few.
-fn rarest(keys: &[u32], counts: &[u8]) -> Option<u32>
+fn rarest(keys: &[Key], counts: &[u8]) -> Option<Key>
     requires { 0 < length counts.now }
     ensures { IfSome result (Contains keys.now) }
 {
     let mut rarest = None;
     let mut least = COMMON;
     for key in keys {
-        let count = counts[slot_of(*key, counts.len())];
+        let count = counts[slot_of(key.hash(), counts.len())];
         if count < least {
             rarest = Some(*key);
             least = count;
@@ -109,19 +115,54 @@ fn rarest(keys: &[u32], counts: &[u8]) -> Option<u32>
     rarest
 }
 
-/// Replaces the content of `keys` by the keys of the pattern: each component without wildcards, and each beginning of a
-/// component that is as long as a head.
-fn find_keys<A: Allocator>(pattern: &Pattern<A>, keys: &mut Vec<u32, A>) -> Result<(), AllocError>
+/// Replaces the content of `keys` by the keys of the pattern: each component without wildcards, each beginning of a
+/// component that is as long as a head, and the extension if no wildcard is behind its `.`.
+fn find_keys<A: Allocator>(pattern: &Pattern<A>, keys: &mut Vec<Key, A>) -> Result<(), AllocError>
     ensures { OnOk result (All (HasKey pattern.now) keys.new.items) }
 {
     keys.clear();
+    push_components(pattern, keys)?;
+    if let Some(hash) = extension_in(pattern) {
+        keys.push(Key::Extension(hash))?;
+    }
+    Ok(())
+}
+
+/// The hash of the extension that each text has that the pattern matches, if it is known: that of `c` for `**/*.c`.
+fn extension_in<A: Allocator>(pattern: &Pattern<A>) -> Option<u32>
+    ensures { IfSome result (λ hash. HasKey pattern.now (Extension hash)) }
+{
+    let mut hash = 0;
+    let mut token = tokens_len(pattern);
+    while token > 0 {
+        token -= 1;
+        let byte = byte_at(pattern, token)?;
+        if byte == b'.' {
+            return Some(hash);
+        }
+        if byte == b'/' {
+            return None;
+        }
+        hash = hash_after(hash, byte);
+    }
+    None
+}
+
+/// Adds the keys of components and heads.
+fn push_components<A: Allocator>(
+    pattern: &Pattern<A>,
+    keys: &mut Vec<Key, A>,
+) -> Result<(), AllocError>
+    requires { All (HasKey pattern.now) keys.old.items }
+    ensures { OnOk result (All (HasKey pattern.now) keys.new.items) }
+{
     let mut component = Some(Component::start());
     for token in 0..tokens_len(pattern) {
         push_key(pattern, token, component, keys)?;
         component = read_token(pattern, token, component);
     }
     if let Some(last) = component {
-        keys.push(last.hash)?;
+        keys.push(Key::Component(last.hash))?;
     }
     Ok(())
 }
@@ -131,7 +172,7 @@ fn push_key<A: Allocator>(
     pattern: &Pattern<A>,
     token: usize,
     component: Option<Component>,
-    keys: &mut Vec<u32, A>,
+    keys: &mut Vec<Key, A>,
 ) -> Result<(), AllocError>
     requires component { IfSome component (IsReadAt pattern.now token) }
     requires keys { All (HasKey pattern.now) keys.old.items }
@@ -148,13 +189,13 @@ fn key_before<A: Allocator>(
     pattern: &Pattern<A>,
     token: usize,
     component: Option<Component>,
-) -> Option<u32>
+) -> Option<Key>
     requires { IfSome component (IsReadAt pattern.now token) }
     ensures { IfSome result (HasKey pattern.now) }
 {
     let component = component?;
     if component.is_head() || is_separator(pattern, token) {
-        return Some(component.hash);
+        return Some(Key::Component(component.hash));
     }
     None
 }

@@ -1,8 +1,8 @@
 //! Sets of patterns: which of them match a text.
-ghost use Rattle.std.specs.Prelude.{◌≡◌, ℕ, List, ◌↔◌, length, map, IsTrue, IsOk, IfOk, IfErr, OnOk, OnErr};
+ghost use Rattle.std.specs.Prelude.{◌≡◌, ℕ, List, [], ◌↔◌, length, map, IsTrue, IsOk, IfOk, IfErr, OnOk, OnErr};
 ghost use Rattle.std.specs.Path.{path_bytes};
 ghost use Rattle.glob_set.specs.BraceSets.{AnyAlternativeMatches, AreAccepted, AreAlternativesOf, RefusesBraceTexts};
-ghost use Rattle.glob_set.specs.Sets.{AnyMatch, FirstMatch, LastMatch, all_matches, AreFirstMatches, AreShort, RefusesTexts};
+ghost use Rattle.glob_set.specs.Sets.{AnyMatch, FirstMatch, LastMatch, all_matches, AreShort, RefusesTexts};
 
 mod asking;
 
@@ -22,7 +22,7 @@ use std::path::Path;
 
 /// Patterns in order, and the options that they match by. It reports which of them match a text by their **numbers**,
 /// counted from 0. Most patterns are rejected untried, since the text lacks bytes that each text has that they match.
-/// Of many patterns, those with a component that few of them have are looked up by the components of the text.
+/// Of many patterns, those with a component or an extension that few of them have are looked up by those of the text.
 ///
 /// ```text
 /// let ignored = PatternSet::from_texts(alloc, &["**/*.o", "**/target/**"], options)?;
@@ -48,7 +48,7 @@ pub struct PatternSet<A: Allocator = Global> {
 impl<A: Allocator> Model for PatternSet<A> {
     ghost use Rattle.std.specs.Prelude.{length};
     ghost use Rattle.glob_set.specs.Private.Buckets.{AreBuckets, IsAll};
-    ghost use Rattle.glob_set.specs.Private.Components.{AreKeys};
+    ghost use Rattle.glob_set.specs.Private.Keys.{AreKeys};
     ghost use Rattle.glob_set.specs.Private.Pairs.{AreNeeds};
     ghost use Rattle.glob_set.specs.Sets.{Set};
 
@@ -103,15 +103,14 @@ impl<A: Allocator + Copy> PatternSet<A> {
             (λ set. set ≡ record { patterns = patterns.items; options = options }) }
     {
         let needs = needs_of(alloc, patterns.as_slice())?;
-        let slots = slots_for(patterns.len());
-        let keys = keys_of(alloc, patterns.as_slice(), slots)?;
+        let keys = keys_of(alloc, patterns.as_slice())?;
         let buckets = buckets_of(
             alloc,
             patterns.as_slice(),
             needs.as_slice(),
             keys.as_slice(),
         )?;
-        let keyed = Keyed::new(alloc, keys, slots)?;
+        let keyed = Keyed::new(alloc, keys, slots_for(patterns.len()))?;
         let all = bucket_of_all(alloc, patterns.len())?;
         Ok(PatternSet {
             patterns,
@@ -206,7 +205,7 @@ impl<A: Allocator + Copy> PatternSet<A> {
     /// Replaces the content of `numbers` by the numbers of all patterns that match the text, in ascending order: by
     /// `a*` and `*b`, 0 and 1 for `ab`, and none for `c`.
     ///
-    /// The error is a failed allocation, for `numbers` or a match. Then `numbers` has the first of them, some or none.
+    /// The error is a failed allocation, for `numbers` or a match. Then `numbers` is empty.
     pub fn matches_into<B: Allocator>(
         &self,
         text: &str,
@@ -214,11 +213,11 @@ impl<A: Allocator + Copy> PatternSet<A> {
     ) -> Result<(), AllocError>
         ensures all { OnOk result
             (numbers.new.items ≡ all_matches self.now.options self.now.patterns text.now) }
-        ensures first { OnErr result
-            (AreFirstMatches self.now.options self.now.patterns text.now numbers.new.items) }
+        ensures none { OnErr result (numbers.new.items ≡ []) }
     {
         match self.find_matches(text, numbers) {
             Ok(()) => {
+                // Those with a key come after the others, and twice where all patterns were asked.
                 numbers.as_mut_slice().sort_unstable();
                 numbers.dedup();
                 Ok(())
@@ -265,8 +264,7 @@ impl<A: Allocator + Copy> PatternSet<A> {
     ) -> Result<(), AllocError>
         ensures all { OnOk result (numbers.new.items
             ≡ all_matches self.now.options self.now.patterns (path_bytes path.entry)) }
-        ensures first { OnErr result (AreFirstMatches
-            self.now.options self.now.patterns (path_bytes path.entry) numbers.new.items) }
+        ensures none { OnErr result (numbers.new.items ≡ []) }
     {
         self.matches_into(path.as_str(), numbers)
     }

@@ -5,6 +5,7 @@ use Rattle.std.specs.List.Sorted.{IsNonDecreasing}
 use Rattle.glob_text.specs.Text.{Text}
 use Rattle.glob_pattern.specs.Matching.Texts.{Matches}
 use Rattle.glob_pattern.specs.declared.options.MatchOptions.{MatchOptions}
+use Rattle.glob_set.specs.declared.key.Key.{Key}
 use Rattle.glob_set.specs.Private.Pairs.{text_class}
 
 -- the pattern matches no text of the class
@@ -14,13 +15,13 @@ Avoids pattern class =
     → Matches o (chars pattern) (chars bytes) → ⊥
 
 -- ascending numbers of patterns below n, and each pattern without a key that matches a text of the class is among them
-pub record IsBucket (patterns : List Text) (keys : List (Option ℕ)) (class n : ℕ) (numbers : List ℕ) : Type 0 where
+pub record IsBucket (patterns : List Text) (keys : List (Option Key)) (class n : ℕ) (numbers : List ℕ) : Type 0 where
   pub within : All (λ k. k < n) numbers
   pub order : IsNonDecreasing numbers
   pub all : (k : ℕ) → k < n → IsNone (slice_index_or keys k None) → Contains numbers k ⊎ Avoids (slice_index_or patterns k []) class
 
 -- a bucket for each class
-pub record AreBuckets (patterns : List Text) (keys : List (Option ℕ)) (buckets : List (List ℕ)) : Type 0 where
+pub record AreBuckets (patterns : List Text) (keys : List (Option Key)) (buckets : List (List ℕ)) : Type 0 where
   pub as_many : length buckets ≡ 128
   pub each : (class : ℕ) → class < 128
       → IsBucket patterns keys class (length patterns) (slice_index_or buckets class [])

@@ -1,12 +1,12 @@
--- What the components of a text are looked up by, and what the patterns have of it that match the text.
-use Rattle.std.specs.Prelude.{◌≡◌, ℕ, ◌+◌, ◌-◌, ◌*◌, ◌%◌, ◌^◌, ◌<◌, Bool, ◌||◌, ◌==◌, min, cond, List, [], ◌∷◌, length, take, slice_index_or, bit_and, Option, None, IfSome, fold, Contains, chars}
+-- The components of a text by their hashes, and how a pattern reads them.
+use Rattle.std.specs.Prelude.{◌≡◌, ℕ, ◌+◌, ◌-◌, ◌*◌, ◌%◌, ◌^◌, ◌<◌, Bool, ◌||◌, ◌==◌, min, cond, List, [], ◌∷◌, length, take, slice_index_or, bit_and, fold, chars}
 use Rattle.std.specs.List.{concat}
-use Rattle.std.specs.Str.{IsUtf8, encode_utf8_all}
+use Rattle.std.specs.Str.{encode_utf8_all}
 use Rattle.glob_text.specs.Characters.{slash}
 use Rattle.glob_text.specs.Text.{Text}
 use Rattle.glob_pattern.specs.Grammar.Tokens.{Token}
 use Rattle.glob_pattern.specs.Grammar.Units.{HasTokens}
-use Rattle.glob_pattern.specs.Matching.Texts.{AreAllowed, Matches}
+use Rattle.glob_pattern.specs.Matching.Texts.{AreAllowed}
 use Rattle.glob_pattern.specs.declared.options.MatchOptions.{MatchOptions}
 use Rattle.glob_pattern.specs.declared.token.Token.TheVariants.{AnyChar, Recursive}
 use Rattle.glob_set.specs.declared.components.Component.{Component}
@@ -15,26 +15,22 @@ use Rattle.glob_set.specs.declared.components.Component.{Component}
 abbrev pub start : Component
 start = record { hash = 0; len = 0 }
 
+-- the hash of some bytes with one more, the same in upper and in lower case
+abbrev pub hashed : (hash byte : ℕ) → ℕ
+hashed hash byte = (hash * 33 + byte % 32) % 2 ^ 32
+
 -- the component with one byte more, or after `/` the next one
 abbrev pub after : Component → ℕ → Component
-after c b =
-    cond (b == slash) start
-    (record { hash = (c.hash * 33 + b % 32) % 2 ^ 32; len = min (c.len + 1) 255 })
+after c b = cond (b == slash) start (record { hash = hashed c.hash b; len = min (c.len + 1) 255 })
 
 -- texts are looked up by what has been read, before the byte
 abbrev pub is_asked : Component → ℕ → Bool
 is_asked c b = b == slash || c.len == 4
 
--- the hashes by which a text is looked up, where a component has been read before it
-abbrev pub text_keys : Component → List ℕ → List ℕ
-text_keys c [] = c.hash ∷ []
-text_keys c (b ∷ bs) = cond (is_asked c b) (c.hash ∷ text_keys (after c b) bs) (text_keys (after c b) bs)
-
--- each text that the pattern matches is looked up by the hash
-unfoldable pub HasKey : (pattern : Text) → (key : ℕ) → Type 0
-HasKey pattern key =
-    (o : MatchOptions) (bytes : List ℕ) → IsUtf8 bytes → Matches o (chars pattern) (chars bytes)
-    → Contains (text_keys start bytes) key
+-- the hashes of the components and heads of a text, where a component has been read before it
+abbrev pub hashes : Component → List ℕ → List ℕ
+hashes c [] = c.hash ∷ []
+hashes c (b ∷ bs) = cond (is_asked c b) (c.hash ∷ hashes (after c b) bs) (hashes (after c b) bs)
 
 -- in each text that the pattern matches, this is read before the piece of the token of the number
 unfoldable pub IsReadAt : (pattern : Text) → (number : ℕ) → Component → Type 0
@@ -48,11 +44,6 @@ unfoldable pub IsInnerRecursive : (pattern : Text) → (number : ℕ) → Type 0
 IsInnerRecursive pattern number =
     (tokens : List Token) → HasTokens pattern tokens
     → (number + 1 < length tokens) × (slice_index_or tokens number AnyChar ≡ Recursive)
-
--- keys of the patterns, in order
-pub record AreKeys (patterns : List Text) (keys : List (Option ℕ)) : Type 0 where
-  pub same_length : length keys ≡ length patterns
-  pub each : (k : ℕ) → k < length patterns → IfSome (slice_index_or keys k None) (HasKey (slice_index_or patterns k []))
 
 -- the slot of a hash in a table of so many
 abbrev pub slot_of : (hash slots : ℕ) → ℕ

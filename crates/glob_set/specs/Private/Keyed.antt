@@ -1,7 +1,9 @@
 -- The patterns that have a key by which a text is looked up.
 use Rattle.std.specs.Prelude.{◌≡◌, ◌≢◌, ℕ, ◌+◌, ◌-◌, ◌<◌, ◌≤◌, ◌⊎◌, Bool, true, ◌==◌, cond, List, [], ◌∷◌, ◌++◌, length, slice_index, slice_index_or, Option, Some, None, IsTrue, Contains}
 use Rattle.std.specs.List.{list_any}
+use Rattle.glob_set.specs.declared.key.Key.{Key}
 use Rattle.glob_set.specs.Private.Components.{slot_of}
+use Rattle.glob_set.specs.Private.Keys.{hash_of}
 
 -- numbers, and whether one more had no room
 pub record FoundNumbers : Type 0 where
@@ -24,26 +26,30 @@ Keeps found number = IsTrue found.is_full ⊎ Contains found.items number
 unfoldable pub KeepsAll : (old new : FoundNumbers) → Type 0
 KeepsAll old new = (number : ℕ) → Keeps old number → Keeps new number
 
--- each pattern that has one of the keys is there
-unfoldable pub Finds : (keys : List (Option ℕ)) → (asked : List ℕ) → FoundNumbers → Type 0
+-- each pattern with a key that is asked for is there
+unfoldable pub Finds : (keys : List (Option Key)) → (asked : Key → Type 0) → FoundNumbers → Type 0
 Finds keys asked found =
-    (number key : ℕ) → number < length keys → slice_index_or keys number None ≡ Some key → Contains asked key
+    (number : ℕ) (key : Key) → number < length keys → slice_index_or keys number None ≡ Some key → asked key
     → Keeps found number
 
+-- the key has the hash
+abbrev pub HasHash : (hash : ℕ) → Key → Type 0
+HasHash hash key = hash_of key ≡ hash
+
 -- the slot of a key in a table of so many, or that of patterns without one
-abbrev pub key_slot : (key : Option ℕ) → (slots : ℕ) → ℕ
-key_slot (Some key) slots = slot_of key slots
+abbrev pub key_slot : (key : Option Key) → (slots : ℕ) → ℕ
+key_slot (Some key) slots = slot_of (hash_of key) slots
 key_slot None slots = slots
 
 -- the first pattern in a slot from a number on is this one, or there is none
-pub record IsNext (keys : List (Option ℕ)) (slots slot from next : ℕ) : Type 0 where
+pub record IsNext (keys : List (Option Key)) (slots slot from next : ℕ) : Type 0 where
   pub after : from ≤ next
   pub within : next ≤ length keys
   pub here : next < length keys → key_slot (slice_index_or keys next None) slots ≡ slot
   pub between : (k : ℕ) → from ≤ k → k < next → key_slot (slice_index_or keys k None) slots ≢ slot
 
 -- each slot leads to its first pattern, and each pattern to the next in its slot
-pub record AreLinked (keys : List (Option ℕ)) (firsts nexts : List ℕ) : Type 0 where
+pub record AreLinked (keys : List (Option Key)) (firsts nexts : List ℕ) : Type 0 where
   pub some : 1 < length firsts
   pub as_many : length nexts ≡ length keys
   pub first : (slot : ℕ) → slot < length firsts → IsNext keys (length firsts - 1) slot 0 (slice_index firsts slot)

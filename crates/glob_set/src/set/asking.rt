@@ -1,14 +1,17 @@
 //! Asking the patterns of a set that may match a text.
-ghost use Rattle.std.specs.Prelude.{◌≡◌, ℕ, [], ◌<◌, false, ◌⊎◌, ◌↔◌, length, All, Contains, IsTrue, IsOk, IfOk, OnOk};
+ghost use Rattle.std.specs.Prelude.{◌≡◌, ◌≢◌, ℕ, [], ◌<◌, false, ◌⊎◌, ◌↔◌, length, bit_or, All, Contains, IfSome, IsSomeAnd, IsTrue, IsOk, IfOk, OnOk};
 ghost use Rattle.std.specs.List.Sorted.{IsNonDecreasing};
 ghost use Rattle.glob_set.specs.Private.Asking.{AreAsked, AreMatches, IsFirstOf, IsLastOf, earlier, later};
 ghost use Rattle.glob_set.specs.Private.Pairs.{text_bits};
 ghost use Rattle.glob_set.specs.Sets.{AreShort, MatchesAt};
 
 use crate::found::Found;
-use crate::pairs::{text_bits, text_class};
+use crate::pairs::{Need, text_bits, text_class};
 use crate::set::PatternSet;
 use std::alloc::{AllocError, Allocator};
+
+/// How many patterns of a list make it worthwhile to know the bits of the text.
+const MANY: usize = 3;
 
 impl<A: Allocator + Copy> PatternSet<A> {
     /// The numbers of the patterns without a key that may match the text. Those of the others go into `found`; if it
@@ -32,11 +35,11 @@ impl<A: Allocator + Copy> PatternSet<A> {
         &self,
         numbers: &[usize],
         text: &str,
-        bits: u128,
+        bits: Option<u128>,
     ) -> Result<Option<usize>, AllocError>
         requires within { All (λ k. k < length self.now.patterns) numbers.now }
         requires order { IsNonDecreasing numbers.now }
-        requires bits { 0 < length numbers.now → bits ≡ text_bits text.now }
+        requires bits { IfSome bits (λ known. known ≡ text_bits text.now) }
         ensures answer { IfOk result
             (IsFirstOf self.now.options self.now.patterns text.now numbers.now) }
         ensures short { AreShort self.now.patterns → IsOk result }
@@ -55,11 +58,11 @@ impl<A: Allocator + Copy> PatternSet<A> {
         &self,
         numbers: &[usize],
         text: &str,
-        bits: u128,
+        bits: Option<u128>,
     ) -> Result<Option<usize>, AllocError>
         requires within { All (λ k. k < length self.now.patterns) numbers.now }
         requires order { IsNonDecreasing numbers.now }
-        requires bits { 0 < length numbers.now → bits ≡ text_bits text.now }
+        requires bits { IfSome bits (λ known. known ≡ text_bits text.now) }
         ensures answer { IfOk result
             (IsLastOf self.now.options self.now.patterns text.now numbers.now) }
         ensures short { AreShort self.now.patterns → IsOk result }
@@ -109,11 +112,11 @@ impl<A: Allocator + Copy> PatternSet<A> {
         &self,
         asked: &[usize],
         text: &str,
-        bits: u128,
+        bits: Option<u128>,
         numbers: &mut Vec<usize, B>,
     ) -> Result<(), AllocError>
         requires within { All (λ k. k < length self.now.patterns) asked.now }
-        requires bits { 0 < length asked.now → bits ≡ text_bits text.now }
+        requires bits { IfSome bits (λ known. known ≡ text_bits text.now) }
         ensures only { (k : ℕ) → Contains numbers.new.items k
             → Contains numbers.old.items k
             ⊎ MatchesAt self.now.options self.now.patterns text.now k }
@@ -130,32 +133,42 @@ impl<A: Allocator + Copy> PatternSet<A> {
         Ok(())
     }
 
-    /// Whether the pattern of this number matches the text of these bits.
+    /// Whether the pattern of this number matches the text, whose bits are known or not.
     #[inline(always)]
-    fn matches_at(&self, number: usize, text: &str, bits: u128) -> Result<bool, AllocError>
+    fn matches_at(&self, number: usize, text: &str, bits: Option<u128>) -> Result<bool, AllocError>
         requires number { number < length self.now.patterns }
-        requires bits { bits ≡ text_bits text.now }
+        requires bits { IfSome bits (λ known. known ≡ text_bits text.now) }
         ensures answer { IfOk result (λ yes. IsTrue yes
             ↔ MatchesAt self.now.options self.now.patterns text.now number) }
         ensures short { AreShort self.now.patterns → IsOk result }
     {
-        if self.needs[number].bits | bits != bits {
+        if lacks(&self.needs[number], bits) {
             return Ok(false);
         }
         self.patterns[number].matches_with(text, self.options)
     }
 }
 
-/// The bits of the text, if patterns of any numbers are asked about it.
+/// Whether a text of these bits, if they are known, lacks one that is needed.
 #[inline(always)]
-pub(crate) fn bits_for(text: &str, listed: &[usize], found: &[usize]) -> u128
-    ensures listed { 0 < length listed.now → result ≡ text_bits text.now }
-    ensures found { 0 < length found.now → result ≡ text_bits text.now }
+fn lacks(need: &Need, bits: Option<u128>) -> bool
+    ensures { IsTrue result → IsSomeAnd bits (λ known. bit_or need.now.bits known ≢ known) }
 {
-    if listed.is_empty() && found.is_empty() {
-        return 0;
+    match bits {
+        Some(known) => need.bits | known != known,
+        None => false,
     }
-    text_bits(text.as_bytes())
+}
+
+/// The bits of the text, unless few patterns are asked about it: these are tried sooner than its bits are known.
+#[inline(always)]
+pub(crate) fn bits_for(text: &str, listed: &[usize], found: &[usize]) -> Option<u128>
+    ensures { IfSome result (λ known. known ≡ text_bits text.now) }
+{
+    if listed.len() < MANY && found.len() < MANY {
+        return None;
+    }
+    Some(text_bits(text.as_bytes()))
 }
 
 /// The lower of two numbers, or the one that there is.

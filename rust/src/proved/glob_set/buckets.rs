@@ -4,6 +4,7 @@
 //! Lists of the patterns without a key that may match a text, by the class of its last two bytes.
 
 use crate::proved::glob_pattern::Pattern;
+use crate::proved::glob_set::key::Key;
 use crate::proved::glob_set::pairs::Need;
 
 /// How many classes there are.
@@ -24,7 +25,7 @@ impl Bucket {
 }
 
 /// For each class the numbers of the patterns without a key that may match a text of it.
-pub fn buckets_of(patterns: &[Pattern], needs: &[Need], keys: &[Option<u32>]) -> Vec<Bucket> {
+pub fn buckets_of(patterns: &[Pattern], needs: &[Need], keys: &[Option<Key>]) -> Vec<Bucket> {
     let mut buckets = Vec::new();
     for class in 0..CLASSES {
         buckets.push(bucket_of(patterns, needs, keys, class));
@@ -33,7 +34,7 @@ pub fn buckets_of(patterns: &[Pattern], needs: &[Need], keys: &[Option<u32>]) ->
 }
 
 /// The numbers of the patterns without a key that may match a text of the class.
-fn bucket_of(patterns: &[Pattern], needs: &[Need], keys: &[Option<u32>], class: u8) -> Bucket {
+fn bucket_of(patterns: &[Pattern], needs: &[Need], keys: &[Option<Key>], class: u8) -> Bucket {
     let _ = patterns;
     let mut numbers = Vec::new();
     for number in 0..needs.len() {
@@ -54,7 +55,7 @@ pub fn bucket_of_all(count: usize) -> Bucket {
 }
 
 /// Whether a pattern with this key and this need is listed under the class.
-fn is_listed(key: Option<u32>, need: &Need, class: u8) -> bool {
+fn is_listed(key: Option<Key>, need: &Need, class: u8) -> bool {
     key.is_none() && may_be_of(need, class)
 }
 

@@ -27,8 +27,7 @@ impl Component {
         if byte == b'/' {
             return Component::start();
         }
-        let hash = (u64::from(self.hash) * 33 + u64::from(byte % 32)) % (1 << 32);
-        Component { hash: hash as u32, len: self.len.saturating_add(1) }
+        Component { hash: hash_after(self.hash, byte), len: self.len.saturating_add(1) }
     }
 
     /// Whether a head has been read.
@@ -42,6 +41,12 @@ impl Component {
     pub fn is_asked(self, byte: u8) -> bool {
         byte == b'/' || self.is_head()
     }
+}
+
+/// The hash of some bytes with one more, the same in upper and in lower case. That of no byte is 0.
+#[inline(always)]
+pub fn hash_after(hash: u32, byte: u8) -> u32 {
+    ((u64::from(hash) * 33 + u64::from(byte % 32)) % (1 << 32)) as u32
 }
 
 /// The slot of a hash in a table of so many.

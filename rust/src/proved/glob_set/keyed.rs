@@ -5,43 +5,62 @@
 
 use crate::proved::glob_set::components::{slot_of, Component};
 use crate::proved::glob_set::found::Found;
+use crate::proved::glob_set::key::{extension_of, kinds_of, Key, Kinds};
 
 /// The keys of patterns, and the patterns by the slots of their keys.
 #[derive(Clone)]
 pub struct Keyed {
-    keys: Vec<Option<u32>>,
+    keys: Vec<Option<Key>>,
     // For each slot its first pattern, and for each pattern the next in its slot, or the count of patterns. In the last
     // slot are those without a key.
     first: Vec<usize>,
     next: Vec<usize>,
-    // whether any pattern has a key
-    is_used: bool,
+    // the kinds of keys that patterns have: texts are looked up by no others
+    kinds: Kinds,
 }
 
 impl Keyed {
     /// The patterns that have these keys, in a table of so many slots.
-    pub fn new(keys: Vec<Option<u32>>, slots: usize) -> Self {
+    pub fn new(keys: Vec<Option<Key>>, slots: usize) -> Self {
         let count = keys.len();
         let mut first = Vec::with_capacity(slots + 1);
         first.resize(slots + 1, count);
         let mut next = Vec::with_capacity(count);
         next.resize(count, count);
         link(keys.as_slice(), first.as_mut_slice(), next.as_mut_slice());
-        let is_used = keys.iter().any(|key| key.is_some());
-        Keyed { keys, first, next, is_used }
+        let kinds = kinds_of(keys.as_slice());
+        Keyed { keys, first, next, kinds }
     }
 
     /// Puts the patterns with a key by which the text is looked up into `found`, in ascending order.
     #[inline(always)]
     pub fn find_in(&self, text: &[u8], found: &mut Found) {
-        if self.is_used {
-            self.find_all(text, found);
-            found.sort();
+        self.find_components(text, found);
+        self.find_extension(text, found);
+        found.sort();
+    }
+
+    /// Adds the patterns that are found by a component of the text.
+    #[inline(always)]
+    fn find_components(&self, text: &[u8], found: &mut Found) {
+        if self.kinds.components {
+            self.find_each(text, found);
         }
     }
 
-    /// Adds the patterns with a key by which the text is looked up.
-    fn find_all(&self, text: &[u8], found: &mut Found) {
+    /// Adds the patterns that are found by the extension of the text.
+    #[inline(always)]
+    fn find_extension(&self, text: &[u8], found: &mut Found) {
+        if !self.kinds.extensions {
+            return;
+        }
+        if let Some(hash) = extension_of(text) {
+            self.find(hash, found);
+        }
+    }
+
+    /// Adds the patterns that are found by each component and each head of the text.
+    fn find_each(&self, text: &[u8], found: &mut Found) {
         let mut component = Component::start();
         for byte in text {
             self.find_before(*byte, component, found);
@@ -50,32 +69,40 @@ impl Keyed {
         self.find(component.hash, found);
     }
 
-    /// Adds the patterns with the key before this byte, where this component has been read, if there is one.
+    /// Adds the patterns with the hash before this byte, where this component has been read, if there is one.
     fn find_before(&self, byte: u8, component: Component, found: &mut Found) {
         if component.is_asked(byte) {
             self.find(component.hash, found);
         }
     }
 
-    /// Adds the patterns with this key.
-    fn find(&self, key: u32, found: &mut Found) {
-        let mut number = self.first[slot_of(key, self.first.len() - 1)];
+    /// Adds the patterns whose keys have this hash.
+    fn find(&self, hash: u32, found: &mut Found) {
+        let mut number = self.first[slot_of(hash, self.first.len() - 1)];
         while number < self.keys.len() {
-            self.push_if(number, key, found);
+            self.push_if(number, hash, found);
             number = self.next[number];
         }
     }
 
-    /// Adds the pattern of this number if it has this key.
-    fn push_if(&self, number: usize, key: u32, found: &mut Found) {
-        if matches!(self.keys[number], Some(own) if own == key) {
+    /// Adds the pattern of this number if its key has this hash.
+    fn push_if(&self, number: usize, hash: u32, found: &mut Found) {
+        if has_hash(self.keys[number], hash) {
             found.push(number);
         }
     }
 }
 
+/// Whether there is a key, and it has this hash.
+fn has_hash(key: Option<Key>, hash: u32) -> bool {
+    match key {
+        Some(key) => key.hash() == hash,
+        None => false,
+    }
+}
+
 /// Links the patterns in each slot, from the last one on.
-fn link(keys: &[Option<u32>], first: &mut [usize], next: &mut [usize]) {
+fn link(keys: &[Option<Key>], first: &mut [usize], next: &mut [usize]) {
     let mut number = keys.len();
     while number > 0 {
         number -= 1;
@@ -86,14 +113,14 @@ fn link(keys: &[Option<u32>], first: &mut [usize], next: &mut [usize]) {
 }
 
 /// The slot of a key in a table of so many, or that of patterns without one.
-fn key_slot(key: Option<u32>, slots: usize) -> usize {
+fn key_slot(key: Option<Key>, slots: usize) -> usize {
     match key {
-        Some(key) => slot_of(key, slots),
+        Some(key) => slot_of(key.hash(), slots),
         None => slots,
     }
 }
 
-/// How many slots the keys of so many patterns get.
-pub fn slots_for(patterns: usize) -> usize {
-    patterns.min(1 << 62).next_power_of_two()
+/// How many slots so many keys get.
+pub fn slots_for(keys: usize) -> usize {
+    keys.min(1 << 62).next_power_of_two()
 }

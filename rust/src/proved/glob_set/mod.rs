@@ -10,6 +10,7 @@ mod buckets;
 mod components;
 mod error;
 mod found;
+mod key;
 mod keyed;
 mod needs;
 mod pairs;

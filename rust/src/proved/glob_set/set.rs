@@ -18,7 +18,7 @@ use asking::{bits_for, earlier, later};
 
 /// Patterns in order, and the options that they match by. It reports which of them match a text by their **numbers**,
 /// counted from 0. Most patterns are rejected untried, since the text lacks bytes that each text has that they match.
-/// Of many patterns, those with a component that few of them have are looked up by the components of the text.
+/// Of many patterns, those with a component or an extension that few of them have are looked up by those of the text.
 ///
 /// ```text
 /// let ignored = PatternSet::from_texts(&["**/*.o", "**/target/**"], options)?;
@@ -65,10 +65,9 @@ impl PatternSet {
     /// A set of these patterns, in this order.
     pub fn new(patterns: Vec<Pattern>, options: MatchOptions) -> Self {
         let needs = needs_of(patterns.as_slice());
-        let slots = slots_for(patterns.len());
-        let keys = keys_of(patterns.as_slice(), slots);
+        let keys = keys_of(patterns.as_slice());
         let buckets = buckets_of(patterns.as_slice(), needs.as_slice(), keys.as_slice());
-        let keyed = Keyed::new(keys, slots);
+        let keyed = Keyed::new(keys, slots_for(patterns.len()));
         let all = bucket_of_all(patterns.len());
         PatternSet { patterns, needs, keyed, buckets, all, options }
     }
@@ -123,6 +122,7 @@ impl PatternSet {
     pub fn matches_into(&self, text: &str, numbers: &mut Vec<usize>) {
         self.find_matches(text, numbers);
 
+        // Those with a key come after the others, and twice where all patterns were asked.
         numbers.as_mut_slice().sort_unstable();
         numbers.dedup();
     }

@@ -1,22 +1,7 @@
-use Rattle.std.proofs.Common.{◌≡◌, All, IfSome, sym, subst, arith, chars}
-use Rattle.std.proofs.lemmas.List.Elements.{All-nil, All-push}
-use Rattle.glob_pattern.specs.Matching.Literals.{HasCount}
-use Rattle.glob_set.specs.Private.Components.{HasKey, IsReadAt}
-use Rattle.glob_set.proofs.KeyLemmas.{IsReadAt-start, HasKey-end}
+use Rattle.std.proofs.Common.{All, sym, subst}
+use Rattle.std.proofs.lemmas.List.Elements.{All-nil}
+use Rattle.glob_set.specs.Private.Keys.{HasKey}
 use Rattle.glob_set.proofs.pattern_keys.find_keys.Goals as goal
 
-pub loop-token-init : goal.loop-token-init
-loop-token-init g c = record {
-  component = subst (IsReadAt c.args.pattern.now 0) (sym c.start.ensures) (IsReadAt-start c.args.pattern.now);
-  keys = subst (All (HasKey c.args.pattern.now)) (sym c.clear.ensures.items) (All-nil (HasKey c.args.pattern.now));
-}
-
-pub returns-in_ok-push : goal.returns-in_ok-push
-returns-in_ok-push g c =
-    let pattern = c.args.pattern.now in
-    let l = c.loop-token in
-    let end : l.token ≡ c.tokens_len-token-end.result = omega arith in
-    let read = subst (λ o. IfSome o (IsReadAt pattern l.token)) c.in-Some.is l.invariant.component in
-    subst (All (HasKey pattern)) (sym c.in_ok-push.ensures.items)
-    (All-push (HasKey pattern) l.keys.items c.in-Some.last.hash l.invariant.keys
-    (HasKey-end pattern l.token c.in-Some.last (subst (HasCount (chars pattern)) (sym end) c.tokens_len-token-end.ensures.only) read))
+pub push_components-requires : goal.push_components-requires
+push_components-requires g c = subst (All (HasKey c.args.pattern.now)) (sym c.clear.ensures.items) (All-nil (HasKey c.args.pattern.now))

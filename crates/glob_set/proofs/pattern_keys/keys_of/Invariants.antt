@@ -1,6 +1,6 @@
 -- The keys so far are keys of the patterns.
 use Rattle.std.proofs.Common.{◌≡◌, ℕ, ◌<◌, [], length, get_or, None, IfSome}
-use Rattle.glob_set.specs.Private.Components.{HasKey}
+use Rattle.glob_set.specs.Private.Keys.{HasKey}
 use Rattle.glob_set.proofs.pattern_keys.keys_of.Given as goal
 
 abbrev pub invariant-loop-pattern : goal.invariant-loop-pattern

@@ -4,8 +4,11 @@
 //! Asking the patterns of a set that may match a text.
 
 use crate::proved::glob_set::found::Found;
-use crate::proved::glob_set::pairs::{text_bits, text_class};
+use crate::proved::glob_set::pairs::{text_bits, text_class, Need};
 use crate::proved::glob_set::set::PatternSet;
+
+/// How many patterns of a list make it worthwhile to know the bits of the text.
+const MANY: usize = 3;
 
 impl PatternSet {
     /// The numbers of the patterns without a key that may match the text. Those of the others go into `found`; if it
@@ -22,7 +25,7 @@ impl PatternSet {
 
     /// The first of the numbers whose pattern matches the text.
     #[inline(always)]
-    pub(crate) fn first_of(&self, numbers: &[usize], text: &str, bits: u128) -> Option<usize> {
+    pub(crate) fn first_of(&self, numbers: &[usize], text: &str, bits: Option<u128>) -> Option<usize> {
         for number in numbers {
             if self.matches_at(*number, text, bits) {
                 return Some(*number);
@@ -33,7 +36,7 @@ impl PatternSet {
 
     /// The last of the numbers whose pattern matches the text.
     #[inline(always)]
-    pub(crate) fn last_of(&self, numbers: &[usize], text: &str, bits: u128) -> Option<usize> {
+    pub(crate) fn last_of(&self, numbers: &[usize], text: &str, bits: Option<u128>) -> Option<usize> {
         let mut left = numbers.len();
         while left > 0 {
             left -= 1;
@@ -60,7 +63,7 @@ impl PatternSet {
     }
 
     /// Adds those of the numbers whose patterns match the text.
-    fn push_of(&self, asked: &[usize], text: &str, bits: u128, numbers: &mut Vec<usize>) {
+    fn push_of(&self, asked: &[usize], text: &str, bits: Option<u128>, numbers: &mut Vec<usize>) {
         for number in asked {
             if self.matches_at(*number, text, bits) {
                 numbers.push(*number);
@@ -68,23 +71,32 @@ impl PatternSet {
         }
     }
 
-    /// Whether the pattern of this number matches the text of these bits.
+    /// Whether the pattern of this number matches the text, whose bits are known or not.
     #[inline(always)]
-    fn matches_at(&self, number: usize, text: &str, bits: u128) -> bool {
-        if self.needs[number].bits | bits != bits {
+    fn matches_at(&self, number: usize, text: &str, bits: Option<u128>) -> bool {
+        if lacks(&self.needs[number], bits) {
             return false;
         }
         self.patterns[number].matches_with(text, self.options)
     }
 }
 
-/// The bits of the text, if patterns of any numbers are asked about it.
+/// Whether a text of these bits, if they are known, lacks one that is needed.
 #[inline(always)]
-pub(crate) fn bits_for(text: &str, listed: &[usize], found: &[usize]) -> u128 {
-    if listed.is_empty() && found.is_empty() {
-        return 0;
+fn lacks(need: &Need, bits: Option<u128>) -> bool {
+    match bits {
+        Some(known) => need.bits | known != known,
+        None => false,
     }
-    text_bits(text.as_bytes())
+}
+
+/// The bits of the text, unless few patterns are asked about it: these are tried sooner than its bits are known.
+#[inline(always)]
+pub(crate) fn bits_for(text: &str, listed: &[usize], found: &[usize]) -> Option<u128> {
+    if listed.len() < MANY && found.len() < MANY {
+        return None;
+    }
+    Some(text_bits(text.as_bytes()))
 }
 
 /// The lower of two numbers, or the one that there is.

@@ -4,15 +4,15 @@ use Rattle.glob_set.specs.Sets.{Set, MatchesAt, AreShort}
 use Rattle.glob_set.proofs.ListReading.{MatchesAt-iff, MatchesAt-not, AreShort-at, IfOk-follow}
 use Rattle.glob_set.proofs.set.PatternSet.matches_at.Goals as goal
 
-pub returns-then-index-bits-clause-answer : goal.returns-then-index-bits-clause-answer
-returns-then-index-bits-clause-answer g c =
+pub returns-then-lacks-clause-answer : goal.returns-then-lacks-clause-answer
+returns-then-lacks-clause-answer g c =
     let text = c.args.text.now in
     let number = c.args.number in
     let inside = c.self.inside in
     let P : Set → Type 0 = λ s. (IsTrue false → MatchesAt s.options s.patterns text number) × (MatchesAt s.options s.patterns text number → IsTrue false) in
     subst P c.self.view_is (
       λ no. absurd (false≢true no),
-      λ at. absurd (MatchesAt-not inside.options inside.patterns.items text inside.needs.items number c.index.result.now c.args.bits c.self.invariant.0 c.utf8.text c.index.ensures c.requires.bits c.if-index-bits.true at),
+      λ at. absurd (MatchesAt-not inside.options inside.patterns.items text inside.needs.items number c.index.result.now c.args.bits c.self.invariant.0 c.utf8.text c.index.ensures c.requires.bits (c.lacks.ensures c.if-lacks.true) at),
     )
 
 pub returns-clause-answer : goal.returns-clause-answer

@@ -1,7 +1,8 @@
 -- What has been read is known, and the keys so far are keys.
 use Rattle.std.proofs.Common.{All, IfSome}
-use Rattle.glob_set.specs.Private.Components.{HasKey, IsReadAt}
-use Rattle.glob_set.proofs.pattern_keys.find_keys.Given as goal
+use Rattle.glob_set.specs.Private.Components.{IsReadAt}
+use Rattle.glob_set.specs.Private.Keys.{HasKey}
+use Rattle.glob_set.proofs.pattern_keys.push_components.Given as goal
 
 abbrev pub invariant-loop-token : goal.invariant-loop-token
 invariant-loop-token g l = record {
