@@ -1,7 +1,6 @@
-pub mod Cuts
+pub mod Counting
 pub mod Folding
 pub mod Intervals
-pub mod Painting
 pub mod Ranks
 pub mod Rows
 pub mod Separating

@@ -1,5 +1,5 @@
 -- Which characters a range holds case-insensitively, as ranges.
-use Rattle.std.proofs.Common.{◌≡◌, ℕ, ◌+◌, ◌<◌, ◌≤◌, ◌⊎◌, Bool, true, false, not, ◌&&◌, ◌||◌, refl, sym, ap, ◌∙◌, ⊎_elim, arith}
+use Rattle.std.proofs.Common.{◌≡◌, ℕ, ◌+◌, ◌<◌, ◌≤◌, ◌⊎◌, Bool, true, false, not, ◌&&◌, ◌||◌, ◌==◌, refl, sym, ap, ◌∙◌, ⊎_elim, arith}
 use Rattle.std.proofs.Math.Bool.{or-false}
 use Rattle.std.proofs.lemmas.Bool.{lt-ltb, le-ltb, cases_lt, false≢true}
 use Rattle.std.proofs.lemmas.Bool.Decides.{nat_tests}
@@ -75,6 +75,14 @@ held-none x y c less = grind (arith, nat_tests)
 single-held : (case : Bool) (c x : ℕ) → entry_holds case c (Range x x) ≡ is_same case c x
 single-held true c x = grind (arith, nat_tests)
 single-held false c x = grind (arith, nat_tests)
+
+-- a character is its own lower-case or upper-case form
+pub own-case : (x : ℕ) → (to_ascii_lowercase x ≡ x) ⊎ (to_ascii_uppercase x ≡ x)
+own-case x = grind (arith, nat_tests)
+
+-- case-insensitively another is the same if it is one of the two
+pub either-same : (c x : ℕ) → (c == to_ascii_lowercase x || c == to_ascii_uppercase x) ≡ is_same false c x
+either-same c x = grind (arith, nat_tests)
 
 pub held-ends : (case : Bool) (c : ℕ) (e : Entry) → entry_holds case c (Range (first_of e) (last_of e)) ≡ entry_holds case c e
 held-ends case c (Single x) = single-held case c x

@@ -1,5 +1,5 @@
 -- Intervals whose boundaries are known.
-use Rattle.std.proofs.Common.{◌≤◌, ℕ, List}
+use Rattle.std.proofs.Common.{◌≤◌, ℕ, List, arith}
 use Rattle.std.specs.List.{All}
 use Rattle.glob_pattern.specs.Grammar.Tokens.{Token}
 use Rattle.glob_pattern.specs.Private.Classes.{HasInterval, Grows, EachCase, EntryIntervals, TokenIntervals, EachInterval}
@@ -8,23 +8,20 @@ use Rattle.glob_pattern.specs.declared.token.Token.TheVariants.{Literal, AnyChar
 use Rattle.glob_pattern.specs.declared.token.bracket.Entry.{Entry}
 
 pub Grows-refl : {A : Type 0} (b : Boundaries A) → Grows b b
-Grows-refl b = record { cuts = λ c h. h; covered = λ c h. h; beyond = λ c h. h }
+Grows-refl b = record { ascii = λ c h. h; beyond = λ c h. h }
 
 pub Grows-trans : {A : Type 0} (a b c : Boundaries A) → Grows a b → Grows b c → Grows a c
 Grows-trans a b c first second = record {
-  cuts = λ k h. second.cuts k (first.cuts k h);
-  covered = λ k h. second.covered k (first.covered k h);
+  ascii = λ k h. second.ascii k (first.ascii k h);
   beyond = λ k h. second.beyond k (first.beyond k h);
 }
 
 -- what is known stays known
 pub HasInterval-grows : {A : Type 0} (old new : Boundaries A) → Grows old new → (x y : ℕ) → HasInterval old x y → HasInterval new x y
 HasInterval-grows old new grows x y has = record {
-  first = λ low. grows.cuts _ (has.first low);
-  after = λ low. grows.cuts _ (has.after low);
-  covered = λ c from to low. grows.covered c (has.covered c from to low);
+  first = λ low. grows.ascii _ (has.first low);
+  after = λ low. grows.ascii _ (has.after low);
   first_beyond = λ high. grows.beyond _ (has.first_beyond high);
-  border = λ low high. grows.beyond _ (has.border low high);
   after_beyond = λ high. grows.beyond _ (has.after_beyond high);
 }
 
@@ -40,7 +37,7 @@ module _ (P Q : ℕ → ℕ → Type 0) (from : (x y : ℕ) → x ≤ y → P x 
   Entries-map entries all k d lt = EachCase-map _ _ (all k d lt)
 
   pub TokenIntervals-map : (t : Token) → TokenIntervals P t → TokenIntervals Q t
-  TokenIntervals-map (Literal x) h = EachCase-map x x h
+  TokenIntervals-map (Literal x) h = record { lower = from _ _ (omega arith) h.lower; upper = from _ _ (omega arith) h.upper }
   TokenIntervals-map AnyChar h = h
   TokenIntervals-map AnySequence h = h
   TokenIntervals-map Recursive h = h

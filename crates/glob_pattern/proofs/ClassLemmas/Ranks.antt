@@ -43,18 +43,6 @@ module _ (xs : List ℕ) where
         (cases_lt i (rank xs d)) in
         omega (arith, first, last)
 
-    -- and at least one
-    pub rank-positive : (m d : ℕ) → m ≤ d → Contains xs m → 0 < rank xs d
-    rank-positive m d le (i, within, is) =
-        ⊎_elim
-        (λ more. more)
-        (λ ge.
-        let past = stops d (omega (arith, ge, within)) in
-        let sorted = up (rank xs d) i 0 (omega (arith, ge)) within in
-        let here : get_or xs i 0 ≡ m = sym (get_or_default xs i m 0 within) ∙ is in
-        absurd (omega (arith, past, sorted, le, here)))
-        (cases_lt 0 (rank xs d))
-
 -- numbers that rise do not fall
 pub non_decreasing : (xs : List ℕ) → IsStrictlyIncreasing xs → IsNonDecreasing xs
 non_decreasing xs up = IsNonDecreasingBy-from_all_adjacent (λ x. x) xs

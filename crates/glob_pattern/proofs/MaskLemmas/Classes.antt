@@ -102,8 +102,8 @@ module _ (o : MatchOptions) (opening : Bool) where
     class-below is c = rw (class-at c _ _ refl refl) (cases (is_excluded_separator o c) (is_excluded_dot o opening c))
       where
         cases : (s d : Bool) → (if s then 0 else if d then 1 else class_in p c) < columns_of p
-        cases true d = omega (arith, is.least)
-        cases false true = omega (arith, is.least)
+        cases true d = omega (arith, is.least 127 (omega arith))
+        cases false true = omega (arith, is.least 127 (omega arith))
         cases false false = (class-bounds p is c).1
 
     -- a token takes a character as it takes those of its class

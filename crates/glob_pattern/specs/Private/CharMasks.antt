@@ -1,5 +1,5 @@
 -- Which of 63 neighbouring tokens take the characters of each class.
-use Rattle.std.specs.Prelude.{◌≡◌, ℕ, ◌+◌, ◌*◌, ◌<◌, ◌≤◌, ◌↔◌, ◌⊎◌, Bool, true, false, if◌then◌else◌, List, [], length, slice_index_or, IsTrue}
+use Rattle.std.specs.Prelude.{◌≡◌, ℕ, ◌+◌, ◌*◌, ◌<◌, ◌≤◌, ◌↔◌, ◌⊎◌, Bool, true, false, if◌then◌else◌, List, [], length, replicate, slice_index_or, IsTrue}
 use Rattle.std.specs.Int.{IsBitSet}
 use Rattle.glob_text.specs.Characters.{slash, dot}
 use Rattle.glob_pattern.specs.Grammar.Brackets.{is_same, holds}
@@ -112,7 +112,7 @@ pub record AreRowsOf (tokens : List Token) (words : ℕ) (case : Bool) (rows : R
 
 -- where all characters are of one class
 abbrev pub no_partition : Partition
-no_partition = record { ascii = []; last = 2; beyond = []; begun = [] }
+no_partition = record { ascii = replicate 128 2; beyond = []; begun = [] }
 
 -- which of a word's two rows is of this case
 abbrev pub half_of : (case : Bool) → ℕ
@@ -120,7 +120,7 @@ half_of case = if case then 0 else 1
 
 -- the classes that are stored beside masks
 abbrev pub partition_in : {A : Type 0} → listed.Listed A → Partition
-partition_in l = record { ascii = l.ascii; last = l.last; beyond = l.beyond.items; begun = l.begun.items }
+partition_in l = record { ascii = l.ascii; beyond = l.beyond.items; begun = l.begun.items }
 
 -- the masks are of the tokens, and of so many words
 abbrev pub AreCharMasks : {A : Type 0} → List Token → (words : ℕ) → CharMasks A → Type 0

@@ -1,7 +1,6 @@
 -- Classes of characters: what is between two boundaries of the intervals that tokens list.
-use Rattle.std.specs.Prelude.{◌≡◌, ℕ, ◌+◌, ◌<◌, ◌≤◌, ◌⊎◌, Bool, true, ◌==◌, ◌&&◌, nat_lt, nat_le, if◌then◌else◌, List, length, slice_index}
+use Rattle.std.specs.Prelude.{◌≡◌, ℕ, ◌+◌, ◌<◌, ◌≤◌, Bool, true, false, ◌&&◌, nat_lt, nat_le, if◌then◌else◌, List, length, slice_index, slice_index_or}
 use Rattle.std.specs.Char.{is_ascii_alphabetic, to_ascii_lowercase, to_ascii_uppercase}
-use Rattle.std.specs.Int.{bit_at}
 use Rattle.std.specs.List.{All, Contains, prefix_len}
 use Rattle.std.specs.List.Sorted.{IsNonDecreasing}
 use Rattle.glob_pattern.specs.Grammar.Brackets.{in_range}
@@ -12,30 +11,29 @@ use Rattle.glob_pattern.specs.declared.pattern.classes.Classes.{Classes}
 use Rattle.glob_pattern.specs.declared.token.Token.TheVariants.{Literal, AnyChar, AnySequence, Recursive, OneOf, NoneOf}
 use Rattle.glob_pattern.specs.declared.token.bracket.Entry.{Entry}
 
--- The classes of the first characters, the highest of these, and at which others a further class begins; the classes of
--- these are numbered on. How many of these have begun is stored for some characters.
+-- The classes of the first characters, and at which others a further class begins; the classes of these are numbered
+-- on. How many of these have begun is stored for some characters.
 pub record Partition : Type 0 where
   pub ascii : List ℕ
-  pub last : ℕ
   pub beyond : List ℕ
   pub begun : List ℕ
 
 abbrev pub partition_of : Classes → Partition
-partition_of c = record { ascii = c.ascii.now; last = c.last; beyond = c.beyond.now; begun = c.begun.now }
+partition_of c = record { ascii = c.ascii.now; beyond = c.beyond.now; begun = c.begun.now }
 
--- the class of a character after as many beginnings beyond the first ones
-abbrev pub class_after : (last begun : ℕ) → ℕ
-class_after last begun = if begun == 0 then 2 else last + begun
+-- the class of the last ASCII character, which is the highest of these
+abbrev pub highest : Partition → ℕ
+highest p = slice_index p.ascii 127
 
 -- the class of a character
 abbrev pub class_in : Partition → ℕ → ℕ
 class_in p c =
     if nat_lt c (length p.ascii) then slice_index p.ascii c
-    else class_after p.last (prefix_len (λ first. nat_le first c) p.beyond)
+    else highest p + prefix_len (λ first. nat_le first c) p.beyond
 
 -- how many classes there are
 abbrev pub columns_of : Partition → ℕ
-columns_of p = p.last + 1 + length p.beyond
+columns_of p = highest p + 1 + length p.beyond
 
 -- the counts are how many boundaries there are up to each character from the first boundary on
 abbrev pub AreCounts : (boundaries counts : List ℕ) → Type 0
@@ -43,44 +41,36 @@ AreCounts boundaries counts =
     (i : ℕ) → i < length counts
     → slice_index counts i ≡ prefix_len (λ first. nat_le first (slice_index boundaries 0 + i)) boundaries
 
--- the first characters have classes up to the last, and the others begin in order
+-- the characters of ASCII have classes after those of the rules, and the others begin in order
 pub record IsPartition (p : Partition) : Type 0 where
-  pub least : 2 ≤ p.last
-  pub each : (c : ℕ) → c < length p.ascii
-      → (2 ≤ slice_index p.ascii c) × (slice_index p.ascii c ≤ p.last)
+  pub long : length p.ascii ≡ 128
+  pub least : (c : ℕ) → c < 128 → 2 ≤ slice_index p.ascii c
+  pub most : (c : ℕ) → c < 128 → slice_index p.ascii c ≤ highest p
   pub rising : IsNonDecreasing p.beyond
   pub counts : AreCounts p.beyond p.begun
 
--- an interval begins at c, or ends before it
-abbrev pub IsCut : (cuts c : ℕ) → Type 0
-IsCut cuts c = bit_at cuts c ≡ 1
+-- an interval begins at the ASCII character, or ends before it
+abbrev pub HasCut : (cuts : List Bool) → ℕ → Type 0
+HasCut cuts c = slice_index_or cuts c false ≡ true
 
--- Of the ASCII characters before `end`, those that are covered have classes of their own, which rise, and rise at each
--- cut.
-pub record AreAsciiClasses (cuts covered end : ℕ) (ascii : List ℕ) (last : ℕ) : Type 0 where
+-- the classes of the ASCII characters before `end` rise at each cut, and fall nowhere
+pub record AreAsciiClasses (cuts : List Bool) (end : ℕ) (ascii : List ℕ) : Type 0 where
   pub long : length ascii ≡ 128
   pub least : (c : ℕ) → c < 128 → 2 ≤ slice_index ascii c
-  pub most : (c : ℕ) → c < 128 → slice_index ascii c ≤ last
-  pub order : (c d : ℕ) → c ≤ d → d < end
-      → (slice_index ascii d ≡ 2) ⊎ (slice_index ascii c ≤ slice_index ascii d)
-  pub apart : (c k d : ℕ) → c < k → k ≤ d → d < end → IsCut cuts k
-      → (slice_index ascii d ≡ 2) ⊎ (slice_index ascii c < slice_index ascii d)
-  pub listed : (k c : ℕ) → IsCut cuts k → k ≤ c → c < end
-      → ((i : ℕ) → k ≤ i → i ≤ c → bit_at covered i ≡ 1) → 2 < slice_index ascii c
+  pub order : (c d : ℕ) → c ≤ d → d < end → slice_index ascii c ≤ slice_index ascii d
+  pub apart : (c k d : ℕ) → c < k → k ≤ d → d < end → HasCut cuts k
+      → slice_index ascii c < slice_index ascii d
 
--- the boundaries of the characters from x to y are known, and those of ASCII are covered
+-- the boundaries of the characters from x to y are known
 pub record HasInterval {A : Type 0} (b : Boundaries A) (x y : ℕ) : Type 0 where
-  pub first : x < 128 → IsCut b.cuts x
-  pub after : y + 1 < 128 → IsCut b.cuts (y + 1)
-  pub covered : (c : ℕ) → x ≤ c → c ≤ y → c < 128 → bit_at b.covered c ≡ 1
+  pub first : x < 128 → HasCut b.ascii x
+  pub after : y + 1 < 128 → HasCut b.ascii (y + 1)
   pub first_beyond : 128 ≤ x → Contains b.beyond.items x
-  pub border : x < 128 → 128 ≤ y → Contains b.beyond.items 128
-  pub after_beyond : 128 ≤ y → Contains b.beyond.items (y + 1)
+  pub after_beyond : 128 ≤ y + 1 → Contains b.beyond.items (y + 1)
 
 -- all boundaries are still there
 pub record Grows {A : Type 0} (old new : Boundaries A) : Type 0 where
-  pub cuts : (c : ℕ) → IsCut old.cuts c → IsCut new.cuts c
-  pub covered : (c : ℕ) → bit_at old.covered c ≡ 1 → bit_at new.covered c ≡ 1
+  pub ascii : (c : ℕ) → HasCut old.ascii c → HasCut new.ascii c
   pub beyond : (c : ℕ) → Contains old.beyond.items c → Contains new.beyond.items c
 
 -- both are letters of ASCII
@@ -95,13 +85,18 @@ pub record EachCase (P : ℕ → ℕ → Type 0) (x y : ℕ) : Type 0 where
   pub upper : are_letters x y ≡ true → to_ascii_uppercase x ≤ to_ascii_uppercase y
       → P (to_ascii_uppercase x) (to_ascii_uppercase y)
 
+-- P holds of the character in lower and in upper case
+pub record EitherCase (P : ℕ → ℕ → Type 0) (x : ℕ) : Type 0 where
+  pub lower : P (to_ascii_lowercase x) (to_ascii_lowercase x)
+  pub upper : P (to_ascii_uppercase x) (to_ascii_uppercase x)
+
 -- P holds of the characters of an entry
 abbrev pub EntryIntervals : (P : ℕ → ℕ → Type 0) → Entry → Type 0
 EntryIntervals P e = EachCase P (first_of e) (last_of e)
 
 -- P holds of the characters of each interval that the token lists
 abbrev pub TokenIntervals : (P : ℕ → ℕ → Type 0) → Token → Type 0
-TokenIntervals P (Literal x) = EachCase P x x
+TokenIntervals P (Literal x) = EitherCase P x
 TokenIntervals P AnyChar = Unit {0}
 TokenIntervals P AnySequence = Unit {0}
 TokenIntervals P Recursive = Unit {0}

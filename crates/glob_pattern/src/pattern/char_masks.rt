@@ -28,9 +28,8 @@ pub enum CharMasks<A: Allocator> {
 /// The masks of tokens, if some of these list characters.
 #[derive(Drop)]
 pub struct Listed<A: Allocator> {
-    /// The class of each ASCII character, and the highest of these.
+    /// The class of each ASCII character.
     ascii: [u8; ASCII],
-    last: u8,
     /// Where the classes beyond ASCII begin, and how many have begun at some characters.
     beyond: Vec<u32, A>,
     begun: Vec<u8, A>,
@@ -109,18 +108,16 @@ impl<A: Allocator + Copy> Listed<A> {
             → AreRows tokens.now words case (partition_in l) l.masks.items (half_of case)) }
     {
         let boundaries = Boundaries::of(alloc, tokens)?;
-        let (ascii, last) = boundaries.ascii_classes();
+        let ascii = boundaries.ascii_classes();
         let begun = counts_of(alloc, boundaries.beyond.as_slice())?;
         let classes = Classes {
             ascii: &ascii,
-            last,
             beyond: boundaries.beyond.as_slice(),
             begun: begun.as_slice(),
         };
         let masks = rows_of(alloc, tokens, words, classes)?;
         Ok(Listed {
             ascii,
-            last,
             beyond: boundaries.beyond,
             begun,
             masks,
@@ -136,7 +133,6 @@ impl<A: Allocator + Copy> Clone for Listed<A> {
     fn clone(&self) -> Result<Self, AllocError> {
         Ok(Listed {
             ascii: self.ascii,
-            last: self.last,
             beyond: self.beyond.clone()?,
             begun: self.begun.clone()?,
             masks: self.masks.clone()?,
@@ -155,7 +151,6 @@ impl<A: Allocator> Listed<A> {
     {
         let classes = Classes {
             ascii: &self.ascii,
-            last: self.last,
             beyond: self.beyond.as_slice(),
             begun: self.begun.as_slice(),
         };

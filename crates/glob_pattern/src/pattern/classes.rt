@@ -2,19 +2,18 @@
 //!
 //! What tokens list are intervals of characters. Between two neighbouring boundaries of intervals no token tells
 //! characters apart: that is a class. So the tokens of `*[a-z]x` have one class for `a` to `w`, one for `x`, one for
-//! `y` and `z`, the same three in upper case, and one for all other characters.
-ghost use Rattle.std.specs.Prelude.{◌≡◌, ℕ, ◌+◌, ◌<◌, ◌≤◌, ◌⊎◌, length, slice_index, nat_le, IfOk};
-ghost use Rattle.std.specs.Int.{bit_at};
+//! `y` and `z`, the same three in upper case, and one each for what is before, between and after these.
+ghost use Rattle.std.specs.Prelude.{◌≡◌, ℕ, ◌+◌, ◌<◌, ◌≤◌, length, slice_index, nat_le, IfOk};
 ghost use Rattle.std.specs.List.{All, Contains, prefix_len};
 ghost use Rattle.std.specs.List.Sorted.{IsNonDecreasing};
-ghost use Rattle.glob_pattern.specs.Private.Classes.{IsPartition, AreAsciiClasses, AreCounts, HasInterval, Grows, EachInterval, EachCase, EntryIntervals, TokenIntervals, IsCut, partition_of, class_in, columns_of, are_letters};
+ghost use Rattle.glob_pattern.specs.Private.Classes.{IsPartition, AreAsciiClasses, AreCounts, HasInterval, Grows, EachInterval, EachCase, EitherCase, EntryIntervals, TokenIntervals, HasCut, partition_of, class_in, columns_of, are_letters};
 
 use crate::token::Token;
 use crate::token::bracket::{Bracket, Entry};
 use std::alloc::{AllocError, Allocator};
 
-/// The class of the characters that no token lists.
-pub const OTHER: u8 = 2;
+/// The class of the first characters, up to the first boundary.
+pub const FIRST: u8 = 2;
 
 /// How many characters ASCII has.
 pub const ASCII: usize = 128;
@@ -25,21 +24,18 @@ const COUNTED: usize = 128;
 /// The class of each character.
 #[derive(Clone, Copy)]
 pub struct Classes<'a> {
-    /// The class of each ASCII character, or none at all where each is of the class `OTHER`.
-    pub ascii: &'a [u8],
-    /// The highest of these classes.
-    pub last: u8,
-    /// The boundaries beyond ASCII, in order. At each a class begins, and they are numbered on from `last`.
+    /// The class of each ASCII character.
+    pub ascii: &'a [u8; ASCII],
+    /// The boundaries beyond ASCII, in order. At each a class begins, and they are numbered on.
     pub beyond: &'a [u32],
     /// How many of these there are up to each of some characters, from the first of these on.
     pub begun: &'a [u8],
 }
 
 impl Classes<'_> {
-    /// Each character is of the class `OTHER`.
+    /// Each character is of the class `FIRST`.
     pub const NONE: Classes<'static> = Classes {
-        ascii: &[],
-        last: OTHER,
+        ascii: &[FIRST; ASCII],
         beyond: &[],
         begun: &[],
     };
@@ -49,7 +45,7 @@ impl Classes<'_> {
     pub fn count(self) -> usize
         ensures { result ≡ columns_of (partition_of self.entry) }
     {
-        usize::from(self.last) + 1 + self.beyond.len()
+        usize::from(self.ascii[ASCII - 1]) + 1 + self.beyond.len()
     }
 
     /// The class of a character, whatever the rules.
@@ -58,54 +54,39 @@ impl Classes<'_> {
         requires { IsPartition (partition_of self) }
         ensures { result ≡ class_in (partition_of self.entry) c }
     {
-        match self.ascii.get(c as usize) {
+        let ascii = self.ascii;
+        match ascii.get(c as usize) {
             Some(class) => usize::from(*class),
-            None if self.beyond.is_empty() => usize::from(OTHER),
-            None => self.class_beyond(c),
+            None => usize::from(ascii[ASCII - 1]) + begun_at(self.beyond, self.begun, c),
         }
     }
+}
 
-    /// The class of a character that the table does not have.
-    #[inline(never)]
-    fn class_beyond(self, c: char) -> usize
-        requires partition { IsPartition (partition_of self) }
-        requires beyond { length self.ascii.now ≤ c }
-        ensures { result ≡ class_in (partition_of self.entry) c }
-    {
-        let begun = self.begun_at(c as u32);
-        if begun == 0 {
-            usize::from(OTHER)
-        } else {
-            usize::from(self.last) + begun
-        }
+/// How many boundaries there are up to a character. It takes no struct, since one that is passed is in memory.
+#[inline(never)]
+fn begun_at(boundaries: &[u32], counts: &[u8], c: char) -> usize
+    requires rising { IsNonDecreasing boundaries.now }
+    requires counts { AreCounts boundaries.now counts.now }
+    ensures { result ≡ prefix_len (λ first. nat_le first c) boundaries.now }
+{
+    let c = c as u32;
+    let Some(base) = boundaries.first() else {
+        return 0;
+    };
+    if c < *base {
+        return 0;
     }
-
-    /// How many boundaries beyond ASCII there are up to a character.
-    #[inline(always)]
-    fn begun_at(self, c: u32) -> usize
-        requires { IsPartition (partition_of self) }
-        ensures { result ≡ prefix_len (λ first. nat_le first c) self.entry.beyond.now }
-    {
-        let Some(base) = self.beyond.first() else {
-            return 0;
-        };
-        if c < *base {
-            return 0;
-        }
-        match self.begun.get((c - *base) as usize) {
-            Some(begun) => usize::from(*begun),
-            None => begun_by_search(self.beyond, c),
-        }
+    match counts.get((c - *base) as usize) {
+        Some(count) => usize::from(*count),
+        None => begun_by_search(boundaries, c),
     }
 }
 
 /// The boundaries of intervals of characters.
 #[derive(Drop)]
 pub struct Boundaries<A: Allocator> {
-    /// The ASCII characters at which an interval begins, or before which one ends, as bits.
-    cuts: u128,
-    /// Those that some interval has, as bits.
-    covered: u128,
+    /// Whether an interval begins at the ASCII character, or ends before it.
+    ascii: [bool; ASCII],
     /// The boundaries beyond ASCII.
     pub beyond: Vec<u32, A>,
 }
@@ -117,8 +98,7 @@ impl<A: Allocator> Boundaries<A> {
         ensures order { IfOk result (λ b. IsNonDecreasing b.beyond.items) }
     {
         let mut boundaries = Boundaries {
-            cuts: 0,
-            covered: 0,
+            ascii: [false; ASCII],
             beyond: Vec::new(alloc),
         };
         for token in tokens {
@@ -134,10 +114,22 @@ impl<A: Allocator> Boundaries<A> {
         ensures grows { IfOk result (λ _. Grows self.old self.new) }
     {
         match token {
-            Token::Literal(c) => self.mark_cases(*c, *c),
+            Token::Literal(c) => self.mark_literal(*c),
             Token::AnyChar | Token::AnySequence | Token::Recursive => Ok(()),
             Token::OneOf(bracket) | Token::NoneOf(bracket) => self.mark_all(bracket.entries()),
         }
+    }
+
+    /// Adds the character in either case. Fails only if allocation fails.
+    #[inline(always)]
+    fn mark_literal(&mut self, c: char) -> Result<(), AllocError>
+        ensures marked { IfOk result (λ _. EitherCase (HasInterval self.new) c) }
+        ensures grows { IfOk result (λ _. Grows self.old self.new) }
+    {
+        let (lower, upper) = (c.to_ascii_lowercase(), c.to_ascii_uppercase());
+        self.mark(lower, lower)?;
+        self.mark(upper, upper)?;
+        Ok(())
     }
 
     /// Adds the intervals of all entries. Fails only if allocation fails.
@@ -167,51 +159,28 @@ impl<A: Allocator> Boundaries<A> {
         Ok(())
     }
 
-    /// Adds the characters from the first to the last, or nothing if these are the wrong way round. Fails only if
-    /// allocation fails.
+    /// Adds the characters from the first to the last. Fails only if allocation fails.
     fn mark(&mut self, first: char, last: char) -> Result<(), AllocError>
-        ensures marked { IfOk result (λ _. first ≤ last → HasInterval self.new first last) }
+        ensures marked { IfOk result (λ _. HasInterval self.new first last) }
         ensures grows { IfOk result (λ _. Grows self.old self.new) }
     {
-        if first > last {
-            return Ok(());
-        }
-        if last.is_ascii() {
-            self.mark_ascii(first as usize, last as usize);
-            return Ok(());
-        }
-        if first.is_ascii() {
-            self.mark_ascii(first as usize, ASCII - 1);
-            self.begin(ASCII as u32)?;
-        } else {
-            self.begin(first as u32)?;
-        }
+        self.begin(first as u32)?;
         self.begin(last as u32 + 1)?;
         Ok(())
     }
 
-    /// Adds the ASCII characters from the first to the last.
-    fn mark_ascii(&mut self, first: usize, last: usize)
-        requires order { first ≤ last }
-        requires last { last < 128 }
-        ensures first { IsCut self.new.cuts first }
-        ensures after { last + 1 < 128 → IsCut self.new.cuts (last + 1) }
-        ensures inside { (c : ℕ) → first ≤ c → c ≤ last → bit_at self.new.covered c ≡ 1 }
-        ensures grows { Grows self.old self.new }
-    {
-        let low = 1u128 << first;
-        // no bit, after the last character of ASCII
-        let after = 2u128 << last;
-        self.cuts |= low | after;
-        self.covered |= after.wrapping_sub(low);
-    }
-
-    /// Adds a boundary beyond ASCII. Fails only if allocation fails.
-    fn begin(&mut self, first: u32) -> Result<(), AllocError>
-        ensures begun { IfOk result (λ _. Contains self.new.beyond.items first) }
+    /// Adds a boundary. Fails only if allocation fails.
+    #[inline(always)]
+    fn begin(&mut self, c: u32) -> Result<(), AllocError>
+        ensures ascii { IfOk result (λ _. c < 128 → HasCut self.new.ascii c) }
+        ensures beyond { IfOk result (λ _. 128 ≤ c → Contains self.new.beyond.items c) }
         ensures grows { IfOk result (λ _. Grows self.old self.new) }
     {
-        self.beyond.push(first)?;
+        if c < ASCII as u32 {
+            self.ascii[c as usize] = true;
+        } else {
+            self.beyond.push(c)?;
+        }
         Ok(())
     }
 
@@ -224,51 +193,17 @@ impl<A: Allocator> Boundaries<A> {
         self.beyond.dedup();
     }
 
-    /// The class of each ASCII character, and the highest of these classes.
-    pub fn ascii_classes(&self) -> ([u8; ASCII], u8)
-        ensures classes { AreAsciiClasses self.now.cuts self.now.covered 128 result.0 result.1 }
-        ensures least { 2 ≤ result.1 }
+    /// The class of each ASCII character: it rises by one at each boundary.
+    pub fn ascii_classes(&self) -> [u8; ASCII]
+        ensures { AreAsciiClasses self.now.ascii 128 result }
     {
-        let mut ascii = [OTHER; ASCII];
-        let mut last = OTHER;
-        let mut start = next_bit(self.covered, 0);
-        while start < ASCII {
-            let end = next_bit(self.cuts, start + 1);
-            last += 1;
-            fill(&mut ascii, start, end, last);
-            start = next_bit(self.covered, end);
+        let mut classes = [FIRST; ASCII];
+        let mut class = FIRST;
+        for c in 0..ASCII {
+            class += u8::from(self.ascii[c]);
+            classes[c] = class;
         }
-        (ascii, last)
-    }
-}
-
-/// The first bit from a number on that is set, or the end of ASCII.
-#[inline(always)]
-fn next_bit(bits: u128, start: usize) -> usize
-    requires { start ≤ 128 }
-    ensures from { start ≤ result }
-    ensures end { result ≤ 128 }
-    ensures none { (c : ℕ) → start ≤ c → c < result → ¬ (bit_at bits c ≡ 1) }
-{
-    if start == ASCII {
-        return ASCII;
-    }
-    start + ((bits >> start).trailing_zeros() as usize).min(ASCII - start)
-}
-
-/// Writes a class into a part of the table.
-#[inline(always)]
-fn fill(ascii: &mut [u8; ASCII], start: usize, end: usize, class: u8)
-    requires order { start < end }
-    requires end { end ≤ 128 }
-    ensures inside { (c : ℕ) → start ≤ c → c < end → slice_index ascii.new c ≡ class }
-    ensures outside { (c : ℕ) → (c < start) ⊎ (end ≤ c)
-        → slice_index ascii.new c ≡ slice_index ascii.old c }
-    ensures long { length ascii.new ≡ length ascii.old }
-{
-    ascii[start] = class;
-    for c in start + 1..end {
-        ascii[c] = class;
+        classes
     }
 }
 

@@ -1,9 +1,9 @@
 //! A row of masks: for each class of characters, which of 63 neighbouring tokens take its characters.
 ghost use Rattle.std.specs.Prelude.{◌≡◌, ℕ, ◌+◌, ◌<◌, ◌≤◌, ◌↔◌, ◌==◌, ◌&&◌, not, List, length, true, bit_xor};
 ghost use Rattle.std.specs.List.{All};
-ghost use Rattle.glob_pattern.specs.Grammar.Brackets.{in_range, holds, entry_holds};
+ghost use Rattle.glob_pattern.specs.Grammar.Brackets.{is_same, in_range, holds, entry_holds};
 ghost use Rattle.glob_pattern.specs.Grammar.Tokens.{Token as TokenOf, is_recursive};
-ghost use Rattle.glob_pattern.specs.Private.Classes.{IsPartition, Separates, EachInterval, EachCase, EntryIntervals, TokenIntervals, partition_of, class_in, columns_of, are_letters};
+ghost use Rattle.glob_pattern.specs.Private.Classes.{IsPartition, Separates, EachInterval, EachCase, EitherCase, EntryIntervals, TokenIntervals, partition_of, class_in, columns_of, are_letters};
 ghost use Rattle.glob_pattern.specs.Private.CharMasks.{IsRow, AreListed, IsWith, mask_at, lists, is_bracket, takes_all_but_listed};
 ghost use Rattle.glob_pattern.specs.declared.token.bracket.Entry.TheVariants.{Range};
 
@@ -111,7 +111,7 @@ fn list_token<A: Allocator>(
 {
     match token {
         Token::Literal(c) => {
-            list_cases(row, classes, bit, *c, *c, case_sensitive);
+            list_literal(row, classes, bit, *c, case_sensitive);
             kinds
         }
         Token::AnyChar | Token::AnySequence => Kinds {
@@ -139,6 +139,38 @@ fn list_token<A: Allocator>(
             }
         }
     }
+}
+
+/// Sets the bit in the mask of the character, and case-insensitively in that of its other case.
+#[inline(always)]
+fn list_literal(row: &mut [u64], classes: Classes<'_>, bit: usize, c: char, case_sensitive: bool)
+    requires partition { IsPartition (partition_of classes) }
+    requires bit { bit < 63 }
+    requires long { length row.old ≡ columns_of (partition_of classes) }
+    requires apart { EitherCase (Separates (partition_of classes)) c }
+    ensures { (d : ℕ) → IsWith (mask_at row.old (class_in (partition_of classes.entry) d))
+        (mask_at row.new (class_in (partition_of classes.entry) d)) bit
+        (is_same case_sensitive d c) }
+{
+    if case_sensitive {
+        list_char(row, classes, bit, c);
+    } else {
+        list_char(row, classes, bit, c.to_ascii_lowercase());
+        list_char(row, classes, bit, c.to_ascii_uppercase());
+    }
+}
+
+/// Sets the bit in the mask of the character.
+#[inline(always)]
+fn list_char(row: &mut [u64], classes: Classes<'_>, bit: usize, c: char)
+    requires partition { IsPartition (partition_of classes) }
+    requires bit { bit < 63 }
+    requires long { length row.old ≡ columns_of (partition_of classes) }
+    requires apart { Separates (partition_of classes) c c }
+    ensures { (d : ℕ) → IsWith (mask_at row.old (class_in (partition_of classes.entry) d))
+        (mask_at row.new (class_in (partition_of classes.entry) d)) bit (d == c) }
+{
+    list_class(row, bit, classes.class(c));
 }
 
 /// Sets the bit in the masks of the characters that some entry holds.

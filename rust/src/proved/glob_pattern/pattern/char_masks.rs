@@ -23,9 +23,8 @@ pub enum CharMasks {
 
 /// The masks of tokens, if some of these list characters.
 pub struct Listed {
-    /// The class of each ASCII character, and the highest of these.
+    /// The class of each ASCII character.
     ascii: [u8; ASCII],
-    last: u8,
     /// Where the classes beyond ASCII begin, and how many have begun at some characters.
     beyond: Vec<u32>,
     begun: Vec<u8>,
@@ -84,23 +83,17 @@ impl Listed {
     /// The masks of the tokens, and of so many words.
     fn new(tokens: &[Token<Bracket>], words: usize) -> Self {
         let boundaries = Boundaries::of(tokens);
-        let (ascii, last) = boundaries.ascii_classes();
+        let ascii = boundaries.ascii_classes();
         let begun = counts_of(boundaries.beyond.as_slice());
-        let classes = Classes { ascii: &ascii, last, beyond: boundaries.beyond.as_slice(), begun: begun.as_slice() };
+        let classes = Classes { ascii: &ascii, beyond: boundaries.beyond.as_slice(), begun: begun.as_slice() };
         let masks = rows_of(tokens, words, classes);
-        Listed { ascii, last, beyond: boundaries.beyond, begun, masks }
+        Listed { ascii, beyond: boundaries.beyond, begun, masks }
     }
 }
 
 impl Clone for Listed {
     fn clone(&self) -> Self {
-        Listed {
-            ascii: self.ascii,
-            last: self.last,
-            beyond: self.beyond.clone(),
-            begun: self.begun.clone(),
-            masks: self.masks.clone(),
-        }
+        Listed { ascii: self.ascii, beyond: self.beyond.clone(), begun: self.begun.clone(), masks: self.masks.clone() }
     }
 }
 
@@ -108,12 +101,7 @@ impl Listed {
     /// The masks of one case.
     #[inline(always)]
     fn rows(&self, case_sensitive: bool) -> Rows<'_> {
-        let classes = Classes {
-            ascii: &self.ascii,
-            last: self.last,
-            beyond: self.beyond.as_slice(),
-            begun: self.begun.as_slice(),
-        };
+        let classes = Classes { ascii: &self.ascii, beyond: self.beyond.as_slice(), begun: self.begun.as_slice() };
         Rows { classes, masks: self.masks.as_slice(), columns: classes.count(), half: usize::from(!case_sensitive) }
     }
 }

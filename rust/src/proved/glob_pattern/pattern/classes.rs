@@ -5,13 +5,13 @@
 //!
 //! What tokens list are intervals of characters. Between two neighbouring boundaries of intervals no token tells
 //! characters apart: that is a class. So the tokens of `*[a-z]x` have one class for `a` to `w`, one for `x`, one for
-//! `y` and `z`, the same three in upper case, and one for all other characters.
+//! `y` and `z`, the same three in upper case, and one each for what is before, between and after these.
 
 use crate::proved::glob_pattern::token::bracket::{Bracket, Entry};
 use crate::proved::glob_pattern::token::Token;
 
-/// The class of the characters that no token lists.
-pub const OTHER: u8 = 2;
+/// The class of the first characters, up to the first boundary.
+pub const FIRST: u8 = 2;
 
 /// How many characters ASCII has.
 pub const ASCII: usize = 128;
@@ -22,69 +22,55 @@ const COUNTED: usize = 128;
 /// The class of each character.
 #[derive(Clone, Copy)]
 pub struct Classes<'a> {
-    /// The class of each ASCII character, or none at all where each is of the class `OTHER`.
-    pub ascii: &'a [u8],
-    /// The highest of these classes.
-    pub last: u8,
-    /// The boundaries beyond ASCII, in order. At each a class begins, and they are numbered on from `last`.
+    /// The class of each ASCII character.
+    pub ascii: &'a [u8; ASCII],
+    /// The boundaries beyond ASCII, in order. At each a class begins, and they are numbered on.
     pub beyond: &'a [u32],
     /// How many of these there are up to each of some characters, from the first of these on.
     pub begun: &'a [u8],
 }
 
 impl Classes<'_> {
-    /// Each character is of the class `OTHER`.
-    pub const NONE: Classes<'static> = Classes { ascii: &[], last: OTHER, beyond: &[], begun: &[] };
+    /// Each character is of the class `FIRST`.
+    pub const NONE: Classes<'static> = Classes { ascii: &[FIRST; ASCII], beyond: &[], begun: &[] };
 
     /// How many classes there are: all are below this number.
     #[inline(always)]
     pub fn count(self) -> usize {
-        usize::from(self.last) + 1 + self.beyond.len()
+        usize::from(self.ascii[ASCII - 1]) + 1 + self.beyond.len()
     }
 
     /// The class of a character, whatever the rules.
     #[inline(always)]
     pub fn class(self, c: char) -> usize {
-        match self.ascii.get(c as usize) {
+        let ascii = self.ascii;
+        match ascii.get(c as usize) {
             Some(class) => usize::from(*class),
-            None if self.beyond.is_empty() => usize::from(OTHER),
-            None => self.class_beyond(c),
+            None => usize::from(ascii[ASCII - 1]) + begun_at(self.beyond, self.begun, c),
         }
     }
+}
 
-    /// The class of a character that the table does not have.
-    #[inline(never)]
-    fn class_beyond(self, c: char) -> usize {
-        let begun = self.begun_at(c as u32);
-        if begun == 0 {
-            usize::from(OTHER)
-        } else {
-            usize::from(self.last) + begun
-        }
+/// How many boundaries there are up to a character. It takes no struct, since one that is passed is in memory.
+#[inline(never)]
+fn begun_at(boundaries: &[u32], counts: &[u8], c: char) -> usize {
+    let c = c as u32;
+    let Some(base) = boundaries.first() else {
+        return 0;
+    };
+    if c < *base {
+        return 0;
     }
-
-    /// How many boundaries beyond ASCII there are up to a character.
-    #[inline(always)]
-    fn begun_at(self, c: u32) -> usize {
-        let Some(base) = self.beyond.first() else {
-            return 0;
-        };
-        if c < *base {
-            return 0;
-        }
-        match self.begun.get((c - *base) as usize) {
-            Some(begun) => usize::from(*begun),
-            None => begun_by_search(self.beyond, c),
-        }
+    match counts.get((c - *base) as usize) {
+        Some(count) => usize::from(*count),
+        None => begun_by_search(boundaries, c),
     }
 }
 
 /// The boundaries of intervals of characters.
 pub struct Boundaries {
-    /// The ASCII characters at which an interval begins, or before which one ends, as bits.
-    cuts: u128,
-    /// Those that some interval has, as bits.
-    covered: u128,
+    /// Whether an interval begins at the ASCII character, or ends before it.
+    ascii: [bool; ASCII],
     /// The boundaries beyond ASCII.
     pub beyond: Vec<u32>,
 }
@@ -92,7 +78,7 @@ pub struct Boundaries {
 impl Boundaries {
     /// The boundaries of the intervals of all literals and brackets, in either case.
     pub fn of(tokens: &[Token<Bracket>]) -> Self {
-        let mut boundaries = Boundaries { cuts: 0, covered: 0, beyond: Vec::new() };
+        let mut boundaries = Boundaries { ascii: [false; ASCII], beyond: Vec::new() };
         for token in tokens {
             boundaries.mark_token(token);
         }
@@ -103,10 +89,18 @@ impl Boundaries {
     /// Adds the intervals of the token.
     fn mark_token(&mut self, token: &Token<Bracket>) {
         match token {
-            Token::Literal(c) => self.mark_cases(*c, *c),
+            Token::Literal(c) => self.mark_literal(*c),
             Token::AnyChar | Token::AnySequence | Token::Recursive => {}
             Token::OneOf(bracket) | Token::NoneOf(bracket) => self.mark_all(bracket.entries()),
         }
+    }
+
+    /// Adds the character in either case.
+    #[inline(always)]
+    fn mark_literal(&mut self, c: char) {
+        let (lower, upper) = (c.to_ascii_lowercase(), c.to_ascii_uppercase());
+        self.mark(lower, lower);
+        self.mark(upper, upper);
     }
 
     /// Adds the intervals of all entries.
@@ -127,36 +121,20 @@ impl Boundaries {
         self.mark(first.to_ascii_uppercase(), last.to_ascii_uppercase());
     }
 
-    /// Adds the characters from the first to the last, or nothing if these are the wrong way round.
+    /// Adds the characters from the first to the last.
     fn mark(&mut self, first: char, last: char) {
-        if first > last {
-            return;
-        }
-        if last.is_ascii() {
-            self.mark_ascii(first as usize, last as usize);
-            return;
-        }
-        if first.is_ascii() {
-            self.mark_ascii(first as usize, ASCII - 1);
-            self.begin(ASCII as u32);
-        } else {
-            self.begin(first as u32);
-        }
+        self.begin(first as u32);
         self.begin(last as u32 + 1);
     }
 
-    /// Adds the ASCII characters from the first to the last.
-    fn mark_ascii(&mut self, first: usize, last: usize) {
-        let low = 1u128 << first;
-        // no bit, after the last character of ASCII
-        let after = 2u128 << last;
-        self.cuts |= low | after;
-        self.covered |= after.wrapping_sub(low);
-    }
-
-    /// Adds a boundary beyond ASCII.
-    fn begin(&mut self, first: u32) {
-        self.beyond.push(first);
+    /// Adds a boundary.
+    #[inline(always)]
+    fn begin(&mut self, c: u32) {
+        if c < ASCII as u32 {
+            self.ascii[c as usize] = true;
+        } else {
+            self.beyond.push(c);
+        }
     }
 
     /// The boundaries beyond ASCII in order, without duplicates.
@@ -165,36 +143,15 @@ impl Boundaries {
         self.beyond.dedup();
     }
 
-    /// The class of each ASCII character, and the highest of these classes.
-    pub fn ascii_classes(&self) -> ([u8; ASCII], u8) {
-        let mut ascii = [OTHER; ASCII];
-        let mut last = OTHER;
-        let mut start = next_bit(self.covered, 0);
-        while start < ASCII {
-            let end = next_bit(self.cuts, start + 1);
-            last += 1;
-            fill(&mut ascii, start, end, last);
-            start = next_bit(self.covered, end);
+    /// The class of each ASCII character: it rises by one at each boundary.
+    pub fn ascii_classes(&self) -> [u8; ASCII] {
+        let mut classes = [FIRST; ASCII];
+        let mut class = FIRST;
+        for c in 0..ASCII {
+            class += u8::from(self.ascii[c]);
+            classes[c] = class;
         }
-        (ascii, last)
-    }
-}
-
-/// The first bit from a number on that is set, or the end of ASCII.
-#[inline(always)]
-fn next_bit(bits: u128, start: usize) -> usize {
-    if start == ASCII {
-        return ASCII;
-    }
-    start + ((bits >> start).trailing_zeros() as usize).min(ASCII - start)
-}
-
-/// Writes a class into a part of the table.
-#[inline(always)]
-fn fill(ascii: &mut [u8; ASCII], start: usize, end: usize, class: u8) {
-    ascii[start] = class;
-    for c in start + 1..end {
-        ascii[c] = class;
+        classes
     }
 }
 

@@ -18,6 +18,18 @@ slice_bounds-row-end g c =
     let long = ap (λ k. c.args.rows * k) c.count-columns.ensures ∙ sym c.requires.long in
     omega (arith, within, long, c.loop-n.invariant.long)
 
+pub overflow_add-row : goal.overflow_add-row
+overflow_add-row g c =
+    let within = row-within c.loop-n.n c.args.rows c.count-columns.result c.loop-n-test.true in
+    let long = ap (λ k. c.args.rows * k) c.count-columns.ensures ∙ sym c.requires.long in
+    omega (arith, within, long, c.loop-n.invariant.long)
+
+pub offset_bounds-masks-at : goal.offset_bounds-masks-at
+offset_bounds-masks-at g c =
+    let within = row-within c.loop-n.n c.args.rows c.count-columns.result c.loop-n-test.true in
+    let long = ap (λ k. c.args.rows * k) c.count-columns.ensures ∙ sym c.requires.long in
+    omega (arith, within, long, c.loop-n.invariant.long)
+
 pub fill-requires-clause-empty : goal.fill-requires-clause-empty
 fill-requires-clause-empty g c = rw c.count-columns.ensures (part-zero _ _ _ c.loop-n.invariant.left)
 

@@ -68,7 +68,7 @@ fn list_token(
 ) -> Kinds {
     match token {
         Token::Literal(c) => {
-            list_cases(row, classes, bit, *c, *c, case_sensitive);
+            list_literal(row, classes, bit, *c, case_sensitive);
             kinds
         }
         Token::AnyChar | Token::AnySequence => Kinds { others: put_bit(kinds.others, bit), ..kinds },
@@ -84,6 +84,23 @@ fn list_token(
             Kinds { others: put_bit(kinds.others, bit), brackets: put_bit(kinds.brackets, bit), ..kinds }
         }
     }
+}
+
+/// Sets the bit in the mask of the character, and case-insensitively in that of its other case.
+#[inline(always)]
+fn list_literal(row: &mut [u64], classes: Classes<'_>, bit: usize, c: char, case_sensitive: bool) {
+    if case_sensitive {
+        list_char(row, classes, bit, c);
+    } else {
+        list_char(row, classes, bit, c.to_ascii_lowercase());
+        list_char(row, classes, bit, c.to_ascii_uppercase());
+    }
+}
+
+/// Sets the bit in the mask of the character.
+#[inline(always)]
+fn list_char(row: &mut [u64], classes: Classes<'_>, bit: usize, c: char) {
+    list_class(row, bit, classes.class(c));
 }
 
 /// Sets the bit in the masks of the characters that some entry holds.

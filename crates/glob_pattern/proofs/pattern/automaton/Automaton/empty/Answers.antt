@@ -1,5 +1,6 @@
 use Rattle.std.proofs.Common.{arith}
 use Rattle.glob_pattern.proofs.BitLemmas.SetBits.{IsBitSet-zero}
+use Rattle.glob_pattern.proofs.ClassLemmas.Separating.{one-class}
 use Rattle.glob_pattern.proofs.pattern.automaton.Automaton.empty.Goals as goal
 
 pub returns : goal.returns
@@ -12,7 +13,7 @@ returns g c = record {
   all_words = λ more. absurd (omega arith);
   accepting = λ j set. absurd (IsBitSet-zero j set);
   masked = λ count enough few case. record {
-    partition = record { least = omega arith; each = λ d lt. absurd (omega arith); rising = λ i j d le lt. absurd (omega arith); counts = λ i lt. absurd (omega arith) };
+    partition = one-class;
     within = λ word lt. absurd (omega (arith, few, lt));
     row = λ word lt. absurd (omega (arith, few, lt));
   };

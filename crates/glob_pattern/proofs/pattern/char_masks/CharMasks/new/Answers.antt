@@ -5,6 +5,7 @@ use Rattle.std.proofs.lemmas.List.Sums.{AllPass-from_list_all}
 use Rattle.glob_pattern.specs.declared.token.Token.TheVariants.{AnyChar}
 use Rattle.glob_pattern.specs.Private.CharMasks.{is_plain}
 use Rattle.glob_pattern.proofs.ClassLemmas.Rows.{zeros}
+use Rattle.glob_pattern.proofs.ClassLemmas.Separating.{one-class}
 use Rattle.glob_pattern.proofs.MaskLemmas.Classes.{takes-caseless, intervals-none}
 use Rattle.glob_pattern.proofs.pattern.char_masks.CharMasks.new.Goals as goal
 
@@ -16,13 +17,13 @@ pub fill-requires-clause-empty : goal.fill-requires-clause-empty
 fill-requires-clause-empty g c = λ r. zeros 3 r 0
 
 pub fill-requires-clause-partition : goal.fill-requires-clause-partition
-fill-requires-clause-partition g c = record { least = omega arith; each = λ d lt. absurd (omega arith); rising = λ i j d le lt. absurd (omega arith); counts = λ i lt. absurd (omega arith) }
+fill-requires-clause-partition g c = one-class
 
 pub returns-then-are_plain : goal.returns-then-are_plain
 returns-then-are_plain g c = λ case.
     let tokens = c.args.tokens.now in
     record {
-      partition = record { least = omega arith; each = λ d lt. absurd (omega arith); rising = λ i j d le lt. absurd (omega arith); counts = λ i lt. absurd (omega arith) };
+      partition = one-class;
       within = λ word lt. let none : word ≡ 0 = omega (arith, lt, c.if-words-le1.true) in rw none (omega (arith, c.fill.auto.row));
       row = λ word lt. let none : word ≡ 0 = omega (arith, lt, c.if-words-le1.true) in rw none (record {
         takes = λ o opening d j same short.

@@ -1,11 +1,9 @@
 use Rattle.std.proofs.Common.{⊎_elim}
-use Rattle.glob_pattern.specs.declared.token.bracket.Entry.TheVariants.{Single}
-use Rattle.glob_pattern.proofs.ClassLemmas.Folding.{held-ends}
 use Rattle.glob_pattern.proofs.MaskLemmas.Putting.{with_none}
 use Rattle.glob_pattern.proofs.pattern.char_masks.row.list_token.Goals as goal
 
-pub list_cases-requires-clause-apart : goal.list_cases-requires-clause-apart
-list_cases-requires-clause-apart g c = rw c.in-Literal.is at c.requires.apart
+pub list_literal-requires-clause-apart : goal.list_literal-requires-clause-apart
+list_literal-requires-clause-apart g c = rw c.in-Literal.is at c.requires.apart
 
 pub list_all-requires-clause-apart : goal.list_all-requires-clause-apart
 list_all-requires-clause-apart g c = rw c.entries.ensures (rw c.in-OneOf.is at c.requires.apart)
@@ -15,7 +13,7 @@ list_all-requires-in-NoneOf-clause-apart g c = rw c.entries-in-NoneOf.ensures (r
 
 pub returns-in-Literal : goal.returns-in-Literal
 returns-in-Literal g c = rw c.in-Literal.is (record {
-  listed = λ d. rw (held-ends c.args.case_sensitive d (Single c.in-Literal.c)) at (c.list_cases.ensures d);
+  listed = c.list_literal.ensures;
   others = with_none _ _;
   brackets = with_none _ _;
   recursive = with_none _ _;

@@ -1,4 +1,3 @@
-use Rattle.std.proofs.Common.{◌≤◌}
 use Rattle.glob_pattern.proofs.ClassLemmas.Intervals.{Grows-trans, HasInterval-grows}
 use Rattle.glob_pattern.proofs.pattern.classes.Boundaries.mark_cases.Goals as goal
 
@@ -8,9 +7,9 @@ returns-clause-marked g c =
     let third = c.in_ok-mark-3.ensures in
     let rest = Grows-trans _ _ _ second.grows third.grows in
     record {
-      plain = λ le. HasInterval-grows _ _ rest _ _ (c.in_ok-mark.ensures.marked le);
-      lower = λ letters le. rw (c.to_ascii_lowercase.ensures.value, c.to_ascii_lowercase-2.ensures.value) at (λ (h : c.to_ascii_lowercase.result ≤ c.to_ascii_lowercase-2.result). HasInterval-grows _ _ third.grows _ _ (second.marked h)) le;
-      upper = λ letters le. rw (c.to_ascii_uppercase.ensures.value, c.to_ascii_uppercase-2.ensures.value) at third.marked le;
+      plain = λ le. HasInterval-grows _ _ rest _ _ c.in_ok-mark.ensures.marked;
+      lower = λ letters le. rw (c.to_ascii_lowercase.ensures.value, c.to_ascii_lowercase-2.ensures.value) at (HasInterval-grows _ _ third.grows _ _ second.marked);
+      upper = λ letters le. rw (c.to_ascii_uppercase.ensures.value, c.to_ascii_uppercase-2.ensures.value) at third.marked;
     }
 
 pub returns-clause-grows : goal.returns-clause-grows

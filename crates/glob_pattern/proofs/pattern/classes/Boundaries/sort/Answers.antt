@@ -17,7 +17,6 @@ pub returns-clause-grows : goal.returns-clause-grows
 returns-clause-grows g c =
     let kept = dedup_is eqb _ _ c.dedup.ensures.filtered in
     record {
-      cuts = λ d h. h;
-      covered = λ d h. h;
+      ascii = λ d h. h;
       beyond = λ d h. subst (λ xs. Contains xs d) (sym kept) (Contains-dedup_nat _ d (Contains-permutation _ _ d c.sort_unstable.ensures.permutation h));
     }
