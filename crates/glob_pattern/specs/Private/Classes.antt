@@ -61,6 +61,13 @@ pub record AreAsciiClasses (cuts : List Bool) (end : ℕ) (ascii : List ℕ) : T
   pub apart : (c k d : ℕ) → c < k → k ≤ d → d < end → HasCut cuts k
       → slice_index ascii c < slice_index ascii d
 
+-- these classes are up to `last`
+pub record AreNumbered (cuts : List Bool) (end last : ℕ) (ascii : List ℕ) : Type 0 where
+  pub classes : AreAsciiClasses cuts end ascii
+  pub most : (c : ℕ) → c < end → slice_index ascii c ≤ last
+  pub least : 2 ≤ last
+  pub few : last ≤ end + 2
+
 -- the boundaries of the characters from x to y are known
 pub record HasInterval {A : Type 0} (b : Boundaries A) (x y : ℕ) : Type 0 where
   pub first : x < 128 → HasCut b.ascii x

@@ -3,10 +3,10 @@
 //! What tokens list are intervals of characters. Between two neighbouring boundaries of intervals no token tells
 //! characters apart: that is a class. So the tokens of `*[a-z]x` have one class for `a` to `w`, one for `x`, one for
 //! `y` and `z`, the same three in upper case, and one each for what is before, between and after these.
-ghost use Rattle.std.specs.Prelude.{◌≡◌, ℕ, ◌+◌, ◌<◌, ◌≤◌, length, slice_index, nat_le, IfOk};
+ghost use Rattle.std.specs.Prelude.{◌≡◌, ℕ, ◌+◌, ◌<◌, ◌≤◌, Bool, List, length, slice_index, nat_le, IsTrue, IfOk};
 ghost use Rattle.std.specs.List.{All, Contains, prefix_len};
 ghost use Rattle.std.specs.List.Sorted.{IsNonDecreasing};
-ghost use Rattle.glob_pattern.specs.Private.Classes.{IsPartition, AreAsciiClasses, AreCounts, HasInterval, Grows, EachInterval, EachCase, EitherCase, EntryIntervals, TokenIntervals, HasCut, partition_of, class_in, columns_of, are_letters};
+ghost use Rattle.glob_pattern.specs.Private.Classes.{IsPartition, AreAsciiClasses, AreNumbered, AreCounts, HasInterval, Grows, EachInterval, EachCase, EitherCase, EntryIntervals, TokenIntervals, HasCut, partition_of, class_in, columns_of, are_letters};
 
 use crate::token::Token;
 use crate::token::bracket::{Bracket, Entry};
@@ -199,11 +199,54 @@ impl<A: Allocator> Boundaries<A> {
     {
         let mut classes = [FIRST; ASCII];
         let mut class = FIRST;
-        for c in 0..ASCII {
+        for n in 0..ASCII / 8 {
+            class = self.number(&mut classes, 8 * n, class);
+        }
+        classes
+    }
+
+    /// Writes the classes of eight characters, given the class before them. Its result is the class of the last of them.
+    #[inline(always)]
+    fn number(&self, classes: &mut [u8; ASCII], start: usize, last: u8) -> u8
+        requires within { start + 8 ≤ 128 }
+        requires before { AreNumbered self.now.ascii start last classes.old }
+        ensures { AreNumbered self.now.ascii (start + 8) result classes.new }
+    {
+        if self.has_none(start) {
+            keep(classes, start, last);
+            return last;
+        }
+        let mut class = last;
+        for c in start..start + 8 {
             class += u8::from(self.ascii[c]);
             classes[c] = class;
         }
-        classes
+        class
+    }
+
+    /// Whether there is no boundary at eight characters, which are compared at once.
+    #[inline(always)]
+    fn has_none(&self, start: usize) -> bool
+        requires { start + 8 ≤ 128 }
+        ensures { IsTrue result
+            → (c : ℕ) → start ≤ c → c < start + 8 → ¬ (HasCut self.now.ascii c) }
+    {
+        let eight = &self.ascii[start..start + 8];
+        let none: &[bool] = &[false; 8];
+        eight == none
+    }
+}
+
+/// Gives the class to eight characters.
+#[inline(always)]
+fn keep(classes: &mut [u8; ASCII], start: usize, class: u8)
+    requires { start + 8 ≤ 128 }
+    ensures { (cuts : List Bool) → AreNumbered cuts start class classes.old
+        → ((c : ℕ) → start ≤ c → c < start + 8 → ¬ (HasCut cuts c))
+        → AreNumbered cuts (start + 8) class classes.new }
+{
+    for c in start..start + 8 {
+        classes[c] = class;
     }
 }
 

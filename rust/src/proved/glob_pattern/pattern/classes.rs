@@ -147,11 +147,42 @@ impl Boundaries {
     pub fn ascii_classes(&self) -> [u8; ASCII] {
         let mut classes = [FIRST; ASCII];
         let mut class = FIRST;
-        for c in 0..ASCII {
+        for n in 0..ASCII / 8 {
+            class = self.number(&mut classes, 8 * n, class);
+        }
+        classes
+    }
+
+    /// Writes the classes of eight characters, given the class before them. Its result is the class of the last of
+    /// them.
+    #[inline(always)]
+    fn number(&self, classes: &mut [u8; ASCII], start: usize, last: u8) -> u8 {
+        if self.has_none(start) {
+            keep(classes, start, last);
+            return last;
+        }
+        let mut class = last;
+        for c in start..start + 8 {
             class += u8::from(self.ascii[c]);
             classes[c] = class;
         }
-        classes
+        class
+    }
+
+    /// Whether there is no boundary at eight characters, which are compared at once.
+    #[inline(always)]
+    fn has_none(&self, start: usize) -> bool {
+        let eight = &self.ascii[start..start + 8];
+        let none: &[bool] = &[false; 8];
+        eight == none
+    }
+}
+
+/// Gives the class to eight characters.
+#[inline(always)]
+fn keep(classes: &mut [u8; ASCII], start: usize, class: u8) {
+    for c in start..start + 8 {
+        classes[c] = class;
     }
 }
 
