@@ -14,13 +14,9 @@ use Rattle.glob_set.specs.Private.Keyed.{FoundNumbers, Finds}
 use Rattle.glob_set.specs.Private.Keys.{AreKeys, HasKey, IsComponentOf, IsExtensionOf}
 use Rattle.glob_set.specs.Private.Pairs.{text_class}
 use Rattle.glob_set.specs.Sets.{MatchesAt, AnyMatch, FirstMatch, LastMatch}
+use Rattle.glob_set.proofs.ListReading.{within_patterns}
 
 module _ (o : MatchOptions) (patterns : List Text) (text : Text) where
-  -- the pattern of a number that is none does not match
-  within_patterns : (k : ℕ) → MatchesAt o patterns text k → k < length patterns
-  unfolding MatchesAt
-  within_patterns k at = at.0
-
   -- a pattern with a key is found by it
   found_by_key : IsUtf8 text → (keys : List (Option Key)) (found : FoundNumbers) → AreKeys patterns keys → Finds keys (λ key. IsComponentOf text key ⊎ IsExtensionOf text key) found
       → (k : ℕ) → MatchesAt o patterns text k → IsNone (get_or keys k None) ⊎ (IsTrue found.is_full ⊎ Contains found.items k)
@@ -63,7 +59,7 @@ module _ (o : MatchOptions) (patterns : List Text) (text : Text) where
     found_within = subst (λ n. All (λ k. k < n) found) same within;
     listed_order = all.order;
     found_order = order;
-    all = λ k at. inl (all.all k (within_patterns k at));
+    all = λ k at. inl (all.all k (within_patterns o patterns text k at));
   }
 
   -- none of the numbers before a place of the list is that of a match

@@ -1,5 +1,5 @@
 -- The keys of the patterns of a list, as they are gathered.
-use Rattle.std.proofs.Common.{◌≡◌, ℕ, ◌+◌, ◌<◌, List, [], ◌∷◌, ◌++◌, length, get_or, Option, Some, None, IfSome, All, Contains, sym, ap, subst, ◌∙◌, arith, below_more, length-append}
+use Rattle.std.proofs.Common.{◌≡◌, ℕ, ◌+◌, ◌<◌, List, [], ◌∷◌, ◌++◌, length, get_or, Option, Some, None, IfSome, All, Contains, sym, ap, subst, ◌∙◌, arith, below_more}
 use Rattle.std.proofs.lemmas.List.{get_or_default, get_or_push, get_or_append_left}
 use Rattle.std.proofs.lemmas.List.Elements.{All-contains}
 use Rattle.glob_text.specs.Text.{Text}
@@ -21,9 +21,6 @@ keys_more patterns keys new i pattern found key each as_many below is all among 
     (subst (λ o. IfSome o (HasKey (get_or patterns i []))) (sym (ap (λ ks. get_or ks i None) more ∙ get_or_push keys key None i as_many))
     (subst (λ p. IfSome key (HasKey p)) (is ∙ get_or_default patterns i pattern [] below) (key_of pattern found key all among)))
     k under
-
-pub keys_length : (keys new : List (Option Key)) (key : Option Key) (i : ℕ) → length keys ≡ i → new ≡ keys ++ key ∷ [] → length new ≡ i + 1
-keys_length keys new key i as_many more = omega (arith, as_many, ap length more, length-append keys (key ∷ []))
 
 pub keys_end : (patterns : List Text) (keys : List (Option Key)) (i : ℕ) → length keys ≡ i → i ≡ length patterns
     → ((k : ℕ) → k < i → IfSome (get_or keys k None) (HasKey (get_or patterns k []))) → AreKeys patterns keys

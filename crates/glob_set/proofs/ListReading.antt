@@ -18,6 +18,11 @@ not_true true not = absurd (not refl)
 not_true false not = refl
 
 module _ (o : MatchOptions) (patterns : List Text) (text : Text) where
+  -- the pattern of a number that is none does not match
+  pub within_patterns : (k : ℕ) → MatchesAt o patterns text k → k < length patterns
+  unfolding MatchesAt
+  within_patterns k at = at.0
+
   -- the first match says whether there is any
   pub AnyMatch-Some : (number : ℕ) → FirstMatch o patterns text (Some number) → AnyMatch o patterns text
   unfolding FirstMatch AnyMatch

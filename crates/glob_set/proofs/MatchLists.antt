@@ -17,7 +17,7 @@ use Rattle.glob_pattern.specs.Matching.Texts.{Matches}
 use Rattle.glob_pattern.proofs.CallerLemmas.{match_decided}
 use Rattle.glob_set.specs.Private.Asking.{AreMatches}
 use Rattle.glob_set.specs.Sets.{MatchesAt, matches_below, all_matches}
-use Rattle.glob_set.proofs.ListReading.{matches_below-yes, matches_below-no}
+use Rattle.glob_set.proofs.ListReading.{matches_below-yes, matches_below-no, within_patterns}
 
 -- the first numbers of two lists are those of the first
 pub first_part : (n : ℕ) (xs ys : List ℕ) → length xs ≡ n → take n (xs ++ ys) ≡ xs
@@ -74,10 +74,6 @@ record MatchesBelow (o : MatchOptions) (patterns : List Text) (text : Text) (n :
   all : (k : ℕ) → k < n → MatchesAt o patterns text k → Contains numbers k
 
 module _ (o : MatchOptions) (patterns : List Text) (text : Text) where
-  within_patterns : (k : ℕ) → MatchesAt o patterns text k → k < length patterns
-  unfolding MatchesAt
-  within_patterns k at = at.0
-
   decided : (n : ℕ) → n < length patterns → MatchesAt o patterns text n ⊎ ¬ (MatchesAt o patterns text n)
   unfolding MatchesAt
   decided n below = of (is_match o (chars (get_or patterns n [])) (chars text)) (match_decided o (chars (get_or patterns n [])) (chars text))
@@ -137,5 +133,5 @@ module _ (o : MatchOptions) (patterns : List Text) (text : Text) where
       same_members new (matches_below o patterns text (length patterns)) up m.up
       (λ k has.
       let at = are.0 k (back k (Contains-from_dedup nat_eq sorted k (subst (λ ks. Contains ks k) deduped has))) in
-      m.all k (within_patterns k at) at)
+      m.all k (within_patterns o patterns text k at) at)
       (λ k has. subst (λ ks. Contains ks k) (sym deduped) (Contains-dedup_nat sorted k (Contains-permutation pushed sorted k permutation (are.1 k (m.only k has)))))

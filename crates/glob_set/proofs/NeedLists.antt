@@ -18,8 +18,8 @@ needs_more patterns needs new i pattern need each as_many below is needed more k
     (subst (IsNeed (get_or patterns i [])) (sym (ap (λ ns. get_or ns i d) more ∙ get_or_push needs need d i as_many))
     (subst (λ p. IsNeed p need) (is ∙ get_or_default patterns i pattern [] below) needed)) k
 
-pub length_more : (needs new : List Need) (need : Need) (i : ℕ) → length needs ≡ i → new ≡ needs ++ need ∷ [] → length new ≡ i + 1
-length_more needs new need i as_many more = omega (arith, as_many, ap length more, length-append needs (need ∷ []))
+pub length_more : {X : Type 0} (xs new : List X) (x : X) (i : ℕ) → length xs ≡ i → new ≡ xs ++ x ∷ [] → length new ≡ i + 1
+length_more xs new x i as_many more = omega (arith, as_many, ap length more, length-append xs (x ∷ []))
 
 pub needs_end : (patterns : List Text) (needs : List Need) (i : ℕ) → length needs ≡ i → i ≡ length patterns
     → ((k : ℕ) (d : Need) → k < i → IsNeed (get_or patterns k []) (get_or needs k d)) → AreNeeds patterns needs
