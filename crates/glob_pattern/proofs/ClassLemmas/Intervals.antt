@@ -7,9 +7,6 @@ use Rattle.glob_pattern.specs.declared.pattern.classes.Boundaries.{Boundaries}
 use Rattle.glob_pattern.specs.declared.token.Token.TheVariants.{Literal, AnyChar, AnySequence, Recursive, OneOf, NoneOf}
 use Rattle.glob_pattern.specs.declared.token.bracket.Entry.{Entry}
 
-pub Grows-refl : {A : Type 0} (b : Boundaries A) → Grows b b
-Grows-refl b = record { ascii = λ c h. h; beyond = λ c h. h }
-
 pub Grows-trans : {A : Type 0} (a b c : Boundaries A) → Grows a b → Grows b c → Grows a c
 Grows-trans a b c first second = record {
   ascii = λ k h. second.ascii k (first.ascii k h);

@@ -244,23 +244,7 @@ fn list_interval(row: &mut [u64], classes: Classes<'_>, bit: usize, first: char,
         (in_range first last c) }
 {
     if first <= last {
-        let low = classes.class(first);
-        let high = class_of_last(classes, first, last, low);
-        paint(row, bit, low, high);
-    }
-}
-
-/// The class of the last character of an interval, of whose first one it is known.
-#[inline(always)]
-fn class_of_last(classes: Classes<'_>, first: char, last: char, low: usize) -> usize
-    requires partition { IsPartition (partition_of classes) }
-    requires low { low ≡ class_in (partition_of classes) first }
-    ensures { result ≡ class_in (partition_of classes.entry) last }
-{
-    if first == last {
-        low
-    } else {
-        classes.class(last)
+        paint(row, bit, classes.class(first), classes.class(last));
     }
 }
 

@@ -135,19 +135,7 @@ fn has_cases(case_sensitive: bool, first: char, last: char) -> bool {
 #[inline(always)]
 fn list_interval(row: &mut [u64], classes: Classes<'_>, bit: usize, first: char, last: char) {
     if first <= last {
-        let low = classes.class(first);
-        let high = class_of_last(classes, first, last, low);
-        paint(row, bit, low, high);
-    }
-}
-
-/// The class of the last character of an interval, of whose first one it is known.
-#[inline(always)]
-fn class_of_last(classes: Classes<'_>, first: char, last: char, low: usize) -> usize {
-    if first == last {
-        low
-    } else {
-        classes.class(last)
+        paint(row, bit, classes.class(first), classes.class(last));
     }
 }
 
