@@ -205,7 +205,7 @@ impl<A: Allocator> Boundaries<A> {
         classes
     }
 
-    /// Writes the classes of eight characters, given the class before them. Its result is the class of the last of them.
+    /// Writes the classes of eight characters, given the class before them, and returns that of the last.
     #[inline(always)]
     fn number(&self, classes: &mut [u8; ASCII], start: usize, last: u8) -> u8
         requires within { start + 8 ≤ 128 }

@@ -153,8 +153,7 @@ impl Boundaries {
         classes
     }
 
-    /// Writes the classes of eight characters, given the class before them. Its result is the class of the last of
-    /// them.
+    /// Writes the classes of eight characters, given the class before them, and returns that of the last.
     #[inline(always)]
     fn number(&self, classes: &mut [u8; ASCII], start: usize, last: u8) -> u8 {
         if self.has_none(start) {
