@@ -12,7 +12,7 @@ use crate::options::MatchOptions;
 use crate::pattern::classes::{ASCII, Boundaries, Classes, counts_of};
 use crate::token::Token;
 use crate::token::bracket::Bracket;
-use crate::token::taking::{is_excluded_dot, is_excluded_separator};
+use crate::token::taking::{has_rules, is_excluded_dot, is_excluded_separator};
 use row::{DOT, SEPARATOR, fill};
 use std::alloc::{AllocError, Allocator};
 
@@ -182,13 +182,15 @@ impl Rows<'_> {
         requires { IsPartition (partition_of self.classes) }
         ensures { result ≡ class_of (partition_of self.entry.classes) options opening c }
     {
-        if is_excluded_separator(options, c) {
-            SEPARATOR
-        } else if is_excluded_dot(options, opening, c) {
-            DOT
-        } else {
-            self.classes.class(c)
+        if has_rules(options) {
+            if is_excluded_separator(options, c) {
+                return SEPARATOR;
+            }
+            if is_excluded_dot(options, opening, c) {
+                return DOT;
+            }
         }
+        self.classes.class(c)
     }
 }
 

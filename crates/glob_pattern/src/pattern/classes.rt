@@ -128,6 +128,9 @@ impl<A: Allocator> Boundaries<A> {
     {
         let (lower, upper) = (c.to_ascii_lowercase(), c.to_ascii_uppercase());
         self.mark(lower, lower)?;
+        if upper == lower {
+            return Ok(());
+        }
         self.mark(upper, upper)?;
         Ok(())
     }

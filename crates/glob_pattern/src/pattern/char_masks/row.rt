@@ -154,10 +154,14 @@ fn list_literal(row: &mut [u64], classes: Classes<'_>, bit: usize, c: char, case
 {
     if case_sensitive {
         list_char(row, classes, bit, c);
-    } else {
-        list_char(row, classes, bit, c.to_ascii_lowercase());
-        list_char(row, classes, bit, c.to_ascii_uppercase());
+        return;
     }
+    let (lower, upper) = (c.to_ascii_lowercase(), c.to_ascii_uppercase());
+    list_char(row, classes, bit, lower);
+    if upper == lower {
+        return;
+    }
+    list_char(row, classes, bit, upper);
 }
 
 /// Sets the bit in the mask of the character.

@@ -9,7 +9,7 @@ use crate::proved::glob_pattern::matcher::WORD;
 use crate::proved::glob_pattern::options::MatchOptions;
 use crate::proved::glob_pattern::pattern::classes::{counts_of, Boundaries, Classes, ASCII};
 use crate::proved::glob_pattern::token::bracket::Bracket;
-use crate::proved::glob_pattern::token::taking::{is_excluded_dot, is_excluded_separator};
+use crate::proved::glob_pattern::token::taking::{has_rules, is_excluded_dot, is_excluded_separator};
 use crate::proved::glob_pattern::token::Token;
 use row::{fill, DOT, SEPARATOR};
 
@@ -116,13 +116,15 @@ impl Rows<'_> {
     /// The class of a character. `opening`: a component starts at its place.
     #[inline(always)]
     pub fn class_of(self, options: MatchOptions, opening: bool, c: char) -> usize {
-        if is_excluded_separator(options, c) {
-            SEPARATOR
-        } else if is_excluded_dot(options, opening, c) {
-            DOT
-        } else {
-            self.classes.class(c)
+        if has_rules(options) {
+            if is_excluded_separator(options, c) {
+                return SEPARATOR;
+            }
+            if is_excluded_dot(options, opening, c) {
+                return DOT;
+            }
         }
+        self.classes.class(c)
     }
 }
 

@@ -100,6 +100,9 @@ impl Boundaries {
     fn mark_literal(&mut self, c: char) {
         let (lower, upper) = (c.to_ascii_lowercase(), c.to_ascii_uppercase());
         self.mark(lower, lower);
+        if upper == lower {
+            return;
+        }
         self.mark(upper, upper);
     }
 

@@ -1,5 +1,6 @@
-use Rattle.std.proofs.Common.{ℕ, ◌==◌, subst, ⊎_elim}
-use Rattle.std.proofs.Math.Bool.{or-false}
+use Rattle.std.proofs.Common.{ℕ, ◌==◌, ◌∙◌, subst, sym, ⊎_elim}
+use Rattle.std.proofs.Math.Bool.{or-false, or_self}
+use Rattle.std.specs.Char.{to_ascii_lowercase}
 use Rattle.glob_pattern.specs.Private.Classes.{Separates, partition_of}
 use Rattle.glob_pattern.proofs.ClassLemmas.Folding.{own-case, either-same}
 use Rattle.glob_pattern.proofs.MaskLemmas.Putting.{IsWith-after}
@@ -10,18 +11,24 @@ list_char-requires-clause-apart c =
     let P : ℕ → Type 0 = λ x. Separates (partition_of c.args.classes) x x in
     ⊎_elim (λ e. subst P e c.requires.apart.lower) (λ e. subst P e c.requires.apart.upper) (own-case c.args.c)
 
-pub list_char-requires-else-case_sensitive-clause-apart : goal.list_char-requires-else-case_sensitive-clause-apart
-list_char-requires-else-case_sensitive-clause-apart c = rw c.to_ascii_lowercase.ensures.value c.requires.apart.lower
+pub list_char-requires-2-clause-apart : goal.list_char-requires-2-clause-apart
+list_char-requires-2-clause-apart c = rw c.to_ascii_lowercase-lower.ensures.value c.requires.apart.lower
 
-pub list_char-requires-else-case_sensitive-2-clause-apart : goal.list_char-requires-else-case_sensitive-2-clause-apart
-list_char-requires-else-case_sensitive-2-clause-apart c = rw c.to_ascii_uppercase.ensures.value c.requires.apart.upper
+pub list_char-requires-3-clause-apart : goal.list_char-requires-3-clause-apart
+list_char-requires-3-clause-apart c = rw c.to_ascii_uppercase-upper.ensures.value c.requires.apart.upper
 
 pub returns-then-case_sensitive : goal.returns-then-case_sensitive
 returns-then-case_sensitive c = λ d. rw (c.if-case_sensitive.true, or-false (d == c.args.c)) (c.list_char.ensures d)
 
-pub returns-else-case_sensitive : goal.returns-else-case_sensitive
-returns-else-case_sensitive c = λ d.
+pub returns-then-upper-lower : goal.returns-then-upper-lower
+returns-then-upper-lower c = λ d.
+    let same = sym c.to_ascii_uppercase-upper.ensures.value ∙ c.if-upper-lower.true ∙ c.to_ascii_lowercase-lower.ensures.value in
+    rw (c.if-case_sensitive.false, ← either-same d c.args.c, same, or_self (d == to_ascii_lowercase c.args.c))
+    (rw c.to_ascii_lowercase-lower.ensures.value at (c.list_char-2.ensures d))
+
+pub returns : goal.returns
+returns c = λ d.
     rw (c.if-case_sensitive.false, ← either-same d c.args.c)
     (IsWith-after _ _ _ c.args.bit _ _
-    (rw c.to_ascii_lowercase.ensures.value at (c.list_char-else-case_sensitive.ensures d))
-    (rw c.to_ascii_uppercase.ensures.value at (c.list_char-else-case_sensitive-2.ensures d)))
+    (rw c.to_ascii_lowercase-lower.ensures.value at (c.list_char-2.ensures d))
+    (rw c.to_ascii_uppercase-upper.ensures.value at (c.list_char-3.ensures d)))

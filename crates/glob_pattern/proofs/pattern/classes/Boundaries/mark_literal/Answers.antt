@@ -1,3 +1,4 @@
+use Rattle.std.proofs.Common.{sym}
 use Rattle.glob_pattern.proofs.ClassLemmas.Intervals.{Grows-trans, HasInterval-grows}
 use Rattle.glob_pattern.proofs.pattern.classes.Boundaries.mark_literal.Goals as goal
 
@@ -11,3 +12,11 @@ returns-clause-marked g c =
 
 pub returns-clause-grows : goal.returns-clause-grows
 returns-clause-grows g c = Grows-trans _ _ _ c.in_ok-mark.ensures.grows c.in_ok-mark-2.ensures.grows
+
+pub returns-then-upper-lower-clause-marked : goal.returns-then-upper-lower-clause-marked
+returns-then-upper-lower-clause-marked g c =
+    let marked = c.in_ok-mark.ensures.marked in
+    record {
+      lower = rw c.to_ascii_lowercase-lower.ensures.value at marked;
+      upper = rw (sym c.if-upper-lower.true, c.to_ascii_uppercase-upper.ensures.value) at marked;
+    }
