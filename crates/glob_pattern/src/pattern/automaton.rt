@@ -125,7 +125,7 @@ impl<A: Allocator + Copy> Automaton<A> {
         }
     }
 
-    /// The bit of the last token, in its word, if it takes all that is left of any text: once it is alive, the tokens match.
+    /// The bit of the last token, in its word, if it takes all that is left of any text: once it is alive, they match.
     #[inline(always)]
     fn accepting(&self, options: MatchOptions) -> u64
         ensures { (tokens : List TokenOf) (end : ℕ) → IsAutomaton tokens end self.now

@@ -77,8 +77,7 @@ impl Automaton {
         }
     }
 
-    /// The bit of the last token, in its word, if it takes all that is left of any text: once it is alive, the tokens
-    /// match.
+    /// The bit of the last token, in its word, if it takes all that is left of any text: once it is alive, they match.
     #[inline(always)]
     fn accepting(&self, options: MatchOptions) -> u64 {
         if has_rules(options) {
