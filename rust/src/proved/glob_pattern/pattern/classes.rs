@@ -46,6 +46,7 @@ impl Classes<'_> {
         let ascii = self.ascii;
         match ascii.get(c as usize) {
             Some(class) => usize::from(*class),
+            None if self.beyond.is_empty() => usize::from(ascii[ASCII - 1]),
             None => usize::from(ascii[ASCII - 1]) + begun_at(self.beyond, self.begun, c),
         }
     }
