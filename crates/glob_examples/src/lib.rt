@@ -2,6 +2,7 @@
 #![tactic(auto)]
 
 pub mod copy;
+pub mod disks;
 pub mod faults;
 pub mod literals;
 pub mod names;

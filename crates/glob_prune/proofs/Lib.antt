@@ -7,4 +7,3 @@ pub mod PathLemmas
 pub mod PermutationLemmas
 pub mod PruningLemmas
 pub mod SetLemmas
-pub mod StraysLemmas

@@ -3,5 +3,4 @@ pub mod Entering
 pub mod Laws
 pub mod Pruning
 pub mod Sets
-pub mod Strays
 pub mod Trees

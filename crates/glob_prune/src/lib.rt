@@ -6,12 +6,8 @@ mod exclusion;
 mod ignoring;
 pub mod laws;
 mod matching;
-mod physical;
 mod pruned;
-mod strays;
-mod system;
 
 pub use exclusion::Exclusion;
-pub use physical::{Links, PhysicalDisk};
+pub use glob_tree::{Links, PhysicalDisk, Strays};
 pub use pruned::Pruned;
-pub use strays::Strays;

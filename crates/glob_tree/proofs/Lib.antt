@@ -2,3 +2,5 @@ pub mod ContentLemmas
 pub mod DiskLemmas
 pub mod LoopLemmas
 pub mod MemoryLemmas
+pub mod StraysLemmas
+pub mod SystemLemmas

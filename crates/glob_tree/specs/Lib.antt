@@ -1,8 +1,11 @@
 pub mod Answers
 pub mod Content
 pub mod Directories
+pub mod Disks
+pub mod FileSystems
 pub mod Looks
 pub mod Memory
 pub mod Paths
 pub mod Private
+pub mod Strays
 pub mod Words

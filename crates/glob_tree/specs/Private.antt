@@ -1,4 +1,6 @@
 pub mod Gathering
+pub mod Listing
+pub mod Looking
 pub mod Nodes
 pub mod Numbers
 pub mod Places

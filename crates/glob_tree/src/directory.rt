@@ -1,13 +1,14 @@
 //! The names of an opened directory.
-ghost use Rattle.std.specs.Prelude.{◌≡◌, ◌+◌, ◌<◌, length, map, vec_len, IfOk, OnOk, IfSome};
+ghost use Rattle.std.specs.Prelude.{◌≡◌, ◌+◌, ◌<◌, length, map, vec_len, IfOk, IfErr, OnOk, IfSome, IsSome};
 ghost use Rattle.std.specs.Io.KnownBytes.{IsAtEnd};
 ghost use Rattle.glob_tree.specs.Directories.{names_in as names_of_bytes};
 ghost use Rattle.glob_tree.specs.Private.Gathering.{Gathers};
+ghost use Rattle.glob_tree.specs.declared.tree.ListError.TheVariants.{Memory};
 
 use crate::name::names_entry;
+use crate::system::Directory;
 use crate::tree::ListError;
 use std::alloc::{AllocError, Allocator};
-use std::io::Read;
 
 /// How many bytes of a directory are read at once by its first two reads. The names of some hundred entries fit. A
 /// block is cleared at each listing, so a larger one would cost a small directory more than it saves in system calls.
@@ -21,13 +22,14 @@ const LARGE_BLOCK: usize = 32768;
 ///
 /// The error is `Memory` at an allocation failure, and `Read` with the error of the read that failed: what was read
 /// before it is dropped.
-pub fn read_directory<D: Read, A: Allocator>(
+pub fn read_directory<D: Directory, A: Allocator>(
     alloc: A,
     directory: &mut D,
 ) -> Result<Vec<u8, A>, ListError>
-    ensures bytes { IfOk result (λ read. IfSome (D.remaining directory.old)
+    ensures bytes { IfOk result (λ read. IfSome (D.left directory.old)
         (λ bytes. read.items ≡ bytes)) }
-    ensures end { OnOk result (IsAtEnd (D.remaining directory.new)) }
+    ensures end { OnOk result (IsAtEnd (D.left directory.new)) }
+    ensures fails { IsSome (D.left directory.old) → IfErr result (λ e. e ≡ Memory) }
 {
     let mut bytes = Vec::new(alloc);
     let mut block = [0; BLOCK];
@@ -41,13 +43,14 @@ pub fn read_directory<D: Read, A: Allocator>(
 }
 
 /// Adds all that is left of the directory.
-fn read_rest<D: Read, A: Allocator>(
+fn read_rest<D: Directory, A: Allocator>(
     directory: &mut D,
     bytes: &mut Vec<u8, A>,
 ) -> Result<(), ListError>
-    ensures bytes { OnOk result (Gathers (D.remaining directory.old) (D.remaining directory.new)
+    ensures bytes { OnOk result (Gathers (D.left directory.old) (D.left directory.new)
         bytes.old.items bytes.new.items) }
-    ensures end { OnOk result (IsAtEnd (D.remaining directory.new)) }
+    ensures end { OnOk result (IsAtEnd (D.left directory.new)) }
+    ensures fails { IsSome (D.left directory.old) → IfErr result (λ e. e ≡ Memory) }
 {
     let mut block = [0; LARGE_BLOCK];
     while read_block(directory, &mut block, bytes)? > 0 {}
@@ -55,16 +58,18 @@ fn read_rest<D: Read, A: Allocator>(
 }
 
 /// Adds what one read gives, and returns how many bytes that is: 0 where the directory has ended.
-fn read_block<D: Read, A: Allocator>(
+fn read_block<D: Directory, A: Allocator>(
     directory: &mut D,
     block: &mut [u8],
     bytes: &mut Vec<u8, A>,
 ) -> Result<usize, ListError>
     requires { 0 < length block.old }
-    ensures bytes { OnOk result (Gathers (D.remaining directory.old) (D.remaining directory.new)
+    ensures bytes { OnOk result (Gathers (D.left directory.old) (D.left directory.new)
         bytes.old.items bytes.new.items) }
     ensures count { IfOk result (λ n. vec_len bytes.new ≡ vec_len bytes.old + n) }
-    ensures end { IfOk result (λ n. n ≡ 0 → IsAtEnd (D.remaining directory.new)) }
+    ensures end { IfOk result (λ n. n ≡ 0 → IsAtEnd (D.left directory.new)) }
+    ensures known { OnOk result (IsSome (D.left directory.old) → IsSome (D.left directory.new)) }
+    ensures fails { IsSome (D.left directory.old) → IfErr result (λ e. e ≡ Memory) }
 {
     let count = directory.read(block)?;
     bytes.extend_from_slice(&block[..count])?;

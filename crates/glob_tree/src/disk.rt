@@ -1,17 +1,24 @@
-//! The real file system.
-ghost use Rattle.std.specs.Prelude.{◌≡◌, ◌+◌, None, IfOk, IfSome, OnOk};
+//! The file system, where symbolic links are followed.
+ghost use Rattle.std.specs.Prelude.{◌≡◌, ◌+◌, ◌++◌, Option, true, map, string_bytes, IfOk, IfErr, IfSome, IsOkAnd, OnOk};
+ghost use Rattle.std.specs.Fs.{file_type, IsSymlink};
 ghost use Rattle.std.specs.Io.KnownBytes.{IsAtEnd};
-ghost use Rattle.glob_tree.specs.Answers.{entries_of, entry_count, names_of};
+ghost use Rattle.glob_tree.specs.Answers.{IsEntriesAnswer, IsListAnswer, IsListError, IsNamesAnswer, entries_of, entry_count, names_of};
+ghost use Rattle.glob_tree.specs.Content.{Content, list_result, look_result};
 ghost use Rattle.glob_tree.specs.Directories.{names_in as names_of_bytes};
+ghost use Rattle.glob_tree.specs.FileSystems.{Found, IsStatAnswer};
+ghost use Rattle.glob_tree.specs.Looks.{is_directory};
+ghost use Rattle.glob_tree.specs.Private.Listing.{IsFollowed, are_looked_up, are_text_names, is_said_dir, is_text_name, look_found, said_entries};
+ghost use Rattle.glob_tree.specs.declared.tree.ListError.TheVariants.{Memory};
 
 use crate::asks::Asks;
 use crate::directory::{names_in, read_directory};
-use crate::name::{is_proper, name_from_proper};
+use crate::name::{name_from_proper, text_name};
 use crate::path_text::join;
+use crate::system::{Directory, System};
 use crate::tree::{Entry, ListError, Look, Tree};
 use std::alloc::{AllocError, Allocator, Global};
-use std::fs::{Files, Metadata};
-use std::io::{self, ErrorKind, Read};
+use std::fs::Metadata;
+use std::io::{self, ErrorKind};
 use std::marker::Model;
 
 /// Whether the entries of a listing are looked up, so that their kinds are known.
@@ -21,8 +28,9 @@ enum Kinds {
     LeftOut,
 }
 
-/// The real file system, as a tree with no known content: contracts know only how much was asked of it. Relative paths
-/// begin at the current directory of the process, and links are followed.
+/// The file system that a [`System`] reaches, as a tree in which symbolic links are followed. Where the system holds a
+/// known file system without symbolic links to directories, that is its content. Relative paths begin at the current
+/// directory of the process.
 ///
 /// A look makes one system call, and two at a link. A listing makes one for each entry, also for a link, and one of
 /// names alone makes none for them. Beside these it opens and closes the directory, and reads its names in two blocks
@@ -33,26 +41,27 @@ enum Kinds {
 /// In a directory with a file `a` and a link `b` to `a`, a look at `b` finds `Other`, and a listing of `.` the entries
 /// `a` and `b`, neither of them a directory.
 #[derive(Debug, Drop)]
-pub struct Disk<R: Files, A: Allocator = Global> {
+pub struct Disk<R: System, A: Allocator = Global> {
     rt: R,
     alloc: A,
     asks: Asks,
 }
 
-/// How much was asked of it.
-impl<R: Files, A: Allocator> Model for Disk<R, A> {
-    ghost use Rattle.std.specs.Prelude.{ℕ};
+/// Its file system, where that is known, and how much was asked of it.
+impl<R: System, A: Allocator> Model for Disk<R, A> {
+    ghost use Rattle.glob_tree.specs.Disks.{DiskModel};
 
-    ghost Value = { ℕ };
+    ghost Value = { DiskModel };
 
-    ghost view = { λ disk. disk.asks };
+    ghost view = { λ disk. record { files = R.holds disk.rt; asks = disk.asks } };
 }
 
-impl<R: Files, A: Allocator> Disk<R, A> {
+impl<R: System, A: Allocator> Disk<R, A> {
     /// The file system that `rt` reaches, as `Disk::new(rt, alloc)`. Its listings are allocated from `alloc`. This call
     /// takes no memory.
     pub fn new(rt: R, alloc: A) -> Self
-        ensures { result ≡ 0 }
+        ensures files { result.files ≡ R.holds rt }
+        ensures asks { result.asks ≡ 0 }
     {
         Disk {
             rt,
@@ -62,31 +71,39 @@ impl<R: Files, A: Allocator> Disk<R, A> {
     }
 }
 
-impl<R: Files + Drop, A: Allocator + Copy> Tree for Disk<R, A> {
+impl<R: System, A: Allocator + Copy> Tree for Disk<R, A> {
     type Alloc = A;
 
-    ghost tells = { λ disk. None };
+    ghost use Rattle.std.specs.Prelude.{option_and_then};
+    ghost use Rattle.glob_tree.specs.FileSystems.{followed};
 
-    ghost asks = { λ disk. disk };
+    ghost tells = { λ disk. option_and_then followed disk.files };
+
+    ghost asks = { λ disk. disk.asks };
 
     /// `Other` is also a path that is there and cannot be followed to its end, as a link whose target is missing. A
     /// path that cannot be looked up is `Missing`, as one below a directory that may not be searched. The error comes
     /// only where the I/O error's kind is `OutOfMemory`.
     fn look(&mut self, path: &str) -> Result<Look, AllocError>
-        ensures asks { self.new ≡ self.old + 1 }
+        ensures files { self.new.files ≡ self.old.files }
+        ensures asks { self.new.asks ≡ self.old.asks + 1 }
+        ensures seen { (c : Content) → IsFollowed self.old.files c
+            → IfOk result (λ seen. seen ≡ look_result c path.now) }
     {
         self.asks = self.asks.after(1);
-        match self.rt.symlink_metadata(path) {
-            Ok(metadata) if metadata.is_symlink() => look_of(self.rt.metadata(path), Look::Other),
-            found => look_of(found, Look::Missing),
-        }
+        self.seen(path)
     }
 
     /// An entry whose kind cannot be learned is no directory. The error is `Memory` at an allocation failure, and else
     /// `Read` with the I/O error of the system, as `PermissionDenied` or `NotFound`. Where a name is not UTF-8, the
     /// whole listing fails with an error of the kind `InvalidFilename`.
     fn list(&mut self, path: &str) -> Result<Vec<Entry<A>, A>, ListError>
-        ensures asks { self.new ≡ self.old + 1 + entry_count result }
+        ensures files { self.new.files ≡ self.old.files }
+        ensures asks { self.new.asks ≡ self.old.asks + 1 + entry_count result }
+        ensures entries { (c : Content) → IsFollowed self.old.files c
+            → IfOk result (λ v. IsListAnswer (list_result c path.now) (entries_of v.items)) }
+        ensures fails { (c : Content) → IsFollowed self.old.files c
+            → IfErr result (λ e. IsListError (list_result c path.now) e) }
     {
         self.listing(path, Kinds::LookedUp)
     }
@@ -94,16 +111,38 @@ impl<R: Files + Drop, A: Allocator + Copy> Tree for Disk<R, A> {
     /// The entries of the directory, none of which is said to be a directory. It looks none of them up. The errors are
     /// those of a listing.
     fn list_names(&mut self, path: &str) -> Result<Vec<Entry<A>, A>, ListError>
-        ensures asks { self.new ≡ self.old + 1 + entry_count result }
+        ensures files { self.new.files ≡ self.old.files }
+        ensures asks { self.new.asks ≡ self.old.asks + 1 + entry_count result }
+        ensures names { (c : Content) → IsFollowed self.old.files c
+            → IfOk result (λ v. IsNamesAnswer (list_result c path.now) (entries_of v.items)) }
+        ensures fails { (c : Content) → IsFollowed self.old.files c
+            → IfErr result (λ e. IsListError (list_result c path.now) e) }
     {
         self.listing(path, Kinds::LeftOut)
     }
 }
 
-impl<R: Files, A: Allocator + Copy> Disk<R, A> {
+impl<R: System, A: Allocator + Copy> Disk<R, A> {
+    /// What is at a path.
+    fn seen(&self, path: &str) -> Result<Look, AllocError>
+        ensures { (c : Content) → IsFollowed self.now.files c
+            → IfOk result (λ seen. seen ≡ look_result c path.now) }
+    {
+        let found = self.rt.lstat(path);
+        if is_symlink(&found) {
+            return look_of(self.rt.stat(path), Look::Other);
+        }
+        look_of(found, Look::Missing)
+    }
+
     /// Lists a directory, and counts that.
     fn listing(&mut self, path: &str, kinds: Kinds) -> Result<Vec<Entry<A>, A>, ListError>
-        ensures asks { self.new ≡ self.old + 1 + entry_count result }
+        ensures files { self.new.files ≡ self.old.files }
+        ensures asks { self.new.asks ≡ self.old.asks + 1 + entry_count result }
+        ensures entries { (c : Content) → IsFollowed self.old.files c → IfOk result (λ v.
+            IsEntriesAnswer (are_looked_up kinds) (list_result c path.now) (entries_of v.items)) }
+        ensures fails { (c : Content) → IsFollowed self.old.files c
+            → IfErr result (λ e. IsListError (list_result c path.now) e) }
     {
         self.asks = self.asks.after(1);
         let entries = self.entries(path, kinds)?;
@@ -112,23 +151,34 @@ impl<R: Files, A: Allocator + Copy> Disk<R, A> {
     }
 
     /// The entries of the directory at a path.
-    fn entries(&self, path: &str, kinds: Kinds) -> Result<Vec<Entry<A>, A>, ListError> {
+    fn entries(&self, path: &str, kinds: Kinds) -> Result<Vec<Entry<A>, A>, ListError>
+        ensures entries { (c : Content) → IsFollowed self.now.files c → IfOk result (λ v.
+            IsEntriesAnswer (are_looked_up kinds) (list_result c path.now) (entries_of v.items)) }
+        ensures fails { (c : Content) → IsFollowed self.now.files c
+            → IfErr result (λ e. IsListError (list_result c path.now) e) }
+    {
         // The separator at its end, so that a link there is followed.
         let mut path = join(self.alloc, path, "")?;
-        let mut directory = self.rt.open_dir(path.as_str())?;
+        let mut directory = self.rt.open(path.as_str())?;
         self.read_entries(&mut path, kinds, &mut directory)
     }
 
     /// The entries of a directory that is open. The path is its own, with a separator at the end.
-    fn read_entries<D: Read>(
+    fn read_entries<D: Directory>(
         &self,
         path: &mut String<A>,
         kinds: Kinds,
         directory: &mut D,
     ) -> Result<Vec<Entry<A>, A>, ListError>
-        ensures names { IfOk result (λ v. IfSome (D.remaining directory.old)
+        ensures names { IfOk result (λ v. IfSome (D.left directory.old)
             (λ bytes. names_of (entries_of v.items) ≡ names_of_bytes bytes)) }
-        ensures end { OnOk result (IsAtEnd (D.remaining directory.new)) }
+        ensures kinds { (c : Content) → IsFollowed self.now.files c
+            → IfOk result (λ v. IfSome (D.left directory.old) (λ bytes. entries_of v.items
+            ≡ said_entries c kinds (string_bytes path.old) (names_of_bytes bytes))) }
+        ensures fails { IfSome (D.left directory.old)
+            (λ bytes. are_text_names (names_of_bytes bytes) ≡ true
+            → IfErr result (λ e. e ≡ Memory)) }
+        ensures end { OnOk result (IsAtEnd (D.left directory.new)) }
     {
         let bytes = read_directory(self.alloc, directory)?;
         self.named_entries(path, kinds, bytes.as_slice())
@@ -142,9 +192,33 @@ impl<R: Files, A: Allocator + Copy> Disk<R, A> {
         bytes: &[u8],
     ) -> Result<Vec<Entry<A>, A>, ListError>
         ensures names { IfOk result (λ v. names_of (entries_of v.items) ≡ names_of_bytes bytes.now) }
+        ensures kinds { (c : Content) → IsFollowed self.now.files c
+            → IfOk result (λ v. entries_of v.items
+            ≡ said_entries c kinds (string_bytes path.old) (names_of_bytes bytes.now)) }
+        ensures fails { are_text_names (names_of_bytes bytes.now) ≡ true
+            → IfErr result (λ e. e ≡ Memory) }
+    {
+        let names = names_in(self.alloc, bytes)?;
+        self.entries_named(path, kinds, names.as_slice())
+    }
+
+    /// The entries of names in a directory, in order.
+    fn entries_named(
+        &self,
+        path: &mut String<A>,
+        kinds: Kinds,
+        names: &[&[u8]],
+    ) -> Result<Vec<Entry<A>, A>, ListError>
+        ensures names { IfOk result
+            (λ v. names_of (entries_of v.items) ≡ map (λ n. n.now) names.now) }
+        ensures kinds { (c : Content) → IsFollowed self.now.files c
+            → IfOk result (λ v. entries_of v.items
+            ≡ said_entries c kinds (string_bytes path.old) (map (λ n. n.now) names.now)) }
+        ensures fails { are_text_names (map (λ n. n.now) names.now) ≡ true
+            → IfErr result (λ e. e ≡ Memory) }
     {
         let mut entries = Vec::new(self.alloc);
-        for name in names_in(self.alloc, bytes)? {
+        for name in names {
             entries.push(self.entry(path, kinds, name)?)?;
         }
         Ok(entries)
@@ -153,10 +227,13 @@ impl<R: Files, A: Allocator + Copy> Disk<R, A> {
     /// The entry of a name in a directory.
     fn entry(&self, path: &mut String<A>, kinds: Kinds, name: &[u8]) -> Result<Entry<A>, ListError>
         ensures name { IfOk result (λ entry. entry.name ≡ name.now) }
+        ensures kind { (c : Content) → IsFollowed self.now.files c → IfOk result
+            (λ entry. entry.is_dir ≡ is_said_dir c kinds (string_bytes path.old) name.now) }
+        ensures path { OnOk result (string_bytes path.new ≡ string_bytes path.old) }
+        ensures fails { is_text_name name.now ≡ true → IfErr result (λ e. e ≡ Memory) }
     {
-        let name = match std::str::from_utf8(name) {
-            Ok(name) if is_proper(name) => name,
-            _ => return Err(ListError::Read(io::Error::from(ErrorKind::InvalidFilename))),
+        let Some(name) = text_name(name) else {
+            return Err(ListError::Read(io::Error::from(ErrorKind::InvalidFilename)));
         };
         let is_dir = match kinds {
             Kinds::LookedUp => self.look_in(path, name)?.is_dir(),
@@ -167,22 +244,39 @@ impl<R: Files, A: Allocator + Copy> Disk<R, A> {
     }
 
     /// What a name in a directory leads to, and `Missing` where that cannot be learned.
-    fn look_in(&self, path: &mut String<A>, name: &str) -> Result<Look, AllocError> {
+    fn look_in(&self, path: &mut String<A>, name: &str) -> Result<Look, AllocError>
+        ensures kind { (c : Content) → IsFollowed self.now.files c → IfOk result (λ look.
+            is_directory look
+            ≡ is_directory (look_result c (string_bytes path.old ++ name.now))) }
+        ensures path { OnOk result (string_bytes path.new ≡ string_bytes path.old) }
+    {
         let length = path.len();
         path.push_str(name)?;
-        let found = self.rt.metadata(path.as_str());
+        let found = self.rt.stat(path.as_str());
         path.truncate(length);
         look_of(found, Look::Missing)
     }
 }
 
-/// What is at a path, by the metadata that the system answers with, of which none is that of a link. Where it has none,
-/// that is `missing`.
-fn look_of(answer: io::Result<Metadata>, missing: Look) -> Result<Look, AllocError> {
+/// Whether the system answers with the metadata of a symbolic link.
+fn is_symlink(answer: &io::Result<Metadata>) -> bool
+    ensures { result ≡ true → IsOkAnd answer.now (λ metadata. IsSymlink (file_type metadata)) }
+{
+    match answer {
+        Ok(metadata) => metadata.is_symlink(),
+        Err(_) => false,
+    }
+}
+
+/// What is at a path, by the metadata that the system answers with. Where it has none, that is `absent`.
+fn look_of(answer: io::Result<Metadata>, absent: Look) -> Result<Look, AllocError>
+    ensures { (found : Option Found) → IsStatAnswer found answer
+        → IfOk result (λ look. look ≡ look_found absent found) }
+{
     match answer {
         Ok(metadata) if metadata.is_dir() => Ok(Look::Dir),
         Ok(_) => Ok(Look::Other),
         Err(error) if error.kind() == ErrorKind::OutOfMemory => Err(AllocError),
-        Err(_) => Ok(missing),
+        Err(_) => Ok(absent),
     }
 }

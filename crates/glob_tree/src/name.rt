@@ -1,7 +1,8 @@
 //! Names of entries.
-ghost use Rattle.std.specs.Prelude.{◌≡◌, true, is_ok, IfOk, IfErr, string_bytes};
+ghost use Rattle.std.specs.Prelude.{◌≡◌, true, false, is_ok, IfOk, IfErr, MatchOption, string_bytes};
 ghost use Rattle.std.specs.List.{list_any};
 ghost use Rattle.glob_tree.specs.Directories.{is_listed as names_entry_bytes};
+ghost use Rattle.glob_tree.specs.Private.Listing.{is_text_name};
 ghost use Rattle.glob_tree.specs.Paths.{is_barred, is_proper as is_proper_text};
 
 use std::alloc::{AllocError, Allocator, Global};
@@ -74,6 +75,28 @@ pub fn is_proper(text: &str) -> bool
     ensures { result ≡ is_proper_text text.now }
 {
     names_entry(text.as_bytes()) && !has_barred(text)
+}
+
+/// The name that the bytes are, if they are a text, and proper.
+pub(crate) fn text_name(bytes: &[u8]) -> Option<&str>
+    ensures { MatchOption result (is_text_name bytes.now ≡ false)
+        (λ name. (name.now ≡ bytes.now) × (is_text_name bytes.now ≡ true)) }
+{
+    match std::str::from_utf8(bytes) {
+        Ok(name) => proper_name(name),
+        Err(_) => None,
+    }
+}
+
+/// The name, if it is proper.
+fn proper_name(name: &str) -> Option<&str>
+    ensures { MatchOption result (is_proper_text name.now ≡ false)
+        (λ proper. (proper.now ≡ name.now) × (is_proper_text name.now ≡ true)) }
+{
+    if is_proper(name) {
+        return Some(name);
+    }
+    None
 }
 
 /// Whether the bytes are neither empty nor `.` or `..`, which lead to no entry of the directory.

@@ -1,7 +1,7 @@
 //! The texts of paths.
-ghost use Rattle.std.specs.Prelude.{◌≡◌, ◌++◌, ◌∷◌, [], if◌then◌else◌, IfOk, string_bytes};
+ghost use Rattle.std.specs.Prelude.{◌≡◌, ◌++◌, ◌∷◌, [], true, if◌then◌else◌, IfOk, MatchOption, string_bytes};
 ghost use Rattle.std.specs.List.{list_all};
-ghost use Rattle.std.specs.Path.{with_separator};
+ghost use Rattle.std.specs.Path.{has_no_slash, with_separator};
 ghost use Rattle.glob_text.specs.Characters.{dot, slash};
 ghost use Rattle.glob_text.specs.Pieces.{begins_with, pieces};
 ghost use Rattle.glob_tree.specs.Paths.{child as child_text, join as join_text, stays as stays_text, is_here as is_here_text};
@@ -56,6 +56,18 @@ fn all_stay(path: &str) -> bool
     ensures { result ≡ list_all stays_text (pieces path.now) }
 {
     path.split('/').all(stays)
+}
+
+/// What is before the last `/` of a path, and what is after it.
+pub(crate) fn cut_last(path: &str) -> Option<(&str, &str)>
+    ensures { MatchOption result (has_no_slash path.now ≡ true)
+        (λ cut. (path.now ≡ cut.0.now ++ slash ∷ cut.1.now)
+        × (has_no_slash cut.1.now ≡ true)) }
+{
+    match path.rsplit_once('/') {
+        Some((above, name)) => Some((above, name)),
+        None => None,
+    }
 }
 
 /// Whether a piece of a path is empty or `.`, so that it leads nowhere else.

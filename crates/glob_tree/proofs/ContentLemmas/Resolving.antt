@@ -4,7 +4,7 @@ use Rattle.std.specs.Prelude.{slice_index, ◌==◌, option_and_then, bytes_eq}
 use Rattle.std.specs.List.{list_all, onto_first}
 use Rattle.std.specs.Path.{has_no_slash, parent_dir}
 use Rattle.std.proofs.lemmas.Bool.{eqb-true, ne_eqb, or_right, or_from, and_parts, cond-true, cond-false, not-true}
-use Rattle.std.proofs.lemmas.List.{append_assoc, length-append, take_all, take_more}
+use Rattle.std.proofs.lemmas.List.{append_assoc, append-nil, length-append, take_all, take_more}
 use Rattle.std.proofs.lemmas.List.Splits.{length-slice_split}
 use Rattle.std.proofs.lemmas.List.Sums.{fold-append}
 use Rattle.std.proofs.lemmas.Option.{option_and_then_some, none-some, same_Some}
@@ -12,7 +12,7 @@ use Rattle.glob_text.specs.Characters.{slash, dot}
 use Rattle.glob_text.specs.Text.{Text}
 use Rattle.glob_text.specs.Pieces.{pieces, ends_with, begins_with}
 use Rattle.glob_tree.specs.Paths.{join, child, stays, is_here}
-use Rattle.glob_tree.specs.Content.{Content, Key, is_dir_at, parent_key, child_key, step, steps, origin, resolve}
+use Rattle.glob_tree.specs.Content.{Content, Key, is_dir_at, child_key, step, steps, origin, resolve}
 
 cut_more : (b : Bool) (c : ℕ) (ps qs : List Text) → 0 < length ps → cond b ([] ∷ (ps ++ qs)) (onto_first c (ps ++ qs)) ≡ cond b ([] ∷ ps) (onto_first c ps) ++ qs
 cut_more b c [] qs h = absurd (omega (arith, h))
@@ -119,11 +119,11 @@ resolve_open c path name k h plain =
     ∙ resolve_after c path name plain
     ∙ ap (option_and_then (step c name)) at
 
-join_ended : (path name : Text) → ends_with slash path ≡ true → join path name ≡ path ++ name
+pub join_ended : (path name : Text) → ends_with slash path ≡ true → join path name ≡ path ++ name
 unfolding join
 join_ended path name e = ap (λ p. p ++ name) (cond-true (length path == 0 || ends_with slash path) path (path ++ slash ∷ []) (or_right (length path == 0) (ends_with slash path) e))
 
-join_open : (path name : Text) → 0 < length path → ends_with slash path ≡ false → join path name ≡ (path ++ slash ∷ []) ++ name
+pub join_open : (path name : Text) → 0 < length path → ends_with slash path ≡ false → join path name ≡ (path ++ slash ∷ []) ++ name
 unfolding join
 join_open path name h e =
     let some : (length path == 0) ≡ false = ne_eqb (length path) 0 (λ z. omega (arith, z, h)) in
@@ -182,3 +182,22 @@ step_here c k piece d here = rw (d, here) refl
 
 pub step_down : (c : Content) (k : Key) (piece : Text) → is_dir_at c k ≡ true → stays piece ≡ false → bytes_eq piece parent_dir ≡ false → step c piece k ≡ child_key c k piece
 step_down c k piece d leads down = rw (d, leads, down) refl
+
+join_empty : join [] [] ≡ []
+unfolding join
+join_empty = refl
+
+-- a separator at its end leads nowhere from where a path leads nowhere
+pub resolve_join_none : (c : Content) (path : Text) → resolve c path ≡ None → resolve c (join path []) ≡ None
+resolve_join_none c [] h = ap (resolve c) join_empty ∙ h
+resolve_join_none c (x ∷ xs) h = by_end (ends_with slash (x ∷ xs)) refl
+  where
+    by_end : (b : Bool) → ends_with slash (x ∷ xs) ≡ b → resolve c (join (x ∷ xs) []) ≡ None
+    by_end true e = ap (resolve c) (join_ended (x ∷ xs) [] e ∙ append-nil (x ∷ xs)) ∙ h
+    by_end false e =
+        let some : 0 < length (x ∷ xs) = omega arith in
+        let from : steps c (Some (origin c ((x ∷ xs) ++ slash ∷ []))) (pieces (x ∷ xs)) ≡ None =
+        ap (λ k. steps c (Some k) (pieces (x ∷ xs))) (origin-append c (x ∷ xs) (slash ∷ []) some) ∙ (sym (resolve_steps c (x ∷ xs) some) ∙ h) in
+        ap (resolve c) (join_open (x ∷ xs) [] some e ∙ append-nil ((x ∷ xs) ++ slash ∷ []))
+        ∙ resolve_after c (x ∷ xs) [] refl
+        ∙ ap (option_and_then (step c [])) from

@@ -13,12 +13,12 @@ use Rattle.glob_text.specs.Text.{Text}
 use Rattle.glob_tree.specs.Paths.{is_proper}
 use Rattle.glob_text.specs.Pieces.{pieces}
 use Rattle.glob_tree.specs.Content.{Content, Key, parent_key, kind_at, is_dir, is_dir_at, is_content, is_placed, are_distinct, child_key}
-use Rattle.glob_tree.specs.Memory.{key_of, key_refusal, add_refusal, with_key, content_with, directory_refusal, current_refusal, directory_key}
+use Rattle.glob_tree.specs.Memory.{key_of, key_refusal, add_refusal, directory_refusal, current_refusal, directory_key}
 use Rattle.glob_tree.specs.Private.Places.{IsPlace, IsDirectoryOf}
 use Rattle.glob_tree.specs.Private.Nodes.{root_entry, entry_numbered, key_numbered, kind_numbered, rooted_content, content_at}
 use Rattle.glob_tree.specs.Private.Numbers.{Leads}
 use Rattle.glob_tree.specs.declared.kind.Kind.{Kind}
-use Rattle.glob_tree.specs.declared.refusal.TreeRefusal.TheVariants.{Improper, NoParent, Taken, NoDirectory}
+use Rattle.glob_tree.specs.declared.refusal.TreeRefusal.TheVariants.{NoParent, Taken, NoDirectory}
 use Rattle.glob_tree.proofs.ContentLemmas.Directories.{is_dir_at-kind}
 use Rattle.glob_tree.proofs.ContentLemmas.Contents.{IsContent-from_test, kind_at-entry, parent_key-append}
 use Rattle.glob_tree.proofs.ContentLemmas.Extending.{is_content-extended}

@@ -46,6 +46,22 @@ pub fn is_proper(text: &str) -> bool {
     names_entry(text.as_bytes()) && !has_barred(text)
 }
 
+/// The name that the bytes are, if they are a text, and proper.
+pub(crate) fn text_name(bytes: &[u8]) -> Option<&str> {
+    match std::str::from_utf8(bytes) {
+        Ok(name) => proper_name(name),
+        Err(_) => None,
+    }
+}
+
+/// The name, if it is proper.
+fn proper_name(name: &str) -> Option<&str> {
+    if is_proper(name) {
+        return Some(name);
+    }
+    None
+}
+
 /// Whether the bytes are neither empty nor `.` or `..`, which lead to no entry of the directory.
 pub(crate) fn names_entry(bytes: &[u8]) -> bool {
     !bytes.is_empty() && bytes != b".".as_slice() && bytes != b"..".as_slice()

@@ -41,6 +41,14 @@ fn all_stay(path: &str) -> bool {
     path.split('/').all(stays)
 }
 
+/// What is before the last `/` of a path, and what is after it.
+pub(crate) fn cut_last(path: &str) -> Option<(&str, &str)> {
+    match path.rsplit_once('/') {
+        Some((above, name)) => Some((above, name)),
+        None => None,
+    }
+}
+
 /// Whether a piece of a path is empty or `.`, so that it leads nowhere else.
 pub fn stays(piece: &str) -> bool {
     piece.is_empty() || piece == "."

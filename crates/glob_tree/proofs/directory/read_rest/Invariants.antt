@@ -1,12 +1,14 @@
 -- The block has room, and what was read so far was gathered.
 use Rattle.std.proofs.Common.{◌<◌, ◌-◌, ◌^◌, length, vec_len}
+use Rattle.std.specs.Prelude.{IsSome}
 use Rattle.glob_tree.specs.Private.Gathering.{Gathers}
 use Rattle.glob_tree.proofs.directory.read_rest.Given as goal
 
 abbrev pub invariant-loop : goal.invariant-loop
 invariant-loop g l = record {
   room : 0 < length l.block;
-  read : Gathers (g.D.Read.remaining l.initial.directory) (g.D.Read.remaining l.directory) l.initial.bytes.items l.bytes.items;
+  read : Gathers (g.D.Directory.left l.initial.directory) (g.D.Directory.left l.directory) l.initial.bytes.items l.bytes.items;
+  known : IsSome (g.D.Directory.left l.initial.directory) → IsSome (g.D.Directory.left l.directory);
 }
 
 abbrev pub decreases-loop : goal.decreases-loop

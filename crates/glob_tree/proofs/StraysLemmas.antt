@@ -8,7 +8,7 @@ use Rattle.glob_text.specs.Text.{Text}
 use Rattle.glob_tree.specs.Answers.{entries_of, names_of}
 use Rattle.glob_tree.specs.Content.{DirEntry}
 use Rattle.glob_tree.specs.declared.tree.Entry.{Entry}
-use Rattle.glob_prune.specs.Strays.{and_then, texts_of, strays_of}
+use Rattle.glob_tree.specs.Strays.{and_then, texts_of, strays_of}
 
 -- nothing more
 pub and_then-nil : (known : Option (List Text)) → and_then known [] ≡ known

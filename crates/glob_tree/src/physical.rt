@@ -1,13 +1,16 @@
-//! The real file system, where a symbolic link is no directory.
-ghost use Rattle.std.specs.Prelude.{◌≡◌, ◌+◌, None};
-ghost use Rattle.glob_tree.specs.Answers.{entry_count};
-ghost use Rattle.glob_prune.specs.declared.physical.Links.TheVariants.{Kept};
+//! The file system, where a symbolic link is no directory.
+ghost use Rattle.std.specs.Prelude.{◌≡◌, ◌+◌, IfOk, IfErr, option_and_then};
+ghost use Rattle.glob_tree.specs.Answers.{IsListAnswer, IsListError, IsTold, entries_of, entry_count};
+ghost use Rattle.glob_tree.specs.Content.{Content, list_result, look_result};
+ghost use Rattle.glob_tree.specs.Disks.{content_with_links};
+ghost use Rattle.glob_tree.specs.declared.physical.Links.TheVariants.{Kept};
 
+use crate::asks::Asks;
+use crate::lookups::Lookups;
 use crate::strays::Strays;
 use crate::system::System;
-use glob_tree::{Asks, Entry, ListError, Look, Tree};
+use crate::tree::{Entry, ListError, Look, Tree};
 use std::alloc::{AllocError, Allocator, Global};
-use std::fs::Files;
 use std::marker::Model;
 
 /// Whether symbolic links are followed.
@@ -22,9 +25,10 @@ pub enum Links {
     Followed,
 }
 
-/// The real file system, as a tree with no known content, where a symbolic link is no directory unless links are
-/// [`Followed`](Links::Followed): nothing is below it, so `link/a` is missing. Relative paths begin at the current
-/// directory of the process.
+/// The file system that a [`System`] reaches, as a tree where a symbolic link is no directory unless links are
+/// [`Followed`](Links::Followed): nothing is below it, so `link/a` is missing. Where the system holds a known file
+/// system, that is its content; where links are followed, only if none points to a directory. Relative paths begin at
+/// the current directory of the process.
 ///
 /// A walk over it is complete, or the [`Strays`] receive what is missing: each name that is not UTF-8, which costs only
 /// itself, and each path where the system does not say what is there, as below a directory that may be listed and not
@@ -40,23 +44,24 @@ pub enum Links {
 /// listing makes one for each entry, besides those that open, read and close the directory. Where links are followed,
 /// each link costs a second one, and a link to a directory one more for each directory on the way down to it.
 #[derive(Drop)]
-pub struct PhysicalDisk<R: Files, S: Strays, A: Allocator = Global> {
-    system: System<R, S, A>,
+pub struct PhysicalDisk<R: System, S: Strays, A: Allocator = Global> {
+    lookups: Lookups<R, S, A>,
     asks: Asks,
 }
 
-/// How much was asked of it, and how it takes links.
-impl<R: Files, S: Strays, A: Allocator> Model for PhysicalDisk<R, S, A> {
-    ghost use Rattle.glob_prune.specs.Trees.{Physical};
+/// Its file system, where that is known, how much was asked of it, and how it takes links.
+impl<R: System, S: Strays, A: Allocator> Model for PhysicalDisk<R, S, A> {
+    ghost use Rattle.glob_tree.specs.Disks.{PhysicalModel};
 
-    ghost Value = { Physical };
+    ghost Value = { PhysicalModel };
 
-    ghost view = { λ disk. record { asks = disk.asks; links = disk.system.links } };
+    ghost view = { λ disk. record { files = disk.lookups.files; asks = disk.asks; links = disk.lookups.links } };
 }
 
-impl<R: Files, S: Strays, A: Allocator + Copy> PhysicalDisk<R, S, A> {
+impl<R: System, S: Strays, A: Allocator + Copy> PhysicalDisk<R, S, A> {
     /// The file system that `rt` reaches. Its listings are allocated from `alloc`. This call takes no memory.
     pub fn new(rt: R, strays: S, alloc: A) -> Self
+        ensures files { result.files ≡ R.holds rt }
         ensures asks { result.asks ≡ 0 }
         ensures links { result.links ≡ Kept }
     {
@@ -65,20 +70,24 @@ impl<R: Files, S: Strays, A: Allocator + Copy> PhysicalDisk<R, S, A> {
 
     /// As [`new`](Self::new), where links are as `links` says.
     pub fn with_links(rt: R, strays: S, alloc: A, links: Links) -> Self
+        ensures files { result.files ≡ R.holds rt }
         ensures asks { result.asks ≡ 0 }
         ensures links { result.links ≡ links }
     {
         PhysicalDisk {
-            system: System::new(rt, links, strays, alloc),
+            lookups: Lookups::new(rt, links, strays, alloc),
             asks: Asks::new(),
         }
     }
 }
 
-impl<R: Files + Drop, S: Strays, A: Allocator + Copy> Tree for PhysicalDisk<R, S, A> {
+impl<R: System, S: Strays, A: Allocator + Copy> Tree for PhysicalDisk<R, S, A> {
     type Alloc = A;
 
-    ghost tells = { λ disk. None };
+    ghost use Rattle.std.specs.Prelude.{option_and_then};
+    ghost use Rattle.glob_tree.specs.Disks.{content_with_links};
+
+    ghost tells = { λ disk. option_and_then (content_with_links disk.links) disk.files };
 
     ghost asks = { λ disk. disk.asks };
 
@@ -86,19 +95,32 @@ impl<R: Files + Drop, S: Strays, A: Allocator + Copy> Tree for PhysicalDisk<R, S
     /// is `Missing`, and the strays receive it unless the system says that nothing is there. The error comes only where
     /// the I/O error's kind is `OutOfMemory`, or an allocation fails.
     fn look(&mut self, path: &str) -> Result<Look, AllocError>
+        ensures files { self.new.files ≡ self.old.files }
+        ensures links { self.new.links ≡ self.old.links }
         ensures asks { self.new.asks ≡ self.old.asks + 1 }
+        ensures seen { (c : Content)
+            → IsTold (option_and_then (content_with_links self.old.links) self.old.files) c
+            → IfOk result (λ seen. seen ≡ look_result c path.now) }
     {
         self.asks = self.asks.after(1);
-        self.system.look(path)
+        self.lookups.look(path)
     }
 
     /// An entry whose kind cannot be learned is no directory, and the strays receive its path. The error is `Memory` at
     /// an allocation failure, and else `Read` with the I/O error of the system, as `PermissionDenied` or `NotFound`.
     fn list(&mut self, path: &str) -> Result<Vec<Entry<A>, A>, ListError>
+        ensures files { self.new.files ≡ self.old.files }
+        ensures links { self.new.links ≡ self.old.links }
         ensures asks { self.new.asks ≡ self.old.asks + 1 + entry_count result }
+        ensures entries { (c : Content)
+            → IsTold (option_and_then (content_with_links self.old.links) self.old.files) c
+            → IfOk result (λ v. IsListAnswer (list_result c path.now) (entries_of v.items)) }
+        ensures fails { (c : Content)
+            → IsTold (option_and_then (content_with_links self.old.links) self.old.files) c
+            → IfErr result (λ e. IsListError (list_result c path.now) e) }
     {
         self.asks = self.asks.after(1);
-        let entries = self.system.entries(path)?;
+        let entries = self.lookups.entries(path)?;
         self.asks = self.asks.after(entries.len());
         Ok(entries)
     }

@@ -1,0 +1,27 @@
+//! A program's walk over a disk, where what the system holds is known.
+ghost use Rattle.std.specs.Prelude.{IfOk, option_and_then};
+ghost use Rattle.glob_tree.specs.FileSystems.{followed};
+ghost use Rattle.glob_walk.specs.WalkGoals.{FindsExactly, FindsInOrder};
+
+use glob::{Disk, MatchOptions, PatternRefusal, Walk, walk_in};
+use glob_tree::System;
+use std::alloc::Allocator;
+
+/// The whole walk of a pattern over the disk that a system reaches. Where the system holds a known file system without
+/// symbolic links to directories, it finds in it what a walk over a tree in memory does.
+pub fn walk_disk<S: System, A: Allocator + Copy>(
+    alloc: A,
+    system: S,
+    pattern: &str,
+    options: MatchOptions,
+    limit: u64,
+) -> Result<Walk<Disk<S, A>>, PatternRefusal>
+    ensures exact { IfOk result
+        (λ walk. FindsExactly (option_and_then followed (S.holds system))
+        options pattern.now walk.end walk.items.items) }
+    ensures orderly { IfOk result
+        (λ walk. FindsInOrder (option_and_then followed (S.holds system))
+        options pattern.now walk.items.items) }
+{
+    walk_in(alloc, Disk::new(system, alloc), pattern, options, limit)
+}

@@ -1,0 +1,6 @@
+pub mod Finding
+pub mod Listing
+pub mod Looking
+pub mod Naming
+pub mod Opening
+pub mod Ways

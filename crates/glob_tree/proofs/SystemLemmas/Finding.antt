@@ -1,0 +1,199 @@
+-- What is found at a path, and the look that reports it.
+use Rattle.std.proofs.Common.{◌≡◌, ◌≢◌, Bool, true, false, cond, ◌&&◌, not, List, [], ◌∷◌, Option, Some, None, Result, Ok, Err, refl, ap, sym, ◌∙◌, arith}
+use Rattle.std.specs.Prelude.{find, option_map, option_and_then, IfOk, IsOkAnd}
+use Rattle.std.specs.Fs.{file_type, IsDir, IsSymlink}
+use Rattle.std.specs.IoError.{error_kind}
+use Rattle.std.specs.List.{list_any}
+use Rattle.std.specs.declared.fs.attrs.FileType.{FileType}
+use Rattle.std.specs.declared.fs.attrs.Metadata.{Metadata}
+use Rattle.std.specs.declared.io.Error.{Error}
+use Rattle.std.specs.declared.io.ErrorKind.TheVariants.{OutOfMemory}
+use Rattle.std.proofs.lemmas.Bool.{both_ways, not_from_false, or_from, or_parts}
+use Rattle.std.proofs.lemmas.Option.{none-some, same_Some}
+use Rattle.glob_text.specs.Pieces.{pieces}
+use Rattle.glob_text.specs.Text.{Text}
+use Rattle.glob_tree.specs.Content.{Content, Key, same_key, is_content, kind_at, is_dir_at, step, origin, resolve, look_of, look_result}
+use Rattle.glob_tree.specs.FileSystems.{FileSystem, Target, Nowhere, AFile, ADirectory, is_a_directory, IsHeld, target_at, Found, Directory, Symlink, File, found_here, found_there, lstat_at, stat_at, lstat_found, stat_found, IsStatAnswer, is_directory_link, passes_link, is_direct}
+use Rattle.glob_tree.specs.Looks.{is_directory}
+use Rattle.glob_tree.specs.Private.Listing.{IsFollowed, look_found}
+use Rattle.glob_tree.specs.declared.kind.Kind.{Kind}
+use Rattle.glob_tree.specs.declared.kind.Kind.TheVariants.{Dir, Shut, Other}
+use Rattle.glob_tree.specs.declared.tree.Look.{Look}
+use Rattle.glob_tree.specs.declared.tree.Look.TheVariants as look
+
+-- the files are known, and no symbolic link points to a directory
+pub record Follows (files : Option FileSystem) (c : Content) : Type 0 where
+  pub f : FileSystem
+  pub held : IsHeld files f
+  pub same : f.content ≡ c
+  pub no_links : list_any (λ e. is_a_directory e.1) f.links ≡ false
+
+pub Follows-from_told : (files : Option FileSystem) (c : Content) → IsFollowed files c → Follows files c
+Follows-from_told None c told = absurd (none-some c told.0)
+Follows-from_told (Some f) c told = by_test (list_any (λ e. is_a_directory e.1) f.links) refl told.0
+  where
+    by_test : (b : Bool) → list_any (λ e. is_a_directory e.1) f.links ≡ b → cond b None (Some f.content) ≡ Some c → Follows (Some f) c
+    by_test true e h = absurd (none-some c h)
+    by_test false e h =
+        let same = same_Some f.content c h in
+        record { f = f; held = (refl, ap is_content same ∙ told.1); same = same; no_links = e }
+
+and_no : (a b : Bool) → b ≡ false → (a && b) ≡ false
+and_no true b h = h
+and_no false b h = refl
+
+no_link_at : (k : Key) (links : List (Key × Target)) → list_any (λ e. is_a_directory e.1) links ≡ false → list_any (λ e. same_key k e.0 && is_a_directory e.1) links ≡ false
+no_link_at k [] non = refl
+no_link_at k (e ∷ es) non =
+    let parts = or_parts (is_a_directory e.1) (list_any (λ g. is_a_directory g.1) es) non in
+    or_from (same_key k e.0 && is_a_directory e.1) (list_any (λ g. same_key k g.0 && is_a_directory g.1) es)
+    (and_no (same_key k e.0) (is_a_directory e.1) parts.0) (no_link_at k es parts.1)
+
+no_link_passed : (f : FileSystem) → list_any (λ e. is_a_directory e.1) f.links ≡ false → (at : Option Key) (ps : List Text) → passes_link f at ps ≡ false
+no_link_passed f non None ps = refl
+no_link_passed f non (Some k) [] = refl
+no_link_passed f non (Some k) (p ∷ ps) =
+    or_from (is_directory_link f k) (passes_link f (step f.content p k) ps)
+    (and_no (not (is_dir_at f.content k)) (list_any (λ e. same_key k e.0 && is_a_directory e.1) f.links) (no_link_at k f.links non)) (no_link_passed f non (step f.content p k) ps)
+
+-- without symbolic links to directories each path is direct
+pub is_direct-from_links : (f : FileSystem) → list_any (λ e. is_a_directory e.1) f.links ≡ false → (path : Text) → is_direct f path ≡ true
+unfolding is_direct
+is_direct-from_links f non path =
+    not_from_false (passes_link f (Some (origin f.content path)) (pieces path)) (no_link_passed f non (Some (origin f.content path)) (pieces path))
+
+pub no_target : (k : Key) (links : List (Key × Target)) → list_any (λ e. is_a_directory e.1) links ≡ false → option_map (λ e. e.1) (find (λ e. same_key k e.0) links) ≡ Some ADirectory → ⊥
+no_target k [] non h = none-some ADirectory h
+no_target k (e ∷ es) non h =
+    let parts = or_parts (is_a_directory e.1) (list_any (λ g. is_a_directory g.1) es) non in
+    by_test (same_key k e.0) h parts.0 (no_target k es parts.1)
+  where
+    by_test : (b : Bool) → option_map (λ g. g.1) (cond b (Some e) (find (λ g. same_key k g.0) es)) ≡ Some ADirectory → is_a_directory e.1 ≡ false
+        → (option_map (λ g. g.1) (find (λ g. same_key k g.0) es) ≡ Some ADirectory → ⊥) → ⊥
+    by_test true h non further = both_ways (is_a_directory e.1) non (ap is_a_directory (same_Some e.1 ADirectory h))
+    by_test false h non further = further h
+
+-- `lstat` shows what a look reports
+pub lstat_look : (f : FileSystem) (path : Text) → look_found look.Missing (lstat_found f path) ≡ look_result f.content path
+unfolding lstat_found look_result
+lstat_look f path = at_key (resolve f.content path)
+  where
+    at_target : (t : Option Target) → look_found look.Missing (Some (found_here Other t)) ≡ look.Other
+    at_target None = refl
+    at_target (Some t) = refl
+
+    at_kind : (k : Key) (o : Option Kind) → look_found look.Missing (option_map (λ kind. found_here kind (target_at f k)) o) ≡ look_of o
+    at_kind k None = refl
+    at_kind k (Some Dir) = refl
+    at_kind k (Some (Shut kind)) = refl
+    at_kind k (Some Other) = at_target (target_at f k)
+
+    at_key : (o : Option Key) → look_found look.Missing (option_and_then (lstat_at f) o) ≡ look_of (option_and_then (kind_at f.content) o)
+    at_key None = refl
+    at_key (Some k) = at_kind k (kind_at f.content k)
+
+-- and at a symbolic link `stat` does, where it points to no directory
+pub stat_look : (f : FileSystem) → list_any (λ e. is_a_directory e.1) f.links ≡ false → (path : Text) → lstat_found f path ≡ Some Symlink
+    → look_found look.Other (stat_found f path) ≡ look_result f.content path
+unfolding lstat_found stat_found look_result
+stat_look f non path h = at_key (resolve f.content path) h
+  where
+    at_target : (k : Key) (t : Option Target) → target_at f k ≡ t → look_found look.Other (found_there Other t) ≡ look.Other
+    at_target k None is = refl
+    at_target k (Some Nowhere) is = refl
+    at_target k (Some AFile) is = refl
+    at_target k (Some ADirectory) is = absurd (no_target k f.links non is)
+
+    at_kind : (k : Key) (o : Option Kind) → option_map (λ kind. found_here kind (target_at f k)) o ≡ Some Symlink
+        → look_found look.Other (option_and_then (λ kind. found_there kind (target_at f k)) o) ≡ look_of o
+    at_kind k None h = absurd (none-some Symlink h)
+    at_kind k (Some Dir) h = refl
+    at_kind k (Some (Shut kind)) h = refl
+    at_kind k (Some Other) h = at_target k (target_at f k) refl
+
+    at_key : (o : Option Key) → option_and_then (lstat_at f) o ≡ Some Symlink → look_found look.Other (option_and_then (stat_at f) o) ≡ look_of (option_and_then (kind_at f.content) o)
+    at_key None h = absurd (none-some Symlink h)
+    at_key (Some k) h = at_kind k (kind_at f.content k) h
+
+-- `stat` shows whether a directory is at a path, where no symbolic link points to one
+pub stat_directory : (f : FileSystem) → list_any (λ e. is_a_directory e.1) f.links ≡ false → (path : Text)
+    → is_directory (look_found look.Missing (stat_found f path)) ≡ is_directory (look_result f.content path)
+unfolding stat_found look_result
+stat_directory f non path = at_key (resolve f.content path)
+  where
+    at_target : (k : Key) (t : Option Target) → target_at f k ≡ t → is_directory (look_found look.Missing (found_there Other t)) ≡ false
+    at_target k None is = refl
+    at_target k (Some Nowhere) is = refl
+    at_target k (Some AFile) is = refl
+    at_target k (Some ADirectory) is = absurd (no_target k f.links non is)
+
+    at_kind : (k : Key) (o : Option Kind) → is_directory (look_found look.Missing (option_and_then (λ kind. found_there kind (target_at f k)) o)) ≡ is_directory (look_of o)
+    at_kind k None = refl
+    at_kind k (Some Dir) = refl
+    at_kind k (Some (Shut kind)) = refl
+    at_kind k (Some Other) = at_target k (target_at f k) refl
+
+    at_key : (o : Option Key) → is_directory (look_found look.Missing (option_and_then (stat_at f) o)) ≡ is_directory (look_of (option_and_then (kind_at f.content) o))
+    at_key None = refl
+    at_key (Some k) = at_kind k (kind_at f.content k)
+
+type_differs : (type : FileType) → IsDir type → IsSymlink type → ⊥
+type_differs type d s = omega (arith, d, s)
+
+-- the metadata of a directory, of anything else, of a symbolic link, and none
+pub answer_directory : (absent : Look) (found : Option Found) (m : Metadata) → IsStatAnswer found (Ok m) → IsDir (file_type m) → look.Dir ≡ look_found absent found
+answer_directory absent None m h d = absurd h
+answer_directory absent (Some Directory) m h d = refl
+answer_directory absent (Some Symlink) m h d = absurd (type_differs (file_type m) d h)
+answer_directory absent (Some File) m h d = absurd (h.0 d)
+
+pub answer_other : (absent : Look) (found : Option Found) (m : Metadata) → IsStatAnswer found (Ok m) → (IsDir (file_type m) → ⊥) → look.Other ≡ look_found absent found
+answer_other absent None m h non = absurd h
+answer_other absent (Some Directory) m h non = absurd (non h)
+answer_other absent (Some Symlink) m h non = refl
+answer_other absent (Some File) m h non = refl
+
+pub answer_symlink : (found : Option Found) (m : Metadata) → IsStatAnswer found (Ok m) → IsSymlink (file_type m) → found ≡ Some Symlink
+answer_symlink None m h s = absurd h
+answer_symlink (Some Directory) m h s = absurd (type_differs (file_type m) h s)
+answer_symlink (Some Symlink) m h s = refl
+answer_symlink (Some File) m h s = absurd (h.1 s)
+
+pub answer_none : (absent : Look) (found : Option Found) (e : Error) → IsStatAnswer found (Err e) → error_kind e ≢ OutOfMemory → absent ≡ look_found absent found
+answer_none absent found e h non = sym (ap (look_found absent) (h non))
+
+-- a look at a path by what `lstat` returned, unless that is a symbolic link
+pub seen_there : {E : Type 0} (files : Option FileSystem) (c : Content) → IsFollowed files c → (path : Text) (answer : Result Metadata Error)
+    → ((f : FileSystem) → IsHeld files f → is_direct f path ≡ true → IsStatAnswer (lstat_found f path) answer)
+    → (r : Result Look E) → ((found : Option Found) → IsStatAnswer found answer → IfOk r (λ l. l ≡ look_found look.Missing found))
+    → IfOk r (λ l. l ≡ look_result c path)
+seen_there files c told path answer found (Err e) of = tt
+seen_there files c told path answer found (Ok l) of =
+    let is = Follows-from_told files c told in
+    of (lstat_found is.f path) (found is.f is.held (is_direct-from_links is.f is.no_links path)) ∙ lstat_look is.f path ∙ ap (λ d. look_result d path) is.same
+
+-- and where it is one, by what `stat` returned
+pub seen_link : {E : Type 0} (files : Option FileSystem) (c : Content) → IsFollowed files c → (path : Text) (first answer : Result Metadata Error) → IsOkAnd first (λ m. IsSymlink (file_type m))
+    → ((f : FileSystem) → IsHeld files f → is_direct f path ≡ true → IsStatAnswer (lstat_found f path) first)
+    → ((f : FileSystem) → IsHeld files f → is_direct f path ≡ true → IsStatAnswer (stat_found f path) answer)
+    → (r : Result Look E) → ((found : Option Found) → IsStatAnswer found answer → IfOk r (λ l. l ≡ look_found look.Other found))
+    → IfOk r (λ l. l ≡ look_result c path)
+seen_link files c told path (Err e) answer link here there r of = absurd link
+seen_link files c told path (Ok m) answer link here there (Err e) of = tt
+seen_link files c told path (Ok m) answer link here there (Ok l) of =
+    let is = Follows-from_told files c told in
+    let direct = is_direct-from_links is.f is.no_links path in
+    let symlink = answer_symlink (lstat_found is.f path) m (here is.f is.held direct) link in
+    of (stat_found is.f path) (there is.f is.held direct) ∙ stat_look is.f is.no_links path symlink ∙ ap (λ d. look_result d path) is.same
+
+-- whether a directory is at a path, by what `stat` returned
+pub seen_directory : {E : Type 0} (files : Option FileSystem) (c : Content) → IsFollowed files c → (path at : Text) → path ≡ at → (answer : Result Metadata Error)
+    → ((f : FileSystem) → IsHeld files f → is_direct f path ≡ true → IsStatAnswer (stat_found f path) answer)
+    → (r : Result Look E) → ((found : Option Found) → IsStatAnswer found answer → IfOk r (λ l. l ≡ look_found look.Missing found))
+    → IfOk r (λ l. is_directory l ≡ is_directory (look_result c at))
+seen_directory files c told path at same answer found (Err e) of = tt
+seen_directory files c told path at same answer found (Ok l) of =
+    let is = Follows-from_told files c told in
+    ap is_directory (of (stat_found is.f path) (found is.f is.held (is_direct-from_links is.f is.no_links path)))
+    ∙ stat_directory is.f is.no_links path
+    ∙ (λ i. is_directory (look_result (is.same i) (same i)))

@@ -1,0 +1,162 @@
+-- What lookups that keep or follow links say of a path.
+use Rattle.std.proofs.Common.{◌≡◌, ◌≢◌, ℕ, Bool, true, false, cond, inl, inr, [], ◌∷◌, ◌++◌, Option, Some, None, Ok, Err, refl, ap, sym, subst, ◌∙◌}
+use Rattle.std.specs.Prelude.{option_map, option_and_then}
+use Rattle.std.specs.Fs.{file_type, IsDir, IsSymlink}
+use Rattle.std.specs.IoError.{error_kind}
+use Rattle.std.specs.List.{list_any}
+use Rattle.std.specs.Path.{has_no_slash}
+use Rattle.std.specs.declared.fs.attrs.Metadata.{Metadata}
+use Rattle.std.specs.declared.io.Error.{Error}
+use Rattle.std.specs.declared.io.ErrorKind.TheVariants.{OutOfMemory}
+use Rattle.std.proofs.lemmas.Bool.{both_ways, not-true, not_from_false}
+use Rattle.std.proofs.lemmas.Option.{none-some, same_Some}
+use Rattle.glob_text.specs.Characters.{slash}
+use Rattle.glob_text.specs.Text.{Text}
+use Rattle.glob_tree.specs.Answers.{IsTold}
+use Rattle.glob_tree.specs.Content.{Content, Key, is_content, kind_at, resolve, look_result}
+use Rattle.glob_tree.specs.Disks.{content_with_links}
+use Rattle.glob_tree.specs.FileSystems.{FileSystem, Target, Nowhere, AFile, ADirectory, is_a_directory, target_at, Found, Directory, Symlink, File, found_here, found_there, lstat_at, stat_at, lstat_found, stat_found, IsStatAnswer, is_direct}
+use Rattle.glob_tree.specs.Looks.{is_directory}
+use Rattle.glob_tree.specs.Private.Listing.{look_found}
+use Rattle.glob_tree.specs.Private.Looking.{has_places, IsSeen, IsFoundAs, IsWay, HasWay, LeadsOn, IsOnWay}
+use Rattle.glob_tree.specs.declared.kind.Kind.{Kind}
+use Rattle.glob_tree.specs.declared.kind.Kind.TheVariants.{Dir, Shut, Other}
+use Rattle.glob_tree.specs.declared.physical.Links.{Links}
+use Rattle.glob_tree.specs.declared.physical.Links.TheVariants.{Kept, Followed}
+use Rattle.glob_tree.specs.declared.tree.Look.TheVariants as look
+use Rattle.glob_tree.proofs.SystemLemmas.Finding.{Follows-from_told, no_target, lstat_look, answer_directory, answer_other, answer_symlink}
+use Rattle.glob_tree.proofs.SystemLemmas.Ways.{direct_one, direct_below, nothing_below, said_no, way_above}
+
+-- a told content is that of files that are seen
+pub record Sees (links : Links) (files : Option FileSystem) (c : Content) : Type 0 where
+  pub f : FileSystem
+  pub seen : IsSeen links files f
+  pub same : f.content ≡ c
+
+pub Sees-from_told : (links : Links) (files : Option FileSystem) (c : Content) → IsTold (option_and_then (content_with_links links) files) c → Sees links files c
+Sees-from_told links None c told = absurd (none-some c told.0)
+Sees-from_told Kept (Some f) c told =
+    let same = same_Some f.content c told.0 in
+    record { f = f; seen = ((refl, ap is_content same ∙ told.1), refl); same = same }
+Sees-from_told Followed (Some f) c told =
+    let of = Follows-from_told (Some f) c told in
+    record { f = of.f; seen = (of.held, not_from_false (list_any (λ e. is_a_directory e.1) of.f.links) of.no_links); same = of.same }
+
+-- what a disk is told of metadata
+pub as_found : (found : Option Found) (m : Metadata) → IsStatAnswer found (Ok m) → IsFoundAs found (Some m)
+as_found None m h = absurd h
+as_found (Some t) m h = h
+
+as_answer : (found : Option Found) (m : Metadata) → IsFoundAs found (Some m) → IsStatAnswer found (Ok m)
+as_answer None m h = absurd h
+as_answer (Some t) m h = h
+
+pub as_nothing : (found : Option Found) (e : Error) → IsStatAnswer found (Err e) → error_kind e ≢ OutOfMemory → IsFoundAs found None
+as_nothing found e h non = subst (λ o. IsFoundAs o None) (sym (h non)) tt
+
+none_found : (found : Option Found) → IsFoundAs found None → look.Missing ≡ look_found look.Missing found
+none_found None h = refl
+none_found (Some t) h = absurd h
+
+-- nothing was found at a path
+pub look_nothing : (f : FileSystem) (path : Text) → IsFoundAs (lstat_found f path) None → look.Missing ≡ look_result f.content path
+look_nothing f path h = none_found (lstat_found f path) h ∙ lstat_look f path
+
+-- what was found is no link that is followed
+pub look_something : (f : FileSystem) (path : Text) (m : Metadata) (d : Bool) → IsFoundAs (lstat_found f path) (Some m) → (d ≡ true → IsDir (file_type m)) → (IsDir (file_type m) → d ≡ true)
+    → cond d look.Dir look.Other ≡ look_result f.content path
+look_something f path m true h is back = answer_directory look.Missing (lstat_found f path) m (as_answer (lstat_found f path) m h) (is refl) ∙ lstat_look f path
+look_something f path m false h is back = answer_other look.Missing (lstat_found f path) m (as_answer (lstat_found f path) m h) (λ d. both_ways false refl (back d)) ∙ lstat_look f path
+
+is_found_directory : Option Found → Bool
+is_found_directory None = false
+is_found_directory (Some Directory) = true
+is_found_directory (Some Symlink) = false
+is_found_directory (Some File) = false
+
+-- a link that is followed points to no directory
+pub no_directory_there : (f : FileSystem) (path : Text) → has_places Followed f ≡ true → lstat_found f path ≡ Some Symlink → stat_found f path ≢ Some Directory
+unfolding lstat_found stat_found is_found_directory
+no_directory_there f path places h is = at_key (resolve f.content path) h is
+  where
+    no_links : list_any (λ e. is_a_directory e.1) f.links ≡ false
+    no_links = not-true (list_any (λ e. is_a_directory e.1) f.links) places
+
+    at_target : (k : Key) (t : Option Target) → target_at f k ≡ t → found_there Other t ≡ Some Directory → ⊥
+    at_target k None e is = both_ways false refl (ap is_found_directory is)
+    at_target k (Some Nowhere) e is = both_ways false refl (ap is_found_directory is)
+    at_target k (Some AFile) e is = both_ways false refl (ap is_found_directory is)
+    at_target k (Some ADirectory) e is = no_target k f.links no_links e
+
+    at_kind : (k : Key) (o : Option Kind) → option_map (λ kind. found_here kind (target_at f k)) o ≡ Some Symlink → option_and_then (λ kind. found_there kind (target_at f k)) o ≡ Some Directory → ⊥
+    at_kind k None h is = none-some Symlink h
+    at_kind k (Some Dir) h is = both_ways true (ap is_found_directory h) refl
+    at_kind k (Some (Shut kind)) h is = both_ways true (ap is_found_directory h) refl
+    at_kind k (Some Other) h is = at_target k (target_at f k) refl is
+
+    at_key : (o : Option Key) → option_and_then (lstat_at f) o ≡ Some Symlink → option_and_then (stat_at f) o ≡ Some Directory → ⊥
+    at_key None h is = none-some Symlink h
+    at_key (Some k) h is = at_kind k (kind_at f.content k) h is
+
+pub link_found : (f : FileSystem) (path : Text) (m : Metadata) → IsFoundAs (lstat_found f path) (Some m) → IsSymlink (file_type m) → lstat_found f path ≡ Some Symlink
+link_found f path m h s = answer_symlink (lstat_found f path) m (as_answer (lstat_found f path) m h) s
+
+-- a link that is followed is looked at as no directory
+pub look_link : (f : FileSystem) (path : Text) → lstat_found f path ≡ Some Symlink → look.Other ≡ look_result f.content path
+look_link f path is = ap (look_found look.Missing) (sym is) ∙ lstat_look f path
+
+-- that what was found there is no directory
+pub target_no_directory : (found : Option Found) (m : Metadata) → IsFoundAs found (Some m) → found ≢ Some Directory → IsDir (file_type m) → ⊥
+target_no_directory None m h non d = h
+target_no_directory (Some Directory) m h non d = non refl
+target_no_directory (Some Symlink) m h non d = both_looks (answer_directory look.Missing (Some Symlink) m h d)
+  where
+    both_looks : look.Dir ≡ look.Other → ⊥
+    both_looks e = both_ways false refl (sym (ap is_directory e))
+target_no_directory (Some File) m h non d = h.0 d
+
+-- the ways of a path
+pub way_of_one : (f : FileSystem) → is_content f.content ≡ true → (path : Text) → has_no_slash path ≡ true → HasWay f path true
+way_of_one f w path plain = direct_one f w path plain
+
+pub way_below : (f : FileSystem) → is_content f.content ≡ true → (path above name : Text) → path ≡ above ++ slash ∷ name → has_no_slash name ≡ true → (yes : Bool) → LeadsOn f above yes
+    → HasWay f path yes
+way_below f w path above name is plain true way = direct_below f w above name path way plain is
+way_below f w path above name is plain false non = ap (look_result f.content) is ∙ nothing_below f.content above name non.0 non.1
+
+is_nil : Text → Bool
+is_nil [] = true
+is_nil (x ∷ xs) = false
+
+cons_some : (x : ℕ) (xs : Text) → x ∷ xs ≡ [] → ⊥
+unfolding is_nil
+cons_some x xs h = both_ways false refl (ap is_nil h)
+
+-- what is on a way is one
+pub on_way : (c : Content) (directory way : Text) → IsOnWay directory way true → IsWay c way → IsWay c directory
+on_way c directory way (inl none) is = inl none
+on_way c directory way (inr (inl same)) is = subst (IsWay c) same is
+on_way c directory way (inr (inr (more, cut))) is = by_empty directory refl
+  where
+    by_empty : (d : Text) → directory ≡ d → IsWay c directory
+    by_empty [] e = inl e
+    by_empty (x ∷ xs) e = way_above c directory more (λ none. cons_some x xs (sym e ∙ none)) (subst (IsWay c) cut is)
+
+-- a directory below a way is one
+pub step_way : (f : FileSystem) → is_content f.content ≡ true → (directory further name : Text) → directory ≡ further ++ slash ∷ name → has_no_slash name ≡ true → (told : Bool) → told ≡ true
+    → (is_direct f directory ≡ true → told ≡ is_directory (look_result f.content directory)) → IsWay f.content further → IsWay f.content directory
+step_way f w directory further name is plain told t said way = inr (sym (said (direct_below f w further name directory way plain is)) ∙ t)
+
+pub last_way : (f : FileSystem) → is_content f.content ≡ true → (directory : Text) → has_no_slash directory ≡ true → (told : Bool) → told ≡ true
+    → (is_direct f directory ≡ true → told ≡ is_directory (look_result f.content directory)) → IsWay f.content directory
+last_way f w directory plain told t said = inr (sym (said (direct_one f w directory plain)) ∙ t)
+
+-- nothing is below what is no directory
+pub step_none : (c : Content) (directory further name : Text) → directory ≡ further ++ slash ∷ name → further ≢ [] → is_directory (look_result c further) ≡ false
+    → is_directory (look_result c directory) ≡ false
+step_none c directory further name is some none = ap (λ d. is_directory (look_result c d)) is ∙ ap is_directory (nothing_below c further name some none)
+
+-- what is not said to be a directory is none
+pub no_way : (f : FileSystem) (directory : Text) (told : Bool) → told ≡ false → (is_direct f directory ≡ true → told ≡ is_directory (look_result f.content directory))
+    → is_directory (look_result f.content directory) ≡ false
+no_way f directory told n said = said_no f directory (λ direct. sym (said direct) ∙ n)

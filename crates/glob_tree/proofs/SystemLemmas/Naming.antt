@@ -1,0 +1,128 @@
+-- The entries of names, one after another.
+use Rattle.std.proofs.Common.{◌≡◌, ℕ, ◌+◌, ◌<◌, Bool, true, false, ◌&&◌, ⊎_elim, Option, Some, None, List, [], ◌∷◌, ◌++◌, length, map, take, refl, ap, sym, ◌∙◌}
+use Rattle.std.specs.Prelude.{Contains, MatchOption, slice_index_or}
+use Rattle.std.specs.Str.{IsUtf8, is_utf8}
+use Rattle.std.specs.Borrow.{Bor}
+use Rattle.std.proofs.lemmas.Bool.{and_from, and_parts}
+use Rattle.std.proofs.lemmas.Str.{IsUtf8-from_is_utf8, is_utf8-from_IsUtf8}
+use Rattle.std.proofs.lemmas.List.{get_or_default, take_more, map-append}
+use Rattle.glob_text.specs.Text.{Text}
+use Rattle.glob_tree.specs.Answers.{entries_of, names_of}
+use Rattle.glob_tree.specs.Content.{Content, DirEntry}
+use Rattle.glob_tree.specs.Paths.{is_proper}
+use Rattle.glob_tree.specs.Private.Listing.{is_said_dir, said_entry, said_entries, is_text_name, are_text_names}
+use Rattle.glob_tree.specs.Strays.{texts_of, strays_of}
+use Rattle.glob_tree.specs.declared.disk.Kinds.{Kinds}
+use Rattle.glob_tree.specs.declared.disk.Kinds.TheVariants.{LookedUp}
+use Rattle.glob_tree.specs.declared.tree.Entry.{Entry}
+use Rattle.glob_tree.proofs.ContentLemmas.Membership.{Contains-head, Contains-tail, Contains-cases, Contains-nil, list_all-contains}
+use Rattle.glob_tree.proofs.StraysLemmas.{names_more, text_listed, text_no_stray, stray_left_out, stray_received}
+
+contains_text : (names : List (Bor Text)) (name : Bor Text) → Contains names name → Contains (map (λ n. n.now) names) name.now
+contains_text [] name in' = absurd (Contains-nil name in')
+contains_text (n ∷ names) name in' = ⊎_elim
+    (λ same. ap_head n names name same)
+    (λ later. Contains-tail n.now (map (λ m. m.now) names) name.now (contains_text names name later))
+    (Contains-cases n names name in')
+  where
+    ap_head : (n : Bor Text) (names : List (Bor Text)) (name : Bor Text) → n ≡ name → Contains (map (λ m. m.now) (n ∷ names)) name.now
+    ap_head n names name same = rw (sym same) (Contains-head n.now (map (λ m. m.now) names))
+
+module _ (names : List (Bor Text)) (i : ℕ) (d : Bor Text) (within : i < length names) where
+  -- the names, one name further
+  names_next : map (λ n. n.now) (take (i + 1) names) ≡ map (λ n. n.now) (take i names) ++ (slice_index_or names i d).now ∷ []
+  names_next =
+      ap (map (λ (n : Bor Text). n.now)) (take_more names i d within)
+      ∙ map-append (λ (n : Bor Text). n.now) (take i names) (slice_index_or names i d ∷ [])
+
+  -- the name of a further entry
+  pub named_next : {A : Type 0} (entries : List (Entry A)) (entry : Entry A) → names_of (entries_of entries) ≡ map (λ n. n.now) (take i names) → entry.name ≡ (slice_index_or names i d).now
+      → names_of (entries_of (entries ++ entry ∷ [])) ≡ map (λ n. n.now) (take (i + 1) names)
+  named_next {A} entries entry so_far is =
+      ap names_of (map-append (λ (e : Entry A). (e.name, e.is_dir)) entries (entry ∷ []))
+      ∙ map-append (λ (e : DirEntry). e.0) (entries_of entries) ((entry.name, entry.is_dir) ∷ [])
+      ∙ (λ j. so_far j ++ is j ∷ [])
+      ∙ sym names_next
+
+  -- the entry of a further name
+  pub said_next : {A : Type 0} (c : Content) (kinds : Kinds) (path at : Text) → at ≡ path → (entries : List (Entry A)) (entry : Entry A)
+      → entries_of entries ≡ said_entries c kinds path (map (λ n. n.now) (take i names)) → entry.name ≡ (slice_index_or names i d).now → entry.is_dir ≡ is_said_dir c kinds at (slice_index_or names i d).now
+      → entries_of (entries ++ entry ∷ []) ≡ said_entries c kinds path (map (λ n. n.now) (take (i + 1) names))
+  unfolding said_entries
+  said_next {A} c kinds path at same entries entry so_far is kind =
+      map-append (λ (e : Entry A). (e.name, e.is_dir)) entries (entry ∷ [])
+      ∙ (λ j. so_far j ++ (is j, (kind ∙ ap (λ p. is_said_dir c kinds p (slice_index_or names i d).now) same) j) ∷ [])
+      ∙ sym (ap (map (said_entry c kinds path)) names_next ∙ map-append (said_entry c kinds path) (map (λ (n : Bor Text). n.now) (take i names)) ((slice_index_or names i d).now ∷ []))
+
+  -- one of names that are all texts is a text
+  pub text_at : are_text_names (map (λ n. n.now) names) ≡ true → is_text_name (slice_index_or names i d).now ≡ true
+  unfolding are_text_names
+  text_at all =
+      list_all-contains is_text_name (map (λ n. n.now) names) (slice_index_or names i d).now all
+      (contains_text names (slice_index_or names i d) (i, within, get_or_default names i (slice_index_or names i d) d within))
+
+  -- and a proper one
+  pub proper_at : are_text_names (map (λ n. n.now) names) ≡ true → is_proper (slice_index_or names i d).now ≡ true
+  proper_at all = (and_parts (is_utf8 (slice_index_or names i d).now) (is_proper (slice_index_or names i d).now) (text_at all)).1
+
+  -- the name of a further entry, where others are no texts
+  pub text_next : {A : Type 0} (entries : List (Entry A)) (entry : Entry A) → names_of (entries_of entries) ≡ texts_of (map (λ n. n.now) (take i names)) → entry.name ≡ (slice_index_or names i d).now
+      → IsUtf8 (slice_index_or names i d).now → names_of (entries_of (entries ++ entry ∷ [])) ≡ texts_of (map (λ n. n.now) (take (i + 1) names))
+  text_next entries entry so_far is utf8 =
+      names_more entries entry
+      ∙ (λ j. so_far j ++ is j ∷ [])
+      ∙ sym (ap texts_of names_next ∙ text_listed (map (λ (n : Bor Text). n.now) (take i names)) (slice_index_or names i d).now utf8)
+
+  -- and the entry
+  pub text_said : {A : Type 0} (c : Content) (path at : Text) → at ≡ path → (entries : List (Entry A)) (entry : Entry A) (name : Text)
+      → entries_of entries ≡ said_entries c LookedUp path (texts_of (map (λ n. n.now) (take i names))) → entry.name ≡ name → name ≡ (slice_index_or names i d).now
+      → IsUtf8 (slice_index_or names i d).now → entry.is_dir ≡ is_said_dir c LookedUp at name
+      → entries_of (entries ++ entry ∷ []) ≡ said_entries c LookedUp path (texts_of (map (λ n. n.now) (take (i + 1) names)))
+  unfolding said_entries
+  text_said {A} c path at same entries entry name so_far is this utf8 kind =
+      map-append (λ (e : Entry A). (e.name, e.is_dir)) entries (entry ∷ [])
+      ∙ (λ j. so_far j ++ ((is ∙ this) j, (kind ∙ ap (λ p. is_said_dir c LookedUp p name) same ∙ ap (is_said_dir c LookedUp path) this) j) ∷ [])
+      ∙ sym (ap (map (said_entry c LookedUp path)) (ap texts_of names_next ∙ text_listed (map (λ (n : Bor Text). n.now) (take i names)) (slice_index_or names i d).now utf8)
+      ∙ map-append (said_entry c LookedUp path) (texts_of (map (λ (n : Bor Text). n.now) (take i names))) ((slice_index_or names i d).now ∷ []))
+
+  -- a text is no stray, and what is no text is one
+  pub no_stray_next : IsUtf8 (slice_index_or names i d).now → strays_of (map (λ n. n.now) (take (i + 1) names)) ≡ strays_of (map (λ n. n.now) (take i names))
+  no_stray_next utf8 = ap strays_of names_next ∙ text_no_stray (map (λ (n : Bor Text). n.now) (take i names)) (slice_index_or names i d).now utf8
+
+  pub stray_next : (IsUtf8 (slice_index_or names i d).now → ⊥) → strays_of (map (λ n. n.now) (take (i + 1) names)) ≡ strays_of (map (λ n. n.now) (take i names)) ++ (slice_index_or names i d).now ∷ []
+  stray_next none = ap strays_of names_next ∙ stray_received (map (λ (n : Bor Text). n.now) (take i names)) (slice_index_or names i d).now none
+
+  pub no_text_next : (IsUtf8 (slice_index_or names i d).now → ⊥) → texts_of (map (λ n. n.now) (take (i + 1) names)) ≡ texts_of (map (λ n. n.now) (take i names))
+  no_text_next none = ap texts_of names_next ∙ stray_left_out (map (λ (n : Bor Text). n.now) (take i names)) (slice_index_or names i d).now none
+
+-- no names have no entries
+pub said_none : (c : Content) (kinds : Kinds) (path : Text) → said_entries c kinds path [] ≡ []
+unfolding said_entries
+said_none c kinds path = refl
+
+and_right : (a b : Bool) → b ≡ false → (a && b) ≡ false
+and_right true b h = h
+and_right false b h = refl
+
+and_left : (a b : Bool) → a ≡ false → (a && b) ≡ false
+and_left true b h = h_of b h
+  where
+    h_of : (b : Bool) → true ≡ false → b ≡ false
+    h_of true h = h
+    h_of false h = refl
+and_left false b h = refl
+
+-- a text that is proper or not
+pub text_from : (bytes name : Text) → name ≡ bytes → IsUtf8 bytes → (r : Option (Bor Text)) → MatchOption r (is_proper name ≡ false) (λ p. (p.now ≡ name) × (is_proper name ≡ true))
+    → MatchOption r (is_text_name bytes ≡ false) (λ p. (p.now ≡ bytes) × (is_text_name bytes ≡ true))
+text_from bytes name same utf8 None h = and_right (is_utf8 bytes) (is_proper bytes) (ap is_proper (sym same) ∙ h)
+text_from bytes name same utf8 (Some p) h =
+    (h.0 ∙ same, and_from (is_utf8 bytes) (is_proper bytes) (is_utf8-from_IsUtf8 bytes utf8) (ap is_proper (sym same) ∙ h.1))
+
+-- what is no text is no name
+pub no_text_name : (bytes : Text) → (IsUtf8 bytes → ⊥) → is_text_name bytes ≡ false
+no_text_name bytes none = and_left (is_utf8 bytes) (is_proper bytes) (by_test (is_utf8 bytes) refl)
+  where
+    by_test : (b : Bool) → is_utf8 bytes ≡ b → is_utf8 bytes ≡ false
+    by_test true is = absurd (none (IsUtf8-from_is_utf8 bytes is))
+    by_test false is = is

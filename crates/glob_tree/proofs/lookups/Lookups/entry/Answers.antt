@@ -1,0 +1,9 @@
+use Rattle.std.proofs.Common.{rules, ◌≡◌, true}
+use Rattle.glob_tree.specs.Paths.{is_proper}
+use Rattle.glob_tree.proofs.ContentLemmas.Directories.{IsName-from_proper}
+use Rattle.glob_tree.proofs.lookups.Lookups.entry.Goals as goal
+
+pub returns-clause-kind : goal.returns-clause-kind
+returns-clause-kind g c = λ f seen direct.
+    let proper : is_proper c.args.name.now ≡ true = search rules in
+    c.in_ok-is_dir.ensures.directory f seen (direct c.args.name.now (IsName-from_proper c.args.name.now proper).plain)

@@ -1,0 +1,23 @@
+use Rattle.std.proofs.Common.{rules, ◌≡◌, true, false, refl, subst}
+use Rattle.glob_tree.specs.Private.Looking.{LeadsOn}
+use Rattle.glob_tree.proofs.SystemLemmas.Looking.{way_of_one, way_below}
+use Rattle.glob_tree.proofs.lookups.Lookups.has_way.Goals as goal
+
+pub returns-in_default-clause-way : goal.returns-in_default-clause-way
+returns-in_default-clause-way g c = λ f seen. way_of_one f seen.0.1 c.args.path.now c.in_default.ensures
+
+pub returns-then-is_known-clause-way : goal.returns-then-is_known-clause-way
+returns-then-is_known-clause-way g c = λ f seen.
+    way_below f seen.0.1 c.args.path.now c.in-Some.above.now c.in-Some.field-0-1.now c.in-Some.ensures.0 c.in-Some.ensures.1 true (c.if-is_known.ensures.known refl f seen)
+
+pub returns-then-not-branch-clause-way : goal.returns-then-not-branch-clause-way
+returns-then-not-branch-clause-way g c = λ f seen.
+    let none : c.in_ok-leads.field-0 ≡ false = search rules in
+    way_below f seen.0.1 c.args.path.now c.in-Some.above.now c.in-Some.field-0-1.now c.in-Some.ensures.0 c.in-Some.ensures.1 false
+    (subst (LeadsOn f c.in-Some.above.now) none (c.in_ok-leads.ensures.leads f seen))
+
+pub returns-clause-way : goal.returns-clause-way
+returns-clause-way g c = λ f seen.
+    let yes : c.in_ok-leads.field-0 ≡ true = search rules in
+    way_below f seen.0.1 c.args.path.now c.in-Some.above.now c.in-Some.field-0-1.now c.in-Some.ensures.0 c.in-Some.ensures.1 true
+    (subst (LeadsOn f c.in-Some.above.now) yes (c.in_ok-leads.ensures.leads f seen))

@@ -1,0 +1,35 @@
+use Rattle.std.proofs.Common.{rules, ◌≡◌, true, false, refl, sym, subst, ◌∙◌}
+use Rattle.glob_tree.specs.Private.Looking.{IsSeen}
+use Rattle.glob_tree.proofs.SystemLemmas.Looking.{step_way, last_way, step_none, no_way}
+use Rattle.glob_tree.proofs.lookups.Lookups.leads.Goals as goal
+
+pub returns-then-not-branch-clause-leads : goal.returns-then-not-branch-clause-leads
+returns-then-not-branch-clause-leads g c = λ f seen.
+    let kept = c.loop-directory.invariant in
+    let still = subst (λ l. IsSeen l c.loop-directory.self.files f) (sym kept.2) (subst (λ o. IsSeen c.args.self.now.links o f) (sym kept.1) seen) in
+    let none : c.in_ok-is_dir.field-0 ≡ false = search rules in
+    (kept.3 f seen).1 (c.loop-directory-test.ensures.some refl)
+    (no_way f c.loop-directory.directory.now c.in_ok-is_dir.field-0 none (λ direct. c.in_ok-is_dir.ensures.directory f still direct))
+
+pub loop-directory-preserved : goal.loop-directory-preserved
+loop-directory-preserved g c =
+    let kept = c.loop-directory.invariant in
+    let yes : c.in_ok-is_dir.field-0 ≡ true = search rules in (
+      search rules,
+      c.in_ok-is_dir.ensures.files ∙ kept.1,
+      c.in_ok-is_dir.ensures.links ∙ kept.2,
+      λ f seen.
+          let still = subst (λ l. IsSeen l c.loop-directory.self.files f) (sym kept.2) (subst (λ o. IsSeen c.args.self.now.links o f) (sym kept.1) seen) in (
+            λ way. (kept.3 f seen).0 (step_way f seen.0.1 c.loop-directory.directory.now c.in-Some.further.now c.in-Some.field-0-1.now c.in-Some.ensures.0 c.in-Some.ensures.1
+                c.in_ok-is_dir.field-0 yes (λ direct. c.in_ok-is_dir.ensures.directory f still direct) way),
+            λ some none. (kept.3 f seen).1 (c.loop-directory-test.ensures.some refl)
+                (step_none f.content c.loop-directory.directory.now c.in-Some.further.now c.in-Some.field-0-1.now c.in-Some.ensures.0 some none),
+          ),
+    )
+
+pub returns-in_default-clause-leads : goal.returns-in_default-clause-leads
+returns-in_default-clause-leads g c = λ f seen.
+    let kept = c.loop-directory.invariant in
+    let still = subst (λ l. IsSeen l c.loop-directory.self.files f) (sym kept.2) (subst (λ o. IsSeen c.args.self.now.links o f) (sym kept.1) seen) in
+    let yes : c.in_ok-is_dir.field-0 ≡ true = search rules in
+    (kept.3 f seen).0 (last_way f seen.0.1 c.loop-directory.directory.now c.in_default.ensures c.in_ok-is_dir.field-0 yes (λ direct. c.in_ok-is_dir.ensures.directory f still direct))

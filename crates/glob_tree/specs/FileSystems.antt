@@ -1,0 +1,117 @@
+-- A file system that stays as it is, and what the calls of a system answer in it.
+use Rattle.std.specs.Prelude.{◌≡◌, ◌≢◌, ℕ, Bool, true, false, ◌&&◌, ◌||◌, not, if◌then◌else◌, List, [], ◌∷◌, find, Option, Some, None, MatchOption, option_map, option_and_then, Result, Ok, Err, IsPermutation, ⊤}
+use Rattle.std.specs.List.{list_any}
+use Rattle.std.specs.Fs.{file_type, IsDir, IsSymlink}
+use Rattle.std.specs.IoError.{error_kind}
+use Rattle.std.specs.declared.fs.attrs.FileType.{FileType}
+use Rattle.std.specs.declared.fs.attrs.Metadata.{Metadata}
+use Rattle.std.specs.declared.io.Error.{Error}
+use Rattle.std.specs.declared.io.ErrorKind.TheVariants.{OutOfMemory}
+use Rattle.glob_text.specs.Pieces.{pieces}
+use Rattle.glob_text.specs.Text.{Text}
+use Rattle.glob_tree.specs.Answers.{IsListFault, names_of}
+use Rattle.glob_tree.specs.Content.{Content, Key, same_key, is_content, kind_at, is_dir_at, step, origin, resolve, ListAnswer, Entries, Fails, NoDirectory}
+use Rattle.glob_tree.specs.Directories.{names_in}
+use Rattle.glob_tree.specs.declared.kind.Kind.{Kind}
+use Rattle.glob_tree.specs.declared.kind.Kind.TheVariants.{Dir, Shut, Other}
+
+-- what a symbolic link points to
+pub data Target : Type 0 where
+  Nowhere : Target
+  AFile : Target
+  ADirectory : Target
+
+abbrev pub is_a_directory : Target → Bool
+is_a_directory Nowhere = false
+is_a_directory AFile = false
+is_a_directory ADirectory = true
+
+-- What is at each key, where a symbolic link is no directory, and what each symbolic link points to.
+pub record FileSystem : Type 0 where
+  pub content : Content
+  pub links : List (Key × Target)
+
+-- the file system is known to be f, and f is well formed
+abbrev pub IsHeld : Option FileSystem → FileSystem → Type 0
+IsHeld known f = (known ≡ Some f) × (is_content f.content ≡ true)
+
+-- what the symbolic link at a key points to, if one is there
+abbrev pub target_at : FileSystem → Key → Option Target
+target_at f k = option_map (λ e. e.1) (find (λ e. same_key k e.0) f.links)
+
+-- what metadata is of
+pub data Found : Type 0 where
+  Directory : Found
+  Symlink : Found
+  File : Found
+
+-- of what `lstat` returns the metadata
+abbrev pub found_here : Kind → Option Target → Found
+found_here Dir target = Directory
+found_here (Shut kind) target = Directory
+found_here Other None = File
+found_here Other (Some target) = Symlink
+
+-- of what `stat` returns it: of what a symbolic link points to
+abbrev pub found_there : Kind → Option Target → Option Found
+found_there Dir target = Some Directory
+found_there (Shut kind) target = Some Directory
+found_there Other None = Some File
+found_there Other (Some Nowhere) = None
+found_there Other (Some AFile) = Some File
+found_there Other (Some ADirectory) = Some Directory
+
+abbrev pub lstat_at : FileSystem → Key → Option Found
+lstat_at f k = option_map (λ kind. found_here kind (target_at f k)) (kind_at f.content k)
+
+abbrev pub stat_at : FileSystem → Key → Option Found
+stat_at f k = option_and_then (λ kind. found_there kind (target_at f k)) (kind_at f.content k)
+
+-- what `lstat` finds at a path
+unfoldable pub lstat_found : FileSystem → Text → Option Found
+lstat_found f path = option_and_then (lstat_at f) (resolve f.content path)
+
+-- what `stat` finds there
+unfoldable pub stat_found : FileSystem → Text → Option Found
+stat_found f path = option_and_then (stat_at f) (resolve f.content path)
+
+-- the metadata has the type of what was found
+abbrev pub HasType : Found → FileType → Type 0
+HasType Directory type = IsDir type
+HasType Symlink type = IsSymlink type
+HasType File type = (IsDir type → ⊥) × (IsSymlink type → ⊥)
+
+-- The answer of `lstat` or `stat` where this is found: metadata of its type, or a failed allocation; where nothing is, any
+-- error.
+abbrev pub IsStatAnswer : Option Found → Result Metadata Error → Type 0
+IsStatAnswer found (Ok metadata) = MatchOption found ⊥ (λ one. HasType one (file_type metadata))
+IsStatAnswer found (Err e) = error_kind e ≢ OutOfMemory → found ≡ None
+
+-- a symbolic link to a directory is at the key
+abbrev pub is_directory_link : FileSystem → Key → Bool
+is_directory_link f k = not (is_dir_at f.content k) && list_any (λ e. same_key k e.0 && is_a_directory e.1) f.links
+
+-- one is where some of the pieces lead, and others follow
+abbrev pub passes_link : FileSystem → Option Key → List Text → Bool
+passes_link f None ps = false
+passes_link f (Some k) [] = false
+passes_link f (Some k) (p ∷ ps) = is_directory_link f k || passes_link f (step f.content p k) ps
+
+-- No symbolic link to a directory is on the way of the path. Where one is, nothing is said of the path.
+unfoldable pub is_direct : FileSystem → Text → Bool
+is_direct f path = not (passes_link f (Some (origin f.content path)) (pieces path))
+
+-- What an opened directory has left to read: the names of its entries, each once, in any order.
+abbrev pub IsOpened : ListAnswer → Option (List ℕ) → Type 0
+IsOpened (Entries entries) left = (bytes : List ℕ) × (left ≡ Some bytes) × IsPermutation (names_of entries) (names_in bytes)
+IsOpened (Fails kind) left = ⊥
+IsOpened NoDirectory left = ⊤
+
+-- the error where a directory is not opened: that of its listing, or a failed allocation
+abbrev pub IsOpenFault : ListAnswer → Error → Type 0
+IsOpenFault answer e = error_kind e ≢ OutOfMemory → IsListFault answer (error_kind e)
+
+-- What a tree that follows symbolic links has of a file system. A link to a directory has no place in a content, so with one
+-- nothing is known.
+abbrev pub followed : FileSystem → Option Content
+followed f = if list_any (λ e. is_a_directory e.1) f.links then None else Some f.content

@@ -1,0 +1,79 @@
+//! What a disk cannot answer, for someone to hear.
+ghost use Rattle.std.specs.Prelude.{◌≡◌, ◌≢◌, ◌⊎◌, ℕ, List, Option, None, [], ◌∷◌, IfOk, IfErr, OnOk};
+ghost use Rattle.std.specs.IoError.{error_kind};
+ghost use Rattle.glob_tree.specs.FileSystems.{Found, IsStatAnswer};
+ghost use Rattle.glob_tree.specs.Private.Looking.{IsFoundAs};
+ghost use Rattle.glob_tree.specs.Strays.{and_then};
+
+use std::alloc::AllocError;
+use std::fs::Metadata;
+use std::io::{self, ErrorKind};
+
+/// Receives what a [`PhysicalDisk`](crate::PhysicalDisk) left out or did not learn, so that a walk over it is complete
+/// where nothing is received.
+///
+/// ```text
+/// #[derive(Drop)]
+/// struct Lost {
+///     count: u64,
+/// }
+///
+/// impl Strays for Lost {
+///     fn stray(&mut self, _directory: &str, _name: &[u8]) {
+///         self.count = self.count.saturating_add(1);
+///     }
+///
+///     fn unsettled(&mut self, _path: &str, _error: &io::Error) {
+///         self.count = self.count.saturating_add(1);
+///     }
+/// }
+/// ```
+pub trait Strays: Drop {
+    /// The names that it received, in order, where they are known.
+    ghost names: { Self → Option (List (List ℕ)) } = { λ _. None };
+
+    /// The paths that it received, in order, where they are known.
+    ghost paths: { Self → Option (List (List ℕ)) } = { λ _. None };
+
+    /// The directory has an entry whose name is not UTF-8: `name`, as its bytes are. The listing goes on without it.
+    fn stray(&mut self, directory: &str, name: &[u8])
+        ensures names { names self.new ≡ and_then (names self.old) (name.now ∷ []) }
+        ensures paths { paths self.new ≡ paths self.old };
+
+    /// What is at `path` could not be learned, for this reason, as `PermissionDenied` or `InvalidFilename` where the
+    /// path is longer than the system takes. `FilesystemLoop` is also the reason of a link that is followed, and points
+    /// to a directory on the way down to it. A listing has it as no directory, and goes on.
+    fn unsettled(&mut self, path: &str, error: &io::Error)
+        ensures names { names self.new ≡ names self.old }
+        ensures paths { paths self.new ≡ and_then (paths self.old) (path.now ∷ []) };
+}
+
+/// What the system answers of a path. There is nothing where it says so; each other reason why it does not know is
+/// received, and an allocation failure is one.
+pub(crate) fn settle<S: Strays>(
+    strays: &mut S,
+    path: &str,
+    answer: io::Result<Metadata>,
+) -> Result<Option<Metadata>, AllocError>
+    ensures found { (found : Option Found) → IsStatAnswer found answer
+        → IfOk result (λ metadata. IsFoundAs found metadata) }
+    ensures names { S.names strays.new ≡ S.names strays.old }
+    ensures known { OnOk answer (S.paths strays.new ≡ S.paths strays.old) }
+    ensures missing { IfErr answer (λ error. (error_kind error ≡ ErrorKind.NotFound)
+        ⊎ (error_kind error ≡ ErrorKind.NotADirectory) → S.paths strays.new ≡ S.paths strays.old) }
+    ensures unsettled { IfErr answer (λ error. error_kind error ≢ ErrorKind.NotFound
+        → error_kind error ≢ ErrorKind.NotADirectory
+        → OnOk result (S.paths strays.new ≡ and_then (S.paths strays.old) (path.now ∷ []))) }
+{
+    match answer {
+        Ok(found) => Ok(Some(found)),
+        Err(error) => match error.kind() {
+            ErrorKind::OutOfMemory => Err(AllocError),
+            ErrorKind::NotFound | ErrorKind::NotADirectory => Ok(None),
+            _ => {
+                strays.unsettled(path, &error);
+                Ok(None)
+            }
+        },
+    }
+}

@@ -1,0 +1,102 @@
+//! The calls of a system that disks are made of.
+ghost use Rattle.std.specs.Prelude.{◌≡◌, ◌≢◌, ℕ, List, Option, true, None, IfOk, IfErr, IsSome};
+ghost use Rattle.std.specs.Io.{ReadsAtMost};
+ghost use Rattle.std.specs.Io.KnownBytes.{ReadConsumes};
+ghost use Rattle.std.specs.IoError.{error_kind};
+ghost use Rattle.glob_tree.specs.Content.{list_result};
+ghost use Rattle.glob_tree.specs.FileSystems.{FileSystem, IsHeld, IsOpened, IsOpenFault, IsStatAnswer, is_direct, lstat_found, stat_found};
+
+use std::fs::{Files, Metadata};
+use std::io::{self, ErrorKind, Read};
+
+/// The calls of a system: what is at a path, and which names a directory has. Each `HostRuntime` is one, as every
+/// [`Files`] is, and says nothing of what it holds.
+///
+/// What contracts see of a system is the file system that it holds, where that is known. It then stays as it is, each
+/// call answers for paths of any length, and a call on what is there fails only where memory runs out, with an error of
+/// the kind `OutOfMemory`. Nothing is said of a path that goes on behind a symbolic link to a directory.
+///
+/// In a file system with a directory `a`, a file `a/b` and a symbolic link `l` to it, `lstat("l")` returns the metadata
+/// of a symbolic link and `stat("l")` that of a file, `lstat("a/c")` fails, and `open("a")` has the bytes `b\0` to
+/// read, maybe with `.\0` and `..\0` before, between and after names.
+pub trait System: Drop {
+    /// A directory that is open.
+    type Dir: Directory;
+
+    ghost holds: { Self → Option FileSystem };
+
+    /// The metadata of what is at a path, also of a symbolic link there.
+    ///
+    /// It fails where nothing is there, with any error.
+    fn lstat(&self, path: &str) -> io::Result<Metadata>
+        ensures found { (f : FileSystem) → IsHeld (holds self.now) f → is_direct f path.now ≡ true
+            → IsStatAnswer (lstat_found f path.now) result };
+
+    /// The metadata of what is at a path, or of what a symbolic link there points to.
+    ///
+    /// It fails where nothing is there, or a symbolic link that points nowhere, with any error.
+    fn stat(&self, path: &str) -> io::Result<Metadata>
+        ensures found { (f : FileSystem) → IsHeld (holds self.now) f → is_direct f path.now ≡ true
+            → IsStatAnswer (stat_found f path.now) result };
+
+    /// Opens the directory at a path.
+    ///
+    /// It fails where the directory cannot be listed, with an error of that kind, and may fail with any error where the
+    /// path leads to no directory.
+    fn open(&self, path: &str) -> io::Result<Self::Dir>
+        ensures opened { (f : FileSystem) → IsHeld (holds self.now) f → is_direct f path.now ≡ true
+            → IfOk result (λ dir. IsOpened (list_result f.content path.now) (Self.Dir.left dir)) }
+        ensures fails { (f : FileSystem) → IsHeld (holds self.now) f → is_direct f path.now ≡ true
+            → IfErr result (λ e. IsOpenFault (list_result f.content path.now) e) };
+}
+
+/// A directory that is open: its names are read, each with a NUL after it, in pieces of any size. `.` and `..` may be
+/// among them.
+pub trait Directory: Drop {
+    /// The bytes that reads will give from here on, where they are known.
+    ghost left: { Self → Option (List ℕ) };
+
+    /// Reads the next bytes into the first places of `block`, and returns how many they are: 0 at the end. So a
+    /// directory with the names `a` and `b` may be read as `a\0b`, `\0`, and the end.
+    ///
+    /// Where its bytes are known, it fails only where memory runs out, with an error of the kind `OutOfMemory`.
+    fn read(&mut self, block: &mut [u8]) -> io::Result<usize>
+        ensures bound { ReadsAtMost result block.new }
+        ensures bytes { ReadConsumes (left self.old) (left self.new) result block.new }
+        ensures fails { IsSome (left self.old)
+            → IfErr result (λ e. error_kind e ≡ ErrorKind.OutOfMemory) };
+}
+
+/// The real system: what is believed of it is that its calls do what [`System`] says.
+impl<R: Files + Drop> System for R {
+    type Dir = OpenDirectory<R::Dir>;
+
+    ghost holds = { λ _. None };
+
+    fn lstat(&self, path: &str) -> io::Result<Metadata> {
+        self.symlink_metadata(path)
+    }
+
+    fn stat(&self, path: &str) -> io::Result<Metadata> {
+        self.metadata(path)
+    }
+
+    fn open(&self, path: &str) -> io::Result<OpenDirectory<R::Dir>> {
+        let names = self.open_dir(path)?;
+        Ok(OpenDirectory { names })
+    }
+}
+
+/// A directory that the real system has opened.
+#[derive(Drop)]
+pub struct OpenDirectory<D: Read + Drop> {
+    names: D,
+}
+
+impl<D: Read + Drop> Directory for OpenDirectory<D> {
+    ghost left = { λ _. None };
+
+    fn read(&mut self, block: &mut [u8]) -> io::Result<usize> {
+        self.names.read(block)
+    }
+}
