@@ -25,7 +25,7 @@ pub fn glob<R: Files + Drop, A: Allocator + Copy>(
 ) -> Result<Paths<Disk<R, A>>, PatternRefusal>
     ensures accepted { IfOk result (λ _. walk_fault pattern.now ≡ None) }
     ensures refused { IfErr result (RefusesWith (walk_fault pattern.now)) }
-    ensures fresh { IfOk result (IsFresh 0 (2 ^ 64 - 1)) }
+    ensures fresh { IfOk result (IsFresh (record { files = None; asks = 0 }) (2 ^ 64 - 1)) }
     ensures aim { IfOk result
         (λ p. (c : Content) → listing_of c p.aim ≡ listing c new_options pattern.now) }
 {
@@ -42,7 +42,7 @@ pub fn glob_with<R: Files + Drop, A: Allocator + Copy>(
 ) -> Result<Paths<Disk<R, A>>, PatternRefusal>
     ensures accepted { IfOk result (λ _. walk_fault pattern.now ≡ None) }
     ensures refused { IfErr result (RefusesWith (walk_fault pattern.now)) }
-    ensures fresh { IfOk result (IsFresh 0 (2 ^ 64 - 1)) }
+    ensures fresh { IfOk result (IsFresh (record { files = None; asks = 0 }) (2 ^ 64 - 1)) }
     ensures aim { IfOk result
         (λ p. (c : Content) → listing_of c p.aim ≡ listing c options pattern.now) }
 {
