@@ -1,8 +1,7 @@
 //! Rows of disks over a scripted file system: what they answer, and with which system calls, where names are not UTF-8
 //! and system calls fail, which no test can make on a real disk.
-ghost use Rattle.std.specs.Prelude.{bytes_eq};
 
-mod files;
+pub mod files;
 
 use crate::trees::add_entries;
 use crate::walking::Found;
@@ -12,70 +11,85 @@ use ErrorKind::{
 use files::Kind::{Dir, File, Link, LinkToDir, LinkToFile, Lost, Torn, Unopened, Unread};
 use files::{Noted, Planted, SystemCalls, Written};
 use glob::{Disk, GlobCause, GlobError, MatchOptions, Tree, glob_in, walk_in};
-use glob_prune::{Exclusion, Links, PhysicalDisk, Pruned};
 use glob_replay::calls::Calls;
 use glob_replay::ration::Memory;
 use glob_replay::streams::error_of;
 use glob_replay::words::{are_same, cut, number_of, refused, unusable};
+use glob_tree::{Links, PhysicalDisk};
 use std::alloc::{AllocError, Global};
 use std::io::{self, ErrorKind, Write};
 
-/// One path is left out.
-#[derive(Drop)]
-struct Named {
-    path: &'static str,
+/// Disks that rows name.
+pub trait Disks: Copy {
+    /// Asks the disk of this name over a file system.
+    fn ask<M: Memory>(
+        &self,
+        calls: &mut Calls<M>,
+        files: Written<'_>,
+        disk: &str,
+        asked: Asked<'_>,
+    ) -> io::Result<()>;
 }
 
-impl Exclusion for Named {
-    ghost excludes = { λ x path is_dir. bytes_eq path x.path.now };
+/// A `disk`, which follows links, and a `PhysicalDisk` with links `kept` or `followed`.
+#[derive(Clone, Copy)]
+pub struct PlainDisks;
 
-    fn excludes(&self, path: &str, _is_dir: bool) -> Result<bool, AllocError> {
-        Ok(path == self.path)
+impl Disks for PlainDisks {
+    fn ask<M: Memory>(
+        &self,
+        calls: &mut Calls<M>,
+        files: Written<'_>,
+        disk: &str,
+        asked: Asked<'_>,
+    ) -> io::Result<()> {
+        let (alloc, system) = (calls.alloc, files.system);
+        match disk {
+            "disk" => ask(calls, Disk::new(files, alloc), asked),
+            "kept" => ask(
+                calls,
+                PhysicalDisk::new(files, Noted { system }, alloc),
+                asked,
+            ),
+            "followed" => {
+                let links = Links::Followed;
+                let followed = PhysicalDisk::with_links(files, Noted { system }, alloc, links);
+                ask(calls, followed, asked)
+            }
+            _ => Err(unusable()),
+        }
     }
 }
 
-/// What a disk of these paths answers to a call about a path, or `$` if an allocation fails that was not refused, and
-/// with which system calls.
-/// The disk is a `disk`, which follows links, one that is `pruned` of `p/s`, or a `PhysicalDisk` with links `kept` or
-/// `followed`. The error is memory that was refused.
-fn answer_of<M: Memory>(
+/// What a disk of these paths answers, or `$` if an allocation fails that was not refused, and with which system calls.
+/// The error is memory that was refused.
+fn answer_of<M: Memory, D: Disks>(
     alloc: M,
     paths: &[Planted<'_>],
-    disk: &str,
-    asked: (&str, &str),
+    (disks, disk): (D, &str),
+    asked: Asked<'_>,
 ) -> io::Result<(String, SystemCalls)> {
     let (mut calls, made) = (Calls::new(alloc, alloc), SystemCalls::default());
     let system = &made;
-    let (files, noted) = (Written { paths, system }, Noted { system });
-    let answered = match disk {
-        "disk" => ask(&mut calls, Disk::new(files, alloc), asked),
-        "followed" => {
-            let followed = PhysicalDisk::with_links(files, noted, alloc, Links::Followed);
-            ask(&mut calls, followed, asked)
-        }
-        "kept" => ask(&mut calls, PhysicalDisk::new(files, noted, alloc), asked),
-        _ => {
-            let named = Named { path: "p/s" };
-            let pruned = Pruned::new(alloc, Disk::new(files, alloc), named);
-            ask(&mut calls, pruned, asked)
-        }
-    };
-    match answered {
+    match disks.ask(&mut calls, Written { paths, system }, disk, asked) {
         Ok(()) => Ok((calls.words, made)),
         Err(error) if alloc.ration().has_refused() => Err(error),
         Err(_) => Ok((String::from_str(alloc.inner(), "$ ")?, made)),
     }
 }
 
+/// A call, and the path that it is about.
+pub type Asked<'a> = (&'a str, &'a str);
+
 /// Adds what a tree answers to a call about a path, or to looks at the paths between `,`. What these find is `Dir`,
 /// `Other` or `Missing`. Of entries there are the names, a directory's with `/` at its end, and a blank after each,
 /// and so of a walk the paths. After `!` there is an error, or the path that a walk could not read.
-fn ask<M: Memory, T: Tree<Alloc = M>>(
+pub fn ask<M: Memory, T: Tree<Alloc = M>>(
     calls: &mut Calls<M>,
     tree: T,
-    asked: (&str, &str),
+    (call, path): Asked<'_>,
 ) -> io::Result<()> {
-    let (mut tree, (call, path), words) = (tree, asked, &mut calls.words);
+    let (mut tree, words) = (tree, &mut calls.words);
     match call {
         "look" => {
             for path in path.split(',') {
@@ -143,16 +157,19 @@ fn is_known<M: Memory>(
 
 /// Makes the call of the second field of each disk of the first about each path of the third. The words are the answer
 /// and the system calls, which are the same for all.
-pub fn ask_each<M: Memory>(
+pub fn ask_each<M: Memory, D: Disks>(
+    disks: D,
     calls: &mut Calls<M>,
-    disks: &str,
-    call: &str,
-    paths: &str,
+    fields: &[&str],
 ) -> io::Result<()> {
-    for disk in disks.split(' ') {
+    let [names, call, paths] = *fields else {
+        return Err(unusable());
+    };
+    for disk in names.split(' ') {
         for path in paths.split(' ') {
             let path = if path == "''" { "" } else { path };
-            let (mut answer, system) = answer_of(calls.alloc, PATHS, disk, (call, path))?;
+            let asked = (call, path);
+            let (mut answer, system) = answer_of(calls.alloc, PATHS, (disks, disk), asked)?;
             add_calls(&mut answer, &system, call)?;
             if calls.words.is_empty() {
                 calls.words.push_str(&answer)?;
@@ -183,8 +200,12 @@ fn add_calls(words: &mut String, system: &SystemCalls, call: &str) -> Result<(),
 /// Asks disks where the system fails by each of its errors, and by one with words of its own: `a`, the target of the
 /// link `l` and the entry of `e` cannot be looked up, `o` not opened, and `r` not read. Adds each disk and number of an
 /// error at which the answer is not that of the last field, where `!` is the error.
-pub fn ask_failing<M: Memory>(calls: &mut Calls<M>, fields: &[&str]) -> io::Result<()> {
-    let [disks, call, path, known] = *fields else {
+pub fn ask_failing<M: Memory, D: Disks>(
+    disks: D,
+    calls: &mut Calls<M>,
+    fields: &[&str],
+) -> io::Result<()> {
+    let [names, call, path, known] = *fields else {
         return Err(unusable());
     };
     for code in 0..134 {
@@ -201,8 +222,8 @@ pub fn ask_failing<M: Memory>(calls: &mut Calls<M>, fields: &[&str]) -> io::Resu
         ];
         let printed = format!(in calls.alloc.inner(); "!{error}")?;
         let known = known.replace(calls.alloc.inner(), "!", &printed)?;
-        for disk in disks.split(' ') {
-            let (answer, _) = answer_of(calls.alloc, paths, disk, (call, path))?;
+        for disk in names.split(' ') {
+            let (answer, _) = answer_of(calls.alloc, paths, (disks, disk), (call, path))?;
             if answer.strip_suffix(' ') != Some(known.as_str()) {
                 write!(calls.words, "{disk} {code} {answer}")?;
             }
@@ -224,6 +245,7 @@ pub fn ask_large<M: Memory>(calls: &mut Calls<M>, fields: &[&str]) -> io::Result
         blocks.push(others.as_bytes())?;
     }
     let paths = &[("a/", Dir(blocks.as_slice()))];
+    let disk = (PlainDisks, disk);
     let (mut answer, system) = answer_of(calls.alloc, paths, disk, (call, "a"))?;
     add_calls(&mut answer, &system, call)?;
     Ok(write!(calls.words, "{answer} {}", system.room.get())?)

@@ -3,7 +3,7 @@
 
 pub mod cases;
 pub mod disk;
-mod disks;
+pub mod disks;
 mod goals;
 mod rows;
 pub mod trees;

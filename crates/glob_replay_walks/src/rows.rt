@@ -1,5 +1,6 @@
 //! Calls of rows about plain patterns, trees, walks and disks.
 
+use crate::disks::PlainDisks;
 use crate::walking::{Job, gathered, stepped};
 use crate::{disks, trees};
 use glob::{MatchOptions, glob_in, is_plain};
@@ -24,8 +25,8 @@ impl Make for Walks {
             ["walk", content, pattern] => walk(calls, content, pattern),
             ["walk far", content, pattern, most] => walk_far(calls, content, pattern, most),
             ["list kinds", content, pattern] => add_listings(calls, content, pattern),
-            ["ask disks", disks, call, paths] => disks::ask_each(calls, disks, call, paths),
-            ["ask failing disks", fields @ ..] => disks::ask_failing(calls, fields),
+            ["ask disks", fields @ ..] => disks::ask_each(PlainDisks, calls, fields),
+            ["ask failing disks", fields @ ..] => disks::ask_failing(PlainDisks, calls, fields),
             ["ask a large directory", fields @ ..] => disks::ask_large(calls, fields),
             ["walk to an error", fields @ ..] => disks::walk_to_error(calls, fields),
             _ => Err(unusable()),

@@ -1,7 +1,7 @@
 //! A scripted file system, which counts its calls.
-use glob_prune::Strays;
 use glob_replay::raise;
 use glob_replay::words::has_word;
+use glob_tree::Strays;
 use std::cell::Cell;
 use std::fs::{File, Files, Metadata, OpenOptions};
 use std::io::{self, ErrorKind, Read};
