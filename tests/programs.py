@@ -73,7 +73,7 @@ class Programs:
                 yield line.replace("⏎", "\\n").replace("␀", "\\0").replace("␦", "\\xff")
 
     def replay(self, program, lines, row):
-        folder = self.folder()
+        folder, before = self.folder(), self.count.passed + self.count.failed
         for line in lines:
             if line == "+":
                 folder = self.folder()
@@ -81,6 +81,8 @@ class Programs:
                 place(folder, map(decoded, line[1:].split()))
             elif line and not line.startswith("#"):
                 row(program, folder, line.split("|"))
+        if self.count.passed + self.count.failed == before:
+            self.count.check(False, f"a table of {program} without a row")
 
     def row(self, program, folder, fields):
         words, text, status, output, errors = [*fields, "", ""][:5] if len(fields) > 1 else [*fields, "a\n", "2", "", USAGE]
