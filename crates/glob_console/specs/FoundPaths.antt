@@ -11,7 +11,7 @@ use Rattle.glob_walk.specs.declared.ending.End.TheVariants as end
 use Rattle.glob_walk.specs.Walks.{IsCutShort, RefusesWith}
 use Rattle.glob_walk.specs.Components.{walk_fault}
 use Rattle.glob_console.specs.declared.find.fault.FindFault.{FindFault}
-use Rattle.glob_console.specs.declared.find.fault.FindFault.TheVariants.{Pattern, Write}
+use Rattle.glob_console.specs.declared.find.fault.FindFault.TheVariants.{Pattern, Memory, Write}
 use Rattle.glob_console.specs.declared.find.findings.Findings.{Findings}
 
 -- whether there is a path
@@ -84,14 +84,23 @@ WritesFound end wanted ms limit old new status =
 -- the pattern was refused
 abbrev pub IsRefusal : FindFault → Type 0
 IsRefusal (Pattern refusal) = ⊤
+IsRefusal Memory = ⊥
 IsRefusal (Write error) = ⊥
+
+-- a line could not be written, or there was no memory
+abbrev pub IsWriting : FindFault → Type 0
+IsWriting (Pattern refusal) = ⊥
+IsWriting Memory = ⊤
+IsWriting (Write error) = ⊤
 
 -- the fault is a line that could not be written, or one of the pattern, which is refused with it
 abbrev pub IsFindFault : (pattern : Text) → FindFault → Type 0
 IsFindFault pattern (Pattern refusal) = RefusesWith (walk_fault pattern) refusal
+IsFindFault pattern Memory = ⊤
 IsFindFault pattern (Write error) = ⊤
 
--- what the line of a fault says where there is memory for it, and, if it has one, that of a write that failed
+-- what the line of a fault says where there is memory for it and, after a write, if it has one
 abbrev pub find_fault_words : FindFault → Text
 find_fault_words (Pattern refusal) = refusal_words refusal
+find_fault_words Memory = codes "out of memory"
 find_fault_words (Write error) = codes "writing failed"

@@ -70,14 +70,11 @@ impl<'e, A: Allocator + Copy, E: Write> ErrorLines<'e, A, E> {
         FAULT
     }
 
-    /// Writes the line of a write to the output that failed, and returns the status of a fault: `out of memory`, or
-    /// `writing failed`. Quiet lines have none where the reader of the output went away.
+    /// Writes the line of a write to the output that failed, which is `writing failed`, and returns the status of a
+    /// fault. Quiet lines have none where the reader of the output went away.
     pub fn write_fault(&mut self, error: &io::Error) -> u8
         ensures status { result ≡ 2 }
         ensures line { WritesLine self.old.prefix.now (codes "writing failed")
-            (E.contents self.old.writer.now) (E.contents self.new.writer.now) }
-        ensures memory { error_kind error.now ≡ OutOfMemory
-            → WritesLine self.old.prefix.now (codes "out of memory")
             (E.contents self.old.writer.now) (E.contents self.new.writer.now) }
         ensures gone { IsTrue self.old.is_quiet → error_kind error.now ≡ BrokenPipe
             → E.contents self.new.writer.now ≡ E.contents self.old.writer.now }
@@ -87,10 +84,7 @@ impl<'e, A: Allocator + Copy, E: Write> ErrorLines<'e, A, E> {
         if !is_reported(self.is_quiet, error) {
             return FAULT;
         }
-        match error.kind() {
-            io::ErrorKind::OutOfMemory => self.fault("out of memory"),
-            _ => self.fault("writing failed"),
-        }
+        self.fault("writing failed")
     }
 
     /// Writes the line of arguments that could not be read: `out of memory`, or `message` where one is not UTF-8. It

@@ -7,7 +7,7 @@ ghost use Rattle.glob_walk.specs.Components.{walk_fault};
 ghost use Rattle.glob_walk.specs.Listing.{listing};
 ghost use Rattle.glob_walk.specs.Marks.{Mark};
 ghost use Rattle.glob_walk.specs.Driven.{HasGiven};
-ghost use Rattle.glob_console.specs.FoundPaths.{FindsPaths, FindsSomeBytes, IsFindFault, IsRefusal};
+ghost use Rattle.glob_console.specs.FoundPaths.{FindsPaths, FindsSomeBytes, IsFindFault, IsRefusal, IsWriting};
 ghost use Rattle.glob_console.specs.Private.Writing.{Queues, StepWrites, is_item_wanted, step_record};
 
 pub mod fault;
@@ -22,7 +22,7 @@ use glob_pattern::MatchOptions;
 use glob_tree::Tree;
 use glob_walk::{Step, WalkMachine};
 use lines::Lines;
-use std::io::{self, Write};
+use std::io::Write;
 
 /// What is walked, how far, and what ends each record that is written.
 #[derive(Clone, Copy)]
@@ -66,7 +66,7 @@ pub fn find_in<T: Tree, C: Choice, W: Write, E: Write>(
 {
     let mut tree = tree;
     let mut machine = WalkMachine::new(alloc, walk.pattern, walk.options, walk.limit)?;
-    let findings = write_items(
+    write_items(
         alloc,
         &mut tree,
         &mut machine,
@@ -74,8 +74,7 @@ pub fn find_in<T: Tree, C: Choice, W: Write, E: Write>(
         walk.end,
         output,
         errors,
-    )?;
-    Ok(findings)
+    )
 }
 
 /// Writes the wanted items of a walk up to its end, whose questions the tree answers.
@@ -87,7 +86,8 @@ fn write_items<T: Tree, C: Choice, W: Write, E: Write>(
     end: u8,
     output: &mut W,
     errors: &mut ErrorLines<'_, T::Alloc, E>,
-) -> io::Result<Findings>
+) -> Result<Findings, FindFault>
+    ensures fault { IfErr result IsWriting }
     ensures paths { (c : Content) → IsTold (T.tells tree.old) c → (ms : List Mark)
         → HasGiven ms c [] walk.old → IfOk result (FindsPaths
         end (C.wanted choice.now c) ms walk.old.limit
@@ -130,7 +130,8 @@ fn write_step<T: Tree, C: Choice, W: Write, E: Write>(
     findings: &mut Findings,
     output: &mut W,
     errors: &mut ErrorLines<'_, T::Alloc, E>,
-) -> io::Result<()>
+) -> Result<(), FindFault>
+    ensures fault { IfErr result IsWriting }
     ensures content { T.tells tree.new ≡ T.tells tree.old }
     ensures written { OnOk result (StepWrites
         end (λ yes item. (c : Content) → IsTold (T.tells tree.old) c
@@ -159,7 +160,7 @@ fn write_step<T: Tree, C: Choice, W: Write, E: Write>(
                 Ok(())
             }
         },
-        Step::Done => lines.flush(output),
-        Step::Look | Step::List | Step::ListNames => lines.before_ask(spent, output),
+        Step::Done => Ok(lines.flush(output)?),
+        Step::Look | Step::List | Step::ListNames => Ok(lines.before_ask(spent, output)?),
     }
 }

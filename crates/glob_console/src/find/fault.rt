@@ -5,7 +5,7 @@ ghost use Rattle.glob_console.specs.Lines.{WritesLine};
 
 use crate::error_lines::ErrorLines;
 use glob_pattern::PatternRefusal;
-use std::alloc::Allocator;
+use std::alloc::{AllocError, Allocator};
 use std::io;
 
 /// Why a search failed.
@@ -13,7 +13,9 @@ use std::io;
 pub enum FindFault {
     /// The pattern of the walk was refused, before anything was looked up or written.
     Pattern(PatternRefusal),
-    /// A line could not be written, or there was no memory.
+    /// There was no memory for a line.
+    Memory,
+    /// A line could not be written.
     Write(io::Error),
 }
 
@@ -26,6 +28,18 @@ impl From<PatternRefusal> for FindFault {
 
     fn from(refusal: PatternRefusal) -> FindFault {
         FindFault::Pattern(refusal)
+    }
+}
+
+/// A line for which there was no memory.
+impl From<AllocError> for FindFault {
+    ghost use Rattle.std.specs.Prelude.{◌≡◌};
+    ghost use Rattle.glob_console.specs.declared.find.fault.FindFault.TheVariants.{Memory};
+
+    ghost from_gives = { λ error fault. fault ≡ Memory };
+
+    fn from(_error: AllocError) -> FindFault {
+        FindFault::Memory
     }
 }
 
@@ -52,6 +66,7 @@ impl FindFault {
     {
         match self {
             FindFault::Pattern(refusal) => errors.fault(refusal),
+            FindFault::Memory => errors.fault("out of memory"),
             FindFault::Write(error) => errors.write_fault(&error),
         }
     }

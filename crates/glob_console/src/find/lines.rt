@@ -1,8 +1,10 @@
 //! Lines that wait for others before they are written. With `-0` each ends in a NUL in place of a line feed.
-ghost use Rattle.std.specs.Prelude.{◌≡◌, ◌++◌, [], IfOk, OnErr, OnOk};
+ghost use Rattle.std.specs.Prelude.{◌≡◌, ◌++◌, [], IfErr, IfOk, OnErr, OnOk};
 ghost use Rattle.glob_lines.specs.Lines.{AppendsFront, ended_record};
+ghost use Rattle.glob_console.specs.FoundPaths.{IsWriting};
 ghost use Rattle.glob_console.specs.Private.Writing.{Queues};
 
+use crate::find::fault::FindFault;
 use glob_lines::write_whole;
 use std::alloc::{AllocError, Allocator};
 use std::io::{self, Write};
@@ -37,19 +39,20 @@ impl<A: Allocator> Lines<A> {
 
     /// Adds the text and the byte that ends it. Where it fails, the first bytes of what waits and of these may have
     /// been written.
-    pub fn add<W: Write>(&mut self, text: &str, end: u8, output: &mut W) -> io::Result<()>
+    pub fn add<W: Write>(&mut self, text: &str, end: u8, output: &mut W) -> Result<(), FindFault>
+        ensures fault { IfErr result IsWriting }
         ensures line { OnOk result (Queues (W.contents output.old) self.old.waiting.items
             (W.contents output.new) self.new.waiting.items (ended_record end text.now)) }
         ensures some { OnErr result (AppendsFront (W.contents output.old) (W.contents output.new)
             (self.old.waiting.items ++ ended_record end text.now)) }
     {
         self.waiting.extend_from_slice(text.as_bytes())?;
-        self.waiting.push(end)?;
+        self.waiting.extend_from_slice(&[end])?;
         if self.has_line && self.waiting.len() < CAPACITY {
             return Ok(());
         }
         self.has_line = true;
-        self.flush(output)
+        Ok(self.flush(output)?)
     }
 
     /// Writes the lines that wait, if they may have waited long, before a question of a walk that has spent so much.

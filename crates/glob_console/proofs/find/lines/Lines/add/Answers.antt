@@ -1,7 +1,7 @@
-use Rattle.std.proofs.Common.{◌≡◌, ℕ, List, [], ◌++◌, ◌∷◌, Option, Some, None, OnErr, sym, ap, subst, ◌∙◌, append-nil, append_assoc}
+use Rattle.std.proofs.Common.{◌≡◌, ℕ, List, [], ◌++◌, ◌∷◌, Option, Some, None, sym, ap, subst, ◌∙◌, append-nil, append_assoc}
 use Rattle.std.specs.Io.KnownBytes.{Appends}
 use Rattle.std.proofs.KnownBytes.{Keeps-refl}
-use Rattle.std.proofs.lemmas.Result.{err_from_is_err_and, on_ok_weaker}
+use Rattle.std.proofs.lemmas.Result.{err_from_is_err_and}
 use Rattle.glob_lines.specs.Lines.{AppendsFront, ended_record}
 use Rattle.glob_console.proofs.WritingLemmas.{AppendsFront-none, OnErr-from}
 use Rattle.glob_console.proofs.find.lines.Lines.add.Goals as goal
@@ -22,26 +22,35 @@ returns-in_err-extend_from_slice-clause-line g c = rw (err_from_is_err_and c.fro
 pub returns-in_err-extend_from_slice-clause-some : goal.returns-in_err-extend_from_slice-clause-some
 returns-in_err-extend_from_slice-clause-some g c = OnErr-from _ (AppendsFront-none _ _ _ (Keeps-refl _))
 
-pub returns-in_err-push-clause-line : goal.returns-in_err-push-clause-line
-returns-in_err-push-clause-line g c = rw (err_from_is_err_and c.from_residual-in_err-push.result c.from_residual-in_err-push.ensures.1).1 tt
+pub returns-in_err-extend_from_slice-2-clause-line : goal.returns-in_err-extend_from_slice-2-clause-line
+returns-in_err-extend_from_slice-2-clause-line g c =
+    rw (err_from_is_err_and c.from_residual-in_err-extend_from_slice-2.result c.from_residual-in_err-extend_from_slice-2.ensures.1).1 tt
 
-pub returns-in_err-push-clause-some : goal.returns-in_err-push-clause-some
-returns-in_err-push-clause-some g c = OnErr-from _ (AppendsFront-none _ _ _ (Keeps-refl _))
+pub returns-in_err-extend_from_slice-2-clause-some : goal.returns-in_err-extend_from_slice-2-clause-some
+returns-in_err-extend_from_slice-2-clause-some g c = OnErr-from _ (AppendsFront-none _ _ _ (Keeps-refl _))
+
+pub returns-in_err-flush-clause-line : goal.returns-in_err-flush-clause-line
+returns-in_err-flush-clause-line g c =
+    rw (err_from_is_err_and c.from_residual-in_err-flush.result c.from_residual-in_err-flush.ensures.1).1 tt
+
+pub returns-in_err-flush-clause-some : goal.returns-in_err-flush-clause-some
+returns-in_err-flush-clause-some g c =
+    let read = c.in_ok-extend_from_slice.ensures.items ∙ ap (λ bytes. c.args.self.now.waiting.items ++ bytes) c.as_bytes.ensures.value in
+    let more = waits_more c.args.self.now.waiting.items c.args.text.now c.extend_from_slice.new.self.items c.extend_from_slice-2.new.self.items c.args.end
+    read c.in_ok-extend_from_slice-2.ensures.items in
+    OnErr-from _ (subst (λ bytes. AppendsFront (g.W.Write.contents c.args.output.now) (g.W.Write.contents c.flush.new.output) bytes) more c.in_err-flush.ensures.some)
 
 pub returns-then-len-lt-CAPACITY-clause-line : goal.returns-then-len-lt-CAPACITY-clause-line
 returns-then-len-lt-CAPACITY-clause-line g c =
     let read = c.in_ok-extend_from_slice.ensures.items ∙ ap (λ bytes. c.args.self.now.waiting.items ++ bytes) c.as_bytes.ensures.value in
-    let more = waits_more c.args.self.now.waiting.items c.args.text.now c.extend_from_slice.new.self.items c.push.new.self.items c.args.end read c.in_ok-push.ensures.items in
+    let more = waits_more c.args.self.now.waiting.items c.args.text.now c.extend_from_slice.new.self.items c.extend_from_slice-2.new.self.items c.args.end
+    read c.in_ok-extend_from_slice-2.ensures.items in
     ([], Appends-none (g.W.Write.contents c.args.output.now), sym more)
 
 pub returns-clause-line : goal.returns-clause-line
 returns-clause-line g c =
     let read = c.in_ok-extend_from_slice.ensures.items ∙ ap (λ bytes. c.args.self.now.waiting.items ++ bytes) c.as_bytes.ensures.value in
-    let more = waits_more c.args.self.now.waiting.items c.args.text.now c.extend_from_slice.new.self.items c.push.new.self.items c.args.end read c.in_ok-push.ensures.items in
-    on_ok_weaker c.flush.result (λ q. (q.0, q.1, sym more ∙ sym (append-nil c.push.new.self.items) ∙ q.2)) c.flush.ensures.all
-
-pub returns-clause-some : goal.returns-clause-some
-returns-clause-some g c =
-    let read = c.in_ok-extend_from_slice.ensures.items ∙ ap (λ bytes. c.args.self.now.waiting.items ++ bytes) c.as_bytes.ensures.value in
-    let more = waits_more c.args.self.now.waiting.items c.args.text.now c.extend_from_slice.new.self.items c.push.new.self.items c.args.end read c.in_ok-push.ensures.items in
-    subst (λ bytes. OnErr c.flush.result (AppendsFront (g.W.Write.contents c.args.output.now) (g.W.Write.contents c.flush.new.output) bytes)) more c.flush.ensures.some
+    let more = waits_more c.args.self.now.waiting.items c.args.text.now c.extend_from_slice.new.self.items c.extend_from_slice-2.new.self.items c.args.end
+    read c.in_ok-extend_from_slice-2.ensures.items in
+    let q = c.in_ok-flush.ensures.all in
+    (q.0, q.1, sym more ∙ sym (append-nil c.extend_from_slice-2.new.self.items) ∙ q.2)
